@@ -1,0 +1,29 @@
+-- A slice taken in chunks.
+use Rattle.std.proofs.Common.{◌≡◌, ℕ, zero, suc, ◌+◌, ◌*◌, ◌<◌, List, [], take, drop, get_or, sym, ap, ◌∙◌, arith, drop-drop}
+use Rattle.std.proofs.Math.Seq.{take-add}
+use Rattle.std.proofs.lemmas.List.{take-append-drop}
+use Rattle.std.specs.Simd.{first_chunks}
+use Rattle.flashbase.specs.Crc.{crc_after}
+use Rattle.flashbase.proofs.CrcLemmas.{crc_goes_on}
+
+-- the chunk at place k
+pub chunk_at : (n count k : ℕ) (xs : List ℕ) → k < count → get_or (first_chunks n count xs) k [] ≡ take n (drop (k * n) xs)
+chunk_at n zero k xs h = absurd (omega arith)
+chunk_at n (suc count) zero xs h = let none : 0 ≡ 0 * n = omega arith in ap (λ (i : ℕ). take n (drop i xs)) none
+chunk_at n (suc count) (suc k) xs h =
+    let moved : n + k * n ≡ suc k * n = omega arith in
+    chunk_at n count k (drop n xs) (omega arith) ∙ ap (take n) (drop-drop (k * n) n xs ∙ ap (λ (i : ℕ). drop i xs) moved)
+
+-- one more chunk taken in
+pub crc_after-chunk : (start k count sum : ℕ) (bytes : List ℕ) → k < count → sum ≡ crc_after start (take (k * 8) bytes)
+    → crc_after sum (get_or (first_chunks 8 count bytes) k []) ≡ crc_after start (take ((k + 1) * 8) bytes)
+crc_after-chunk start k count sum bytes within so_far =
+    let more : k * 8 + 8 ≡ (k + 1) * 8 = omega arith in
+    rw (chunk_at 8 count k bytes within, so_far)
+    (crc_goes_on start (take (k * 8) bytes) (take 8 (drop (k * 8) bytes))
+    ∙ ap (crc_after start) (sym (take-add (k * 8) 8 bytes) ∙ ap (λ (n : ℕ). take n bytes) more))
+
+-- the bytes behind the chunks
+pub crc_after-rest : (start n sum : ℕ) (bytes : List ℕ) → sum ≡ crc_after start (take n bytes) → crc_after sum (drop n bytes) ≡ crc_after start bytes
+crc_after-rest start n sum bytes so_far =
+    rw so_far (crc_goes_on start (take n bytes) (drop n bytes) ∙ ap (crc_after start) (take-append-drop n bytes))

@@ -1,0 +1,7 @@
+pub mod BytesLemmas
+pub mod ChunkLemmas
+pub mod CrcLemmas
+pub mod DeviceLemmas
+pub mod EightLemmas
+pub mod ListLemmas
+pub mod TableLemmas

@@ -1,0 +1,6 @@
+pub mod Bytes
+pub mod Crc
+pub mod Device
+pub mod Laws
+pub mod Lists
+pub mod Ranges

@@ -1,0 +1,5 @@
+pub mod Pieces
+pub mod Overlays
+pub mod Runs
+pub mod Laws
+pub mod Intervals

@@ -1,0 +1,46 @@
+// All pieces of a file in one overlay.
+ghost use Rattle.std.specs.Prelude.{◌≡◌, ℕ, ◌*◌, ◌<◌, ◌≤◌, ◌^◌, IfOk, length, All};
+ghost use Rattle.jfrag.specs.Pieces.{end_of};
+ghost use Rattle.jfrag.specs.Overlays.{IsHighestAt};
+
+use super::overlays::Overlay;
+use super::piece::Piece;
+use std::alloc::{AllocError, Global};
+
+/// All of the pieces laid over one another: at each place stands the highest version that covers it.
+/// n pieces take n log n steps in any order, since they are laid in the order of their versions.
+///
+/// # Errors
+/// Out of memory.
+pub fn overlay<'a, O: Overlay<'a>>(alloc: Global, pieces: &[Piece<'a>]) -> Result<O, AllocError>
+    requires { All (λ piece. end_of piece < 2 ^ 32) pieces.now }
+    ensures highest { IfOk result (λ o. (place : ℕ) → IsHighestAt pieces.now place (O.stands o place)) }
+    ensures ends { IfOk result (λ o. O.ends o ≤ 2 * length pieces.now) }
+{
+    let mut by_version = copies(alloc, pieces)?;
+    by_version.sort_unstable_by_key(|piece| piece.version);
+    lay_in_turn(alloc, &by_version)
+}
+
+fn copies<'a>(alloc: Global, pieces: &[Piece<'a>]) -> Result<Vec<Piece<'a>>, AllocError>
+    ensures { IfOk result (λ copies. copies.items ≡ pieces.now) }
+{
+    let mut copies = Vec::with_capacity(alloc, pieces.len())?;
+    for piece in pieces {
+        copies.push(piece.copied())?;
+    }
+    Ok(copies)
+}
+
+// The pieces laid over one another in the order of the list.
+fn lay_in_turn<'a, O: Overlay<'a>>(alloc: Global, pieces: &[Piece<'a>]) -> Result<O, AllocError>
+    requires { All (λ piece. end_of piece < 2 ^ 32) pieces.now }
+    ensures highest { IfOk result (λ o. (place : ℕ) → IsHighestAt pieces.now place (O.stands o place)) }
+    ensures ends { IfOk result (λ o. O.ends o ≤ 2 * length pieces.now) }
+{
+    let mut laid = O::new(alloc);
+    for piece in pieces {
+        laid.add(piece.copied())?;
+    }
+    Ok(laid)
+}

@@ -1,0 +1,70 @@
+// An overlay that is the list of its pieces.
+ghost use Rattle.std.specs.Prelude.{◌≡◌, ℕ, ◌+◌, ◌*◌, ◌<◌, ◌≤◌, ◌^◌, length, slice_index, EachIndex, vec_len, All};
+ghost use Rattle.jfrag.specs.Pieces.{end_of};
+ghost use Rattle.jfrag.specs.Overlays.{standing, byte_at};
+
+use super::overlays::Overlay;
+use super::piece::Piece;
+use std::alloc::{AllocError, Global};
+
+/// The pieces in the order of arrival; each byte is looked up among all of them. An `add` takes no
+/// time to speak of, reading m bytes goes m times over the pieces.
+#[derive(Drop)]
+pub struct PlainOverlay<'a> {
+    pieces: Vec<Piece<'a>>,
+    ghost fit: { All (λ piece. end_of piece < 2 ^ 32) pieces.items },
+}
+
+impl<'a> Overlay<'a> for PlainOverlay<'a> {
+    ghost stands = { λ s place. standing s.pieces.items place };
+
+    ghost ends = { λ s. 2 * vec_len s.pieces };
+
+    fn new(alloc: Global) -> Self {
+        PlainOverlay {
+            pieces: Vec::new(alloc),
+        }
+    }
+
+    fn add(&mut self, piece: Piece<'a>) -> Result<(), AllocError> {
+        self.pieces.push(piece)?;
+        Ok(())
+    }
+
+    fn read_at(&self, place: u64, out: &mut [u8]) {
+        fill(&self.pieces, place, out);
+    }
+
+    fn pieces(&self) -> usize {
+        self.pieces.len()
+    }
+}
+
+// Fills the slice with the bytes that stand from a place on. No piece reaches 2 ^ 32.
+fn fill(pieces: &[Piece<'_>], place: u64, out: &mut [u8])
+    requires { All (λ piece. end_of piece < 2 ^ 32) pieces.now }
+    ensures { EachIndex out.new (λ k. slice_index out.new k ≡ byte_at (standing pieces.now (place + k))) }
+{
+    for k in 0..out.len() {
+        let there = standing_at(pieces, place.saturating_add(k as u64));
+        out[k] = byte_at(there);
+    }
+}
+
+// The byte that a reader gets.
+fn byte_at(there: Option<(u32, u8)>) -> u8
+    ensures { result ≡ byte_at there }
+{
+    there.map_or(0, |(_, byte)| byte)
+}
+
+// What stands at the place: the byte of the highest version that covers it.
+fn standing_at(pieces: &[Piece<'_>], place: u64) -> Option<(u32, u8)>
+    ensures { result ≡ standing pieces.now place }
+{
+    let mut top = None;
+    for piece in pieces {
+        top = piece.laid_over(top, place);
+    }
+    top
+}

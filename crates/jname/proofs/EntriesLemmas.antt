@@ -1,0 +1,101 @@
+-- An entry is in the list exactly where its content is held at its directory, name and version.
+use Rattle.std.proofs.Common.{◌≡◌, ◌↔◌, ℕ, Bool, true, List, [], ◌∷◌, map, Option, Some, None, refl, ap, sym, ◌∙◌, subst, arith}
+use Rattle.std.specs.Prelude.{Contains, IsSome}
+use Rattle.std.specs.List.{flat_map}
+use Rattle.std.specs.List.Sorted.{IsStrictlySortedBy}
+use Rattle.std.specs.Option.{option_and_then}
+use Rattle.std.specs.Ordering.{nat_cmp, is_eq, eq_by_cmp}
+use Rattle.std.specs.Cmp.{nat_cmp_total, eq_by_cmp_equiv, on_total, IsTotalOrder}
+use Rattle.std.specs.Cmp.Lexicographic.{slice_cmp, nat_list_cmp_total}
+use Rattle.std.specs.Cow.{cow_slice_items}
+use Rattle.std.specs.Str.{bytes_eq}
+use Rattle.std.specs.Map.{lookup}
+use Rattle.std.specs.BTreeMap.{get, IsOrdered, keys}
+use Rattle.std.proofs.lemmas.Option.{same_Some}
+use Rattle.std.proofs.lemmas.List.Folds.{flat_map-map}
+use Rattle.std.proofs.lemmas.Slice.Eq.{bytes_eq-Decides}
+use Rattle.std.proofs.lemmas.Map.Keys.{IsDistinct-from_sorted}
+use Rattle.std.proofs.lemmas.Map.Lookups.{exact_unsigned}
+use Rattle.std.proofs.lemmas.Map.Text.{is_eq-slice_cmp}
+use Rattle.std.proofs.lemmas.Map.Views.{lookup-from_Contains, Contains-from_lookup, tells_apart}
+use Rattle.jnode.specs.declared.node.Dirent.{Dirent}
+use Rattle.jname.specs.declared.versions.Content.{Content}
+use Rattle.jname.specs.declared.versions.Versions.{Versions}
+use Rattle.jname.specs.declared.directory.Directory.{Directory}
+use Rattle.jname.specs.Versions.{version_at}
+use Rattle.jname.specs.Held.{Name, name_cmp, ByName, versions_of, held_in, shown, IsSameHeld}
+use Rattle.jname.specs.Directories.{ByNumber, held, held_under}
+use Rattle.jname.specs.Entries.{content_of, entry_of, entries_under, entries_in, entries_of}
+use Rattle.jname.proofs.MemberLemmas.{Contains-map, Contains-map_from, Contains-flat_map, Contains-flat_map_from, Contains-lookup}
+
+-- what a step gives comes from a value
+and_then_from : {A B : Type 0} (f : A → Option B) (o : Option A) (b : B) → option_and_then f o ≡ Some b → (a : A) × (o ≡ Some a) × (f a ≡ Some b)
+and_then_from f None b h = let no : None ≡ Some b = h in cc
+and_then_from f (Some a) b h = (a, refl, h)
+
+pub nat_found : {X : Type 0} (es : List (ℕ × X)) (k : ℕ) (x : X) → IsStrictlySortedBy nat_cmp (map (λ e. e.0) es) → Contains es (k, x) → lookup (eq_by_cmp nat_cmp k) es ≡ Some x
+nat_found es k x sorted h = lookup-from_Contains (eq_by_cmp_equiv nat_cmp_total) k x es (IsDistinct-from_sorted nat_cmp _ sorted) h
+
+name_cmp_total : IsTotalOrder name_cmp
+name_cmp_total = on_total cow_slice_items nat_list_cmp_total
+
+name_found : (names : ByName) (k : Name) (versions : Versions) → IsOrdered name_cmp names → Contains names.entries (k, versions) → versions_of names (cow_slice_items k) ≡ Some versions
+name_found names k versions sorted h = lookup-from_Contains (eq_by_cmp_equiv name_cmp_total) k versions names.entries (IsDistinct-from_sorted name_cmp _ sorted) h
+
+-- the content of an entry of the list is held
+pub held-from_Contains : (directories : ByNumber) → IsOrdered nat_cmp directories → (x : Dirent) → Contains (entries_of directories) x → held directories x.pino x.name x.version ≡ Some (content_of x)
+unfolding entries_of
+held-from_Contains directories ordered x h =
+    let a = Contains-flat_map_from entries_in directories.entries x h in
+    let b = Contains-flat_map_from (entries_under a.0.0) a.0.1.names.entries x a.2 in
+    let c = Contains-map_from (entry_of a.0.0 (cow_slice_items b.0.0)) b.0.1.contents.entries x b.2 in
+    let directory : get nat_cmp directories a.0.0 ≡ Some a.0.1 = nat_found directories.entries a.0.0 a.0.1 ordered a.1 in
+    let name : versions_of a.0.1.names (cow_slice_items b.0.0) ≡ Some b.0.1 = name_found a.0.1.names b.0.0 b.0.1 a.0.1.ordered b.1 in
+    let version : version_at b.0.1 c.0.0 ≡ Some c.0.1 = nat_found b.0.1.contents.entries c.0.0 c.0.1 b.0.1.ordered c.1 in
+    let there : held directories a.0.0 (cow_slice_items b.0.0) c.0.0 ≡ Some c.0.1 =
+      ap (λ (o : Option Directory). option_and_then (λ d. held_under d (cow_slice_items b.0.0) c.0.0) o) directory
+      ∙ ap (λ (o : Option Versions). option_and_then (λ vs. version_at vs c.0.0) o) name ∙ version in
+    subst (λ (y : Dirent). held directories y.pino y.name y.version ≡ Some (content_of y)) c.2 there
+
+-- a content that is held is that of an entry of the list
+pub Contains-from_held : (directories : ByNumber) (x : Dirent) → held directories x.pino x.name x.version ≡ Some (content_of x) → Contains (entries_of directories) x
+unfolding entries_of
+Contains-from_held directories x h =
+    let d = and_then_from (λ (d : Directory). held_under d x.name x.version) (get nat_cmp directories x.pino) (content_of x) h in
+    let vs = and_then_from (λ (vs : Versions). version_at vs x.version) (versions_of d.0.names x.name) (content_of x) d.2 in
+    let in_directories : Contains directories.entries (x.pino, d.0) = Contains-from_lookup (tells_apart exact_unsigned) x.pino d.0 directories.entries d.1 in
+    let k = Contains-lookup (λ (k : Name). is_eq (slice_cmp nat_cmp x.name (cow_slice_items k))) d.0.names.entries vs.0 vs.1 in
+    let same_name : x.name ≡ cow_slice_items k.0 = (bytes_eq-Decides x.name (cow_slice_items k.0)).0 (sym (is_eq-slice_cmp x.name (cow_slice_items k.0)) ∙ k.2) in
+    let in_versions : Contains vs.0.contents.entries (x.version, content_of x) = Contains-from_lookup (tells_apart exact_unsigned) x.version (content_of x) vs.0.contents.entries vs.2 in
+    let under : Contains (entries_under x.pino (k.0, vs.0)) x =
+      subst (λ (name : List ℕ). Contains (entries_under x.pino (k.0, vs.0)) (entry_of x.pino name (x.version, content_of x))) (sym same_name)
+      (Contains-map (entry_of x.pino (cow_slice_items k.0)) vs.0.contents.entries (x.version, content_of x) in_versions) in
+    Contains-flat_map entries_in directories.entries (x.pino, d.0) x in_directories
+    (Contains-flat_map (entries_under x.pino) d.0.names.entries (k.0, vs.0) x k.1 under)
+
+-- ---- the list, where a directory shows the same
+
+shown_under : ℕ → Name × List (ℕ × Content) → List Dirent
+shown_under pino s = map (entry_of pino (cow_slice_items s.0)) s.1
+
+pub entries_in-same : (pino : ℕ) (old new : Directory) → IsSameHeld old.names new.names → entries_in (pino, new) ≡ entries_in (pino, old)
+unfolding shown_under
+entries_in-same pino old new same =
+    sym (flat_map-map (shown_under pino) shown new.names.entries)
+    ∙ ap (λ (ss : List (Name × List (ℕ × Content))). flat_map (shown_under pino) ss) same
+    ∙ flat_map-map (shown_under pino) shown old.names.entries
+
+-- the list is made of the lists of the directories
+pub entries_of-same : (old new : ByNumber) → map entries_in new.entries ≡ map entries_in old.entries → entries_of new ≡ entries_of old
+unfolding entries_of
+entries_of-same old new same =
+    sym (flat_map-map (λ (es : List Dirent). es) entries_in new.entries)
+    ∙ ap (λ (ss : List (List Dirent)). flat_map (λ (es : List Dirent). es) ss) same
+    ∙ flat_map-map (λ (es : List Dirent). es) entries_in old.entries
+
+pub entries_of-unchanged : (old new : ByNumber) → new.entries ≡ old.entries → entries_of new ≡ entries_of old
+entries_of-unchanged old new same = entries_of-same old new (ap (λ (es : List (ℕ × Directory)). map entries_in es) same)
+
+pub entries_of-none : (directories : ByNumber) → directories.entries ≡ [] → entries_of directories ≡ []
+unfolding entries_of
+entries_of-none directories e = ap (λ (es : List (ℕ × Directory)). flat_map entries_in es) e

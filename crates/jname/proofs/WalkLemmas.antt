@@ -1,0 +1,73 @@
+-- The live names among what is held, one by one.
+use Rattle.std.proofs.Common.{◌≡◌, ◌≢◌, ℕ, ◌≤◌, Bool, true, false, List, [], ◌∷◌, map, Option, Some, None, refl, ap, sym, ◌∙◌, subst, ⊎_elim, arith}
+use Rattle.std.specs.Prelude.{Contains, IsSome, if◌then◌else◌, ◌==◌, filter_map}
+use Rattle.std.specs.List.{cons_option}
+use Rattle.std.specs.Option.{option_map, option_and_then}
+use Rattle.std.specs.Ordering.{nat_cmp, eq_by_cmp}
+use Rattle.std.specs.Cow.{cow_slice_items}
+use Rattle.std.specs.Map.{lookup}
+use Rattle.std.proofs.lemmas.Bool.{eq-eqb, eqb-true}
+use Rattle.std.proofs.lemmas.Option.{same_Some}
+use Rattle.std.proofs.lemmas.Map.Lookups.{exact_unsigned}
+use Rattle.std.proofs.lemmas.Map.Views.{Contains-from_lookup, tells_apart}
+use Rattle.flashbase.specs.Lists.{newest}
+use Rattle.flashbase.proofs.ListLemmas.{newest_is_newest, newest_of_none}
+use Rattle.jname.specs.declared.versions.Content.{Content}
+use Rattle.jname.specs.declared.versions.Versions.{Versions}
+use Rattle.jname.specs.Versions.{IsTop, IsLiveIn, version_at}
+use Rattle.jname.specs.Held.{Name}
+use Rattle.jname.specs.Walks.{ino_unless_gone, live_ino, live_name, names_under}
+use Rattle.jname.proofs.LiveLemmas.{same_top, some_of}
+use Rattle.jname.proofs.EntriesLemmas.{nat_found}
+use Rattle.jname.proofs.MemberLemmas.{Contains-none}
+
+-- ---- one name
+
+gone_is_zero : (at : ℕ → Option Content) (v : ℕ) (content : Content) → IsTop at v content → content.ino ≡ 0 → IsLiveIn at None
+gone_is_zero at v content top zero w other other_top = ap (λ (c : Content). c.ino) (same_top at w v other content other_top top) ∙ zero
+
+live_or_gone : (at : ℕ → Option Content) (v : ℕ) (content : Content) (b : Bool) → (content.ino == 0) ≡ b → IsTop at v content → IsLiveIn at (if b then None else Some content.ino)
+live_or_gone at v content true e top = gone_is_zero at v content top (eqb-true content.ino 0 e)
+live_or_gone at v content false e top = ((λ (zero : content.ino ≡ 0). let yes : (content.ino == 0) ≡ true = eq-eqb content.ino 0 zero in cc), (v, content, top, refl))
+
+nothing_newest : (versions : Versions) → newest (λ e. e.0) versions.contents.entries ≡ None → IsLiveIn (version_at versions) None
+nothing_newest versions e v content top =
+    let none : versions.contents.entries ≡ [] = newest_of_none versions.contents.entries (λ e. e.0) e in
+    let no : None ≡ Some content = sym (ap (λ (es : List (ℕ × Content)). lookup (eq_by_cmp nat_cmp v) es) none) ∙ top.0 in
+    cc
+
+top_of_newest : (versions : Versions) (top : ℕ × Content) → newest (λ e. e.0) versions.contents.entries ≡ Some top → IsTop (version_at versions) top.0 top.1
+top_of_newest versions top e =
+    let is = newest_is_newest versions.contents.entries (λ e. e.0) top e in
+    (nat_found versions.contents.entries top.0 top.1 versions.ordered is.0,
+     λ w h. let there = some_of (version_at versions w) h in is.1 (w, there.0) (Contains-from_lookup (tells_apart exact_unsigned) w there.0 versions.contents.entries there.1))
+
+by_newest : (versions : Versions) (o : Option (ℕ × Content)) → newest (λ e. e.0) versions.contents.entries ≡ o → IsLiveIn (version_at versions) (option_and_then ino_unless_gone o)
+by_newest versions None e = nothing_newest versions e
+by_newest versions (Some top) e = live_or_gone (version_at versions) top.0 top.1 (top.1.ino == 0) refl (top_of_newest versions top e)
+
+pub live_ino-IsLiveIn : (versions : Versions) → IsLiveIn (version_at versions) (live_ino versions)
+unfolding live_ino
+live_ino-IsLiveIn versions = by_newest versions (newest (λ e. e.0) versions.contents.entries) refl
+
+-- there is one answer
+pub one_live : (at : ℕ → Option Content) (r s : Option ℕ) → IsLiveIn at r → IsLiveIn at s → r ≡ s
+one_live at None None h k = refl
+one_live at None (Some m) h k = absurd (k.0 (sym k.1.3 ∙ h k.1.0 k.1.1 k.1.2))
+one_live at (Some n) None h k = absurd (h.0 (sym h.1.3 ∙ k h.1.0 h.1.1 h.1.2))
+one_live at (Some n) (Some m) h k = ap Some (sym h.1.3 ∙ ap (λ (c : Content). c.ino) (same_top at h.1.0 k.1.0 h.1.1 k.1.1 h.1.2 k.1.2) ∙ k.1.3)
+
+pub live_ino-is : (versions : Versions) (r : Option ℕ) → IsLiveIn (version_at versions) r → r ≡ live_ino versions
+live_ino-is versions r h = one_live (version_at versions) r (live_ino versions) h (live_ino-IsLiveIn versions)
+
+-- ---- the first of the names that are left
+
+pub names_under-live : (s es : List (Name × Versions)) (name : Name) (versions : Versions) (bytes : List ℕ) (ino : ℕ) → s ≡ (name, versions) ∷ es → bytes ≡ cow_slice_items name → IsLiveIn (version_at versions) (Some ino)
+    → names_under s ≡ (bytes, ino) ∷ names_under es
+names_under-live s es name versions bytes ino is shown live =
+    ap names_under is ∙ ap (λ (o : Option ℕ). cons_option (option_map (λ n. (cow_slice_items name, n)) o) (names_under es)) (sym (live_ino-is versions (Some ino) live))
+    ∙ ap (λ (bs : List ℕ). (bs, ino) ∷ names_under es) (sym shown)
+
+pub names_under-gone : (s es : List (Name × Versions)) (name : Name) (versions : Versions) → s ≡ (name, versions) ∷ es → IsLiveIn (version_at versions) None → names_under s ≡ names_under es
+names_under-gone s es name versions is live =
+    ap names_under is ∙ ap (λ (o : Option ℕ). cons_option (option_map (λ n. (cow_slice_items name, n)) o) (names_under es)) (sym (live_ino-is versions None live))

@@ -1,0 +1,15 @@
+use Rattle.std.proofs.Common.{rules, ◌≡◌, ℕ}
+use Rattle.std.specs.Prelude.{max}
+use Rattle.std.specs.Cow.{cow_slice_items}
+use Rattle.jname.proofs.HeldLemmas.{bound_of_one_more, reached_by_one_more}
+use Rattle.jname.proofs.directory.Directory.add.Goals as goal
+
+pub invariant_of-self-2-clause-bounds : goal.invariant_of-self-2-clause-bounds
+invariant_of-self-2-clause-bounds c =
+    let is : c.max-self.result ≡ max c.args.self.now.highest c.args.version = search rules in
+    bound_of_one_more c.args.self.now.names c.add_name.new.names (cow_slice_items c.args.name) c.args.version c.args.content c.args.self.now.highest c.max-self.result c.in_ok-add_name.ensures.ok is c.args.self.now.bounds
+
+pub invariant_of-self-2-clause-reached : goal.invariant_of-self-2-clause-reached
+invariant_of-self-2-clause-reached c =
+    let is : c.max-self.result ≡ max c.args.self.now.highest c.args.version = search rules in
+    reached_by_one_more c.args.self.now.names c.add_name.new.names (cow_slice_items c.args.name) c.args.version c.args.content c.args.self.now.highest c.max-self.result c.in_ok-add_name.ensures.ok is c.args.self.now.reached

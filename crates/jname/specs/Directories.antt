@@ -1,0 +1,23 @@
+-- What is held in a directory.
+use Rattle.std.specs.Prelude.{ℕ, List, Option}
+use Rattle.std.specs.Option.{option_and_then, option_map}
+use Rattle.std.specs.Ordering.{nat_cmp}
+use Rattle.std.specs.BTreeMap.{BTreeMap, get}
+use Rattle.jname.specs.declared.versions.Content.{Content}
+use Rattle.jname.specs.declared.directory.Directory.{Directory}
+use Rattle.jname.specs.Held.{held_in}
+
+-- the content that is held in a directory under a name at a version
+abbrev pub held_under : Directory → List ℕ → ℕ → Option Content
+held_under directory name v = held_in directory.names name v
+
+abbrev pub ByNumber : Type 0
+ByNumber = BTreeMap ℕ Directory
+
+-- the content that is held for a parent, a name and a version
+abbrev pub held : ByNumber → ℕ → List ℕ → ℕ → Option Content
+held directories pino name v = option_and_then (λ directory. held_under directory name v) (get nat_cmp directories pino)
+
+-- the greatest version of a directory
+abbrev pub highest_at : ByNumber → ℕ → Option ℕ
+highest_at directories pino = option_map (λ directory. directory.highest) (get nat_cmp directories pino)

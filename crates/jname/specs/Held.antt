@@ -1,0 +1,39 @@
+-- What is held under a name and in a directory.
+use Rattle.std.specs.Prelude.{◌≡◌, ℕ, List, map, Option, Some, None}
+use Rattle.std.specs.Option.{option_and_then}
+use Rattle.std.specs.declared.cmp.Ordering.{Ordering}
+use Rattle.std.specs.Ordering.{nat_cmp}
+use Rattle.std.specs.Cmp.Lexicographic.{slice_cmp}
+use Rattle.std.specs.Cow.{cow_slice_items}
+use Rattle.std.specs.declared.borrow.CowSlice.{CowSlice}
+use Rattle.std.specs.declared.alloc.Global.{Global}
+use Rattle.std.specs.BTreeMap.{BTreeMap, get_by}
+use Rattle.jname.specs.declared.versions.Content.{Content}
+use Rattle.jname.specs.declared.versions.Versions.{Versions}
+use Rattle.jname.specs.Versions.{version_at}
+
+abbrev pub Name : Type 0
+Name = CowSlice ℕ Global
+
+-- names in the order of their bytes
+abbrev pub name_cmp : Name → Name → Ordering
+name_cmp x y = slice_cmp nat_cmp (cow_slice_items x) (cow_slice_items y)
+
+abbrev pub ByName : Type 0
+ByName = BTreeMap Name Versions
+
+-- the versions of a name
+abbrev pub versions_of : ByName → List ℕ → Option Versions
+versions_of names name = get_by (λ k. slice_cmp nat_cmp name (cow_slice_items k)) names
+
+-- the content that is held under a name at a version
+abbrev pub held_in : ByName → List ℕ → ℕ → Option Content
+held_in names name v = option_and_then (λ versions. version_at versions v) (versions_of names name)
+
+-- a name with the contents at its versions, in order
+abbrev pub shown : Name × Versions → Name × List (ℕ × Content)
+shown e = (e.0, e.1.contents.entries)
+
+-- the same names, with the same contents at the same versions
+abbrev pub IsSameHeld : ByName → ByName → Type 0
+IsSameHeld old new = map shown new.entries ≡ map shown old.entries

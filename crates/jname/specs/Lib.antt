@@ -1,0 +1,7 @@
+pub mod Clash
+pub mod Directories
+pub mod Entries
+pub mod Held
+pub mod Live
+pub mod Versions
+pub mod Walks

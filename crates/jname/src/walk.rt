@@ -1,0 +1,111 @@
+//! Walks over the names that stand.
+
+ghost use Rattle.std.specs.Prelude.{◌≡◌, ℕ, List};
+
+use crate::directory::{ByName, Directory};
+use crate::versions::Versions;
+use std::borrow::CowSlice;
+use std::collections::BTreeMap;
+use std::collections::btree_map::Iter;
+use std::marker::Model;
+
+/// The names of a directory that stand, each with its inode number, in byte order.
+#[derive(Drop)]
+pub struct Of<'n, 'a> {
+    left: Iter<'n, CowSlice<'a, u8>, Versions>,
+}
+
+impl<'n, 'a> Model for Of<'n, 'a> {
+    ghost use Rattle.std.specs.Prelude.{ℕ, List};
+    ghost use Rattle.jname.specs.Walks.{names_under};
+
+    ghost Value = { List (List ℕ × ℕ) };
+
+    ghost view = { λ of. names_under of.left };
+}
+
+impl<'n, 'a> Of<'n, 'a> {
+    ghost use Rattle.std.specs.Prelude.{◌≡◌};
+    ghost use Rattle.jname.specs.Walks.{names_under};
+
+    pub(crate) fn new(names: &'n ByName<'a>) -> Self
+        ensures { result ≡ names_under names.now.entries }
+    {
+        Of { left: names.iter() }
+    }
+}
+
+impl<'n, 'a> Iterator for Of<'n, 'a> {
+    type Item = (&'n [u8], u32);
+
+    ghost use Rattle.std.specs.Iterator.{YieldsFirstBy, item_count};
+
+    ghost next_gives = { YieldsFirstBy (λ x. (x.0.now, x.1)) (λ rest. rest) };
+
+    ghost remaining = { item_count (λ rest. rest) };
+
+    fn next(&mut self) -> Option<(&'n [u8], u32)> {
+        while let Some((name, versions)) = self.left.next() {
+            if let Some(ino) = versions.live() {
+                return Some((name.as_slice(), ino));
+            }
+        }
+        None
+    }
+}
+
+/// The names of all directories that stand, each with its directory and inode number, in order of the directory's
+/// number and then in byte order.
+#[derive(Drop)]
+pub struct All<'n, 'a> {
+    directories: Iter<'n, u32, Directory<'a>>,
+    pino: u32,
+    names: Of<'n, 'a>,
+}
+
+impl<'n, 'a> Model for All<'n, 'a> {
+    ghost use Rattle.std.specs.Prelude.{ℕ, List, ◌++◌, map};
+    ghost use Rattle.jname.specs.Walks.{placed, names_within};
+
+    ghost Value = { List (ℕ × List ℕ × ℕ) };
+
+    ghost view = { λ all. map (placed all.pino) all.names ++ names_within all.directories };
+}
+
+impl<'n, 'a> All<'n, 'a> {
+    ghost use Rattle.std.specs.Prelude.{◌≡◌, []};
+    ghost use Rattle.jname.specs.Walks.{names_under, names_within};
+
+    /// The names of these directories; `none` is a directory without names.
+    pub(crate) fn new(directories: &'n BTreeMap<u32, Directory<'a>>, none: &'n ByName<'a>) -> Self
+        requires { none.now.entries ≡ [] }
+        ensures { result ≡ names_within directories.now.entries }
+    {
+        All {
+            directories: directories.iter(),
+            pino: 0,
+            names: Of::new(none),
+        }
+    }
+}
+
+impl<'n, 'a> Iterator for All<'n, 'a> {
+    type Item = (u32, &'n [u8], u32);
+
+    ghost use Rattle.std.specs.Iterator.{YieldsFirstBy, item_count};
+
+    ghost next_gives = { YieldsFirstBy (λ x. (x.0, x.1.now, x.2)) (λ rest. rest) };
+
+    ghost remaining = { item_count (λ rest. rest) };
+
+    fn next(&mut self) -> Option<(u32, &'n [u8], u32)> {
+        loop {
+            if let Some((name, ino)) = self.names.next() {
+                return Some((self.pino, name, ino));
+            }
+            let (pino, directory) = self.directories.next()?;
+            self.pino = *pino;
+            self.names = Of::new(&directory.names);
+        }
+    }
+}

@@ -1,0 +1,4 @@
+pub mod OrderLemmas
+pub mod HeaderLemmas
+pub mod TileLemmas
+pub mod ReadingLemmas

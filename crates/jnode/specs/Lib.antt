@@ -1,0 +1,6 @@
+pub mod Order
+pub mod Header
+pub mod Reading
+pub mod Writing
+pub mod Vectors
+pub mod Laws

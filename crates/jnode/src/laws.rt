@@ -1,0 +1,79 @@
+//! Laws of the format: each is the contract of a function with nothing to do.
+
+ghost use Rattle.std.specs.Prelude.{◌≡◌, ◌++◌, length, true, false};
+ghost use Rattle.jnode.specs.Header.{is_good};
+ghost use Rattle.jnode.specs.Reading.{marker_type, xattr_type, summary_type, seen_of};
+ghost use Rattle.jnode.specs.Writing.{header_bytes, clean_marker, padding_node, canonical_entry, canonical_inode, filled};
+ghost use Rattle.jnode.specs.Vectors.{little_marker, big_marker, entry_a, entry_a_big, obsolete_a, inode_2, no_length, length_13, named_a, new_file, hidden_entry};
+ghost use Rattle.jnode.specs.Laws.{GoodIsComputed, ReadsOne};
+
+use crate::node::{Damage, Seen};
+use crate::order::Endian;
+
+/// Whether a header is good is computed.
+#[tactic(auto, using(crate::proofs::HeaderLemmas::good_is_computed))]
+pub fn good_is_computed()
+    ensures { GoodIsComputed }
+{}
+
+/// A tile reads as at most one node.
+#[tactic(auto, using(crate::proofs::ReadingLemmas::reads_one))]
+pub fn reads_one()
+    ensures { ReadsOne }
+{}
+
+// ---- worked examples, which the definitions compute
+
+/// The written form of known nodes.
+#[tactic(auto, unfolding(crate::specs::Order::bytes_in, crate::specs::Writing::header_bytes, crate::specs::Writing::entry_front, crate::specs::Writing::canonical_entry, crate::specs::Writing::object_bytes, crate::specs::Writing::range_bytes, crate::specs::Writing::inode_front, crate::specs::Writing::canonical_inode, flashbase::specs::Crc::crc_after, flashbase::specs::Crc::push_byte, flashbase::specs::Crc::push_bits, flashbase::specs::Crc::push_bit))]
+pub fn known_forms()
+    ensures little_marker { clean_marker Endian.Little ≡ little_marker }
+    ensures big_marker { clean_marker Endian.Big ≡ big_marker }
+    ensures entry_a { canonical_entry Endian.Little named_a ≡ entry_a }
+    ensures entry_a_big { canonical_entry Endian.Big named_a ≡ entry_a_big }
+    ensures inode_2 { canonical_inode Endian.Little new_file ≡ inode_2 }
+    ensures no_length { header_bytes Endian.Little marker_type 0 ≡ no_length }
+    ensures length_13 { header_bytes Endian.Little marker_type 13 ≡ length_13 }
+{}
+
+/// Whether known headers are good.
+#[tactic(auto, unfolding(crate::specs::Order::number_in, crate::specs::Header::header_crc_of, crate::specs::Header::has_header, crate::specs::Header::is_good_front, crate::specs::Header::is_good, flashbase::specs::Bytes::pad4_of, crate::specs::Order::bytes_in, flashbase::specs::Crc::crc_after, flashbase::specs::Crc::push_byte, flashbase::specs::Crc::push_bits, flashbase::specs::Crc::push_bit))]
+pub fn known_headers()
+    ensures little_marker { is_good Endian.Little little_marker ≡ true }
+    ensures other_order { is_good Endian.Big little_marker ≡ false }
+    ensures entry_a { is_good Endian.Little entry_a ≡ true }
+    ensures obsolete_a { is_good Endian.Little obsolete_a ≡ true }
+    ensures no_length { is_good Endian.Little no_length ≡ false }
+    ensures length_13 { is_good Endian.Little length_13 ≡ false }
+    ensures longer { is_good Endian.Little (filled length_13 ++ filled length_13) ≡ true }
+{}
+
+/// What known nodes are seen as.
+#[tactic(auto, unfolding(crate::specs::Order::number_in, crate::specs::Header::header_crc_of, crate::specs::Header::has_header, crate::specs::Header::is_good_front, crate::specs::Header::is_good, flashbase::specs::Bytes::pad4_of, crate::specs::Reading::seen_of, crate::specs::Reading::entry_seen, crate::specs::Reading::inode_seen, crate::specs::Reading::plain_seen, crate::specs::Reading::other_seen, crate::specs::Reading::held_seen, crate::specs::Reading::is_entry_long, crate::specs::Reading::is_crc_right, crate::specs::Reading::is_size_right, crate::specs::Reading::is_entry_in_range, crate::specs::Reading::is_inode_long, crate::specs::Reading::is_inode_in_range, crate::specs::Reading::is_data_crc_right, crate::specs::Order::bytes_in, flashbase::specs::Crc::crc_after, flashbase::specs::Crc::push_byte, flashbase::specs::Crc::push_bits, flashbase::specs::Crc::push_bit))]
+pub fn known_nodes()
+    ensures little_marker { seen_of Endian.Little little_marker ≡ Seen.Marker }
+    ensures big_marker { seen_of Endian.Big big_marker ≡ Seen.Marker }
+    ensures entry_a { seen_of Endian.Little (filled entry_a) ≡ Seen.Entry named_a }
+    ensures entry_a_big { seen_of Endian.Big (filled entry_a_big) ≡ Seen.Entry named_a }
+    ensures obsolete_a { seen_of Endian.Little (filled obsolete_a) ≡ Seen.Obsolete }
+    ensures inode_2 { seen_of Endian.Little inode_2 ≡ Seen.Inode new_file }
+{}
+
+/// What headers alone are seen as, by their types.
+#[tactic(auto, unfolding(crate::specs::Order::bytes_in, crate::specs::Writing::header_bytes, crate::specs::Order::number_in, crate::specs::Reading::seen_of, crate::specs::Reading::entry_seen, crate::specs::Reading::inode_seen, crate::specs::Reading::plain_seen, crate::specs::Reading::other_seen, crate::specs::Reading::held_seen, crate::specs::Reading::is_entry_long, crate::specs::Reading::is_crc_right, crate::specs::Reading::is_size_right, crate::specs::Reading::is_entry_in_range, crate::specs::Reading::is_inode_long, crate::specs::Reading::is_inode_in_range, crate::specs::Reading::is_data_crc_right, flashbase::specs::Crc::crc_after, flashbase::specs::Crc::push_byte, flashbase::specs::Crc::push_bits, flashbase::specs::Crc::push_bit))]
+pub fn known_types()
+    ensures attribute { seen_of Endian.Little (header_bytes Endian.Little xattr_type 12) ≡ Seen.Attribute }
+    ensures incompatible { seen_of Endian.Little (header_bytes Endian.Little 0xE0F7 12) ≡ Seen.Incompatible 0xE0F7 }
+    ensures read_only { seen_of Endian.Little (header_bytes Endian.Little 0xA0F7 12) ≡ Seen.ReadOnly 0xA0F7 }
+    ensures summary { seen_of Endian.Little (header_bytes Endian.Little summary_type 12) ≡ Seen.Skippable summary_type }
+    ensures obsolete { seen_of Endian.Little (header_bytes Endian.Little 0xC0F7 12) ≡ Seen.Obsolete }
+    ensures padding { seen_of Endian.Little (padding_node Endian.Little 16) ≡ Seen.Padding }
+{}
+
+/// Data that fail their check hide the node in them.
+#[tactic(auto, unfolding(crate::specs::Order::bytes_in, crate::specs::Writing::header_bytes, crate::specs::Writing::entry_front, crate::specs::Writing::canonical_entry, crate::specs::Writing::object_bytes, crate::specs::Writing::range_bytes, crate::specs::Writing::inode_front, crate::specs::Writing::canonical_inode, crate::specs::Order::number_in, crate::specs::Header::header_crc_of, crate::specs::Header::has_header, crate::specs::Header::is_good_front, crate::specs::Header::is_good, flashbase::specs::Bytes::pad4_of, crate::specs::Reading::seen_of, crate::specs::Reading::entry_seen, crate::specs::Reading::inode_seen, crate::specs::Reading::plain_seen, crate::specs::Reading::other_seen, crate::specs::Reading::held_seen, crate::specs::Reading::is_entry_long, crate::specs::Reading::is_crc_right, crate::specs::Reading::is_size_right, crate::specs::Reading::is_entry_in_range, crate::specs::Reading::is_inode_long, crate::specs::Reading::is_inode_in_range, crate::specs::Reading::is_data_crc_right, flashbase::specs::Crc::crc_after, flashbase::specs::Crc::push_byte, flashbase::specs::Crc::push_bits, flashbase::specs::Crc::push_bit))]
+pub fn known_damage()
+    ensures seen { seen_of Endian.Little (filled hidden_entry) ≡ Seen.Damaged Damage.DataCrc }
+    ensures good { is_good Endian.Little (filled hidden_entry) ≡ true }
+    ensures bytes { length hidden_entry ≡ 109 }
+{}

@@ -1,0 +1,74 @@
+// What the nodes of an image say.
+
+use flashbase::Part;
+
+/// An entry of a directory: in the directory `pino` the name stands for the object `ino`, or for none
+/// where `ino` is 0. `mctime` is in seconds; `kind` is bits 12 to 15 of the object's mode, and decides
+/// nothing.
+#[derive(Drop)]
+pub struct Dirent<'a> {
+    pub pino: u32,
+    pub version: u32,
+    pub ino: u32,
+    pub mctime: u32,
+    pub kind: u8,
+    pub name: Part<'a>,
+}
+
+/// The bytes that an inode node gives for its range: zeros, or its data.
+#[derive(Drop)]
+pub enum Fill<'a> {
+    Zero,
+    Data(Part<'a>),
+}
+
+/// A version of a file, directory or other object, and of its bytes from `offset` to `offset + dsize`.
+/// `isize` is the size of the whole object in bytes; the three times are in seconds.
+#[derive(Drop)]
+pub struct InodeNode<'a> {
+    pub ino: u32,
+    pub version: u32,
+    pub mode: u32,
+    pub uid: u16,
+    pub gid: u16,
+    pub isize: u32,
+    pub atime: u32,
+    pub mtime: u32,
+    pub ctime: u32,
+    pub offset: u32,
+    pub dsize: u32,
+    pub fill: Fill<'a>,
+}
+
+/// A node that says something of the file system.
+#[derive(Drop)]
+pub enum NodeRef<'a> {
+    Entry(Dirent<'a>),
+    Inode(InodeNode<'a>),
+}
+
+/// The check of a node that fails first.
+#[derive(Clone, Copy, Debug, PartialEq, Eq)]
+pub enum Damage {
+    NodeCrc = 1,
+    NameCrc,
+    DataCrc,
+    Length,
+    Range,
+}
+
+/// What a node is seen as.
+#[derive(Drop)]
+pub enum Seen<'a> {
+    Entry(Dirent<'a>),
+    Inode(InodeNode<'a>),
+    Marker,
+    Padding,
+    Obsolete,
+    Attribute,
+    Skippable { nodetype: u16 },
+    ReadOnly { nodetype: u16 },
+    Incompatible { nodetype: u16 },
+    Compressed { compr: u8 },
+    Damaged { which: Damage },
+}

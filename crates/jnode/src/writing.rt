@@ -1,0 +1,346 @@
+// Writing a node.
+
+ghost use Rattle.std.specs.Prelude.{◌≡◌, ◌≢◌, ◌≤◌, ◌<◌, ◌^◌, ◌+◌, ◌++◌, ◌↔◌, ◌⊎◌, IsTrue, length, drop, vec_len, vec_capacity, OnOk, OnErr};
+ghost use Rattle.flashbase.specs.Crc.{crc_of};
+ghost use Rattle.jnode.specs.Order.{bytes_in};
+ghost use Rattle.jnode.specs.Header.{header_len};
+ghost use Rattle.jnode.specs.Reading.{entry_len, inode_len};
+ghost use Rattle.jnode.specs.Writing.{header_bytes, entry_front, canonical_entry, object_bytes, range_bytes, inode_front, canonical_inode, clean_marker, padding_node, held_bytes, held_compr, totlen_most, FitsEntry, FitsInode, HasNameLength, HoldsRange, IsWritableEntry, IsWritableInode};
+
+use crate::layout::{MAGIC, TOTLEN_MOST, compr, entry, header, inode, nodetype};
+use crate::node::{Dirent, Fill, InodeNode};
+use crate::order::{Order, u16_bytes, u32_bytes};
+use flashbase::{Part, crc};
+use thiserror::Error;
+
+/// Why a node is not written.
+#[derive(Debug, Drop, Error)]
+pub enum WriteFault {
+    #[error("N1 Name")]
+    Name,
+    #[error("N2 Data")]
+    Data,
+    #[error("N3 OutOfMemory")]
+    OutOfMemory,
+}
+
+/// Appends bytes for which there is room.
+fn put(out: &mut Vec<u8>, bytes: &[u8])
+    requires { vec_len out.old + length bytes.now ≤ vec_capacity out.old }
+    ensures items { out.new.items ≡ out.old.items ++ bytes.now }
+    ensures len { vec_len out.new ≡ vec_len out.old + length bytes.now }
+    ensures capacity { vec_capacity out.old ≤ vec_capacity out.new }
+{
+    let done = out.extend_from_slice(bytes);
+    done.unwrap();
+}
+
+fn put_u16<E: Order>(out: &mut Vec<u8>, n: u16)
+    requires { vec_len out.old + 2 ≤ vec_capacity out.old }
+    ensures items { out.new.items ≡ out.old.items ++ bytes_in E.order 2 n }
+    ensures len { vec_len out.new ≡ vec_len out.old + 2 }
+    ensures capacity { vec_capacity out.old ≤ vec_capacity out.new }
+{
+    put(out, &u16_bytes::<E>(n));
+}
+
+fn put_u32<E: Order>(out: &mut Vec<u8>, n: u32)
+    requires { vec_len out.old + 4 ≤ vec_capacity out.old }
+    ensures items { out.new.items ≡ out.old.items ++ bytes_in E.order 4 n }
+    ensures len { vec_len out.new ≡ vec_len out.old + 4 }
+    ensures capacity { vec_capacity out.old ≤ vec_capacity out.new }
+{
+    put(out, &u32_bytes::<E>(n));
+}
+
+/// Appends the checksum of the bytes from `start` on.
+fn put_crc<E: Order>(out: &mut Vec<u8>, start: usize)
+    requires room { vec_len out.old + 4 ≤ vec_capacity out.old }
+    requires within { start ≤ vec_len out.old }
+    ensures items { out.new.items ≡ out.old.items ++ bytes_in E.order 4 (crc_of (drop start out.old.items)) }
+    ensures len { vec_len out.new ≡ vec_len out.old + 4 }
+    ensures capacity { vec_capacity out.old ≤ vec_capacity out.new }
+{
+    let sum = crc_since(out, start);
+    put_u32::<E>(out, sum);
+}
+
+#[tactic(auto, unfolding(crate::specs::Writing::header_bytes))]
+fn put_header<E: Order>(out: &mut Vec<u8>, nodetype: u16, totlen: u32)
+    requires { vec_len out.old + header_len ≤ vec_capacity out.old }
+    ensures items { out.new.items ≡ out.old.items ++ header_bytes E.order nodetype totlen }
+    ensures len { vec_len out.new ≡ vec_len out.old + header_len }
+    ensures capacity { vec_capacity out.old ≤ vec_capacity out.new }
+{
+    let start = out.len();
+    put_u16::<E>(out, MAGIC);
+    put_u16::<E>(out, nodetype);
+    put_u32::<E>(out, totlen);
+    put_crc::<E>(out, start);
+}
+
+#[tactic(auto, unfolding(crate::specs::Writing::entry_front))]
+fn put_entry_front<E: Order>(out: &mut Vec<u8>, node: &Dirent<'_>)
+    requires room { vec_len out.old + 32 ≤ vec_capacity out.old }
+    requires name { length node.now.name ≤ 254 }
+    ensures items { out.new.items ≡ out.old.items ++ entry_front E.order node.now }
+    ensures len { vec_len out.new ≡ vec_len out.old + 32 }
+    ensures capacity { vec_capacity out.old ≤ vec_capacity out.new }
+{
+    let nsize = node.name.len() as u8;
+    put_header::<E>(out, nodetype::DIRENT, entry::LEN as u32 + u32::from(nsize));
+    put_u32::<E>(out, node.pino);
+    put_u32::<E>(out, node.version);
+    put_u32::<E>(out, node.ino);
+    put_u32::<E>(out, node.mctime);
+    put(out, &[nsize, node.kind, 0, 0]);
+}
+
+#[tactic(auto, unfolding(crate::specs::Writing::canonical_entry))]
+fn put_entry<E: Order>(out: &mut Vec<u8>, node: &Dirent<'_>)
+    requires room { vec_len out.old + (entry_len + length node.now.name) ≤ vec_capacity out.old }
+    requires name { length node.now.name ≤ 254 }
+    ensures { out.new.items ≡ out.old.items ++ canonical_entry E.order node.now }
+{
+    let start = out.len();
+    let name = &node.name;
+    put_entry_front::<E>(out, node);
+    put_crc::<E>(out, start);
+    put_u32::<E>(out, name.crc());
+    name.put_onto(out);
+}
+
+/// Appends the written form of an entry node. A refusal leaves `out` as it was.
+pub fn write_entry<E: Order>(out: &mut Vec<u8>, node: &Dirent<'_>) -> Result<(), WriteFault>
+    ensures ok { OnOk result (out.new.items ≡ out.old.items ++ canonical_entry E.order node.now) }
+    ensures writable { OnOk result (IsWritableEntry node.now) }
+    ensures fits { OnOk result (FitsEntry node.now) }
+    ensures err { OnErr result (out.new.items ≡ out.old.items) }
+
+    // The first of these that applies is answered.
+    ensures name { (result ≡ Err WriteFault.Name) ↔ (¬ HasNameLength node.now) }
+    ensures data { (result ≡ Err WriteFault.Data) ↔ (HasNameLength node.now × (node.now.pino ≡ 0)) }
+    // Memory was wanting only where the room was.
+    ensures memory { result ≡ Err WriteFault.OutOfMemory → vec_capacity out.old < vec_len out.old + (entry_len + length node.now.name) }
+{
+    let name = &node.name;
+    let size = name.len();
+    if size == 0 || size > usize::from(entry::NAME_MOST) {
+        return Err(WriteFault::Name);
+    }
+    if node.pino == 0 {
+        return Err(WriteFault::Data);
+    }
+    out.reserve(entry::LEN + size)
+        .map_err(|_| WriteFault::OutOfMemory)?;
+    put_entry::<E>(out, node);
+    Ok(())
+}
+
+fn held_len(fill: &Fill<'_>) -> usize
+    ensures { result ≡ length (held_bytes fill.now) }
+{
+    match fill {
+        Fill::Zero => 0,
+        Fill::Data(data) => data.len(),
+    }
+}
+
+fn held_crc(fill: &Fill<'_>) -> u32
+    ensures { result ≡ crc_of (held_bytes fill.now) }
+{
+    match fill {
+        Fill::Zero => crc(&[]),
+        Fill::Data(data) => data.crc(),
+    }
+}
+
+fn held_compr(fill: &Fill<'_>) -> u8
+    ensures { result ≡ held_compr fill.now }
+{
+    match fill {
+        Fill::Zero => compr::ZERO,
+        Fill::Data(_) => compr::NONE,
+    }
+}
+
+fn put_held(out: &mut Vec<u8>, fill: &Fill<'_>)
+    requires { vec_len out.old + length (held_bytes fill.now) ≤ vec_capacity out.old }
+    ensures { out.new.items ≡ out.old.items ++ held_bytes fill.now }
+{
+    match fill {
+        Fill::Zero => {}
+        Fill::Data(data) => data.put_onto(out),
+    }
+}
+
+#[tactic(auto, unfolding(crate::specs::Writing::object_bytes))]
+fn put_object<E: Order>(out: &mut Vec<u8>, node: &InodeNode<'_>)
+    requires { vec_len out.old + 32 ≤ vec_capacity out.old }
+    ensures items { out.new.items ≡ out.old.items ++ object_bytes E.order node.now }
+    ensures len { vec_len out.new ≡ vec_len out.old + 32 }
+    ensures capacity { vec_capacity out.old ≤ vec_capacity out.new }
+{
+    put_u32::<E>(out, node.ino);
+    put_u32::<E>(out, node.version);
+    put_u32::<E>(out, node.mode);
+    put_u16::<E>(out, node.uid);
+    put_u16::<E>(out, node.gid);
+    put_u32::<E>(out, node.isize);
+    put_u32::<E>(out, node.atime);
+    put_u32::<E>(out, node.mtime);
+    put_u32::<E>(out, node.ctime);
+}
+
+#[tactic(auto, unfolding(crate::specs::Writing::range_bytes))]
+fn put_range<E: Order>(out: &mut Vec<u8>, node: &InodeNode<'_>)
+    requires room { vec_len out.old + 16 ≤ vec_capacity out.old }
+    requires long { inode_len + length (held_bytes node.now.fill) ≤ totlen_most }
+    ensures items { out.new.items ≡ out.old.items ++ range_bytes E.order node.now }
+    ensures len { vec_len out.new ≡ vec_len out.old + 16 }
+    ensures capacity { vec_capacity out.old ≤ vec_capacity out.new }
+{
+    let csize = held_len(&node.fill) as u32;
+    put_u32::<E>(out, node.offset);
+    put_u32::<E>(out, csize);
+    put_u32::<E>(out, node.dsize);
+    put(out, &[held_compr(&node.fill), 0, 0, 0]);
+}
+
+#[tactic(auto, unfolding(crate::specs::Writing::inode_front))]
+fn put_inode_front<E: Order>(out: &mut Vec<u8>, node: &InodeNode<'_>)
+    requires room { vec_len out.old + 60 ≤ vec_capacity out.old }
+    requires long { inode_len + length (held_bytes node.now.fill) ≤ totlen_most }
+    ensures items { out.new.items ≡ out.old.items ++ inode_front E.order node.now }
+    ensures len { vec_len out.new ≡ vec_len out.old + 60 }
+    ensures capacity { vec_capacity out.old ≤ vec_capacity out.new }
+{
+    let csize = held_len(&node.fill) as u32;
+    put_header::<E>(out, nodetype::INODE, inode::LEN as u32 + csize);
+    put_object::<E>(out, node);
+    put_range::<E>(out, node);
+}
+
+/// The checksum of the bytes from `start` on.
+fn crc_since(out: &Vec<u8>, start: usize) -> u32
+    requires { start ≤ vec_len out.now }
+    ensures { result ≡ crc_of (drop start out.now.items) }
+{
+    crc(&out[start..])
+}
+
+// What the types of the fields say.
+fn object_fits(node: &InodeNode<'_>)
+    ensures ino { node.now.ino < 2 ^ 32 }
+    ensures version { node.now.version < 2 ^ 32 }
+    ensures mode { node.now.mode < 2 ^ 32 }
+    ensures uid { node.now.uid < 2 ^ 16 }
+    ensures gid { node.now.gid < 2 ^ 16 }
+{
+    let _ino = node.ino;
+    let _version = node.version;
+    let _mode = node.mode;
+    let _uid = node.uid;
+    let _gid = node.gid;
+}
+
+fn times_fit(node: &InodeNode<'_>)
+    ensures isize { node.now.isize < 2 ^ 32 }
+    ensures atime { node.now.atime < 2 ^ 32 }
+    ensures mtime { node.now.mtime < 2 ^ 32 }
+    ensures ctime { node.now.ctime < 2 ^ 32 }
+{
+    let _isize = node.isize;
+    let _atime = node.atime;
+    let _mtime = node.mtime;
+    let _ctime = node.ctime;
+}
+
+#[tactic(auto, unfolding(crate::specs::Writing::canonical_inode))]
+fn put_inode<E: Order>(out: &mut Vec<u8>, node: &InodeNode<'_>)
+    requires room { vec_len out.old + (inode_len + length (held_bytes node.now.fill)) ≤ vec_capacity out.old }
+    requires long { inode_len + length (held_bytes node.now.fill) ≤ totlen_most }
+    ensures { out.new.items ≡ out.old.items ++ canonical_inode E.order node.now }
+{
+    let start = out.len();
+    put_inode_front::<E>(out, node);
+    let node_crc = crc_since(out, start);
+    put_u32::<E>(out, held_crc(&node.fill));
+    put_u32::<E>(out, node_crc);
+    put_held(out, &node.fill);
+}
+
+fn holds_range(fill: &Fill<'_>, dsize: u32) -> bool
+    ensures { IsTrue result ↔ HoldsRange fill.now dsize }
+{
+    match fill {
+        Fill::Zero => true,
+        Fill::Data(data) => data.len() == dsize as usize,
+    }
+}
+
+fn is_writable_inode(node: &InodeNode<'_>) -> bool
+    ensures { IsTrue result ↔ IsWritableInode node.now }
+{
+    node.ino != 0
+        && u64::from(node.offset) + u64::from(node.dsize) <= 0xFFFF_FFFF
+        && holds_range(&node.fill, node.dsize)
+        && held_len(&node.fill) <= TOTLEN_MOST - inode::LEN
+}
+
+/// Appends the written form of an inode node. A refusal leaves `out` as it was.
+pub fn write_inode<E: Order>(out: &mut Vec<u8>, node: &InodeNode<'_>) -> Result<(), WriteFault>
+    ensures ok { OnOk result (out.new.items ≡ out.old.items ++ canonical_inode E.order node.now) }
+    ensures writable { OnOk result (IsWritableInode node.now) }
+    ensures fits { OnOk result (FitsInode node.now) }
+    ensures err { OnErr result (out.new.items ≡ out.old.items) }
+
+    // Which refusal it is.
+    ensures name { result ≢ Err WriteFault.Name }
+    ensures data { (result ≡ Err WriteFault.Data) ↔ (¬ IsWritableInode node.now) }
+    // Memory was wanting only where the room was.
+    ensures memory { result ≡ Err WriteFault.OutOfMemory → vec_capacity out.old < vec_len out.old + (inode_len + length (held_bytes node.now.fill)) }
+{
+    if !is_writable_inode(node) {
+        return Err(WriteFault::Data);
+    }
+    let size = inode::LEN + held_len(&node.fill);
+    out.reserve(size).map_err(|_| WriteFault::OutOfMemory)?;
+    put_inode::<E>(out, node);
+    object_fits(node);
+    times_fit(node);
+    Ok(())
+}
+
+/// Appends the clean marker. A refusal leaves `out` as it was.
+pub fn write_marker<E: Order>(out: &mut Vec<u8>) -> Result<(), WriteFault>
+    ensures ok { OnOk result (out.new.items ≡ out.old.items ++ clean_marker E.order) }
+    ensures err { OnErr result (out.new.items ≡ out.old.items) }
+    ensures memory { OnErr result ((result ≡ Err WriteFault.OutOfMemory) × (vec_capacity out.old < vec_len out.old + header_len)) }
+{
+    out.reserve(header::LEN)
+        .map_err(|_| WriteFault::OutOfMemory)?;
+    put_header::<E>(out, nodetype::CLEANMARKER, header::LEN as u32);
+    Ok(())
+}
+
+/// Appends a padding node of `totlen` bytes. A refusal leaves `out` as it was.
+pub fn write_padding<E: Order>(out: &mut Vec<u8>, totlen: u32) -> Result<(), WriteFault>
+    ensures ok { OnOk result (out.new.items ≡ out.old.items ++ padding_node E.order totlen) }
+    ensures err { OnErr result (out.new.items ≡ out.old.items) }
+
+    // Which refusal it is.
+    ensures name { result ≢ Err WriteFault.Name }
+    ensures data { (result ≡ Err WriteFault.Data) ↔ ((totlen < header_len) ⊎ (totlen_most < totlen)) }
+    // Memory was wanting only where the room was.
+    ensures memory { result ≡ Err WriteFault.OutOfMemory → vec_capacity out.old < vec_len out.old + totlen }
+{
+    let size = totlen as usize;
+    if size < header::LEN || size > TOTLEN_MOST {
+        return Err(WriteFault::Data);
+    }
+    out.reserve(size).map_err(|_| WriteFault::OutOfMemory)?;
+    put_header::<E>(out, nodetype::PADDING, totlen);
+    Part::new(&[], size - header::LEN).put_onto(out);
+    Ok(())
+}

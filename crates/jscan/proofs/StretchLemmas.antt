@@ -1,0 +1,209 @@
+-- Runs: how they begin, go on and end.
+use Rattle.std.proofs.Common.{◌≡◌, ℕ, zero, suc, ◌+◌, ◌-◌, ◌*◌, ◌/◌, ◌%◌, ◌<◌, ◌≤◌, Bool, true, false, leb, cond, List, [], ◌∷◌, length, drop, take, map, arith, refl, ap, ap₂, sym, ◌∙◌, subst, min, max, ⊎_elim, inl, inr, ◌⊎◌, slice_index, length-drop, length-take-le, drop_of_length-le}
+use Rattle.std.proofs.lemmas.Bool.{cond-true, cond-false, cases_Bool, leb-true, leb-false}
+use Rattle.std.proofs.lemmas.List.{take_rest, drop-drop, get_or-drop}
+use Rattle.jnode.specs.declared.order.Endian.{Endian}
+use Rattle.jnode.specs.declared.order.Endian.TheVariants.{Little, Big}
+use Rattle.jnode.specs.Order.{number_in}
+use Rattle.jnode.specs.Header.{IsGood}
+use Rattle.jnode.specs.Reading.{seen_of, tile_of}
+use Rattle.jnode.specs.declared.header.Header.{Header}
+use Rattle.jnode.specs.declared.node.Seen.{Seen}
+use Rattle.jscan.specs.Tiling.{Tile, tile_at, tiling_from}
+use Rattle.jscan.specs.Stretches.{class_of, look_of, stretch_of, is_one_run, in_front, runs_joined, stretches_from}
+use Rattle.jscan.specs.Runs.{BeginsRun, IsStretch, EndsRun}
+use Rattle.jscan.specs.declared.tiles.TileKind.{TileKind}
+use Rattle.jscan.specs.declared.tiles.TileKind.TheVariants.{Node, Word, Rest}
+use Rattle.jscan.specs.declared.stretch.Look.{Look}
+use Rattle.jscan.specs.declared.stretch.Look.TheVariants.{Tiled, Erased, OtherOrder, Dirt}
+use Rattle.jscan.specs.declared.stretch.Stretch.{Stretch}
+use Rattle.jscan.proofs.FrontLemmas.{IsFront, tiling_front, word_front}
+use Rattle.jnode.proofs.HeaderLemmas.{good_again}
+use Rattle.jscan.proofs.TileLemmas.{tile_good}
+
+-- a stretch of n bytes
+abbrev pub at : ℕ → ℕ → Look → Stretch
+at addr n look = record { addr = addr; len = n; look = look }
+
+pub one_run_same : (a b : Look) → is_one_run a b ≡ true → a ≡ b
+one_run_same Erased Erased h = refl
+one_run_same OtherOrder OtherOrder h = refl
+one_run_same Dirt Dirt h = refl
+one_run_same a b h = cc
+
+pub no_run_node : (look : Look) (seen : Seen) → is_one_run look (Tiled seen) ≡ false
+no_run_node (Tiled s) seen = refl
+no_run_node Erased seen = refl
+no_run_node OtherOrder seen = refl
+no_run_node Dirt seen = refl
+
+-- two stretches of one run in front of others are one
+pub in_front_twice : (look : Look) → is_one_run look look ≡ true → (addr there n m : ℕ) (ss : List Stretch)
+    → in_front (at addr n look) (in_front (at there m look) ss) ≡ in_front (at addr (n + m) look) ss
+in_front_twice look same addr there n m [] = cond-true (is_one_run look look) _ _ same
+in_front_twice look same addr there n m (u ∷ us) =
+    ⊎_elim
+    (λ joined.
+    ap (in_front (at addr n look)) (cond-true (is_one_run look u.look) (at there (m + u.len) look ∷ us) (at there m look ∷ u ∷ us) joined)
+    ∙ cond-true (is_one_run look look) (at addr (n + (m + u.len)) look ∷ us) (at addr n look ∷ at there (m + u.len) look ∷ us) same
+    ∙ ap (λ (k : ℕ). at addr k look ∷ us) (omega arith)
+    ∙ sym (cond-true (is_one_run look u.look) (at addr ((n + m) + u.len) look ∷ us) (at addr (n + m) look ∷ u ∷ us) joined))
+    (λ apart.
+    ap (in_front (at addr n look)) (cond-false (is_one_run look u.look) (at there (m + u.len) look ∷ us) (at there m look ∷ u ∷ us) apart)
+    ∙ cond-true (is_one_run look look) (at addr (n + m) look ∷ u ∷ us) (at addr n look ∷ at there m look ∷ u ∷ us) same
+    ∙ sym (cond-false (is_one_run look u.look) (at addr ((n + m) + u.len) look ∷ us) (at addr (n + m) look ∷ u ∷ us) apart))
+    (cases_Bool (is_one_run look u.look))
+
+-- two stretches that are no run stay two
+pub in_front_apart : (look other : Look) → is_one_run look other ≡ false → (addr there n m : ℕ) (ss : List Stretch)
+    → in_front (at addr n look) (in_front (at there m other) ss) ≡ at addr n look ∷ in_front (at there m other) ss
+in_front_apart look other apart addr there n m [] = cond-false (is_one_run look other) _ _ apart
+in_front_apart look other apart addr there n m (u ∷ us) =
+    ⊎_elim
+    (λ joined.
+    let inner = cond-true (is_one_run other u.look) (at there (m + u.len) other ∷ us) (at there m other ∷ u ∷ us) joined in
+    ap (in_front (at addr n look)) inner
+    ∙ cond-false (is_one_run look other) (at addr (n + (m + u.len)) look ∷ us) (at addr n look ∷ at there (m + u.len) other ∷ us) apart
+    ∙ ap (λ (l : List Stretch). at addr n look ∷ l) (sym inner))
+    (λ split.
+    let inner = cond-false (is_one_run other u.look) (at there (m + u.len) other ∷ us) (at there m other ∷ u ∷ us) split in
+    ap (in_front (at addr n look)) inner
+    ∙ cond-false (is_one_run look other) (at addr (n + m) look ∷ u ∷ us) (at addr n look ∷ at there m other ∷ u ∷ us) apart
+    ∙ ap (λ (l : List Stretch). at addr n look ∷ l) (sym inner))
+    (cases_Bool (is_one_run other u.look))
+
+-- a node's tile is no part of a run
+pub in_front_node : (seen : Seen) (addr n : ℕ) (ss : List Stretch) → in_front (at addr n (Tiled seen)) ss ≡ at addr n (Tiled seen) ∷ ss
+in_front_node seen addr n [] = refl
+in_front_node seen addr n (u ∷ us) = refl
+
+-- the first tile begins a run, if it is no node
+pub begins_front : (e : Endian) (rest : List ℕ) (kind : TileKind) (n : ℕ) → IsFront e rest kind n → 0 < length rest → n ≤ length rest
+    → BeginsRun e rest n (look_of e kind (take n rest))
+unfolding BeginsRun stretches_from
+begins_front e rest kind n front some within start place =
+    ap (λ (ts : List Tile). runs_joined (map (stretch_of e start) ts)) (tiling_front e rest place n kind front some within)
+    ∙ ap (λ (m : ℕ). in_front (at (start + place) m (look_of e kind (take n rest))) (stretches_from e start (place + n) (drop n rest))) (length-take-le n rest within)
+
+pub begins_word : (e : Endian) (rest : List ℕ) (kind : TileKind) (n : ℕ) → IsFront e rest kind n → 0 < length rest → n ≤ length rest
+    → (kind ≡ Word) ⊎ (kind ≡ Rest) → BeginsRun e rest n (class_of e (take n rest))
+begins_word e rest kind n front some within (inl word) =
+    begins_front e rest Word n (subst (λ (k : TileKind). IsFront e rest k n) word front) some within
+begins_word e rest kind n front some within (inr last) =
+    begins_front e rest Rest n (subst (λ (k : TileKind). IsFront e rest k n) last front) some within
+
+-- and with a node it is the first stretch
+pub node_stretch : (e : Endian) (rest : List ℕ) (n : ℕ) (seen : Seen) → BeginsRun e rest n (Tiled seen) → IsStretch e rest n (Tiled seen)
+unfolding BeginsRun IsStretch
+node_stretch e rest n seen begins start place =
+    begins start place ∙ in_front_node seen (start + place) n (stretches_from e start (place + n) (drop n rest))
+
+-- a run goes on where what follows begins one of the same look
+pub goes_on : (e : Endian) (rest : List ℕ) (n m : ℕ) (look : Look) → is_one_run look look ≡ true
+    → BeginsRun e rest n look → BeginsRun e (drop n rest) m look → BeginsRun e rest (n + m) look
+unfolding BeginsRun
+goes_on e rest n m look same first next start place =
+    let left : drop m (drop n rest) ≡ drop (n + m) rest = drop-drop m n rest in
+    first start place
+    ∙ ap (in_front (at (start + place) n look)) (next start (place + n))
+    ∙ in_front_twice look same (start + place) (start + (place + n)) n m (stretches_from e start ((place + n) + m) (drop m (drop n rest)))
+    ∙ ap₂ (λ (p : ℕ) (l : List ℕ). in_front (at (start + place) (n + m) look) (stretches_from e start p l)) (omega arith) left
+
+-- and is a stretch where what follows ends it
+pub run_stretch : (e : Endian) (rest : List ℕ) (n : ℕ) (look : Look) → BeginsRun e rest n look → EndsRun e (drop n rest) look → IsStretch e rest n look
+unfolding BeginsRun IsStretch EndsRun
+run_stretch e rest n look begins ends start place = begins start place ∙ ends start (place + n) (start + place) n
+
+pub ends_empty : (e : Endian) (look : Look) (rest : List ℕ) → length rest ≡ 0 → EndsRun e rest look
+unfolding EndsRun stretches_from
+ends_empty e look [] h = λ start place addr n. refl
+ends_empty e look (b ∷ bs) h = absurd (omega arith)
+
+-- a tile of another look ends a run
+pub ends_front : (e : Endian) (rest : List ℕ) (n : ℕ) (look other : Look) → BeginsRun e rest n other → is_one_run look other ≡ false → EndsRun e rest look
+unfolding BeginsRun EndsRun
+ends_front e rest n look other begins apart start place addr m =
+    let is = begins start place in
+    ap (in_front (at addr m look)) is
+    ∙ in_front_apart look other apart addr (start + place) m n (stretches_from e start (place + n) (drop n rest))
+    ∙ ap (λ (l : List Stretch). at addr m look ∷ l) (sym is)
+
+-- one step of the iterator at a place, which gives the stretch of the next n bytes
+pub stretches_step : (e : Endian) (start : ℕ) (block : List ℕ) (place n : ℕ) (look : Look)
+    → IsStretch e (take (length block - place) (drop place block)) n look
+    → stretches_from e start place (drop place block) ≡ at (start + place) n look ∷ stretches_from e start (place + n) (drop (place + n) block)
+unfolding IsStretch
+stretches_step e start block place n look stretch =
+    let rest = take (length block - place) (drop place block) in
+    let is : rest ≡ drop place block = take_rest block place in
+    let left : drop n rest ≡ drop (place + n) block = ap (drop n) is ∙ drop-drop n place block in
+    ap (stretches_from e start place) (sym is) ∙ stretch start place
+    ∙ ap (λ (l : List ℕ). at (start + place) n look ∷ stretches_from e start (place + n) l) left
+
+pub stretches_end : (e : Endian) (start : ℕ) (block : List ℕ) (place : ℕ) → length (take (length block - place) (drop place block)) ≡ 0
+    → stretches_from e start place (drop place block) ≡ []
+unfolding stretches_from
+stretches_end e start block place empty =
+    let is = take_rest block place in
+    let none : drop place block ≡ [] = drop_of_length-le block {i = place} (omega (arith, ap length (sym is) ∙ empty, length-drop place block)) in
+    ap (stretches_from e start place) none
+
+-- where a node stands, the tile at the front is the node's whole tile
+pub node_look : (e : Endian) (rest : List ℕ) (header : Header) (n : ℕ) → IsGood e rest → IsFront e rest (Node header) n
+    → seen_of e (tile_of e rest) ≡ seen_of e (take n rest)
+node_look e rest header n good front =
+    ap (λ (t : Tile). seen_of e t.bytes) (sym (tile_good e 0 rest (good_again e rest good)) ∙ front 0)
+
+-- ---- erased words
+
+-- what begins with erased bytes has no good header
+pub erased_no_header : (e : Endian) (xs : List ℕ) → ¬ IsGood e (255 ∷ 255 ∷ xs)
+unfolding number_in
+erased_no_header Little xs good = let bad : 65535 ≡ 0x1985 = good.right_magic in absurd (omega arith)
+erased_no_header Big xs good = let bad : 65535 ≡ 0x1985 = good.right_magic in absurd (omega arith)
+
+one_erased : (e : Endian) (a b c d : ℕ) (xs : List ℕ) → a ≡ 255 → b ≡ 255 → c ≡ 255 → d ≡ 255 → 8 ≤ length xs
+    → BeginsRun e (a ∷ b ∷ c ∷ d ∷ xs) 4 Erased
+unfolding class_of
+one_erased e a b c d xs p q r s long =
+    let rest : List ℕ = 255 ∷ 255 ∷ 255 ∷ 255 ∷ xs in
+    let is : rest ≡ a ∷ b ∷ c ∷ d ∷ xs = cc in
+    let begins : BeginsRun e rest 4 Erased =
+    begins_front e rest Word 4 (word_front e rest (erased_no_header e (255 ∷ 255 ∷ xs)) (omega arith)) (omega arith) (omega arith) in
+    subst (λ (l : List ℕ). BeginsRun e l 4 Erased) is begins
+
+-- words of 0xFF, with eight bytes or more behind them, begin an erased run
+pub words_erased : (e : Endian) (k : ℕ) (rest : List ℕ) → 4 * suc k + 8 ≤ length rest
+    → ((i : ℕ) → i < 4 * suc k → slice_index rest i ≡ 255) → BeginsRun e rest (4 * suc k) Erased
+words_erased e zero (a ∷ b ∷ c ∷ d ∷ xs) long all =
+    one_erased e a b c d xs (all 0 (omega arith)) (all 1 (omega arith)) (all 2 (omega arith)) (all 3 (omega arith)) (omega arith)
+words_erased e (suc k) (a ∷ b ∷ c ∷ d ∷ xs) long all =
+    let first = one_erased e a b c d xs (all 0 (omega arith)) (all 1 (omega arith)) (all 2 (omega arith)) (all 3 (omega arith)) (omega arith) in
+    let next : BeginsRun e xs (4 * suc k) Erased = words_erased e k xs (omega arith)
+    (λ i h. get_or-drop 4 (a ∷ b ∷ c ∷ d ∷ xs) i 0 ∙ all (4 + i) (omega arith)) in
+    subst (λ (n : ℕ). BeginsRun e (a ∷ b ∷ c ∷ d ∷ xs) n Erased) (omega arith) (goes_on e (a ∷ b ∷ c ∷ d ∷ xs) 4 (4 * suc k) Erased refl first next)
+words_erased e k [] long all = absurd (omega arith)
+words_erased e k (a ∷ []) long all = absurd (omega arith)
+words_erased e k (a ∷ b ∷ []) long all = absurd (omega arith)
+words_erased e k (a ∷ b ∷ c ∷ []) long all = absurd (omega arith)
+
+-- so does any number of bytes that is a multiple of 4
+pub erased_begins : (e : Endian) (n : ℕ) (rest : List ℕ) → 0 < n → n % 4 ≡ 0 → n + 8 ≤ length rest
+    → ((i : ℕ) → i < n → slice_index rest i ≡ 255) → BeginsRun e rest n Erased
+erased_begins e n rest some words long all =
+    let k = n / 4 - 1 in
+    let is : 4 * suc k ≡ n = omega arith in
+    subst (λ (m : ℕ). BeginsRun e rest m Erased) is (words_erased e k rest (omega arith) (λ i h. all i (omega arith)))
+
+-- The words that the code takes: as many as run and room allow, and at least those that were known.
+pub erased_most : (e : Endian) (rest : List ℕ) (begun run most n : ℕ) → length rest % 4 ≡ 0 → begun % 4 ≡ 0 → BeginsRun e rest begun Erased
+    → ((i : ℕ) → i < run → slice_index rest i ≡ 255) → most ≡ length rest - 8 → n ≡ max (min (run / 4 * 4) most) begun → BeginsRun e rest n Erased
+erased_most e rest begun run most n size words begins all room chosen =
+    ⊎_elim
+    (λ small.
+    let least : min (run / 4 * 4) most ≤ begun = leb-true _ begun small in
+    subst (λ (m : ℕ). BeginsRun e rest m Erased) (omega arith) begins)
+    (λ large.
+    let more : begun < min (run / 4 * 4) most = leb-false _ begun large in
+    erased_begins e n rest (omega arith) (omega arith) (omega arith) (λ i h. all i (omega arith)))
+    (cases_Bool (leb (min (run / 4 * 4) most) begun))

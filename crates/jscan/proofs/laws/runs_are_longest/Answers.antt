@@ -1,0 +1,5 @@
+use Rattle.jscan.proofs.StretchLaws.{runs_are_longest}
+use Rattle.jscan.proofs.laws.runs_are_longest.Goals as goal
+
+pub returns : goal.returns
+returns c = runs_are_longest

@@ -1,0 +1,28 @@
+use Rattle.std.proofs.Common.{◌≡◌, rules, subst, sym, ◌∙◌, take, arith, refl, ap}
+use Rattle.jnode.specs.declared.node.Seen.{Seen}
+use Rattle.jscan.specs.Stretches.{look_of}
+use Rattle.jscan.specs.Runs.{IsStretch, BeginsRun}
+use Rattle.jscan.specs.declared.tiles.TileKind.{TileKind}
+use Rattle.jscan.specs.declared.stretch.Look.TheVariants.{Tiled}
+use Rattle.jscan.proofs.FrontLemmas.{IsFront}
+use Rattle.jscan.proofs.StretchLemmas.{begins_front, begins_word, node_stretch, node_look}
+use Rattle.jscan.proofs.stretches.first_stretch.Goals as goal
+
+pub first_run-requires : goal.first_run-requires
+first_run-requires g c =
+    let front = c.front-kind.ensures in
+    record {
+      whole_words = c.requires.whole_words;
+      words = front.whole_words;
+      nonempty = front.nonempty;
+      within = front.within;
+      begins = begins_word _ _ _ _ front.tile c.requires.nonempty front.within c.in-Word.is;
+    }
+
+pub returns-in-Node-clause-stretch : goal.returns-in-Node-clause-stretch
+returns-in-Node-clause-stretch g c =
+    let front = c.front-kind.ensures in
+    let tile = subst (λ (kind : TileKind). IsFront g.E.Order.order c.args.rest.now kind c.front-kind.result.1) c.in-Node.is front.tile in
+    let seen = c.read_node.ensures.exact ∙ node_look _ _ _ _ (front.good _ c.in-Node.is) tile in
+    subst (λ (s : Seen). IsStretch g.E.Order.order c.args.rest.now c.front-kind.result.1 (Tiled s)) (sym seen)
+    (node_stretch _ _ _ _ (begins_front _ _ _ _ tile c.requires.nonempty front.within))

@@ -1,0 +1,21 @@
+use Rattle.std.proofs.Common.{◌≡◌, ◌<◌, rules, subst, sym, ◌∙◌, length, arith}
+use Rattle.jscan.specs.Runs.{BeginsRun}
+use Rattle.jscan.specs.declared.stretch.Look.{Look}
+use Rattle.jscan.proofs.StretchLemmas.{begins_front, ends_front, ends_empty, one_run_same}
+use Rattle.jscan.proofs.stretches.next_of_run.Goals as goal
+
+pub returns-then-is_empty-clause-ends : goal.returns-then-is_empty-clause-ends
+returns-then-is_empty-clause-ends g c = ends_empty _ _ _ (search rules)
+
+pub returns-then-goes_on-clause-goes_on : goal.returns-then-goes_on-clause-goes_on
+returns-then-goes_on-clause-goes_on g c =
+    let front = c.front-kind.ensures in
+    subst (λ (look : Look). BeginsRun g.E.Order.order c.args.rest.now c.front-kind.result.1 look)
+    (sym (one_run_same c.args.look.now _ (sym c.goes_on.ensures ∙ c.if-goes_on.true)))
+    (begins_front _ _ _ _ front.tile (omega (arith, front.nonempty, front.within)) front.within)
+
+pub returns-else-goes_on-clause-ends : goal.returns-else-goes_on-clause-ends
+returns-else-goes_on-clause-ends g c =
+    let front = c.front-kind.ensures in
+    ends_front _ _ _ _ _ (begins_front _ _ _ _ front.tile (omega (arith, front.nonempty, front.within)) front.within)
+    (sym c.goes_on.ensures ∙ c.if-goes_on.false)

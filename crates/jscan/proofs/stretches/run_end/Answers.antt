@@ -1,0 +1,23 @@
+use Rattle.std.proofs.Common.{rules, ◌≡◌, ◌%◌, ◌<◌, ◌≤◌, ◌+◌, ◌-◌, length, drop, take, arith, subst, ap, length-drop}
+use Rattle.std.proofs.lemmas.List.{take_rest}
+use Rattle.jscan.specs.Runs.{BeginsRun, EndsRun}
+use Rattle.jscan.proofs.StretchLemmas.{goes_on, run_stretch}
+use Rattle.jscan.proofs.stretches.run_end.Goals as goal
+
+pub loop-len-preserved : goal.loop-len-preserved
+loop-len-preserved g c =
+    let old = c.loop-len.invariant in
+    let next = c.in-Some.ensures in
+    let left = take_rest c.args.rest.now c.loop-len.end in
+    let size = ap length left in
+    record {
+      least = omega (arith, old.least);
+      within = omega (arith, old.within, next.within, size, length-drop c.loop-len.end c.args.rest.now);
+      words = omega (arith, old.words, next.words);
+      begins = goes_on _ _ _ _ _ next.one_look old.begins (subst (λ l. BeginsRun g.E.Order.order l c.in-Some.len c.args.look.now) left next.goes_on);
+    }
+
+pub returns-clause-stretch : goal.returns-clause-stretch
+returns-clause-stretch g c =
+    let left = take_rest c.args.rest.now c.loop-len.end in
+    run_stretch _ _ _ _ c.loop-len.invariant.begins (subst (λ l. EndsRun g.E.Order.order l c.args.look.now) left c.in_default.ensures.ends)

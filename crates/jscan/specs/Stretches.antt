@@ -1,0 +1,59 @@
+-- The stretches of a block: its nodes' tiles, and the longest runs of the words between them.
+use Rattle.std.specs.Prelude.{◌≡◌, ℕ, ◌+◌, ◌==◌, Bool, true, false, List, [], ◌∷◌, ◌++◌, map, drop, length, if◌then◌else◌, sum_by}
+use Rattle.std.specs.List.{list_all}
+use Rattle.jnode.specs.declared.order.Endian.{Endian}
+use Rattle.jnode.specs.Header.{magic_of}
+use Rattle.jnode.specs.Reading.{seen_of}
+use Rattle.jscan.specs.Tiling.{Tile, tiling_from, tiling}
+use Rattle.jscan.specs.declared.tiles.TileKind.{TileKind}
+use Rattle.jscan.specs.declared.tiles.TileKind.TheVariants.{Node, Word, Rest}
+use Rattle.jscan.specs.declared.stretch.Look.{Look}
+use Rattle.jscan.specs.declared.stretch.Look.TheVariants.{Tiled, Erased, OtherOrder, Dirt}
+use Rattle.jscan.specs.declared.stretch.Stretch.{Stretch}
+
+-- the magic number 0x1985 of a node of the other byte order, read in this one
+abbrev pub other_magic : ℕ
+other_magic = 0x8519
+
+-- A word or a rest is erased if all its bytes are 0xFF. Else it is the other byte order's if it begins with that
+-- order's magic, and dirt if it does not.
+unfoldable pub class_of : Endian → List ℕ → Look
+class_of e bytes =
+    if list_all (λ b. b == 0xFF) bytes then Erased
+    else if magic_of e bytes == other_magic then OtherOrder
+    else Dirt
+
+-- what a tile looks like
+abbrev pub look_of : Endian → TileKind → List ℕ → Look
+look_of e (Node header) bytes = Tiled (seen_of e bytes)
+look_of e Word bytes = class_of e bytes
+look_of e Rest bytes = class_of e bytes
+
+-- a tile as a stretch of the block that begins at an address
+abbrev pub stretch_of : Endian → ℕ → Tile → Stretch
+stretch_of e start tile = record { addr = start + tile.place; len = length tile.bytes; look = look_of e tile.kind tile.bytes }
+
+-- two looks that go on as one run
+abbrev pub is_one_run : Look → Look → Bool
+is_one_run Erased Erased = true
+is_one_run OtherOrder OtherOrder = true
+is_one_run Dirt Dirt = true
+is_one_run _ _ = false
+
+-- a stretch in front of others: one with the first of them, where they go on as one run
+abbrev pub in_front : Stretch → List Stretch → List Stretch
+in_front s [] = s ∷ []
+in_front s (t ∷ ts) = if is_one_run s.look t.look then record { addr = s.addr; len = s.len + t.len; look = s.look } ∷ ts else s ∷ t ∷ ts
+
+-- the stretches with each longest run as one
+abbrev pub runs_joined : List Stretch → List Stretch
+runs_joined [] = []
+runs_joined (s ∷ ss) = in_front s (runs_joined ss)
+
+-- the stretches of the rest of a block, from a place on
+unfoldable pub stretches_from : Endian → ℕ → ℕ → List ℕ → List Stretch
+stretches_from e start place rest = runs_joined (map (stretch_of e start) (tiling_from e place 0 rest))
+
+-- the stretches of the block that begins at this address, in order
+abbrev pub stretches : Endian → ℕ → List ℕ → List Stretch
+stretches e start block = stretches_from e start 0 block

@@ -1,0 +1,36 @@
+//! Laws of tilings and stretches. Each function's contract is a law, and its body is empty.
+
+ghost use Rattle.jscan.specs.Laws.{TilingExists, TilingIsOnly, TileThenRest, RunsAreLongest, StretchesMakeUp, StretchesAreFew, NodesAreSeen, NamesAreShort};
+
+/// A block of whole words has exactly one tiling, and it is the one computed.
+pub fn one_tiling()
+    ensures exists { TilingExists }
+    ensures only { TilingIsOnly }
+{}
+
+/// A block's tiles are the first one, and then those of what follows it.
+pub fn tile_then_rest()
+    ensures { TileThenRest }
+{}
+
+/// No two neighbours among a block's stretches go on as one run.
+pub fn runs_are_longest()
+    ensures { RunsAreLongest }
+{}
+
+/// A block's stretches make it up: none is empty, and each begins where the one before it ends.
+pub fn stretches_make_up()
+    ensures { StretchesMakeUp }
+{}
+
+/// A block has at most one stretch for each of its words.
+pub fn stretches_are_few()
+    ensures { StretchesAreFew }
+{}
+
+/// A stretch seen as a node is the whole tile of a good header, and the name of an entry seen has
+/// at most 254 bytes.
+pub fn nodes_are_seen()
+    ensures seen { NodesAreSeen }
+    ensures names { NamesAreShort }
+{}

@@ -1,0 +1,28 @@
+//! How an image of a JFFS2 flash falls into blocks, tiles and stretches.
+//!
+//! A block falls into tiles: a node's whole tile where a good header stands, and words between (Woodhouse
+//! 2001; Linux, fs/jffs2/scan.c). `Tiles` goes over them. `Stretches` goes over what a report shows of a
+//! block: its nodes' tiles, each with what it is seen as, and the longest runs of words of one look.
+//! Neither takes memory, and both take time linear in the block.
+//!
+//! It stands on `flashbase` (padding, erased runs) and `jnode` (headers, and what a node is seen as). Its
+//! promise to the crates above: the tiles given are the block's one tiling, and the stretches are those
+//! tiles with each longest run as one.
+//!
+//! `laws` has what holds of every tiling and of all stretches of a block, `rows` has worked blocks.
+#![tactic(auto)]
+
+mod geometry;
+pub mod laws;
+pub mod rows;
+mod stretch;
+mod stretches;
+mod tiles;
+
+pub use crate::geometry::{GREATEST_BLOCK, GREATEST_IMAGE, Geometry, LEAST_BLOCK, ScanFault};
+pub use crate::stretch::{Look, Stretch};
+pub use crate::stretches::Stretches;
+pub use crate::tiles::{Tile, TileKind, Tiles};
+
+#[cfg(test)]
+mod tests;

@@ -1,0 +1,57 @@
+//! Worked blocks. Each function's contract is a block and its stretches, and its body is empty.
+
+ghost use Rattle.std.specs.Prelude.{◌≡◌, ◌++◌, [], ◌∷◌};
+ghost use Rattle.flashbase.specs.Bytes.{erased};
+ghost use Rattle.jnode.specs.declared.order.Endian.TheVariants.{Little, Big};
+ghost use Rattle.jnode.specs.declared.node.Seen.TheVariants as seen;
+ghost use Rattle.jnode.specs.Vectors.{little_marker, entry_a, named_a, no_length, length_13};
+ghost use Rattle.jscan.specs.Stretches.{stretches};
+ghost use Rattle.jscan.specs.declared.stretch.Look.TheVariants.{Tiled, Erased, OtherOrder, Dirt};
+ghost use Rattle.jscan.specs.declared.stretch.Stretch.{Stretch};
+
+/// A header with totlen 0 is dirt.
+pub fn no_length_is_dirt()
+    ensures { stretches Little 0 (no_length ++ erased 52)
+        ≡ record { addr = 0; len = 12; look = Dirt } ∷ record { addr = 12; len = 52; look = Erased } ∷ [] }
+{}
+
+/// So is a header of 13 bytes where 12 are left.
+pub fn past_the_end_is_dirt()
+    ensures { stretches Little 0 (erased 52 ++ length_13)
+        ≡ record { addr = 0; len = 52; look = Erased } ∷ record { addr = 52; len = 12; look = Dirt } ∷ [] }
+{}
+
+/// A marker in the last twelve bytes is a node.
+pub fn last_marker_is_seen()
+    ensures { stretches Little 0 (erased 52 ++ little_marker)
+        ≡ record { addr = 0; len = 52; look = Erased } ∷ record { addr = 52; len = 12; look = Tiled seen.Marker } ∷ [] }
+{}
+
+/// A marker, an entry with its padding, and erased flash, at an address.
+pub fn entry_is_seen()
+    ensures { stretches Little 8192 (little_marker ++ entry_a ++ erased 43)
+        ≡ record { addr = 8192; len = 12; look = Tiled seen.Marker }
+        ∷ record { addr = 8204; len = 44; look = Tiled (seen.Entry named_a) }
+        ∷ record { addr = 8248; len = 40; look = Erased } ∷ [] }
+{}
+
+/// A node of the other byte order begins with a word of its own look.
+pub fn other_order_is_known()
+    ensures { stretches Big 0 (entry_a ++ erased 43)
+        ≡ record { addr = 0; len = 4; look = OtherOrder } ∷ record { addr = 4; len = 40; look = Dirt }
+        ∷ record { addr = 44; len = 40; look = Erased } ∷ [] }
+{}
+
+/// The last bytes of a block, fewer than twelve, are erased only if all of them are.
+pub fn rest_is_judged_whole()
+    ensures dirt { stretches Little 0 (erased 4 ++ 0 ∷ 0 ∷ 0 ∷ 0 ∷ []) ≡ record { addr = 0; len = 8; look = Dirt } ∷ [] }
+    ensures erased { stretches Little 0 (erased 8) ≡ record { addr = 0; len = 8; look = Erased } ∷ [] }
+    ensures behind { stretches Little 0 (erased 12 ++ 0 ∷ 0 ∷ 0 ∷ 0 ∷ [])
+        ≡ record { addr = 0; len = 8; look = Erased } ∷ record { addr = 8; len = 8; look = Dirt } ∷ [] }
+{}
+
+/// A whole block of 4,096 bytes.
+pub fn full_block()
+    ensures { stretches Little 0 (no_length ++ erased 4084)
+        ≡ record { addr = 0; len = 12; look = Dirt } ∷ record { addr = 12; len = 4084; look = Erased } ∷ [] }
+{}
