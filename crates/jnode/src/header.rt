@@ -25,7 +25,7 @@ pub(crate) fn is_accurate(nodetype: u16) -> bool
 
 /// The checksum of the header's first 8 bytes, taken with the bit ACCURATE set, so that a node that
 /// is made obsolete keeps its hdr_crc.
-#[tactic(auto, using(flashbase::proofs::CrcLemmas::parts), unfolding(crate::specs::Header::header_crc_of))]
+#[tactic(auto, using(flashbase::proofs::CrcLemmas::crc_goes_on), unfolding(crate::specs::Header::header_crc_of))]
 fn header_crc<E: Order>(front: &[u8]) -> u32
     requires { header_len ≤ length front.now }
     ensures { result ≡ header_crc_of E.order front.now }
