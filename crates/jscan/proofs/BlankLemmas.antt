@@ -1,9 +1,9 @@
 -- The least block from which all are blank.
-use Rattle.std.proofs.Common.{◌≡◌, ℕ, zero, suc, ◌+◌, ◌<◌, ◌≤◌, Bool, true, false, List, refl, ap, sym, ◌∙◌, arith, inl, inr}
+use Rattle.std.proofs.Common.{◌≡◌, ℕ, zero, suc, true, false, List, arith, inl, inr}
 use Rattle.std.proofs.lemmas.Bool.{cases_Bool, cases_lt, both_ways}
 use Rattle.jnode.specs.declared.order.Endian.{Endian}
 use Rattle.jscan.specs.Image.{block_of}
-use Rattle.jscan.specs.Blank.{is_blank, blank_from, AreBlankFrom, IsBlankFrom}
+use Rattle.jscan.specs.Blank.{is_blank, blank_from, IsBlankFrom}
 
 one_more : (e : Endian) (size : ℕ) (image : List ℕ) (n b : ℕ) → is_blank e size (block_of size image n) ≡ true
     → IsBlankFrom e size image n b → IsBlankFrom e size image (suc n) b

@@ -1,5 +1,5 @@
 -- The tile at the front of the rest of a block, as the code finds it.
-use Rattle.std.proofs.Common.{◌≡◌, ℕ, ◌+◌, ◌-◌, ◌%◌, ◌<◌, ◌≤◌, Bool, true, false, leb, List, [], ◌∷◌, length, drop, take, arith, refl, ap, ap₂, sym, ◌∙◌, subst, ⊎_elim, length-drop, length-take-le, drop_of_length-le}
+use Rattle.std.proofs.Common.{◌≡◌, ℕ, ◌+◌, ◌-◌, ◌%◌, ◌<◌, ◌≤◌, true, false, leb, List, [], ◌∷◌, length, drop, take, arith, ap, ap₂, sym, ◌∙◌, subst, ⊎_elim, length-drop, length-take-le, drop_of_length-le}
 use Rattle.std.proofs.lemmas.Bool.{cases_Bool, le-leb, leb-true}
 use Rattle.std.proofs.lemmas.List.{take_all, take_rest, drop-drop}
 use Rattle.flashbase.specs.Bytes.{pad4_of}
@@ -13,7 +13,7 @@ use Rattle.jscan.specs.declared.tiles.TileKind.{TileKind}
 use Rattle.jscan.specs.declared.tiles.TileKind.TheVariants.{Node, Word, Rest}
 use Rattle.jnode.proofs.HeaderLemmas.{good_found, good_again}
 use Rattle.jscan.proofs.PaddingLemmas.{pad4_fits}
-use Rattle.jscan.proofs.TileLemmas.{tile_good, tile_word, tile_rest, tile_then_rest, tile_some}
+use Rattle.jscan.proofs.TileLemmas.{tile_good, tile_word, tile_rest, tile_then_rest}
 
 -- where the test fails a good header would be a contradiction
 pub not_good : (e : Endian) (rest : List ℕ) → ¬ IsGood e rest → is_good e rest ≡ false

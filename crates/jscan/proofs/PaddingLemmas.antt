@@ -1,5 +1,5 @@
 -- What a padded length is.
-use Rattle.std.proofs.Common.{◌≡◌, ℕ, ◌+◌, ◌*◌, ◌/◌, ◌%◌, ◌≤◌, arith}
+use Rattle.std.proofs.Common.{◌≡◌, ℕ, ◌%◌, ◌≤◌, arith}
 use Rattle.flashbase.specs.Bytes.{pad4_of}
 
 -- the padded length of a node stands within what is left

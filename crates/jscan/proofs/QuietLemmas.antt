@@ -1,13 +1,13 @@
 -- Where no good header stands at any word, no node is sighted; so in erased flash.
-use Rattle.std.proofs.Common.{◌≡◌, ℕ, zero, suc, ◌+◌, ◌-◌, ◌*◌, ◌<◌, ◌≤◌, Bool, true, false, leb, ◌&&◌, List, [], ◌∷◌, ◌++◌, length, take, drop, refl, sym, ap, ap₂, subst, ◌∙◌, arith, ⊎_elim, length-drop, length-take-le, Option, Some, None}
+use Rattle.std.proofs.Common.{◌≡◌, ℕ, zero, suc, ◌+◌, ◌-◌, ◌*◌, ◌≤◌, false, leb, List, [], ◌∷◌, length, take, drop, refl, ap, subst, ◌∙◌, arith, ⊎_elim, length-drop, length-take-le}
 use Rattle.std.specs.Prelude.{filter_map}
 use Rattle.std.proofs.lemmas.Bool.{cases_Bool, leb-true}
 use Rattle.std.proofs.lemmas.List.{drop-drop, drop_all, drop-replicate}
 use Rattle.flashbase.specs.Bytes.{erased}
 use Rattle.jnode.specs.declared.order.Endian.{Endian}
-use Rattle.jnode.specs.Header.{IsGood, is_good}
+use Rattle.jnode.specs.Header.{is_good}
 use Rattle.jnode.specs.declared.node.Seen.{Seen}
-use Rattle.jscan.specs.Tiling.{Tile, tile_at, tiling_from}
+use Rattle.jscan.specs.Tiling.{Tile, tiling_from}
 use Rattle.jscan.specs.Image.{sighting, sightings_from, sightings_in}
 use Rattle.jscan.proofs.FrontLemmas.{not_good}
 use Rattle.jscan.proofs.StretchLemmas.{erased_no_header}

@@ -1,5 +1,5 @@
 -- What the stretches of a block are together.
-use Rattle.std.proofs.Common.{◌≡◌, ℕ, zero, suc, ◌+◌, ◌-◌, ◌*◌, ◌%◌, ◌<◌, ◌≤◌, Bool, true, false, leb, List, [], ◌∷◌, ◌++◌, length, drop, take, map, arith, refl, ap, ap₂, sym, ◌∙◌, subst, ⊎_elim, ◌⊎◌, inl, inr, length-drop, length-take, length-take-le}
+use Rattle.std.proofs.Common.{◌≡◌, ℕ, zero, suc, ◌+◌, ◌-◌, ◌*◌, ◌%◌, ◌<◌, ◌≤◌, Bool, true, false, List, [], ◌∷◌, ◌++◌, length, drop, take, map, arith, refl, ap, sym, ◌∙◌, subst, ⊎_elim, length-drop, length-take, length-take-le}
 use Rattle.std.specs.Prelude.{sum_by, ◌==◌, if◌then◌else◌}
 use Rattle.std.specs.List.{list_all}
 use Rattle.std.proofs.lemmas.Bool.{cond-true, cond-false, cases_Bool, cond_both, leb-true}
@@ -9,13 +9,13 @@ use Rattle.jnode.specs.declared.order.Endian.{Endian}
 use Rattle.jnode.specs.declared.node.Seen.{Seen}
 use Rattle.jnode.specs.declared.node.Seen.TheVariants as seen
 use Rattle.jnode.specs.declared.node.Dirent.{Dirent}
-use Rattle.jnode.specs.Header.{IsGood, magic_of, totlen_of}
-use Rattle.jnode.specs.Reading.{seen_of, tile_of, name_of, nsize_of}
+use Rattle.jnode.specs.Header.{magic_of, totlen_of}
+use Rattle.jnode.specs.Reading.{tile_of, name_of, nsize_of}
 use Rattle.jnode.proofs.HeaderLemmas.{good_found}
 use Rattle.jnode.proofs.ReadingLemmas.{read_entry}
 use Rattle.flashbase.specs.Bytes.{pad4_of}
-use Rattle.jscan.specs.Tiling.{Tile, tile_at, tiling_from}
-use Rattle.jscan.specs.Stretches.{class_of, other_magic, look_of, stretch_of, is_one_run, in_front, runs_joined, stretches_from, stretches}
+use Rattle.jscan.specs.Tiling.{Tile, tile_at}
+use Rattle.jscan.specs.Stretches.{class_of, other_magic, stretch_of, is_one_run, in_front, runs_joined, stretches_from, stretches}
 use Rattle.jscan.specs.Laws.{MakeUp, IsNodeAt}
 use Rattle.jscan.specs.declared.stretch.Look.{Look}
 use Rattle.jscan.specs.declared.stretch.Look.TheVariants.{Tiled, Erased, OtherOrder, Dirt}

@@ -1,5 +1,5 @@
 -- Runs: how they begin, go on and end.
-use Rattle.std.proofs.Common.{◌≡◌, ℕ, zero, suc, ◌+◌, ◌-◌, ◌*◌, ◌/◌, ◌%◌, ◌<◌, ◌≤◌, Bool, true, false, leb, cond, List, [], ◌∷◌, length, drop, take, map, arith, refl, ap, ap₂, sym, ◌∙◌, subst, min, max, ⊎_elim, inl, inr, ◌⊎◌, slice_index, length-drop, length-take-le, drop_of_length-le}
+use Rattle.std.proofs.Common.{◌≡◌, ℕ, zero, suc, ◌+◌, ◌-◌, ◌*◌, ◌/◌, ◌%◌, ◌<◌, ◌≤◌, true, false, leb, List, [], ◌∷◌, length, drop, take, map, arith, refl, ap, ap₂, sym, ◌∙◌, subst, min, max, ⊎_elim, inl, inr, ◌⊎◌, slice_index, length-drop, length-take-le, drop_of_length-le}
 use Rattle.std.proofs.lemmas.Bool.{cond-true, cond-false, cases_Bool, leb-true, leb-false}
 use Rattle.std.proofs.lemmas.List.{take_rest, drop-drop, get_or-drop}
 use Rattle.jnode.specs.declared.order.Endian.{Endian}
@@ -9,7 +9,7 @@ use Rattle.jnode.specs.Header.{IsGood}
 use Rattle.jnode.specs.Reading.{seen_of, tile_of}
 use Rattle.jnode.specs.declared.header.Header.{Header}
 use Rattle.jnode.specs.declared.node.Seen.{Seen}
-use Rattle.jscan.specs.Tiling.{Tile, tile_at, tiling_from}
+use Rattle.jscan.specs.Tiling.{Tile}
 use Rattle.jscan.specs.Stretches.{class_of, look_of, stretch_of, is_one_run, in_front, runs_joined, stretches_from}
 use Rattle.jscan.specs.Runs.{BeginsRun, IsStretch, EndsRun}
 use Rattle.jscan.specs.declared.tiles.TileKind.{TileKind}

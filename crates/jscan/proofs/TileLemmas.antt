@@ -1,14 +1,13 @@
 -- The tile at the front of the rest of a block, and the tiles behind it.
-use Rattle.std.proofs.Common.{◌≡◌, ℕ, zero, suc, ◌+◌, ◌-◌, ◌%◌, ◌<◌, ◌≤◌, Bool, true, false, leb, List, [], ◌∷◌, ◌++◌, length, drop, take, arith, refl, ap, sym, ◌∙◌, subst, ⊎_elim, length-drop, length-take, length-take-le, take-append-drop}
+use Rattle.std.proofs.Common.{◌≡◌, ℕ, zero, suc, ◌+◌, ◌-◌, ◌<◌, true, false, leb, List, [], ◌∷◌, ◌++◌, length, drop, take, arith, refl, ap, sym, ◌∙◌, subst, ⊎_elim, length-take, take-append-drop}
 use Rattle.std.proofs.lemmas.Bool.{cond-true, cond-false, cases_Bool}
-use Rattle.std.proofs.lemmas.List.{take_all, drop-drop}
+use Rattle.std.proofs.lemmas.List.{take_all}
 use Rattle.std.proofs.Math.Seq.{drop-append_seam}
 use Rattle.flashbase.specs.Bytes.{pad4_of}
 use Rattle.jnode.specs.declared.order.Endian.{Endian}
 use Rattle.jnode.specs.Header.{is_good, header_of, totlen_of}
 use Rattle.jnode.specs.Reading.{tile_of}
 use Rattle.jscan.specs.Tiling.{Tile, tile_at, tiling_from}
-use Rattle.jscan.specs.declared.tiles.TileKind.{TileKind}
 use Rattle.jscan.specs.declared.tiles.TileKind.TheVariants.{Node, Word, Rest}
 use Rattle.jnode.proofs.HeaderLemmas.{good_found}
 use Rattle.jscan.proofs.PaddingLemmas.{pad4_up}

@@ -1,5 +1,5 @@
 -- A block has exactly one tiling.
-use Rattle.std.proofs.Common.{◌≡◌, ℕ, zero, suc, ◌+◌, ◌-◌, ◌%◌, ◌<◌, ◌≤◌, Bool, true, false, leb, List, [], ◌∷◌, ◌++◌, length, drop, take, arith, refl, ap, ap₂, sym, ◌∙◌, subst, length-drop, length-take-le, length-append, append_assoc, append-nil, drop_of_length-le, zero-add}
+use Rattle.std.proofs.Common.{◌≡◌, ℕ, zero, suc, ◌+◌, ◌%◌, ◌<◌, ◌≤◌, true, false, List, [], ◌∷◌, ◌++◌, length, drop, take, arith, refl, ap, ap₂, sym, ◌∙◌, subst, length-drop, length-take-le, length-append, append_assoc, append-nil, drop_of_length-le, zero-add}
 use Rattle.std.proofs.Math.Seq.{take-append_seam, drop-append_seam}
 use Rattle.std.proofs.lemmas.Bool.{le-leb, leb-true, leb-false}
 use Rattle.std.proofs.lemmas.List.{drop-drop, take_all}

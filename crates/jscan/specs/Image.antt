@@ -7,7 +7,7 @@ use Rattle.jnode.specs.Reading.{seen_of, node_in}
 use Rattle.jnode.specs.declared.order.Endian.{Endian}
 use Rattle.jnode.specs.declared.node.NodeRef.{NodeRef}
 use Rattle.jnode.specs.declared.node.Seen.{Seen}
-use Rattle.jscan.specs.Tiling.{Tile, tiling_from}
+use Rattle.jscan.specs.Tiling.{tiling_from}
 use Rattle.jscan.specs.declared.tiles.TileKind.{TileKind}
 use Rattle.jscan.specs.declared.tiles.TileKind.TheVariants.{Node, Word, Rest}
 

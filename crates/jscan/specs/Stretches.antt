@@ -1,10 +1,10 @@
 -- The stretches of a block: its nodes' tiles, and the longest runs of the words between them.
-use Rattle.std.specs.Prelude.{◌≡◌, ℕ, ◌+◌, ◌==◌, Bool, true, false, List, [], ◌∷◌, ◌++◌, map, drop, length, if◌then◌else◌, sum_by}
+use Rattle.std.specs.Prelude.{ℕ, ◌+◌, ◌==◌, Bool, true, false, List, [], ◌∷◌, map, length, if◌then◌else◌}
 use Rattle.std.specs.List.{list_all}
 use Rattle.jnode.specs.declared.order.Endian.{Endian}
 use Rattle.jnode.specs.Header.{magic_of}
 use Rattle.jnode.specs.Reading.{seen_of}
-use Rattle.jscan.specs.Tiling.{Tile, tiling_from, tiling}
+use Rattle.jscan.specs.Tiling.{Tile, tiling_from}
 use Rattle.jscan.specs.declared.tiles.TileKind.{TileKind}
 use Rattle.jscan.specs.declared.tiles.TileKind.TheVariants.{Node, Word, Rest}
 use Rattle.jscan.specs.declared.stretch.Look.{Look}

@@ -1,7 +1,6 @@
-use Rattle.std.proofs.Common.{◌≡◌, rules, subst, sym, ◌∙◌, take, arith, refl, ap}
+use Rattle.std.proofs.Common.{subst, sym, ◌∙◌}
 use Rattle.jnode.specs.declared.node.Seen.{Seen}
-use Rattle.jscan.specs.Stretches.{look_of}
-use Rattle.jscan.specs.Runs.{IsStretch, BeginsRun}
+use Rattle.jscan.specs.Runs.{IsStretch}
 use Rattle.jscan.specs.declared.tiles.TileKind.{TileKind}
 use Rattle.jscan.specs.declared.stretch.Look.TheVariants.{Tiled}
 use Rattle.jscan.proofs.FrontLemmas.{IsFront}

@@ -1,4 +1,4 @@
-use Rattle.std.proofs.Common.{◌≡◌, ◌<◌, rules, subst, sym, ◌∙◌, length, arith}
+use Rattle.std.proofs.Common.{rules, subst, sym, ◌∙◌, arith}
 use Rattle.jscan.specs.Runs.{BeginsRun}
 use Rattle.jscan.specs.declared.stretch.Look.{Look}
 use Rattle.jscan.proofs.StretchLemmas.{begins_front, ends_front, ends_empty, one_run_same}

@@ -1,4 +1,4 @@
-use Rattle.std.proofs.Common.{rules, ◌≡◌, ◌%◌, ◌<◌, ◌≤◌, ◌+◌, ◌-◌, length, drop, take, arith, subst, ap, length-drop}
+use Rattle.std.proofs.Common.{length, arith, subst, ap, length-drop}
 use Rattle.std.proofs.lemmas.List.{take_rest}
 use Rattle.jscan.specs.Runs.{BeginsRun, EndsRun}
 use Rattle.jscan.proofs.StretchLemmas.{goes_on, run_stretch}

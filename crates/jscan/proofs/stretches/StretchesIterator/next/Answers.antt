@@ -1,4 +1,4 @@
-use Rattle.std.proofs.Common.{rules, ◌≡◌, ◌-◌, ◌+◌, length, drop, take, ap, arith}
+use Rattle.std.proofs.Common.{rules, ◌≡◌, ◌-◌, length, drop, take, ap, arith}
 use Rattle.jscan.proofs.StretchLemmas.{stretches_step, stretches_end}
 use Rattle.jscan.proofs.stretches.StretchesIterator.next.Goals as goal
 

@@ -1,5 +1,5 @@
-use Rattle.std.proofs.Common.{rules, ◌≡◌, ◌-◌, ◌+◌, length, drop, take, ap, arith}
-use Rattle.jscan.proofs.FrontLemmas.{tiling_step, tiling_end}
+use Rattle.std.proofs.Common.{length, ap, arith}
+use Rattle.jscan.proofs.FrontLemmas.{tiling_step}
 use Rattle.jscan.proofs.tiles.TilesIterator.next.Goals as goal
 
 pub returns-clause-steps : goal.returns-clause-steps
