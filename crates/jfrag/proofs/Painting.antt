@@ -1,11 +1,13 @@
 -- A piece is laid over the runs from its offset on, one run after another.
-use Rattle.std.proofs.Common.{◌^◌, ◌≡◌, ℕ, ◌+◌, ◌-◌, ◌<◌, ◌≤◌, Bool, true, false, ◌&&◌, List, refl, sym, ap, subst, arith, Some, Result, Ok, Err, OnOk, OnErr, ◌∙◌}
+use Rattle.std.proofs.Common.{None, ◌^◌, ◌≡◌, ℕ, ◌+◌, ◌-◌, ◌<◌, ◌≤◌, Bool, true, false, ◌&&◌, List, refl, sym, ap, subst, arith, Some, Result, Ok, Err, OnOk, OnErr, ◌∙◌}
 use Rattle.std.specs.Prelude.{if◌then◌else◌, nat_lt, nat_le}
 use Rattle.std.specs.Ordering.{nat_cmp}
 use Rattle.std.specs.BTreeMap.{BTreeMap, IsOrdered}
 use Rattle.std.proofs.lemmas.Bool.{ltb-true, ltb-false, leb-true, lt-ltb, le-leb}
 use Rattle.jfrag.specs.declared.piece.Piece.{Piece}
-use Rattle.jfrag.specs.Pieces.{covers, end_of}
+use Rattle.jfrag.specs.Pieces.{covers, byte_of, end_of}
+use Rattle.jfrag.specs.Overlays.{Standing, outranks, laid}
+use Rattle.jfrag.specs.Laws as law
 use Rattle.jfrag.specs.Runs.{Run, run_at, NoKeyIn, painted, is_under, between, IsCovered}
 use Rattle.jfrag.proofs.RunLemmas.{case_on, some_same}
 use Rattle.jfrag.proofs.RunMaps.{same_run}
@@ -101,3 +103,30 @@ keeps_covered (Ok x) p es fs h fit ok err = λ i q at_i.
     subst (λ (x : Piece). (covers i x ≡ true) × (end_of x < 2 ^ 32)) same (c, fit))
     (λ w. h i q (sym (ok i ∙ pick_no (covers i p && is_under p.version (run_at es i)) (Some p) (run_at es i) (right_no (covers i p) (is_under p.version (run_at es i)) w)) ∙ at_i)))
     (λ c. h i q (sym (ok i ∙ not_covered p i (run_at es i) c) ∙ at_i))
+
+-- ---- a piece that changes nothing that stands
+
+laid_wins : (i : ℕ) (p : Piece) (s : Standing) → (covers i p && outranks p.version s) ≡ true → laid i p s ≡ Some (p.version, byte_of i p)
+laid_wins i p s e = pick_yes (covers i p && outranks p.version s) (Some (p.version, byte_of i p)) s e
+
+version_at : Standing → ℕ
+version_at None = 0
+version_at (Some there) = there.0
+
+newer_differs : {P : Type 0} (v b : ℕ) (there : ℕ × ℕ) → Some (v, b) ≡ Some there → nat_lt there.0 v ≡ true → P
+unfolding version_at
+newer_differs v b there e f = let same : v ≡ there.0 = ap version_at e in let l : there.0 < v = ltb-true there.0 v f in absurd (omega arith)
+
+pub idle_is_not_taken : law.IdleIsNotTaken
+idle_is_not_taken p i None h =
+    case_on (covers i p && true)
+    (λ e. let wins : laid i p None ≡ Some (p.version, byte_of i p) = laid_wins i p None e in let no : Some (p.version, byte_of i p) ≡ None = sym wins ∙ h in cc)
+    (λ e. pick_no (covers i p && true) (Some p) None e)
+idle_is_not_taken p i (Some q) h =
+    case_on (covers i p && nat_lt q.version p.version)
+    (λ e. newer_differs p.version (byte_of i p) (q.version, byte_of i q) (sym (laid_wins i p (Some (q.version, byte_of i q)) e) ∙ h) (right_of (covers i p) (nat_lt q.version p.version) e))
+    (λ e. pick_no (covers i p && nat_lt q.version p.version) (Some p) (Some q) e)
+  where
+    right_of : (a b : Bool) → (a && b) ≡ true → b ≡ true
+    right_of true b e = e
+    right_of false b e = cc

@@ -1,8 +1,9 @@
 -- Laws of overlays. Each is a statement: it holds since a function's contract names it.
-use Rattle.std.specs.Prelude.{◌≡◌, ℕ, ◌<◌, true, List, [], ◌∷◌, ◌++◌, length, slice_index, Contains}
+use Rattle.std.specs.Prelude.{◌≡◌, ℕ, ◌<◌, true, List, [], ◌∷◌, ◌++◌, length, slice_index, Contains, Option}
 use Rattle.std.specs.List.{AllPairs}
 use Rattle.jfrag.specs.declared.piece.Piece.{Piece}
 use Rattle.jfrag.specs.Pieces.{body_len, covers, byte_of}
+use Rattle.jfrag.specs.Runs.{seen, painted}
 use Rattle.jfrag.specs.Overlays.{Standing, byte_at, IsHighestAt, standing, content, laid}
 
 -- what the function computes is of the highest version
@@ -32,3 +33,7 @@ EmptyChangesNothing = (piece : Piece) (place : ℕ) (s : Standing) → body_len 
 -- the content is as long as was asked for, and each byte is the one that stands
 abbrev pub ContentStands : Type 0
 ContentStands = (pieces : List Piece) (size place : ℕ) → place < size → (length (content pieces size) ≡ size) × (slice_index (content pieces size) place ≡ byte_at (standing pieces place))
+
+-- a piece that changes nothing that stands is nowhere taken for the one that stands, so it changes no interval
+abbrev pub IdleIsNotTaken : Type 0
+IdleIsNotTaken = (piece : Piece) (place : ℕ) (there : Option Piece) → laid place piece (seen there place) ≡ seen there place → painted piece place there ≡ there

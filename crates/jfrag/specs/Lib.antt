@@ -3,3 +3,4 @@ pub mod Overlays
 pub mod Runs
 pub mod Laws
 pub mod Intervals
+pub mod Plain

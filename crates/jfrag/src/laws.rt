@@ -15,5 +15,6 @@ pub fn piece_laws()
     ensures one_more { law.OneMorePiece }
     ensures again { law.AgainChangesNothing }
     ensures empty { law.EmptyChangesNothing }
+    ensures idle { law.IdleIsNotTaken }
 {
 }

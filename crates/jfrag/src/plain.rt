@@ -16,9 +16,13 @@ pub struct PlainOverlay<'a> {
 }
 
 impl<'a> Overlay<'a> for PlainOverlay<'a> {
-    ghost stands = { λ s place. standing s.pieces.items place };
+    ghost use Rattle.std.specs.Prelude.{OnOk, OnErr, ◌++◌, ◌∷◌, []};
+    ghost use Rattle.jfrag.specs.Overlays.{laid};
+    ghost use Rattle.jfrag.specs.Plain.{pieces_of};
 
-    ghost ends = { λ s. 2 * vec_len s.pieces };
+    ghost stands = { λ s place. standing (pieces_of s) place };
+
+    ghost ends = { λ s. 2 * length (pieces_of s) };
 
     fn new(alloc: Global) -> Self {
         PlainOverlay {
@@ -26,7 +30,15 @@ impl<'a> Overlay<'a> for PlainOverlay<'a> {
         }
     }
 
-    fn add(&mut self, piece: Piece<'a>) -> Result<(), AllocError> {
+    fn add(&mut self, piece: Piece<'a>) -> Result<(), AllocError>
+        requires { end_of piece < 2 ^ 32 }
+        ensures added { OnOk result (pieces_of self.new ≡ pieces_of self.old ++ piece.entry ∷ []) }
+        ensures laid { OnOk result ((place : ℕ) → standing (pieces_of self.new) place ≡ laid place piece.entry (standing (pieces_of self.old) place)) }
+        ensures two_ends { OnOk result (2 * length (pieces_of self.new) ≤ 2 * length (pieces_of self.old) + 2) }
+        ensures kept { OnErr result (pieces_of self.new ≡ pieces_of self.old) }
+        ensures same { OnErr result ((place : ℕ) → standing (pieces_of self.new) place ≡ standing (pieces_of self.old) place) }
+        ensures same_ends { OnErr result (2 * length (pieces_of self.new) ≡ 2 * length (pieces_of self.old)) }
+    {
         self.pieces.push(piece)?;
         Ok(())
     }
@@ -35,7 +47,11 @@ impl<'a> Overlay<'a> for PlainOverlay<'a> {
         fill(&self.pieces, place, out);
     }
 
-    fn pieces(&self) -> usize {
+    /// How many pieces were added.
+    fn pieces(&self) -> usize
+        ensures exact { result ≡ length (pieces_of self.now) }
+        ensures bound { result ≤ 2 * length (pieces_of self.now) }
+    {
         self.pieces.len()
     }
 }
