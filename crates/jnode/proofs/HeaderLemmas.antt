@@ -1,9 +1,11 @@
 -- Whether a header is good is computed, and from its twelve bytes.
-use Rattle.std.proofs.Common.{◌≡◌, ◌↔◌, ◌≤◌, ◌<◌, ℕ, ◌+◌, ◌-◌, ◌&&◌, ◌==◌, Bool, true, false, cond, IsTrue, IsSome, IfSome, Option, Some, None, List, ◌++◌, length, take, drop, bit_or, refl, ap, ap₂, ◌∙◌, arith}
-use Rattle.std.proofs.lemmas.Bool.{leb-true, le-leb, lt-leb, eqb-true, eq-eqb, and_parts, and_from}
+use Rattle.std.proofs.Common.{◌≡◌, ◌↔◌, ◌≤◌, ◌<◌, ℕ, zero, suc, ◌+◌, ◌-◌, ◌&&◌, ◌==◌, Bool, true, false, cond, IsTrue, IsSome, IfSome, Option, Some, None, List, [], ◌∷◌, ◌++◌, length, take, drop, bit_or, refl, sym, ap, ap₂, ◌∙◌, arith}
+use Rattle.std.proofs.lemmas.Bool.{leb-true, le-leb, lt-leb, eqb-true, eq-eqb, and_parts, and_from, and_left, and_right}
 use Rattle.flashbase.specs.Crc.{crc_of}
-use Rattle.jnode.specs.Order.{bytes_in}
-use Rattle.jnode.specs.Header.{IsGood, magic, accurate_bit, nodetype_of, totlen_of, hdr_crc_of, header_crc_of, header_of, has_header, is_good, is_good_front, header_by_front, header_at}
+use Rattle.flashbase.specs.Bytes.{erased}
+use Rattle.jnode.specs.Order.{number_in, bytes_in}
+use Rattle.jnode.specs.declared.order.Endian.TheVariants.{Little, Big}
+use Rattle.jnode.specs.Header.{IsGood, magic, accurate_bit, magic_of, nodetype_of, totlen_of, hdr_crc_of, header_crc_of, header_of, has_header, is_good, is_good_front, header_by_front, header_at}
 use Rattle.jnode.specs.declared.order.Endian.{Endian}
 use Rattle.jnode.specs.declared.header.Header.{Header}
 use Rattle.jnode.proofs.OrderLemmas.{number_at-take, take_of_take, drop_of_take}
@@ -66,6 +68,46 @@ pub header_by_front-take : (e : Endian) (m len : ℕ) (xs : List ℕ) → 12 ≤
 unfolding is_good_front
 header_by_front-take e m len xs h =
     rw (has_header-take e m xs h, number_at-take e 2 2 m xs (omega arith), number_at-take e 4 4 m xs (omega arith)) refl
+
+pub header_is_twelve_bytes : (e : Endian) (a b : List ℕ) → take 12 a ≡ take 12 b → (has_header e a ≡ has_header e b) × (header_of e a ≡ header_of e b)
+header_is_twelve_bytes e a b same = (
+    sym (has_header-take e 12 a (omega arith)) ∙ ap (has_header e) same ∙ has_header-take e 12 b (omega arith),
+    sym (header_of-take e 12 a (omega arith)) ∙ ap (header_of e) same ∙ header_of-take e 12 b (omega arith),
+)
+
+pub header_holds : (e : Endian) (bytes : List ℕ) → magic_of e bytes ≡ magic → hdr_crc_of e bytes ≡ header_crc_of e bytes → has_header e bytes ≡ true
+unfolding has_header
+header_holds e bytes right_magic checksum = and_from _ _ (eq-eqb _ _ right_magic) (eq-eqb _ _ checksum)
+
+pub good_from : (e : Endian) (rest : List ℕ) → has_header e rest ≡ true → 12 ≤ length rest → 12 ≤ totlen_of e rest → totlen_of e rest ≤ length rest
+    → is_good e rest ≡ true
+unfolding is_good is_good_front
+good_from e rest header room least within =
+    and_from _ _ (le-leb _ _ room) (and_from _ _ (and_from _ _ header (le-leb _ _ least)) (le-leb _ _ within))
+
+-- ---- where no good header stands
+
+-- without the magic there is none
+pub no_magic : (e : Endian) (rest : List ℕ) → (magic_of e rest == magic) ≡ false → is_good e rest ≡ false
+unfolding is_good is_good_front has_header
+no_magic e rest none = and_right _ _ (and_left _ _ (and_left _ _ (and_left _ _ none)))
+
+-- nor in fewer than twelve bytes
+pub too_short : (e : Endian) (rest : List ℕ) → length rest < 12 → is_good e rest ≡ false
+unfolding is_good
+too_short e rest short = and_left _ _ (lt-leb 12 (length rest) short)
+
+-- nor where the node would pass the block's end
+pub too_long : (e : Endian) (rest : List ℕ) → length rest < totlen_of e rest → is_good e rest ≡ false
+unfolding is_good is_good_front
+too_long e rest long = and_right _ _ (and_right _ _ (lt-leb (totlen_of e rest) (length rest) long))
+
+pub erased_is_not_good : (e : Endian) (n : ℕ) → is_good e (erased n) ≡ false
+unfolding number_in
+erased_is_not_good e zero = too_short e [] (omega arith)
+erased_is_not_good e (suc zero) = too_short e (0xFF ∷ []) (omega arith)
+erased_is_not_good Little (suc (suc n)) = no_magic Little (erased (suc (suc n))) refl
+erased_is_not_good Big (suc (suc n)) = no_magic Big (erased (suc (suc n))) refl
 
 -- ---- the header at the start of the rest of a block
 

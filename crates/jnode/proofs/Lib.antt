@@ -2,3 +2,5 @@ pub mod OrderLemmas
 pub mod HeaderLemmas
 pub mod TileLemmas
 pub mod ReadingLemmas
+pub mod WritingLemmas
+pub mod WeakLemmas

@@ -240,7 +240,7 @@ plain_no_inode : (t : ℕ) → is_inode (plain_seen t) ≡ false
 plain_no_inode t = plain_both t (λ s. is_inode s ≡ false) refl refl refl (λ _. refl) (λ _. refl) (λ _. refl)
 
 -- what holds of each damage and of the last answer holds of what five checks give
-five_both : (a b c d f : Bool) (v w x y z : Damage) (r : Seen) (P : Seen → Type 0) → ((q : Damage) → P (Damaged q)) → P r
+pub five_both : (a b c d f : Bool) (v w x y z : Damage) (r : Seen) (P : Seen → Type 0) → ((q : Damage) → P (Damaged q)) → P r
     → P (cond (not a) (Damaged v) (cond (not b) (Damaged w) (cond (not c) (Damaged x) (cond (not d) (Damaged y) (cond (not f) (Damaged z) r)))))
 five_both true true true true true v w x y z r P damaged last = last
 five_both true true true true false v w x y z r P damaged last = damaged z

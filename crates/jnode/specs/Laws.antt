@@ -1,14 +1,108 @@
 -- Laws of the format. Each is a statement: it holds since a public function's contract names it.
-use Rattle.std.specs.Prelude.{◌≡◌, ◌↔◌, ℕ, IsTrue, List}
-use Rattle.jnode.specs.Header.{IsGood, is_good}
-use Rattle.jnode.specs.Reading.{Reads}
+use Rattle.std.specs.Prelude.{◌≡◌, ◌≢◌, ◌↔◌, ◌+◌, ◌<◌, ◌≤◌, ◌*◌, ℕ, IsTrue, false, Option, Some, List, ◌++◌, length, take, drop, slice_index}
+use Rattle.flashbase.specs.Bytes.{pad4_of, erased}
+use Rattle.flashbase.specs.Ranges.{AreBytes, IsWord}
+use Rattle.jnode.specs.Header.{IsGood, header_len, header_of, has_header, is_good, totlen_of}
+use Rattle.jnode.specs.Reading.{Reads, seen_of, node_in, tile_of}
+use Rattle.jnode.specs.Writing.{canonical, clean_marker, padding_node, filled, Fits, IsWritable, is_writable, totlen_most}
+use Rattle.jnode.specs.Weak.{torn, is_weak}
 use Rattle.jnode.specs.declared.order.Endian.{Endian}
 use Rattle.jnode.specs.declared.node.NodeRef.{NodeRef}
+use Rattle.jnode.specs.declared.node.Damage.{Damage}
+use Rattle.jnode.specs.declared.node.Seen.TheVariants.{Marker, Padding, Damaged}
+
+-- ---- headers
 
 -- whether a header is good is computed
 abbrev pub GoodIsComputed : Type 0
 GoodIsComputed = (e : Endian) (rest : List ℕ) → IsTrue (is_good e rest) ↔ IsGood e rest
 
+-- a header is its twelve bytes
+abbrev pub HeaderIsTwelveBytes : Type 0
+HeaderIsTwelveBytes = (e : Endian) (a b : List ℕ) → take header_len a ≡ take header_len b
+    → (has_header e a ≡ has_header e b) × (header_of e a ≡ header_of e b)
+
+-- no good header stands in erased flash
+abbrev pub ErasedIsNotGood : Type 0
+ErasedIsNotGood = (e : Endian) (n : ℕ) → is_good e (erased n) ≡ false
+
+-- ---- reading and writing
+
 -- a tile reads as at most one node
 abbrev pub ReadsOne : Type 0
 ReadsOne = (e : Endian) (tile : List ℕ) (a b : NodeRef) → Reads e tile a → Reads e tile b → a ≡ b
+
+-- whether a node may be written is computed
+abbrev pub WritableIsComputed : Type 0
+WritableIsComputed = (node : NodeRef) → IsTrue (is_writable node) ↔ IsWritable node
+
+-- The written form, up to a multiple of 4, reads as that node.
+abbrev pub WrittenReads : Type 0
+WrittenReads = (e : Endian) (node : NodeRef) → Fits node → IsTrue (is_writable node) → Reads e (filled (canonical e node)) node
+
+-- The tile at the start of these bytes, the rest of a block, is that of the written bytes.
+pub record IsTileOf (e : Endian) (bytes rest : List ℕ) : Type 0 where
+  pub good : IsTrue (is_good e rest)
+  pub totlen : totlen_of e rest ≡ length bytes
+  pub tile : tile_of e rest ≡ filled bytes
+
+-- A written node is a tile of its own, whatever follows.
+abbrev pub WrittenIsTile : Type 0
+WrittenIsTile = (e : Endian) (node : NodeRef) (rest : List ℕ) → IsWord (length (canonical e node))
+    → IsTileOf e (canonical e node) (filled (canonical e node) ++ rest)
+
+-- it begins with a byte of the magic, so not with an erased one
+abbrev pub WrittenIsNotErased : Type 0
+WrittenIsNotErased = (e : Endian) (node : NodeRef) → slice_index (canonical e node) 0 ≢ 0xFF
+
+-- So is the clean marker, and it is seen as that.
+pub record IsMarkerTile (e : Endian) (rest : List ℕ) : Type 0 where
+  pub good : IsTrue (is_good e rest)
+  pub tile : tile_of e rest ≡ clean_marker e
+  pub seen : seen_of e (clean_marker e) ≡ Marker
+
+abbrev pub MarkerIsTile : Type 0
+MarkerIsTile = (e : Endian) (rest : List ℕ) → IsMarkerTile e (clean_marker e ++ rest)
+
+-- And so is padding.
+pub record IsPaddingTile (e : Endian) (n : ℕ) (rest : List ℕ) : Type 0 where
+  pub tile_of_it : IsTileOf e (padding_node e n) rest
+  pub seen : seen_of e (filled (padding_node e n)) ≡ Padding
+
+abbrev pub PaddingIsTile : Type 0
+PaddingIsTile = (e : Endian) (n : ℕ) (rest : List ℕ) → header_len ≤ n → IsWord n → IsPaddingTile e n (filled (padding_node e n) ++ rest)
+
+-- ---- cuts
+
+-- A length that spells no magic in a header's second word, whole or cut, in either order.
+abbrev pub IsPlain : ℕ → Type 0
+IsPlain totlen = (totlen < 65536) × (totlen ≢ 6533)
+
+-- Where a cut inside the header changes it, and the checks show that, no good header stands at any word from there on:
+-- at the second word the length spells no magic, and at the third the length that would follow is 0xFFFFFFFF.
+abbrev pub TornHeaderIsNone : Type 0
+TornHeaderIsNone = (e : Endian) (node : NodeRef) (j n word : ℕ) → IsPlain (length (canonical e node)) → j < header_len → j + n ≤ totlen_most
+    → take header_len (torn (canonical e node) j) ≢ take header_len (canonical e node) → is_weak e (canonical e node) j ≡ false
+    → is_good e (drop (4 * word) (take j (canonical e node) ++ erased n)) ≡ false
+
+-- Where a cut changes a node and not its header, and the checks show that, the node is seen as damaged.
+abbrev pub TornNodeIsDamaged : Type 0
+TornNodeIsDamaged = (e : Endian) (node : NodeRef) (j : ℕ) → take header_len (torn (canonical e node) j) ≡ take header_len (canonical e node)
+    → torn (canonical e node) j ≢ canonical e node → is_weak e (canonical e node) j ≡ false
+    → (which : Damage) × (seen_of e (filled (torn (canonical e node) j)) ≡ Damaged which)
+
+-- The tile at the start of these bytes is what a cut after j bytes left of the written bytes.
+pub record IsTornTile (e : Endian) (bytes : List ℕ) (j : ℕ) (rest : List ℕ) : Type 0 where
+  pub good : IsTrue (is_good e rest)
+  pub totlen : totlen_of e rest ≡ length bytes
+  pub tile : tile_of e rest ≡ filled (torn bytes j)
+
+-- Where a cut keeps the header, the node is a tile of its own: what was written of it, and erased bytes.
+abbrev pub TornIsTile : Type 0
+TornIsTile = (e : Endian) (node : NodeRef) (j n : ℕ) → IsWord (length (canonical e node)) → j ≤ length (canonical e node)
+    → pad4_of (length (canonical e node)) ≤ j + n → take header_len (torn (canonical e node) j) ≡ take header_len (canonical e node)
+    → IsTornTile e (canonical e node) j (take j (canonical e node) ++ erased n)
+
+-- a cut behind the header keeps it
+abbrev pub CutBehindKeepsHeader : Type 0
+CutBehindKeepsHeader = (bytes : List ℕ) (j : ℕ) → header_len ≤ j → header_len ≤ length bytes → take header_len (torn bytes j) ≡ take header_len bytes

@@ -2,5 +2,6 @@ pub mod Order
 pub mod Header
 pub mod Reading
 pub mod Writing
+pub mod Weak
 pub mod Vectors
 pub mod Laws

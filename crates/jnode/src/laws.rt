@@ -5,7 +5,7 @@ ghost use Rattle.jnode.specs.Header.{is_good};
 ghost use Rattle.jnode.specs.Reading.{marker_type, xattr_type, summary_type, seen_of};
 ghost use Rattle.jnode.specs.Writing.{header_bytes, clean_marker, padding_node, canonical_entry, canonical_inode, filled};
 ghost use Rattle.jnode.specs.Vectors.{little_marker, big_marker, entry_a, entry_a_big, obsolete_a, inode_2, no_length, length_13, named_a, new_file, hidden_entry};
-ghost use Rattle.jnode.specs.Laws.{GoodIsComputed, ReadsOne};
+ghost use Rattle.jnode.specs.Laws.{GoodIsComputed, HeaderIsTwelveBytes, ErasedIsNotGood, ReadsOne, WritableIsComputed, WrittenReads, WrittenIsTile, WrittenIsNotErased, MarkerIsTile, PaddingIsTile, TornHeaderIsNone, TornNodeIsDamaged, TornIsTile, CutBehindKeepsHeader};
 
 use crate::node::{Damage, Seen};
 use crate::order::Endian;
@@ -20,6 +20,70 @@ pub fn good_is_computed()
 #[tactic(auto, using(crate::proofs::ReadingLemmas::reads_one))]
 pub fn reads_one()
     ensures { ReadsOne }
+{}
+
+/// A header is its twelve bytes.
+pub fn header_is_twelve_bytes()
+    ensures { HeaderIsTwelveBytes }
+{}
+
+/// No good header stands in erased flash.
+#[tactic(auto, using(crate::proofs::HeaderLemmas::erased_is_not_good))]
+pub fn erased_is_not_good()
+    ensures { ErasedIsNotGood }
+{}
+
+/// Whether a node may be written is computed.
+#[tactic(auto, using(crate::proofs::WritingLemmas::writable_is_computed))]
+pub fn writable_is_computed()
+    ensures { WritableIsComputed }
+{}
+
+/// The written form of a node, up to a multiple of 4, reads as that node.
+#[tactic(auto, using(crate::proofs::WritingLemmas::written_reads))]
+pub fn written_reads()
+    ensures { WrittenReads }
+{}
+
+/// A written node is a tile of its own, whatever follows.
+pub fn written_is_tile()
+    ensures { WrittenIsTile }
+{}
+
+/// A written node does not begin with an erased byte.
+#[tactic(auto, using(crate::proofs::WritingLemmas::canonical_is_not_erased))]
+pub fn written_is_not_erased()
+    ensures { WrittenIsNotErased }
+{}
+
+/// The clean marker is a tile of its own, seen as that.
+pub fn marker_is_tile()
+    ensures { MarkerIsTile }
+{}
+
+/// Padding is a tile of its own, seen as that.
+pub fn padding_is_tile()
+    ensures { PaddingIsTile }
+{}
+
+/// Where a cut changes a header and is not weak, no good header stands at any of its words.
+pub fn torn_header_is_none()
+    ensures { TornHeaderIsNone }
+{}
+
+/// A node that a cut changed behind its header, and not weakly, is seen as damaged.
+pub fn torn_node_is_damaged()
+    ensures { TornNodeIsDamaged }
+{}
+
+/// A node whose header a cut kept is a tile as the whole node is.
+pub fn torn_is_tile()
+    ensures { TornIsTile }
+{}
+
+/// A cut behind the header keeps it.
+pub fn cut_behind_keeps_header()
+    ensures { CutBehindKeepsHeader }
 {}
 
 // ---- worked examples, which the definitions compute
