@@ -39,7 +39,7 @@ nat_found es k x sorted h = lookup-from_Contains (eq_by_cmp_equiv nat_cmp_total)
 name_cmp_total : IsTotalOrder name_cmp
 name_cmp_total = on_total cow_slice_items nat_list_cmp_total
 
-name_found : (names : ByName) (k : Name) (versions : Versions) → IsOrdered name_cmp names → Contains names.entries (k, versions) → versions_of names (cow_slice_items k) ≡ Some versions
+pub name_found : (names : ByName) (k : Name) (versions : Versions) → IsOrdered name_cmp names → Contains names.entries (k, versions) → versions_of names (cow_slice_items k) ≡ Some versions
 name_found names k versions sorted h = lookup-from_Contains (eq_by_cmp_equiv name_cmp_total) k versions names.entries (IsDistinct-from_sorted name_cmp _ sorted) h
 
 -- the content of an entry of the list is held
@@ -53,8 +53,8 @@ held-from_Contains directories ordered x h =
     let name : versions_of a.0.1.names (cow_slice_items b.0.0) ≡ Some b.0.1 = name_found a.0.1.names b.0.0 b.0.1 a.0.1.ordered b.1 in
     let version : version_at b.0.1 c.0.0 ≡ Some c.0.1 = nat_found b.0.1.contents.entries c.0.0 c.0.1 b.0.1.ordered c.1 in
     let there : held directories a.0.0 (cow_slice_items b.0.0) c.0.0 ≡ Some c.0.1 =
-      ap (λ (o : Option Directory). option_and_then (λ d. held_under d (cow_slice_items b.0.0) c.0.0) o) directory
-      ∙ ap (λ (o : Option Versions). option_and_then (λ vs. version_at vs c.0.0) o) name ∙ version in
+    ap (λ (o : Option Directory). option_and_then (λ d. held_under d (cow_slice_items b.0.0) c.0.0) o) directory
+    ∙ ap (λ (o : Option Versions). option_and_then (λ vs. version_at vs c.0.0) o) name ∙ version in
     subst (λ (y : Dirent). held directories y.pino y.name y.version ≡ Some (content_of y)) c.2 there
 
 -- a content that is held is that of an entry of the list
@@ -68,8 +68,8 @@ Contains-from_held directories x h =
     let same_name : x.name ≡ cow_slice_items k.0 = (bytes_eq-Decides x.name (cow_slice_items k.0)).0 (sym (is_eq-slice_cmp x.name (cow_slice_items k.0)) ∙ k.2) in
     let in_versions : Contains vs.0.contents.entries (x.version, content_of x) = Contains-from_lookup (tells_apart exact_unsigned) x.version (content_of x) vs.0.contents.entries vs.2 in
     let under : Contains (entries_under x.pino (k.0, vs.0)) x =
-      subst (λ (name : List ℕ). Contains (entries_under x.pino (k.0, vs.0)) (entry_of x.pino name (x.version, content_of x))) (sym same_name)
-      (Contains-map (entry_of x.pino (cow_slice_items k.0)) vs.0.contents.entries (x.version, content_of x) in_versions) in
+    subst (λ (name : List ℕ). Contains (entries_under x.pino (k.0, vs.0)) (entry_of x.pino name (x.version, content_of x))) (sym same_name)
+    (Contains-map (entry_of x.pino (cow_slice_items k.0)) vs.0.contents.entries (x.version, content_of x) in_versions) in
     Contains-flat_map entries_in directories.entries (x.pino, d.0) x in_directories
     (Contains-flat_map (entries_under x.pino) d.0.names.entries (k.0, vs.0) x k.1 under)
 

@@ -47,7 +47,7 @@ unfolding at_place
 held-replaced old new pino directory name version content u h p n v =
     ap (at_place n v) (replaced_at old new pino directory u p)
     ∙ held_by_test (pino == p) directory (get nat_cmp old p) name n version v content (held old p n v)
-      (λ e. h n v ∙ ap (λ (q : ℕ). if bytes_eq name n && version == v then Some content else held old q n v) (eqb-true pino p e)) refl
+    (λ e. h n v ∙ ap (λ (q : ℕ). if bytes_eq name n && version == v then Some content else held old q n v) (eqb-true pino p e)) refl
 
 -- ---- entries by their place and content
 
@@ -97,21 +97,22 @@ kept old entry x false e agrees h = h
 
 pub gains_one : (old new : ByNumber) → IsOrdered nat_cmp old → IsOrdered nat_cmp new → (entry : Dirent) → HoldsOneMore old new entry.pino entry.name entry.version (content_of entry)
     → Agrees (held old entry.pino entry.name entry.version) (content_of entry) → Gains (entries_of old) (entries_of new) entry
-gains_one old new old_ordered new_ordered entry more agrees x =
-    (λ h. gained old entry x (is_there entry x) refl (sym (more x.pino x.name x.version) ∙ held-from_Contains new new_ordered x h),
-     λ h. Contains-from_held new x (more x.pino x.name x.version ∙ ⊎_elim
+gains_one old new old_ordered new_ordered entry more agrees x = (
+  λ h. gained old entry x (is_there entry x) refl (sym (more x.pino x.name x.version) ∙ held-from_Contains new new_ordered x h),
+  λ h. Contains-from_held new x (more x.pino x.name x.version ∙ ⊎_elim
       (λ before. kept old entry x (is_there entry x) refl agrees (held-from_Contains old old_ordered x before))
       (λ (is : x ≡ entry). subst (λ (y : Dirent). (if is_there entry y then Some (content_of entry) else held old y.pino y.name y.version) ≡ Some (content_of y)) (sym is)
-        (ap (λ (b : Bool). if b then Some (content_of entry) else held old entry.pino entry.name entry.version) (there-itself entry)))
-      h))
+      (ap (λ (b : Bool). if b then Some (content_of entry) else held old entry.pino entry.name entry.version) (there-itself entry)))
+      h),
+)
 
 -- ---- clashes
 
 pub none_clashes : (old : ByNumber) → IsOrdered nat_cmp old → (entry : Dirent) → Agrees (held old entry.pino entry.name entry.version) (content_of entry) → NoneClashes (entries_of old) entry
 none_clashes old ordered entry agrees other there clash =
     let content : content_of other ≡ content_of entry =
-      agreed (held old entry.pino entry.name entry.version) (content_of other) (content_of entry) agrees
-      (held_place-same old entry other (sym clash.directory) (sym clash.name) (sym clash.version) ∙ held-from_Contains old ordered other there) in
+    agreed (held old entry.pino entry.name entry.version) (content_of other) (content_of entry) agrees
+    (held_place-same old entry other (sym clash.directory) (sym clash.name) (sym clash.version) ∙ held-from_Contains old ordered other there) in
     clash.contents (same_entry other entry clash.directory clash.name clash.version content)
 
 differing : (old : ByNumber) (entry : Dirent) (o : Option Content) → held old entry.pino entry.name entry.version ≡ o → Differs o (content_of entry) → SomeClashes (entries_of old) entry

@@ -3,4 +3,7 @@ pub mod GainLemmas
 pub mod HeldLemmas
 pub mod LiveLemmas
 pub mod MemberLemmas
+pub mod NamingLemmas
+pub mod OrderLemmas
+pub mod SortedLemmas
 pub mod WalkLemmas

@@ -62,9 +62,10 @@ from_key directories ordered key x h =
 -- the newest entry of a key is its top
 top_of_newest : (directories : ByNumber) → IsOrdered nat_cmp directories → (key : Key) (z : Dirent) → newest (λ entry. entry.version) (of_key directories key) ≡ Some z → IsTop (at_of directories key) z.version (content_of z)
 top_of_newest directories ordered key z e =
-    let is = newest_is_newest (of_key directories key) (λ entry. entry.version) z e in
-    (from_key directories ordered key z is.0,
-     λ w h. let there = some_of (at_of directories key w) h in is.1 (entry_of key.0 key.1 (w, there.0)) (in_key directories key w there.0 there.1))
+    let is = newest_is_newest (of_key directories key) (λ entry. entry.version) z e in (
+      from_key directories ordered key z is.0,
+      λ w h. let there = some_of (at_of directories key w) h in is.1 (entry_of key.0 key.1 (w, there.0)) (in_key directories key w there.0 there.1),
+    )
 
 pub same_top : (at : ℕ → Option Content) (v w : ℕ) (c d : Content) → IsTop at v c → IsTop at w d → c ≡ d
 same_top at v w c d a b =
@@ -130,16 +131,16 @@ by_highest directories ordered pino None there (Some z) e =
 by_highest directories ordered pino (Some d) there None e =
     let none : of_directory directories pino ≡ [] = newest_of_none (of_directory directories pino) (λ entry. entry.version) e in
     absurd (d.reached (λ name. is_none (held_in d.names name d.highest) (λ content h.
-      Contains-none (entry_of pino name (d.highest, content)) (subst (λ (xs : List Dirent). Contains xs (entry_of pino name (d.highest, content))) none
-      (in_number directories pino name d.highest content (held-directory directories pino (Some d) there name d.highest ∙ h))))))
+    Contains-none (entry_of pino name (d.highest, content)) (subst (λ (xs : List Dirent). Contains xs (entry_of pino name (d.highest, content))) none
+    (in_number directories pino name d.highest content (held-directory directories pino (Some d) there name d.highest ∙ h))))))
 by_highest directories ordered pino (Some d) there (Some z) e =
     let is = newest_is_newest (of_directory directories pino) (λ entry. entry.version) z e in
     let held_z : held_in d.names z.name z.version ≡ Some (content_of z) = sym (held-directory directories pino (Some d) there z.name z.version) ∙ from_number directories ordered pino z is.0 in
     let low : z.version ≤ d.highest = d.bounds z.name z.version (subst (λ (o : Option Content). IsSome o) (sym held_z) refl) in
     ⊎_elim
     (λ (lt : z.version < d.highest). absurd (d.reached (λ name. is_none (held_in d.names name d.highest) (λ content h.
-      let most : d.highest ≤ z.version = is.1 (entry_of pino name (d.highest, content)) (in_number directories pino name d.highest content (held-directory directories pino (Some d) there name d.highest ∙ h)) in
-      absurd (omega arith)))))
+    let most : d.highest ≤ z.version = is.1 (entry_of pino name (d.highest, content)) (in_number directories pino name d.highest content (held-directory directories pino (Some d) there name d.highest ∙ h)) in
+    absurd (omega arith)))))
     (λ (ge : d.highest ≤ z.version). let same : d.highest ≡ z.version = omega arith in ap Some same)
     (cases_lt z.version d.highest)
 

@@ -38,9 +38,10 @@ nothing_newest versions e v content top =
 
 top_of_newest : (versions : Versions) (top : ℕ × Content) → newest (λ e. e.0) versions.contents.entries ≡ Some top → IsTop (version_at versions) top.0 top.1
 top_of_newest versions top e =
-    let is = newest_is_newest versions.contents.entries (λ e. e.0) top e in
-    (nat_found versions.contents.entries top.0 top.1 versions.ordered is.0,
-     λ w h. let there = some_of (version_at versions w) h in is.1 (w, there.0) (Contains-from_lookup (tells_apart exact_unsigned) w there.0 versions.contents.entries there.1))
+    let is = newest_is_newest versions.contents.entries (λ e. e.0) top e in (
+      nat_found versions.contents.entries top.0 top.1 versions.ordered is.0,
+      λ w h. let there = some_of (version_at versions w) h in is.1 (w, there.0) (Contains-from_lookup (tells_apart exact_unsigned) w there.0 versions.contents.entries there.1),
+    )
 
 by_newest : (versions : Versions) (o : Option (ℕ × Content)) → newest (λ e. e.0) versions.contents.entries ≡ o → IsLiveIn (version_at versions) (option_and_then ino_unless_gone o)
 by_newest versions None e = nothing_newest versions e

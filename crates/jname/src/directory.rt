@@ -81,7 +81,7 @@ impl<'a> Directory<'a> {
         content: Content,
     ) -> Result<(), NameFault>
         ensures clash { result ≡ Err NameFault.Clash → Differs (held_under self.old (cow_slice_items name.entry) version) content }
-    ensures alone { OnOk result (Agrees (held_under self.old (cow_slice_items name.entry) version) content) }
+        ensures alone { OnOk result (Agrees (held_under self.old (cow_slice_items name.entry) version) content) }
         ensures ok { OnOk result ((n : List ℕ) (v : ℕ) → held_under self.new n v ≡ (if bytes_eq (cow_slice_items name.entry) n && version == v then Some content else held_under self.old n v)) }
         ensures err { OnErr result (IsSameHeld self.old.names self.new.names) }
     {

@@ -19,7 +19,7 @@ returns-in-Some-clause-ok c =
     let was : versions_of c.args.names.now (cow_slice_items c.args.name) ≡ Some c.in-Some.versions.now = search rules in
     let there : IsSome (versions_of c.args.names.now c.as_slice.result.now) = search rules in
     let replaced : Replaces c.args.names.now (c.get_mut.follows.lender c.add.new.self) (cow_slice_items c.args.name) c.add.new.self =
-      subst (λ (bytes : List ℕ). Replaces c.args.names.now (c.get_mut.follows.lender c.add.new.self) bytes c.add.new.self) c.as_slice.ensures.value ((c.get_mut.follows.holds c.add.new.self).3 there) in
+    subst (λ (bytes : List ℕ). Replaces c.args.names.now (c.get_mut.follows.lender c.add.new.self) bytes c.add.new.self) c.as_slice.ensures.value ((c.get_mut.follows.holds c.add.new.self).3 there) in
     ok_map c.add.result (λ h. held_in-replaced c.args.names.now (c.get_mut.follows.lender c.add.new.self) (cow_slice_items c.args.name) c.add.new.self c.args.version c.args.content replaced
     (λ v. h v ∙ ap (λ (o : Option Versions). if c.args.version == v then Some c.args.content else option_and_then (λ (x : Versions). version_at x v) o) (sym was))) c.add.ensures.ok
 
@@ -28,7 +28,7 @@ returns-in-Some-clause-err c =
     let was : versions_of c.args.names.now (cow_slice_items c.args.name) ≡ Some c.in-Some.versions.now = search rules in
     let there : IsSome (versions_of c.args.names.now c.as_slice.result.now) = search rules in
     let replaced : Replaces c.args.names.now (c.get_mut.follows.lender c.add.new.self) (cow_slice_items c.args.name) c.add.new.self =
-      subst (λ (bytes : List ℕ). Replaces c.args.names.now (c.get_mut.follows.lender c.add.new.self) bytes c.add.new.self) c.as_slice.ensures.value ((c.get_mut.follows.holds c.add.new.self).3 there) in
+    subst (λ (bytes : List ℕ). Replaces c.args.names.now (c.get_mut.follows.lender c.add.new.self) bytes c.add.new.self) c.as_slice.ensures.value ((c.get_mut.follows.holds c.add.new.self).3 there) in
     err_map c.add.result (λ h. held_in-kept c.args.names.now (c.get_mut.follows.lender c.add.new.self) (cow_slice_items c.args.name) c.add.new.self replaced
     (λ v. ap (λ (es : List (ℕ × Content)). lookup (eq_by_cmp nat_cmp v) es) h ∙ ap (λ (o : Option Versions). option_and_then (λ (x : Versions). version_at x v) o) (sym was))) c.add.ensures.err
 
@@ -36,8 +36,8 @@ pub returns-in-Some-clause-unchanged : goal.returns-in-Some-clause-unchanged
 returns-in-Some-clause-unchanged c =
     let was : versions_of c.args.names.now c.as_slice.result.now ≡ Some c.in-Some.versions.now = search rules in
     err_map c.add.result (λ h.
-      ap (λ (es : List (Name × Versions)). map shown es) (c.get_mut.follows.holds c.add.new.self).0
-      ∙ map-set_value shown (λ (k : Name). is_eq (slice_cmp nat_cmp c.as_slice.result.now (cow_slice_items k))) c.args.names.now.entries c.in-Some.versions.now c.add.new.self was (λ k. ap (λ (es : List (ℕ × Content)). (k, es)) h))
+    ap (λ (es : List (Name × Versions)). map shown es) (c.get_mut.follows.holds c.add.new.self).0
+    ∙ map-set_value shown (λ (k : Name). is_eq (slice_cmp nat_cmp c.as_slice.result.now (cow_slice_items k))) c.args.names.now.entries c.in-Some.versions.now c.add.new.self was (λ k. ap (λ (es : List (ℕ × Content)). (k, es)) h))
     c.add.ensures.err
 
 pub returns-clause-ok : goal.returns-clause-ok

@@ -25,8 +25,8 @@ pub returns-in-Some-clause-err : goal.returns-in-Some-clause-err
 returns-in-Some-clause-err c =
     let was : get nat_cmp c.args.directories.now c.args.pino ≡ Some c.in-Some.directory.now = search rules in
     err_map c.add.result (λ h. entries_of-same c.args.directories.now (c.get_mut.follows.lender c.add.new.self)
-      (ap (λ (es : List (ℕ × Directory)). map entries_in es) (c.get_mut.follows.holds c.add.new.self).0
-      ∙ map-set_value entries_in (eq_by_cmp nat_cmp c.args.pino) c.args.directories.now.entries c.in-Some.directory.now c.add.new.self was (λ k. entries_in-same k c.in-Some.directory.now c.add.new.self h)))
+    (ap (λ (es : List (ℕ × Directory)). map entries_in es) (c.get_mut.follows.holds c.add.new.self).0
+    ∙ map-set_value entries_in (eq_by_cmp nat_cmp c.args.pino) c.args.directories.now.entries c.in-Some.directory.now c.add.new.self was (λ k. entries_in-same k c.in-Some.directory.now c.add.new.self h)))
     c.add.ensures.err
 
 pub returns-in_err-insert-clause-err : goal.returns-in_err-insert-clause-err
