@@ -6,3 +6,6 @@ pub mod TilingLaws
 pub mod StretchLaws
 pub mod QuietLemmas
 pub mod BlankLemmas
+pub mod SightingLaws
+pub mod MarkedLemmas
+pub mod BlockLemmas

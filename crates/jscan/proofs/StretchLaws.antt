@@ -70,7 +70,7 @@ pub front_then_rest : (e : Endian) (start place : ℕ) (rest : List ℕ) → 0 <
 unfolding stretches_from
 front_then_rest e start place rest some = ap (λ (ts : List Tile). runs_joined (map (stretch_of e start) ts)) (tile_then_rest e place rest some)
 
-no_stretches : (e : Endian) (start place : ℕ) → stretches_from e start place [] ≡ []
+pub no_stretches : (e : Endian) (start place : ℕ) → stretches_from e start place [] ≡ []
 unfolding stretches_from
 no_stretches e start place = refl
 

@@ -1,6 +1,6 @@
 //! Laws of tilings and stretches. Each function's contract is a law, and its body is empty.
 
-ghost use Rattle.jscan.specs.Laws.{TilingExists, TilingIsOnly, TileThenRest, RunsAreLongest, StretchesMakeUp, StretchesAreFew, NodesAreSeen, NamesAreShort};
+ghost use Rattle.jscan.specs.Laws.{TilingExists, TilingIsOnly, TileThenRest, RunsAreLongest, StretchesMakeUp, StretchesAreFew, NodesAreSeen, NamesAreShort, SightingsAreStretches, QuietHasNoNodes, ErasedHasNoNodes, MarkedHasNoNodes, NodesAreOfBlocks, BlankFromIsLeast};
 
 /// A block of whole words has exactly one tiling, and it is the one computed.
 pub fn one_tiling()
@@ -33,4 +33,27 @@ pub fn stretches_are_few()
 pub fn nodes_are_seen()
     ensures seen { NodesAreSeen }
     ensures names { NamesAreShort }
+{}
+
+/// The sightings of a block are its stretches that are nodes' tiles.
+pub fn sightings_are_stretches()
+    ensures { SightingsAreStretches }
+{}
+
+/// Where no good header stands at any word, no node is sighted: so in erased flash, and behind a
+/// beginning of the clean marker.
+pub fn quiet_has_no_nodes()
+    ensures quiet { QuietHasNoNodes }
+    ensures erased { ErasedHasNoNodes }
+    ensures marked { MarkedHasNoNodes }
+{}
+
+/// An image's nodes are those of its blocks, or of the flash's, which is erased past the image.
+pub fn nodes_are_of_blocks()
+    ensures { NodesAreOfBlocks }
+{}
+
+/// `blank_from` is the least block from which all are blank.
+pub fn blank_from_is_least()
+    ensures { BlankFromIsLeast }
 {}
