@@ -92,6 +92,11 @@ pub no_magic : (e : Endian) (rest : List ℕ) → (magic_of e rest == magic) ≡
 unfolding is_good is_good_front has_header
 no_magic e rest none = and_right _ _ (and_left _ _ (and_left _ _ (and_left _ _ none)))
 
+-- nor without a header
+pub no_header : (e : Endian) (rest : List ℕ) → has_header e rest ≡ false → is_good e rest ≡ false
+unfolding is_good is_good_front
+no_header e rest none = and_right _ _ (and_left _ _ (and_left _ _ none))
+
 -- nor in fewer than twelve bytes
 pub too_short : (e : Endian) (rest : List ℕ) → length rest < 12 → is_good e rest ≡ false
 unfolding is_good

@@ -4,3 +4,5 @@ pub mod TileLemmas
 pub mod ReadingLemmas
 pub mod WritingLemmas
 pub mod WeakLemmas
+pub mod MarkerLemmas
+pub mod FitsLemmas

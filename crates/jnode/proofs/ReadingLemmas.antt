@@ -220,7 +220,7 @@ is_compressed (Compressed compr) = true
 is_compressed s = false
 
 -- what holds of each answer that shows no node holds of a plain type's
-plain_both : (t : ℕ) (P : Seen → Type 0) → P Marker → P Padding → P Attribute → ((n : ℕ) → P (Skippable n)) → ((n : ℕ) → P (ReadOnly n)) → ((n : ℕ) → P (Incompatible n)) → P (plain_seen t)
+pub plain_both : (t : ℕ) (P : Seen → Type 0) → P Marker → P Padding → P Attribute → ((n : ℕ) → P (Skippable n)) → ((n : ℕ) → P (ReadOnly n)) → ((n : ℕ) → P (Incompatible n)) → P (plain_seen t)
 unfolding plain_seen other_seen
 plain_both t P marker padding attribute skippable read_only incompatible =
     cond_both (t == 0x2003) _ _ P (λ _. marker) (λ _.

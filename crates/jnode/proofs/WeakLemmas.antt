@@ -36,7 +36,7 @@ front_of p n short long =
     ap (λ (k : ℕ). take k (p ++ erased n)) (sym at) ∙ take-append-add p (erased n) (12 - length p)
     ∙ ap (λ (q : List ℕ). p ++ q) (take-replicate (12 - length p) n 0xFF (omega arith))
 
-behind : (p : List ℕ) (n k : ℕ) → length p ≤ k → drop k (p ++ erased n) ≡ erased (n - (k - length p))
+pub behind : (p : List ℕ) (n k : ℕ) → length p ≤ k → drop k (p ++ erased n) ≡ erased (n - (k - length p))
 behind p n k past =
     let at : length p + (k - length p) ≡ k = omega arith in
     ap (λ (i : ℕ). drop i (p ++ erased n)) (sym at) ∙ drop-append-add p (erased n) (k - length p) ∙ drop-replicate (k - length p) n 0xFF

@@ -386,7 +386,7 @@ canonical_is_not_erased Big (Inode n) same = omega arith
 
 -- ---- the clean marker, and padding
 
-length-header_bytes : (e : Endian) (nodetype totlen : ℕ) → length (header_bytes e nodetype totlen) ≡ 12
+pub length-header_bytes : (e : Endian) (nodetype totlen : ℕ) → length (header_bytes e nodetype totlen) ≡ 12
 unfolding header_bytes bytes_in
 length-header_bytes Little nodetype totlen = refl
 length-header_bytes Big nodetype totlen = refl

@@ -1,10 +1,10 @@
 -- Laws of the format. Each is a statement: it holds since a public function's contract names it.
-use Rattle.std.specs.Prelude.{◌≡◌, ◌≢◌, ◌↔◌, ◌+◌, ◌<◌, ◌≤◌, ◌*◌, ℕ, IsTrue, false, Option, Some, List, ◌++◌, length, take, drop, slice_index}
+use Rattle.std.specs.Prelude.{◌≡◌, ◌≢◌, ◌↔◌, ◌+◌, ◌<◌, ◌≤◌, ◌*◌, ◌%◌, ℕ, IsTrue, false, Option, Some, List, ◌++◌, length, take, drop, slice_index}
 use Rattle.flashbase.specs.Bytes.{pad4_of, erased}
 use Rattle.flashbase.specs.Ranges.{AreBytes, IsWord}
 use Rattle.jnode.specs.Header.{IsGood, header_len, header_of, has_header, is_good, totlen_of}
 use Rattle.jnode.specs.Reading.{Reads, seen_of, node_in, tile_of}
-use Rattle.jnode.specs.Writing.{canonical, clean_marker, padding_node, filled, Fits, IsWritable, is_writable, totlen_most}
+use Rattle.jnode.specs.Writing.{canonical, clean_marker, padding_node, filled, Fits, HoldsBytes, IsWritable, is_writable, totlen_most}
 use Rattle.jnode.specs.Weak.{torn, is_weak}
 use Rattle.jnode.specs.declared.order.Endian.{Endian}
 use Rattle.jnode.specs.declared.node.NodeRef.{NodeRef}
@@ -31,6 +31,15 @@ ErasedIsNotGood = (e : Endian) (n : ℕ) → is_good e (erased n) ≡ false
 -- a tile reads as at most one node
 abbrev pub ReadsOne : Type 0
 ReadsOne = (e : Endian) (tile : List ℕ) (a b : NodeRef) → Reads e tile a → Reads e tile b → a ≡ b
+
+-- what is seen of a good header's tile is what the tile reads as
+abbrev pub SeenIsRead : Type 0
+SeenIsRead = (e : Endian) (rest : List ℕ) (node : NodeRef) → IsGood e rest → length rest % 4 ≡ 0
+    → (node_in (seen_of e (tile_of e rest)) ≡ Some node) ↔ Reads e (tile_of e rest) node
+
+-- What is seen of bytes fits its widths, also in a tile that a block's end cut short.
+abbrev pub SeenFits : Type 0
+SeenFits = (e : Endian) (tile : List ℕ) (node : NodeRef) → AreBytes tile → node_in (seen_of e tile) ≡ Some node → Fits node × HoldsBytes node
 
 -- whether a node may be written is computed
 abbrev pub WritableIsComputed : Type 0
@@ -106,3 +115,7 @@ TornIsTile = (e : Endian) (node : NodeRef) (j n : ℕ) → IsWord (length (canon
 -- a cut behind the header keeps it
 abbrev pub CutBehindKeepsHeader : Type 0
 CutBehindKeepsHeader = (bytes : List ℕ) (j : ℕ) → header_len ≤ j → header_len ≤ length bytes → take header_len (torn bytes j) ≡ take header_len bytes
+
+-- Nor does a good header stand at any word of a clean marker that was cut.
+abbrev pub TornMarkerIsNone : Type 0
+TornMarkerIsNone = (e : Endian) (j n word : ℕ) → j < header_len → is_good e (drop (4 * word) (take j (clean_marker e) ++ erased n)) ≡ false

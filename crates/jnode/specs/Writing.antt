@@ -2,7 +2,7 @@
 use Rattle.std.specs.Prelude.{◌≡◌, ◌≤◌, ◌<◌, ◌^◌, ◌+◌, ◌-◌, ◌==◌, ◌&&◌, ℕ, Bool, true, nat_le, List, [], ◌∷◌, ◌++◌, length}
 use Rattle.flashbase.specs.Crc.{crc_of}
 use Rattle.flashbase.specs.Bytes.{pad4_of, erased}
-use Rattle.flashbase.specs.Ranges.{IsHalf, IsWord}
+use Rattle.flashbase.specs.Ranges.{AreBytes, IsHalf, IsWord}
 use Rattle.jnode.specs.Order.{bytes_in}
 use Rattle.jnode.specs.Header.{magic, header_len}
 use Rattle.jnode.specs.Reading.{dirent_type, inode_type, marker_type, padding_type, entry_len, inode_len}
@@ -107,6 +107,11 @@ pub record FitsInode (inode : InodeNode) : Type 0 where
 abbrev pub Fits : NodeRef → Type 0
 Fits (Entry entry) = FitsEntry entry
 Fits (Inode inode) = FitsInode inode
+
+-- the bytes of the name, or of the data, are bytes
+abbrev pub HoldsBytes : NodeRef → Type 0
+HoldsBytes (Entry entry) = AreBytes entry.name
+HoldsBytes (Inode inode) = AreBytes (held_bytes inode.fill)
 
 -- ---- what may be written: the rest is refused
 

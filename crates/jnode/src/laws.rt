@@ -5,7 +5,7 @@ ghost use Rattle.jnode.specs.Header.{is_good};
 ghost use Rattle.jnode.specs.Reading.{marker_type, xattr_type, summary_type, seen_of};
 ghost use Rattle.jnode.specs.Writing.{header_bytes, clean_marker, padding_node, canonical_entry, canonical_inode, filled};
 ghost use Rattle.jnode.specs.Vectors.{little_marker, big_marker, entry_a, entry_a_big, obsolete_a, inode_2, no_length, length_13, named_a, new_file, hidden_entry};
-ghost use Rattle.jnode.specs.Laws.{GoodIsComputed, HeaderIsTwelveBytes, ErasedIsNotGood, ReadsOne, WritableIsComputed, WrittenReads, WrittenIsTile, WrittenIsNotErased, MarkerIsTile, PaddingIsTile, TornHeaderIsNone, TornNodeIsDamaged, TornIsTile, CutBehindKeepsHeader};
+ghost use Rattle.jnode.specs.Laws.{GoodIsComputed, HeaderIsTwelveBytes, ErasedIsNotGood, ReadsOne, WritableIsComputed, WrittenReads, WrittenIsTile, WrittenIsNotErased, MarkerIsTile, PaddingIsTile, TornHeaderIsNone, TornNodeIsDamaged, TornIsTile, CutBehindKeepsHeader, TornMarkerIsNone, SeenIsRead, SeenFits};
 
 use crate::node::{Damage, Seen};
 use crate::order::Endian;
@@ -31,6 +31,16 @@ pub fn header_is_twelve_bytes()
 #[tactic(auto, using(crate::proofs::HeaderLemmas::erased_is_not_good))]
 pub fn erased_is_not_good()
     ensures { ErasedIsNotGood }
+{}
+
+/// What is seen of a tile is what it reads as.
+pub fn seen_is_read()
+    ensures { SeenIsRead }
+{}
+
+/// What is seen of bytes fits its widths.
+pub fn seen_fits()
+    ensures { SeenFits }
 {}
 
 /// Whether a node may be written is computed.
@@ -84,6 +94,11 @@ pub fn torn_is_tile()
 /// A cut behind the header keeps it.
 pub fn cut_behind_keeps_header()
     ensures { CutBehindKeepsHeader }
+{}
+
+/// No good header stands at any word of a torn clean marker.
+pub fn torn_marker_is_none()
+    ensures { TornMarkerIsNone }
 {}
 
 // ---- worked examples, which the definitions compute

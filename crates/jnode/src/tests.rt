@@ -91,6 +91,16 @@ fn look_in<'a, E: Order>(rt: &impl Abort, part: &Part<'a>) -> Seen<'a> {
     read_part::<E>(part)
 }
 
+fn start_of(bytes: &[u8], n: usize) -> &[u8] {
+    bytes.get(..n).unwrap_or(bytes)
+}
+
+/// What an image holds of these bytes where it ends after n of them.
+fn cut_after(bytes: &[u8], n: usize) -> Part<'_> {
+    let held = n.min(bytes.len());
+    Part::new(&bytes[..held], bytes.len() - held)
+}
+
 fn bytes_of(alloc: Global, part: &Part<'_>) -> Result<Vec<u8>, AllocError> {
     part.iter().collect(alloc)
 }
@@ -115,7 +125,7 @@ fn clean_markers(rt: HostRuntime) -> Result<(), Fail> {
 fn entries_are_written(rt: HostRuntime) -> Result<(), Fail> {
     let mut out = Vec::new(rt.alloc());
     assert!(rt; write_entry::<LittleEndian>(&mut out, &entry_of(1, b"a")).is_ok());
-    assert_eq!(rt; out.as_slice(), &entry_a()[..41]);
+    assert_eq!(rt; out.as_slice(), start_of(&entry_a(), 41));
     for (pino, name, fault) in [
         (1, b"".as_slice(), "N1 Name"),
         (0, b"".as_slice(), "N1 Name"),
@@ -124,11 +134,11 @@ fn entries_are_written(rt: HostRuntime) -> Result<(), Fail> {
     ] {
         let refused = write_entry::<LittleEndian>(&mut out, &entry_of(pino, name));
         assert_eq!(rt; told(rt.alloc(), refused)?.as_str(), fault);
-        assert_eq!(rt; out.as_slice(), &entry_a()[..41]);
+        assert_eq!(rt; out.as_slice(), start_of(&entry_a(), 41));
     }
     assert!(rt; write_entry::<BigEndian>(&mut out, &entry_of(1, b"a")).is_ok());
     assert_eq!(rt; out.len(), 82);
-    assert_eq!(rt; &out[41..82], &entry_a_big()[..41]);
+    assert_eq!(rt; &out[41..82], start_of(&entry_a_big(), 41));
     assert!(rt; write_entry::<BigEndian>(&mut out, &entry_of(1, &[b'n'; 254])).is_ok());
     assert_eq!(rt; out.len(), 82 + 294);
     Ok(())
@@ -244,12 +254,12 @@ fn headers(rt: HostRuntime) {
         })
     );
     assert!(rt; header_at::<BigEndian>(&entry_a()).is_none());
-    assert!(rt; header_at::<LittleEndian>(&entry_a()[..40]).is_none());
-    assert!(rt; header_at::<LittleEndian>(&little_marker()[..11]).is_none());
+    assert!(rt; header_at::<LittleEndian>(start_of(&entry_a(), 40)).is_none());
+    assert!(rt; header_at::<LittleEndian>(start_of(&little_marker(), 11)).is_none());
     assert!(rt; header_at::<LittleEndian>(&no_length()).is_none());
     assert!(rt; header_at::<LittleEndian>(&length_13()).is_none());
-    assert!(rt; header_in::<LittleEndian>(&Part::new(&length_13(), 0)).is_none());
-    let longer = header_in::<LittleEndian>(&Part::new(&length_13(), 1));
+    assert!(rt; header_in::<LittleEndian>(&cut_after(&length_13(), 12)).is_none());
+    let longer = header_in::<LittleEndian>(&cut_after(&length_13_filled(), 12));
     assert_eq!(rt;
         longer,
         Some(Header {
@@ -258,7 +268,7 @@ fn headers(rt: HostRuntime) {
             accurate: true
         })
     );
-    assert!(rt; header_in::<LittleEndian>(&Part::new(&little_marker()[..11], 9)).is_none());
+    assert!(rt; header_in::<LittleEndian>(&cut_after(&little_marker(), 11)).is_none());
 }
 
 fn is_entry_a(rt: &impl Abort, alloc: Global, seen: Seen<'_>) -> Result<(), Fail> {
@@ -281,7 +291,7 @@ fn entries_are_read(rt: HostRuntime) -> Result<(), Fail> {
     is_entry_a(
         &rt,
         rt.alloc(),
-        look_in::<LittleEndian>(&rt, &Part::new(&little[..41], 3)),
+        look_in::<LittleEndian>(&rt, &cut_after(&little, 41)),
     )?;
     is_seen(&rt, &obsolete_a(), ("obsolete", 0));
     Ok(())
@@ -311,7 +321,7 @@ fn inodes_are_read(rt: HostRuntime) -> Result<(), Fail> {
     is_write_4(
         &rt,
         rt.alloc(),
-        look_in::<LittleEndian>(&rt, &Part::new(&little[..71], 1)),
+        look_in::<LittleEndian>(&rt, &cut_after(&little, 71)),
     )?;
     is_seen(&rt, &inode_2(), ("inode", 2));
     let node = zero_96();

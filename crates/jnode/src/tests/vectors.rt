@@ -58,6 +58,14 @@ pub(super) fn length_13() -> [u8; 12] {
     ]
 }
 
+/// The same header up to words.
+pub(super) fn length_13_filled() -> [u8; 16] {
+    [
+        0x85, 0x19, 0x03, 0x20, 0x0d, 0x00, 0x00, 0x00, 0xd4, 0xd7, 0xa2, 0x5c,
+        
+    ]
+}
+
 /// A header of type 0xE008.
 pub(super) fn attribute() -> [u8; 12] {
     [
