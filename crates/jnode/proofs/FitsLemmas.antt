@@ -18,6 +18,7 @@ use Rattle.jnode.specs.declared.node.NodeRef.{NodeRef}
 use Rattle.jnode.specs.declared.node.NodeRef.TheVariants as node
 use Rattle.jnode.specs.declared.node.Seen.{Seen}
 use Rattle.jnode.specs.declared.node.Seen.TheVariants.{Entry, Inode, Marker, Padding, Obsolete, Attribute, Skippable, ReadOnly, Incompatible, Compressed, Damaged}
+use Rattle.jnode.proofs.OrderLemmas.{bytes-take, bytes-drop}
 use Rattle.jnode.proofs.TileLemmas.{tile_headed}
 use Rattle.jnode.proofs.ReadingLemmas.{five_both, plain_both, seen_entry, seen_inode}
 
@@ -27,15 +28,6 @@ number_in-lt : (e : Endian) (n : ℕ) (xs : List ℕ) → AreBytes xs → number
 unfolding number_in
 number_in-lt Little n xs are = little_from-lt 0 n xs are
 number_in-lt Big n xs are = big_from-lt 0 n xs are
-
-bytes-drop : (k : ℕ) (xs : List ℕ) → AreBytes xs → AreBytes (drop k xs)
-bytes-drop k xs are i = let at = get_or-drop k xs i 0 in let small = are (k + i) in omega arith
-
-bytes-take : (k : ℕ) (xs : List ℕ) → AreBytes xs → AreBytes (take k xs)
-bytes-take k xs are i = elim (cases_lt i k) [
-  | inl before ↦ let at = get_or-take k xs i 0 before in let small = are i in omega arith
-  | inr past ↦ let at = get_or_past (take k xs) i 0 (omega (arith, length-take k xs)) in omega arith
-]
 
 entry_fits : (e : Endian) (tile : List ℕ) → AreBytes tile → FitsEntry (dirent_of e tile)
 entry_fits e tile are =
@@ -72,8 +64,8 @@ nothing s none = record { fits = λ x is. let clash : None ≡ Some x = sym none
 sees : (s : Seen) (y : NodeRef) → node_in s ≡ Some y → Fits y → HoldsBytes y → SeesFitting s
 sees s y here fits bytes = record {
   fits = λ x is.
-    let same : y ≡ x = let both : Some y ≡ Some x = sym here ∙ is in cc in
-    subst (λ (z : NodeRef). Fits z × HoldsBytes z) same (fits, bytes);
+      let same : y ≡ x = let both : Some y ≡ Some x = sym here ∙ is in cc in
+      subst (λ (z : NodeRef). Fits z × HoldsBytes z) same (fits, bytes);
 }
 
 entry_sees : (e : Endian) (tile : List ℕ) → AreBytes tile → SeesFitting (entry_seen e tile)

@@ -71,8 +71,8 @@ header_by_front-take e m len xs h =
 
 pub header_is_twelve_bytes : (e : Endian) (a b : List ℕ) → take 12 a ≡ take 12 b → (has_header e a ≡ has_header e b) × (header_of e a ≡ header_of e b)
 header_is_twelve_bytes e a b same = (
-    sym (has_header-take e 12 a (omega arith)) ∙ ap (has_header e) same ∙ has_header-take e 12 b (omega arith),
-    sym (header_of-take e 12 a (omega arith)) ∙ ap (header_of e) same ∙ header_of-take e 12 b (omega arith),
+  sym (has_header-take e 12 a (omega arith)) ∙ ap (has_header e) same ∙ has_header-take e 12 b (omega arith),
+  sym (header_of-take e 12 a (omega arith)) ∙ ap (header_of e) same ∙ header_of-take e 12 b (omega arith),
 )
 
 pub header_holds : (e : Endian) (bytes : List ℕ) → magic_of e bytes ≡ magic → hdr_crc_of e bytes ≡ header_crc_of e bytes → has_header e bytes ≡ true

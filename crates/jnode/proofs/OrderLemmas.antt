@@ -1,10 +1,13 @@
 -- Numbers, and the bytes that they stand in.
-use Rattle.std.proofs.Common.{◌≡◌, ℕ, zero, suc, ◌+◌, ◌-◌, ◌<◌, ◌≤◌, List, [], ◌∷◌, ◌++◌, length, take, drop, replicate, slice_index, refl, sym, ap, ap₂, ◌∙◌, arith, add-one}
-use Rattle.std.proofs.lemmas.List.{append-nil, drop-take, length-take-le, length-drop}
+use Rattle.std.proofs.Common.{◌≡◌, ℕ, zero, suc, ◌+◌, ◌-◌, ◌^◌, ◌<◌, ◌≤◌, List, [], ◌∷◌, ◌++◌, length, take, drop, replicate, slice_index, refl, sym, ap, ap₂, ◌∙◌, arith, add-one, inl, inr}
+use Rattle.std.proofs.lemmas.Bool.{cases_lt}
+use Rattle.std.proofs.lemmas.Nat.{le_bytes_2, be_bytes_2, le_bytes_4, be_bytes_4}
+use Rattle.std.proofs.lemmas.List.{append-nil, drop-take, length-take-le, length-take, length-drop, get_or-take, get_or-drop, get_or_past}
 use Rattle.std.proofs.Math.ListN.{set}
 use Rattle.std.proofs.Math.Seq.{take-suc, take-suc-set}
-use Rattle.byteorder.specs.Numbers.{little_from-take, big_from-take}
-use Rattle.jnode.specs.Order.{number_in, number_at}
+use Rattle.byteorder.specs.Numbers.{little_from-take, big_from-take, little_number-reads_back, big_number-reads_back}
+use Rattle.flashbase.specs.Ranges.{AreBytes}
+use Rattle.jnode.specs.Order.{number_in, number_at, bytes_in}
 use Rattle.jnode.specs.declared.order.Endian.{Endian}
 use Rattle.jnode.specs.declared.order.Endian.TheVariants.{Little, Big}
 
@@ -60,3 +63,43 @@ take-set i byte front xs room more here same =
     ap (λ (n : ℕ). take n (set front i byte)) (add-one i) ∙ take-suc-set front i byte room
     ∙ ap₂ (λ (done : List ℕ) (b : ℕ). done ++ b ∷ []) same here
     ∙ sym (ap (λ (n : ℕ). take n xs) (add-one i) ∙ take-suc xs i 0 more)
+
+-- ---- a number and its bytes are one another's
+
+pub number_in-bytes_in : (e : Endian) (n x : ℕ) (rest : List ℕ) → x < 256 ^ n → number_in e n (bytes_in e n x ++ rest) ≡ x
+unfolding number_in bytes_in
+number_in-bytes_in Little n x rest h = little_number-reads_back n x rest h
+number_in-bytes_in Big n x rest h = big_number-reads_back n x rest h
+
+bytes_in-number_in_2 : (e : Endian) (bytes : List ℕ) → length bytes ≡ 2 → AreBytes bytes → bytes_in e 2 (number_in e 2 bytes) ≡ bytes
+unfolding number_in bytes_in
+bytes_in-number_in_2 Little bytes long are = le_bytes_2 bytes _ long are (omega arith)
+bytes_in-number_in_2 Big bytes long are = be_bytes_2 bytes _ long are (omega arith)
+
+bytes_in-number_in_4 : (e : Endian) (bytes : List ℕ) → length bytes ≡ 4 → AreBytes bytes → bytes_in e 4 (number_in e 4 bytes) ≡ bytes
+unfolding number_in bytes_in
+bytes_in-number_in_4 Little bytes long are = le_bytes_4 bytes _ long are (omega arith)
+bytes_in-number_in_4 Big bytes long are = be_bytes_4 bytes _ long are (omega arith)
+
+pub bytes-drop : (k : ℕ) (xs : List ℕ) → AreBytes xs → AreBytes (drop k xs)
+bytes-drop k xs are i = let at = get_or-drop k xs i 0 in let small = are (k + i) in omega arith
+
+pub bytes-take : (k : ℕ) (xs : List ℕ) → AreBytes xs → AreBytes (take k xs)
+bytes-take k xs are i = elim (cases_lt i k) [
+  | inl before ↦ let at = get_or-take k xs i 0 before in let small = are i in omega arith
+  | inr past ↦ let at = get_or_past (take k xs) i 0 (omega (arith, length-take k xs)) in omega arith
+]
+
+pub number_is_spelled_2 : (e : Endian) (place : ℕ) (bytes : List ℕ) → AreBytes bytes → place + 2 ≤ length bytes
+    → take 2 (drop place bytes) ≡ bytes_in e 2 (number_at e 2 place bytes)
+number_is_spelled_2 e place bytes are room =
+    let long : length (take 2 (drop place bytes)) ≡ 2 = length-take-le 2 (drop place bytes) (omega (arith, length-drop place bytes)) in
+    sym (bytes_in-number_in_2 e (take 2 (drop place bytes)) long (bytes-take 2 (drop place bytes) (bytes-drop place bytes are)))
+    ∙ ap (bytes_in e 2) (number_in-take e 2 2 (drop place bytes) (omega arith))
+
+pub number_is_spelled_4 : (e : Endian) (place : ℕ) (bytes : List ℕ) → AreBytes bytes → place + 4 ≤ length bytes
+    → take 4 (drop place bytes) ≡ bytes_in e 4 (number_at e 4 place bytes)
+number_is_spelled_4 e place bytes are room =
+    let long : length (take 4 (drop place bytes)) ≡ 4 = length-take-le 4 (drop place bytes) (omega (arith, length-drop place bytes)) in
+    sym (bytes_in-number_in_4 e (take 4 (drop place bytes)) long (bytes-take 4 (drop place bytes) (bytes-drop place bytes are)))
+    ∙ ap (bytes_in e 4) (number_in-take e 4 4 (drop place bytes) (omega arith))

@@ -10,7 +10,7 @@ use Rattle.flashbase.proofs.BytesLemmas.{le_pad4}
 use Rattle.jnode.specs.Order.{number_in, bytes_in}
 use Rattle.jnode.specs.Header.{magic, magic_of, nodetype_of, totlen_of, header_of, has_header, is_good, is_good_front}
 use Rattle.jnode.specs.Reading.{dirent_type, inode_type, dirent_of, compr_of, csize_of, nsize_of, name_of, tile_of, seen_of, entry_seen, inode_seen, held_seen, is_entry_long, is_crc_right, is_size_right, is_entry_in_range, is_inode_long, is_inode_in_range, is_data_crc_right}
-use Rattle.jnode.specs.Writing.{canonical, canonical_entry, canonical_inode, entry_front, inode_front, object_bytes, range_bytes, header_bytes, clean_marker, filled}
+use Rattle.jnode.specs.Writing.{canonical, canonical_entry, canonical_inode, entry_front, inode_front, object_bytes, time_bytes, range_bytes, header_bytes, clean_marker, filled}
 use Rattle.jnode.specs.Weak.{torn, is_sound, is_weak, has_bounded_header}
 use Rattle.jnode.specs.Laws.{IsPlain, IsTornTile}
 use Rattle.jnode.specs.declared.order.Endian.{Endian}
@@ -58,7 +58,7 @@ HasNoMagic Little xs = (slice_index xs 4 + 256 * slice_index xs 5 ≢ 6533) × (
 HasNoMagic Big xs = (slice_index xs 4 ≡ 0) × (slice_index xs 5 < 256)
 
 canonical_has_no_magic : (e : Endian) (node : NodeRef) → IsPlain (size_of node) → HasNoMagic e (canonical e node)
-unfolding canonical_entry entry_front canonical_inode inode_front object_bytes range_bytes header_bytes bytes_in size_of
+unfolding canonical_entry entry_front canonical_inode inode_front object_bytes time_bytes range_bytes header_bytes bytes_in size_of
 canonical_has_no_magic Little (Entry d) plain = (λ same. plain.1 (omega (arith, plain.0)), omega arith)
 canonical_has_no_magic Little (Inode n) plain = (λ same. plain.1 (omega (arith, plain.0)), omega arith)
 canonical_has_no_magic Big (Entry d) plain = (omega (arith, plain.0), omega arith)
@@ -70,8 +70,8 @@ canonical_has_no_magic Big (Inode n) plain = (omega (arith, plain.0), omega arit
 bounded : (e : Endian) (rest : List ℕ) → length rest ≤ 4194304 → is_good e rest ≡ true → has_bounded_header e rest ≡ true
 unfolding is_good is_good_front has_bounded_header
 bounded e rest long good =
-    let parts = and_parts _ _ good in
-    let front = and_parts _ _ parts.1 in
+    let parts = and_parts (nat_le 12 (length rest)) (has_header e rest && nat_le 12 (totlen_of e rest) && nat_le (totlen_of e rest) (length rest)) good in
+    let front = and_parts (has_header e rest && nat_le 12 (totlen_of e rest)) (nat_le (totlen_of e rest) (length rest)) parts.1 in
     let within : totlen_of e rest ≤ length rest = leb-true _ _ front.1 in
     let fits : totlen_of e rest ≤ 4194304 = omega arith in
     and_from _ _ front.0 (le-leb _ _ fits)
@@ -100,9 +100,9 @@ at_first e xs j n long inside room differs weak =
       | inl short ↦ too_short e rest short
       | inr whole ↦
           let front : take 12 rest ≡ take 12 (torn xs j) =
-            front_of (take j xs) n (omega arith) (omega arith) ∙ sym (front_of (take j xs) (length xs - j) (omega arith) (omega arith)) in
+          front_of (take j xs) n (omega arith) (omega arith) ∙ sym (front_of (take j xs) (length xs - j) (omega arith) (omega arith)) in
           false_from_ne_true _ (λ good.
-            both_ways _ (shown e xs j differs weak) (sym (bounded_front e rest (torn xs j) front) ∙ bounded e rest (omega arith) good))
+          both_ways _ (shown e xs j differs weak) (sym (bounded_front e rest (torn xs j) front) ∙ bounded e rest (omega arith) good))
     ]
 
 -- ---- at the second word
@@ -241,7 +241,7 @@ pub torn_long : (xs : List ℕ) (j : ℕ) → length (torn xs j) ≡ length xs
 torn_long xs j = omega (arith, length_of (take j xs) (length xs - j), length-take j xs)
 
 canonical_type : (e : Endian) (node : NodeRef) → nodetype_of e (canonical e node) ≡ nodetype_to node
-unfolding canonical_entry entry_front canonical_inode inode_front object_bytes range_bytes header_bytes bytes_in number_in nodetype_to
+unfolding canonical_entry entry_front canonical_inode inode_front object_bytes time_bytes range_bytes header_bytes bytes_in number_in nodetype_to
 canonical_type Little (Entry d) = refl
 canonical_type Little (Inode n) = refl
 canonical_type Big (Entry d) = refl
@@ -317,9 +317,9 @@ torn_is_tile e node j n small within room same =
     let up : length xs ≤ pad4_of (length xs) = le_pad4 (length xs) in
     let has = canonical_header e node [] small in
     let front : take 12 left ≡ take 12 (filled xs ++ []) =
-      same_front xs j n (length xs - j) within (omega arith) (omega arith) ∙ same
-      ∙ sym (take-append-le 12 xs (erased (pad4_of (length xs) - length xs)) long)
-      ∙ sym (take-append-le 12 (filled xs) [] (omega (arith, length-filled xs))) in
+    same_front xs j n (length xs - j) within (omega arith) (omega arith) ∙ same
+    ∙ sym (take-append-le 12 xs (erased (pad4_of (length xs) - length xs)) long)
+    ∙ sym (take-append-le 12 (filled xs) [] (omega (arith, length-filled xs))) in
     let words = header_is_twelve_bytes e left (filled xs ++ []) front in
     let totlen : totlen_of e left ≡ length xs = ap (λ (h : Header). h.totlen) words.1 ∙ has.totlen_is in
     let header : has_header e left ≡ true = words.0 ∙ header_holds e (filled xs ++ []) has.right_magic has.checksum in

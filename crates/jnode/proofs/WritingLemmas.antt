@@ -3,7 +3,6 @@ use Rattle.std.proofs.Common.{◌≡◌, ◌≢◌, ◌↔◌, ℕ, ◌+◌, ◌
 use Rattle.std.proofs.lemmas.Bool.{leb-true, le-leb, eqb-true, eq-eqb, and_parts, and_from}
 use Rattle.std.proofs.lemmas.List.{append_assoc, append-nil, length-append, length-replicate}
 use Rattle.std.proofs.Math.Seq.{take-append_seam}
-use Rattle.byteorder.specs.Numbers.{little_number-reads_back, big_number-reads_back}
 use Rattle.flashbase.specs.Crc.{crc_of}
 use Rattle.flashbase.specs.Bytes.{pad4_of, erased}
 use Rattle.flashbase.proofs.CrcLemmas.{crc_of-lt}
@@ -11,7 +10,7 @@ use Rattle.flashbase.proofs.BytesLemmas.{le_pad4}
 use Rattle.jnode.specs.Order.{number_in, number_at, bytes_in}
 use Rattle.jnode.specs.Header.{magic, accurate_bit, is_accurate, magic_of, nodetype_of, totlen_of, hdr_crc_of, header_crc_of}
 use Rattle.jnode.specs.Reading.{dirent_type, inode_type, marker_type, padding_type, seen_of, plain_seen, tile_of, entry_len, inode_len, IsTile, IsSoundInode, ReadsEntry, ReadsInode, ReadsFill, Reads, dirent_of, inode_of, nsize_of, name_of, csize_of, compr_of, data_of}
-use Rattle.jnode.specs.Writing.{header_bytes, clean_marker, padding_node, entry_front, canonical_entry, object_bytes, range_bytes, inode_front, canonical_inode, canonical, filled, held_bytes, held_compr, HoldsRange, holds_range, is_writable, FitsEntry, FitsInode, Fits, IsWritableEntry, IsWritableInode, IsWritable}
+use Rattle.jnode.specs.Writing.{header_bytes, clean_marker, padding_node, entry_front, canonical_entry, object_bytes, time_bytes, range_bytes, inode_front, canonical_inode, canonical, filled, held_bytes, held_compr, HoldsRange, holds_range, is_writable, FitsEntry, FitsInode, Fits, IsWritableEntry, IsWritableInode, IsWritable}
 use Rattle.jnode.specs.declared.order.Endian.{Endian}
 use Rattle.jnode.specs.declared.order.Endian.TheVariants.{Little, Big}
 use Rattle.jnode.specs.declared.node.Dirent.{Dirent}
@@ -21,15 +20,10 @@ use Rattle.jnode.specs.declared.node.Fill.TheVariants.{Zero, Data}
 use Rattle.jnode.specs.declared.node.NodeRef.{NodeRef}
 use Rattle.jnode.specs.declared.node.NodeRef.TheVariants.{Entry, Inode}
 use Rattle.jnode.specs.Laws.{IsTileOf, IsMarkerTile, IsPaddingTile}
-use Rattle.jnode.proofs.OrderLemmas.{number_in-take}
+use Rattle.jnode.proofs.OrderLemmas.{number_in-take, number_in-bytes_in}
 use Rattle.jnode.proofs.HeaderLemmas.{good_again}
 
 -- ---- numbers
-
-number_in-bytes_in : (e : Endian) (n x : ℕ) (rest : List ℕ) → x < 256 ^ n → number_in e n (bytes_in e n x ++ rest) ≡ x
-unfolding number_in bytes_in
-number_in-bytes_in Little n x rest h = little_number-reads_back n x rest h
-number_in-bytes_in Big n x rest h = big_number-reads_back n x rest h
 
 -- the number whose bytes these are
 pub number_is : (e : Endian) (n x : ℕ) (xs : List ℕ) → take n xs ≡ bytes_in e n x → x < 256 ^ n → number_in e n xs ≡ x
@@ -105,11 +99,29 @@ entry_bytes_are : (e : Endian) (d : Dirent) (rest : List ℕ) → EntryBytes e d
 unfolding canonical_entry entry_front header_bytes bytes_in
 entry_bytes_are Little d rest = record {
   header = record { magic_is = refl; type_is = refl; totlen_is = refl; crc_is = refl };
-  pino = refl; version = refl; ino = refl; mctime = refl; nsize = refl; kind = refl; front = refl; node_crc = refl; name_crc = refl; behind = refl;
+  pino = refl;
+  version = refl;
+  ino = refl;
+  mctime = refl;
+  nsize = refl;
+  kind = refl;
+  front = refl;
+  node_crc = refl;
+  name_crc = refl;
+  behind = refl;
 }
 entry_bytes_are Big d rest = record {
   header = record { magic_is = refl; type_is = refl; totlen_is = refl; crc_is = refl };
-  pino = refl; version = refl; ino = refl; mctime = refl; nsize = refl; kind = refl; front = refl; node_crc = refl; name_crc = refl; behind = refl;
+  pino = refl;
+  version = refl;
+  ino = refl;
+  mctime = refl;
+  nsize = refl;
+  kind = refl;
+  front = refl;
+  node_crc = refl;
+  name_crc = refl;
+  behind = refl;
 }
 
 dirent_from : (e : Endian) (tile : List ℕ) (node : Dirent)
@@ -180,16 +192,46 @@ record InodeBytes (e : Endian) (n : InodeNode) (rest tile : List ℕ) : Type 0 w
   pub behind : drop 68 tile ≡ held_bytes n.fill ++ rest
 
 inode_bytes_are : (e : Endian) (n : InodeNode) (rest : List ℕ) → InodeBytes e n rest (canonical_inode e n ++ rest)
-unfolding canonical_inode inode_front object_bytes range_bytes header_bytes bytes_in
+unfolding canonical_inode inode_front object_bytes time_bytes range_bytes header_bytes bytes_in
 inode_bytes_are Little n rest = record {
   header = record { magic_is = refl; type_is = refl; totlen_is = refl; crc_is = refl };
-  ino = refl; version = refl; mode = refl; uid = refl; gid = refl; isize = refl; atime = refl; mtime = refl; ctime = refl; offset = refl;
-  csize = refl; dsize = refl; compr = refl; front = refl; data_crc = refl; node_crc = refl; behind = refl;
+  ino = refl;
+  version = refl;
+  mode = refl;
+  uid = refl;
+  gid = refl;
+  isize = refl;
+  atime = refl;
+  mtime = refl;
+  ctime = refl;
+  offset = refl;
+  csize = refl;
+  dsize = refl;
+  compr = refl;
+  front = refl;
+  data_crc = refl;
+  node_crc = refl;
+  behind = refl;
 }
 inode_bytes_are Big n rest = record {
   header = record { magic_is = refl; type_is = refl; totlen_is = refl; crc_is = refl };
-  ino = refl; version = refl; mode = refl; uid = refl; gid = refl; isize = refl; atime = refl; mtime = refl; ctime = refl; offset = refl;
-  csize = refl; dsize = refl; compr = refl; front = refl; data_crc = refl; node_crc = refl; behind = refl;
+  ino = refl;
+  version = refl;
+  mode = refl;
+  uid = refl;
+  gid = refl;
+  isize = refl;
+  atime = refl;
+  mtime = refl;
+  ctime = refl;
+  offset = refl;
+  csize = refl;
+  dsize = refl;
+  compr = refl;
+  front = refl;
+  data_crc = refl;
+  node_crc = refl;
+  behind = refl;
 }
 
 inode_from : (e : Endian) (tile : List ℕ) (node : InodeNode)
@@ -245,7 +287,7 @@ inode_reads e n rest tile b fits writable long =
     }
 
 pub length-canonical_inode : (e : Endian) (n : InodeNode) → length (canonical_inode e n) ≡ inode_len + length (held_bytes n.fill)
-unfolding canonical_inode inode_front object_bytes range_bytes header_bytes bytes_in
+unfolding canonical_inode inode_front object_bytes time_bytes range_bytes header_bytes bytes_in
 length-canonical_inode Little n = omega arith
 length-canonical_inode Big n = omega arith
 
@@ -314,7 +356,7 @@ a_tile e nodetype totlen bytes rest long least h =
       });
       totlen = same;
       tile = ap (λ (k : ℕ). take (pad4_of k) (filled bytes ++ rest)) same
-      ∙ ap (λ (k : ℕ). take k (filled bytes ++ rest)) (sym padded) ∙ take-append_seam (filled bytes) rest;
+          ∙ ap (λ (k : ℕ). take k (filled bytes ++ rest)) (sym padded) ∙ take-append_seam (filled bytes) rest;
     }
 
 -- where bytes are filled up, what they begin with stands in front
@@ -345,7 +387,7 @@ length-canonical e (Entry d) = length-canonical_entry e d
 length-canonical e (Inode n) = length-canonical_inode e n
 
 canonical_shape : (e : Endian) (node : NodeRef) → canonical e node ≡ header_bytes e (nodetype_to node) (size_of node) ++ back_of e node
-unfolding canonical_entry entry_front canonical_inode inode_front object_bytes range_bytes header_bytes bytes_in back_of nodetype_to size_of
+unfolding canonical_entry entry_front canonical_inode inode_front object_bytes time_bytes range_bytes header_bytes bytes_in back_of nodetype_to size_of
 canonical_shape Little (Entry d) = refl
 canonical_shape Little (Inode n) = refl
 canonical_shape Big (Entry d) = refl
@@ -378,7 +420,7 @@ canonical_is_tile e node rest small =
     a_tile e (nodetype_to node) (length (canonical e node)) (canonical e node) rest refl (canonical_long e node) (canonical_header e node rest small)
 
 pub canonical_is_not_erased : (e : Endian) (node : NodeRef) → slice_index (canonical e node) 0 ≢ 0xFF
-unfolding canonical_entry entry_front canonical_inode inode_front object_bytes range_bytes header_bytes bytes_in
+unfolding canonical_entry entry_front canonical_inode inode_front object_bytes time_bytes range_bytes header_bytes bytes_in
 canonical_is_not_erased Little (Entry d) same = omega arith
 canonical_is_not_erased Little (Inode n) same = omega arith
 canonical_is_not_erased Big (Entry d) same = omega arith

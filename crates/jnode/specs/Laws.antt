@@ -1,7 +1,8 @@
 -- Laws of the format. Each is a statement: it holds since a public function's contract names it.
-use Rattle.std.specs.Prelude.{◌≡◌, ◌≢◌, ◌↔◌, ◌+◌, ◌<◌, ◌≤◌, ◌*◌, ◌%◌, ℕ, IsTrue, false, Option, Some, List, ◌++◌, length, take, drop, slice_index}
+use Rattle.std.specs.Prelude.{◌≡◌, ◌≢◌, ◌↔◌, ◌+◌, ◌<◌, ◌≤◌, ◌*◌, ◌%◌, ◌^◌, ℕ, IsTrue, false, Option, Some, List, ◌++◌, length, take, drop, slice_index}
 use Rattle.flashbase.specs.Bytes.{pad4_of, erased}
 use Rattle.flashbase.specs.Ranges.{AreBytes, IsWord}
+use Rattle.jnode.specs.Order.{number_in, number_at, bytes_in}
 use Rattle.jnode.specs.Header.{IsGood, header_len, header_of, has_header, is_good, totlen_of}
 use Rattle.jnode.specs.Reading.{Reads, seen_of, node_in, tile_of}
 use Rattle.jnode.specs.Writing.{canonical, clean_marker, padding_node, filled, Fits, HoldsBytes, IsWritable, is_writable, totlen_most}
@@ -10,6 +11,19 @@ use Rattle.jnode.specs.declared.order.Endian.{Endian}
 use Rattle.jnode.specs.declared.node.NodeRef.{NodeRef}
 use Rattle.jnode.specs.declared.node.Damage.{Damage}
 use Rattle.jnode.specs.declared.node.Seen.TheVariants.{Marker, Padding, Damaged}
+
+-- ---- numbers
+
+-- a number that fits n bytes is what stands in its n bytes
+abbrev pub NumberReadsBack : Type 0
+NumberReadsBack = (e : Endian) (n x : ℕ) (rest : List ℕ) → x < 256 ^ n → number_in e n (bytes_in e n x ++ rest) ≡ x
+
+-- and the bytes at a place are those of the number that stands there
+pub record NumberIsSpelled : Type 0 where
+  pub of_2 : (e : Endian) (place : ℕ) (bytes : List ℕ) → AreBytes bytes → place + 2 ≤ length bytes
+      → take 2 (drop place bytes) ≡ bytes_in e 2 (number_at e 2 place bytes)
+  pub of_4 : (e : Endian) (place : ℕ) (bytes : List ℕ) → AreBytes bytes → place + 4 ≤ length bytes
+      → take 4 (drop place bytes) ≡ bytes_in e 4 (number_at e 4 place bytes)
 
 -- ---- headers
 

@@ -77,3 +77,7 @@ entry_written = record new_file { version = 2; isize = 41; dsize = 41; fill = Da
 -- the same with a data_crc of 0, which is not that of the data
 abbrev pub hidden_entry : List ℕ
 hidden_entry = inode_front Little entry_written ++ bytes_in Little 4 0 ++ bytes_in Little 4 (crc_of (inode_front Little entry_written)) ++ entry_a
+
+-- a write whose data have the checksum of five erased bytes
+abbrev pub weak_write : InodeNode
+weak_write = record new_file { version = 2; isize = 5; dsize = 5; fill = Data (0xBE ∷ 0xF9 ∷ 0x8E ∷ 0x24 ∷ 0xFE ∷ []) }

@@ -52,11 +52,14 @@ abbrev pub held_compr : Fill → ℕ
 held_compr Zero = 1
 held_compr (Data bytes) = 0
 
--- what an inode node says of its object
+-- whose version an inode node is, and its attributes
 unfoldable pub object_bytes : Endian → InodeNode → List ℕ
 object_bytes e inode =
     bytes_in e 4 inode.ino ++ bytes_in e 4 inode.version ++ bytes_in e 4 inode.mode ++ bytes_in e 2 inode.uid ++ bytes_in e 2 inode.gid
-    ++ bytes_in e 4 inode.isize ++ bytes_in e 4 inode.atime ++ bytes_in e 4 inode.mtime ++ bytes_in e 4 inode.ctime
+
+-- its size and times
+unfoldable pub time_bytes : Endian → InodeNode → List ℕ
+time_bytes e inode = bytes_in e 4 inode.isize ++ bytes_in e 4 inode.atime ++ bytes_in e 4 inode.mtime ++ bytes_in e 4 inode.ctime
 
 -- its range, and how it holds the bytes of it; usercompr and flags are 0
 unfoldable pub range_bytes : Endian → InodeNode → List ℕ
@@ -66,7 +69,7 @@ range_bytes e inode =
 
 -- the bytes of an inode node that its node_crc covers
 unfoldable pub inode_front : Endian → InodeNode → List ℕ
-inode_front e inode = header_bytes e inode_type (inode_len + length (held_bytes inode.fill)) ++ object_bytes e inode ++ range_bytes e inode
+inode_front e inode = header_bytes e inode_type (inode_len + length (held_bytes inode.fill)) ++ object_bytes e inode ++ time_bytes e inode ++ range_bytes e inode
 
 -- An inode node: those bytes, the checksum of the bytes that it holds, its node_crc, and the bytes that it holds.
 unfoldable pub canonical_inode : Endian → InodeNode → List ℕ

@@ -4,11 +4,22 @@ ghost use Rattle.std.specs.Prelude.{◌≡◌, ◌++◌, length, true, false};
 ghost use Rattle.jnode.specs.Header.{is_good};
 ghost use Rattle.jnode.specs.Reading.{marker_type, xattr_type, summary_type, seen_of};
 ghost use Rattle.jnode.specs.Writing.{header_bytes, clean_marker, padding_node, canonical_entry, canonical_inode, filled};
-ghost use Rattle.jnode.specs.Vectors.{little_marker, big_marker, entry_a, entry_a_big, obsolete_a, inode_2, no_length, length_13, named_a, new_file, hidden_entry};
-ghost use Rattle.jnode.specs.Laws.{GoodIsComputed, HeaderIsTwelveBytes, ErasedIsNotGood, ReadsOne, WritableIsComputed, WrittenReads, WrittenIsTile, WrittenIsNotErased, MarkerIsTile, PaddingIsTile, TornHeaderIsNone, TornNodeIsDamaged, TornIsTile, CutBehindKeepsHeader, TornMarkerIsNone, SeenIsRead, SeenFits};
+ghost use Rattle.jnode.specs.Vectors.{little_marker, big_marker, entry_a, entry_a_big, obsolete_a, inode_2, no_length, length_13, named_a, new_file, hidden_entry, weak_write};
+ghost use Rattle.jnode.specs.Weak.{is_weak};
+ghost use Rattle.jnode.specs.Laws.{NumberReadsBack, NumberIsSpelled, GoodIsComputed, HeaderIsTwelveBytes, ErasedIsNotGood, ReadsOne, WritableIsComputed, WrittenReads, WrittenIsTile, WrittenIsNotErased, MarkerIsTile, PaddingIsTile, TornHeaderIsNone, TornNodeIsDamaged, TornIsTile, CutBehindKeepsHeader, TornMarkerIsNone, SeenIsRead, SeenFits};
 
 use crate::node::{Damage, Seen};
 use crate::order::Endian;
+
+/// A number that fits its bytes is what stands in them.
+pub fn number_reads_back()
+    ensures { NumberReadsBack }
+{}
+
+/// The bytes at a place are those of the number that stands there.
+pub fn number_is_spelled()
+    ensures { NumberIsSpelled }
+{}
 
 /// Whether a header is good is computed.
 #[tactic(auto, using(crate::proofs::HeaderLemmas::good_is_computed))]
@@ -104,7 +115,7 @@ pub fn torn_marker_is_none()
 // ---- worked examples, which the definitions compute
 
 /// The written form of known nodes.
-#[tactic(auto, unfolding(crate::specs::Order::bytes_in, crate::specs::Writing::header_bytes, crate::specs::Writing::entry_front, crate::specs::Writing::canonical_entry, crate::specs::Writing::object_bytes, crate::specs::Writing::range_bytes, crate::specs::Writing::inode_front, crate::specs::Writing::canonical_inode, flashbase::specs::Crc::crc_after, flashbase::specs::Crc::push_byte, flashbase::specs::Crc::push_bits, flashbase::specs::Crc::push_bit))]
+#[tactic(auto, unfolding(crate::specs::Order::bytes_in, crate::specs::Writing::header_bytes, crate::specs::Writing::entry_front, crate::specs::Writing::canonical_entry, crate::specs::Writing::object_bytes, crate::specs::Writing::time_bytes, crate::specs::Writing::range_bytes, crate::specs::Writing::inode_front, crate::specs::Writing::canonical_inode, flashbase::specs::Crc::crc_after, flashbase::specs::Crc::push_byte, flashbase::specs::Crc::push_bits, flashbase::specs::Crc::push_bit))]
 pub fn known_forms()
     ensures little_marker { clean_marker Endian.Little ≡ little_marker }
     ensures big_marker { clean_marker Endian.Big ≡ big_marker }
@@ -150,9 +161,18 @@ pub fn known_types()
 {}
 
 /// Data that fail their check hide the node in them.
-#[tactic(auto, unfolding(crate::specs::Order::bytes_in, crate::specs::Writing::header_bytes, crate::specs::Writing::entry_front, crate::specs::Writing::canonical_entry, crate::specs::Writing::object_bytes, crate::specs::Writing::range_bytes, crate::specs::Writing::inode_front, crate::specs::Writing::canonical_inode, crate::specs::Order::number_in, crate::specs::Header::header_crc_of, crate::specs::Header::has_header, crate::specs::Header::is_good_front, crate::specs::Header::is_good, flashbase::specs::Bytes::pad4_of, crate::specs::Reading::seen_of, crate::specs::Reading::entry_seen, crate::specs::Reading::inode_seen, crate::specs::Reading::plain_seen, crate::specs::Reading::other_seen, crate::specs::Reading::held_seen, crate::specs::Reading::is_entry_long, crate::specs::Reading::is_crc_right, crate::specs::Reading::is_size_right, crate::specs::Reading::is_entry_in_range, crate::specs::Reading::is_inode_long, crate::specs::Reading::is_inode_in_range, crate::specs::Reading::is_data_crc_right, flashbase::specs::Crc::crc_after, flashbase::specs::Crc::push_byte, flashbase::specs::Crc::push_bits, flashbase::specs::Crc::push_bit))]
+#[tactic(auto, unfolding(crate::specs::Order::bytes_in, crate::specs::Writing::header_bytes, crate::specs::Writing::entry_front, crate::specs::Writing::canonical_entry, crate::specs::Writing::object_bytes, crate::specs::Writing::time_bytes, crate::specs::Writing::range_bytes, crate::specs::Writing::inode_front, crate::specs::Writing::canonical_inode, crate::specs::Order::number_in, crate::specs::Header::header_crc_of, crate::specs::Header::has_header, crate::specs::Header::is_good_front, crate::specs::Header::is_good, flashbase::specs::Bytes::pad4_of, crate::specs::Reading::seen_of, crate::specs::Reading::entry_seen, crate::specs::Reading::inode_seen, crate::specs::Reading::plain_seen, crate::specs::Reading::other_seen, crate::specs::Reading::held_seen, crate::specs::Reading::is_entry_long, crate::specs::Reading::is_crc_right, crate::specs::Reading::is_size_right, crate::specs::Reading::is_entry_in_range, crate::specs::Reading::is_inode_long, crate::specs::Reading::is_inode_in_range, crate::specs::Reading::is_data_crc_right, flashbase::specs::Crc::crc_after, flashbase::specs::Crc::push_byte, flashbase::specs::Crc::push_bits, flashbase::specs::Crc::push_bit))]
 pub fn known_damage()
     ensures seen { seen_of Endian.Little (filled hidden_entry) ≡ Seen.Damaged Damage.DataCrc }
     ensures good { is_good Endian.Little (filled hidden_entry) ≡ true }
     ensures bytes { length hidden_entry ≡ 109 }
+{}
+
+/// A cut that no check shows: the data have the checksum of five erased bytes.
+#[tactic(auto, unfolding(crate::specs::Weak::is_weak, crate::specs::Weak::has_bounded_header, crate::specs::Order::bytes_in, crate::specs::Writing::header_bytes, crate::specs::Writing::entry_front, crate::specs::Writing::canonical_entry, crate::specs::Writing::object_bytes, crate::specs::Writing::time_bytes, crate::specs::Writing::range_bytes, crate::specs::Writing::inode_front, crate::specs::Writing::canonical_inode, crate::specs::Order::number_in, crate::specs::Header::header_crc_of, crate::specs::Header::has_header, crate::specs::Header::is_good_front, crate::specs::Header::is_good, flashbase::specs::Bytes::pad4_of, crate::specs::Reading::seen_of, crate::specs::Reading::entry_seen, crate::specs::Reading::inode_seen, crate::specs::Reading::plain_seen, crate::specs::Reading::other_seen, crate::specs::Reading::held_seen, crate::specs::Reading::is_entry_long, crate::specs::Reading::is_crc_right, crate::specs::Reading::is_size_right, crate::specs::Reading::is_entry_in_range, crate::specs::Reading::is_inode_long, crate::specs::Reading::is_inode_in_range, crate::specs::Reading::is_data_crc_right, flashbase::specs::Crc::crc_after, flashbase::specs::Crc::push_byte, flashbase::specs::Crc::push_bits, flashbase::specs::Crc::push_bit))]
+pub fn known_cuts()
+    ensures before { is_weak Endian.Little (canonical_inode Endian.Little weak_write) 67 ≡ false }
+    ensures at { is_weak Endian.Little (canonical_inode Endian.Little weak_write) 68 ≡ true }
+    ensures torn { is_weak Endian.Little (canonical_inode Endian.Little weak_write) 69 ≡ false }
+    ensures whole { is_weak Endian.Little (canonical_inode Endian.Little weak_write) 73 ≡ false }
 {}

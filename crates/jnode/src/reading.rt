@@ -13,6 +13,12 @@ use crate::node::{Damage, Dirent, Fill, InodeNode, Seen};
 use crate::order::{Order, byte_in, u16_in, u32_in, whole};
 use flashbase::{Part, pad4};
 
+fn damaged<'a>(which: Damage) -> Seen<'a>
+    ensures { result ≡ Seen.Damaged which }
+{
+    Seen::Damaged { which }
+}
+
 fn dirent<'a, E: Order>(tile: &Part<'a>) -> Dirent<'a>
     requires { entry_len + nsize_of tile.now ≤ length tile.now }
     ensures { result ≡ dirent_of E.order tile.now }
@@ -80,30 +86,20 @@ fn entry_seen<'a, E: Order>(tile: &Part<'a>) -> Seen<'a>
     ensures { result ≡ entry_seen E.order tile.now }
 {
     if !is_entry_long::<E>(tile) {
-        return Seen::Damaged {
-            which: Damage::Length,
-        };
+        return damaged(Damage::Length);
     }
     if !is_crc_right::<E>(tile, entry::NODE_CRC, 0, entry::NODE_CRC) {
-        return Seen::Damaged {
-            which: Damage::NodeCrc,
-        };
+        return damaged(Damage::NodeCrc);
     }
     let nsize = byte_in(tile, entry::NSIZE);
     if !is_size_right::<E>(tile, entry::LEN as u64 + u64::from(nsize)) {
-        return Seen::Damaged {
-            which: Damage::Length,
-        };
+        return damaged(Damage::Length);
     }
     if !is_entry_in_range::<E>(tile) {
-        return Seen::Damaged {
-            which: Damage::Range,
-        };
+        return damaged(Damage::Range);
     }
     if !is_crc_right::<E>(tile, entry::NAME_CRC, entry::LEN, usize::from(nsize)) {
-        return Seen::Damaged {
-            which: Damage::NameCrc,
-        };
+        return damaged(Damage::NameCrc);
     }
     Seen::Entry(dirent::<E>(tile))
 }
@@ -186,32 +182,22 @@ fn inode_seen<'a, E: Order>(tile: &Part<'a>) -> Seen<'a>
     ensures { result ≡ inode_seen E.order tile.now }
 {
     if !is_inode_long::<E>(tile) {
-        return Seen::Damaged {
-            which: Damage::Length,
-        };
+        return damaged(Damage::Length);
     }
     if !is_crc_right::<E>(tile, inode::NODE_CRC, 0, inode::COVERED) {
-        return Seen::Damaged {
-            which: Damage::NodeCrc,
-        };
+        return damaged(Damage::NodeCrc);
     }
     if !is_size_right::<E>(
         tile,
         inode::LEN as u64 + u64::from(u32_in::<E>(tile, inode::CSIZE)),
     ) {
-        return Seen::Damaged {
-            which: Damage::Length,
-        };
+        return damaged(Damage::Length);
     }
     if !is_inode_in_range::<E>(tile) {
-        return Seen::Damaged {
-            which: Damage::Range,
-        };
+        return damaged(Damage::Range);
     }
     if !is_data_crc_right::<E>(tile) {
-        return Seen::Damaged {
-            which: Damage::DataCrc,
-        };
+        return damaged(Damage::DataCrc);
     }
     held_seen::<E>(tile)
 }

@@ -259,7 +259,7 @@ fn headers(rt: HostRuntime) {
     assert!(rt; header_at::<LittleEndian>(&no_length()).is_none());
     assert!(rt; header_at::<LittleEndian>(&length_13()).is_none());
     assert!(rt; header_in::<LittleEndian>(&cut_after(&length_13(), 12)).is_none());
-    let longer = header_in::<LittleEndian>(&cut_after(&length_13_filled(), 12));
+    let longer = header_in::<LittleEndian>(&cut_after(&length_13_and_more(), 12));
     assert_eq!(rt;
         longer,
         Some(Header {

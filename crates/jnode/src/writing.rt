@@ -2,10 +2,11 @@
 
 ghost use Rattle.std.specs.Prelude.{◌≡◌, ◌≢◌, ◌≤◌, ◌<◌, ◌^◌, ◌+◌, ◌++◌, ◌↔◌, ◌⊎◌, IsTrue, length, drop, vec_len, vec_capacity, OnOk, OnErr};
 ghost use Rattle.flashbase.specs.Crc.{crc_of};
+ghost use Rattle.flashbase.specs.Ranges.{IsHalf, IsWord};
 ghost use Rattle.jnode.specs.Order.{bytes_in};
 ghost use Rattle.jnode.specs.Header.{header_len};
 ghost use Rattle.jnode.specs.Reading.{entry_len, inode_len};
-ghost use Rattle.jnode.specs.Writing.{header_bytes, entry_front, canonical_entry, object_bytes, range_bytes, inode_front, canonical_inode, clean_marker, padding_node, held_bytes, held_compr, totlen_most, FitsEntry, FitsInode, HasNameLength, HoldsRange, IsWritableEntry, IsWritableInode};
+ghost use Rattle.jnode.specs.Writing.{header_bytes, entry_front, canonical_entry, object_bytes, time_bytes, range_bytes, inode_front, canonical_inode, clean_marker, padding_node, held_bytes, held_compr, totlen_most, FitsEntry, FitsInode, HasNameLength, HoldsRange, IsWritableEntry, IsWritableInode};
 
 use crate::layout::{MAGIC, TOTLEN_MOST, compr, entry, header, inode, nodetype};
 use crate::node::{Dirent, Fill, InodeNode};
@@ -176,16 +177,38 @@ fn put_held(out: &mut Vec<u8>, fill: &Fill<'_>)
 
 #[tactic(auto, unfolding(crate::specs::Writing::object_bytes))]
 fn put_object<E: Order>(out: &mut Vec<u8>, node: &InodeNode<'_>)
-    requires { vec_len out.old + 32 ≤ vec_capacity out.old }
+    requires { vec_len out.old + 16 ≤ vec_capacity out.old }
     ensures items { out.new.items ≡ out.old.items ++ object_bytes E.order node.now }
-    ensures len { vec_len out.new ≡ vec_len out.old + 32 }
+    ensures len { vec_len out.new ≡ vec_len out.old + 16 }
     ensures capacity { vec_capacity out.old ≤ vec_capacity out.new }
+
+    // What the types of its fields say.
+    ensures ino { IsWord node.now.ino }
+    ensures version { IsWord node.now.version }
+    ensures mode { IsWord node.now.mode }
+    ensures uid { IsHalf node.now.uid }
+    ensures gid { IsHalf node.now.gid }
 {
     put_u32::<E>(out, node.ino);
     put_u32::<E>(out, node.version);
     put_u32::<E>(out, node.mode);
     put_u16::<E>(out, node.uid);
     put_u16::<E>(out, node.gid);
+}
+
+#[tactic(auto, unfolding(crate::specs::Writing::time_bytes))]
+fn put_times<E: Order>(out: &mut Vec<u8>, node: &InodeNode<'_>)
+    requires { vec_len out.old + 16 ≤ vec_capacity out.old }
+    ensures items { out.new.items ≡ out.old.items ++ time_bytes E.order node.now }
+    ensures len { vec_len out.new ≡ vec_len out.old + 16 }
+    ensures capacity { vec_capacity out.old ≤ vec_capacity out.new }
+
+    // What the types of its fields say.
+    ensures isize { IsWord node.now.isize }
+    ensures atime { IsWord node.now.atime }
+    ensures mtime { IsWord node.now.mtime }
+    ensures ctime { IsWord node.now.ctime }
+{
     put_u32::<E>(out, node.isize);
     put_u32::<E>(out, node.atime);
     put_u32::<E>(out, node.mtime);
@@ -199,6 +222,10 @@ fn put_range<E: Order>(out: &mut Vec<u8>, node: &InodeNode<'_>)
     ensures items { out.new.items ≡ out.old.items ++ range_bytes E.order node.now }
     ensures len { vec_len out.new ≡ vec_len out.old + 16 }
     ensures capacity { vec_capacity out.old ≤ vec_capacity out.new }
+
+    // What the types of its fields say.
+    ensures offset { IsWord node.now.offset }
+    ensures dsize { IsWord node.now.dsize }
 {
     let csize = held_len(&node.fill) as u32;
     put_u32::<E>(out, node.offset);
@@ -214,10 +241,12 @@ fn put_inode_front<E: Order>(out: &mut Vec<u8>, node: &InodeNode<'_>)
     ensures items { out.new.items ≡ out.old.items ++ inode_front E.order node.now }
     ensures len { vec_len out.new ≡ vec_len out.old + 60 }
     ensures capacity { vec_capacity out.old ≤ vec_capacity out.new }
+    ensures fits { FitsInode node.now }
 {
     let csize = held_len(&node.fill) as u32;
     put_header::<E>(out, nodetype::INODE, inode::LEN as u32 + csize);
     put_object::<E>(out, node);
+    put_times::<E>(out, node);
     put_range::<E>(out, node);
 }
 
@@ -229,38 +258,12 @@ fn crc_since(out: &Vec<u8>, start: usize) -> u32
     crc(&out[start..])
 }
 
-// What the types of the fields say.
-fn object_fits(node: &InodeNode<'_>)
-    ensures ino { node.now.ino < 2 ^ 32 }
-    ensures version { node.now.version < 2 ^ 32 }
-    ensures mode { node.now.mode < 2 ^ 32 }
-    ensures uid { node.now.uid < 2 ^ 16 }
-    ensures gid { node.now.gid < 2 ^ 16 }
-{
-    let _ino = node.ino;
-    let _version = node.version;
-    let _mode = node.mode;
-    let _uid = node.uid;
-    let _gid = node.gid;
-}
-
-fn times_fit(node: &InodeNode<'_>)
-    ensures isize { node.now.isize < 2 ^ 32 }
-    ensures atime { node.now.atime < 2 ^ 32 }
-    ensures mtime { node.now.mtime < 2 ^ 32 }
-    ensures ctime { node.now.ctime < 2 ^ 32 }
-{
-    let _isize = node.isize;
-    let _atime = node.atime;
-    let _mtime = node.mtime;
-    let _ctime = node.ctime;
-}
-
 #[tactic(auto, unfolding(crate::specs::Writing::canonical_inode))]
 fn put_inode<E: Order>(out: &mut Vec<u8>, node: &InodeNode<'_>)
     requires room { vec_len out.old + (inode_len + length (held_bytes node.now.fill)) ≤ vec_capacity out.old }
     requires long { inode_len + length (held_bytes node.now.fill) ≤ totlen_most }
-    ensures { out.new.items ≡ out.old.items ++ canonical_inode E.order node.now }
+    ensures items { out.new.items ≡ out.old.items ++ canonical_inode E.order node.now }
+    ensures fits { FitsInode node.now }
 {
     let start = out.len();
     put_inode_front::<E>(out, node);
@@ -307,8 +310,6 @@ pub fn write_inode<E: Order>(out: &mut Vec<u8>, node: &InodeNode<'_>) -> Result<
     let size = inode::LEN + held_len(&node.fill);
     out.reserve(size).map_err(|_| WriteFault::OutOfMemory)?;
     put_inode::<E>(out, node);
-    object_fits(node);
-    times_fit(node);
     Ok(())
 }
 

@@ -1,0 +1,5 @@
+pub mod WordLemmas
+pub mod StretchLemmas
+pub mod PutLemmas
+pub mod BlockLemmas
+pub mod FaultLemmas

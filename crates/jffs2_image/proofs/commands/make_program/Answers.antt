@@ -1,0 +1,11 @@
+use Rattle.std.proofs.Common.{ap, ap₂, ◌∙◌}
+use Rattle.clap.specs.Words.{App, with_subcommand}
+use Rattle.jffs2_image.specs.Commands.{program}
+use Rattle.jffs2_image.proofs.commands.make_program.Goals as goal
+
+pub returns-clause-app : goal.returns-clause-app
+unfolding program
+returns-clause-app c =
+    let top = λ (a : App). a.top in
+    c.in_ok-command.ensures.shape c.in_ok-make_check.ensures.local
+    ∙ ap₂ with_subcommand c.make_bare.ensures.app (ap top c.in_ok-make_check.ensures.app)

@@ -1,0 +1,21 @@
+use Rattle.std.proofs.Common.{refl}
+use Rattle.clap.proofs.OnLiterals.{clap_on_literals}
+use Rattle.jffs2_image.specs.Asked.{asked, asked_for}
+use Rattle.jffs2_image.specs.Commands.{program}
+use Rattle.jffs2_image.proofs.laws.known_refusals.Goals as goal
+
+pub returns-clause-help : goal.returns-clause-help
+unfolding clap_on_literals program asked asked_for
+returns-clause-help c = refl
+
+pub returns-clause-no_words : goal.returns-clause-no_words
+unfolding clap_on_literals program asked asked_for
+returns-clause-no_words c = refl
+
+pub returns-clause-no_scan : goal.returns-clause-no_scan
+unfolding clap_on_literals program asked asked_for
+returns-clause-no_scan c = refl
+
+pub returns-clause-unreadable : goal.returns-clause-unreadable
+unfolding clap_on_literals program asked asked_for
+returns-clause-unreadable c = refl

@@ -1,0 +1,13 @@
+use Rattle.std.proofs.Common.{refl}
+use Rattle.clap.proofs.OnLiterals.{clap_on_literals}
+use Rattle.jffs2_image.specs.Asked.{asked, asked_for}
+use Rattle.jffs2_image.specs.Commands.{program}
+use Rattle.jffs2_image.proofs.laws.known_requests.Goals as goal
+
+pub returns-clause-defaults : goal.returns-clause-defaults
+unfolding clap_on_literals program asked asked_for
+returns-clause-defaults c = refl
+
+pub returns-clause-given : goal.returns-clause-given
+unfolding clap_on_literals program asked asked_for
+returns-clause-given c = refl

@@ -1,0 +1,32 @@
+-- The command line, as clap sees it: the program, its subcommands, and the words that each one takes.
+use Rattle.std.specs.Prelude.{true, [], ◌∷◌, Some, codes}
+use Rattle.clap.specs.Words.{App, Rule, Text, new_app, new_rule, with_rule, with_subcommand}
+use Rattle.clap.specs.declared.builder.action.ArgAction.TheVariants.{SetTrue}
+
+-- a word that has to be there
+abbrev pub word : Text → Rule
+word id = record (new_rule id) { required = true }
+
+-- an option with a value, and the value that stands for it where it is not given
+abbrev pub option_or : Text → Text → Rule
+option_or id default = record (new_rule id) { long = Some id; value_names = 1; defaults = default ∷ [] }
+
+-- a flag that has to be there
+abbrev pub needed_flag : Text → Rule
+needed_flag id = record (new_rule id) { long = Some id; action = Some SetTrue; required = true }
+
+-- a subcommand with the options that each one has
+abbrev pub plain : Text → App
+plain name = with_rule (with_rule (new_app name) (option_or (codes "block") (codes "65536")))
+    (option_or (codes "endian") (codes "little"))
+
+-- `check --scan [--block N] [--endian ORDER] IMAGE`
+abbrev pub check_app : App
+check_app = with_rule (with_rule (plain (codes "check")) (needed_flag (codes "scan"))) (word (codes "IMAGE"))
+
+-- the program without its subcommands, of which one has to be named
+abbrev pub bare : App
+bare = let app = new_app (codes "jffs2_image") in record app { top = record app.top { subcommand_required = true } }
+
+unfoldable pub program : App
+program = with_subcommand bare check_app.top

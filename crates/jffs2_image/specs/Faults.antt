@@ -1,0 +1,61 @@
+-- The texts of faults: a number and a name, and then the parts.
+use Rattle.std.specs.Prelude.{ℕ, List, [], ◌∷◌, ◌++◌, Option, codes, decimal}
+use Rattle.std.specs.Io.KnownBytes.{Appends}
+use Rattle.flashbase.specs.declared.source.LoadFault.{LoadFault}
+use Rattle.flashbase.specs.declared.source.LoadFault.TheVariants as load
+use Rattle.jscan.specs.declared.geometry.ScanFault.{ScanFault}
+use Rattle.jscan.specs.declared.geometry.ScanFault.TheVariants as scan
+use Rattle.jffs2_image.specs.Words.{hex}
+use Rattle.jffs2_image.specs.declared.report_fault.ReportFault.{ReportFault}
+use Rattle.jffs2_image.specs.declared.report_fault.ReportFault.TheVariants as report
+use Rattle.jffs2_image.specs.declared.faults.ProgramFault.{ProgramFault}
+use Rattle.jffs2_image.specs.declared.faults.ProgramFault.TheVariants as program
+
+unfoldable pub load_text : LoadFault → List ℕ
+load_text load.Device = codes "L1 Device"
+load_text load.TooLarge = codes "L2 TooLarge"
+load_text load.OutOfMemory = codes "L3 OutOfMemory"
+
+-- at an address
+abbrev pub at_text : ℕ → List ℕ
+at_text addr = codes " at " ++ hex 8 addr
+
+unfoldable pub scan_fault_text : ScanFault → List ℕ
+scan_fault_text scan.BlockSize = codes "C1 BlockSize"
+scan_fault_text scan.TooLarge = codes "C2 TooLarge"
+scan_fault_text (scan.Incompatible addr nodetype) = codes "C3 Incompatible" ++ at_text addr ++ codes " type " ++ hex 4 nodetype
+scan_fault_text (scan.Compressed addr compr) = codes "C4 Compressed" ++ at_text addr ++ codes " compr " ++ decimal compr
+scan_fault_text scan.OutOfMemory = codes "C5 OutOfMemory"
+
+unfoldable pub fault_text_of : ProgramFault → List ℕ
+fault_text_of (program.Load fault) = load_text fault
+fault_text_of (program.Scan fault) = scan_fault_text fault
+fault_text_of (program.File name) = codes "P1 File " ++ name.now
+fault_text_of program.Output = codes "P5 Output"
+fault_text_of program.OutOfMemory = codes "P6 OutOfMemory"
+
+-- the line on standard error
+unfoldable pub fault_line_of : ProgramFault → List ℕ
+fault_line_of fault = codes "jffs2_image: " ++ (fault_text_of fault ++ 10 ∷ [])
+
+-- the faults of a scan: of the image's file, of its geometry, of memory, of what is printed
+abbrev pub IsFaultOfScan : ProgramFault → Type 0
+IsFaultOfScan (program.Load fault) = Unit {0}
+IsFaultOfScan (program.Scan scan.BlockSize) = Unit {0}
+IsFaultOfScan (program.Scan scan.OutOfMemory) = Unit {0}
+IsFaultOfScan program.Output = Unit {0}
+IsFaultOfScan _ = ⊥
+
+-- the image was not read
+abbrev pub IsFaultOfLoad : ProgramFault → Type 0
+IsFaultOfLoad (program.Load fault) = Unit {0}
+IsFaultOfLoad _ = ⊥
+
+-- the program's fault that a report's fault is
+abbrev pub fault_of_report : ReportFault → ProgramFault
+fault_of_report (report.Scan fault) = program.Scan fault
+fault_of_report report.Output = program.Output
+
+-- the line of a fault went out
+abbrev pub TellsFault : Option (List ℕ) → Option (List ℕ) → Type 0
+TellsFault old new = (fault : ProgramFault) × Appends old new (fault_line_of fault)

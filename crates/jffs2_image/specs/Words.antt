@@ -1,0 +1,28 @@
+-- How numbers, names and lines are spelled in what the program prints.
+use Rattle.std.specs.Prelude.{ℕ, zero, suc, ◌/◌, ◌%◌, ◌==◌, ◌&&◌, not, Bool, false, nat_lt, nat_le, ◌+◌, List, [], ◌∷◌, ◌++◌, if◌then◌else◌}
+use Rattle.std.specs.List.{flat_map}
+use Rattle.std.specs.Fmt.{radix_digits}
+
+-- a lower-case hexadecimal digit
+abbrev pub hex_digit : ℕ → ℕ
+hex_digit d = if nat_lt d 10 then 48 + d else 87 + d
+
+-- the last k hexadecimal digits of n
+unfoldable pub hex : ℕ → ℕ → List ℕ
+hex zero n = []
+hex (suc k) n = hex k (n / 16) ++ hex_digit (n % 16) ∷ []
+
+-- a number in octal digits, with no zero in front
+abbrev pub octal : ℕ → List ℕ
+octal n = radix_digits 8 false n
+
+-- a byte that stands for itself: one that is seen, and is neither a backslash nor a slash
+abbrev pub is_plain : ℕ → Bool
+is_plain b = nat_le 0x21 b && nat_le b 0x7E && not (b == 92) && not (b == 47)
+
+-- any other byte is `\x` and its two hexadecimal digits
+abbrev pub escaped_byte : ℕ → List ℕ
+escaped_byte b = if is_plain b then b ∷ [] else 92 ∷ 120 ∷ hex_digit (b / 16) ∷ hex_digit (b % 16) ∷ []
+
+abbrev pub escaped : List ℕ → List ℕ
+escaped bytes = flat_map escaped_byte bytes

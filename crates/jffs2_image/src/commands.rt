@@ -1,0 +1,132 @@
+//! The command line, built with clap: the program, its subcommands, and the words that each one takes.
+ghost use Rattle.std.specs.Prelude.{◌≡◌, false, IfOk};
+ghost use Rattle.clap.specs.Words.{app_of, new_app, rule_of};
+ghost use Rattle.clap.specs.declared.builder.Command.TheViews.{out-Command as fields_of};
+ghost use Rattle.jffs2_image.specs.Commands.{word, option_or, needed_flag, plain, check_app, bare, program};
+
+use clap::{Arg, ArgAction, Command};
+use std::alloc::{AllocError, Global};
+
+const PROGRAM: &str = "Reads flash images of JFFS2, a file system that is a log of nodes.";
+
+const CHECK: &str = "Print the tiles of an image and what is wrong with them";
+
+/// What stands at the end of each help.
+const EPILOGUE: &str = "\
+Example:
+  jffs2_image check --scan --endian little --block 65536 flash.img
+
+Exit status:
+  0  done, and nothing was found
+  1  a fault, which standard error names
+  2  the command line is wrong
+  3  check found something";
+
+/// A word that has to be there.
+fn make_word<'a>(alloc: Global, id: &'a str, help: &'a str) -> Arg<'a>
+    ensures rule { rule_of result ≡ word id.now }
+    ensures local { result.global ≡ false }
+{
+    Arg::new(alloc, id).required(true).help(help)
+}
+
+/// An option with a value that may be left out.
+fn make_option<'a>(
+    alloc: Global,
+    id: &'a str,
+    value: &'a str,
+    default: &'a str,
+    help: &'a str,
+) -> Arg<'a>
+    ensures rule { rule_of result ≡ option_or id.now default.now }
+    ensures local { result.global ≡ false }
+{
+    Arg::new(alloc, id)
+        .long(id)
+        .value_name(value)
+        .default_value(default)
+        .help(help)
+}
+
+/// A flag that has to be there.
+fn make_needed_flag<'a>(alloc: Global, id: &'a str, help: &'a str) -> Arg<'a>
+    ensures rule { rule_of result ≡ needed_flag id.now }
+    ensures local { result.global ≡ false }
+{
+    Arg::new(alloc, id)
+        .long(id)
+        .action(ArgAction::SetTrue)
+        .required(true)
+        .help(help)
+}
+
+/// A command without words, with the texts at the top and at the end of its help.
+fn make_named<'a>(alloc: Global, name: &'a str, about: &'a str, after: &'a str) -> Command<'a>
+    ensures app { app_of result ≡ new_app name.now }
+    ensures local { (fields_of result).has_globals ≡ false }
+{
+    Command::new(alloc, name).about(about).after_help(after)
+}
+
+/// A subcommand with the options that each one has.
+fn make_plain<'a>(
+    alloc: Global,
+    name: &'a str,
+    about: &'a str,
+    after: &'a str,
+) -> Result<Command<'a>, AllocError>
+    ensures app { IfOk result (λ c. app_of c ≡ plain name.now) }
+    ensures local { IfOk result (λ c. (fields_of c).has_globals ≡ false) }
+{
+    let block = make_option(
+        alloc,
+        "block",
+        "N",
+        "65536",
+        "Size of a block in bytes: a multiple of 4 from 4096 to 4194304",
+    );
+    let endian = make_option(
+        alloc,
+        "endian",
+        "ORDER",
+        "little",
+        "Byte order of the image: little or big",
+    );
+    let command = make_named(alloc, name, about, after)
+        .arg(block)?
+        .arg(endian)?;
+    Ok(command)
+}
+
+fn make_check<'a>(alloc: Global) -> Result<Command<'a>, AllocError>
+    ensures app { IfOk result (λ c. app_of c ≡ check_app) }
+    ensures local { IfOk result (λ c. (fields_of c).has_globals ≡ false) }
+{
+    let scan = make_needed_flag(
+        alloc,
+        "scan",
+        "Print the tiles alone; this version needs it",
+    );
+    let image = make_word(alloc, "IMAGE", "File with the bytes of the flash");
+    let command = make_plain(alloc, "check", CHECK, EPILOGUE)?
+        .arg(scan)?
+        .arg(image)?;
+    Ok(command)
+}
+
+/// The program without its subcommands.
+fn make_bare<'a>(alloc: Global) -> Command<'a>
+    ensures app { app_of result ≡ bare }
+    ensures local { (fields_of result).has_globals ≡ false }
+{
+    make_named(alloc, "jffs2_image", PROGRAM, EPILOGUE).subcommand_required(true)
+}
+
+/// The program's command line.
+pub fn make_program<'a>(alloc: Global) -> Result<Command<'a>, AllocError>
+    ensures app { IfOk result (λ c. app_of c ≡ program) }
+    ensures local { IfOk result (λ c. (fields_of c).has_globals ≡ false) }
+{
+    let command = make_bare(alloc).subcommand(make_check(alloc)?)?;
+    Ok(command)
+}

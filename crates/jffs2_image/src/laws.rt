@@ -1,0 +1,49 @@
+//! Worked rows of the definitions that the contracts cite.
+ghost use Rattle.std.specs.Prelude.{◌≡◌, [], ◌∷◌, Some, None, codes};
+ghost use Rattle.clap.specs.Words.{fault_of};
+ghost use Rattle.clap.specs.declared.error.ErrorKind.TheVariants.{DisplayHelp, MissingSubcommand, MissingRequiredArgument};
+ghost use Rattle.flashbase.specs.declared.source.LoadFault.TheVariants as load;
+ghost use Rattle.jnode.specs.declared.order.Endian.TheVariants.{Little, Big};
+ghost use Rattle.jscan.specs.declared.geometry.ScanFault.TheVariants as scan;
+ghost use Rattle.jffs2_image.specs.Asked.{CheckAsked, asked_for, endian_of, number_of};
+ghost use Rattle.jffs2_image.specs.Commands.{program};
+ghost use Rattle.jffs2_image.specs.Faults.{fault_text_of};
+ghost use Rattle.jffs2_image.specs.declared.faults.ProgramFault.TheVariants as fault;
+
+/// The texts of faults.
+#[tactic(auto, unfolding(crate::specs::Faults::fault_text_of, crate::specs::Faults::load_text, crate::specs::Faults::scan_fault_text, crate::specs::Words::hex))]
+pub fn known_fault_texts()
+    ensures device { fault_text_of (fault.Load load.Device) ≡ codes "L1 Device" }
+    ensures block_size { fault_text_of (fault.Scan scan.BlockSize) ≡ codes "C1 BlockSize" }
+    ensures incompatible { fault_text_of (fault.Scan (scan.Incompatible 12 0xE0F7)) ≡ codes "C3 Incompatible at 0000000c type e0f7" }
+    ensures output { fault_text_of fault.Output ≡ codes "P5 Output" }
+{}
+
+/// The values of options.
+pub fn known_values()
+    ensures block { number_of (codes "65536") ≡ Some 65536 }
+    ensures greatest { number_of (codes "4294967295") ≡ Some 4294967295 }
+    ensures past_greatest { number_of (codes "4294967296") ≡ None }
+    ensures signed { number_of (codes "+1") ≡ None }
+    ensures empty { number_of [] ≡ None }
+    ensures little { endian_of (codes "little") ≡ Some Little }
+    ensures big { endian_of (codes "big") ≡ Some Big }
+    ensures other { endian_of (codes "middle") ≡ None }
+{}
+
+/// What words ask for.
+pub fn known_requests()
+    ensures defaults { asked_for (codes "jffs2_image" ∷ codes "check" ∷ codes "--scan" ∷ codes "a" ∷ [])
+        ≡ Some (CheckAsked (record { geometry = record { block = 65536 }; endian = Little }) (codes "a")) }
+    ensures given { asked_for (codes "jffs2_image" ∷ codes "check" ∷ codes "--block" ∷ codes "4096" ∷ codes "--endian=big"
+        ∷ codes "--scan" ∷ codes "a" ∷ [])
+        ≡ Some (CheckAsked (record { geometry = record { block = 4096 }; endian = Big }) (codes "a")) }
+{}
+
+/// Words that ask for nothing.
+pub fn known_refusals()
+    ensures help { fault_of program (codes "jffs2_image" ∷ codes "check" ∷ codes "--help" ∷ []) ≡ DisplayHelp ∷ [] }
+    ensures no_words { fault_of program [] ≡ MissingSubcommand ∷ [] }
+    ensures no_scan { fault_of program (codes "jffs2_image" ∷ codes "check" ∷ codes "a" ∷ []) ≡ MissingRequiredArgument ∷ [] }
+    ensures unreadable { asked_for (codes "jffs2_image" ∷ codes "check" ∷ codes "--block=x" ∷ codes "--scan" ∷ codes "a" ∷ []) ≡ None }
+{}

@@ -1,0 +1,69 @@
+//! Reads flash images of JFFS2: the program `jffs2_image`.
+//!
+//! `commands`, `asked` and `request` read the command line, `check` and `report` do the work over sources and sinks,
+//! `faults` and `outcome` say how it ends, and `program` puts them together. `main` hands over the process's words and
+//! streams.
+#![tactic(auto)]
+
+pub mod asked;
+pub mod blocks;
+pub mod check;
+pub mod commands;
+pub mod counts;
+pub mod forms;
+pub mod faults;
+pub mod laws;
+pub mod line;
+pub mod outcome;
+pub mod program;
+pub mod report;
+pub mod report_fault;
+#[cfg(test)]
+mod report_tests;
+pub mod request;
+#[cfg(test)]
+mod tests;
+
+use faults::ProgramFault;
+use flashbase::FromWriter;
+use outcome::{Outcome, status};
+use program::{refuse, tell};
+use std::alloc::{AllocError, Global};
+use std::io::ErrorKind;
+use std::process::ExitCode;
+use std::rt::Env;
+use std::{env, io};
+
+/// The words of the command line. Those that are not UTF-8 are `InvalidData`.
+fn words_of<R: Env + AllocGlobal>(rt: &R) -> io::Result<Vec<String>> {
+    let words: Vec<String> = env::args(rt)?.collect(rt.alloc())?;
+    Ok(words)
+}
+
+fn texts_of(alloc: Global, words: &[String]) -> Result<Vec<&str>, AllocError> {
+    words.iter().map(|word| word.as_str()).collect(alloc)
+}
+
+fn run(rt: &HostRuntime) -> Outcome {
+    let mut errors = FromWriter::new(rt.stderr());
+    let words = match words_of(rt) {
+        Ok(words) => words,
+        Err(error) => {
+            return match error.kind() {
+                ErrorKind::InvalidData => refuse(
+                    "error: the command line is not UTF-8\n",
+                    &mut errors,
+                ),
+                _ => tell(&ProgramFault::OutOfMemory, &mut errors),
+            };
+        }
+    };
+    match texts_of(rt.alloc(), words.as_slice()) {
+        Ok(texts) => program::run(rt, texts.as_slice(), rt.stdout(), &mut errors),
+        Err(AllocError) => tell(&ProgramFault::OutOfMemory, &mut errors),
+    }
+}
+
+fn main(rt: HostRuntime) -> ExitCode {
+    ExitCode::from(status(run(&rt)))
+}

@@ -1,0 +1,140 @@
+//! The program on its words: it opens files, buffers output and prints.
+ghost use Rattle.std.specs.Prelude.{◌≡◌, ◌⊎◌};
+ghost use Rattle.std.specs.Io.KnownBytes.{Appends};
+ghost use Rattle.jffs2_image.specs.Faults.{TellsFault, fault_line_of};
+
+use crate::asked::{Options, Request};
+use crate::check::check_scan;
+use crate::faults::{ProgramFault, fault_line};
+use crate::outcome::Outcome;
+use crate::request::{RequestFault, request};
+use byteorder::{BigEndian, LittleEndian};
+use flashbase::{FromReader, FromWriter, Sink, put_all};
+use jnode::Endian;
+use std::fs;
+use std::io::{BufWriter, Write};
+use std::rt::Files;
+
+/// Output goes out in pieces of this many bytes.
+const OUTPUT_BUFFER: usize = 65536;
+
+/// Why a run ends early.
+#[derive(Debug, Drop)]
+enum Stop<'a> {
+    /// The command line is wrong.
+    Usage { text: String },
+    Fault(ProgramFault<'a>),
+}
+
+impl<'a> From<ProgramFault<'a>> for Stop<'a> {
+    fn from(fault: ProgramFault<'a>) -> Self {
+        Stop::Fault(fault)
+    }
+}
+
+/// Reports the image in a file, and answers the number of findings.
+fn check_file<'a, R: Files + AllocGlobal, T: Sink>(
+    rt: &R,
+    options: Options,
+    image: &'a str,
+    sink: &mut T,
+) -> Result<u64, ProgramFault<'a>> {
+    let Ok(file) = fs::open(rt, image) else {
+        return Err(ProgramFault::File(image));
+    };
+    let mut source = FromReader::new(file);
+    let geometry = options.geometry;
+    match options.endian {
+        Endian::Little => check_scan::<LittleEndian, _, _>(rt.alloc(), &mut source, geometry, sink),
+        Endian::Big => check_scan::<BigEndian, _, _>(rt.alloc(), &mut source, geometry, sink),
+    }
+}
+
+/// Meets the request, and answers the number of findings.
+fn meet<'a, R: Files + AllocGlobal, T: Sink>(
+    rt: &R,
+    request: Request<'a>,
+    sink: &mut T,
+) -> Result<u64, ProgramFault<'a>> {
+    match request {
+        Request::Check { options, image } => check_file(rt, options, image, sink),
+    }
+}
+
+/// Meets the request through a buffer. What was put before a fault goes out too.
+fn meet_buffered<'a, R: Files + AllocGlobal, W: Write + Drop>(
+    rt: &R,
+    request: Request<'a>,
+    output: W,
+) -> Result<u64, ProgramFault<'a>> {
+    let Ok(buffered) = BufWriter::with_capacity(rt.alloc(), OUTPUT_BUFFER, output) else {
+        return Err(ProgramFault::OutOfMemory);
+    };
+    let mut sink = FromWriter::new(buffered);
+    let answer = meet(rt, request, &mut sink);
+    let flushed = sink.into_writer().flush();
+    let findings = answer?;
+    match flushed {
+        Ok(()) => Ok(findings),
+        Err(_) => Err(ProgramFault::Output),
+    }
+}
+
+/// Meets what the words ask for, and answers the number of findings.
+fn meet_words<'a, R: Files + AllocGlobal, W: Write + Drop>(
+    rt: &R,
+    words: &'a [&'a str],
+    output: W,
+) -> Result<u64, Stop<'a>> {
+    match request(rt.alloc(), words) {
+        Ok(request) => Ok(meet_buffered(rt, request, output)?),
+        Err(RequestFault::Help { text }) => {
+            match put_all(&mut FromWriter::new(output), text.as_bytes()) {
+                Ok(()) => Ok(0),
+                Err(_) => Err(Stop::Fault(ProgramFault::Output)),
+            }
+        }
+        Err(RequestFault::Usage { text }) => Err(Stop::Usage { text }),
+        Err(RequestFault::OutOfMemory) => Err(Stop::Fault(ProgramFault::OutOfMemory)),
+    }
+}
+
+/// Tells a fault in one line.
+pub fn tell<E: Sink>(fault: &ProgramFault<'_>, errors: &mut E) -> Outcome
+    ensures fault { result ≡ Outcome.Fault }
+    ensures told { E.failures errors.new ≡ E.failures errors.old
+        → Appends (E.taken errors.old) (E.taken errors.new) (fault_line_of fault.now) }
+{
+    let _ = fault_line(fault, errors);
+    Outcome::Fault
+}
+
+/// Tells what is wrong with the command line.
+pub fn refuse<E: Sink>(text: &str, errors: &mut E) -> Outcome
+    ensures usage { result ≡ Outcome.Usage }
+    ensures told { E.failures errors.new ≡ E.failures errors.old
+        → Appends (E.taken errors.old) (E.taken errors.new) text.now }
+{
+    let _ = put_all(errors, text.as_bytes());
+    Outcome::Usage
+}
+
+/// Runs the program on its words, of which the first is its own name.
+pub fn run<R: Files + AllocGlobal, W: Write + Drop, E: Sink>(
+    rt: &R,
+    words: &[&str],
+    output: W,
+    errors: &mut E,
+) -> Outcome
+    ensures quiet { (result ≡ Outcome.Done) ⊎ (result ≡ Outcome.Found) → errors.new ≡ errors.old }
+
+    // A fault is told in one line, unless the sink of errors fails too.
+    ensures told { result ≡ Outcome.Fault → E.failures errors.new ≡ E.failures errors.old
+        → TellsFault (E.taken errors.old) (E.taken errors.new) }
+{
+    match meet_words(rt, words, output) {
+        Ok(findings) => Outcome::of(findings),
+        Err(Stop::Usage { text }) => refuse(text.as_str(), errors),
+        Err(Stop::Fault(fault)) => tell(&fault, errors),
+    }
+}

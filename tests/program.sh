@@ -1,0 +1,101 @@
+#!/bin/bash
+# Runs the finished program on lines and files that no proof covers: what the system gives it and takes from it.
+# Usage: tests/program.sh [PROGRAM]
+set -u
+program=$(realpath "${1:-$(dirname "$0")/../crates/jffs2_image/out/jffs2_image}")
+folder=$(mktemp -d)
+trap 'rm -rf "$folder"' EXIT
+cd "$folder" || exit 1
+: > empty
+head -c 4096 /dev/zero | tr '\0' '\377' > block
+head -c 4097 /dev/zero | tr '\0' '\377' > longer
+mkdir folder
+failed=0
+
+# want STATUS OUTPUT ERRORS: what the last run gave; a text is a pattern of bash
+want() {
+    local status=$1 output=$2 errors=$3
+    # shellcheck disable=SC2053
+    if [[ $got != "$status" || $(cat out) != $output || $(cat err) != $errors ]]; then
+        echo "FAILED: $line"
+        echo "  status $got, wanted $status"
+        echo "  output: $(head -c 300 out)"
+        echo "  errors: $(head -c 300 err)"
+        failed=1
+    fi
+}
+
+run() {
+    line="jffs2_image $*"
+    "$program" "$@" > out 2> err < /dev/null
+    got=$?
+}
+
+help="*Usage: *Exit status:*0  done*1  a fault*2  the command line*3  check found*"
+wrong="error: *Usage: *--help*"
+
+# Words
+run; want 2 "" "error: *Usage: jffs2_image <COMMAND>*"
+run paint; want 2 "" "error: unrecognized subcommand 'paint'*Usage: *"
+run ls block; want 2 "" "$wrong"
+run check block; want 2 "" "error: *--scan*Usage: jffs2_image check *"
+run check --scan; want 2 "" "error: *<IMAGE>*Usage: *"
+run check --scan block block; want 2 "" "$wrong"
+run check --scan --colour block; want 2 "" "error: unexpected argument '--colour' found*Usage: *"
+run check --scan --block; want 2 "" "error: *--block <N>*"
+for value in x "" -1 0x1000 4294967296 99999999999 "4096 "; do
+    run check --scan "--block=$value" block; want 2 "" "error: invalid value '$value' for '--block <N>': *--help*"
+done
+for value in middle Little ""; do
+    run check --scan "--endian=$value" block; want 2 "" "error: invalid value '$value' for '--endian <ORDER>': *--help*"
+done
+run check --scan $'\xff'; want 2 "" "error: the command line is not UTF-8"
+
+# Help
+for words in --help -h help; do
+    run $words; want 0 "$help" ""
+done
+for words in "check --help" "check -h" "help check"; do
+    run $words; want 0 "*Usage: jffs2_image check *<IMAGE>*--block <N>*65536*--endian <ORDER>*little*--scan*Exit status:*" ""
+done
+for words in --help "check --help"; do
+    run $words
+    [[ $(tail -c 2 out | od -An -tx1) == *"0a" && $(tail -c 2 out | od -An -tx1) != *"0a 0a" ]] || { echo "FAILED: one line feed ends $line"; failed=1; }
+done
+
+# The size of a block comes before the image is read, and after it is opened.
+for value in 0 4095 4097 4098 4194308 4294967295; do
+    run check --scan --block $value block; want 1 "" "jffs2_image: C1 BlockSize"
+    run check --scan --block $value folder; want 1 "" "jffs2_image: C1 BlockSize"
+    run check --scan --block $value none; want 1 "" "jffs2_image: P1 File none"
+done
+
+# Images
+run check --scan none; want 1 "" "jffs2_image: P1 File none"
+run check --scan ""; want 1 "" "jffs2_image: P1 File "
+run check --scan "two words"; want 1 "" "jffs2_image: P1 File two words"
+run check --scan folder; want 1 "" "jffs2_image: L1 Device"
+run check --scan --block 4096 longer; want 1 "" "jffs2_image: L2 TooLarge"
+run check --scan --block 4096 /dev/zero; want 1 "" "jffs2_image: L2 TooLarge"
+run check --scan --block 4194304 longer; [[ $got == 0 || $got == 3 ]] || { echo "FAILED: $line"; failed=1; }
+run check --scan empty; want 0 "*" ""
+run check --scan --endian big empty; want 0 "*" ""
+[[ $(wc -l < err) == 0 ]] || failed=1
+
+# Standard output that fails
+line="standard output is /dev/full"
+for words in "--help" "check --help" "check --scan empty"; do
+    "$program" $words > /dev/full 2> err; got=$?; : > out; want 1 "" "jffs2_image: P5 Output"
+done
+line="standard output is closed"
+for words in "--help" "check --scan empty"; do
+    "$program" $words >&- 2> err; got=$?; : > out; want 1 "" "jffs2_image: P5 Output"
+done
+line="standard error is closed"
+"$program" check --scan none > out 2>&-; got=$?; : > err; want 1 "" ""
+"$program" > out 2>&-; got=$?; : > err; want 2 "" ""
+line="standard error is /dev/full"
+"$program" check --scan none > out 2> /dev/full; got=$?; : > err; want 1 "" ""
+
+[[ $failed == 0 ]] && echo "all runs as wanted"
+exit $failed
