@@ -1,8 +1,9 @@
-#!/bin/bash
+#!/usr/bin/env bash
 # Runs the finished program on lines and files that no proof covers: what the system gives it and takes from it.
-# Usage: tests/program.sh [PROGRAM]
+# Usage: tests/program.sh [PROGRAM]. The last line is 'N passed, M failed'.
 set -u
 program=$(realpath "${1:-$(dirname "$0")/../crates/jffs2_image/out/jffs2_image}")
+samples=$(realpath "$(dirname "$0")/../crates/jffs2_image/data")
 folder=$(mktemp -d)
 trap 'rm -rf "$folder"' EXIT
 cd "$folder" || exit 1
@@ -10,7 +11,13 @@ cd "$folder" || exit 1
 head -c 4096 /dev/zero | tr '\0' '\377' > block
 head -c 4097 /dev/zero | tr '\0' '\377' > longer
 mkdir folder
+passed=0
 failed=0
+
+# count WHETHER: counts the last run as passed (0) or failed.
+count() {
+    if [[ $1 == 0 ]]; then passed=$((passed + 1)); else failed=$((failed + 1)); fi
+}
 
 # want STATUS OUTPUT ERRORS: what the last run gave; a text is a pattern of bash
 want() {
@@ -21,7 +28,9 @@ want() {
         echo "  status $got, wanted $status"
         echo "  output: $(head -c 300 out)"
         echo "  errors: $(head -c 300 err)"
-        failed=1
+        count 1
+    else
+        count 0
     fi
 }
 
@@ -60,7 +69,10 @@ for words in "check --help" "check -h" "help check"; do
 done
 for words in --help "check --help"; do
     run $words
-    [[ $(tail -c 2 out | od -An -tx1) == *"0a" && $(tail -c 2 out | od -An -tx1) != *"0a 0a" ]] || { echo "FAILED: one line feed ends $line"; failed=1; }
+    [[ $(tail -c 2 out | od -An -tx1) == *"0a" && $(tail -c 2 out | od -An -tx1) != *"0a 0a" ]]
+    bad=$?
+    count $bad
+    [[ $bad == 0 ]] || echo "FAILED: one line feed ends $line"
 done
 
 # The size of a block comes before the image is read, and after it is opened.
@@ -77,10 +89,17 @@ run check --scan "two words"; want 1 "" "jffs2_image: P1 File two words"
 run check --scan folder; want 1 "" "jffs2_image: L1 Device"
 run check --scan --block 4096 longer; want 1 "" "jffs2_image: L2 TooLarge"
 run check --scan --block 4096 /dev/zero; want 1 "" "jffs2_image: L2 TooLarge"
-run check --scan --block 4194304 longer; [[ $got == 0 || $got == 3 ]] || { echo "FAILED: $line"; failed=1; }
-run check --scan empty; want 0 "*" ""
-run check --scan --endian big empty; want 0 "*" ""
-[[ $(wc -l < err) == 0 ]] || failed=1
+run check --scan --block 4194304 longer; want 0 $'block 0\n00000000 erased 4194304\ntotal blocks 1 entries 0 inodes 0 findings 0' ""
+run check --scan --block 4096 block; want 0 $'block 0\n00000000 erased 4096\ntotal blocks 1 entries 0 inodes 0 findings 0' ""
+nothing="total blocks 0 entries 0 inodes 0 findings 0"
+run check --scan empty; want 0 "$nothing" ""
+run check --scan --endian big empty; want 0 "$nothing" ""
+
+# The sample image, in its own byte order and in the other one
+sample=$samples/one_entry.img
+run check --scan --block 4096 "$sample"; want 0 "$(cat "$samples/../stdout")" ""
+run check --scan --block 4096 --endian big "$sample"
+want 3 $'block 0\n00000000 other-order 4\n00000004 dirt 8\n0000000c other-order 4\n00000010 dirt 40\n00000038 erased 4040\ntotal blocks 1 entries 0 inodes 0 findings 4' ""
 
 # Standard output that fails
 line="standard output is /dev/full"
@@ -97,5 +116,5 @@ line="standard error is closed"
 line="standard error is /dev/full"
 "$program" check --scan none > out 2> /dev/full; got=$?; : > err; want 1 "" ""
 
-[[ $failed == 0 ]] && echo "all runs as wanted"
-exit $failed
+echo "$passed passed, $failed failed"
+[[ $failed == 0 ]]

@@ -1,8 +1,11 @@
 -- What padding to words gives, and the longest beginning of 0xFF by its twin.
-use Rattle.std.proofs.Common.{◌≡◌, ◌==◌, ℕ, ◌+◌, ◌%◌, ◌<◌, ◌≤◌, slice_index, sym, ap, subst, arith}
-use Rattle.std.proofs.lemmas.Bool.{eqb-true, eqb-false, ne_eqb}
+use Rattle.std.proofs.Common.{◌≡◌, ◌==◌, ℕ, ◌+◌, ◌-◌, ◌*◌, ◌%◌, ◌^◌, ◌<◌, ◌≤◌, ◌↔◌, Bool, true, false, not, cond, eqb, List, [], ◌∷◌, map, length, take, drop, get_or, replicate, slice_index, refl, sym, ap, ap₂, ◌∙◌, subst, arith, inl, inr, w8, eq-eqb, length-drop}
+use Rattle.std.proofs.lemmas.Bool.{cases_lt, eqb-true, eqb-false, ne_eqb}
+use Rattle.std.proofs.lemmas.List.{get_or-take, get_or-drop, get_or-replicate}
 use Rattle.std.proofs.lemmas.List.Sums.{prefix_len_is, prefix_len_passes, prefix_len_stops, prefix_len-le-length}
-use Rattle.flashbase.specs.Bytes.{IsErasedRun, erased_run, pad4_of}
+use Rattle.std.proofs.lemmas.Simd.{bitmask_splat}
+use lib.Lanes.{zip2, mask_l, top}
+use Rattle.flashbase.specs.Bytes.{IsErasedRun, erased, erased_run, pad4_of}
 use Rattle.flashbase.specs.Laws.{Pad4IsLeast, ErasedRunIsLongest}
 
 pub le_pad4 : (n : ℕ) → n ≤ pad4_of n
@@ -38,3 +41,41 @@ erased_run_is_longest bytes n = (
     stops = λ h. eqb-false (slice_index bytes (erased_run bytes)) 0xFF (prefix_len_stops (λ b. b == 0xFF) bytes 0 h);
   }),
 )
+
+-- behind n erased bytes the run goes on
+pub erased_run-behind : (n r : ℕ) (bytes : List ℕ) → n ≤ length bytes → take n bytes ≡ erased n → IsErasedRun (drop n bytes) r → IsErasedRun bytes (n + r)
+erased_run-behind n r bytes within front run = record {
+  within = omega (arith, run.within, length-drop n bytes);
+  erased = λ k h. elim (cases_lt k n) [
+    | inl lt ↦ sym (get_or-take n bytes k 0 lt) ∙ ap (λ (l : List ℕ). get_or l k 0) front ∙ get_or-replicate n k 0xFF 0 lt
+    | inr ge ↦
+        let i : ℕ = k - n in
+        let there : n + i ≡ k = omega arith in
+        ap (λ (j : ℕ). slice_index bytes j) (sym there) ∙ sym (get_or-drop n bytes i 0) ∙ run.erased i (omega arith)
+  ];
+  stops = λ h is. run.stops (omega (arith, length-drop n bytes)) (get_or-drop n bytes r 0 ∙ is);
+}
+
+-- ---- lanes that differ from 0xFF
+
+none_differ : (xs : List ℕ) → (mask_l (map (λ x. not (eqb x 0xFF)) xs) ≡ 0) ↔ (xs ≡ erased (length xs))
+none_differ [] = (λ _. refl, λ _. refl)
+none_differ (x ∷ xs) = first_differs x xs (none_differ xs) (eqb x 0xFF) refl
+  where
+    first_differs : (x : ℕ) (xs : List ℕ) → ((mask_l (map (λ y. not (eqb y 0xFF)) xs) ≡ 0) ↔ (xs ≡ erased (length xs)))
+        → (t : Bool) → eqb x 0xFF ≡ t → (cond (not t) 1 0 + 2 * mask_l (map (λ y. not (eqb y 0xFF)) xs) ≡ 0) ↔ (x ∷ xs ≡ 0xFF ∷ erased (length xs))
+    first_differs x xs rest true e = (
+      λ none. ap₂ (λ (y : ℕ) (ys : List ℕ). y ∷ ys) (eqb-true x 0xFF e) (rest.0 (omega arith)),
+      λ is. let none = rest.1 (ap (drop 1) is) in omega arith,
+    )
+    first_differs x xs rest false e = (
+      λ none. absurd (omega arith),
+      λ is. absurd (eqb-false x 0xFF e (ap (λ (l : List ℕ). get_or l 0 0) is)),
+    )
+
+pub erased_of_mask : (xs : List ℕ) → length xs ≡ 64
+    → (eqb (mask_l (map (top 7) (zip2 (λ a b. cond (not (eqb a b)) 255 0) xs (replicate 64 0xFF))) % 2 ^ 64) 0 ≡ true) ↔ (xs ≡ erased 64)
+erased_of_mask xs long =
+    let mask = bitmask_splat w8 (λ (a b : ℕ). not (eqb a b)) xs 64 0xFF long (omega arith) in
+    let none : (mask_l (map (λ x. not (eqb x 0xFF)) xs) ≡ 0) ↔ (xs ≡ erased 64) = subst (λ n. (mask_l (map (λ x. not (eqb x 0xFF)) xs) ≡ 0) ↔ (xs ≡ erased n)) long (none_differ xs) in
+    (λ t. none.0 (sym mask ∙ eqb-true _ _ t), λ is. eq-eqb _ _ (mask ∙ none.1 is))

@@ -103,9 +103,6 @@ adds_edges p m m1 m2 n end first last is_end l is_first is_last one two three j 
 
 -- ---- what stands stays settled, and its intervals apart
 
-
-
-
 is_p : (p : Piece) (es fs : List (ℕ × Run)) → ((i : ℕ) → run_at fs i ≡ painted p i (run_at es i)) → (i : ℕ) → won p es i ≡ true → run_at fs i ≡ Some p
 is_p p es fs h i w = h i ∙ pick_yes (won p es i) (Some p) (run_at es i) w
 

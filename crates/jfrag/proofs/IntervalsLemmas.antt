@@ -56,8 +56,8 @@ unfolding beginnings_of
 from_beginnings [] s q (k, l, e) = absurd (omega arith)
 from_beginnings (e ∷ es) s q h =
     elim (from_with e.0 q e.1 (beginnings_of es) h) [
-      inl x ↦ (x.0, subst (λ (k : ℕ). at (e ∷ es) k ≡ Some (Some x.0)) x.1 (at_head e es ∙ ap (λ (r : Run). Some r) x.2))
-    | inr c ↦ let there = from_beginnings es (sorted_tail nat_cmp e.0 (keys_of es) s) q c in (there.0, tail_at e es s q (Some there.0) there.1)
+      | inl x ↦ (x.0, subst (λ (k : ℕ). at (e ∷ es) k ≡ Some (Some x.0)) x.1 (at_head e es ∙ ap (λ (r : Run). Some r) x.2))
+      | inr c ↦ let there = from_beginnings es (sorted_tail nat_cmp e.0 (keys_of es) s) q c in (there.0, tail_at e es s q (Some there.0) there.1)
     ]
 
 head_with : (k : ℕ) (r : Run) (p : Piece) (ks : List ℕ) → r ≡ Some p → Contains (with_begin k r ks) k
@@ -93,9 +93,9 @@ beginnings_ascend (e ∷ es) s =
     let tail = sorted_tail nat_cmp e.0 (keys_of es) s in
     ascending_with e.0 e.1 (beginnings_of es)
     (λ k d l.
-        let here : Contains (beginnings_of es) (get_or (beginnings_of es) k d) = (k, l, get_or_default (beginnings_of es) k (get_or (beginnings_of es) k d) d l) in
-        let there = from_beginnings es tail (get_or (beginnings_of es) k d) here in
-        past_head e es s (get_or (beginnings_of es) k d) (Some there.0) there.1)
+    let here : Contains (beginnings_of es) (get_or (beginnings_of es) k d) = (k, l, get_or_default (beginnings_of es) k (get_or (beginnings_of es) k d) d l) in
+    let there = from_beginnings es tail (get_or (beginnings_of es) k d) here in
+    past_head e es s (get_or (beginnings_of es) k d) (Some there.0) there.1)
     (beginnings_ascend es tail)
 
 -- as many as the runs that are no gaps

@@ -5,3 +5,4 @@ pub mod Reading
 pub mod RunLemmas
 pub mod RunMaps
 pub mod IntervalsLemmas
+pub mod Walk

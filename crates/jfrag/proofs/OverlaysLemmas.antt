@@ -111,16 +111,16 @@ one_byte ps i s t agree same (k, p, k_in, at_k, (p_covers, p_version, p_byte)) (
     let here : get_or ps k p ≡ p = at_k in
     let there : get_or ps j p ≡ q = same_at ps j q p j_in at_j in
     let pair : (x y : Piece) → x ≡ p → y ≡ q → (x.version ≡ y.version → covers i x ≡ true → covers i y ≡ true → byte_of i x ≡ byte_of i y) → byte_of i p ≡ byte_of i q =
-        λ x y e f agrees. sym (ap (byte_of i) e) ∙ agrees (ap version e ∙ versions ∙ sym (ap version f)) (ap (covers i) e ∙ p_covers) (ap (covers i) f ∙ q_covers) ∙ ap (byte_of i) f in
+    λ x y e f agrees. sym (ap (byte_of i) e) ∙ agrees (ap version e ∙ versions ∙ sym (ap version f)) (ap (covers i) e ∙ p_covers) (ap (covers i) f ∙ q_covers) ∙ ap (byte_of i) f in
     let riap : (x y : Piece) → x ≡ q → y ≡ p → (x.version ≡ y.version → covers i x ≡ true → covers i y ≡ true → byte_of i x ≡ byte_of i y) → byte_of i p ≡ byte_of i q =
-        λ x y e f agrees. sym (sym (ap (byte_of i) e) ∙ agrees (ap version e ∙ sym versions ∙ sym (ap version f)) (ap (covers i) e ∙ q_covers) (ap (covers i) f ∙ p_covers) ∙ ap (byte_of i) f) in
+    λ x y e f agrees. sym (sym (ap (byte_of i) e) ∙ agrees (ap version e ∙ sym versions ∙ sym (ap version f)) (ap (covers i) e ∙ q_covers) (ap (covers i) f ∙ p_covers) ∙ ap (byte_of i) f) in
     let bytes : byte_of i p ≡ byte_of i q =
-        case_on (nat_lt k j)
-        (λ e. pair (get_or ps k p) (get_or ps j p) here there (agree k j p (ltb-true k j e) j_in))
-        (λ e. case_on (nat_lt j k)
-        (λ f. riap (get_or ps j p) (get_or ps k p) there here (agree j k p (ltb-true j k f) k_in))
-        (λ f. let u : j ≤ k = ltb-false k j e in let v : k ≤ j = ltb-false j k f in let eq : k ≡ j = omega arith in
-        ap (byte_of i) (sym here ∙ ap (λ n. get_or ps n p) eq ∙ there))) in
+    case_on (nat_lt k j)
+    (λ e. pair (get_or ps k p) (get_or ps j p) here there (agree k j p (ltb-true k j e) j_in))
+    (λ e. case_on (nat_lt j k)
+    (λ f. riap (get_or ps j p) (get_or ps k p) there here (agree j k p (ltb-true j k f) k_in))
+    (λ f. let u : j ≤ k = ltb-false k j e in let v : k ≤ j = ltb-false j k f in let eq : k ≡ j = omega arith in
+    ap (byte_of i) (sym here ∙ ap (λ n. get_or ps n p) eq ∙ there))) in
     sym p_byte ∙ bytes ∙ q_byte
 
 -- a version that is given is at most the highest

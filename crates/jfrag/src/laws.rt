@@ -7,8 +7,7 @@ pub fn standing_laws()
     ensures highest { law.StandingIsHighest }
     ensures only { law.OnlyOneIsHighest }
     ensures content { law.ContentStands }
-{
-}
+{}
 
 /// What one more piece does to what stands.
 pub fn piece_laws()
@@ -16,5 +15,4 @@ pub fn piece_laws()
     ensures again { law.AgainChangesNothing }
     ensures empty { law.EmptyChangesNothing }
     ensures idle { law.IdleIsNotTaken }
-{
-}
+{}

@@ -14,5 +14,6 @@ pub use frag::FragOverlay;
 pub use overlays::Overlay;
 pub use piece::{Body, Piece};
 pub use plain::PlainOverlay;
+
 #[cfg(test)]
 mod tests;

@@ -191,40 +191,65 @@ fn show(run: &Option<Piece<'_>>, place: u64, out: &mut [u8])
     }
 }
 
-// A run, the place from which its piece is shown, and how many places from `place` on lie in it,
-// `most` at most.
-fn stretch<'a>(
-    runs: &Runs<'a>,
-    place: u64,
-    done: usize,
-    most: usize,
-) -> (Option<Piece<'a>>, u64, usize)
-    requires covered { IsCovered runs.now.entries }
-    requires some { 0 < most }
-    ensures some { 0 < result.2 }
-    ensures within { result.2 ≤ most }
-    ensures run { (i : ℕ) → i < result.2 → seen (run_at runs.now.entries (place + done + i)) (place + done + i) ≡ seen result.0 (result.1 + i) }
-    ensures fits { IfSome result.0 (λ p. (p.offset ≤ result.1) × (result.1 + result.2 ≤ end_of p)) }
-{
-    let at = place.saturating_add(done as u64);
-    if at >= u64::from(u32::MAX) {
-        return (None, at, most);
-    }
-    let run = run_at(runs, at as u32);
-    let next = next_key(runs, at as u32, u32::MAX);
-    (run, at, most.min((next - at as u32) as usize))
-}
-
-// Fills the slice with what stands from a place on.
+// Fills the slice with what stands from a place on. Nothing stands from 2 ^ 32 - 1 on.
 pub(crate) fn read(runs: &Runs<'_>, place: u64, out: &mut [u8])
     requires { IsCovered runs.now.entries }
     ensures { EachIndex out.new (λ k. slice_index out.new k ≡ byte_at (seen (run_at runs.now.entries (place + k)) (place + k))) }
 {
+    if place >= u64::from(u32::MAX) {
+        show(&None, place, out);
+    } else if !out.is_empty() {
+        walk(runs, place as u32, out);
+    }
+}
+
+// Finds the first run by search, and goes on from key to key.
+fn walk(runs: &Runs<'_>, from: u32, out: &mut [u8])
+    requires covered { IsCovered runs.now.entries }
+    requires some { 0 < length out.old }
+    ensures { EachIndex out.new (λ k. slice_index out.new k ≡ byte_at (seen (run_at runs.now.entries (from + k)) (from + k))) }
+{
+    let last = last_place(from, out.len());
+    let mut run = run_at(runs, from);
     let mut done = 0usize;
-    while done < out.len() {
-        let (run, at, len) = stretch(runs, place, done, out.len() - done);
-        show(&run, at, &mut out[done..done + len]);
-        done += len;
+    for (key, next) in runs.range((Bound::Excluded(from), Bound::Included(last))) {
+        let upto = (*key - from) as usize;
+        show_part(&run, from, done, upto, out);
+        done = upto;
+        run = copied(next);
+    }
+    let count = out.len();
+    show_part(&run, from, done, count, out);
+}
+
+// Shows a run at the indices `done` up to `upto` of a slice whose first byte is the file's byte `from`.
+fn show_part(run: &Option<Piece<'_>>, from: u32, done: usize, upto: usize, out: &mut [u8])
+    requires forward { done ≤ upto }
+    requires within { upto ≤ length out.old }
+    requires fits { IfSome run.now (λ p. (p.offset ≤ from + done) × (from + upto ≤ end_of p)) }
+    ensures before { (k : ℕ) → k < done → slice_index out.new k ≡ slice_index out.old k }
+    ensures shown { (k : ℕ) → done ≤ k → k < upto → slice_index out.new k ≡ byte_at (seen run.now (from + k)) }
+{
+    show(run, u64::from(from) + done as u64, &mut out[done..upto]);
+}
+
+// The last place that is read, capped.
+fn last_place(from: u32, count: usize) -> u32
+    requires { 0 < count }
+    ensures from { from ≤ result }
+    ensures to { result < from + count }
+    ensures reaches { result + 1 < from + count → result ≡ 4294967295 }
+{
+    let last = u64::from(from).saturating_add(count as u64 - 1);
+    last.min(u64::from(u32::MAX)) as u32
+}
+
+fn copied<'a>(run: &Option<Piece<'a>>) -> Option<Piece<'a>>
+    ensures { result ≡ run.now }
+{
+    match run {
+        None => None,
+        Some(piece) => Some(piece.copied()),
     }
 }
 

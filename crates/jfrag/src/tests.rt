@@ -2,14 +2,16 @@
 ghost use Rattle.std.specs.Prelude.{◌≡◌, ◌+◌, ◌≤◌, ◌<◌, ◌^◌, length, List, IfOk, All};
 ghost use Rattle.jfrag.specs.Pieces.{end_of};
 
-use super::{overlay, Body, FragOverlay, Overlay, Piece, PlainOverlay};
+use super::{Body, FragOverlay, Overlay, Piece, PlainOverlay, overlay};
 use flashbase::Part;
 use std::alloc::Global;
 use std::test::Fail;
 
 /// The bytes of each version: a file's byte tells which piece gave it.
 const ONES: &[u8] = &[11; 100];
+
 const TWOS: &[u8] = &[22; 10];
+
 const THREES: &[u8] = &[33; 10];
 
 /// Version 3 over 0 to 9, version 2 over 50 to 59, version 1 over 0 to 99.
@@ -33,6 +35,13 @@ fn bytes_at(version: u32, offset: u32, bytes: &'static [u8]) -> Piece<'static>
         offset,
         body: Body::Bytes(Part::new(bytes, 0)),
     }
+}
+
+fn fifty_ones(version: u32, offset: u32) -> Piece<'static>
+    requires { offset < 1000 }
+    ensures { end_of result < 2 ^ 32 }
+{
+    bytes_at(version, offset, &ONES[..50])
 }
 
 fn zeros_at(version: u32, offset: u32, count: u32) -> Piece<'static>
@@ -76,7 +85,7 @@ fn byte_at<'a, O: Overlay<'a>>(laid: &O, place: u64) -> u8 {
 }
 
 /// The worked example, one `add` after another.
-fn laid_in<O: Overlay<'static>>(alloc: Global, order: [u32; 3]) -> Result<O, Fail> {
+fn laid_in<'a, O: Overlay<'a>>(alloc: Global, order: [u32; 3]) -> Result<O, Fail> {
     let mut laid = O::new(alloc);
     for version in order {
         laid.add(worked_piece(version))?;
@@ -173,18 +182,18 @@ fn every_gap_is_filled_in_any_order(rt: HostRuntime) -> Result<(), Fail> {
 
 /// Whether each `add` that is refused leaves what stood, and succeeds when it is called again. One is refused under
 /// `rt try --test --fail-alloc N`.
-fn grows_or_stays<O: Overlay<'static>>(alloc: Global) -> Result<bool, Fail> {
+fn grows_or_stays<'a, O: Overlay<'a>>(alloc: Global) -> Result<bool, Fail> {
     let mut laid = O::new(alloc);
     for round in 0..40u32 {
         let version = round % 7;
         let offset = round * 37 % 50;
         let before = first_bytes(&laid);
         let held = laid.pieces();
-        if laid.add(bytes_at(version, offset, &ONES[..50])).is_err() {
+        if laid.add(fifty_ones(version, offset)).is_err() {
             if first_bytes(&laid) != before || laid.pieces() != held {
                 return Ok(false);
             }
-            laid.add(bytes_at(version, offset, &ONES[..50]))?;
+            laid.add(fifty_ones(version, offset))?;
         }
         let after = first_bytes(&laid);
         let start = offset as usize;

@@ -1,6 +1,7 @@
 pub mod EntriesLemmas
 pub mod GainLemmas
 pub mod HeldLemmas
+pub mod LawLemmas
 pub mod LiveLemmas
 pub mod MemberLemmas
 pub mod NamingLemmas

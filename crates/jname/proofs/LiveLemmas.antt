@@ -35,7 +35,7 @@ at_key : (key : Key) (x : Dirent) → x.pino ≡ key.0 → x.name ≡ key.1 → 
 at_key key x p n =
     ap (λ (b : Bool). b && bytes_eq x.name key.1) (eq-eqb x.pino key.0 p) ∙ (bytes_eq-Decides x.name key.1).1 n
 
-key_at : (key : Key) (x : Dirent) → is_at key x ≡ true → (x.pino ≡ key.0) × (x.name ≡ key.1)
+pub key_at : (key : Key) (x : Dirent) → is_at key x ≡ true → (x.pino ≡ key.0) × (x.name ≡ key.1)
 key_at key x e =
     let parts = both_true (x.pino == key.0) (bytes_eq x.name key.1) e in
     (eqb-true x.pino key.0 parts.0, (bytes_eq-Decides x.name key.1).0 parts.1)

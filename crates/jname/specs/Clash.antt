@@ -18,3 +18,7 @@ SomeClashes entries entry = (other : Dirent) × Contains entries other × Clashe
 -- an entry clashes with none of these
 abbrev pub NoneClashes : List Dirent → Dirent → Type 0
 NoneClashes entries entry = (other : Dirent) → Contains entries other → Clashes other entry → ⊥
+
+-- no two of these clash
+abbrev pub NoClashes : List Dirent → Type 0
+NoClashes entries = (entry : Dirent) → Contains entries entry → NoneClashes entries entry

@@ -48,3 +48,7 @@ highest given pino = option_map (λ entry. entry.version) (newest (λ entry. ent
 -- the same entries, and one more
 abbrev pub Gains : List Dirent → List Dirent → Dirent → Type 0
 Gains old new entry = (x : Dirent) → Contains new x ↔ (Contains old x ⊎ (x ≡ entry))
+
+-- the same entries, in any order and number
+abbrev pub SameEntries : List Dirent → List Dirent → Type 0
+SameEntries a b = (x : Dirent) → Contains a x ↔ Contains b x

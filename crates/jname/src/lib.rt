@@ -6,6 +6,7 @@
 
 mod directory;
 mod fault;
+pub mod laws;
 mod names;
 mod versions;
 mod walk;

@@ -1,13 +1,12 @@
 -- What is seen of bytes fits its widths, and is what the tile reads as.
-use Rattle.std.proofs.Common.{◌≡◌, ◌↔◌, ℕ, ◌+◌, ◌^◌, ◌%◌, ◌<◌, ◌==◌, not, List, [], length, take, drop, slice_index, Option, Some, None, refl, sym, ap, subst, ◌∙◌, arith, inl, inr}
-use Rattle.std.proofs.lemmas.Bool.{cases_lt, cond_both}
-use Rattle.std.proofs.lemmas.List.{get_or-drop, get_or-take, get_or_past, length-take}
+use Rattle.std.proofs.Common.{◌≡◌, ◌↔◌, ℕ, ◌+◌, ◌^◌, ◌%◌, ◌<◌, ◌==◌, not, List, [], length, take, drop, Some, None, refl, sym, ap, subst, ◌∙◌, arith}
+use Rattle.std.proofs.lemmas.Bool.{cond_both}
 use Rattle.byteorder.specs.Numbers.{little_from-lt, big_from-lt}
 use Rattle.flashbase.specs.Ranges.{AreBytes}
 use Rattle.jnode.specs.Order.{number_in}
 use Rattle.jnode.specs.Header.{IsGood, nodetype_of, is_accurate}
 use Rattle.jnode.specs.Reading.{dirent_type, inode_type, dirent_of, inode_of, data_of, compr_of, csize_of, nsize_of, name_of, tile_of, node_in, Reads, seen_of, entry_seen, inode_seen, held_seen, plain_seen, is_entry_long, is_crc_right, is_size_right, is_entry_in_range, is_inode_long, is_inode_in_range, is_data_crc_right}
-use Rattle.jnode.specs.Writing.{FitsEntry, FitsInode, Fits, held_bytes, HoldsBytes}
+use Rattle.jnode.specs.Writing.{FitsEntry, FitsInode, Fits, HoldsBytes}
 use Rattle.jnode.specs.declared.order.Endian.{Endian}
 use Rattle.jnode.specs.declared.order.Endian.TheVariants.{Little, Big}
 use Rattle.jnode.specs.declared.node.Dirent.{Dirent}

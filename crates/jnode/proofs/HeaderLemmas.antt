@@ -1,11 +1,11 @@
 -- Whether a header is good is computed, and from its twelve bytes.
-use Rattle.std.proofs.Common.{◌≡◌, ◌↔◌, ◌≤◌, ◌<◌, ℕ, zero, suc, ◌+◌, ◌-◌, ◌&&◌, ◌==◌, Bool, true, false, cond, IsTrue, IsSome, IfSome, Option, Some, None, List, [], ◌∷◌, ◌++◌, length, take, drop, bit_or, refl, sym, ap, ap₂, ◌∙◌, arith}
+use Rattle.std.proofs.Common.{◌≡◌, ◌↔◌, ◌≤◌, ◌<◌, ℕ, zero, suc, ◌-◌, ◌&&◌, ◌==◌, Bool, true, false, cond, IsTrue, IsSome, IfSome, Option, Some, None, List, [], ◌∷◌, ◌++◌, length, take, drop, bit_or, refl, sym, ap, ap₂, ◌∙◌, arith}
 use Rattle.std.proofs.lemmas.Bool.{leb-true, le-leb, lt-leb, eqb-true, eq-eqb, and_parts, and_from, and_left, and_right}
 use Rattle.flashbase.specs.Crc.{crc_of}
 use Rattle.flashbase.specs.Bytes.{erased}
 use Rattle.jnode.specs.Order.{number_in, bytes_in}
 use Rattle.jnode.specs.declared.order.Endian.TheVariants.{Little, Big}
-use Rattle.jnode.specs.Header.{IsGood, magic, accurate_bit, magic_of, nodetype_of, totlen_of, hdr_crc_of, header_crc_of, header_of, has_header, is_good, is_good_front, header_by_front, header_at}
+use Rattle.jnode.specs.Header.{IsGood, magic, magic_of, nodetype_of, totlen_of, hdr_crc_of, header_crc_of, header_of, has_header, is_good, is_good_front, header_by_front, header_at}
 use Rattle.jnode.specs.declared.order.Endian.{Endian}
 use Rattle.jnode.specs.declared.header.Header.{Header}
 use Rattle.jnode.proofs.OrderLemmas.{number_at-take, take_of_take, drop_of_take}

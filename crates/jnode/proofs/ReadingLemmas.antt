@@ -1,5 +1,5 @@
 -- What a tile is read as, check by check, is what the relation on its fields says.
-use Rattle.std.proofs.Common.{◌≡◌, ◌↔◌, ℕ, ◌+◌, ◌%◌, ◌/◌, ◌<◌, ◌==◌, ◌||◌, Bool, true, false, not, cond, List, take, length, bit_and, refl, sym, ap, subst, ◌∙◌, arith, inl, inr, ◌⊎◌}
+use Rattle.std.proofs.Common.{◌≡◌, ◌↔◌, ℕ, ◌+◌, ◌%◌, ◌<◌, ◌==◌, ◌||◌, Bool, true, false, not, cond, List, take, length, bit_and, refl, sym, ap, subst, ◌∙◌, arith, inl, inr, ◌⊎◌}
 use Rattle.std.proofs.lemmas.Bool.{both_ways, false≢true, not-false, cond_both, leb-true, le-leb, ltb-true, lt-ltb, eqb-true, eq-eqb, and_parts, and_from, or_cases, or_left, or_right, cases_eq, not-true, ne_eqb}
 use Rattle.flashbase.specs.Crc.{crc_of}
 use Rattle.jnode.specs.Order.{number_at}

@@ -1,14 +1,12 @@
 -- A node's tile, cut out of the bytes that begin with it, has the same header.
-use Rattle.std.proofs.Common.{◌≡◌, ℕ, zero, suc, ◌+◌, ◌-◌, ◌%◌, ◌≤◌, List, [], ◌∷◌, ◌++◌, length, take, drop, bit_or, refl, sym, ap, ap₂, ◌∙◌, arith}
-use Rattle.std.proofs.lemmas.List.{drop-take, length-take-le}
-use Rattle.flashbase.specs.Crc.{crc_of}
+use Rattle.std.proofs.Common.{◌≡◌, ℕ, ◌%◌, ◌≤◌, List, length, take, sym, ap, ◌∙◌, arith}
+use Rattle.std.proofs.lemmas.List.{length-take-le}
 use Rattle.flashbase.specs.Bytes.{pad4_of}
 use Rattle.flashbase.proofs.BytesLemmas.{le_pad4, pad4_least}
-use Rattle.jnode.specs.Order.{number_in, number_at, bytes_in}
 use Rattle.jnode.specs.declared.order.Endian.{Endian}
 use Rattle.jnode.proofs.OrderLemmas.{number_at-take}
 use Rattle.jnode.proofs.HeaderLemmas.{header_crc_of-take}
-use Rattle.jnode.specs.Header.{IsGood, magic, magic_of, nodetype_of, totlen_of, hdr_crc_of, header_crc_of}
+use Rattle.jnode.specs.Header.{IsGood, magic, magic_of, totlen_of, hdr_crc_of, header_crc_of}
 use Rattle.jnode.specs.Reading.{IsWhole, tile_of}
 
 -- what the tile of a good header has

@@ -1,5 +1,5 @@
 -- What a cut leaves of a node.
-use Rattle.std.proofs.Common.{◌≡◌, ◌≢◌, ℕ, zero, suc, ◌+◌, ◌-◌, ◌*◌, ◌^◌, ◌<◌, ◌≤◌, ◌==◌, ◌&&◌, Bool, true, false, List, [], ◌∷◌, ◌++◌, length, take, drop, slice_index, refl, sym, ap, ap₂, ◌∙◌, arith, inl, inr, append_assoc, length-append, length-drop}
+use Rattle.std.proofs.Common.{◌≡◌, ◌≢◌, ℕ, zero, suc, ◌+◌, ◌-◌, ◌*◌, ◌^◌, ◌<◌, ◌≤◌, ◌==◌, ◌&&◌, Bool, true, false, List, [], ◌++◌, length, take, drop, slice_index, refl, sym, ap, ap₂, ◌∙◌, arith, inl, inr, append_assoc, length-append, length-drop}
 use Rattle.std.specs.Prelude.{nat_le, bytes_eq}
 use Rattle.std.proofs.lemmas.Bool.{le-leb, leb-true, ne_eqb, and_from, and_parts, cases_lt, both_ways, false_from_ne_true, cond_both}
 use Rattle.std.proofs.lemmas.List.{length-take-le, length-take, length-replicate, take-replicate, drop-replicate, drop-drop, take-take, take_all, append-nil, get_or-drop, get_or_append_left, get_or-take, get_or-append_right, get_or-replicate, take-append-le, replicate-append-replicate}
@@ -8,9 +8,9 @@ use Rattle.std.proofs.lemmas.Slice.Eq.{bytes_eq-Decides}
 use Rattle.flashbase.specs.Bytes.{erased, pad4_of}
 use Rattle.flashbase.proofs.BytesLemmas.{le_pad4}
 use Rattle.jnode.specs.Order.{number_in, bytes_in}
-use Rattle.jnode.specs.Header.{magic, magic_of, nodetype_of, totlen_of, header_of, has_header, is_good, is_good_front}
-use Rattle.jnode.specs.Reading.{dirent_type, inode_type, dirent_of, compr_of, csize_of, nsize_of, name_of, tile_of, seen_of, entry_seen, inode_seen, held_seen, is_entry_long, is_crc_right, is_size_right, is_entry_in_range, is_inode_long, is_inode_in_range, is_data_crc_right}
-use Rattle.jnode.specs.Writing.{canonical, canonical_entry, canonical_inode, entry_front, inode_front, object_bytes, time_bytes, range_bytes, header_bytes, clean_marker, filled}
+use Rattle.jnode.specs.Header.{magic_of, nodetype_of, totlen_of, has_header, is_good, is_good_front}
+use Rattle.jnode.specs.Reading.{dirent_of, compr_of, csize_of, nsize_of, name_of, seen_of, entry_seen, inode_seen, held_seen, is_entry_long, is_crc_right, is_size_right, is_entry_in_range, is_inode_long, is_inode_in_range, is_data_crc_right}
+use Rattle.jnode.specs.Writing.{canonical, canonical_entry, canonical_inode, entry_front, inode_front, object_bytes, time_bytes, range_bytes, header_bytes, filled}
 use Rattle.jnode.specs.Weak.{torn, is_sound, is_weak, has_bounded_header}
 use Rattle.jnode.specs.Laws.{IsPlain, IsTornTile}
 use Rattle.jnode.specs.declared.order.Endian.{Endian}
@@ -23,7 +23,7 @@ use Rattle.jnode.specs.declared.node.NodeRef.{NodeRef}
 use Rattle.jnode.specs.declared.node.NodeRef.TheVariants.{Entry, Inode}
 use Rattle.jnode.proofs.HeaderLemmas.{header_is_twelve_bytes, no_magic, too_short, too_long, erased_is_not_good, header_holds, good_from}
 use Rattle.jnode.proofs.ReadingLemmas.{five_both}
-use Rattle.jnode.proofs.WritingLemmas.{canonical_long, canonical_header, canonical_is_tile, HasHeader, nodetype_to, size_of, length-canonical, length-filled}
+use Rattle.jnode.proofs.WritingLemmas.{canonical_long, canonical_header, nodetype_to, size_of, length-canonical, length-filled}
 
 -- ---- bytes and erased ones after them
 

@@ -1,5 +1,5 @@
 -- What is written is read back: each field stands at its place.
-use Rattle.std.proofs.Common.{◌≡◌, ◌≢◌, ◌↔◌, ℕ, ◌+◌, ◌-◌, ◌*◌, ◌^◌, ◌<◌, ◌≤◌, ◌==◌, ◌&&◌, Bool, true, IsTrue, List, [], ◌∷◌, ◌++◌, length, take, drop, slice_index, bit_or, refl, sym, ap, ap₂, subst, ◌∙◌, arith}
+use Rattle.std.proofs.Common.{◌≡◌, ◌≢◌, ◌↔◌, ℕ, ◌+◌, ◌-◌, ◌^◌, ◌<◌, ◌≤◌, true, IsTrue, List, [], ◌++◌, length, take, drop, slice_index, bit_or, refl, sym, ap, ap₂, subst, ◌∙◌, arith}
 use Rattle.std.proofs.lemmas.Bool.{leb-true, le-leb, eqb-true, eq-eqb, and_parts, and_from}
 use Rattle.std.proofs.lemmas.List.{append_assoc, append-nil, length-append, length-replicate}
 use Rattle.std.proofs.Math.Seq.{take-append_seam}
@@ -9,7 +9,7 @@ use Rattle.flashbase.proofs.CrcLemmas.{crc_of-lt}
 use Rattle.flashbase.proofs.BytesLemmas.{le_pad4}
 use Rattle.jnode.specs.Order.{number_in, number_at, bytes_in}
 use Rattle.jnode.specs.Header.{magic, accurate_bit, is_accurate, magic_of, nodetype_of, totlen_of, hdr_crc_of, header_crc_of}
-use Rattle.jnode.specs.Reading.{dirent_type, inode_type, marker_type, padding_type, seen_of, plain_seen, tile_of, entry_len, inode_len, IsTile, IsSoundInode, ReadsEntry, ReadsInode, ReadsFill, Reads, dirent_of, inode_of, nsize_of, name_of, csize_of, compr_of, data_of}
+use Rattle.jnode.specs.Reading.{dirent_type, inode_type, marker_type, padding_type, seen_of, plain_seen, entry_len, inode_len, IsTile, ReadsEntry, ReadsInode, ReadsFill, Reads, dirent_of, inode_of, name_of, csize_of, compr_of, data_of}
 use Rattle.jnode.specs.Writing.{header_bytes, clean_marker, padding_node, entry_front, canonical_entry, object_bytes, time_bytes, range_bytes, inode_front, canonical_inode, canonical, filled, held_bytes, held_compr, HoldsRange, holds_range, is_writable, FitsEntry, FitsInode, Fits, IsWritableEntry, IsWritableInode, IsWritable}
 use Rattle.jnode.specs.declared.order.Endian.{Endian}
 use Rattle.jnode.specs.declared.order.Endian.TheVariants.{Little, Big}

@@ -1,5 +1,5 @@
 -- What a node's bytes say (Linux, include/uapi/linux/jffs2.h: `struct jffs2_raw_dirent`, `struct jffs2_raw_inode`).
-use Rattle.std.specs.Prelude.{◌≡◌, ◌≢◌, ◌≤◌, ◌==◌, ◌&&◌, ◌||◌, ◌+◌, ◌/◌, ℕ, Bool, not, nat_le, nat_lt, if◌then◌else◌, IsTrue, Option, Some, None, List, length, take, drop, slice_index, bit_and}
+use Rattle.std.specs.Prelude.{◌≡◌, ◌≢◌, ◌≤◌, ◌==◌, ◌&&◌, ◌||◌, ◌+◌, ℕ, Bool, not, nat_le, nat_lt, if◌then◌else◌, IsTrue, Option, Some, None, List, length, take, drop, slice_index, bit_and}
 use Rattle.flashbase.specs.Crc.{crc_of}
 use Rattle.flashbase.specs.Bytes.{pad4_of}
 use Rattle.jnode.specs.Order.{number_at}

@@ -1,5 +1,5 @@
 -- The written form of nodes (Linux, include/uapi/linux/jffs2.h: `struct jffs2_raw_dirent`, `struct jffs2_raw_inode`).
-use Rattle.std.specs.Prelude.{◌≡◌, ◌≤◌, ◌<◌, ◌^◌, ◌+◌, ◌-◌, ◌==◌, ◌&&◌, ℕ, Bool, true, nat_le, List, [], ◌∷◌, ◌++◌, length}
+use Rattle.std.specs.Prelude.{◌≡◌, ◌≤◌, ◌<◌, ◌+◌, ◌-◌, ◌==◌, ◌&&◌, ℕ, Bool, true, nat_le, List, [], ◌∷◌, ◌++◌, length}
 use Rattle.flashbase.specs.Crc.{crc_of}
 use Rattle.flashbase.specs.Bytes.{pad4_of, erased}
 use Rattle.flashbase.specs.Ranges.{AreBytes, IsHalf, IsWord}

@@ -1,7 +1,6 @@
 -- An image's nodes are those of its blocks.
-use Rattle.std.proofs.Common.{◌≡◌, ℕ, zero, suc, ◌+◌, ◌-◌, ◌*◌, ◌/◌, ◌%◌, ◌<◌, ◌≤◌, List, [], ◌∷◌, ◌++◌, length, take, drop, refl, sym, ap, ◌∙◌, arith, Option}
+use Rattle.std.proofs.Common.{◌≡◌, ℕ, zero, suc, ◌+◌, ◌-◌, ◌*◌, ◌<◌, ◌≤◌, List, [], ◌∷◌, ◌++◌, length, take, refl, sym, ap, ◌∙◌, arith, Option}
 use Rattle.std.specs.Prelude.{flat_map, filter_map}
-use Rattle.std.specs.Int.{div_ceil}
 use Rattle.std.proofs.lemmas.Grind.{div_ceil_times, flat_map-append}
 use Rattle.std.proofs.lemmas.List.{drop_all, take-replicate, append-nil}
 use Rattle.std.proofs.lemmas.List.Elements.{filter_map-append}
@@ -45,6 +44,6 @@ nodes_are_of_blocks e size blocks image p h =
     let sum : (blocks - n) + n ≡ blocks = omega arith in
     filter_map-flat_map node_sighted (λ k. sightings_in e (k * size) (block_of size image k)) (below n)
     ∙ (sym (flat_map-below (λ k. nodes_in e (k * size) (block_of size image k)) n (blocks - n)
-        (λ k q. ap (nodes_in e (k * size)) (block_past size image k (past_count size image k p q))
-            ∙ ap (filter_map node_sighted) (erased_has_no_nodes e (k * size) size)))
+    (λ k q. ap (nodes_in e (k * size)) (block_past size image k (past_count size image k p q))
+    ∙ ap (filter_map node_sighted) (erased_has_no_nodes e (k * size) size)))
     ∙ ap (λ (m : ℕ). flat_map (λ k. nodes_in e (k * size) (block_of size image k)) (below m)) sum)

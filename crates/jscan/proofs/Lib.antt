@@ -9,3 +9,6 @@ pub mod BlankLemmas
 pub mod SightingLaws
 pub mod MarkedLemmas
 pub mod BlockLemmas
+pub mod StreamLemmas
+pub mod CountLemmas
+pub mod StreamCounts

@@ -1,12 +1,12 @@
 -- A block that holds a beginning of the clean marker.
-use Rattle.std.proofs.Common.{◌≡◌, ℕ, zero, suc, ◌+◌, ◌-◌, ◌*◌, ◌<◌, ◌≤◌, Bool, true, false, leb, cond, eqb, ◌&&◌, List, [], ◌∷◌, ◌++◌, length, take, drop, refl, sym, ap, subst, ◌∙◌, arith, ⊎_elim, length-append, append_assoc}
-use Rattle.std.proofs.lemmas.Bool.{cond-true, cond-false, and_left, and_right, and_from, le-leb, agree_below_at, eq-eqb, ne_eqb, cases_eq}
+use Rattle.std.proofs.Common.{◌≡◌, ℕ, zero, suc, ◌+◌, ◌-◌, ◌*◌, ◌<◌, ◌≤◌, true, false, leb, cond, eqb, ◌&&◌, List, [], ◌∷◌, ◌++◌, length, take, drop, refl, sym, ap, subst, ◌∙◌, arith, ⊎_elim, length-append, append_assoc}
+use Rattle.std.proofs.lemmas.Bool.{cond-false, and_left, and_right, and_from, le-leb, agree_below_at, ne_eqb, cases_eq}
 use Rattle.std.proofs.lemmas.List.{drop_at, take_all, length-take-le, length-replicate, drop-drop, replicate-append-replicate}
 use Rattle.flashbase.specs.Bytes.{erased, pad4_of}
 use Rattle.flashbase.specs.Crc.{crc_after, push_byte, push_bits, push_bit}
 use Rattle.jnode.specs.Order.{number_in, bytes_in}
 use Rattle.jnode.specs.Header.{is_good, is_good_front, has_header, header_crc_of, header_of, totlen_of}
-use Rattle.jnode.specs.Reading.{seen_of, plain_seen, tile_of}
+use Rattle.jnode.specs.Reading.{seen_of, plain_seen}
 use Rattle.jnode.specs.Writing.{clean_marker, header_bytes}
 use Rattle.jnode.specs.declared.node.Seen.{Seen}
 use Rattle.jnode.specs.declared.node.Seen.TheVariants as seen
@@ -26,7 +26,7 @@ cut_marker e j = take j (clean_marker e) ++ erased (12 - j)
 marked_is_cut : (e : Endian) (size j : ℕ) → j ≤ 12 → 12 ≤ size → marked e size j ≡ cut_marker e j ++ erased (size - 12)
 marked_is_cut e size j h k =
     sym (append_assoc (take j (clean_marker e)) (erased (12 - j)) (erased (size - 12))
-        ∙ ap (λ (xs : List ℕ). take j (clean_marker e) ++ xs) (replicate-append-replicate (12 - j) (size - 12) 0xFF ∙ ap (λ (n : ℕ). erased n) (omega arith)))
+    ∙ ap (λ (xs : List ℕ). take j (clean_marker e) ++ xs) (replicate-append-replicate (12 - j) (size - 12) 0xFF ∙ ap (λ (n : ℕ). erased n) (omega arith)))
 
 -- without a right magic and checksum no header is good
 no_header : (e : Endian) (rest : List ℕ) → has_header e rest ≡ false → is_good e rest ≡ false
@@ -92,7 +92,7 @@ whole_good e s =
     let long : 12 ≤ length block = omega (arith, length-append (clean_marker e) (erased s), length_marker e) in
     let totlen = whole_totlen e s in
     and_from _ _ (le-leb 12 (length block) long)
-        (and_from _ _ (and_from _ _ (whole_header e s) (le-leb 12 (totlen_of e block) (omega (arith, totlen)))) (le-leb (totlen_of e block) (length block) (omega (arith, totlen, long))))
+    (and_from _ _ (and_from _ _ (whole_header e s) (le-leb 12 (totlen_of e block) (omega (arith, totlen)))) (le-leb (totlen_of e block) (length block) (omega (arith, totlen, long))))
 
 whole_tile : (e : Endian) (s : ℕ)
     → tile_at e 0 (clean_marker e ++ erased s) ≡ record { place = 0; kind = Node (header_of e (clean_marker e ++ erased s)); bytes = take 12 (clean_marker e ++ erased s) }
@@ -108,11 +108,11 @@ whole_sighted e start s =
     let long : 12 ≤ length block = omega (arith, length-append (clean_marker e) (erased s), length_marker e) in
     let size : length (take 12 block) ≡ 12 = length-take-le 12 block long in
     let first = subst (λ (t : Tile). tiling_from e 0 0 block ≡ t ∷ tiling_from e (0 + length t.bytes) 0 (drop (length t.bytes) block)) (whole_tile e s)
-        (tile_then_rest e 0 block (omega arith)) in
+    (tile_then_rest e 0 block (omega arith)) in
     let behind : sightings_from e start (0 + length (take 12 block)) (drop (length (take 12 block)) block) ≡ [] =
-        ap (λ (n : ℕ). sightings_from e start (0 + n) (drop n block)) size
-        ∙ ap (sightings_from e start (0 + 12)) (drop_at (clean_marker e) (erased s) 12 (length_marker e))
-        ∙ quiet_has_no_nodes e start (0 + 12) (erased s) (erased_none_good e s) in
+    ap (λ (n : ℕ). sightings_from e start (0 + n) (drop n block)) size
+    ∙ ap (sightings_from e start (0 + 12)) (drop_at (clean_marker e) (erased s) 12 (length_marker e))
+    ∙ quiet_has_no_nodes e start (0 + 12) (erased s) (erased_none_good e s) in
     ap (seen_among e start) first
     ∙ ap (λ (l : List (ℕ × Seen)). (start + 0, seen_of e (take 12 block)) ∷ l) behind
     ∙ ap (λ (n : ℕ). (n, seen_of e (take 12 block)) ∷ []) (omega arith)
@@ -123,11 +123,11 @@ pub marked_has_no_nodes : (e : Endian) (start size j : ℕ) → j ≤ 12 → 12 
 marked_has_no_nodes e start size j h k =
     ⊎_elim
     (λ (same : j ≡ 12).
-        subst (λ (j : ℕ). sightings_in e start (marked e size j) ≡ cond (eqb j 12) ((start, seen.Marker) ∷ []) []) (sym same)
-        (ap (λ (m : List ℕ). sightings_in e start (m ++ erased (size - 12))) (take_all 12 (clean_marker e) (omega (arith, length_marker e))) ∙ whole_sighted e start (size - 12)))
+    subst (λ (j : ℕ). sightings_in e start (marked e size j) ≡ cond (eqb j 12) ((start, seen.Marker) ∷ []) []) (sym same)
+    (ap (λ (m : List ℕ). sightings_in e start (m ++ erased (size - 12))) (take_all 12 (clean_marker e) (omega (arith, length_marker e))) ∙ whole_sighted e start (size - 12)))
     (λ (other : j ≡ 12 → ⊥).
-        let less : j < 12 = omega arith in
-        ap (sightings_in e start) (marked_is_cut e size j h k)
-        ∙ (quiet_has_no_nodes e start 0 (cut_marker e j ++ erased (size - 12)) (cut_none_good e j (size - 12) less)
-        ∙ sym (cond-false (eqb j 12) ((start, seen.Marker) ∷ []) [] (ne_eqb j 12 other))))
+    let less : j < 12 = omega arith in
+    ap (sightings_in e start) (marked_is_cut e size j h k)
+    ∙ (quiet_has_no_nodes e start 0 (cut_marker e j ++ erased (size - 12)) (cut_none_good e j (size - 12) less)
+    ∙ sym (cond-false (eqb j 12) ((start, seen.Marker) ∷ []) [] (ne_eqb j 12 other))))
     (cases_eq j 12)

@@ -1,19 +1,18 @@
 -- The sightings of a block are its stretches that are nodes' tiles.
-use Rattle.std.proofs.Common.{◌≡◌, ℕ, zero, suc, ◌+◌, ◌-◌, ◌<◌, ◌≤◌, Bool, true, false, List, [], ◌∷◌, ◌++◌, length, drop, refl, sym, ap, ap₂, subst, ◌∙◌, arith, ⊎_elim, length-drop, Option, Some, None}
+use Rattle.std.proofs.Common.{◌≡◌, ℕ, zero, suc, ◌+◌, ◌<◌, ◌≤◌, true, List, [], ◌∷◌, length, drop, refl, sym, ap, ap₂, ◌∙◌, arith, ⊎_elim, length-drop, Option, None}
 use Rattle.std.specs.Prelude.{filter_map, ◌==◌, if◌then◌else◌}
 use Rattle.std.specs.List.{list_all, cons_option}
 use Rattle.std.proofs.lemmas.Bool.{cond-true, cond-false, cond_both, cases_Bool}
 use Rattle.jnode.specs.declared.order.Endian.{Endian}
 use Rattle.jnode.specs.Header.{magic_of}
 use Rattle.jnode.specs.declared.node.Seen.{Seen}
-use Rattle.jscan.specs.Tiling.{Tile, tile_at, tiling_from}
+use Rattle.jscan.specs.Tiling.{tile_at}
 use Rattle.jscan.specs.Image.{sighting, sightings_from, sightings_in}
-use Rattle.jscan.specs.Stretches.{class_of, other_magic, look_of, stretch_of, is_one_run, in_front, stretches_from, stretches}
-use Rattle.jscan.specs.Laws.{sighted_by, sighted}
+use Rattle.jscan.specs.Stretches.{class_of, other_magic, look_of, stretch_of, is_one_run, in_front, stretches_from, stretches, sighted_by, sighted}
 use Rattle.jscan.specs.declared.tiles.TileKind.{TileKind}
 use Rattle.jscan.specs.declared.tiles.TileKind.TheVariants.{Node, Word, Rest}
 use Rattle.jscan.specs.declared.stretch.Look.{Look}
-use Rattle.jscan.specs.declared.stretch.Look.TheVariants.{Tiled, Erased, OtherOrder, Dirt}
+use Rattle.jscan.specs.declared.stretch.Look.TheVariants.{Erased, OtherOrder, Dirt}
 use Rattle.jscan.specs.declared.stretch.Stretch.{Stretch}
 use Rattle.jscan.proofs.TileLemmas.{tile_then_rest, tile_some}
 use Rattle.jscan.proofs.StretchLaws.{front_then_rest, no_stretches}
@@ -31,10 +30,10 @@ in_front_sighted s [] = refl
 in_front_sighted s (t ∷ ts) =
     ⊎_elim
     (λ one.
-        let none = run_unsighted s.look t.look s.addr t.addr one in
-        ap (filter_map sighted) (cond-true (is_one_run s.look t.look) (record { addr = s.addr; len = s.len + t.len; look = s.look } ∷ ts) (s ∷ t ∷ ts) one)
-        ∙ ap (λ (o : Option (ℕ × Seen)). cons_option o (filter_map sighted ts)) none.0
-        ∙ sym (ap₂ (λ (o p : Option (ℕ × Seen)). cons_option o (cons_option p (filter_map sighted ts))) none.0 none.1))
+    let none = run_unsighted s.look t.look s.addr t.addr one in
+    ap (filter_map sighted) (cond-true (is_one_run s.look t.look) (record { addr = s.addr; len = s.len + t.len; look = s.look } ∷ ts) (s ∷ t ∷ ts) one)
+    ∙ ap (λ (o : Option (ℕ × Seen)). cons_option o (filter_map sighted ts)) none.0
+    ∙ sym (ap₂ (λ (o p : Option (ℕ × Seen)). cons_option o (cons_option p (filter_map sighted ts))) none.0 none.1))
     (λ two. ap (filter_map sighted) (cond-false (is_one_run s.look t.look) (record { addr = s.addr; len = s.len + t.len; look = s.look } ∷ ts) (s ∷ t ∷ ts) two))
     (cases_Bool (is_one_run s.look t.look))
 
@@ -42,8 +41,8 @@ class_unsighted : (e : Endian) (addr : ℕ) (bytes : List ℕ) → None ≡ sigh
 unfolding class_of
 class_unsighted e addr bytes =
     cond_both (list_all (λ b. b == 0xFF) bytes) Erased (if magic_of e bytes == other_magic then OtherOrder else Dirt) (λ (look : Look). None ≡ sighted_by addr look)
-        (λ h. refl)
-        (λ h. cond_both (magic_of e bytes == other_magic) OtherOrder Dirt (λ (look : Look). None ≡ sighted_by addr look) (λ i. refl) (λ i. refl))
+    (λ h. refl)
+    (λ h. cond_both (magic_of e bytes == other_magic) OtherOrder Dirt (λ (look : Look). None ≡ sighted_by addr look) (λ i. refl) (λ i. refl))
 
 tile_sighted : (e : Endian) (addr : ℕ) (bytes : List ℕ) (kind : TileKind) → sighting e addr bytes kind ≡ sighted_by addr (look_of e kind bytes)
 tile_sighted e addr bytes (Node header) = refl

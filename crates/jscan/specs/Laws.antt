@@ -1,5 +1,5 @@
 -- Laws of tilings and stretches. Each is a statement: it holds since a public function's contract names it.
-use Rattle.std.specs.Prelude.{◌≡◌, ℕ, ◌+◌, ◌*◌, ◌%◌, ◌<◌, ◌≤◌, ◌==◌, false, if◌then◌else◌, Option, Some, None, List, [], ◌∷◌, ◌++◌, length, drop, sum_by, filter_map, flat_map}
+use Rattle.std.specs.Prelude.{◌≡◌, ℕ, ◌+◌, ◌*◌, ◌%◌, ◌<◌, ◌≤◌, ◌==◌, false, if◌then◌else◌, List, [], ◌∷◌, ◌++◌, length, drop, sum_by, filter_map, flat_map}
 use Rattle.jnode.specs.declared.order.Endian.{Endian}
 use Rattle.jnode.specs.declared.node.Dirent.{Dirent}
 use Rattle.jnode.specs.declared.node.Seen.{Seen}
@@ -10,10 +10,9 @@ use Rattle.jnode.specs.declared.node.Seen.TheVariants.{Entry, Marker}
 use Rattle.jnode.specs.Header.{header_len, IsGood, is_good}
 use Rattle.jnode.specs.Reading.{seen_of, tile_of}
 use Rattle.jscan.specs.Tiling.{Tile, IsTiling, tile_at, tiling_from, tiling}
-use Rattle.jscan.specs.Stretches.{is_one_run, stretches}
+use Rattle.jscan.specs.Stretches.{is_one_run, stretches, sighted}
 use Rattle.jscan.specs.Image.{block_of, sightings_from, sightings_in, node_sighted, nodes}
 use Rattle.jscan.specs.Blank.{marked, blank_from, IsBlankFrom}
-use Rattle.jscan.specs.declared.stretch.Look.{Look}
 use Rattle.jscan.specs.declared.stretch.Stretch.{Stretch}
 use Rattle.jscan.specs.declared.stretch.Look.TheVariants.{Tiled}
 
@@ -66,14 +65,6 @@ NamesAreShort = (e : Endian) (start : ℕ) (block : List ℕ) (before after : Li
     → stretches e start block ≡ before ++ s ∷ after → s.look ≡ Tiled (Entry entry) → length entry.name ≤ 254
 
 -- ---- sightings
-
-abbrev pub sighted_by : ℕ → Look → Option (ℕ × Seen)
-sighted_by addr (Tiled what) = Some (addr, what)
-sighted_by addr _ = None
-
--- what of a stretch is a sighting
-abbrev pub sighted : Stretch → Option (ℕ × Seen)
-sighted s = sighted_by s.addr s.look
 
 -- The sightings of a block are its stretches that are nodes' tiles.
 abbrev pub SightingsAreStretches : Type 0

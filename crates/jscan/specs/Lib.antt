@@ -5,4 +5,9 @@ pub mod Blank
 pub mod Stretches
 pub mod Runs
 pub mod StretchesLeft
+pub mod SightingsLeft
+pub mod Findings
 pub mod Laws
+pub mod Filling
+pub mod Stream
+pub mod Counts

@@ -1,6 +1,7 @@
 -- The stretches of a block: its nodes' tiles, and the longest runs of the words between them.
-use Rattle.std.specs.Prelude.{ℕ, ◌+◌, ◌==◌, Bool, true, false, List, [], ◌∷◌, map, length, if◌then◌else◌}
+use Rattle.std.specs.Prelude.{ℕ, ◌+◌, ◌==◌, Option, Some, None, Bool, true, false, List, [], ◌∷◌, map, length, if◌then◌else◌}
 use Rattle.std.specs.List.{list_all}
+use Rattle.jnode.specs.declared.node.Seen.{Seen}
 use Rattle.jnode.specs.declared.order.Endian.{Endian}
 use Rattle.jnode.specs.Header.{magic_of}
 use Rattle.jnode.specs.Reading.{seen_of}
@@ -57,3 +58,11 @@ stretches_from e start place rest = runs_joined (map (stretch_of e start) (tilin
 -- the stretches of the block that begins at this address, in order
 abbrev pub stretches : Endian → ℕ → List ℕ → List Stretch
 stretches e start block = stretches_from e start 0 block
+
+abbrev pub sighted_by : ℕ → Look → Option (ℕ × Seen)
+sighted_by addr (Tiled what) = Some (addr, what)
+sighted_by addr _ = None
+
+-- what of a stretch is a sighting
+abbrev pub sighted : Stretch → Option (ℕ × Seen)
+sighted s = sighted_by s.addr s.look

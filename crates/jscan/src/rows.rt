@@ -1,10 +1,14 @@
 //! Worked blocks. Each function's contract is a block and its stretches, and its body is empty.
 
-ghost use Rattle.std.specs.Prelude.{◌≡◌, ◌++◌, [], ◌∷◌};
+ghost use Rattle.std.specs.Prelude.{◌≡◌, ◌++◌, [], ◌∷◌, take};
 ghost use Rattle.flashbase.specs.Bytes.{erased};
 ghost use Rattle.jnode.specs.declared.order.Endian.TheVariants.{Little, Big};
 ghost use Rattle.jnode.specs.declared.node.Seen.TheVariants as seen;
-ghost use Rattle.jnode.specs.Vectors.{little_marker, entry_a, named_a, no_length, length_13};
+ghost use Rattle.jnode.specs.Vectors.{little_marker, entry_a, entry_a_big, named_a, no_length, length_13, hidden_entry, inode_2, new_file};
+ghost use Rattle.jnode.specs.declared.node.Damage.TheVariants.{DataCrc};
+ghost use Rattle.jnode.specs.declared.node.NodeRef.TheVariants.{Entry, Inode};
+ghost use Rattle.jscan.specs.Blank.{blank_from};
+ghost use Rattle.jscan.specs.Image.{nodes};
 ghost use Rattle.jscan.specs.Stretches.{stretches};
 ghost use Rattle.jscan.specs.declared.stretch.Look.TheVariants.{Tiled, Erased, OtherOrder, Dirt};
 ghost use Rattle.jscan.specs.declared.stretch.Stretch.{Stretch};
@@ -35,9 +39,12 @@ pub fn entry_is_seen()
         ∷ record { addr = 8248; len = 40; look = Erased } ∷ [] }
 {}
 
-/// A node of the other byte order begins with a word of its own look.
+/// A node of the other byte order begins with a word of its own look, whichever order is the other.
 pub fn other_order_is_known()
-    ensures { stretches Big 0 (entry_a ++ erased 43)
+    ensures little { stretches Big 0 (entry_a ++ erased 43)
+        ≡ record { addr = 0; len = 4; look = OtherOrder } ∷ record { addr = 4; len = 40; look = Dirt }
+        ∷ record { addr = 44; len = 40; look = Erased } ∷ [] }
+    ensures big { stretches Little 0 (entry_a_big ++ erased 43)
         ≡ record { addr = 0; len = 4; look = OtherOrder } ∷ record { addr = 4; len = 40; look = Dirt }
         ∷ record { addr = 44; len = 40; look = Erased } ∷ [] }
 {}
@@ -54,4 +61,25 @@ pub fn rest_is_judged_whole()
 pub fn full_block()
     ensures { stretches Little 0 (no_length ++ erased 4084)
         ≡ record { addr = 0; len = 12; look = Dirt } ∷ record { addr = 12; len = 4084; look = Erased } ∷ [] }
+{}
+
+/// A damaged node whose data are an entry's bytes is one tile, and hides the entry.
+pub fn hidden_entry_is_not_seen()
+    ensures { stretches Little 0 (hidden_entry ++ erased 19)
+        ≡ record { addr = 0; len = 112; look = Tiled (seen.Damaged DataCrc) } ∷ record { addr = 112; len = 16; look = Erased } ∷ [] }
+{}
+
+/// The nodes of an image with one file, whole and cut after 100 bytes.
+pub fn nodes_of_a_cut_image()
+    ensures whole { nodes Little 128 (little_marker ++ inode_2 ++ entry_a) ≡ (12, Inode new_file) ∷ (80, Entry named_a) ∷ [] }
+    ensures cut { nodes Little 128 (take 100 (little_marker ++ inode_2 ++ entry_a)) ≡ (12, Inode new_file) ∷ [] }
+{}
+
+/// Writing goes on in the second block of the cut image, and in the first one where that holds a
+/// beginning of the marker alone.
+pub fn blank_tail()
+    ensures cut { blank_from Little 128 (take 100 (little_marker ++ inode_2 ++ entry_a)) 2 ≡ 1 }
+    ensures marked { blank_from Little 128 little_marker 1 ≡ 0 }
+    ensures torn { blank_from Little 128 (take 7 little_marker) 1 ≡ 0 }
+    ensures none { blank_from Little 128 [] 2 ≡ 0 }
 {}

@@ -35,6 +35,30 @@ const HIDING: [u8; 68] = [
     0x8a, 0xec, 0x61, 0x44,
 ];
 
+/// A header of type 0xe008, for extended attributes.
+const ATTRIBUTE: [u8; 12] = [
+    0x85, 0x19, 0x08, 0xe0, 0x0c, 0x00, 0x00, 0x00, 0xa9, 0xa8, 0xcc, 0x67,
+];
+
+/// A header of the unknown type 0xa0f7.
+const READ_ONLY: [u8; 12] = [
+    0x85, 0x19, 0xf7, 0xa0, 0x0c, 0x00, 0x00, 0x00, 0x2c, 0x5b, 0xfb, 0xdb,
+];
+
+/// A header of the unknown type 0xe0f7.
+const INCOMPATIBLE: [u8; 12] = [
+    0x85, 0x19, 0xf7, 0xe0, 0x0c, 0x00, 0x00, 0x00, 0x65, 0x03, 0x08, 0x83,
+];
+
+/// An inode node whose data are compressed by method 7.
+const COMPRESSED: [u8; 72] = [
+    0x85, 0x19, 0x02, 0xe0, 0x48, 0x00, 0x00, 0x00, 0xa5, 0x44, 0x21, 0xd2, 0x02, 0x00, 0x00, 0x00,
+    0x03, 0x00, 0x00, 0x00, 0xa4, 0x81, 0x00, 0x00, 0x00, 0x00, 0x00, 0x00, 0x08, 0x00, 0x00, 0x00,
+    0x00, 0x00, 0x00, 0x00, 0x00, 0x00, 0x00, 0x00, 0x00, 0x00, 0x00, 0x00, 0x00, 0x00, 0x00, 0x00,
+    0x04, 0x00, 0x00, 0x00, 0x08, 0x00, 0x00, 0x00, 0x07, 0x07, 0x00, 0x00, 0xd1, 0x24, 0x78, 0x97,
+    0x72, 0x9a, 0xfb, 0x8e, 0x01, 0x02, 0x03, 0x04,
+];
+
 fn shown(look: &Look<'_>) -> &'static str {
     match look {
         Look::Tiled(Seen::Marker) => "marker",
@@ -120,6 +144,7 @@ fn a_marker_in_the_last_twelve_bytes(rt: HostRuntime) -> Result<(), Fail> {
 
 #[test]
 fn an_entry_in_damaged_data_is_no_node(rt: HostRuntime) -> Result<(), Fail> {
+    rows::hidden_entry_is_not_seen();
     let mut block = [0xff; 128];
     block[..68].copy_from_slice(&HIDING);
     block[68..112].copy_from_slice(&ENTRY_A);
@@ -197,6 +222,75 @@ fn tiles_in_order(rt: HostRuntime) -> Result<(), Fail> {
     Ok(())
 }
 
+fn found(stretch: Stretch<'_>) -> Option<Finding> {
+    stretch.finding()
+}
+
+fn refused(stretch: Stretch<'_>) -> Option<ScanFault> {
+    stretch.refusal()
+}
+
+fn sighting_row(sighting: (u32, Seen<'_>)) -> (u32, &'static str) {
+    let (addr, seen) = sighting;
+    (addr, shown(&Look::Tiled(seen)))
+}
+
+#[test]
+fn findings_and_refusals(rt: HostRuntime) -> Result<(), Fail> {
+    let mut block = [0xff; 256];
+    block[4..16].copy_from_slice(&ATTRIBUTE);
+    block[16..28].copy_from_slice(&READ_ONLY);
+    block[28..40].copy_from_slice(&INCOMPATIBLE);
+    block[40..112].copy_from_slice(&COMPRESSED);
+    block[112..180].copy_from_slice(&HIDING);
+    block[180..224].copy_from_slice(&ENTRY_A);
+    block[240] = 0x19;
+    block[241] = 0x85;
+    block[244] = 0;
+    let findings: Vec<Finding> = Stretches::<LittleEndian>::new(4096, &block)
+        .filter_map(found)
+        .collect(rt.alloc())?;
+    let want = [
+        (4100, FindingKind::Attribute),
+        (4112, FindingKind::ReadOnly(0xa0f7)),
+        (4208, FindingKind::Damaged(Damage::DataCrc)),
+        (4336, FindingKind::OtherOrder),
+        (4340, FindingKind::Dirt),
+    ]
+    .map(|(addr, kind)| Finding { addr, kind });
+    assert_eq!(rt; findings.as_slice(), want.as_slice());
+    let refusals: Vec<ScanFault> = Stretches::<LittleEndian>::new(4096, &block)
+        .filter_map(refused)
+        .collect(rt.alloc())?;
+    let want = [
+        ScanFault::Incompatible {
+            addr: 4124,
+            nodetype: 0xe0f7,
+        },
+        ScanFault::Compressed {
+            addr: 4136,
+            compr: 7,
+        },
+    ];
+    assert_eq!(rt; refusals.as_slice(), want.as_slice());
+    Ok(())
+}
+
+#[test]
+fn sightings_in_order(rt: HostRuntime) -> Result<(), Fail> {
+    let mut block = [0xff; 96];
+    block[4..16].copy_from_slice(&LITTLE_MARKER);
+    block[20..64].copy_from_slice(&ENTRY_A);
+    let rows: Vec<(u32, &str)> = Sightings::<LittleEndian>::new(8192, &block)
+        .map(sighting_row)
+        .collect(rt.alloc())?;
+    assert_eq!(rt;
+        rows.as_slice(),
+        [(8196, "marker"), (8212, "entry")].as_slice()
+    );
+    Ok(())
+}
+
 #[test]
 fn block_sizes(rt: HostRuntime) {
     for (block, readable) in [
@@ -239,6 +333,12 @@ fn laws_can_be_called(rt: HostRuntime) {
     laws::stretches_make_up();
     laws::stretches_are_few();
     laws::nodes_are_seen();
+    laws::sightings_are_stretches();
+    rows::nodes_of_a_cut_image();
+    rows::blank_tail();
+    laws::quiet_has_no_nodes();
+    laws::nodes_are_of_blocks();
+    laws::blank_from_is_least();
     assert_eq!(rt;
         (LEAST_BLOCK, GREATEST_BLOCK, GREATEST_IMAGE),
         (4096, 4_194_304, 268_435_456)

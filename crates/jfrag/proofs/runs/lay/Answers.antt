@@ -26,10 +26,10 @@ pub returns-clause-tight : goal.returns-clause-tight
 returns-clause-tight c =
     let same : (i : ℕ) → run_at c.split-2.new.runs.entries i ≡ run_at c.args.runs.now.entries i = λ i. c.split-2.ensures.same i ∙ c.in_ok-fresh.ensures.same i in
     let edges : AddsEdges c.args.piece.now c.args.runs.now c.paint.new.runs =
-        adds_edges c.args.piece.now c.args.runs.now c.split.new.runs c.split-2.new.runs c.paint.new.runs c.end-end.result c.is_under-wins_first.result c.is_under-wins_last.result c.end-end.ensures (omega arith)
-        (c.is_under-wins_first.ensures ∙ ap (is_under c.args.piece.now.version) c.run_at.ensures.run)
-        (c.is_under-wins_last.ensures ∙ ap (is_under c.args.piece.now.version) c.run_at-2.ensures.run)
-        c.in_ok-fresh.ensures.no_other c.split-2.ensures.no_other c.paint.ensures.no_new in
+    adds_edges c.args.piece.now c.args.runs.now c.split.new.runs c.split-2.new.runs c.paint.new.runs c.end-end.result c.is_under-wins_first.result c.is_under-wins_last.result c.end-end.ensures (omega arith)
+    (c.is_under-wins_first.ensures ∙ ap (is_under c.args.piece.now.version) c.run_at.ensures.run)
+    (c.is_under-wins_last.ensures ∙ ap (is_under c.args.piece.now.version) c.run_at-2.ensures.run)
+    c.in_ok-fresh.ensures.no_other c.split-2.ensures.no_other c.paint.ensures.no_new in
     keeps_tight c.args.piece.now c.args.runs.now c.paint.new.runs c.run_at.ensures.ordered c.paint.ensures.ordered c.requires.settled c.requires.tight
     (λ i. c.paint.ensures.painted i ∙ ap (painted c.args.piece.now i) (same i))
     (joined_moved c.args.piece.now c.args.runs.now.entries c.split-2.new.runs.entries c.paint.new.runs same c.paint.ensures.joined)

@@ -1,4 +1,4 @@
-use Rattle.std.proofs.Common.{◌≡◌, length, take, sym, ap, ◌∙◌, arith}
+use Rattle.std.proofs.Common.{◌≡◌, take, sym, ap, ◌∙◌, arith}
 use Rattle.std.proofs.lemmas.List.{take_all, length-set}
 use Rattle.jnode.proofs.OrderLemmas.{take-set}
 use Rattle.jnode.proofs.header.front_of.Goals as goal

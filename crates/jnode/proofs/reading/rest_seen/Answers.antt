@@ -1,4 +1,4 @@
-use Rattle.std.proofs.Common.{◌≡◌, length, arith}
+use Rattle.std.proofs.Common.{length, arith}
 use Rattle.flashbase.proofs.BytesLemmas.{pad4_least}
 use Rattle.jnode.proofs.reading.rest_seen.Goals as goal
 

@@ -8,6 +8,10 @@ use Rattle.jscan.specs.Tiling.{tile_at}
 use Rattle.jscan.specs.Stretches.{class_of, stretches_from}
 use Rattle.jscan.proofs.rows.other_order_is_known.Goals as goal
 
-pub returns : goal.returns
+pub returns-clause-little : goal.returns-clause-little
 unfolding pad4_of crc_after push_byte push_bits push_bit number_in bytes_in is_good is_good_front has_header header_crc_of seen_of entry_seen plain_seen is_entry_long is_crc_right is_size_right is_entry_in_range tile_at class_of stretches_from
-returns c = refl
+returns-clause-little c = refl
+
+pub returns-clause-big : goal.returns-clause-big
+unfolding pad4_of crc_after push_byte push_bits push_bit number_in bytes_in is_good is_good_front has_header header_crc_of seen_of entry_seen plain_seen is_entry_long is_crc_right is_size_right is_entry_in_range tile_at class_of stretches_from
+returns-clause-big c = refl

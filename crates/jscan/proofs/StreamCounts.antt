@@ -1,0 +1,165 @@
+-- What is counted while a source is read block by block.
+use Rattle.std.proofs.Common.{◌≡◌, ℕ, suc, ◌+◌, ◌-◌, ◌*◌, ◌%◌, ◌<◌, ◌≤◌, min, Bool, true, List, [], ◌∷◌, ◌++◌, length, take, drop, Option, None, Some, IfSome, refl, sym, ap, subst, ◌∙◌, arith, append-nil, length-drop, leb}
+use Rattle.std.specs.Prelude.{◌==◌, ◌&&◌, flat_map, nat_le}
+use Rattle.std.specs.Io.KnownBytes.{IsAtEnd}
+use Rattle.std.proofs.Math.Nat.{zero-mul}
+use Rattle.std.proofs.lemmas.Bool.{and_parts, eqb-true, leb-true}
+use Rattle.std.proofs.lemmas.Grind.{div_ceil_times, flat_map-append}
+use Rattle.std.proofs.lemmas.List.{drop-drop}
+use Rattle.std.proofs.lemmas.List.Sums.{sum_by-append}
+use Rattle.flashbase.specs.Bytes.{erased}
+use Rattle.flashbase.specs.Lists.{below}
+use Rattle.flashbase.specs.declared.source.Source.{Ghosts as OfSource}
+use Rattle.jnode.specs.declared.order.Endian.{Endian}
+use Rattle.jscan.specs.Counts.{is_entry_tile, is_inode_tile, is_found, one_if, number_in, stretches_of_block, stretches_below, counts_of, block_counted}
+use Rattle.jscan.specs.Image.{block_of, block_count, is_block_size, greatest_image}
+use Rattle.jscan.specs.Stream.{IsNextBlock, GivesBlock, GivesNone, size_of, start_of, rest_of, failures_of, fault_of}
+use Rattle.jscan.specs.Stretches.{stretches}
+use Rattle.jscan.specs.declared.counts.Counts.{Counts}
+use Rattle.jscan.specs.declared.stream.BlockReader.{BlockReader}
+use Rattle.jscan.specs.declared.stretch.Look.{Look}
+use Rattle.jscan.specs.declared.stretch.Stretch.{Stretch}
+use Rattle.jscan.proofs.CountLemmas.{number_fits}
+
+-- where the source's bytes are known: what is left of them, and the counts of the blocks before
+pub record IsCounted (e : Endian) (size start : ℕ) (counts : Counts) (image : List ℕ) (rest : Option (List ℕ)) : Type 0 where
+  pub left : rest ≡ Some (drop start image)
+  pub so_far : counts ≡ counts_of e size image counts.blocks
+  pub fits : min (length image) start ≤ greatest_image
+  pub tight : start < length image + size
+
+-- so far a scan has given and counted the blocks before `start`
+pub record Scanning {S : Type 0} {o : OfSource S} (e : Endian) (source : S) (size start : ℕ) (counts : Counts) (reader : BlockReader S o) : Type 0 where
+  pub blocks_of : size_of reader ≡ size
+  pub readable : is_block_size size ≡ true
+  pub here : start_of reader ≡ start
+  pub blocks : counts.blocks * size ≡ start
+  pub entries : counts.entries ≤ start
+  pub inodes : counts.inodes ≤ start
+  pub findings : counts.findings ≤ start
+  pub well : fault_of reader ≡ None
+  pub none_failed : failures_of reader ≡ o.failures source
+  pub known : IfSome (o.rest source) (λ image. IsCounted e size start counts image (rest_of reader))
+
+-- ---- the sizes of blocks
+
+pub readable_words : (size : ℕ) → is_block_size size ≡ true → size % 4 ≡ 0
+readable_words size h =
+    let parts = and_parts (nat_le 4096 size && nat_le size 4194304) (size % 4 == 0) h in
+    eqb-true (size % 4) 0 parts.1
+
+pub readable_some : (size : ℕ) → is_block_size size ≡ true → 4096 ≤ size
+readable_some size h =
+    let parts = and_parts (nat_le 4096 size && nat_le size 4194304) (size % 4 == 0) h in
+    leb-true 4096 size (and_parts (nat_le 4096 size) (nat_le size 4194304) parts.0).0
+
+-- ---- one block more
+
+number_append : (test : Look → Bool) (ss ts : List Stretch) → number_in test (ss ++ ts) ≡ number_in test ss + number_in test ts
+number_append test ss ts = sum_by-append (λ (s : Stretch). one_if (test s.look)) ss ts
+
+more_stretches : (e : Endian) (size : ℕ) (image : List ℕ) (n : ℕ)
+    → stretches_below e size image (n + 1) ≡ stretches_below e size image n ++ stretches_of_block e size image n
+more_stretches e size image n =
+    let f = λ (k : ℕ). stretches_of_block e size image k in
+    let step : n + 1 ≡ suc n = omega arith in
+    ap (λ (m : ℕ). flat_map f (below m)) step ∙ flat_map-append f (below n) (n ∷ [])
+    ∙ ap (λ (l : List Stretch). flat_map f (below n) ++ l) (append-nil (f n))
+
+counts_grow : (e : Endian) (size : ℕ) (image : List ℕ) (n : ℕ)
+    → counts_of e size image (n + 1) ≡ block_counted (counts_of e size image n) (stretches_of_block e size image n)
+counts_grow e size image n =
+    let more = more_stretches e size image n in
+    let grows = λ (test : Look → Bool). ap (number_in test) more ∙ number_append test (stretches_below e size image n) (stretches_of_block e size image n) in
+    λ i. record { blocks = n + 1; entries = grows is_entry_tile i; inodes = grows is_inode_tile i; findings = grows is_found i }
+
+-- the first block of what is left is the next block of the image
+first_left : (size start n : ℕ) (image : List ℕ) → n * size ≡ start → block_of size (drop start image) 0 ≡ block_of size image n
+first_left size start n image here =
+    ap (λ (l : List ℕ). take size (l ++ erased size)) (ap (λ (k : ℕ). drop k (drop start image)) (zero-mul size) ∙ ap (λ (k : ℕ). drop k image) (sym here))
+
+known_next : (e : Endian) (size start : ℕ) (counts now : Counts) (image : List ℕ) (old new : Option (List ℕ)) (block : List ℕ)
+    → counts.blocks * size ≡ start → IsCounted e size start counts image old → IsNextBlock size start old new block
+    → now ≡ block_counted counts (stretches e start block) → IsCounted e size (start + size) now image new
+known_next e size start counts now image old new block here before next is =
+    let step = subst (λ (r : Option (List ℕ)). IsNextBlock size start r new block) before.left next in
+    let long = length-drop start image in
+    let n = counts.blocks in
+    let same : stretches e start block ≡ stretches_of_block e size image n =
+        ap (stretches e start) (step.2 ∙ first_left size start n image here) ∙ ap (λ (k : ℕ). stretches e k (block_of size image n)) (sym here) in
+    let total : now ≡ counts_of e size image (n + 1) =
+        is ∙ ap (λ (c : Counts). block_counted c (stretches e start block)) before.so_far
+        ∙ ap (block_counted (counts_of e size image n)) same ∙ sym (counts_grow e size image n) in
+    record {
+      left = step.3 ∙ ap Some (drop-drop size start image);
+      so_far = total ∙ ap (counts_of e size image) (sym (ap (λ (c : Counts). c.blocks) total));
+      fits = omega (arith, step.0, step.1, long);
+      tight = omega (arith, step.0, long);
+    }
+
+pub scanning_next : {S : Type 0} {o : OfSource S} (e : Endian) (source : S) (size start : ℕ) (counts now : Counts) (old new : BlockReader S o) (block : List ℕ)
+    → Scanning e source size start counts old → GivesBlock old new block → now ≡ block_counted counts (stretches e start block)
+    → Scanning e source size (start + size) now new
+scanning_next {S} {o} e source size start counts now old new block before gives is =
+    let long : length block ≡ size = gives.whole ∙ before.blocks_of in
+    let words : length block % 4 ≡ 0 = ap (λ (n : ℕ). n % 4) long ∙ readable_words size before.readable in
+    let blocks : now.blocks ≡ counts.blocks + 1 = ap (λ (c : Counts). c.blocks) is in
+    let entries : now.entries ≡ counts.entries + number_in is_entry_tile (stretches e start block) = ap (λ (c : Counts). c.entries) is in
+    let inodes : now.inodes ≡ counts.inodes + number_in is_inode_tile (stretches e start block) = ap (λ (c : Counts). c.inodes) is in
+    let findings : now.findings ≡ counts.findings + number_in is_found (stretches e start block) = ap (λ (c : Counts). c.findings) is in
+    let next : IsNextBlock size start (rest_of old) (rest_of new) block =
+        subst (λ (s : ℕ). IsNextBlock s start (rest_of old) (rest_of new) block) before.blocks_of
+            (subst (λ (s : ℕ). IsNextBlock (size_of old) s (rest_of old) (rest_of new) block) before.here gives.bytes) in
+    record {
+      blocks_of = gives.same_size ∙ before.blocks_of;
+      readable = before.readable;
+      here = gives.moves_on ∙ omega (arith, before.here, before.blocks_of);
+      blocks = ap (λ (n : ℕ). n * size) blocks ∙ omega (arith, before.blocks);
+      entries = omega (arith, entries, before.entries, long, number_fits is_entry_tile e start block words);
+      inodes = omega (arith, inodes, before.inodes, long, number_fits is_inode_tile e start block words);
+      findings = omega (arith, findings, before.findings, long, number_fits is_found e start block words);
+      well = gives.going_on;
+      none_failed = gives.none_failed ∙ before.none_failed;
+      known = known (o.rest source) before.known next;
+    }
+  where
+    known : (told : Option (List ℕ)) → IfSome told (λ image. IsCounted e size start counts image (rest_of old)) → IsNextBlock size start (rest_of old) (rest_of new) block
+        → IfSome told (λ image. IsCounted e size (start + size) now image (rest_of new))
+    known None so_far next = tt
+    known (Some image) so_far next = known_next e size start counts now image (rest_of old) (rest_of new) block before.blocks so_far next is
+
+-- ---- the end
+
+-- all blocks were given
+pub record IsWhole (size : ℕ) (counts : Counts) (image : List ℕ) : Type 0 where
+  pub all : counts.blocks ≡ block_count size image
+  pub within : length image ≤ greatest_image
+
+whole_end : (e : Endian) (size start : ℕ) (counts : Counts) (image : List ℕ) (rest : Option (List ℕ)) → 0 < size → counts.blocks * size ≡ start
+    → IsCounted e size start counts image rest → IsAtEnd rest → IsWhole size counts image
+whole_end e size start counts image rest some here before end =
+    let none : drop start image ≡ [] = subst IsAtEnd before.left end in
+    let short : length image ≤ start = omega (arith, length-drop start image, ap length none) in
+    record {
+      all = grind (arith, div_ceil_times (length image) size some, short, before.tight, here);
+      within = omega (arith, before.fits, short);
+    }
+
+pub scanning_end : {S : Type 0} {o : OfSource S} (e : Endian) (source : S) (size start : ℕ) (counts : Counts) (old new : BlockReader S o)
+    → Scanning e source size start counts old → GivesNone old new → IfSome (o.rest source) (λ image. IsWhole size counts image)
+scanning_end {S} {o} e source size start counts old new before gives = known (o.rest source) before.known
+  where
+    known : (told : Option (List ℕ)) → IfSome told (λ image. IsCounted e size start counts image (rest_of old)) → IfSome told (λ image. IsWhole size counts image)
+    known None so_far = tt
+    known (Some image) so_far =
+        whole_end e size start counts image (rest_of old) (omega (arith, readable_some size before.readable)) before.blocks so_far gives.at_end
+
+pub all_given : (size : ℕ) (counts : Counts) (told : Option (List ℕ)) → IfSome told (λ image. IsWhole size counts image)
+    → IfSome told (λ image. counts.blocks ≡ block_count size image)
+all_given size counts None whole = tt
+all_given size counts (Some image) whole = whole.all
+
+pub all_within : (size : ℕ) (counts : Counts) (told : Option (List ℕ)) → IfSome told (λ image. IsWhole size counts image)
+    → IfSome told (λ image. length image ≤ greatest_image)
+all_within size counts None whole = tt
+all_within size counts (Some image) whole = whole.within
