@@ -1,5 +1,5 @@
 -- The blocks of an image, one after the other.
-use Rattle.std.proofs.Common.{◌≡◌, ◌≢◌, ℕ, zero, suc, ◌+◌, ◌-◌, ◌*◌, ◌/◌, ◌%◌, ◌^◌, ◌<◌, ◌≤◌, Bool, true, false, ◌&&◌, ◌==◌, nat_le, IsTrue, List, [], ◌∷◌, ◌++◌, length, min, refl, sym, ap, arith, ◌∙◌, subst, take, drop, append_assoc, append-nil, length-append, length-drop, length-take, count_by, take_all}
+use Rattle.std.proofs.Common.{◌≡◌, ◌≢◌, ℕ, zero, suc, ◌+◌, ◌-◌, ◌*◌, ◌/◌, ◌%◌, ◌^◌, ◌<◌, ◌≤◌, Bool, true, false, ◌&&◌, ◌==◌, nat_le, IsTrue, List, [], ◌∷◌, ◌++◌, length, min, refl, sym, ap, arith, ◌∙◌, subst, take, drop, append_assoc, append-nil, length-append, length-take, count_by, take_all}
 use Rattle.std.proofs.Math.Nat.{mul-le-mul_right, mul-le-mul_left}
 use Rattle.std.proofs.Math.Logic.{⊎_elim}
 use Rattle.std.proofs.Math.Seq.{take-append-add}
@@ -32,7 +32,6 @@ whole_block_is size image k whole =
 pub filled_block_is : (size : ℕ) (image : List ℕ) (k : ℕ)
     → take size (take (length image - k * size) (drop (k * size) image) ++ erased size) ≡ block_of size image k
 filled_block_is size image k = ap (λ (l : List ℕ). take size (l ++ erased size)) (take_rest image (k * size))
-
 
 one_more : (k size : ℕ) → (k + 1) * size ≡ k * size + size
 one_more k size = grind arith
@@ -134,10 +133,13 @@ room_for_block e size image k n c is fits small next within = subst (λ (x : Cou
   where
     sizes : (4096 ≤ size) × (size ≤ 4194304)
     sizes = block_size_is size fits
+
     few : k * size < 268435456
     few = omega (arith, block_begins size (length image) k (omega (arith, sizes.0)) next, small)
+
     first : k * 1 ≤ k * size
     first = mul-le-mul_left k (omega (arith, sizes.0))
+
     room : (test : Look → Bool) → number_in test (stretches_below e size image k) + (n + 1) < 2 ^ 64
     room test = omega (arith, number_in-le test (stretches_below e size image k), length_stretches_below e size image k, few, within, sizes.1)
 
@@ -161,13 +163,16 @@ pub lines_begin : (e : Endian) (size : ℕ) (image : List ℕ) (k n : ℕ) → k
 lines_begin e size image k zero less = absurd (omega arith)
 lines_begin e size image k (suc n) less = ⊎_elim
     (λ before.
-      let (rest, is) = lines_begin e size image k n before in
-      (rest ++ block_lines e size image n,
-        ap (λ (m : ℕ). lines_below e size image m) {x = suc n} {y = n + 1} (omega arith) ∙ lines_below_more e size image n
-        ∙ ap (λ (l : List ℕ). l ++ block_lines e size image n) is
-        ∙ append_assoc (lines_below e size image k ++ block_lines e size image k) rest (block_lines e size image n)))
+    let (rest, is) = lines_begin e size image k n before in (
+      rest ++ block_lines e size image n,
+      ap (λ (m : ℕ). lines_below e size image m) {x = suc n} {y = n + 1} (omega arith) ∙ lines_below_more e size image n
+          ∙ ap (λ (l : List ℕ). l ++ block_lines e size image n) is
+          ∙ append_assoc (lines_below e size image k ++ block_lines e size image k) rest (block_lines e size image n),
+    ))
     (λ from.
-      let same : suc n ≡ k + 1 = omega (arith, less, from) in
-      ([], ap (λ (m : ℕ). lines_below e size image m) same ∙ lines_below_more e size image k
-        ∙ sym (append-nil (lines_below e size image k ++ block_lines e size image k))))
+    let same : suc n ≡ k + 1 = omega (arith, less, from) in (
+      [],
+      ap (λ (m : ℕ). lines_below e size image m) same ∙ lines_below_more e size image k
+          ∙ sym (append-nil (lines_below e size image k ++ block_lines e size image k)),
+    ))
     (cases_lt k n)

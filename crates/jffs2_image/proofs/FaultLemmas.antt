@@ -1,13 +1,12 @@
 -- A report that ends early: what has gone out.
-use Rattle.std.proofs.Common.{◌≡◌, ◌≢◌, ℕ, ◌%◌, ◌+◌, ◌<◌, List, [], ◌++◌, length, take, refl, sym, ap, arith, ◌∙◌, subst, Option}
+use Rattle.std.proofs.Common.{◌≡◌, ◌≢◌, ℕ, ◌%◌, List, ◌++◌, length, refl, sym, subst, Option}
 use Rattle.std.specs.Prelude.{Result, Ok, Err, IsErrAnd}
 use Rattle.std.specs.Io.KnownBytes.{Appends}
 use Rattle.std.proofs.KnownBytes.{Appends-trans, Appends-nil}
-use Rattle.flashbase.specs.Device.{PutsPart, Puts, next_count}
+use Rattle.flashbase.specs.Device.{PutsPart, next_count}
 use Rattle.flashbase.proofs.DeviceLemmas.{part_before, part_behind}
 use Rattle.jnode.specs.declared.order.Endian.{Endian}
 use Rattle.jscan.specs.Image.{block_count}
-use Rattle.jscan.specs.declared.geometry.ScanFault.{ScanFault}
 use Rattle.jscan.specs.declared.geometry.ScanFault.TheVariants as scan
 use Rattle.jffs2_image.specs.declared.report_fault.ReportFault.{ReportFault}
 use Rattle.jffs2_image.specs.declared.report_fault.ReportFault.TheVariants.{Scan, Output}
@@ -38,6 +37,7 @@ later_fault {U} size image a b c before now done line rest whole f (Err x) is pu
   where
     longer : PutsPart b c line → PutsPart a c whole
     longer p = subst (PutsPart a c) (sym e) (part_before a c (done ++ line) rest (part_behind a b c done line put p))
+
     by : (g : ReportFault) → PutsLines {T = Unit {0}} size image b c before now line (Err g) → PutsLines {T = U} size image a c before now whole (Err g)
     by Output p = (longer p.0, p.1)
     by (Scan scan.OutOfMemory) p = (p.0, longer p.1, p.2)
@@ -57,6 +57,7 @@ early_fault e size image old new before now f (Err x) is scannable part =
   where
     longer : PutsPart old new (lines_below e size image (block_count size image)) → PutsPart old new (scan_text e size image)
     longer p = part_before old new (lines_below e size image (block_count size image)) (totals_line (counts_below e size image (block_count size image))) p
+
     by : (g : ReportFault) → PutsLines {T = Counts} size image old new before now (lines_below e size image (block_count size image)) (Err g)
         → PutsReport e size image old new before now (Err g)
     by Output p = (scannable, longer p.0, p.1)

@@ -1,19 +1,17 @@
 -- Lines that go out one after another, and what they count.
-use Rattle.std.proofs.Common.{◌≡◌, ℕ, zero, suc, ◌+◌, ◌<◌, Bool, true, false, cond, List, [], ◌∷◌, ◌++◌, length, map, refl, sym, ap, arith, ◌∙◌, subst, count_by, take, drop, get_or, append_assoc, append-nil, Option, Some, None}
+use Rattle.std.proofs.Common.{◌≡◌, ℕ, suc, ◌+◌, ◌<◌, Bool, List, [], ◌∷◌, ◌++◌, length, sym, ap, arith, ◌∙◌, subst, count_by, take, drop, get_or, append_assoc, append-nil, Option, Some, None}
 use Rattle.std.proofs.lemmas.List.{take-append-drop, map-id}
 use Rattle.std.proofs.lemmas.Iterator.Consumers.{YieldsList-from_first, YieldsList-so_far, YieldsList-turn, YieldsList-end}
 use Rattle.std.specs.Iterator.{Yields, YieldsFirst}
 use Rattle.std.proofs.Math.Seq.{drop-cons}
 use Rattle.std.specs.List.{flat_map}
 use Rattle.std.specs.Io.KnownBytes.{Appends}
-use Rattle.std.proofs.KnownBytes.{Appends-trans}
 use Rattle.std.proofs.lemmas.Grind.{flat_map-append, common_steps}
 use Rattle.std.specs.Prelude.{Result, Ok, Err, IsErr}
 use Rattle.flashbase.specs.Device.{PutsPart, Puts, next_count}
 use Rattle.flashbase.proofs.DeviceLemmas.{part_before, part_behind}
-use Rattle.jscan.specs.declared.stretch.Look.{Look}
 use Rattle.jscan.specs.declared.stretch.Stretch.{Stretch}
-use Rattle.jffs2_image.specs.Report.{block_line, stretch_line, lines_of, is_entry_tile, is_inode_tile, is_found, number_in, counted, HasRoom}
+use Rattle.jffs2_image.specs.Report.{block_line, stretch_line, lines_of, is_entry_tile, is_inode_tile, is_found, counted, HasRoom}
 use Rattle.jffs2_image.specs.declared.counts.Counts.{Counts}
 use Rattle.jffs2_image.proofs.StretchLemmas.{number_in-le}
 
@@ -82,10 +80,10 @@ pub part_of_lines : (k : ℕ) (all xs rest : List Stretch) (x : Stretch) (a b c 
 part_of_lines k all xs rest x a b c split put part =
     let upto = part_behind a b c (block_line k ++ flat_map stretch_line xs) (stretch_line x) put part in
     let whole : ((block_line k ++ flat_map stretch_line xs) ++ stretch_line x) ++ flat_map stretch_line rest ≡ lines_of k all =
-        ap (λ (l : List ℕ). l ++ flat_map stretch_line rest) (lines_more k xs x)
-        ∙ append_assoc (block_line k) (flat_map stretch_line (xs ++ x ∷ [])) (flat_map stretch_line rest)
-        ∙ ap (λ (l : List ℕ). block_line k ++ l) (sym (flat_map-append stretch_line (xs ++ x ∷ []) rest))
-        ∙ ap (lines_of k) (sym split) in
+    ap (λ (l : List ℕ). l ++ flat_map stretch_line rest) (lines_more k xs x)
+    ∙ append_assoc (block_line k) (flat_map stretch_line (xs ++ x ∷ [])) (flat_map stretch_line rest)
+    ∙ ap (λ (l : List ℕ). block_line k ++ l) (sym (flat_map-append stretch_line (xs ++ x ∷ []) rest))
+    ∙ ap (lines_of k) (sym split) in
     subst (PutsPart a c) whole (part_before a c _ (flat_map stretch_line rest) upto)
 
 -- ---- counts

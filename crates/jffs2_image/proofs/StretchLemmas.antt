@@ -77,7 +77,7 @@ short_entry_seen : (e : Endian) (tile : List ℕ) → IsShort (Tiled (entry_seen
 unfolding entry_seen is_entry_in_range
 short_entry_seen e tile =
     let last = short_entry e tile (is_entry_in_range e tile) (is_crc_right e tile 36 (name_of tile))
-        (λ in_range. leb-true (nsize_of tile) 254 (middle_of_three (nat_le 1 (nsize_of tile)) (nat_le (nsize_of tile) 254) (nat_lt 0 (number_at e 4 12 tile)) in_range)) in
+    (λ in_range. leb-true (nsize_of tile) 254 (middle_of_three (nat_le 1 (nsize_of tile)) (nat_le (nsize_of tile) 254) (nat_lt 0 (number_at e 4 12 tile)) in_range)) in
     search (rules, either, nameless, last)
 
 short_inode_seen : (e : Endian) (tile : List ℕ) → IsShort (Tiled (inode_seen e tile))

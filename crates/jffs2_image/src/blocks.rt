@@ -13,7 +13,12 @@ use jnode::Order;
 use jscan::{Stretch, Stretches};
 
 /// Puts the line of a stretch, and counts it.
-fn put_stretch<T: Sink>(sink: &mut T, line: &mut LineBuffer, counts: &mut Counts, stretch: &Stretch<'_>) -> Result<(), PutFault>
+fn put_stretch<T: Sink>(
+    sink: &mut T,
+    line: &mut LineBuffer,
+    counts: &mut Counts,
+    stretch: &Stretch<'_>,
+) -> Result<(), PutFault>
     requires name { length (shown_name stretch.now.look) ≤ 255 }
     requires room { HasRoom counts.old 1 }
     ensures puts { Puts (T.taken sink.old) (T.taken sink.new) (T.failures sink.old) (T.failures sink.new) (stretch_line stretch.now) result }
@@ -27,7 +32,12 @@ fn put_stretch<T: Sink>(sink: &mut T, line: &mut LineBuffer, counts: &mut Counts
 
 /// Puts the lines of the next block, whose bytes begin at the address `start`, and counts what they tell.
 #[tactic(auto, using(crate::proofs::StretchLemmas::length_stretches))]
-pub fn put_block<E: Order, T: Sink>(sink: &mut T, start: u32, block: &[u8], counts: &mut Counts) -> Result<(), PutFault>
+pub fn put_block<E: Order, T: Sink>(
+    sink: &mut T,
+    start: u32,
+    block: &[u8],
+    counts: &mut Counts,
+) -> Result<(), PutFault>
     requires whole_words { length block.now % 4 ≡ 0 }
     requires addressed { start + length block.now < 2 ^ 32 }
     requires room { HasRoom counts.old (length block.now + 1) }

@@ -18,6 +18,7 @@ pub mod outcome;
 pub mod program;
 pub mod report;
 pub mod report_fault;
+pub mod report_rows;
 #[cfg(test)]
 mod report_tests;
 pub mod request;

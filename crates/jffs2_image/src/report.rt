@@ -28,7 +28,14 @@ fn filled(alloc: Global, held: &[u8], size: usize) -> Result<Vec<u8>, AllocError
 }
 
 /// Puts the lines of block `k` of an image, after those before it. A whole block is read in place.
-fn put_block_of<E: Order, T: Sink>(alloc: Global, image: &[u8], size: usize, k: usize, sink: &mut T, counts: &mut Counts) -> Result<(), ReportFault>
+fn put_block_of<E: Order, T: Sink>(
+    alloc: Global,
+    image: &[u8],
+    size: usize,
+    k: usize,
+    sink: &mut T,
+    counts: &mut Counts,
+) -> Result<(), ReportFault>
     requires size { IsTrue (is_block_size size) }
     requires small { length image.now ≤ greatest_image }
     requires next { k < block_count size image.now }
@@ -49,7 +56,12 @@ fn put_block_of<E: Order, T: Sink>(alloc: Global, image: &[u8], size: usize, k: 
 }
 
 /// Puts the lines of all blocks of an image, and answers what they count.
-fn put_blocks<E: Order, T: Sink>(alloc: Global, image: &[u8], size: usize, sink: &mut T) -> Result<Counts, ReportFault>
+fn put_blocks<E: Order, T: Sink>(
+    alloc: Global,
+    image: &[u8],
+    size: usize,
+    sink: &mut T,
+) -> Result<Counts, ReportFault>
     requires size { IsTrue (is_block_size size) }
     requires small { length image.now ≤ greatest_image }
     ensures puts { PutsLines size image.now (T.taken sink.old) (T.taken sink.new) (T.failures sink.old) (T.failures sink.new)
@@ -66,7 +78,12 @@ fn put_blocks<E: Order, T: Sink>(alloc: Global, image: &[u8], size: usize, sink:
 /// Puts the report of `check --scan` line after line, and answers the number of findings. The only memory that
 /// it takes is for a last block whose tail is missing.
 #[tactic(auto, unfolding(crate::specs::Report::scan_text))]
-pub fn put_report<E: Order, T: Sink>(alloc: Global, image: &[u8], geometry: Geometry, sink: &mut T) -> Result<u64, ReportFault>
+pub fn put_report<E: Order, T: Sink>(
+    alloc: Global,
+    image: &[u8],
+    geometry: Geometry,
+    sink: &mut T,
+) -> Result<u64, ReportFault>
     ensures { PutsReport E.order geometry.block image.now (T.taken sink.old) (T.taken sink.new)
         (T.failures sink.old) (T.failures sink.new) result }
 {
@@ -78,7 +95,13 @@ pub fn put_report<E: Order, T: Sink>(alloc: Global, image: &[u8], geometry: Geom
     }
     let counts = put_blocks::<E, T>(alloc, image, geometry.block as usize, sink)?;
     let mut line = LineBuffer::new();
-    write_total(&mut line, counts.blocks, counts.entries, counts.inodes, counts.findings);
+    write_total(
+        &mut line,
+        counts.blocks,
+        counts.entries,
+        counts.inodes,
+        counts.findings,
+    );
     put_all(sink, line.as_slice())?;
     Ok(counts.findings)
 }
@@ -91,7 +114,11 @@ pub struct Lines {
 }
 
 /// The report of `check --scan` as one text.
-pub fn scan_lines<E: Order>(alloc: Global, image: &[u8], geometry: Geometry) -> Result<Lines, ScanFault>
+pub fn scan_lines<E: Order>(
+    alloc: Global,
+    image: &[u8],
+    geometry: Geometry,
+) -> Result<Lines, ScanFault>
     ensures limits { OnOk result (IsScannable geometry.block image.now) }
     ensures text { IfOk result (λ lines. lines.text.items ≡ scan_text E.order geometry.block image.now) }
     ensures findings { IfOk result (λ lines. lines.findings ≡ number_of is_found E.order geometry.block image.now) }

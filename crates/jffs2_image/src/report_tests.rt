@@ -182,7 +182,8 @@ fn the_other_byte_order(rt: HostRuntime) -> Result<(), Fail> {
 fn a_missing_tail(rt: HostRuntime) -> Result<(), Fail> {
     let mut cut = image(rt.alloc(), 0, &[&LITTLE_MARKER, &ENTRY_A], BLOCK)?;
     cut.extend_from_slice(&ENTRY_A)?;
-    let want = b"block 0\n00000000 marker 12\n0000000c entry 44 pino 1 version 1 ino 2 type 8 name a\n00000038 erased 4040\nblock 1\n00001000 entry 44 pino 1 version 1 ino 2 type 8 name a\n0000102c erased 4052\ntotal blocks 2 entries 2 inodes 0 findings 0\n";
+    let want =
+        b"block 0\n00000000 marker 12\n0000000c entry 44 pino 1 version 1 ino 2 type 8 name a\n00000038 erased 4040\nblock 1\n00001000 entry 44 pino 1 version 1 ino 2 type 8 name a\n0000102c erased 4052\ntotal blocks 2 entries 2 inodes 0 findings 0\n";
     let (text, findings) = report::<LittleEndian>(rt.alloc(), &cut)?;
     assert_eq!(rt; text.as_slice(), want.as_slice());
     assert_eq!(rt; findings, 0);
@@ -243,7 +244,7 @@ impl Sink for Short {
 fn a_sink_that_fails(rt: HostRuntime) -> Result<(), Fail> {
     let image = image(rt.alloc(), 0, &[&LITTLE_MARKER, &ENTRY_A], BLOCK)?;
     let (whole, _) = report::<LittleEndian>(rt.alloc(), &image)?;
-    for limit in [0, 7, 8, 30, 150] {
+    for limit in [0, 7, 8, 30, 147] {
         let mut sink = Short {
             bytes: Vec::new(rt.alloc()),
             limit,
@@ -259,7 +260,8 @@ fn a_sink_that_fails(rt: HostRuntime) -> Result<(), Fail> {
         );
         assert_eq!(rt; put, Err(ReportFault::Output));
         assert_eq!(rt; sink.failures, 0);
-        assert_eq!(rt; sink.bytes.as_slice(), &whole[..limit]);
+        assert_eq!(rt; sink.bytes.len(), limit);
+        assert!(rt; whole.starts_with(&sink.bytes));
     }
     Ok(())
 }

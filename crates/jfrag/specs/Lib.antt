@@ -4,3 +4,4 @@ pub mod Runs
 pub mod Laws
 pub mod Intervals
 pub mod Plain
+pub mod Rows

@@ -1,4 +1,11 @@
-//! Pieces of a file laid over one another, and what stands at each place.
+//! The overlay of pieces of a file: each byte read is that of the highest version that covers it, else 0.
+//!
+//! A file is written piece by piece, each with a version; pieces come in any order. `Overlay` says what
+//! stands at each place, `overlay` lays all pieces of a file, and two types keep what stands:
+//! `PlainOverlay` a list of pieces, `FragOverlay` ordered intervals that do not overlap.
+//!
+//! Stands on `flashbase` for `Part`, a piece's bytes. `specs/Overlays` has the definition that contracts
+//! cite, `laws` what follows from it.
 #![tactic(auto)]
 
 mod all;
@@ -8,12 +15,11 @@ mod overlays;
 mod piece;
 mod plain;
 mod runs;
+#[cfg(test)]
+mod tests;
 
 pub use all::overlay;
 pub use frag::FragOverlay;
 pub use overlays::Overlay;
 pub use piece::{Body, Piece};
 pub use plain::PlainOverlay;
-
-#[cfg(test)]
-mod tests;

@@ -1,13 +1,9 @@
 -- What is counted while a source is read block by block.
 use Rattle.std.proofs.Common.{◌≡◌, ℕ, suc, ◌+◌, ◌-◌, ◌*◌, ◌%◌, ◌<◌, ◌≤◌, min, Bool, true, List, [], ◌∷◌, ◌++◌, length, take, drop, Option, None, Some, IfSome, refl, sym, ap, subst, ◌∙◌, arith, append-nil, length-drop, leb}
 use Rattle.std.specs.Prelude.{◌==◌, ◌&&◌, flat_map, nat_le}
-use Rattle.std.specs.Io.KnownBytes.{IsAtEnd}
-use Rattle.std.proofs.Math.Nat.{zero-mul}
 use Rattle.std.proofs.lemmas.Bool.{and_parts, eqb-true, leb-true}
-use Rattle.std.proofs.lemmas.Grind.{div_ceil_times, flat_map-append}
-use Rattle.std.proofs.lemmas.List.{drop-drop}
+use Rattle.std.proofs.lemmas.Grind.{flat_map-append}
 use Rattle.std.proofs.lemmas.List.Sums.{sum_by-append}
-use Rattle.flashbase.specs.Bytes.{erased}
 use Rattle.flashbase.specs.Lists.{below}
 use Rattle.flashbase.specs.declared.source.Source.{Ghosts as OfSource}
 use Rattle.jnode.specs.declared.order.Endian.{Endian}
@@ -20,13 +16,12 @@ use Rattle.jscan.specs.declared.stream.BlockReader.{BlockReader}
 use Rattle.jscan.specs.declared.stretch.Look.{Look}
 use Rattle.jscan.specs.declared.stretch.Stretch.{Stretch}
 use Rattle.jscan.proofs.CountLemmas.{number_fits}
+use Rattle.jscan.proofs.StreamLemmas.{IsAtBlock, IsWhole, block_here, at_next, at_last}
 
 -- where the source's bytes are known: what is left of them, and the counts of the blocks before
 pub record IsCounted (e : Endian) (size start : ℕ) (counts : Counts) (image : List ℕ) (rest : Option (List ℕ)) : Type 0 where
-  pub left : rest ≡ Some (drop start image)
+  pub place : IsAtBlock size start image rest
   pub so_far : counts ≡ counts_of e size image counts.blocks
-  pub fits : min (length image) start ≤ greatest_image
-  pub tight : start < length image + size
 
 -- so far a scan has given and counted the blocks before `start`
 pub record Scanning {S : Type 0} {o : OfSource S} (e : Endian) (source : S) (size start : ℕ) (counts : Counts) (reader : BlockReader S o) : Type 0 where
@@ -73,28 +68,20 @@ counts_grow e size image n =
     let grows = λ (test : Look → Bool). ap (number_in test) more ∙ number_append test (stretches_below e size image n) (stretches_of_block e size image n) in
     λ i. record { blocks = n + 1; entries = grows is_entry_tile i; inodes = grows is_inode_tile i; findings = grows is_found i }
 
--- the first block of what is left is the next block of the image
-first_left : (size start n : ℕ) (image : List ℕ) → n * size ≡ start → block_of size (drop start image) 0 ≡ block_of size image n
-first_left size start n image here =
-    ap (λ (l : List ℕ). take size (l ++ erased size)) (ap (λ (k : ℕ). drop k (drop start image)) (zero-mul size) ∙ ap (λ (k : ℕ). drop k image) (sym here))
-
 known_next : (e : Endian) (size start : ℕ) (counts now : Counts) (image : List ℕ) (old new : Option (List ℕ)) (block : List ℕ)
     → counts.blocks * size ≡ start → IsCounted e size start counts image old → IsNextBlock size start old new block
     → now ≡ block_counted counts (stretches e start block) → IsCounted e size (start + size) now image new
 known_next e size start counts now image old new block here before next is =
-    let step = subst (λ (r : Option (List ℕ)). IsNextBlock size start r new block) before.left next in
-    let long = length-drop start image in
     let n = counts.blocks in
     let same : stretches e start block ≡ stretches_of_block e size image n =
-        ap (stretches e start) (step.2 ∙ first_left size start n image here) ∙ ap (λ (k : ℕ). stretches e k (block_of size image n)) (sym here) in
+        ap (stretches e start) (block_here size start n image old new block here before.place next)
+        ∙ ap (λ (k : ℕ). stretches e k (block_of size image n)) (sym here) in
     let total : now ≡ counts_of e size image (n + 1) =
         is ∙ ap (λ (c : Counts). block_counted c (stretches e start block)) before.so_far
         ∙ ap (block_counted (counts_of e size image n)) same ∙ sym (counts_grow e size image n) in
     record {
-      left = step.3 ∙ ap Some (drop-drop size start image);
+      place = at_next size start image old new block before.place next;
       so_far = total ∙ ap (counts_of e size image) (sym (ap (λ (c : Counts). c.blocks) total));
-      fits = omega (arith, step.0, step.1, long);
-      tight = omega (arith, step.0, long);
     }
 
 pub scanning_next : {S : Type 0} {o : OfSource S} (e : Endian) (source : S) (size start : ℕ) (counts now : Counts) (old new : BlockReader S o) (block : List ℕ)
@@ -130,36 +117,21 @@ scanning_next {S} {o} e source size start counts now old new block before gives 
 
 -- ---- the end
 
--- all blocks were given
-pub record IsWhole (size : ℕ) (counts : Counts) (image : List ℕ) : Type 0 where
-  pub all : counts.blocks ≡ block_count size image
-  pub within : length image ≤ greatest_image
-
-whole_end : (e : Endian) (size start : ℕ) (counts : Counts) (image : List ℕ) (rest : Option (List ℕ)) → 0 < size → counts.blocks * size ≡ start
-    → IsCounted e size start counts image rest → IsAtEnd rest → IsWhole size counts image
-whole_end e size start counts image rest some here before end =
-    let none : drop start image ≡ [] = subst IsAtEnd before.left end in
-    let short : length image ≤ start = omega (arith, length-drop start image, ap length none) in
-    record {
-      all = grind (arith, div_ceil_times (length image) size some, short, before.tight, here);
-      within = omega (arith, before.fits, short);
-    }
-
 pub scanning_end : {S : Type 0} {o : OfSource S} (e : Endian) (source : S) (size start : ℕ) (counts : Counts) (old new : BlockReader S o)
-    → Scanning e source size start counts old → GivesNone old new → IfSome (o.rest source) (λ image. IsWhole size counts image)
+    → Scanning e source size start counts old → GivesNone old new → IfSome (o.rest source) (λ image. IsWhole size counts.blocks image)
 scanning_end {S} {o} e source size start counts old new before gives = known (o.rest source) before.known
   where
-    known : (told : Option (List ℕ)) → IfSome told (λ image. IsCounted e size start counts image (rest_of old)) → IfSome told (λ image. IsWhole size counts image)
+    known : (told : Option (List ℕ)) → IfSome told (λ image. IsCounted e size start counts image (rest_of old)) → IfSome told (λ image. IsWhole size counts.blocks image)
     known None so_far = tt
     known (Some image) so_far =
-        whole_end e size start counts image (rest_of old) (omega (arith, readable_some size before.readable)) before.blocks so_far gives.at_end
+        at_last size start counts.blocks image (rest_of old) (omega (arith, readable_some size before.readable)) before.blocks so_far.place gives.at_end
 
-pub all_given : (size : ℕ) (counts : Counts) (told : Option (List ℕ)) → IfSome told (λ image. IsWhole size counts image)
-    → IfSome told (λ image. counts.blocks ≡ block_count size image)
-all_given size counts None whole = tt
-all_given size counts (Some image) whole = whole.all
+pub all_given : (size : ℕ) (n : ℕ) (told : Option (List ℕ)) → IfSome told (λ image. IsWhole size n image)
+    → IfSome told (λ image. n ≡ block_count size image)
+all_given size n None whole = tt
+all_given size n (Some image) whole = whole.all
 
-pub all_within : (size : ℕ) (counts : Counts) (told : Option (List ℕ)) → IfSome told (λ image. IsWhole size counts image)
+pub all_within : (size : ℕ) (n : ℕ) (told : Option (List ℕ)) → IfSome told (λ image. IsWhole size n image)
     → IfSome told (λ image. length image ≤ greatest_image)
-all_within size counts None whole = tt
-all_within size counts (Some image) whole = whole.within
+all_within size n None whole = tt
+all_within size n (Some image) whole = whole.within

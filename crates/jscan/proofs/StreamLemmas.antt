@@ -3,11 +3,12 @@ use Rattle.std.proofs.Common.{◌≡◌, ℕ, ◌+◌, ◌-◌, ◌*◌, ◌<◌
 use Rattle.std.proofs.Math.Seq.{take-append-add}
 use Rattle.std.proofs.Math.Nat.{zero-mul}
 use Rattle.std.proofs.lemmas.Bool.{cases_lt}
-use Rattle.std.proofs.lemmas.List.{take-take, take_all, take_at, drop_at, drop_all, take-replicate}
+use Rattle.std.proofs.lemmas.Grind.{div_ceil_times}
+use Rattle.std.proofs.lemmas.List.{take-take, take_all, take_at, drop_at, drop_all, drop-drop, take-replicate}
 use Rattle.std.proofs.lemmas.Slice.{take-put_mid}
 use Rattle.std.specs.Io.KnownBytes.{Consumes, IsAtEnd}
 use borrow.Rule.Slice.PartMut.{put_mid}
-use Rattle.jscan.specs.Image.{block_of, greatest_image}
+use Rattle.jscan.specs.Image.{block_of, block_count, greatest_image}
 use Rattle.jscan.specs.Stream.{IsNextBlock}
 
 -- the first bytes of a block, and then those that were put behind them
@@ -64,3 +65,53 @@ next_block (Some bytes) (Some ys) size start n block long some few fits is end f
         let all : take n block ≡ block = take_all n block (omega arith) in
         full_block size start bytes ys block long (omega arith) (omega arith) (is ∙ ap (λ l. l ++ ys) all))
     (cases_lt n size)
+
+-- ---- block after block
+
+-- The blocks before `start` were given: the other bytes are left, none of those given lies past the greatest image, and
+-- the last block given holds at least one of them.
+pub record IsAtBlock (size start : ℕ) (image : List ℕ) (rest : Option (List ℕ)) : Type 0 where
+  pub left : rest ≡ Some (drop start image)
+  pub fits : min (length image) start ≤ greatest_image
+  pub tight : start < length image + size
+
+-- the first block of what is left
+next_left : (size start : ℕ) (image : List ℕ) (old new : Option (List ℕ)) (block : List ℕ) → IsAtBlock size start image old → IsNextBlock size start old new block
+    → IsNextBlock size start (Some (drop start image)) new block
+next_left size start image old new block at next = subst (λ (r : Option (List ℕ)). IsNextBlock size start r new block) at.left next
+
+-- is the next block of the image,
+pub block_here : (size start n : ℕ) (image : List ℕ) (old new : Option (List ℕ)) (block : List ℕ) → n * size ≡ start
+    → IsAtBlock size start image old → IsNextBlock size start old new block → block ≡ block_of size image n
+block_here size start n image old new block here at next =
+    (next_left size start image old new block at next).2
+    ∙ ap (λ (l : List ℕ). take size (l ++ replicate size 0xFF))
+        (ap (λ (k : ℕ). drop k (drop start image)) (zero-mul size) ∙ ap (λ (k : ℕ). drop k image) (sym here))
+
+-- and the one behind it comes next.
+pub at_next : (size start : ℕ) (image : List ℕ) (old new : Option (List ℕ)) (block : List ℕ)
+    → IsAtBlock size start image old → IsNextBlock size start old new block → IsAtBlock size (start + size) image new
+at_next size start image old new block at next =
+    let step = next_left size start image old new block at next in
+    let long = length-drop start image in
+    record {
+      left = step.3 ∙ ap Some (drop-drop size start image);
+      fits = omega (arith, step.0, step.1, long);
+      tight = omega (arith, step.0, long);
+    }
+
+-- all blocks of an image that is no longer than the greatest
+pub record IsWhole (size n : ℕ) (image : List ℕ) : Type 0 where
+  pub all : n ≡ block_count size image
+  pub within : length image ≤ greatest_image
+
+-- where no byte is left, all blocks were given
+pub at_last : (size start n : ℕ) (image : List ℕ) (rest : Option (List ℕ)) → 0 < size → n * size ≡ start → IsAtBlock size start image rest → IsAtEnd rest
+    → IsWhole size n image
+at_last size start n image rest some here at end =
+    let none : drop start image ≡ [] = subst IsAtEnd at.left end in
+    let short : length image ≤ start = omega (arith, length-drop start image, ap length none) in
+    record {
+      all = grind (arith, div_ceil_times (length image) size some, short, at.tight, here);
+      within = omega (arith, at.fits, short);
+    }

@@ -64,7 +64,7 @@ pub struct BlockReader<S: Source> {
 }
 
 impl<S: Source> BlockReader<S> {
-    ghost use Rattle.std.specs.Prelude.{◌≡◌, ◌≢◌, ◌↔◌, IfOk, Err, None, false};
+    ghost use Rattle.std.specs.Prelude.{◌≡◌, ◌≢◌, ◌↔◌, Err, IfOk, None, OnOk, false, true};
     ghost use Rattle.std.specs.Borrow.{sem};
     ghost use Rattle.std.specs.Io.BufRead.{Rests};
     ghost use Rattle.jscan.specs.Image.{is_block_size};
@@ -77,6 +77,7 @@ impl<S: Source> BlockReader<S> {
         ensures start { IfOk result (λ reader. start_of reader ≡ 0) }
         ensures source { IfOk result (λ reader. source_of reader ≡ source) }
         ensures reading { IfOk result (λ reader. (fault_of reader ≡ None) × (has_ended reader ≡ false)) }
+        ensures readable { OnOk result (is_block_size geometry.block ≡ true) }
         ensures block_size { result ≡ Err StreamFault.BlockSize ↔ (is_block_size geometry.block ≡ false) }
         ensures no_other { (result ≢ Err StreamFault.Device) × (result ≢ Err StreamFault.TooLarge) }
     {

@@ -1,10 +1,6 @@
-use Rattle.std.proofs.Common.{◌≡◌, ◌<◌, ◌≤◌, ◌+◌, ◌-◌, ◌*◌, ◌++◌, ℕ, List, length, take, drop, sym, ap, ◌∙◌, subst, arith, length-take, length-drop}
+use Rattle.std.proofs.Common.{◌≡◌, ◌<◌, ◌+◌, ◌-◌, ◌*◌, ℕ, List, length, take, drop, ap, ◌∙◌, subst, arith, length-take, length-drop}
 use Rattle.std.specs.Io.KnownBytes.{Appends}
-use Rattle.flashbase.specs.Bytes.{erased}
 use Rattle.flashbase.specs.Device.{PutsPart}
-use Rattle.jscan.specs.Image.{block_of}
-use Rattle.jscan.specs.Stretches.{stretches}
-use Rattle.jffs2_image.specs.Report.{counted, with_block}
 use Rattle.jffs2_image.proofs.BlockLemmas.{room_for_block, block_text, block_counts, whole_block_is, filled_block_is, length_block_of, tail_is_missing, block_size_is}
 use Rattle.jffs2_image.proofs.FaultLemmas.{output_fault, memory_fault}
 use Rattle.jffs2_image.proofs.report.put_block_of.Goals as goal
@@ -16,14 +12,14 @@ put_block-requires-clause-room g c =
     let k = c.args.k in
     let held = take (length image - k * size) (drop (k * size) image) in
     room_for_block g.E.Order.order size image k (length (take size held)) c.args.counts.now c.requires.counts c.requires.size c.requires.small c.requires.next
-        (omega (arith, length-take size held))
+    (omega (arith, length-take size held))
 
 pub returns-in_err-put_block-clause-puts : goal.returns-in_err-put_block-clause-puts
 returns-in_err-put_block-clause-puts g c =
     let put = c.in_err-put_block.ensures.puts in
     let text = block_text g.E.Order.order c.args.size c.args.image.now c.args.k c.args.counts.now _ c.requires.counts (whole_block_is c.args.size c.args.image.now c.args.k c.if-size-held.true) in
     output_fault _ _ _ _ _ _ _ _ c.from_residual.ensures.1
-        (subst (λ (l : List ℕ). PutsPart (g.T.Sink.taken c.args.sink.now) (g.T.Sink.taken c.put_block.new.sink) l) text put.0) put.1
+    (subst (λ (l : List ℕ). PutsPart (g.T.Sink.taken c.args.sink.now) (g.T.Sink.taken c.put_block.new.sink) l) text put.0) put.1
 
 pub returns-in_ok-put_block-clause-puts : goal.returns-in_ok-put_block-clause-puts
 returns-in_ok-put_block-clause-puts g c =
@@ -65,7 +61,7 @@ returns-in_err-put_block-2-clause-puts g c =
     let same = c.deref.ensures.value ∙ c.in_ok-block.ensures ∙ filled_block_is size image k in
     let text = block_text g.E.Order.order size image k c.args.counts.now c.deref.result.now c.requires.counts same in
     output_fault _ _ _ _ _ _ _ _ c.from_residual-in_err-put_block-2.ensures.1
-        (subst (λ (l : List ℕ). PutsPart (g.T.Sink.taken c.args.sink.now) (g.T.Sink.taken c.put_block-else-size-held.new.sink) l) text put.0) put.1
+    (subst (λ (l : List ℕ). PutsPart (g.T.Sink.taken c.args.sink.now) (g.T.Sink.taken c.put_block-else-size-held.new.sink) l) text put.0) put.1
 
 pub returns-in_ok-put_block-2-clause-puts : goal.returns-in_ok-put_block-2-clause-puts
 returns-in_ok-put_block-2-clause-puts g c =

@@ -1,7 +1,6 @@
-use Rattle.std.proofs.Common.{◌≡◌, ◌<◌, ℕ, ◌+◌, ◌++◌, List, sym, ap, ◌∙◌, subst, arith}
+use Rattle.std.proofs.Common.{◌<◌, ℕ, sym, ◌∙◌, subst}
 use Rattle.std.specs.Io.KnownBytes.{Appends}
 use Rattle.std.proofs.KnownBytes.{Appends-trans}
-use Rattle.flashbase.specs.Device.{next_count}
 use Rattle.jscan.specs.Image.{block_count}
 use Rattle.jffs2_image.specs.Report.{lines_below, block_lines}
 use Rattle.jffs2_image.specs.Puts.{PutsLines}
@@ -34,8 +33,8 @@ returns-in_err-put_block_of-clause-puts g c =
     let next : k < block_count size image = subst (λ (n : ℕ). k < n) c.div_ceil-k-end.ensures c.loop-k-test.true in
     let (rest, is) = lines_begin e size image k (block_count size image) next in
     let part = subst (λ (n : ℕ). PutsLines {T = Unit {0}} size image (g.T.Sink.taken c.loop-k.sink) (g.T.Sink.taken c.put_block_of.new.sink)
-        n (g.T.Sink.failures c.put_block_of.new.sink) (block_lines e size image k) c.put_block_of.result) before.failed c.put_block_of.ensures.puts in
+    n (g.T.Sink.failures c.put_block_of.new.sink) (block_lines e size image k) c.put_block_of.result) before.failed c.put_block_of.ensures.puts in
     later_fault size image _ (g.T.Sink.taken c.loop-k.sink) _ _ _ (lines_below e size image k) (block_lines e size image k) rest _ c.in_err-put_block_of.field-0.0 _
-        c.from_residual.ensures.1 before.put
-        (subst (λ r. PutsLines {T = Unit {0}} size image (g.T.Sink.taken c.loop-k.sink) (g.T.Sink.taken c.put_block_of.new.sink)
-            (g.T.Sink.failures c.args.sink.now) (g.T.Sink.failures c.put_block_of.new.sink) (block_lines e size image k) r) c.in_err-put_block_of.was part) is
+    c.from_residual.ensures.1 before.put
+    (subst (λ r. PutsLines {T = Unit {0}} size image (g.T.Sink.taken c.loop-k.sink) (g.T.Sink.taken c.put_block_of.new.sink)
+    (g.T.Sink.failures c.args.sink.now) (g.T.Sink.failures c.put_block_of.new.sink) (block_lines e size image k) r) c.in_err-put_block_of.was part) is

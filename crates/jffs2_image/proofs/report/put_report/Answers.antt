@@ -1,4 +1,4 @@
-use Rattle.std.proofs.Common.{◌≡◌, ◌≤◌, ℕ, List, length, ap, ◌∙◌, subst, arith, rules}
+use Rattle.std.proofs.Common.{◌≡◌, ℕ, List, ap, ◌∙◌, subst, rules}
 use Rattle.std.specs.Io.KnownBytes.{Appends}
 use Rattle.flashbase.specs.Device.{PutsPart, next_count}
 use Rattle.jscan.specs.Image.{block_count}
@@ -20,11 +20,11 @@ returns-in_err-put_all g c =
     let image = c.args.image.now in
     let scannable : IsScannable size image = search rules in
     let line : c.as_slice.result.now ≡ totals_line (counts_below e size image (block_count size image)) =
-        c.as_slice.ensures ∙ c.write_total.ensures ∙ ap totals_line c.in_ok-counts.ensures.counts in
+    c.as_slice.ensures ∙ c.write_total.ensures ∙ ap totals_line c.in_ok-counts.ensures.counts in
     let put = c.in_err-put_all.ensures.puts in
     last_fault e size image _ (g.T.Sink.taken c.put_blocks.new.sink) _ _ _ _ c.from_residual-in_err-put_all.ensures.1 scannable c.in_ok-counts.ensures.puts.0
-        (subst (λ (l : List ℕ). PutsPart (g.T.Sink.taken c.put_blocks.new.sink) (g.T.Sink.taken c.put_all.new.sink) l) line put.0)
-        (put.1 ∙ ap next_count c.in_ok-counts.ensures.puts.1)
+    (subst (λ (l : List ℕ). PutsPart (g.T.Sink.taken c.put_blocks.new.sink) (g.T.Sink.taken c.put_all.new.sink) l) line put.0)
+    (put.1 ∙ ap next_count c.in_ok-counts.ensures.puts.1)
 
 pub returns : goal.returns
 returns g c =
@@ -33,9 +33,8 @@ returns g c =
     let image = c.args.image.now in
     let scannable : IsScannable size image = search rules in
     let line : c.as_slice.result.now ≡ totals_line (counts_below e size image (block_count size image)) =
-        c.as_slice.ensures ∙ c.write_total.ensures ∙ ap totals_line c.in_ok-counts.ensures.counts in
-    let put = c.in_ok-put_all.ensures.puts in
-    (
+    c.as_slice.ensures ∙ c.write_total.ensures ∙ ap totals_line c.in_ok-counts.ensures.counts in
+    let put = c.in_ok-put_all.ensures.puts in (
       scannable,
       ap (λ (counts : Counts). counts.findings) c.in_ok-counts.ensures.counts,
       whole_text e size image _ (g.T.Sink.taken c.put_blocks.new.sink) _ c.in_ok-counts.ensures.puts.0

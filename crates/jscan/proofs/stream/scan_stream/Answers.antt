@@ -1,6 +1,7 @@
 use Rattle.std.proofs.Common.{◌≡◌, ℕ, List, Option, None, Some, Ok, IfSome, ap, subst, ◌∙◌}
 use Rattle.jscan.specs.Stream.{Gives}
-use Rattle.jscan.proofs.StreamCounts.{IsWhole, scanning_next, scanning_end, all_given, all_within}
+use Rattle.jscan.proofs.StreamCounts.{scanning_next, scanning_end, all_given, all_within}
+use Rattle.jscan.proofs.StreamLemmas.{IsWhole}
 use Rattle.jscan.proofs.stream.scan_stream.Goals as goal
 
 pub loop-reader-preserved : goal.loop-reader-preserved
@@ -9,7 +10,7 @@ loop-reader-preserved g c =
     scanning_next _ _ _ _ _ _ _ _ _ c.loop-reader.invariant gives c.add_block.ensures
 
 -- the reader gave no block, so it has given all
-whole : (g : _) (c : goal.After-drop-reader-3 g) → IfSome (g.S.Source.rest c.args.source) (λ image. IsWhole c.args.geometry.block c.loop-reader.counts image)
+whole : (g : _) (c : goal.After-drop-reader-3 g) → IfSome (g.S.Source.rest c.args.source) (λ image. IsWhole c.args.geometry.block c.loop-reader.counts.blocks image)
 whole g c =
     let gives = subst (Gives c.loop-reader.reader c.next.follows.lender-at-none) (c.in_ok-block.was ∙ ap Ok c.in_default.is) c.next.follows.holds-at-none in
     scanning_end _ _ _ _ _ _ _ c.loop-reader.invariant gives

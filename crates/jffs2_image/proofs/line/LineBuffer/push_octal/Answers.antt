@@ -7,5 +7,5 @@ pub returns-clause-grows : goal.returns-clause-grows
 returns-clause-grows c =
     let n = c.args.n in
     let grown : length c.push_octal_digits.new.self ≡ length c.args.self.now + length (octal n) =
-        ap length c.push_octal_digits.ensures ∙ length-append c.args.self.now (octal n) in
+    ap length c.push_octal_digits.ensures ∙ length-append c.args.self.now (octal n) in
     omega (arith, grown, octal_is_short n c.ranges.n.fits)
