@@ -206,6 +206,21 @@ fn a_load_meets_each_failure(rt: HostRuntime) -> Result<(), Fail> {
     Ok(())
 }
 
+/// Passes with each allocation failing in turn too: memory is then blamed, and nothing else.
+#[test]
+fn a_load_with_little_memory(rt: HostRuntime) {
+    let mut source = Drip {
+        rest: FOX,
+        calls_left: usize::MAX,
+        failures: 0,
+    };
+    match load(rt.alloc(), &mut source, FOX.len()) {
+        Ok(bytes) => assert!(rt; bytes.as_slice() == FOX),
+        Err(fault) => assert_eq!(rt; fault, LoadFault::OutOfMemory),
+    }
+    assert_eq!(rt; source.failures, 0);
+}
+
 #[test]
 fn a_load_of_a_reader(rt: HostRuntime) -> Result<(), Fail> {
     let mut source = FromReader::new(b"abcd".as_slice());

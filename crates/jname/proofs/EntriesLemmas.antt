@@ -1,6 +1,6 @@
 -- An entry is in the list exactly where its content is held at its directory, name and version.
-use Rattle.std.proofs.Common.{◌≡◌, ◌↔◌, ℕ, Bool, true, List, [], ◌∷◌, map, Option, Some, None, refl, ap, sym, ◌∙◌, subst, arith}
-use Rattle.std.specs.Prelude.{Contains, IsSome}
+use Rattle.std.proofs.Common.{◌≡◌, ℕ, List, [], map, Option, Some, None, refl, ap, sym, ◌∙◌, subst}
+use Rattle.std.specs.Prelude.{Contains}
 use Rattle.std.specs.List.{flat_map}
 use Rattle.std.specs.List.Sorted.{IsStrictlySortedBy}
 use Rattle.std.specs.Option.{option_and_then}
@@ -8,10 +8,8 @@ use Rattle.std.specs.Ordering.{nat_cmp, is_eq, eq_by_cmp}
 use Rattle.std.specs.Cmp.{nat_cmp_total, eq_by_cmp_equiv, on_total, IsTotalOrder}
 use Rattle.std.specs.Cmp.Lexicographic.{slice_cmp, nat_list_cmp_total}
 use Rattle.std.specs.Cow.{cow_slice_items}
-use Rattle.std.specs.Str.{bytes_eq}
 use Rattle.std.specs.Map.{lookup}
-use Rattle.std.specs.BTreeMap.{get, IsOrdered, keys}
-use Rattle.std.proofs.lemmas.Option.{same_Some}
+use Rattle.std.specs.BTreeMap.{get, IsOrdered}
 use Rattle.std.proofs.lemmas.List.Folds.{flat_map-map}
 use Rattle.std.proofs.lemmas.Slice.Eq.{bytes_eq-Decides}
 use Rattle.std.proofs.lemmas.Map.Keys.{IsDistinct-from_sorted}
@@ -23,7 +21,7 @@ use Rattle.jname.specs.declared.versions.Content.{Content}
 use Rattle.jname.specs.declared.versions.Versions.{Versions}
 use Rattle.jname.specs.declared.directory.Directory.{Directory}
 use Rattle.jname.specs.Versions.{version_at}
-use Rattle.jname.specs.Held.{Name, name_cmp, ByName, versions_of, held_in, shown, IsSameHeld}
+use Rattle.jname.specs.Held.{Name, name_cmp, ByName, versions_of, shown, IsSameHeld}
 use Rattle.jname.specs.Directories.{ByNumber, held, held_under}
 use Rattle.jname.specs.Entries.{content_of, entry_of, entries_under, entries_in, entries_of}
 use Rattle.jname.proofs.MemberLemmas.{Contains-map, Contains-map_from, Contains-flat_map, Contains-flat_map_from, Contains-lookup}

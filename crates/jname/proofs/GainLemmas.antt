@@ -1,12 +1,12 @@
 -- One entry more: what the list gains, and which entries clash with it.
-use Rattle.std.proofs.Common.{◌≡◌, ◌≢◌, ◌↔◌, ℕ, Bool, true, false, ◌&&◌, cond, List, map, Option, Some, None, refl, ap, sym, ◌∙◌, subst, ⊎_elim, inl, inr}
+use Rattle.std.proofs.Common.{◌≡◌, ℕ, Bool, true, false, ◌&&◌, List, Option, Some, None, refl, ap, sym, ◌∙◌, subst, ⊎_elim, inl, inr}
 use Rattle.std.specs.Prelude.{◌⊎◌, Contains, if◌then◌else◌, ◌==◌}
 use Rattle.std.specs.Option.{option_and_then}
-use Rattle.std.specs.Ordering.{nat_cmp, is_eq}
+use Rattle.std.specs.Ordering.{nat_cmp}
 use Rattle.std.specs.Str.{bytes_eq}
 use Rattle.std.specs.BTreeMap.{get, IsOrdered, Updates}
 use Rattle.std.specs.Cmp.{unsigned_tied}
-use Rattle.std.proofs.lemmas.Bool.{eq-eqb, eqb-true, false≢true}
+use Rattle.std.proofs.lemmas.Bool.{eq-eqb, eqb-true}
 use Rattle.std.proofs.lemmas.Option.{same_Some}
 use Rattle.std.proofs.lemmas.Slice.Eq.{bytes_eq-Decides}
 use Rattle.jnode.specs.declared.node.Dirent.{Dirent}
@@ -15,9 +15,8 @@ use Rattle.jname.specs.declared.directory.Directory.{Directory}
 use Rattle.jname.specs.Versions.{Agrees, Differs}
 use Rattle.jname.specs.Directories.{ByNumber, held, held_under}
 use Rattle.jname.specs.Entries.{content_of, entry_of, entries_of}
-use Rattle.jname.specs.Clash.{Clashes, SomeClashes, NoneClashes}
+use Rattle.jname.specs.Clash.{SomeClashes, NoneClashes}
 use Rattle.jname.specs.Live.{Gains}
-use Rattle.jname.proofs.HeldLemmas.{by_test}
 use Rattle.jname.proofs.EntriesLemmas.{held-from_Contains, Contains-from_held}
 use Rattle.jname.proofs.LiveLemmas.{both_true}
 

@@ -1,5 +1,5 @@
 -- What a change of one name, or of one directory, leaves at every name, version and directory.
-use Rattle.std.proofs.Common.{◌≡◌, ℕ, Bool, true, false, ◌&&◌, cond, List, [], refl, sym, ap, subst, Some, None, Option, Result, Ok, Err, OnOk, OnErr, ◌∙◌, ⊎_elim, inl, inr, ◌≤◌, arith, ◌↔◌}
+use Rattle.std.proofs.Common.{◌≡◌, ℕ, Bool, true, false, ◌&&◌, List, [], refl, sym, ap, subst, Some, None, Option, Result, Ok, Err, OnOk, OnErr, ◌∙◌, ⊎_elim, inl, inr, ◌≤◌, arith, ◌↔◌}
 use Rattle.std.specs.Prelude.{◌⊎◌, if◌then◌else◌, ◌==◌, IsSome, max}
 use Rattle.std.specs.Option.{option_and_then}
 use Rattle.std.specs.Ordering.{nat_cmp, is_eq, eq_by_cmp}
@@ -7,7 +7,7 @@ use Rattle.std.specs.Cmp.{eq_by_cmp_equiv}
 use Rattle.std.specs.Cmp.Lexicographic.{slice_cmp, nat_list_cmp_total, nat_list_eq_equiv}
 use Rattle.std.specs.Cow.{cow_slice_items}
 use Rattle.std.specs.Str.{bytes_eq}
-use Rattle.std.specs.BTreeMap.{BTreeMap, get, get_by, Updates, UpdatesBy}
+use Rattle.std.specs.BTreeMap.{UpdatesBy}
 use Rattle.std.specs.Map.{lookup, KeepsOthers, IsKeyTest, AreApart}
 use Rattle.std.proofs.lemmas.Bool.{cases_lt, eq-eqb, eqb-true}
 use Rattle.std.proofs.lemmas.Grind.{common_steps}

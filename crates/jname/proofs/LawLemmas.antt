@@ -1,5 +1,5 @@
 -- What is live, and the greatest version, by which entries there are.
-use Rattle.std.proofs.Common.{◌≡◌, ◌≢◌, ◌↔◌, ℕ, ◌≤◌, Bool, true, false, List, [], map, Option, Some, None, refl, ap, sym, ◌∙◌, subst, arith}
+use Rattle.std.proofs.Common.{◌≡◌, ℕ, ◌≤◌, Bool, true, List, [], Option, Some, None, refl, ap, sym, ◌∙◌, subst, arith}
 use Rattle.std.specs.Prelude.{Contains, filter, ◌==◌}
 use Rattle.std.specs.Option.{option_and_then, option_map}
 use Rattle.std.specs.FinMap.{same_map}
@@ -9,7 +9,7 @@ use Rattle.flashbase.proofs.ListLemmas.{newest_is_newest, newest_of_none}
 use Rattle.jnode.specs.declared.node.Dirent.{Dirent}
 use Rattle.jname.specs.declared.versions.Content.{Content}
 use Rattle.jname.specs.Entries.{content_of}
-use Rattle.jname.specs.Clash.{Clashes, NoneClashes, NoClashes}
+use Rattle.jname.specs.Clash.{Clashes, NoClashes}
 use Rattle.jname.specs.Live.{Key, is_at, ino_if_any, live, live_names, highest, SameEntries}
 use Rattle.jname.proofs.HeldLemmas.{by_test}
 use Rattle.jname.proofs.MemberLemmas.{Contains-none, Contains-filter, Contains-filter_from}

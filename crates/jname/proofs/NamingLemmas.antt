@@ -1,12 +1,11 @@
 -- The order of keys tells keys apart, and the map of live names has at each key what `live` gives.
-use Rattle.std.proofs.Common.{◌≡◌, ℕ, Bool, true, false, cond, List, [], ◌∷◌, map, Option, Some, None, refl, ap, sym, ◌∙◌, subst, ◌&&◌, Ordering, arith}
-use Rattle.std.specs.Prelude.{filter, Contains, option_and_then, ◌==◌, T, bytes_eq}
+use Rattle.std.proofs.Common.{◌≡◌, ℕ, List, map, Some, refl, ap, sym, ◌∙◌, subst, Ordering}
+use Rattle.std.specs.Prelude.{Contains, option_and_then, ◌==◌, T, bytes_eq}
 use Rattle.std.specs.declared.cmp.Ordering.TheVariants.{Less, Equal, Greater}
-use Rattle.std.specs.List.{list_any}
-use Rattle.std.specs.Ordering.{eq_by_cmp, nat_cmp, ordering_then, is_eq, on}
+use Rattle.std.specs.Ordering.{eq_by_cmp, nat_cmp, ordering_then, is_eq}
 use Rattle.std.specs.Cmp.{IsTotalOrder, nat_cmp_total, unsigned_ties, then_total, on_total, both_tied, eq_by_cmp_equiv}
 use Rattle.std.specs.Cmp.Lexicographic.{slice_cmp, nat_list_cmp_total, texts_ties}
-use Rattle.std.specs.FinMap.{FinMap, get, entries, get-entries, entries_sorted, IsAntisymmetric, nat_cmp-IsAntisymmetric, slice_cmp-IsAntisymmetric}
+use Rattle.std.specs.FinMap.{get, entries, get-entries, entries_sorted, IsAntisymmetric, nat_cmp-IsAntisymmetric, slice_cmp-IsAntisymmetric}
 use Rattle.flashbase.specs.Lists.{newest}
 use Rattle.flashbase.proofs.ListLemmas.{get-tabled_all, filter-no_key}
 use Rattle.jnode.specs.declared.node.Dirent.{Dirent}

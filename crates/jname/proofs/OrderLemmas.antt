@@ -1,15 +1,14 @@
 -- The walks give the live names, all of them, in order.
-use Rattle.std.proofs.Common.{◌≡◌, ◌≢◌, ◌↔◌, ℕ, Bool, true, false, ◌&&◌, cond, List, [], ◌∷◌, ◌++◌, map, Option, Some, None, refl, ap, sym, ◌∙◌, subst, ⊎_elim, Ordering}
-use Rattle.std.specs.Prelude.{Contains, T, filter, filter_map, ◌==◌}
-use Rattle.std.specs.declared.cmp.Ordering.TheVariants.{Less, Equal}
-use Rattle.std.specs.List.{All, flat_map}
+use Rattle.std.proofs.Common.{◌≡◌, ℕ, Bool, List, [], ◌∷◌, ◌++◌, map, Option, Some, None, refl, ap, sym, ◌∙◌, subst, Ordering}
+use Rattle.std.specs.Prelude.{Contains, T, filter, ◌==◌}
+use Rattle.std.specs.declared.cmp.Ordering.TheVariants.{Less}
+use Rattle.std.specs.List.{flat_map}
 use Rattle.std.specs.List.Sorted.{IsStrictlySortedBy}
 use Rattle.std.specs.Option.{option_and_then, option_map}
 use Rattle.std.specs.Ordering.{nat_cmp, is_eq, ordering_then}
 use Rattle.std.specs.Cmp.{nat_cmp_total, tied_itself}
 use Rattle.std.specs.Cmp.Lexicographic.{slice_cmp}
 use Rattle.std.specs.Cow.{cow_slice_items}
-use Rattle.std.specs.Str.{bytes_eq}
 use Rattle.std.specs.BTreeMap.{get, IsOrdered}
 use Rattle.std.specs.FinMap.{entries, entries_sorted}
 use Rattle.std.specs.FinMap.Entries.{below_all, is_sorted, is_sorted-where_key}
@@ -22,17 +21,15 @@ use Rattle.std.proofs.lemmas.Map.Keys.{sorted_tail}
 use Rattle.std.proofs.lemmas.Map.Lookups.{exact_unsigned}
 use Rattle.std.proofs.lemmas.Map.Text.{is_eq-slice_cmp}
 use Rattle.std.proofs.lemmas.Map.Views.{All-after_first, Contains-from_lookup, tells_apart}
-use Rattle.jnode.specs.declared.node.Dirent.{Dirent}
-use Rattle.jname.specs.declared.versions.Content.{Content}
 use Rattle.jname.specs.declared.versions.Versions.{Versions}
 use Rattle.jname.specs.declared.directory.Directory.{Directory}
 use Rattle.jname.specs.Versions.{IsLiveIn, version_at}
-use Rattle.jname.specs.Held.{Name, name_cmp, ByName, versions_of, held_in}
-use Rattle.jname.specs.Directories.{ByNumber, held, held_under}
+use Rattle.jname.specs.Held.{Name, name_cmp, versions_of}
+use Rattle.jname.specs.Directories.{ByNumber, held_under}
 use Rattle.jname.specs.Entries.{entries_of}
 use Rattle.jname.specs.Live.{Key, key_cmp, live, live_names, names_of, all_names}
-use Rattle.jname.specs.Walks.{live_ino, live_name, names_under, placed, names_within}
-use Rattle.jname.proofs.MemberLemmas.{Contains-map, Contains-map_from, Contains-flat_map, Contains-flat_map_from, Contains-filter, Contains-filter_from, Contains-lookup, Contains-there, Contains-here}
+use Rattle.jname.specs.Walk.{live_ino, live_name, names_under, placed, names_within}
+use Rattle.jname.proofs.MemberLemmas.{Contains-map, Contains-map_from, Contains-flat_map, Contains-flat_map_from, Contains-filter, Contains-filter_from, Contains-lookup, Contains-here}
 use Rattle.jname.proofs.EntriesLemmas.{nat_found, name_found}
 use Rattle.jname.proofs.LiveLemmas.{live-is}
 use Rattle.jname.proofs.WalkLemmas.{live_ino-IsLiveIn}

@@ -1,5 +1,5 @@
 -- The entries that the map holds, as a list: in order of directory, name and version.
-use Rattle.std.specs.Prelude.{◌≡◌, ℕ, List, map, Option}
+use Rattle.std.specs.Prelude.{ℕ, List, map}
 use Rattle.std.specs.List.{flat_map}
 use Rattle.std.specs.Cow.{cow_slice_items}
 use Rattle.jnode.specs.declared.node.Dirent.{Dirent}

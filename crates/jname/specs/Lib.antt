@@ -4,4 +4,4 @@ pub mod Entries
 pub mod Held
 pub mod Live
 pub mod Versions
-pub mod Walks
+pub mod Walk

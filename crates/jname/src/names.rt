@@ -28,6 +28,7 @@ type ByNumber<'a> = BTreeMap<u32, Directory<'a>>;
 #[derive(Drop)]
 pub struct Names<'a> {
     directories: ByNumber<'a>,
+    // Always empty: the names of a directory that has no entries.
     none: ByName<'a>,
     alloc: Global,
 }
@@ -62,7 +63,10 @@ impl<'a> Names<'a> {
         }
     }
 
-    /// Adds an entry. One that was added already changes nothing.
+    /// Adds an entry. One that was added already changes nothing. In log n steps for n entries.
+    ///
+    /// `Clash`: an entry of the same directory, name and version, with other contents, was added before. After a fault
+    /// the entries are those from before.
     pub fn add(&mut self, entry: &Dirent<'a>) -> Result<(), NameFault>
         ensures ok { OnOk result (Gains self.old self.new entry.now) }
         ensures alone { OnOk result (NoneClashes self.old entry.now) }
@@ -85,7 +89,7 @@ impl<'a> Names<'a> {
         )
     }
 
-    /// The inode number that a name of a directory stands for.
+    /// The inode number that a name of a directory stands for. Takes log n steps and no memory.
     pub fn get(&self, dir: u32, name: &[u8]) -> Option<u32>
         ensures { result ≡ live self.now (dir, name.now) }
     {

@@ -17,7 +17,7 @@ pub struct Of<'n, 'a> {
 
 impl<'n, 'a> Model for Of<'n, 'a> {
     ghost use Rattle.std.specs.Prelude.{ℕ, List};
-    ghost use Rattle.jname.specs.Walks.{names_under};
+    ghost use Rattle.jname.specs.Walk.{names_under};
 
     ghost Value = { List (List ℕ × ℕ) };
 
@@ -26,7 +26,7 @@ impl<'n, 'a> Model for Of<'n, 'a> {
 
 impl<'n, 'a> Of<'n, 'a> {
     ghost use Rattle.std.specs.Prelude.{◌≡◌};
-    ghost use Rattle.jname.specs.Walks.{names_under};
+    ghost use Rattle.jname.specs.Walk.{names_under};
 
     pub(crate) fn new(names: &'n ByName<'a>) -> Self
         ensures { result ≡ names_under names.now.entries }
@@ -65,7 +65,7 @@ pub struct All<'n, 'a> {
 
 impl<'n, 'a> Model for All<'n, 'a> {
     ghost use Rattle.std.specs.Prelude.{ℕ, List, ◌++◌, map};
-    ghost use Rattle.jname.specs.Walks.{placed, names_within};
+    ghost use Rattle.jname.specs.Walk.{placed, names_within};
 
     ghost Value = { List (ℕ × List ℕ × ℕ) };
 
@@ -74,7 +74,7 @@ impl<'n, 'a> Model for All<'n, 'a> {
 
 impl<'n, 'a> All<'n, 'a> {
     ghost use Rattle.std.specs.Prelude.{◌≡◌, []};
-    ghost use Rattle.jname.specs.Walks.{names_under, names_within};
+    ghost use Rattle.jname.specs.Walk.{names_under, names_within};
 
     /// The names of these directories; `none` is a directory without names.
     pub(crate) fn new(directories: &'n BTreeMap<u32, Directory<'a>>, none: &'n ByName<'a>) -> Self

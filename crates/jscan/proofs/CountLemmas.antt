@@ -22,11 +22,11 @@ number_cons test s ss = sum_by-cons (λ (t : Stretch). one_if (test t.look)) s s
 
 pub counting_next : (old : Counts) (all left : List Stretch) (now : Counts) (s : Stretch) → Counting old all (s ∷ left) now → Counting old all left (counted now s.look)
 counting_next old all left now s before = record {
-    blocks = before.blocks;
-    entries = omega (arith, before.entries, number_cons is_entry_tile s left);
-    inodes = omega (arith, before.inodes, number_cons is_inode_tile s left);
-    findings = omega (arith, before.findings, number_cons is_found s left);
-  }
+  blocks = before.blocks;
+  entries = omega (arith, before.entries, number_cons is_entry_tile s left);
+  inodes = omega (arith, before.inodes, number_cons is_inode_tile s left);
+  findings = omega (arith, before.findings, number_cons is_found s left);
+}
 
 pub counting_end : (old : Counts) (all : List Stretch) (now : Counts) → Counting old all [] now → now ≡ block_counted old all
 counting_end old all now done =

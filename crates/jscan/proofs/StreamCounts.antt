@@ -74,11 +74,11 @@ known_next : (e : Endian) (size start : ℕ) (counts now : Counts) (image : List
 known_next e size start counts now image old new block here before next is =
     let n = counts.blocks in
     let same : stretches e start block ≡ stretches_of_block e size image n =
-        ap (stretches e start) (block_here size start n image old new block here before.place next)
-        ∙ ap (λ (k : ℕ). stretches e k (block_of size image n)) (sym here) in
+    ap (stretches e start) (block_here size start n image old new block here before.place next)
+    ∙ ap (λ (k : ℕ). stretches e k (block_of size image n)) (sym here) in
     let total : now ≡ counts_of e size image (n + 1) =
-        is ∙ ap (λ (c : Counts). block_counted c (stretches e start block)) before.so_far
-        ∙ ap (block_counted (counts_of e size image n)) same ∙ sym (counts_grow e size image n) in
+    is ∙ ap (λ (c : Counts). block_counted c (stretches e start block)) before.so_far
+    ∙ ap (block_counted (counts_of e size image n)) same ∙ sym (counts_grow e size image n) in
     record {
       place = at_next size start image old new block before.place next;
       so_far = total ∙ ap (counts_of e size image) (sym (ap (λ (c : Counts). c.blocks) total));
@@ -95,8 +95,8 @@ scanning_next {S} {o} e source size start counts now old new block before gives 
     let inodes : now.inodes ≡ counts.inodes + number_in is_inode_tile (stretches e start block) = ap (λ (c : Counts). c.inodes) is in
     let findings : now.findings ≡ counts.findings + number_in is_found (stretches e start block) = ap (λ (c : Counts). c.findings) is in
     let next : IsNextBlock size start (rest_of old) (rest_of new) block =
-        subst (λ (s : ℕ). IsNextBlock s start (rest_of old) (rest_of new) block) before.blocks_of
-            (subst (λ (s : ℕ). IsNextBlock (size_of old) s (rest_of old) (rest_of new) block) before.here gives.bytes) in
+    subst (λ (s : ℕ). IsNextBlock s start (rest_of old) (rest_of new) block) before.blocks_of
+    (subst (λ (s : ℕ). IsNextBlock (size_of old) s (rest_of old) (rest_of new) block) before.here gives.bytes) in
     record {
       blocks_of = gives.same_size ∙ before.blocks_of;
       readable = before.readable;

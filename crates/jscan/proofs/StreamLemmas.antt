@@ -29,10 +29,10 @@ full_block size start bytes ys block long some fits is =
     let count : length bytes ≡ length block + length ys = ap length is ∙ length-append block ys in
     let none : 0 * size ≡ 0 = zero-mul size in
     let first : block_of size bytes 0 ≡ block =
-        ap (λ k. take size (drop k bytes ++ replicate size 0xFF)) none
-        ∙ ap (λ l. take size (l ++ replicate size 0xFF)) is
-        ∙ ap (take size) (append_assoc block ys (replicate size 0xFF))
-        ∙ take_at block (ys ++ replicate size 0xFF) size long in
+    ap (λ k. take size (drop k bytes ++ replicate size 0xFF)) none
+    ∙ ap (λ l. take size (l ++ replicate size 0xFF)) is
+    ∙ ap (take size) (append_assoc block ys (replicate size 0xFF))
+    ∙ take_at block (ys ++ replicate size 0xFF) size long in
     (omega arith, omega arith, sym first, ap Some (sym (ap (drop size) is ∙ drop_at block ys size long)))
 
 -- the last block, of which the source has a part
@@ -42,11 +42,11 @@ last_block size start n bytes block long some few fits is filled =
     let count : length bytes ≡ n = ap length is ∙ omega (arith, length-take n block) in
     let none : 0 * size ≡ 0 = zero-mul size in
     let first : block_of size bytes 0 ≡ block =
-        ap (λ k. take size (drop k bytes ++ replicate size 0xFF)) none
-        ∙ ap (λ m. take m (bytes ++ replicate size 0xFF)) {y = length bytes + (size - n)} (omega arith)
-        ∙ take-append-add bytes (replicate size 0xFF) (size - n)
-        ∙ ap (λ l. bytes ++ l) (take-replicate (size - n) size 0xFF (omega arith))
-        ∙ ap (λ l. l ++ replicate (size - n) 0xFF) is ∙ sym filled in
+    ap (λ k. take size (drop k bytes ++ replicate size 0xFF)) none
+    ∙ ap (λ m. take m (bytes ++ replicate size 0xFF)) {y = length bytes + (size - n)} (omega arith)
+    ∙ take-append-add bytes (replicate size 0xFF) (size - n)
+    ∙ ap (λ l. bytes ++ l) (take-replicate (size - n) size 0xFF (omega arith))
+    ∙ ap (λ l. l ++ replicate (size - n) 0xFF) is ∙ sym filled in
     (omega arith, omega arith, sym first, ap Some (sym (drop_all size bytes (omega arith))))
 
 -- what was read into a block is the block that comes next
@@ -58,12 +58,12 @@ next_block (Some bytes) None size start n block long some few fits is end filled
 next_block (Some bytes) (Some ys) size start n block long some few fits is end filled =
     ⊎_elim
     (λ part.
-        let no_more : ys ≡ [] = end part in
-        subst (λ (l : List ℕ). IsNextBlock size start (Some bytes) (Some l) block) (sym no_more)
-            (last_block size start n bytes block long some few fits (is ∙ ap (λ l. take n block ++ l) no_more ∙ append-nil (take n block)) filled))
+    let no_more : ys ≡ [] = end part in
+    subst (λ (l : List ℕ). IsNextBlock size start (Some bytes) (Some l) block) (sym no_more)
+    (last_block size start n bytes block long some few fits (is ∙ ap (λ l. take n block ++ l) no_more ∙ append-nil (take n block)) filled))
     (λ whole.
-        let all : take n block ≡ block = take_all n block (omega arith) in
-        full_block size start bytes ys block long (omega arith) (omega arith) (is ∙ ap (λ l. l ++ ys) all))
+    let all : take n block ≡ block = take_all n block (omega arith) in
+    full_block size start bytes ys block long (omega arith) (omega arith) (is ∙ ap (λ l. l ++ ys) all))
     (cases_lt n size)
 
 -- ---- block after block
@@ -86,7 +86,7 @@ pub block_here : (size start n : ℕ) (image : List ℕ) (old new : Option (List
 block_here size start n image old new block here at next =
     (next_left size start image old new block at next).2
     ∙ ap (λ (l : List ℕ). take size (l ++ replicate size 0xFF))
-        (ap (λ (k : ℕ). drop k (drop start image)) (zero-mul size) ∙ ap (λ (k : ℕ). drop k image) (sym here))
+    (ap (λ (k : ℕ). drop k (drop start image)) (zero-mul size) ∙ ap (λ (k : ℕ). drop k image) (sym here))
 
 -- and the one behind it comes next.
 pub at_next : (size start : ℕ) (image : List ℕ) (old new : Option (List ℕ)) (block : List ℕ)

@@ -55,17 +55,17 @@ one_if b = if b then 1 else 0
 
 abbrev pub counted : Counts → Look → Counts
 counted c look = record {
-    blocks = c.blocks;
-    entries = c.entries + one_if (is_entry_tile look);
-    inodes = c.inodes + one_if (is_inode_tile look);
-    findings = c.findings + one_if (is_found look);
-  }
+  blocks = c.blocks;
+  entries = c.entries + one_if (is_entry_tile look);
+  inodes = c.inodes + one_if (is_inode_tile look);
+  findings = c.findings + one_if (is_found look);
+}
 
 -- one block more
 abbrev pub block_counted : Counts → List Stretch → Counts
 block_counted c ss = record {
-    blocks = c.blocks + 1;
-    entries = c.entries + number_in is_entry_tile ss;
-    inodes = c.inodes + number_in is_inode_tile ss;
-    findings = c.findings + number_in is_found ss;
-  }
+  blocks = c.blocks + 1;
+  entries = c.entries + number_in is_entry_tile ss;
+  inodes = c.inodes + number_in is_inode_tile ss;
+  findings = c.findings + number_in is_found ss;
+}

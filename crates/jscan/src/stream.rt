@@ -122,7 +122,11 @@ impl<S: Source> BlockReader<S> {
         if self.has_ended {
             return Ok(false);
         }
-        match fill_block(&mut self.source, &mut self.buffer, GREATEST_IMAGE - self.start) {
+        match fill_block(
+            &mut self.source,
+            &mut self.buffer,
+            GREATEST_IMAGE - self.start,
+        ) {
             Ok(filled) => {
                 self.has_ended = filled < self.buffer.len();
                 if filled == 0 {
@@ -140,7 +144,11 @@ impl<S: Source> BlockReader<S> {
 }
 
 /// Fills the block from the source, with 0xFF where the source ends, and answers how many bytes the source gave.
-fn fill_block<S: Source>(source: &mut S, block: &mut [u8], room: usize) -> Result<usize, StreamFault>
+fn fill_block<S: Source>(
+    source: &mut S,
+    block: &mut [u8],
+    room: usize,
+) -> Result<usize, StreamFault>
     ensures whole { length block.new ≡ length block.old }
     ensures within { IfOk result (λ n. (n ≤ length block.new) × (n ≤ room)) }
     ensures bytes { IfOk result (λ n. Consumes (S.rest source.old) (S.rest source.new) (take n block.new)) }

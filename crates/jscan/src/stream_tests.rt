@@ -158,10 +158,11 @@ fn blocks_are_those_of_the_bytes(rt: HostRuntime) -> Result<(), Fail> {
     let image = two_entries();
     let mut filled = [0xff; 8192];
     filled[..4137].copy_from_slice(&image);
+    let (first, second) = filled.split_at(4096);
     for piece in PIECES {
         let mut reader = BlockReader::new(rt.alloc(), Pieces::of(&image, piece), SMALL)?;
-        assert!(rt; reader.next()? == Some(&filled[..4096]));
-        assert!(rt; reader.next()? == Some(&filled[4096..]));
+        assert!(rt; reader.next()? == Some(first));
+        assert!(rt; reader.next()? == Some(second));
         assert!(rt; reader.next()? == None);
         assert!(rt; reader.next()? == None);
         assert!(rt; reader.into_source().bytes.is_empty());
@@ -195,19 +196,15 @@ fn a_device_fails_in_the_second_block(rt: HostRuntime) -> Result<(), Fail> {
 #[test]
 fn a_source_is_too_large(rt: HostRuntime) -> Result<(), Fail> {
     for (block, left, blocks) in [
-        (GREATEST_BLOCK, 268_435_456, 64),
+        (GREATEST_BLOCK, 268_435_456, 64u32),
         (GREATEST_BLOCK - 4, 268_435_456, 65),
         (GREATEST_BLOCK, 268_435_457, 64),
         (GREATEST_BLOCK - 4, 268_435_457, 64),
     ] {
         let mut reader = BlockReader::new(rt.alloc(), Long { left }, Geometry { block })?;
-        let mut given = 0;
         for _ in 0..blocks {
-            if reader.next()?.is_some() {
-                given += 1;
-            }
+            assert!(rt; reader.next()?.is_some());
         }
-        assert_eq!(rt; given, blocks);
         for _ in 0..2 {
             let want = if left == 268_435_456 {
                 Ok(None)

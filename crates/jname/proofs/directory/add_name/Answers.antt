@@ -4,12 +4,11 @@ use Rattle.std.specs.Option.{option_and_then}
 use Rattle.std.specs.Ordering.{nat_cmp, eq_by_cmp, is_eq}
 use Rattle.std.specs.Cmp.Lexicographic.{slice_cmp}
 use Rattle.std.specs.Cow.{cow_slice_items}
-use Rattle.std.specs.Map.{lookup, set_value}
-use Rattle.std.specs.BTreeMap.{IsOrdered}
+use Rattle.std.specs.Map.{lookup}
 use Rattle.jname.specs.declared.versions.Versions.{Versions}
 use Rattle.jname.specs.declared.versions.Content.{Content}
 use Rattle.jname.specs.Versions.{version_at}
-use Rattle.jname.specs.Held.{Name, ByName, held_in, versions_of, shown}
+use Rattle.jname.specs.Held.{Name, ByName, versions_of, shown}
 use Rattle.jname.proofs.HeldLemmas.{ok_map, err_map, Replaces, held_in-replaced, held_in-kept, held_in-none}
 use Rattle.jname.proofs.MemberLemmas.{map-set_value}
 use Rattle.jname.proofs.directory.add_name.Goals as goal

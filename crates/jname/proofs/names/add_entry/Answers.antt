@@ -1,11 +1,11 @@
-use Rattle.std.proofs.Common.{rules, ◌≡◌, ℕ, ◌∙◌, ap, sym, List, map, None, Some, Option}
+use Rattle.std.proofs.Common.{rules, ◌≡◌, ℕ, ◌∙◌, ap, sym, List, map, Some, Option}
 use Rattle.std.specs.Prelude.{if◌then◌else◌, ◌==◌, ◌&&◌, IsSome, bytes_eq}
 use Rattle.std.specs.Option.{option_and_then}
 use Rattle.std.specs.Ordering.{nat_cmp, eq_by_cmp}
 use Rattle.std.specs.Cow.{cow_slice_items}
 use Rattle.std.specs.BTreeMap.{get, Updates}
 use Rattle.jname.specs.declared.directory.Directory.{Directory}
-use Rattle.jname.specs.Directories.{ByNumber, held, held_under}
+use Rattle.jname.specs.Directories.{ByNumber, held_under}
 use Rattle.jname.specs.Entries.{entries_in}
 use Rattle.jname.proofs.HeldLemmas.{ok_map, err_map, err_always}
 use Rattle.jname.proofs.MemberLemmas.{map-set_value}

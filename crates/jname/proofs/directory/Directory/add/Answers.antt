@@ -1,4 +1,4 @@
-use Rattle.std.proofs.Common.{rules, ◌≡◌, ℕ}
+use Rattle.std.proofs.Common.{rules, ◌≡◌}
 use Rattle.std.specs.Prelude.{max}
 use Rattle.std.specs.Cow.{cow_slice_items}
 use Rattle.jname.proofs.HeldLemmas.{bound_of_one_more, reached_by_one_more}

@@ -1,8 +1,7 @@
-use Rattle.std.proofs.Common.{rules, ◌≡◌, ◌∙◌, ℕ, ap, sym, List, [], Some, None, Option}
+use Rattle.std.proofs.Common.{◌∙◌, ap, sym, Some, Option}
 use Rattle.std.specs.Prelude.{if◌then◌else◌, ◌==◌}
 use Rattle.std.specs.Cow.{cow_slice_items}
 use Rattle.jname.specs.declared.versions.Content.{Content}
-use Rattle.jname.specs.Held.{held_in}
 use Rattle.jname.proofs.HeldLemmas.{held_in-first, held_in-replaced, held_in-empty, bound_of_first, reached_there}
 use Rattle.jname.proofs.directory.Directory.of_one.Goals as goal
 

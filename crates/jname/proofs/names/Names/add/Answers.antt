@@ -1,5 +1,4 @@
 use Rattle.std.proofs.Common.{◌≡◌, ℕ, subst, List, Err, OnOk}
-use Rattle.std.specs.Cow.{cow_slice_items}
 use Rattle.jnode.specs.declared.node.Dirent.{Dirent}
 use Rattle.jname.specs.declared.fault.NameFault.TheVariants.{Clash}
 use Rattle.jname.specs.Versions.{Agrees, Differs}

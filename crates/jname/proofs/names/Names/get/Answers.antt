@@ -1,4 +1,4 @@
-use Rattle.std.proofs.Common.{rules, ◌≡◌, ◌∙◌, ap, List}
+use Rattle.std.proofs.Common.{◌∙◌, ap, List}
 use Rattle.jnode.specs.declared.node.Dirent.{Dirent}
 use Rattle.jname.specs.Live.{live}
 use Rattle.jname.proofs.LiveLemmas.{live-is}

@@ -1,11 +1,11 @@
-use Rattle.std.proofs.Common.{rules, ◌≡◌, ◌∙◌, ap, ℕ, List, [], Some, None}
+use Rattle.std.proofs.Common.{rules, ◌≡◌, ◌∙◌, ap, List, Some, None}
 use Rattle.std.specs.Ordering.{nat_cmp}
 use Rattle.std.specs.BTreeMap.{get}
 use Rattle.jnode.specs.declared.node.Dirent.{Dirent}
 use Rattle.jname.specs.declared.versions.Versions.{Versions}
 use Rattle.jname.specs.Held.{Name}
 use Rattle.jname.specs.Live.{names_of}
-use Rattle.jname.specs.Walks.{names_under}
+use Rattle.jname.specs.Walk.{names_under}
 use Rattle.jname.proofs.OrderLemmas.{names_under-is, names_of-none}
 use Rattle.jname.proofs.names.Names.of.Goals as goal
 

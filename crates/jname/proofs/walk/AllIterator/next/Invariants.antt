@@ -1,5 +1,5 @@
-use Rattle.std.proofs.Common.{◌≡◌, ℕ, length, map, ◌++◌}
-use Rattle.jname.specs.Walks.{placed, names_within}
+use Rattle.std.proofs.Common.{◌≡◌, length, map, ◌++◌}
+use Rattle.jname.specs.Walk.{placed, names_within}
 use Rattle.jname.proofs.walk.AllIterator.next.Given as goal
 
 abbrev pub invariant-loop-name : goal.invariant-loop-name

@@ -1,8 +1,5 @@
-use Rattle.std.proofs.Common.{rules, ◌≡◌, ℕ, List, ◌∷◌, Some, None, Option, ◌∙◌, sym, ap, subst, length, arith}
-use Rattle.jname.specs.declared.versions.Versions.{Versions}
+use Rattle.std.proofs.Common.{rules, ◌≡◌, ℕ, ◌∷◌, Some, None, Option, ◌∙◌, sym, ap, subst, length, arith}
 use Rattle.jname.specs.Versions.{IsLiveIn, version_at}
-use Rattle.jname.specs.Held.{Name}
-use Rattle.jname.specs.Walks.{names_under}
 use Rattle.jname.proofs.WalkLemmas.{names_under-live, names_under-gone}
 use Rattle.jname.proofs.walk.OfIterator.next.Goals as goal
 

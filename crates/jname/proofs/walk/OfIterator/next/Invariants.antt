@@ -1,5 +1,5 @@
-use Rattle.std.proofs.Common.{◌≡◌, ℕ, length}
-use Rattle.jname.specs.Walks.{names_under}
+use Rattle.std.proofs.Common.{◌≡◌, length}
+use Rattle.jname.specs.Walk.{names_under}
 use Rattle.jname.proofs.walk.OfIterator.next.Given as goal
 
 abbrev pub invariant-loop-name : goal.invariant-loop-name

@@ -17,8 +17,8 @@ returns-else-filled-eq0 g c =
     let shown : take size (block ++ drop (length block) old.buffer.items) ≡ block = take_at block (drop (length block) old.buffer.items) size long in
     let room : old.start + n ≤ greatest_image = omega (arith, some, step.within.1) in
     let next : IsNextBlock size old.start (g.S.Source.rest old.source) (g.S.Source.rest c.fill_block.new.source) block =
-        next_block _ _ size old.start n block long some (omega (arith, step.within.0, long)) room step.bytes (λ short. step.end (omega (arith, short, long)))
-            (step.filled ∙ ap (λ (m : ℕ). take n block ++ replicate (m - n) 0xFF) long) in
+    next_block _ _ size old.start n block long some (omega (arith, step.within.0, long)) room step.bytes (λ short. step.end (omega (arith, short, long)))
+    (step.filled ∙ ap (λ (m : ℕ). take n block ++ replicate (m - n) 0xFF) long) in
     record {
       reading = search rules;
       not_ended = search rules;

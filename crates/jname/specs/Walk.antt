@@ -1,5 +1,5 @@
 -- The live names among what is held, in order.
-use Rattle.std.specs.Prelude.{ℕ, ◌==◌, List, [], ◌∷◌, map, Option, Some, None, if◌then◌else◌, filter_map}
+use Rattle.std.specs.Prelude.{ℕ, ◌==◌, List, map, Option, Some, None, if◌then◌else◌, filter_map}
 use Rattle.std.specs.List.{flat_map}
 use Rattle.std.specs.Option.{option_map, option_and_then}
 use Rattle.std.specs.Cow.{cow_slice_items}
