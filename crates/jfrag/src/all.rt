@@ -8,7 +8,9 @@ use super::piece::Piece;
 use std::alloc::{AllocError, Global};
 
 /// All of the pieces laid over one another: at each place stands the highest version that covers it.
-/// n pieces take n log n steps in any order, since they are laid in the order of their versions.
+/// Pieces are laid in the order of their versions, so that n of them take n log n steps in any order
+/// of arrival, if those of one version are equal or lie apart. (Else each takes a step more for each
+/// interval of its own version in its range.)
 ///
 /// # Errors
 /// Out of memory.

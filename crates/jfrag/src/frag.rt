@@ -9,7 +9,8 @@ use super::runs::{self, Runs};
 use std::alloc::{AllocError, Global};
 use std::collections::BTreeMap;
 
-/// Runs in the order of their places: no two of them overlap.
+/// Intervals in the order of their places, in each of which one piece stands: no two overlap, and no
+/// two that touch show one piece. At each key of the map begins what stands up to the next key.
 #[derive(Drop)]
 pub struct FragOverlay<'a> {
     runs: BTreeMap<u32, Option<Piece<'a>>>,

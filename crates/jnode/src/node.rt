@@ -53,7 +53,9 @@ pub enum Damage {
     NodeCrc = 1,
     NameCrc,
     DataCrc,
+    /// The node is too short for its fields, or its name or data do not end in its last word.
     Length,
+    /// A field has a value that no such node has.
     Range,
 }
 
@@ -62,13 +64,20 @@ pub enum Damage {
 pub enum Seen<'a> {
     Entry(Dirent<'a>),
     Inode(InodeNode<'a>),
+    /// The clean marker of an erased block.
     Marker,
     Padding,
+    /// A node whose type has the bit ACCURATE clear; it says nothing any more.
     Obsolete,
+    /// An extended attribute or a reference to one.
     Attribute,
+    /// A type that a reader may pass over, as a summary.
     Skippable { nodetype: u16 },
+    /// A type that a reader who does not know it may not write beside.
     ReadOnly { nodetype: u16 },
+    /// A type that a reader who does not know it may not mount.
     Incompatible { nodetype: u16 },
+    /// A sound inode node whose data are compressed in a way that is not read.
     Compressed { compr: u8 },
     Damaged { which: Damage },
 }

@@ -14,11 +14,14 @@ use crate::order::{Order, u16_bytes, u32_bytes};
 use flashbase::{Part, crc};
 use thiserror::Error;
 
-/// Why a node is not written.
+/// Why a node is not written. Of several the first is answered.
 #[derive(Debug, Drop, Error)]
 pub enum WriteFault {
+    /// A name that does not have 1 to 254 bytes.
     #[error("N1 Name")]
     Name,
+    /// A parent or object of number 0, data that do not have the length of the range, a range that passes
+    /// 0xFFFFFFFF, or a node of more than 4,194,304 bytes or fewer than its header.
     #[error("N2 Data")]
     Data,
     #[error("N3 OutOfMemory")]

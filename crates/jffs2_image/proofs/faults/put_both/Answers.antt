@@ -13,5 +13,5 @@ returns-in-Err-clause-part g c =
       omega (arith, short, length-append first second),
       subst (λ bytes. Appends (g.T.Sink.taken c.args.sink.now) (g.T.Sink.taken c.put_all-2.new.sink) bytes)
           (sym (take-append-add first second c.in-Err.field-0.taken))
-          (Appends-trans _ _ _ _ _ c.in_ok-put_all.ensures.ok part.1),
+          (Appends-trans _ _ _ _ _ c.in_ok-put_all.ensures.puts.0 part.1),
     )
