@@ -4,8 +4,8 @@ ghost use Rattle.std.specs.Io.KnownBytes.{Appends};
 ghost use Rattle.flashbase.specs.Device.{next_count};
 ghost use Rattle.jffs2_image.specs.Faults.{fault_line_of, fault_text_of, load_text, scan_fault_text};
 
-use crate::report_fault::ReportFault;
 use crate::line::LineBuffer;
+use crate::report_fault::ReportFault;
 use flashbase::{LoadFault, PutFault, Sink, put_all};
 use jscan::ScanFault;
 

@@ -8,9 +8,9 @@ ghost use Rattle.jffs2_image.specs.Puts.{IsScannable, IsFaultOf, PutsLines, Puts
 
 use crate::blocks::put_block;
 use crate::counts::Counts;
-use crate::report_fault::ReportFault;
 use crate::forms::write_total;
 use crate::line::LineBuffer;
+use crate::report_fault::ReportFault;
 use flashbase::{FromWriter, Sink, put_all};
 use jnode::Order;
 use jscan::{GREATEST_IMAGE, Geometry, ScanFault};
