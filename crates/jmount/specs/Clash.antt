@@ -1,0 +1,38 @@
+-- Nodes that contradict each other. Of two inode nodes of one number and version the medium format names no winner
+-- (Woodhouse 2001: versions order the nodes of one inode number): if they are not one and the same, they clash. An entry
+-- and an inode node never do.
+use Rattle.std.specs.Prelude.{◌≡◌, ◌≢◌, ⊥, ℕ, ◌<◌, List, Contains}
+use Rattle.jnode.specs.declared.node.InodeNode.{InodeNode}
+use Rattle.jnode.specs.declared.node.NodeRef.{NodeRef}
+use Rattle.jnode.specs.declared.node.NodeRef.TheVariants.{Entry, Inode}
+use Rattle.jname.specs.Clash as names
+
+-- two inode nodes of one number and version whose contents differ
+pub record InodesClash (a b : InodeNode) : Type 0 where
+  pub ino : a.ino ≡ b.ino
+  pub version : a.version ≡ b.version
+  pub contents : a ≢ b
+
+abbrev pub Clashes : NodeRef → NodeRef → Type 0
+Clashes (Entry a) (Entry b) = names.Clashes a b
+Clashes (Inode a) (Inode b) = InodesClash a b
+Clashes (Entry a) (Inode b) = ⊥
+Clashes (Inode a) (Entry b) = ⊥
+
+-- an inode node clashes with one of these
+abbrev pub SomeClashes : List InodeNode → InodeNode → Type 0
+SomeClashes inodes node = (other : InodeNode) × Contains inodes other × InodesClash other node
+
+-- an inode node clashes with none of these
+abbrev pub NoneClashes : List InodeNode → InodeNode → Type 0
+NoneClashes inodes node = (other : InodeNode) → Contains inodes other → InodesClash other node → ⊥
+
+-- no two of these clash
+abbrev pub NoClashes : List InodeNode → Type 0
+NoClashes inodes = (node : InodeNode) → Contains inodes node → NoneClashes inodes node
+
+-- a node at the address clashes with one below it
+abbrev pub IsClashAt : List (ℕ × NodeRef) → ℕ → Type 0
+IsClashAt ns addr =
+    (node : NodeRef) × (below : ℕ) × (other : NodeRef)
+    × Contains ns (addr, node) × Contains ns (below, other) × (below < addr) × Clashes node other

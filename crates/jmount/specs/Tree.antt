@@ -1,0 +1,79 @@
+-- A file system: its objects, its names, and the next number that is free.
+use Rattle.std.specs.Prelude.{ℕ, ◌/◌, ◌%◌, ◌==◌, Bool, false, List, length, map, filter, Option, Some, None, option_map, is_some, not}
+use Rattle.std.specs.Ordering.{nat_cmp}
+use Rattle.std.specs.FinMap.{FinMap, get, keys, entries}
+use Rattle.flashbase.specs.Lists.{tabled}
+use Rattle.jname.specs.Live.{Key, key_cmp}
+
+-- an object, with what stands for its bytes: the bytes, or in an outline their number
+pub record ObjectOf (B : Type 0) : Type 0 where
+  pub mode : ℕ
+  pub uid : ℕ
+  pub gid : ℕ
+  pub atime : ℕ
+  pub mtime : ℕ
+  pub ctime : ℕ
+  pub body : B
+
+-- objects by their numbers, and what each name of a directory stands for
+pub record Tree (B : Type 0) : Type 0 where
+  pub objects : FinMap nat_cmp (ObjectOf B)
+  pub names : FinMap key_cmp ℕ
+  pub next : ℕ
+
+-- the whole, and the same with each object's bytes replaced by their number
+abbrev pub State : Type 0
+State = Tree (List ℕ)
+
+abbrev pub Outline : Type 0
+Outline = Tree ℕ
+
+abbrev pub sized : ObjectOf (List ℕ) → ObjectOf ℕ
+sized o = record { mode = o.mode; uid = o.uid; gid = o.gid; atime = o.atime; mtime = o.mtime; ctime = o.ctime; body = length o.body }
+
+abbrev pub outline : State → Outline
+outline s = record { objects = tabled nat_cmp (keys s.objects) (λ i. option_map sized (get s.objects i)); names = s.names; next = s.next }
+
+-- ---- what a tree says of a number and of a name
+
+abbrev pub object : {B : Type 0} → Tree B → ℕ → Option (ObjectOf B)
+object t i = get t.objects i
+
+abbrev pub is_there : {B : Type 0} → Tree B → ℕ → Bool
+is_there t i = is_some (object t i)
+
+abbrev pub named : {B : Type 0} → Tree B → ℕ → List ℕ → Option ℕ
+named t dir name = get t.names (dir, name)
+
+-- the names of a directory, each with its number, in byte order
+abbrev pub entries_in : {B : Type 0} → Tree B → ℕ → List (List ℕ × ℕ)
+entries_in t dir = map (λ e. (e.0.1, e.1)) (filter (λ e. e.0.0 == dir) (entries t.names))
+
+-- all names, each with its directory's number and its own, in order
+abbrev pub all_entries : {B : Type 0} → Tree B → List (ℕ × List ℕ × ℕ)
+all_entries t = map (λ e. (e.0.0, e.0.1, e.1)) (entries t.names)
+
+-- the names whose objects are missing, in order
+abbrev pub dangling : {B : Type 0} → Tree B → List (ℕ × List ℕ × ℕ)
+dangling t = filter (λ e. not (is_there t e.1.1)) (all_entries t)
+
+-- ---- kinds: mode bits 12 to 15 (Linux, include/uapi/linux/stat.h)
+
+abbrev pub type_bits : ℕ → ℕ
+type_bits mode = mode / 4096 % 16
+
+abbrev pub directory_bits : ℕ
+directory_bits = 4
+
+abbrev pub regular_bits : ℕ
+regular_bits = 8
+
+abbrev pub symlink_bits : ℕ
+symlink_bits = 10
+
+abbrev pub has_bits : {B : Type 0} → ℕ → Option (ObjectOf B) → Bool
+has_bits bits None = false
+has_bits bits (Some o) = type_bits o.mode == bits
+
+abbrev pub is_directory : {B : Type 0} → Tree B → ℕ → Bool
+is_directory t i = has_bits directory_bits (object t i)

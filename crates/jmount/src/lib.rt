@@ -1,0 +1,17 @@
+//! The file system that the nodes of an image make.
+//!
+//! It stands on `jscan` (the nodes of an image), `jfrag` (the bytes of a file) and `jname` (what a name stands for). Its
+//! promise to the layers above: `mount` answers the state of the image's nodes, or the fault of least address.
+//!
+//! `specs/Tree.antt` says what a file system is, `specs/StateOf.antt` which one nodes make, `specs/Find.antt` what a path
+//! names, `specs/Clash.antt` which nodes contradict each other, and `specs/Mounts.antt` what a mount answers.
+#![tactic(auto)]
+
+mod fault;
+mod mounted;
+mod object;
+mod stored;
+
+pub use crate::fault::{FindFault, MountFault};
+pub use crate::mounted::Mounted;
+pub use crate::object::{Kind, Object};

@@ -1,0 +1,18 @@
+// How an object of a mounted image is kept.
+
+use jfrag::FragOverlay;
+
+/// An object: the attributes and the size that its node of highest version gives, and what its nodes lay over one
+/// another.
+#[derive(Drop)]
+pub struct Stored<'a> {
+    pub version: u32,
+    pub mode: u32,
+    pub uid: u16,
+    pub gid: u16,
+    pub size: u32,
+    pub atime: u32,
+    pub mtime: u32,
+    pub ctime: u32,
+    pub bytes: FragOverlay<'a>,
+}
