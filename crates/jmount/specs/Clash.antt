@@ -1,7 +1,7 @@
 -- Nodes that contradict each other. Of two inode nodes of one number and version the medium format names no winner
 -- (Woodhouse 2001: versions order the nodes of one inode number): if they are not one and the same, they clash. An entry
 -- and an inode node never do.
-use Rattle.std.specs.Prelude.{◌≡◌, ◌≢◌, ⊥, ℕ, ◌<◌, List, Contains}
+use Rattle.std.specs.Prelude.{◌≡◌, ◌≢◌, ℕ, ◌<◌, List, Contains}
 use Rattle.jnode.specs.declared.node.InodeNode.{InodeNode}
 use Rattle.jnode.specs.declared.node.NodeRef.{NodeRef}
 use Rattle.jnode.specs.declared.node.NodeRef.TheVariants.{Entry, Inode}

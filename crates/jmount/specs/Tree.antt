@@ -55,7 +55,7 @@ all_entries t = map (λ e. (e.0.0, e.0.1, e.1)) (entries t.names)
 
 -- the names whose objects are missing, in order
 abbrev pub dangling : {B : Type 0} → Tree B → List (ℕ × List ℕ × ℕ)
-dangling t = filter (λ e. not (is_there t e.1.1)) (all_entries t)
+dangling t = filter (λ e. not (is_there t e.2)) (all_entries t)
 
 -- ---- kinds: mode bits 12 to 15 (Linux, include/uapi/linux/stat.h)
 
