@@ -3,6 +3,7 @@ pub mod Clash
 pub mod StateOf
 pub mod Find
 pub mod Mount
+pub mod Mounts
 pub mod Codes
 pub mod Shown
 pub mod Stored

@@ -11,7 +11,7 @@ use Rattle.jscan.specs.Image.{block_of, block_count, sightings_in, node_sighted,
 use Rattle.jscan.specs.Laws.{nodes_in}
 use Rattle.jscan.proofs.QuietLemmas.{erased_has_no_nodes}
 
-filter_map-flat_map : {A B C : Type 0} (h : B → Option C) (g : A → List B) (xs : List A) → filter_map h (flat_map g xs) ≡ flat_map (λ x. filter_map h (g x)) xs
+pub filter_map-flat_map : {A B C : Type 0} (h : B → Option C) (g : A → List B) (xs : List A) → filter_map h (flat_map g xs) ≡ flat_map (λ x. filter_map h (g x)) xs
 filter_map-flat_map h g [] = refl
 filter_map-flat_map h g (x ∷ xs) = filter_map-append h (g x) (flat_map g xs) ∙ ap (λ ys. filter_map h (g x) ++ ys) (filter_map-flat_map h g xs)
 

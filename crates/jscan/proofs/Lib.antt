@@ -12,3 +12,6 @@ pub mod BlockLemmas
 pub mod StreamLemmas
 pub mod CountLemmas
 pub mod StreamCounts
+pub mod PartLemmas
+pub mod ImageLemmas
+pub mod SurveyLemmas

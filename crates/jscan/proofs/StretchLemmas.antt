@@ -128,25 +128,20 @@ ends_front e rest n look other begins apart start place addr m =
     ∙ in_front_apart look other apart addr (start + place) m n (stretches_from e start (place + n) (drop n rest))
     ∙ ap (λ (l : List Stretch). at addr m look ∷ l) (sym is)
 
--- one step of the iterator at a place, which gives the stretch of the next n bytes
-pub stretches_step : (e : Endian) (start : ℕ) (block : List ℕ) (place n : ℕ) (look : Look)
-    → IsStretch e (take (length block - place) (drop place block)) n look
-    → stretches_from e start place (drop place block) ≡ at (start + place) n look ∷ stretches_from e start (place + n) (drop (place + n) block)
+-- one step of the iterator, which gives the stretch of the next n bytes and leaves the others
+pub stretches_step : (e : Endian) (start place : ℕ) (rest left : List ℕ) (n m : ℕ) (look : Look) → IsStretch e rest n look
+    → m ≡ length rest → left ≡ take (m - n) (drop n rest)
+    → stretches_from e start place rest ≡ at (start + place) n look ∷ stretches_from e start (place + n) left
 unfolding IsStretch
-stretches_step e start block place n look stretch =
-    let rest = take (length block - place) (drop place block) in
-    let is : rest ≡ drop place block = take_rest block place in
-    let left : drop n rest ≡ drop (place + n) block = ap (drop n) is ∙ drop-drop n place block in
-    ap (stretches_from e start place) (sym is) ∙ stretch start place
-    ∙ ap (λ (l : List ℕ). at (start + place) n look ∷ stretches_from e start (place + n) l) left
+stretches_step e start place rest left n m look stretch size is =
+    stretch start place
+    ∙ ap (λ (l : List ℕ). at (start + place) n look ∷ stretches_from e start (place + n) l)
+    (sym (is ∙ ap (λ (k : ℕ). take (k - n) (drop n rest)) size ∙ take_rest rest n))
 
-pub stretches_end : (e : Endian) (start : ℕ) (block : List ℕ) (place : ℕ) → length (take (length block - place) (drop place block)) ≡ 0
-    → stretches_from e start place (drop place block) ≡ []
+pub stretches_end : (e : Endian) (start place : ℕ) (rest : List ℕ) → length rest ≡ 0 → stretches_from e start place rest ≡ []
 unfolding stretches_from
-stretches_end e start block place empty =
-    let is = take_rest block place in
-    let none : drop place block ≡ [] = drop_of_length-le block {i = place} (omega (arith, ap length (sym is) ∙ empty, length-drop place block)) in
-    ap (stretches_from e start place) none
+stretches_end e start place [] empty = refl
+stretches_end e start place (b ∷ rest) empty = absurd (omega arith)
 
 -- where a node stands, the tile at the front is the node's whole tile
 pub node_look : (e : Endian) (rest : List ℕ) (header : Header) (n : ℕ) → IsGood e rest → IsFront e rest (Node header) n

@@ -11,3 +11,6 @@ pub mod Laws
 pub mod Filling
 pub mod Stream
 pub mod Counts
+pub mod Scans
+pub mod Surveys
+pub mod ImageLeft

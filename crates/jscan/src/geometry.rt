@@ -2,6 +2,9 @@
 
 ghost use Rattle.std.specs.Prelude.{◌≡◌};
 ghost use Rattle.jscan.specs.Image.{is_block_size, greatest_image};
+ghost use Rattle.jscan.specs.declared.geometry.ScanFault.TheVariants as fault;
+
+use std::alloc::AllocError;
 
 /// The least size of a block, in bytes.
 pub const LEAST_BLOCK: u32 = 4096;
@@ -44,4 +47,12 @@ pub enum ScanFault {
     Compressed { addr: u32, compr: u8 },
     #[error("C5 OutOfMemory")]
     OutOfMemory,
+}
+
+impl From<AllocError> for ScanFault {
+    ghost from_gives = { λ _ e. e ≡ fault.OutOfMemory };
+
+    fn from(_error: AllocError) -> ScanFault {
+        ScanFault::OutOfMemory
+    }
 }

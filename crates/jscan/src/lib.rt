@@ -12,26 +12,34 @@
 //! `laws` has what holds of every tiling and of all stretches of a block, `rows` has worked blocks.
 #![tactic(auto)]
 
+mod answer;
 mod counts;
 mod finding;
 mod geometry;
+mod image;
 pub mod laws;
+mod parts;
 pub mod rows;
+mod scanning;
 mod sightings;
 mod stream;
 mod stretch;
 mod stretches;
 mod tiles;
 
+pub use crate::answer::{Scan, Survey};
 pub use crate::counts::Counts;
 pub use crate::finding::{Finding, FindingKind};
 pub use crate::geometry::{GREATEST_BLOCK, GREATEST_IMAGE, Geometry, LEAST_BLOCK, ScanFault};
+pub use crate::scanning::{scan, survey};
 pub use crate::sightings::Sightings;
 pub use crate::stream::{BlockReader, StreamFault, scan_stream};
 pub use crate::stretch::{Look, Stretch};
 pub use crate::stretches::Stretches;
 pub use crate::tiles::{Tile, TileKind, Tiles};
 
+#[cfg(test)]
+mod scan_tests;
 #[cfg(test)]
 mod stream_tests;
 #[cfg(test)]

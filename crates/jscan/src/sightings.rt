@@ -1,30 +1,34 @@
-// The nodes' tiles of a block, in order.
+// The nodes' tiles of an image, in order.
 
+use crate::geometry::{Geometry, ScanFault};
+use crate::image::ImageStretches;
 use crate::stretch::{Look, Stretch};
-use crate::stretches::Stretches;
 use jnode::{Order, Seen};
 
-/// The nodes' tiles of a block: the address of each, and what it is seen as.
+/// The nodes' tiles of an image, in the order of their addresses: the address of each, and what it is seen
+/// as. The missing tail of the last block counts as erased. It takes no memory.
 #[derive(Drop)]
 pub struct Sightings<'a, E: Order> {
-    stretches: Stretches<'a, E>,
+    stretches: ImageStretches<'a, E>,
 }
 
 impl<'a, E: Order> Sightings<'a, E> {
-    ghost use Rattle.std.specs.Prelude.{◌≡◌, ◌%◌, ◌<◌, ◌+◌, ◌^◌, length};
-    ghost use Rattle.jscan.specs.Image.{sightings_in};
+    ghost use Rattle.std.specs.Prelude.{◌≡◌, ◌↔◌, ◌<◌, Err, IfOk, IfErr, OnOk, false, true, length};
+    ghost use Rattle.jscan.specs.Image.{is_block_size, greatest_image, sightings};
+    ghost use Rattle.jscan.specs.Scans.{IsScannable, IsUnread};
     ghost use Rattle.jscan.specs.SightingsLeft.{sightings_left};
 
-    /// The sightings of a block of whole words, which begins at the address `start` of its image.
-    #[tactic(auto, using(crate::proofs::SightingLaws::sightings_are_stretches))]
-    pub fn new(start: u32, block: &'a [u8]) -> Self
-        requires whole_words { length block.now % 4 ≡ 0 }
-        requires addressed { start + length block.now < 2 ^ 32 }
-        ensures { sightings_left result ≡ sightings_in E.order start block.entry.now }
+    /// The sightings of an image.
+    pub fn new(image: &'a [u8], geometry: Geometry) -> Result<Self, ScanFault>
+        ensures block_size { result ≡ Err ScanFault.BlockSize ↔ (is_block_size geometry.block ≡ false) }
+        ensures too_large { result ≡ Err ScanFault.TooLarge ↔ (is_block_size geometry.block ≡ true) × (greatest_image < length image.now) }
+        ensures no_other { IfErr result IsUnread }
+        ensures scannable { OnOk result (IsScannable geometry.block image.now) }
+        ensures sightings { IfOk result (λ left. sightings_left left ≡ sightings E.order geometry.block image.now) }
     {
-        Sightings {
-            stretches: Stretches::new(start, block),
-        }
+        Ok(Sightings {
+            stretches: ImageStretches::new(image, geometry)?,
+        })
     }
 }
 

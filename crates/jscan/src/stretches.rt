@@ -1,16 +1,15 @@
 // The stretches of a block, in order.
 
-ghost use Rattle.std.specs.Prelude.{◌≡◌, ◌%◌, ◌<◌, ◌≤◌, ◌+◌, ◌^◌, ◌==◌, ℕ, length, take, IfSome, IfNone, IsTrue};
-ghost use Rattle.std.specs.List.{list_all};
+ghost use Rattle.std.specs.Prelude.{◌≡◌, ◌%◌, ◌<◌, ◌≤◌, ◌+◌, ◌^◌, ℕ, length, take, IfSome, IfNone, IsTrue};
 ghost use Rattle.jscan.specs.Stretches.{class_of, is_one_run, look_of};
 ghost use Rattle.jscan.specs.Runs.{BeginsRun, IsStretch, EndsRun};
 ghost use Rattle.jscan.specs.declared.stretch.Look.TheVariants.{Erased};
 
+use crate::parts::{erased_run_of, is_erased, magic_of, whole};
 use crate::stretch::{Look, Stretch};
 use crate::tiles::{HEADER_LEN, TileKind, WORD_LEN, front};
-use byteorder::ByteOrder;
-use flashbase::erased_run;
-use jnode::{Order, read_node};
+use flashbase::Part;
+use jnode::{Order, read_part};
 use std::marker::PhantomData;
 
 /// The magic number of a node of the other byte order, read in this one.
@@ -20,13 +19,12 @@ const OTHER_MAGIC: u16 = 0x8519;
 #[derive(Drop)]
 pub struct Stretches<'a, E: Order> {
     start: u32,
-    block: &'a [u8],
+    /// Bytes of the block before the rest.
     place: usize,
+    rest: Part<'a>,
     order: PhantomData<E>,
-    ghost addressed: { start + length block.now < 2 ^ 32 },
-    ghost within: { place ≤ length block.now },
-    ghost whole_words: { length block.now % 4 ≡ 0 },
-    ghost on_a_word: { place % 4 ≡ 0 },
+    ghost addressed: { start + (place + length rest) < 2 ^ 32 },
+    ghost whole_words: { length rest % 4 ≡ 0 },
 }
 
 impl<'a, E: Order> Stretches<'a, E> {
@@ -40,10 +38,19 @@ impl<'a, E: Order> Stretches<'a, E> {
         requires addressed { start + length block.now < 2 ^ 32 }
         ensures { stretches_left result ≡ stretches E.order start block.entry.now }
     {
+        Stretches::of_part(start, whole(block))
+    }
+
+    /// The same of a block of which the image may lack the end.
+    pub(crate) fn of_part(start: u32, block: Part<'a>) -> Self
+        requires whole_words { length block % 4 ≡ 0 }
+        requires addressed { start + length block < 2 ^ 32 }
+        ensures { stretches_left result ≡ stretches E.order start block.entry }
+    {
         Stretches {
             start,
-            block,
             place: 0,
+            rest: block,
             order: PhantomData,
         }
     }
@@ -60,15 +67,15 @@ impl<'a, E: Order> Iterator for Stretches<'a, E> {
     ghost remaining = { item_count stretches_left };
 
     fn next(&mut self) -> Option<Stretch<'a>> {
-        let place = self.place;
-        let rest = &self.block[place..];
-        if rest.is_empty() {
+        if self.rest.is_empty() {
             return None;
         }
-        let (look, len) = first_stretch::<E>(rest);
-        self.place = place + len;
+        let (look, len) = first_stretch::<E>(&self.rest);
+        let addr = self.start + self.place as u32;
+        self.rest = self.rest.slice(len, self.rest.len() - len);
+        self.place += len;
         Some(Stretch {
-            addr: self.start + place as u32,
+            addr,
             len: len as u32,
             look,
         })
@@ -76,23 +83,23 @@ impl<'a, E: Order> Iterator for Stretches<'a, E> {
 }
 
 /// The first stretch of what a block has left, and its length.
-fn first_stretch<'a, E: Order>(rest: &'a [u8]) -> (Look<'a>, usize)
+fn first_stretch<'a, E: Order>(rest: &Part<'a>) -> (Look<'a>, usize)
     requires nonempty { 0 < length rest.now }
     requires whole_words { length rest.now % 4 ≡ 0 }
-    ensures stretch { IsStretch E.order rest.entry.now result.1 result.0 }
+    ensures stretch { IsStretch E.order rest.now result.1 result.0 }
     ensures nonempty { 0 < result.1 }
-    ensures within { result.1 ≤ length rest.entry.now }
+    ensures within { result.1 ≤ length rest.now }
     ensures whole_words { result.1 % 4 ≡ 0 }
 {
     let (kind, len) = front::<E>(rest);
     match kind {
-        TileKind::Node(_) => (Look::Tiled(read_node::<E>(rest)), len),
+        TileKind::Node(_) => (Look::Tiled(read_part::<E>(rest)), len),
         TileKind::Word | TileKind::Rest => first_run::<E>(rest, len),
     }
 }
 
 /// The first stretch of what a block has left, where the tile at its front, of `len` bytes, is no node.
-fn first_run<'a, E: Order>(rest: &[u8], len: usize) -> (Look<'a>, usize)
+fn first_run<'a, E: Order>(rest: &Part<'_>, len: usize) -> (Look<'a>, usize)
     requires whole_words { length rest.now % 4 ≡ 0 }
     requires words { len % 4 ≡ 0 }
     requires nonempty { 0 < len }
@@ -103,7 +110,7 @@ fn first_run<'a, E: Order>(rest: &[u8], len: usize) -> (Look<'a>, usize)
     ensures within { result.1 ≤ length rest.now }
     ensures whole_words { result.1 % 4 ≡ 0 }
 {
-    let look = class_of::<E>(&rest[..len]);
+    let look = class_of::<E>(&rest.slice(0, len));
     let begun = match look {
         Look::Erased => erased_words::<E>(rest, len),
         _ => len,
@@ -113,7 +120,7 @@ fn first_run<'a, E: Order>(rest: &[u8], len: usize) -> (Look<'a>, usize)
 }
 
 /// How far a run goes that has begun with the first `begun` bytes.
-fn run_end<E: Order>(rest: &[u8], begun: usize, look: &Look<'_>) -> usize
+fn run_end<E: Order>(rest: &Part<'_>, begun: usize, look: &Look<'_>) -> usize
     requires whole_words { length rest.now % 4 ≡ 0 }
     requires words { begun % 4 ≡ 0 }
     requires within { begun ≤ length rest.now }
@@ -124,14 +131,14 @@ fn run_end<E: Order>(rest: &[u8], begun: usize, look: &Look<'_>) -> usize
     ensures whole_words { result % 4 ≡ 0 }
 {
     let mut end = begun;
-    while let Some(len) = next_of_run::<E>(&rest[end..], look) {
+    while let Some(len) = next_of_run::<E>(&rest.slice(end, rest.len() - end), look) {
         end += len;
     }
     end
 }
 
 /// The length of the tile at the front, where a run of this look goes on with it.
-fn next_of_run<E: Order>(rest: &[u8], look: &Look<'_>) -> Option<usize>
+fn next_of_run<E: Order>(rest: &Part<'_>, look: &Look<'_>) -> Option<usize>
     requires whole_words { length rest.now % 4 ≡ 0 }
     ensures goes_on { IfSome result (λ len. BeginsRun E.order rest.now len look.now) }
     ensures nonempty { IfSome result (λ len. 0 < len) }
@@ -144,7 +151,7 @@ fn next_of_run<E: Order>(rest: &[u8], look: &Look<'_>) -> Option<usize>
         return None;
     }
     let (kind, len) = front::<E>(rest);
-    if goes_on::<E>(look, kind, &rest[..len]) {
+    if goes_on::<E>(look, kind, &rest.slice(0, len)) {
         Some(len)
     } else {
         None
@@ -152,7 +159,7 @@ fn next_of_run<E: Order>(rest: &[u8], look: &Look<'_>) -> Option<usize>
 }
 
 /// Whether a tile goes on with a run of this look.
-fn goes_on<E: Order>(look: &Look<'_>, kind: TileKind, bytes: &[u8]) -> bool
+fn goes_on<E: Order>(look: &Look<'_>, kind: TileKind, bytes: &Part<'_>) -> bool
     requires { 4 ≤ length bytes.now }
     ensures { result ≡ is_one_run look.now (look_of E.order kind bytes.now) }
 {
@@ -164,7 +171,7 @@ fn goes_on<E: Order>(look: &Look<'_>, kind: TileKind, bytes: &[u8]) -> bool
 
 /// Where an erased run has begun with the first `begun` bytes, all bytes of it that are words. The
 /// last ones of a block may be the rest's, which is judged whole.
-fn erased_words<E: Order>(rest: &[u8], begun: usize) -> usize
+fn erased_words<E: Order>(rest: &Part<'_>, begun: usize) -> usize
     requires whole_words { length rest.now % 4 ≡ 0 }
     requires words { begun % 4 ≡ 0 }
     requires within { begun ≤ length rest.now }
@@ -174,7 +181,7 @@ fn erased_words<E: Order>(rest: &[u8], begun: usize) -> usize
     ensures within { result ≤ length rest.now }
     ensures words { result % 4 ≡ 0 }
 {
-    let words = erased_run(rest) / WORD_LEN * WORD_LEN;
+    let words = erased_run_of(rest) / WORD_LEN * WORD_LEN;
     let most = rest.len().saturating_sub(HEADER_LEN - WORD_LEN);
     words.min(most).max(begun)
 }
@@ -192,21 +199,15 @@ fn is_one_run(a: &Look<'_>, b: &Look<'_>) -> bool
 
 /// What the bytes of a word or a rest look like.
 #[tactic(auto, unfolding(crate::specs::Stretches::class_of))]
-fn class_of<'a, E: Order>(bytes: &[u8]) -> Look<'a>
+fn class_of<'a, E: Order>(bytes: &Part<'_>) -> Look<'a>
     requires { 4 ≤ length bytes.now }
     ensures { result ≡ class_of E.order bytes.now }
 {
     if is_erased(bytes) {
         Look::Erased
-    } else if E::read_u16(bytes) == OTHER_MAGIC {
+    } else if magic_of::<E>(bytes) == OTHER_MAGIC {
         Look::OtherOrder
     } else {
         Look::Dirt
     }
-}
-
-fn is_erased(bytes: &[u8]) -> bool
-    ensures { result ≡ list_all (λ b. b == 0xFF) bytes.now }
-{
-    bytes.iter().all(|byte| *byte == 0xFF)
 }

@@ -5,12 +5,12 @@ use byteorder::{BigEndian, LittleEndian};
 use jnode::{Damage, Seen};
 use std::test::Fail;
 
-const LITTLE_MARKER: [u8; 12] = [
+pub(crate) const LITTLE_MARKER: [u8; 12] = [
     0x85, 0x19, 0x03, 0x20, 0x0c, 0x00, 0x00, 0x00, 0xb1, 0xb0, 0x1e, 0xe4,
 ];
 
 /// An entry of 41 bytes, with its padding.
-const ENTRY_A: [u8; 44] = [
+pub(crate) const ENTRY_A: [u8; 44] = [
     0x85, 0x19, 0x01, 0xe0, 0x29, 0x00, 0x00, 0x00, 0x6d, 0xa6, 0x2f, 0xd7, 0x01, 0x00, 0x00, 0x00,
     0x01, 0x00, 0x00, 0x00, 0x02, 0x00, 0x00, 0x00, 0x00, 0x00, 0x00, 0x00, 0x01, 0x08, 0x00, 0x00,
     0x95, 0x02, 0x9b, 0x91, 0xce, 0x51, 0xb5, 0x3a, 0x61, 0xff, 0xff, 0xff,
@@ -27,7 +27,7 @@ const LENGTH_13: [u8; 12] = [
 ];
 
 /// An inode node of 109 bytes, which hold the entry's, up to its data; its data_crc is wrong.
-const HIDING: [u8; 68] = [
+pub(crate) const HIDING: [u8; 68] = [
     0x85, 0x19, 0x02, 0xe0, 0x6d, 0x00, 0x00, 0x00, 0xa9, 0x1b, 0xcd, 0x45, 0x02, 0x00, 0x00, 0x00,
     0x02, 0x00, 0x00, 0x00, 0xa4, 0x81, 0x00, 0x00, 0x00, 0x00, 0x00, 0x00, 0x29, 0x00, 0x00, 0x00,
     0x00, 0x00, 0x00, 0x00, 0x00, 0x00, 0x00, 0x00, 0x00, 0x00, 0x00, 0x00, 0x00, 0x00, 0x00, 0x00,
@@ -36,22 +36,22 @@ const HIDING: [u8; 68] = [
 ];
 
 /// A header of type 0xe008, for extended attributes.
-const ATTRIBUTE: [u8; 12] = [
+pub(crate) const ATTRIBUTE: [u8; 12] = [
     0x85, 0x19, 0x08, 0xe0, 0x0c, 0x00, 0x00, 0x00, 0xa9, 0xa8, 0xcc, 0x67,
 ];
 
 /// A header of the unknown type 0xa0f7.
-const READ_ONLY: [u8; 12] = [
+pub(crate) const READ_ONLY: [u8; 12] = [
     0x85, 0x19, 0xf7, 0xa0, 0x0c, 0x00, 0x00, 0x00, 0x2c, 0x5b, 0xfb, 0xdb,
 ];
 
 /// A header of the unknown type 0xe0f7.
-const INCOMPATIBLE: [u8; 12] = [
+pub(crate) const INCOMPATIBLE: [u8; 12] = [
     0x85, 0x19, 0xf7, 0xe0, 0x0c, 0x00, 0x00, 0x00, 0x65, 0x03, 0x08, 0x83,
 ];
 
 /// An inode node whose data are compressed by method 7.
-const COMPRESSED: [u8; 72] = [
+pub(crate) const COMPRESSED: [u8; 72] = [
     0x85, 0x19, 0x02, 0xe0, 0x48, 0x00, 0x00, 0x00, 0xa5, 0x44, 0x21, 0xd2, 0x02, 0x00, 0x00, 0x00,
     0x03, 0x00, 0x00, 0x00, 0xa4, 0x81, 0x00, 0x00, 0x00, 0x00, 0x00, 0x00, 0x08, 0x00, 0x00, 0x00,
     0x00, 0x00, 0x00, 0x00, 0x00, 0x00, 0x00, 0x00, 0x00, 0x00, 0x00, 0x00, 0x00, 0x00, 0x00, 0x00,
@@ -59,7 +59,7 @@ const COMPRESSED: [u8; 72] = [
     0x72, 0x9a, 0xfb, 0x8e, 0x01, 0x02, 0x03, 0x04,
 ];
 
-fn shown(look: &Look<'_>) -> &'static str {
+pub(crate) fn shown(look: &Look<'_>) -> &'static str {
     match look {
         Look::Tiled(Seen::Marker) => "marker",
         Look::Tiled(Seen::Entry(_)) => "entry",
@@ -230,11 +230,6 @@ fn refused(stretch: Stretch<'_>) -> Option<ScanFault> {
     stretch.refusal()
 }
 
-fn sighting_row(sighting: (u32, Seen<'_>)) -> (u32, &'static str) {
-    let (addr, seen) = sighting;
-    (addr, shown(&Look::Tiled(seen)))
-}
-
 #[test]
 fn findings_and_refusals(rt: HostRuntime) -> Result<(), Fail> {
     let mut block = [0xff; 256];
@@ -273,21 +268,6 @@ fn findings_and_refusals(rt: HostRuntime) -> Result<(), Fail> {
         },
     ];
     assert_eq!(rt; refusals.as_slice(), want.as_slice());
-    Ok(())
-}
-
-#[test]
-fn sightings_in_order(rt: HostRuntime) -> Result<(), Fail> {
-    let mut block = [0xff; 96];
-    block[4..16].copy_from_slice(&LITTLE_MARKER);
-    block[20..64].copy_from_slice(&ENTRY_A);
-    let rows: Vec<(u32, &str)> = Sightings::<LittleEndian>::new(8192, &block)
-        .map(sighting_row)
-        .collect(rt.alloc())?;
-    assert_eq!(rt;
-        rows.as_slice(),
-        [(8196, "marker"), (8212, "entry")].as_slice()
-    );
     Ok(())
 }
 
@@ -339,6 +319,10 @@ fn laws_can_be_called(rt: HostRuntime) {
     laws::quiet_has_no_nodes();
     laws::nodes_are_of_blocks();
     laws::blank_from_is_least();
+    laws::addresses_ascend();
+    laws::addresses_are_within();
+    laws::refusal_is_first();
+    laws::nodes_fit();
     assert_eq!(rt;
         (LEAST_BLOCK, GREATEST_BLOCK, GREATEST_IMAGE),
         (4096, 4_194_304, 268_435_456)

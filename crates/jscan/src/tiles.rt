@@ -5,8 +5,9 @@ ghost use Rattle.jnode.specs.Header.{IsGood};
 ghost use Rattle.jnode.specs.declared.header.Header.{Header};
 ghost use Rattle.jscan.specs.declared.tiles.TileKind.TheVariants.{Node};
 
-use flashbase::pad4;
-use jnode::{Header, Order, header_at};
+use crate::parts::{header_of, whole};
+use flashbase::{Part, pad4};
+use jnode::{Header, Order};
 use std::marker::PhantomData;
 
 /// The length of a node's header: where fewer bytes are left, no node stands.
@@ -87,7 +88,7 @@ impl<'a, E: Order> Iterator for Tiles<'a, E> {
         if rest.is_empty() {
             return None;
         }
-        let (kind, len) = front::<E>(rest);
+        let (kind, len) = front_of::<E>(rest);
         self.place = place + len;
         Some(Tile {
             place,
@@ -101,7 +102,7 @@ impl<'a, E: Order> Iterator for Tiles<'a, E> {
 ghost use Rattle.jscan.specs.Tiling.{tile_at};
 
 /// The tile at the front of what a block has left, and its length.
-pub(crate) fn front<E: Order>(rest: &[u8]) -> (TileKind, usize)
+pub(crate) fn front<E: Order>(rest: &Part<'_>) -> (TileKind, usize)
     requires nonempty { 0 < length rest.now }
     requires whole_words { length rest.now % 4 ≡ 0 }
     ensures tile { (place : ℕ) → tile_at E.order place rest.now ≡ record { place = place; kind = result.0; bytes = take result.1 rest.now } }
@@ -111,9 +112,23 @@ pub(crate) fn front<E: Order>(rest: &[u8]) -> (TileKind, usize)
     ensures good { (header : Header) → result.0 ≡ Node header → IsGood E.order rest.now }
     ensures good_tile { (header : Header) → result.0 ≡ Node header → IsGood E.order (take result.1 rest.now) }
 {
-    match header_at::<E>(rest) {
+    match header_of::<E>(rest) {
         Some(header) => (TileKind::Node(header), pad4(header.totlen) as usize),
         None if rest.len() < HEADER_LEN => (TileKind::Rest, rest.len()),
         None => (TileKind::Word, WORD_LEN),
     }
+}
+
+/// The same where no byte of the rest is missing.
+fn front_of<E: Order>(rest: &[u8]) -> (TileKind, usize)
+    requires nonempty { 0 < length rest.now }
+    requires whole_words { length rest.now % 4 ≡ 0 }
+    ensures tile { (place : ℕ) → tile_at E.order place rest.now ≡ record { place = place; kind = result.0; bytes = take result.1 rest.now } }
+    ensures nonempty { 0 < result.1 }
+    ensures within { result.1 ≤ length rest.now }
+    ensures whole_words { result.1 % 4 ≡ 0 }
+    ensures good { (header : Header) → result.0 ≡ Node header → IsGood E.order rest.now }
+    ensures good_tile { (header : Header) → result.0 ≡ Node header → IsGood E.order (take result.1 rest.now) }
+{
+    front::<E>(&whole(rest))
 }

@@ -22,6 +22,6 @@ pub returns-in-Node-clause-stretch : goal.returns-in-Node-clause-stretch
 returns-in-Node-clause-stretch g c =
     let front = c.front-kind.ensures in
     let tile = subst (λ (kind : TileKind). IsFront g.E.Order.order c.args.rest.now kind c.front-kind.result.1) c.in-Node.is front.tile in
-    let seen = c.read_node.ensures.exact ∙ node_look _ _ _ _ (front.good _ c.in-Node.is) tile in
+    let seen = c.read_part.ensures.exact ∙ node_look _ _ _ _ (front.good _ c.in-Node.is) tile in
     subst (λ (s : Seen). IsStretch g.E.Order.order c.args.rest.now c.front-kind.result.1 (Tiled s)) (sym seen)
     (node_stretch _ _ _ _ (begins_front _ _ _ _ tile c.requires.nonempty front.within))

@@ -1,5 +1,6 @@
-use Rattle.std.proofs.Common.{rules, subst, sym, ◌∙◌, arith}
+use Rattle.std.proofs.Common.{rules, subst, sym, ap, ◌∙◌, arith, ℕ, List}
 use Rattle.jscan.specs.Runs.{BeginsRun}
+use Rattle.jscan.specs.Stretches.{look_of, is_one_run}
 use Rattle.jscan.specs.declared.stretch.Look.{Look}
 use Rattle.jscan.proofs.StretchLemmas.{begins_front, ends_front, ends_empty, one_run_same}
 use Rattle.jscan.proofs.stretches.next_of_run.Goals as goal
@@ -11,11 +12,12 @@ pub returns-then-goes_on-clause-goes_on : goal.returns-then-goes_on-clause-goes_
 returns-then-goes_on-clause-goes_on g c =
     let front = c.front-kind.ensures in
     subst (λ (look : Look). BeginsRun g.E.Order.order c.args.rest.now c.front-kind.result.1 look)
-    (sym (one_run_same c.args.look.now _ (sym c.goes_on.ensures ∙ c.if-goes_on.true)))
+    (sym (one_run_same c.args.look.now _ (sym c.goes_on.ensures ∙ c.if-goes_on.true) ∙ ap (look_of g.E.Order.order c.front-kind.result.0) c.slice.ensures))
     (begins_front _ _ _ _ front.tile (omega (arith, front.nonempty, front.within)) front.within)
 
 pub returns-else-goes_on-clause-ends : goal.returns-else-goes_on-clause-ends
 returns-else-goes_on-clause-ends g c =
     let front = c.front-kind.ensures in
     ends_front _ _ _ _ _ (begins_front _ _ _ _ front.tile (omega (arith, front.nonempty, front.within)) front.within)
-    (sym c.goes_on.ensures ∙ c.if-goes_on.false)
+    (ap (λ (bytes : List ℕ). is_one_run c.args.look.now (look_of g.E.Order.order c.front-kind.result.0 bytes)) (sym c.slice.ensures)
+    ∙ sym c.goes_on.ensures ∙ c.if-goes_on.false)

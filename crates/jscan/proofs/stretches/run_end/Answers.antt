@@ -1,4 +1,4 @@
-use Rattle.std.proofs.Common.{length, arith, subst, ap, length-drop}
+use Rattle.std.proofs.Common.{ℕ, ◌-◌, ◌∙◌, length, take, drop, arith, subst, ap, length-drop}
 use Rattle.std.proofs.lemmas.List.{take_rest}
 use Rattle.jscan.specs.Runs.{BeginsRun, EndsRun}
 use Rattle.jscan.proofs.StretchLemmas.{goes_on, run_stretch}
@@ -8,7 +8,7 @@ pub loop-len-preserved : goal.loop-len-preserved
 loop-len-preserved g c =
     let old = c.loop-len.invariant in
     let next = c.in-Some.ensures in
-    let left = take_rest c.args.rest.now c.loop-len.end in
+    let left = c.slice.ensures ∙ ap (λ (n : ℕ). take (n - c.loop-len.end) (drop c.loop-len.end c.args.rest.now)) c.len.ensures ∙ take_rest c.args.rest.now c.loop-len.end in
     let size = ap length left in
     record {
       least = omega (arith, old.least);
@@ -19,5 +19,5 @@ loop-len-preserved g c =
 
 pub returns-clause-stretch : goal.returns-clause-stretch
 returns-clause-stretch g c =
-    let left = take_rest c.args.rest.now c.loop-len.end in
+    let left = c.slice.ensures ∙ ap (λ (n : ℕ). take (n - c.loop-len.end) (drop c.loop-len.end c.args.rest.now)) c.len.ensures ∙ take_rest c.args.rest.now c.loop-len.end in
     run_stretch _ _ _ _ c.loop-len.invariant.begins (subst (λ l. EndsRun g.E.Order.order l c.args.look.now) left c.in_default.ensures.ends)

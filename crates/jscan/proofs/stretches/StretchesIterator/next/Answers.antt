@@ -1,18 +1,19 @@
-use Rattle.std.proofs.Common.{rules, ◌≡◌, ◌-◌, length, drop, take, ap, arith}
+use Rattle.std.proofs.Common.{rules, ◌≡◌, length, ap, arith}
 use Rattle.jscan.proofs.StretchLemmas.{stretches_step, stretches_end}
 use Rattle.jscan.proofs.stretches.StretchesIterator.next.Goals as goal
 
 pub returns-then-is_empty-clause-steps : goal.returns-then-is_empty-clause-steps
 returns-then-is_empty-clause-steps g c =
-    let empty : length (take (length c.args.self.now.block.now - c.args.self.now.place) (drop c.args.self.now.place c.args.self.now.block.now)) ≡ 0 = search rules in
-    let e = stretches_end g.E.Order.order c.args.self.now.start c.args.self.now.block.now c.args.self.now.place empty in
+    let empty : length c.args.self.now.rest ≡ 0 = search rules in
+    let e = stretches_end g.E.Order.order c.args.self.now.start c.args.self.now.place c.args.self.now.rest empty in
     (e, e)
 
 pub returns-clause-steps : goal.returns-clause-steps
 returns-clause-steps g c =
-    stretches_step g.E.Order.order c.args.self.now.start c.args.self.now.block.now c.args.self.now.place c.first_stretch-look.result.1 c.first_stretch-look.result.0 c.first_stretch-look.ensures.stretch
+    stretches_step g.E.Order.order c.args.self.now.start c.args.self.now.place c.args.self.now.rest _ _ _ _ c.first_stretch-look.ensures.stretch c.len.ensures c.slice-self.ensures
 
 pub returns-clause-goes : goal.returns-clause-goes
 returns-clause-goes g c =
-    let e = stretches_step g.E.Order.order c.args.self.now.start c.args.self.now.block.now c.args.self.now.place c.first_stretch-look.result.1 c.first_stretch-look.result.0 c.first_stretch-look.ensures.stretch in
+    let e =
+    stretches_step g.E.Order.order c.args.self.now.start c.args.self.now.place c.args.self.now.rest _ _ _ _ c.first_stretch-look.ensures.stretch c.len.ensures c.slice-self.ensures in
     record { on = λ _. (tt, tt, omega (arith, ap length e)); keeps = tt; rests = λ _. tt }

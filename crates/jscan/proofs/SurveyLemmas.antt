@@ -1,0 +1,256 @@
+-- Taking in the stretches of an image one by one, up to a refusal.
+use Rattle.std.proofs.Common.{◌≡◌, ℕ, suc, ◌+◌, Bool, true, false, not, List, [], ◌∷◌, ◌++◌, take, cond, refl, sym, ap, ap₂, ◌∙◌, arith, append_assoc, Option, None, Some, Err, subst}
+use Rattle.std.specs.Prelude.{filter_map, ◌||◌, option_to_list}
+use Rattle.std.specs.List.{list_any, prefix_len, cons_option}
+use Rattle.std.specs.Option.{is_some, option_or}
+use Rattle.std.proofs.lemmas.List.{append-nil}
+use Rattle.jnode.specs.declared.node.NodeRef.{NodeRef}
+use Rattle.jnode.specs.declared.node.Seen.{Seen}
+use Rattle.jnode.specs.declared.node.Seen.TheVariants as seen
+use Rattle.jnode.specs.declared.order.Endian.{Endian}
+use Rattle.jscan.specs.Findings.{finding_of, refused_node, refused, refusal_of}
+use Rattle.jscan.specs.Image.{node_sighted, sightings, nodes}
+use Rattle.jscan.specs.Scans.{forbids_writing, refusal_by, refusal_among, before_refusal, image_stretches, first_refused, nodes_before_refusal, findings, is_read_only, IsScannable, Scans}
+use Rattle.jscan.specs.Stretches.{sighted}
+use Rattle.jscan.specs.Surveys.{Adds, node_at, is_forbidding}
+use Rattle.jscan.specs.declared.answer.Survey.{Survey}
+use Rattle.jscan.specs.declared.finding.Finding.{Finding}
+use Rattle.jscan.specs.declared.geometry.ScanFault.{ScanFault}
+use Rattle.jscan.specs.declared.geometry.ScanFault.TheVariants as fault
+use Rattle.jscan.specs.declared.stretch.Look.{Look}
+use Rattle.jscan.specs.declared.stretch.Look.TheVariants.{Tiled, Erased, OtherOrder, Dirt}
+use Rattle.jscan.specs.declared.stretch.Stretch.{Stretch}
+use Rattle.jscan.proofs.ImageLemmas.{image_sighted}
+
+-- ---- of a list of sightings
+
+abbrev pub any_forbids : List (ℕ × Seen) → Bool
+any_forbids ss = list_any (λ s. forbids_writing s.1) ss
+
+abbrev pub nodes_among : List (ℕ × Seen) → List (ℕ × NodeRef)
+nodes_among ss = filter_map node_sighted (before_refusal ss)
+
+abbrev pub how_many : Option ScanFault → ℕ → ℕ
+how_many o n = cond (not (is_some o)) (1 + n) 0
+
+pub before_open : (s : ℕ × Seen) (ss : List (ℕ × Seen)) → refusal_by s ≡ None → before_refusal (s ∷ ss) ≡ s ∷ before_refusal ss
+before_open s ss none =
+    let n : ℕ = prefix_len (λ t. not (is_some (refusal_by t))) ss in
+    let more : 1 + n ≡ suc n = omega arith in
+    ap (λ (o : Option ScanFault). take (how_many o n) (s ∷ ss)) none ∙ ap (λ (m : ℕ). take m (s ∷ ss)) more
+
+pub before_shut : (s : ℕ × Seen) (ss : List (ℕ × Seen)) (fault : ScanFault) → refusal_by s ≡ Some fault → before_refusal (s ∷ ss) ≡ []
+before_shut s ss fault some =
+    let n : ℕ = prefix_len (λ t. not (is_some (refusal_by t))) ss in
+    ap (λ (o : Option ScanFault). take (how_many o n) (s ∷ ss)) some
+
+pub refusal_open : (s : ℕ × Seen) (ss : List (ℕ × Seen)) → refusal_by s ≡ None → refusal_among (s ∷ ss) ≡ refusal_among ss
+refusal_open s ss none = ap (λ (o : Option ScanFault). option_or o (refusal_among ss)) none
+
+pub refusal_shut : (s : ℕ × Seen) (ss : List (ℕ × Seen)) (fault : ScanFault) → refusal_by s ≡ Some fault → refusal_among (s ∷ ss) ≡ Some fault
+refusal_shut s ss fault some = ap (λ (o : Option ScanFault). option_or o (refusal_among ss)) some
+
+-- where nothing is refused, all stand in front
+pub before_none : (ss : List (ℕ × Seen)) → refusal_among ss ≡ None → before_refusal ss ≡ ss
+before_none [] none = refl
+before_none (s ∷ ss) none = by_cases (before_none ss) (refusal_by s) refl
+  where
+    by_cases : (refusal_among ss ≡ None → before_refusal ss ≡ ss) → (o : Option ScanFault) → refusal_by s ≡ o → before_refusal (s ∷ ss) ≡ s ∷ ss
+    by_cases next None is = before_open s ss is ∙ ap (λ (l : List (ℕ × Seen)). s ∷ l) (next (sym (refusal_open s ss is) ∙ none))
+    by_cases next (Some fault) is = let bad : Some fault ≡ None = sym (refusal_shut s ss fault is) ∙ none in cc
+
+-- ---- one more at the end of a list, and the others behind it
+
+cons_append : {X : Type 0} (xs : List X) (o : Option X) (ys : List X) → xs ++ cons_option o ys ≡ (xs ++ option_to_list o) ++ ys
+cons_append xs None ys = ap (λ l. l ++ ys) (sym (append-nil xs))
+cons_append xs (Some x) ys = sym (append_assoc xs (x ∷ []) ys)
+
+or_again : (a b c : Bool) → (a || (b || c)) ≡ ((a || b) || c)
+or_again true b c = refl
+or_again false b c = refl
+
+or_none : (a c : Bool) → (a || c) ≡ ((a || false) || c)
+or_none true c = refl
+or_none false c = refl
+
+-- ---- a survey on the way
+
+-- what it has and what is left come to the same as all
+pub record Surveying (all left : List Stretch) (survey : Survey) : Type 0 where
+  pub nodes : nodes_among (filter_map sighted all) ≡ survey.nodes.items ++ nodes_among (filter_map sighted left)
+  pub findings : filter_map finding_of all ≡ survey.findings.items ++ filter_map finding_of left
+  pub read_only : any_forbids (filter_map sighted all) ≡ (survey.read_only || any_forbids (filter_map sighted left))
+  pub refusal : refusal_among (filter_map sighted all) ≡ refusal_among (filter_map sighted left)
+  pub going_on : survey.refused ≡ None
+
+-- the parts of one step, by what the stretch looks like
+nodes_step : (addr len : ℕ) (look : Look) (left : List Stretch) (xs : List (ℕ × NodeRef)) → refused addr look ≡ None
+    → xs ++ nodes_among (filter_map sighted (record { addr = addr; len = len; look = look } ∷ left)) ≡ (xs ++ node_at addr look) ++ nodes_among (filter_map sighted left)
+nodes_step addr len (Tiled what) left xs none =
+    ap (λ (l : List (ℕ × Seen)). xs ++ filter_map node_sighted l) (before_open (addr, what) (filter_map sighted left) none)
+    ∙ cons_append xs (node_sighted (addr, what)) (nodes_among (filter_map sighted left))
+nodes_step addr len Erased left xs none = ap (λ (l : List (ℕ × NodeRef)). l ++ nodes_among (filter_map sighted left)) (sym (append-nil xs))
+nodes_step addr len OtherOrder left xs none = ap (λ (l : List (ℕ × NodeRef)). l ++ nodes_among (filter_map sighted left)) (sym (append-nil xs))
+nodes_step addr len Dirt left xs none = ap (λ (l : List (ℕ × NodeRef)). l ++ nodes_among (filter_map sighted left)) (sym (append-nil xs))
+
+read_only_step : (addr len : ℕ) (look : Look) (left : List Stretch) (was : Bool)
+    → (was || any_forbids (filter_map sighted (record { addr = addr; len = len; look = look } ∷ left))) ≡ ((was || is_forbidding look) || any_forbids (filter_map sighted left))
+read_only_step addr len (Tiled what) left was = or_again was (forbids_writing what) (any_forbids (filter_map sighted left))
+read_only_step addr len Erased left was = or_none was (any_forbids (filter_map sighted left))
+read_only_step addr len OtherOrder left was = or_none was (any_forbids (filter_map sighted left))
+read_only_step addr len Dirt left was = or_none was (any_forbids (filter_map sighted left))
+
+refusal_step : (addr len : ℕ) (look : Look) (left : List Stretch) → refused addr look ≡ None
+    → refusal_among (filter_map sighted (record { addr = addr; len = len; look = look } ∷ left)) ≡ refusal_among (filter_map sighted left)
+refusal_step addr len (Tiled what) left none = refusal_open (addr, what) (filter_map sighted left) none
+refusal_step addr len Erased left none = refl
+refusal_step addr len OtherOrder left none = refl
+refusal_step addr len Dirt left none = refl
+
+pub surveying_next : (all left : List Stretch) (s : Stretch) (old new : Survey) → Surveying all (s ∷ left) old → refusal_of s ≡ None → Adds old new s
+    → Surveying all left new
+surveying_next all left s old new before none adds = record {
+  nodes = before.nodes ∙ nodes_step s.addr s.len s.look left old.nodes.items none
+      ∙ ap (λ (l : List (ℕ × NodeRef)). l ++ nodes_among (filter_map sighted left)) (sym adds.nodes);
+  findings = before.findings ∙ cons_append old.findings.items (finding_of s) (filter_map finding_of left)
+      ∙ ap (λ (l : List Finding). l ++ filter_map finding_of left) (sym adds.findings);
+  read_only = before.read_only ∙ read_only_step s.addr s.len s.look left old.read_only
+      ∙ ap (λ (b : Bool). b || any_forbids (filter_map sighted left)) (sym adds.read_only);
+  refusal = before.refusal ∙ refusal_step s.addr s.len s.look left none;
+  going_on = adds.refused ∙ before.going_on;
+}
+
+-- ---- the end
+
+-- at a refusal the survey has what stands in front of it
+pub record Refuses (all : List Stretch) (fault : ScanFault) (survey : Survey) : Type 0 where
+  pub refusal : Some fault ≡ refusal_among (filter_map sighted all)
+  pub nodes : survey.nodes.items ≡ nodes_among (filter_map sighted all)
+
+refuses_at : (addr len : ℕ) (look : Look) (all left : List Stretch) (survey : Survey) (fault : ScanFault)
+    → Surveying all (record { addr = addr; len = len; look = look } ∷ left) survey → refused addr look ≡ Some fault → Refuses all fault survey
+refuses_at addr len (Tiled what) all left survey fault before some = record {
+  refusal = sym (before.refusal ∙ refusal_shut (addr, what) (filter_map sighted left) fault some);
+  nodes = sym (before.nodes
+      ∙ ap (λ (l : List (ℕ × Seen)). survey.nodes.items ++ filter_map node_sighted l) (before_shut (addr, what) (filter_map sighted left) fault some)
+      ∙ append-nil survey.nodes.items);
+}
+refuses_at addr len Erased all left survey fault before some = cc
+refuses_at addr len OtherOrder all left survey fault before some = cc
+refuses_at addr len Dirt all left survey fault before some = cc
+
+pub surveying_refused : (all left : List Stretch) (s : Stretch) (survey : Survey) (fault : ScanFault) → Surveying all (s ∷ left) survey
+    → Some fault ≡ refusal_of s → Refuses all fault survey
+surveying_refused all left s survey fault before some = refuses_at s.addr s.len s.look all left survey fault before (sym some)
+
+-- else it has everything
+pub record Whole (all : List Stretch) (survey : Survey) : Type 0 where
+  pub refusal : survey.refused ≡ refusal_among (filter_map sighted all)
+  pub nodes : survey.nodes.items ≡ nodes_among (filter_map sighted all)
+  pub findings : survey.findings.items ≡ filter_map finding_of all
+  pub read_only : survey.read_only ≡ any_forbids (filter_map sighted all)
+
+or_false : (a : Bool) → (a || false) ≡ a
+or_false true = refl
+or_false false = refl
+
+pub surveying_end : (all : List Stretch) (survey : Survey) → Surveying all [] survey → Whole all survey
+surveying_end all survey done = record {
+  refusal = done.going_on ∙ sym done.refusal;
+  nodes = sym (done.nodes ∙ append-nil survey.nodes.items);
+  findings = sym (done.findings ∙ append-nil survey.findings.items);
+  read_only = sym (done.read_only ∙ or_false survey.read_only);
+}
+
+-- ---- of an image
+
+pub record RefusesImage (e : Endian) (size : ℕ) (image : List ℕ) (fault : ScanFault) (survey : Survey) : Type 0 where
+  pub refusal : Some fault ≡ first_refused e size image
+  pub nodes : survey.nodes.items ≡ nodes_before_refusal e size image
+
+pub image_refused : (e : Endian) (size : ℕ) (image : List ℕ) (left : List Stretch) (s : Stretch) (survey : Survey) (fault : ScanFault) (now : List Stretch)
+    → Surveying (image_stretches e size image) now survey → now ≡ s ∷ left → Some fault ≡ refusal_of s → RefusesImage e size image fault survey
+image_refused e size image left s survey fault now before first some =
+    let refuses = surveying_refused (image_stretches e size image) left s survey fault (subst (λ (l : List Stretch). Surveying (image_stretches e size image) l survey) first before) some in
+    record {
+      refusal = refuses.refusal ∙ ap refusal_among (image_sighted e size image);
+      nodes = refuses.nodes ∙ ap nodes_among (image_sighted e size image);
+    }
+
+pub image_next : (all left : List Stretch) (s : Stretch) (old new : Survey) (now : List Stretch) → Surveying all now old → now ≡ s ∷ left → refusal_of s ≡ None
+    → Adds old new s → Surveying all left new
+image_next all left s old new now before first none adds =
+    surveying_next all left s old new (subst (λ (l : List Stretch). Surveying all l old) first before) none adds
+
+pub record WholeImage (e : Endian) (size : ℕ) (image : List ℕ) (survey : Survey) : Type 0 where
+  pub first : survey.refused ≡ first_refused e size image
+  pub in_front : survey.nodes.items ≡ nodes_before_refusal e size image
+  pub all : survey.refused ≡ None → survey.nodes.items ≡ nodes e size image
+  pub found : survey.findings.items ≡ findings e size image
+  pub forbidding : survey.read_only ≡ is_read_only e size image
+
+pub image_end : (e : Endian) (size : ℕ) (image : List ℕ) (survey : Survey) (now : List Stretch)
+    → Surveying (image_stretches e size image) now survey → now ≡ [] → WholeImage e size image survey
+image_end e size image survey now done empty =
+    let whole = surveying_end (image_stretches e size image) survey (subst (λ (l : List Stretch). Surveying (image_stretches e size image) l survey) empty done) in
+    let is = image_sighted e size image in
+    let first : survey.refused ≡ first_refused e size image = whole.refusal ∙ ap refusal_among is in
+    let in_front : survey.nodes.items ≡ nodes_before_refusal e size image = whole.nodes ∙ ap nodes_among is in
+    record {
+      first = first;
+      in_front = in_front;
+      all = λ none. in_front ∙ ap (filter_map node_sighted) (before_none (sightings e size image) (sym first ∙ none));
+      found = whole.findings;
+      forbidding = whole.read_only ∙ ap any_forbids is;
+    }
+
+-- ---- what refuses is a node
+
+IsRefusal : ScanFault → Type 0
+IsRefusal (fault.Incompatible addr nodetype) = Unit {0}
+IsRefusal (fault.Compressed addr compr) = Unit {0}
+IsRefusal fault.BlockSize = ⊥
+IsRefusal fault.TooLarge = ⊥
+IsRefusal fault.OutOfMemory = ⊥
+
+AreRefusals : Option ScanFault → Type 0
+AreRefusals None = Unit {0}
+AreRefusals (Some fault) = IsRefusal fault
+
+refused_is : (addr : ℕ) (what : Seen) → AreRefusals (refused_node addr what)
+unfolding AreRefusals IsRefusal
+refused_is addr (seen.Incompatible nodetype) = tt
+refused_is addr (seen.Compressed compr) = tt
+refused_is addr (seen.Entry entry) = tt
+refused_is addr (seen.Inode inode) = tt
+refused_is addr seen.Marker = tt
+refused_is addr seen.Padding = tt
+refused_is addr seen.Obsolete = tt
+refused_is addr seen.Attribute = tt
+refused_is addr (seen.Skippable nodetype) = tt
+refused_is addr (seen.ReadOnly nodetype) = tt
+refused_is addr (seen.Damaged which) = tt
+
+or_is : (o p : Option ScanFault) → AreRefusals o → AreRefusals p → AreRefusals (option_or o p)
+or_is None p first others = others
+or_is (Some fault) p first others = first
+
+among_is : (ss : List (ℕ × Seen)) → AreRefusals (refusal_among ss)
+unfolding AreRefusals
+among_is [] = tt
+among_is (s ∷ ss) = or_is (refusal_by s) (refusal_among ss) (refused_is s.0 s.1) (among_is ss)
+
+scans_by : (e : Endian) (size : ℕ) (image : List ℕ) (why : ScanFault) → IsRefusal why → IsScannable size image
+    → first_refused e size image ≡ Some why → Scans e size image (Err why)
+unfolding IsRefusal
+scans_by e size image (fault.Incompatible addr nodetype) is scannable first = (scannable, first)
+scans_by e size image (fault.Compressed addr compr) is scannable first = (scannable, first)
+scans_by e size image fault.BlockSize is scannable first = absurd is
+scans_by e size image fault.TooLarge is scannable first = absurd is
+scans_by e size image fault.OutOfMemory is scannable first = absurd is
+
+pub scans_refused : (e : Endian) (size : ℕ) (image : List ℕ) (why : ScanFault) → IsScannable size image → first_refused e size image ≡ Some why
+    → Scans e size image (Err why)
+unfolding AreRefusals
+scans_refused e size image why scannable first =
+    scans_by e size image why (subst AreRefusals first (among_is (sightings e size image))) scannable first
