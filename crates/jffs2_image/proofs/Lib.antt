@@ -3,3 +3,4 @@ pub mod StretchLemmas
 pub mod PutLemmas
 pub mod BlockLemmas
 pub mod FaultLemmas
+pub mod StreamLemmas

@@ -7,7 +7,7 @@ ghost use Rattle.jffs2_image.specs.Faults.{fault_line_of, fault_text_of, load_te
 use crate::line::LineBuffer;
 use crate::report_fault::ReportFault;
 use flashbase::{LoadFault, PutFault, Sink, put_all};
-use jscan::ScanFault;
+use jscan::{ScanFault, StreamFault};
 
 /// Why the program gives up.
 #[derive(Clone, Copy, Debug, PartialEq, Eq)]
@@ -53,6 +53,31 @@ impl From<ReportFault> for ProgramFault<'_> {
             ReportFault::Scan(fault) => ProgramFault::Scan(fault),
             ReportFault::Output => ProgramFault::Output,
         }
+    }
+}
+
+impl From<StreamFault> for ProgramFault<'_> {
+    ghost use Rattle.jffs2_image.specs.Faults.{fault_of_stream};
+
+    ghost from_gives = { λ fault e. e ≡ fault_of_stream fault };
+
+    fn from(fault: StreamFault) -> Self {
+        match fault {
+            StreamFault::BlockSize => ProgramFault::Scan(ScanFault::BlockSize),
+            StreamFault::Device => ProgramFault::Load(LoadFault::Device),
+            StreamFault::TooLarge => ProgramFault::Load(LoadFault::TooLarge),
+            StreamFault::OutOfMemory => ProgramFault::Load(LoadFault::OutOfMemory),
+        }
+    }
+}
+
+impl From<PutFault> for ProgramFault<'_> {
+    ghost use Rattle.jffs2_image.specs.declared.faults.ProgramFault.TheVariants.{Output};
+
+    ghost from_gives = { λ _ e. e ≡ Output };
+
+    fn from(_fault: PutFault) -> Self {
+        ProgramFault::Output
     }
 }
 

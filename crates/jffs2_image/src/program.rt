@@ -4,10 +4,10 @@ ghost use Rattle.std.specs.Io.KnownBytes.{Appends};
 ghost use Rattle.jffs2_image.specs.Faults.{TellsFault, fault_line_of};
 
 use crate::asked::{Options, Request};
-use crate::check::check_scan;
 use crate::faults::{ProgramFault, fault_line};
 use crate::outcome::Outcome;
 use crate::request::{RequestFault, request};
+use crate::stream::stream_lines;
 use byteorder::{BigEndian, LittleEndian};
 use flashbase::{FromReader, FromWriter, Sink, put_all};
 use jnode::Endian;
@@ -42,11 +42,11 @@ fn check_file<'a, R: Files + AllocGlobal, T: Sink>(
     let Ok(file) = fs::open(rt, image) else {
         return Err(ProgramFault::File(image));
     };
-    let mut source = FromReader::new(file);
+    let source = FromReader::new(file);
     let geometry = options.geometry;
     match options.endian {
-        Endian::Little => check_scan::<LittleEndian, _, _>(rt.alloc(), &mut source, geometry, sink),
-        Endian::Big => check_scan::<BigEndian, _, _>(rt.alloc(), &mut source, geometry, sink),
+        Endian::Little => stream_lines::<LittleEndian, _, _>(rt.alloc(), source, geometry, sink),
+        Endian::Big => stream_lines::<BigEndian, _, _>(rt.alloc(), source, geometry, sink),
     }
 }
 

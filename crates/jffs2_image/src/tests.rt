@@ -1,11 +1,9 @@
 //! What no clause says: texts, and that each call succeeds where memory is ample.
 use crate::asked::{Options, Request, endian, number};
-use crate::check::check_scan;
 use crate::faults::{ProgramFault, fault_line, fault_text};
 use crate::outcome::{Outcome, status};
 use crate::request::{RequestFault, request};
-use byteorder::{BigEndian, LittleEndian};
-use flashbase::{DeviceFault, FromReader, FromWriter, LoadFault, PutFault, Sink, Source};
+use flashbase::{DeviceFault, FromWriter, LoadFault, PutFault, Sink};
 use jnode::Endian;
 use jscan::{Geometry, ScanFault};
 use std::test::Fail;
@@ -283,75 +281,4 @@ fn statuses(rt: HostRuntime) {
     assert_eq!(rt; status(Outcome::Fault), 1);
     assert_eq!(rt; status(Outcome::Usage), 2);
     assert_eq!(rt; status(Outcome::Found), 3);
-}
-
-/// Fails at once.
-#[derive(Drop)]
-struct Broken {
-    failures: u64,
-}
-
-impl Source for Broken {
-    ghost use Rattle.std.specs.Prelude.{None};
-
-    ghost rest = { λ _. None };
-
-    ghost failures = { λ s. s.failures };
-
-    fn fill(&mut self, _buf: &mut [u8]) -> Result<usize, DeviceFault> {
-        self.failures = self.failures.wrapping_add(1);
-        Err(DeviceFault)
-    }
-}
-
-fn checked(
-    rt: &HostRuntime,
-    image: &[u8],
-    block: u32,
-) -> (Result<u64, ProgramFault<'static>>, usize) {
-    let mut sink = FromWriter::new(Vec::new(rt.alloc()));
-    let mut source = FromReader::new(image);
-    let geometry = Geometry { block };
-    let answer = check_scan::<LittleEndian, _, _>(rt.alloc(), &mut source, geometry, &mut sink);
-    (answer, sink.into_writer().len())
-}
-
-#[test]
-fn scans(rt: HostRuntime) {
-    let (answer, len) = checked(&rt, &[], 4096);
-    assert_eq!(rt; answer, Ok(0));
-    assert!(rt; len > 0);
-    let image = [0xFF; 4097];
-    let large = Err(ProgramFault::Load(LoadFault::TooLarge));
-    assert_eq!(rt; checked(&rt, &image, 4096), (large, 0));
-    let size = Err(ProgramFault::Scan(ScanFault::BlockSize));
-    for block in [0, 4092, 4095, 4097, 4098, 4194305, 4194308, u32::MAX] {
-        assert_eq!(rt; checked(&rt, &image, block), (size, 0));
-    }
-    assert!(rt; checked(&rt, &image[..4096], 4096).0.is_ok());
-    assert!(rt; checked(&rt, &image, 4194304).0.is_ok());
-}
-
-#[test]
-fn scans_of_devices_that_fail(rt: HostRuntime) {
-    let geometry = Geometry { block: 4096 };
-    let mut broken = Broken { failures: 7 };
-    let mut sink = FromWriter::new(Vec::new(rt.alloc()));
-    let answer = check_scan::<BigEndian, _, _>(rt.alloc(), &mut broken, geometry, &mut sink);
-    assert_eq!(rt; answer, Err(ProgramFault::Load(LoadFault::Device)));
-    assert_eq!(rt; broken.failures, 8);
-    let odd = Geometry { block: 4095 };
-    let answer = check_scan::<BigEndian, _, _>(rt.alloc(), &mut broken, odd, &mut sink);
-    assert_eq!(rt; answer, Err(ProgramFault::Scan(ScanFault::BlockSize)));
-    assert_eq!(rt; broken.failures, 8);
-    let mut short = Short {
-        bytes: Vec::new(rt.alloc()),
-        limit: 3,
-        failures: 0,
-    };
-    let mut source = FromReader::new([].as_slice());
-    let answer = check_scan::<BigEndian, _, _>(rt.alloc(), &mut source, geometry, &mut short);
-    assert_eq!(rt; answer, Err(ProgramFault::Output));
-    assert_eq!(rt; short.bytes.len(), 3);
-    assert_eq!(rt; short.failures, 1);
 }
