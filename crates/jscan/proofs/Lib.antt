@@ -15,3 +15,6 @@ pub mod StreamCounts
 pub mod PartLemmas
 pub mod ImageLemmas
 pub mod SurveyLemmas
+pub mod AddressLaws
+pub mod RefusalLaws
+pub mod FitLaws

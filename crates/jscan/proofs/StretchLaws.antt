@@ -36,12 +36,12 @@ joined s t = record { addr = s.addr; len = s.len + t.len; look = s.look }
 -- ---- stretches one behind the other
 
 -- the first of these does not go on with the run before it
-Apart : Look → List Stretch → Type 0
+pub Apart : Look → List Stretch → Type 0
 Apart look [] = Unit {0}
 Apart look (t ∷ ts) = is_one_run look t.look ≡ false
 
 -- The stretches fall into place from an address on, make up what is left, and no two go on as one.
-Falls : ℕ → ℕ → List Stretch → Type 0
+unfoldable pub Falls : ℕ → ℕ → List Stretch → Type 0
 Falls addr left [] = left ≡ 0
 Falls addr left (s ∷ ss) = (s.addr ≡ addr) × (0 < s.len) × (s.len ≤ left) × Apart s.look ss × Falls (addr + s.len) (left - s.len) ss
 
@@ -74,14 +74,14 @@ pub no_stretches : (e : Endian) (start place : ℕ) → stretches_from e start p
 unfolding stretches_from
 no_stretches e start place = refl
 
-tile_within : (e : Endian) (place : ℕ) (rest : List ℕ) → length (tile_at e place rest).bytes ≤ length rest
+pub tile_within : (e : Endian) (place : ℕ) (rest : List ℕ) → length (tile_at e place rest).bytes ≤ length rest
 tile_within e place rest =
     tile_cases e place rest (λ tile. length tile.bytes ≤ length rest)
     (λ good. omega (arith, length-take (pad4_of (totlen_of e rest)) rest))
     (λ bad long. omega (arith, length-take 4 rest))
     (λ bad short. omega arith)
 
-falls_from : (n : ℕ) (e : Endian) (start place : ℕ) (rest : List ℕ) → length rest ≤ n
+pub falls_from : (n : ℕ) (e : Endian) (start place : ℕ) (rest : List ℕ) → length rest ≤ n
     → Falls (start + place) (length rest) (stretches_from e start place rest)
 unfolding Falls
 falls_from n e start place [] h = subst (Falls (start + place) 0) (sym (no_stretches e start place)) refl
@@ -149,7 +149,7 @@ stretches_make_up e start block =
 
 -- ---- each has a word or more
 
-tile_words : (e : Endian) (place : ℕ) (rest : List ℕ) → length rest % 4 ≡ 0 → 0 < length rest
+pub tile_words : (e : Endian) (place : ℕ) (rest : List ℕ) → length rest % 4 ≡ 0 → 0 < length rest
     → (4 ≤ length (tile_at e place rest).bytes) × (length (tile_at e place rest).bytes % 4 ≡ 0)
 tile_words e place rest words some =
     tile_cases e place rest (λ tile. (4 ≤ length tile.bytes) × (length tile.bytes % 4 ≡ 0))

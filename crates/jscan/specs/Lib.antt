@@ -14,3 +14,4 @@ pub mod Counts
 pub mod Scans
 pub mod Surveys
 pub mod ImageLeft
+pub mod ImageLaws

@@ -1,6 +1,7 @@
 //! Laws of tilings and stretches. Each function's contract is a law, and its body is empty.
 
 ghost use Rattle.jscan.specs.Laws.{TilingExists, TilingIsOnly, TileThenRest, RunsAreLongest, StretchesMakeUp, StretchesAreFew, NodesAreSeen, NamesAreShort, SightingsAreStretches, QuietHasNoNodes, ErasedHasNoNodes, MarkedHasNoNodes, NodesAreOfBlocks, BlankFromIsLeast};
+ghost use Rattle.jscan.specs.ImageLaws.{SightingsAscend, NodesAscend, FindingsAscend, SightingsAreWithin, SightingsHaveAddresses, RefusalIsFirst, NoneRefuses, NodesFit, NodesAreWritable};
 
 /// A block of whole words has exactly one tiling, and it is the one computed.
 pub fn one_tiling()
@@ -56,4 +57,29 @@ pub fn nodes_are_of_blocks()
 /// `blank_from` is the least block from which all are blank.
 pub fn blank_from_is_least()
     ensures { BlankFromIsLeast }
+{}
+
+/// The addresses of an image's sightings, nodes and findings strictly ascend.
+pub fn addresses_ascend()
+    ensures sightings { SightingsAscend }
+    ensures nodes { NodesAscend }
+    ensures findings { FindingsAscend }
+{}
+
+/// The addresses of an image's sightings lie in its blocks, and fit 32 bits.
+pub fn addresses_are_within()
+    ensures within { SightingsAreWithin }
+    ensures small { SightingsHaveAddresses }
+{}
+
+/// The refusal of an image is that of its first node that no image may have.
+pub fn refusal_is_first()
+    ensures first { RefusalIsFirst }
+    ensures none { NoneRefuses }
+{}
+
+/// The nodes of an image fit their widths, and could be written.
+pub fn nodes_fit()
+    ensures fit { NodesFit }
+    ensures writable { NodesAreWritable }
 {}
