@@ -8,6 +8,7 @@
 #![tactic(auto)]
 
 mod fault;
+pub mod laws;
 mod mounted;
 mod object;
 mod stored;
