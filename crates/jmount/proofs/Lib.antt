@@ -1,2 +1,3 @@
+pub mod NumbersLemmas
 pub mod SameLemmas
 pub mod StateLemmas

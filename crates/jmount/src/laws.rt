@@ -19,3 +19,21 @@ pub fn numbers_depend_on_nodes()
 pub fn state_depends_on_nodes()
     ensures { law.StateDependsOnNodes }
 {}
+
+/// The file system has at each number the object that its nodes make, and at each name what the name stands for.
+pub fn state_has_each()
+    ensures objects { law.ObjectsHaveEach }
+    ensures object { law.StateHasObjects }
+    ensures name { law.StateHasNames }
+{}
+
+/// The map of the greatest versions has at each number the greatest version, or nothing where that is 0.
+pub fn tops_have_each()
+    ensures { law.TopsHaveEach }
+{}
+
+/// Greatest versions and the next number come of inode nodes and of entries.
+pub fn numbers_are_of_both_kinds()
+    ensures top { law.TopIsOfBothKinds }
+    ensures next { law.NextIsOfBothKinds }
+{}
