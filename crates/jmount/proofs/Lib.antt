@@ -1,3 +1,4 @@
 pub mod NumbersLemmas
+pub mod OneMoreLemmas
 pub mod SameLemmas
 pub mod StateLemmas

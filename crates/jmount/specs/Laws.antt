@@ -1,14 +1,18 @@
 -- Laws of the definitions. Each is a statement: it holds since a public function's contract names it.
-use Rattle.std.specs.Prelude.{◌≡◌, ◌↔◌, ◌+◌, ℕ, max, List, [], ◌∷◌, map, flat_map, Contains, unwrap_or}
+use Rattle.std.specs.Prelude.{◌≡◌, ◌↔◌, ◌+◌, ◌<◌, ◌==◌, ℕ, max, List, [], ◌∷◌, ◌++◌, map, flat_map, slice_index, Contains, Some, unwrap_or, if◌then◌else◌}
 use Rattle.std.specs.FinMap.{get}
 use Rattle.flashbase.specs.Lists.{greatest}
-use Rattle.jname.specs.Live.{live, highest}
+use Rattle.jfrag.specs.Pieces.{covers, byte_of}
+use Rattle.jfrag.specs.Overlays.{standing, byte_at}
+use Rattle.jname.specs.Live.{Key, is_at, ino_if_any, live, highest}
 use Rattle.jname.specs.Clash as names
 use Rattle.jnode.specs.declared.node.InodeNode.{InodeNode}
+use Rattle.jnode.specs.declared.node.Dirent.{Dirent}
 use Rattle.jnode.specs.declared.node.NodeRef.{NodeRef}
+use Rattle.jnode.specs.declared.node.NodeRef.TheVariants.{Entry, Inode}
 use Rattle.jmount.specs.Clash.{NoClashes}
 use Rattle.jmount.specs.Tree.{object, named}
-use Rattle.jmount.specs.StateOf.{inodes, entries, versions_of, object_of, objects_of, next_of, top, tops_of, state_of}
+use Rattle.jmount.specs.StateOf.{inodes, entries, versions_of, piece_of, contents, object_by, object_of, objects_of, numbers_in, next_of, owner, version_of, top, tops_of, state_of}
 use Rattle.jmount.specs.Shown.{top_at}
 
 -- the same elements, in any order and number
@@ -66,3 +70,39 @@ TopIsOfBothKinds = (ns : List NodeRef) (i : ℕ)
 abbrev pub NextIsOfBothKinds : Type 0
 NextIsOfBothKinds = (ns : List NodeRef)
     → next_of ns ≡ 1 + max 1 (max (greatest (map (λ node. node.ino) (inodes ns))) (greatest (flat_map (λ entry. entry.pino ∷ entry.ino ∷ []) (entries ns))))
+
+-- ---- what one more node changes
+
+-- the greatest version of its number
+abbrev pub TopOfOneMore : Type 0
+TopOfOneMore = (ns : List NodeRef) (node : NodeRef) (i : ℕ)
+    → top (ns ++ node ∷ []) i ≡ (if i == owner node then max (top ns i) (version_of node) else top ns i)
+
+-- the next number that is free
+abbrev pub NextOfOneMore : Type 0
+NextOfOneMore = (ns : List NodeRef) (node : NodeRef)
+    → (state_of (ns ++ node ∷ [])).next ≡ max (state_of ns).next (1 + greatest (numbers_in node))
+
+-- an entry of a new version is the one that stands
+abbrev pub NewEntryStands : Type 0
+NewEntryStands = (ns : List NodeRef) (entry : Dirent) (key : Key) → top ns entry.pino < entry.version
+    → live (entries (ns ++ Entry entry ∷ [])) key ≡ (if is_at key entry then ino_if_any entry else live (entries ns) key)
+
+-- an inode node of a new version gives its object's attributes and size, and changes no other object
+abbrev pub NewInodeStands : Type 0
+NewInodeStands = (ns : List NodeRef) (node : InodeNode) (i : ℕ) → top ns node.ino < node.version
+    → object (state_of (ns ++ Inode node ∷ [])) i
+    ≡ (if i == node.ino then Some (object_by (versions_of (inodes ns) i ++ node ∷ []) node) else object (state_of ns) i)
+
+-- and it gives the bytes that it covers, and changes no other byte
+abbrev pub NewBytesStand : Type 0
+NewBytesStand = (ns : List NodeRef) (node : InodeNode) (size place : ℕ) → top ns node.ino < node.version → place < size
+    → slice_index (contents (versions_of (inodes ns) node.ino ++ node ∷ []) size) place
+    ≡ (if covers place (piece_of node) then byte_of place (piece_of node) else byte_at (standing (map piece_of (versions_of (inodes ns) node.ino)) place))
+
+-- an entry changes no object, and an inode node no name
+abbrev pub EntryKeepsObjects : Type 0
+EntryKeepsObjects = (ns : List NodeRef) (entry : Dirent) → (state_of (ns ++ Entry entry ∷ [])).objects ≡ (state_of ns).objects
+
+abbrev pub InodeKeepsNames : Type 0
+InodeKeepsNames = (ns : List NodeRef) (node : InodeNode) → (state_of (ns ++ Inode node ∷ [])).names ≡ (state_of ns).names

@@ -37,3 +37,14 @@ pub fn numbers_are_of_both_kinds()
     ensures top { law.TopIsOfBothKinds }
     ensures next { law.NextIsOfBothKinds }
 {}
+
+/// What one more node changes.
+pub fn one_more_node()
+    ensures top { law.TopOfOneMore }
+    ensures next { law.NextOfOneMore }
+    ensures entry { law.NewEntryStands }
+    ensures inode { law.NewInodeStands }
+    ensures bytes { law.NewBytesStand }
+    ensures objects { law.EntryKeepsObjects }
+    ensures names { law.InodeKeepsNames }
+{}
