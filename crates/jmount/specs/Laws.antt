@@ -14,6 +14,7 @@ use Rattle.jmount.specs.Clash.{NoClashes}
 use Rattle.jmount.specs.Tree.{object, named}
 use Rattle.jmount.specs.StateOf.{inodes, entries, versions_of, piece_of, contents, object_by, object_of, objects_of, numbers_in, next_of, owner, version_of, top, tops_of, state_of}
 use Rattle.jmount.specs.Shown.{top_at}
+use Rattle.jmount.specs.Find.{IsPath, path_names}
 
 -- the same elements, in any order and number
 abbrev pub SameElements : {X : Type 0} → List X → List X → Type 0
@@ -106,3 +107,9 @@ EntryKeepsObjects = (ns : List NodeRef) (entry : Dirent) → (state_of (ns ++ En
 
 abbrev pub InodeKeepsNames : Type 0
 InodeKeepsNames = (ns : List NodeRef) (node : InodeNode) → (state_of (ns ++ Inode node ∷ [])).names ≡ (state_of ns).names
+
+-- ---- paths
+
+-- the names that are found in a text are those whose path it is, and none are found in a text that is no path
+abbrev pub PathNamesExactly : Type 0
+PathNamesExactly = (text : List ℕ) (names : List (List ℕ)) → (path_names text ≡ Some names) ↔ IsPath text names

@@ -48,3 +48,8 @@ pub fn one_more_node()
     ensures objects { law.EntryKeepsObjects }
     ensures names { law.InodeKeepsNames }
 {}
+
+/// What a path is, as a relation and as a function.
+pub fn paths_have_names()
+    ensures { law.PathNamesExactly }
+{}
