@@ -11,6 +11,7 @@ mod fault;
 pub mod laws;
 mod mounted;
 mod object;
+pub mod rows;
 mod stored;
 
 pub use crate::fault::{FindFault, MountFault};
