@@ -7,3 +7,5 @@ pub mod Mounts
 pub mod Codes
 pub mod Shown
 pub mod Stored
+pub mod Laws
+pub mod Rows

@@ -8,8 +8,10 @@
 #![tactic(auto)]
 
 mod fault;
+pub mod laws;
 mod mounted;
 mod object;
+pub mod rows;
 mod stored;
 
 pub use crate::fault::{FindFault, MountFault};

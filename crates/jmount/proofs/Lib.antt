@@ -1,0 +1,5 @@
+pub mod NumbersLemmas
+pub mod OneMoreLemmas
+pub mod PathLemmas
+pub mod SameLemmas
+pub mod StateLemmas

@@ -1,0 +1,34 @@
+-- The worked examples of file systems.
+use Rattle.std.specs.Prelude.{ℕ, List, [], ◌∷◌, codes, replicate}
+use Rattle.jnode.specs.declared.node.Dirent.{Dirent}
+use Rattle.jnode.specs.declared.node.Fill.{Fill}
+use Rattle.jnode.specs.declared.node.Fill.TheVariants.{Zero, Data}
+use Rattle.jnode.specs.declared.node.NodeRef.{NodeRef}
+use Rattle.jnode.specs.declared.node.NodeRef.TheVariants.{Inode}
+
+-- a version of a number, of a regular file of mode 0644
+abbrev pub version_node : ℕ → ℕ → ℕ → ℕ → ℕ → Fill → NodeRef
+version_node ino version isize offset dsize fill =
+    Inode (record { ino = ino; version = version; mode = 0o100644; uid = 0; gid = 0; isize = isize; atime = 0; mtime = 0; ctime = 0; offset = offset; dsize = dsize; fill = fill })
+
+-- made, ten bytes written, cut to four, zeros up to eight, and a byte there
+abbrev pub five_versions : List NodeRef
+five_versions =
+    version_node 2 1 0 0 0 (Data [])
+    ∷ version_node 2 2 10 0 10 (Data (1 ∷ 2 ∷ 3 ∷ 4 ∷ 5 ∷ 6 ∷ 7 ∷ 8 ∷ 9 ∷ 10 ∷ []))
+    ∷ version_node 2 3 4 0 0 (Data [])
+    ∷ version_node 2 4 8 4 4 Zero
+    ∷ version_node 2 5 9 8 1 (Data (255 ∷ []))
+    ∷ []
+
+-- version 3 over bytes 0 to 9, version 2 over 50 to 59, version 1 over 0 to 99
+abbrev pub three_versions : List NodeRef
+three_versions =
+    version_node 2 3 101 0 10 (Data (replicate 10 33))
+    ∷ version_node 2 2 60 50 10 (Data (replicate 10 22))
+    ∷ version_node 2 1 100 0 100 (Data (replicate 100 11))
+    ∷ []
+
+-- the entry "q" of the root, by its version
+abbrev pub named_node : ℕ → ℕ → Dirent
+named_node version ino = record { pino = 1; version = version; ino = ino; mctime = 0; kind = 8; name = codes "q" }
