@@ -18,11 +18,12 @@ use Rattle.jname.proofs.MemberLemmas.{Contains-none, Contains-here, Contains-the
 use Rattle.jname.proofs.SortedLemmas.{Contains-filter_map, Contains-filter_map_from}
 use Rattle.jscan.specs.Image.{node_sighted, sightings, nodes}
 use Rattle.jscan.specs.Scans.{IsScannable, IsNoNode, refusal_by, refusal_among, before_refusal, first_refused, nodes_before_refusal}
+use Rattle.jscan.specs.Findings.{refused_node}
 use Rattle.jscan.specs.declared.geometry.ScanFault.{ScanFault}
 use Rattle.jscan.specs.declared.geometry.ScanFault.TheVariants as scan
 use Rattle.jscan.proofs.SurveyLemmas.{before_open, before_shut, before_none, refusal_open, refusal_shut}
 use Rattle.jmount.specs.Clash.{InodesClash, Clashes, IsClashAt}
-use Rattle.jmount.specs.Mounts.{StandsAt, IsFirstAt, IsSound}
+use Rattle.jmount.specs.Mounts.{StandsAt, IsFirstAt, IsSound, Answers}
 use Rattle.jmount.specs.declared.fault.MountFault.{MountFault}
 use Rattle.jmount.specs.declared.fault.MountFault.TheVariants as fault
 
@@ -281,10 +282,147 @@ refusal_fault (scan.Incompatible addr nodetype) = fault.Incompatible addr nodety
 refusal_fault (scan.Compressed addr compr) = fault.Compressed addr compr
 refusal_fault scan.OutOfMemory = fault.OutOfMemory
 
--- the refusal by a sighting is of that sighting, and stands at its address
-IsRefusalOf : Seen → ℕ → ScanFault → Type 0
-IsRefusalOf what at (scan.Incompatible addr nodetype) = (at ≡ addr) × (what ≡ seen.Incompatible nodetype)
-IsRefusalOf what at (scan.Compressed addr compr) = (at ≡ addr) × (what ≡ seen.Compressed compr)
-IsRefusalOf what at scan.BlockSize = ⊥
-IsRefusalOf what at scan.TooLarge = ⊥
-IsRefusalOf what at scan.OutOfMemory = ⊥
+-- the fault that a refusal by this sighting gives
+IsRefusalOf : ℕ → Seen → ScanFault → Type 0
+IsRefusalOf at what (scan.Incompatible addr nodetype) = (at ≡ addr) × (what ≡ seen.Incompatible nodetype)
+IsRefusalOf at what (scan.Compressed addr compr) = (at ≡ addr) × (what ≡ seen.Compressed compr)
+IsRefusalOf at what scan.BlockSize = ⊥
+IsRefusalOf at what scan.TooLarge = ⊥
+IsRefusalOf at what scan.OutOfMemory = ⊥
+
+refusal_is_of : (at : ℕ) (what : Seen) (why : ScanFault) → refused_node at what ≡ Some why → IsRefusalOf at what why
+unfolding IsRefusalOf
+refusal_is_of at (seen.Incompatible nodetype) why some = subst (IsRefusalOf at (seen.Incompatible nodetype)) (same_Some (scan.Incompatible at nodetype) why some) (refl, refl)
+refusal_is_of at (seen.Compressed compr) why some = subst (IsRefusalOf at (seen.Compressed compr)) (same_Some (scan.Compressed at compr) why some) (refl, refl)
+refusal_is_of at (seen.Entry entry) why some = absurd (none-some why some)
+refusal_is_of at (seen.Inode inode) why some = absurd (none-some why some)
+refusal_is_of at seen.Marker why some = absurd (none-some why some)
+refusal_is_of at seen.Padding why some = absurd (none-some why some)
+refusal_is_of at seen.Obsolete why some = absurd (none-some why some)
+refusal_is_of at seen.Attribute why some = absurd (none-some why some)
+refusal_is_of at (seen.Skippable nodetype) why some = absurd (none-some why some)
+refusal_is_of at (seen.ReadOnly nodetype) why some = absurd (none-some why some)
+refusal_is_of at (seen.Damaged which) why some = absurd (none-some why some)
+
+module _ (e : Endian) (size : ℕ) (image : List ℕ) (up : Rises (sightings e size image)) (none : HasNoClash (nodes_before_refusal e size image)) where
+  -- what is refused stands nowhere below the first
+  refused_below : (addr : ℕ) → ((t : ℕ × Seen) → Contains (sightings e size image) t → t.0 < addr → Contains (before_refusal (sightings e size image)) t)
+      → (s : ℕ × Seen) (why : ScanFault) → refusal_by s ≡ Some why → Contains (sightings e size image) s → addr ≤ s.0
+  refused_below addr front s why some h =
+      ⊎_elim
+      (λ lt. let unrefused : refusal_by s ≡ None = (from_before (sightings e size image) s (front s h lt)).1 in absurd (none-some why (sym unrefused ∙ some)))
+      (λ le. le)
+      (cases_lt s.0 addr)
+
+  -- nor does a clash
+  clash_below : (addr : ℕ) → ((t : ℕ × Seen) → Contains (sightings e size image) t → t.0 < addr → Contains (before_refusal (sightings e size image)) t)
+      → (at : ℕ) → IsClashAt (nodes e size image) at → addr ≤ at
+  clash_below addr front at c =
+      ⊎_elim
+      (λ lt. absurd (none at (clash_among (nodes e size image) (nodes_before_refusal e size image) at
+          (λ n h le.
+          let found = sighted_from (sightings e size image) n h in
+          let same : found.0.0 ≡ n.0 = found.3 in
+          let low : found.0.0 < addr = omega arith in
+          Contains-filter_map node_sighted (before_refusal (sightings e size image)) found.0 n (front found.0 found.1 low) found.2)
+          c)))
+      (λ le. le)
+      (cases_lt at addr)
+
+  least_refusal : (addr : ℕ) → ((t : ℕ × Seen) → Contains (sightings e size image) t → t.0 < addr → Contains (before_refusal (sightings e size image)) t)
+      → (at : ℕ) (other : MountFault) → StandsAt e size image at other → addr ≤ at
+  least_refusal addr front at (fault.Incompatible a nodetype) h =
+      let above : addr ≤ a = refused_below addr front (a, seen.Incompatible nodetype) (scan.Incompatible a nodetype) refl h.1 in omega (arith, h.0)
+  least_refusal addr front at (fault.Compressed a compr) h =
+      let above : addr ≤ a = refused_below addr front (a, seen.Compressed compr) (scan.Compressed a compr) refl h.1 in omega (arith, h.0)
+  least_refusal addr front at (fault.Clash a) h = let above : addr ≤ a = clash_below addr front a h.1 in omega (arith, h.0)
+  least_refusal addr front at fault.BlockSize h = absurd h
+  least_refusal addr front at fault.TooLarge h = absurd h
+  least_refusal addr front at fault.RootKind h = absurd h
+  least_refusal addr front at fault.OutOfMemory h = absurd h
+
+  first_by : IsScannable size image → (why : ScanFault) (s : ℕ × Seen) → Contains (sightings e size image) s
+      → ((t : ℕ × Seen) → Contains (sightings e size image) t → t.0 < s.0 → Contains (before_refusal (sightings e size image)) t)
+      → IsRefusalOf s.0 s.1 why → Answers e size image (Err (refusal_fault why))
+  unfolding IsRefusalOf
+  first_by scannable (scan.Incompatible addr nodetype) s h front is =
+      let here : ◌≡◌ {A = ℕ × Seen} s (addr, seen.Incompatible nodetype) = λ i. (is.0 i, is.1 i) in
+      (scannable, (refl, subst (λ (t : ℕ × Seen). Contains (sightings e size image) t) here h),
+        least_refusal addr (λ t g lt. front t g (omega (arith, is.0))))
+  first_by scannable (scan.Compressed addr compr) s h front is =
+      let here : ◌≡◌ {A = ℕ × Seen} s (addr, seen.Compressed compr) = λ i. (is.0 i, is.1 i) in
+      (scannable, (refl, subst (λ (t : ℕ × Seen). Contains (sightings e size image) t) here h),
+        least_refusal addr (λ t g lt. front t g (omega (arith, is.0))))
+  first_by scannable scan.BlockSize s h front is = absurd is
+  first_by scannable scan.TooLarge s h front is = absurd is
+  first_by scannable scan.OutOfMemory s h front is = absurd is
+
+-- where the nodes in front of the refusal have no clash, the refusal is the answer
+pub refusal_answers : (e : Endian) (size : ℕ) (image : List ℕ) (why : ScanFault) → IsScannable size image → Ascends (sightings e size image)
+    → HasNoClash (nodes_before_refusal e size image) → first_refused e size image ≡ Some why → Answers e size image (Err (refusal_fault why))
+refusal_answers e size image why scannable ascends none some =
+    let up = rises (sightings e size image) ascends in
+    let at = refused_at (sightings e size image) why up some in
+    first_by e size image up none scannable why at.0 at.1 at.3 (refusal_is_of at.0.0 at.0.1 why at.2)
+
+pub incompatible_is_first : (e : Endian) (size : ℕ) (image : List ℕ) (addr nodetype : ℕ) → IsScannable size image → Ascends (sightings e size image)
+    → HasNoClash (nodes_before_refusal e size image) → first_refused e size image ≡ Some (scan.Incompatible addr nodetype)
+    → IsFirstAt e size image addr (fault.Incompatible addr nodetype)
+incompatible_is_first e size image addr nodetype scannable ascends none some = refusal_answers e size image (scan.Incompatible addr nodetype) scannable ascends none some
+
+pub compressed_is_first : (e : Endian) (size : ℕ) (image : List ℕ) (addr compr : ℕ) → IsScannable size image → Ascends (sightings e size image)
+    → HasNoClash (nodes_before_refusal e size image) → first_refused e size image ≡ Some (scan.Compressed addr compr)
+    → IsFirstAt e size image addr (fault.Compressed addr compr)
+compressed_is_first e size image addr compr scannable ascends none some = refusal_answers e size image (scan.Compressed addr compr) scannable ascends none some
+
+-- every refusal is a node's
+not_no_node : (at : ℕ) (what : Seen) (why : ScanFault) → IsRefusalOf at what why → IsNoNode why → ⊥
+unfolding IsRefusalOf
+not_no_node at what (scan.Incompatible addr nodetype) is h = h
+not_no_node at what (scan.Compressed addr compr) is h = h
+not_no_node at what scan.BlockSize is h = is
+not_no_node at what scan.TooLarge is h = is
+not_no_node at what scan.OutOfMemory is h = is
+
+refusal_among_node : (ss : List (ℕ × Seen)) (why : ScanFault) → refusal_among ss ≡ Some why → IsNoNode why → ⊥
+refusal_among_node [] why some h = none-some why some
+refusal_among_node (x ∷ xs) why some h = by_refusal (λ deep. refusal_among_node xs why deep h) (refusal_by x) refl
+  where
+    by_refusal : (refusal_among xs ≡ Some why → ⊥) → (o : Option ScanFault) → refusal_by x ≡ o → ⊥
+    by_refusal next None is = next (sym (refusal_open x xs is) ∙ some)
+    by_refusal next (Some other) is = not_no_node x.0 x.1 why (refusal_is_of x.0 x.1 why (is ∙ sym (refusal_shut x xs other is) ∙ some)) h
+
+pub refusal_is_node : (e : Endian) (size : ℕ) (image : List ℕ) (why : ScanFault) → first_refused e size image ≡ Some why → IsNoNode why → ⊥
+refusal_is_node e size image why some h = refusal_among_node (sightings e size image) why some h
+
+-- ---- an image without a refusal and without a clash
+
+pub nodes_are_all : (e : Endian) (size : ℕ) (image : List ℕ) → first_refused e size image ≡ None → nodes_before_refusal e size image ≡ nodes e size image
+nodes_are_all e size image none = ap (filter_map node_sighted) (before_none (sightings e size image) none)
+
+module _ (e : Endian) (size : ℕ) (image : List ℕ) (unrefused : first_refused e size image ≡ None) (none : HasNoClash (nodes e size image)) where
+  none_refused : (s : ℕ × Seen) (why : ScanFault) → refusal_by s ≡ Some why → Contains (sightings e size image) s → ⊥
+  none_refused s why some h =
+      let front = subst (λ (l : List (ℕ × Seen)). Contains l s) (sym (before_none (sightings e size image) unrefused)) h in
+      let is : refusal_by s ≡ None = (from_before (sightings e size image) s front).1 in
+      none-some why (sym is ∙ some)
+
+  none_stands : (at : ℕ) (f : MountFault) → StandsAt e size image at f → ⊥
+  none_stands at (fault.Incompatible a nodetype) h = none_refused (a, seen.Incompatible nodetype) (scan.Incompatible a nodetype) refl h.1
+  none_stands at (fault.Compressed a compr) h = none_refused (a, seen.Compressed compr) (scan.Compressed a compr) refl h.1
+  none_stands at (fault.Clash a) h = none a h.1
+  none_stands at fault.BlockSize h = h
+  none_stands at fault.TooLarge h = h
+  none_stands at fault.RootKind h = h
+  none_stands at fault.OutOfMemory h = h
+
+pub none_is_sound : (e : Endian) (size : ℕ) (image : List ℕ) → IsScannable size image → first_refused e size image ≡ None → HasNoClash (nodes e size image) → IsSound e size image
+none_is_sound e size image scannable unrefused none = (scannable, none_stands e size image unrefused none)
+
+-- ---- clashes
+
+pub clashes_sym : (a b : NodeRef) → Clashes a b → Clashes b a
+clashes_sym (Entry a) (Entry b) c = record { directory = sym c.directory; name = sym c.name; version = sym c.version; contents = λ (e : b ≡ a). c.contents (sym e) }
+clashes_sym (Inode a) (Inode b) c = record { ino = sym c.ino; version = sym c.version; contents = λ (e : b ≡ a). c.contents (sym e) }
+clashes_sym (Entry a) (Inode b) c = c
+clashes_sym (Inode a) (Entry b) c = c
