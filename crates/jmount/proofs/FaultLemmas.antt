@@ -1,11 +1,11 @@
 -- Of the nodes that stand in front of the refusal: which fault of an image is the one of least address.
-use Rattle.std.proofs.Common.{◌≡◌, ℕ, zero, suc, ◌<◌, ◌≤◌, List, [], ◌∷◌, ◌++◌, Option, None, Some, refl, sym, ap, ◌∙◌, subst, ⊎_elim, inl, inr, arith, get_or}
+use Rattle.std.proofs.Common.{◌≡◌, ℕ, zero, suc, ◌+◌, ◌<◌, ◌≤◌, List, [], ◌∷◌, ◌++◌, length, take, drop, Option, None, Some, refl, sym, ap, ◌∙◌, subst, ⊎_elim, inl, inr, arith, get_or}
 use Rattle.std.specs.Prelude.{Contains, AllPairs, filter_map, map, option_map, ⊤, Err, ◌↔◌, ◌⊎◌}
 use Rattle.std.specs.List.{cons_option}
 use Rattle.std.proofs.lemmas.Bool.{cases_lt}
 use Rattle.std.proofs.lemmas.Option.{same_Some, none-some}
 use Rattle.std.proofs.lemmas.List.Elements.{Contains-append_left, Contains-append_right, Contains-push, Contains-push_cases, filter_map-append}
-use Rattle.std.proofs.lemmas.List.{append-nil, map_push}
+use Rattle.std.proofs.lemmas.List.{append-nil, map_push, take-append-drop, take_more, take_all, drop_more}
 use Rattle.jnode.specs.declared.order.Endian.{Endian}
 use Rattle.jnode.specs.Reading.{node_in}
 use Rattle.jnode.specs.declared.node.Dirent.{Dirent}
@@ -611,6 +611,71 @@ pub gathered_inode_clashes : (gained : List Dirent) (kept : List InodeNode) (ns 
     → SomeClashes kept node → ClashesIn ns (Inode node)
 gathered_inode_clashes gained kept ns node all some = inode_clashes_in ns node (some.0, (all.same_inodes some.0).0 some.1, some.2)
 
+-- without a refusal these are all nodes
+pub gathered_all_nodes : (e : Endian) (size : ℕ) (image : List ℕ) (gained : List Dirent) (kept : List InodeNode) → first_refused e size image ≡ None
+    → Gathered gained kept (nodes_before_refusal e size image) → Gathered gained kept (nodes e size image)
+gathered_all_nodes e size image gained kept none all = subst (λ (ns : List (ℕ × NodeRef)). Gathered gained kept ns) (nodes_are_all e size image none) all
+
+-- ---- the first of a list that clashes with one before it
+
+abbrev pub FirstClash : List (ℕ × NodeRef) → ℕ → Type 0
+FirstClash ns addr =
+    (pre : List (ℕ × NodeRef)) × (node : NodeRef) × (post : List (ℕ × NodeRef))
+    × (ns ≡ pre ++ (addr, node) ∷ post) × HasNoClash pre × ClashesIn pre node
+
+-- the parts of a list on either side of one of it
+sides : {X : Type 0} (xs : List X) (i : ℕ) (x : X) → i < length xs → x ≡ get_or xs i x → xs ≡ take i xs ++ x ∷ drop (i + 1) xs
+sides {X} xs i x lt is =
+    sym (take-append-drop i xs) ∙ ap (λ (l : List X). take i xs ++ l) (drop_more xs i x lt ∙ ap (λ (y : X). y ∷ drop (i + 1) xs) (sym is))
+
+more_at : {X : Type 0} (xs : List X) (i : ℕ) (x y : X) → i < length xs → x ≡ get_or xs i x → x ≡ y → take (i + 1) xs ≡ take i xs ++ y ∷ []
+more_at {X} xs i x y lt is same = take_more xs i x lt ∙ ap (λ (z : X). take i xs ++ z ∷ []) (sym is ∙ same)
+
+-- the node at i is this entry or inode node
+abbrev pub IsNodeAt : List (ℕ × NodeRef) → ℕ → ℕ × NodeRef → NodeRef → Type 0
+IsNodeAt ns i n node = (i < length ns) × (n ≡ get_or ns i n) × (n.1 ≡ node)
+
+with_node : (n : ℕ × NodeRef) (node : NodeRef) → n.1 ≡ node → n ≡ (n.0, node)
+with_node n node is = ap (λ (m : NodeRef). (n.0, m)) is
+
+pub gathered_entry_at : (gained more : List Dirent) (kept : List InodeNode) (ns : List (ℕ × NodeRef)) (i : ℕ) (n : ℕ × NodeRef) (entry : Dirent)
+    → Gathered gained kept (take i ns) → IsNodeAt ns i n (Entry entry) → Gains gained more entry → names.NoneClashes gained entry
+    → Gathered more kept (take (i + 1) ns)
+gathered_entry_at gained more kept ns i n entry before at gains none =
+    subst (λ (l : List (ℕ × NodeRef)). Gathered more kept l) (sym (more_at ns i n (n.0, Entry entry) at.0 at.1 (with_node n (Entry entry) at.2)))
+    (gathered_entry gained more kept (take i ns) n.0 entry before gains none)
+
+pub gathered_inode_at : (gained : List Dirent) (kept more : List InodeNode) (ns : List (ℕ × NodeRef)) (i : ℕ) (n : ℕ × NodeRef) (node : InodeNode)
+    → Gathered gained kept (take i ns) → IsNodeAt ns i n (Inode node) → ((x : InodeNode) → Contains more x ↔ (Contains kept x ⊎ (x ≡ node))) → NoneClashes kept node
+    → Gathered gained more (take (i + 1) ns)
+gathered_inode_at gained kept more ns i n node before at gains none =
+    subst (λ (l : List (ℕ × NodeRef)). Gathered gained more l) (sym (more_at ns i n (n.0, Inode node) at.0 at.1 (with_node n (Inode node) at.2)))
+    (gathered_inode gained kept more (take i ns) n.0 node before gains none)
+
+pub gathered_end : (gained : List Dirent) (kept : List InodeNode) (ns : List (ℕ × NodeRef)) (i : ℕ) → Gathered gained kept (take i ns) → length ns ≤ i → Gathered gained kept ns
+gathered_end gained kept ns i all le = subst (λ (l : List (ℕ × NodeRef)). Gathered gained kept l) (take_all i ns le) all
+
+first_clash_at : (gained : List Dirent) (kept : List InodeNode) (ns : List (ℕ × NodeRef)) (i : ℕ) (n : ℕ × NodeRef) (node : NodeRef)
+    → Gathered gained kept (take i ns) → IsNodeAt ns i n node → ClashesIn (take i ns) node → FirstClash ns n.0
+first_clash_at gained kept ns i n node before at clash = (
+  take i ns,
+  node,
+  drop (i + 1) ns,
+  sides ns i n at.0 at.1 ∙ ap (λ (m : ℕ × NodeRef). take i ns ++ m ∷ drop (i + 1) ns) (with_node n node at.2),
+  gathered_has_no_clash gained kept (take i ns) before,
+  clash,
+)
+
+pub entry_clashes_first : (gained : List Dirent) (kept : List InodeNode) (ns : List (ℕ × NodeRef)) (i : ℕ) (n : ℕ × NodeRef) (entry : Dirent)
+    → Gathered gained kept (take i ns) → IsNodeAt ns i n (Entry entry) → names.SomeClashes gained entry → FirstClash ns n.0
+entry_clashes_first gained kept ns i n entry before at some =
+    first_clash_at gained kept ns i n (Entry entry) before at (gathered_entry_clashes gained kept (take i ns) entry before some)
+
+pub inode_clashes_first : (gained : List Dirent) (kept : List InodeNode) (ns : List (ℕ × NodeRef)) (i : ℕ) (n : ℕ × NodeRef) (node : InodeNode)
+    → Gathered gained kept (take i ns) → IsNodeAt ns i n (Inode node) → SomeClashes kept node → FirstClash ns n.0
+inode_clashes_first gained kept ns i n node before at some =
+    first_clash_at gained kept ns i n (Inode node) before at (gathered_inode_clashes gained kept (take i ns) node before some)
+
 -- ---- answers
 
 pub entry_clash_answers : (e : Endian) (size : ℕ) (image : List ℕ) (gained : List Dirent) (kept : List InodeNode) (pre post : List (ℕ × NodeRef)) (addr : ℕ) (entry : Dirent)
@@ -637,3 +702,8 @@ pub gathered_is_sound : (e : Endian) (size : ℕ) (image : List ℕ) (gained : L
     → IsScannable size image → first_refused e size image ≡ None → Gathered gained kept (nodes_before_refusal e size image) → IsSound e size image
 gathered_is_sound e size image gained kept scannable none all =
     none_is_sound e size image scannable none (subst (λ (ns : List (ℕ × NodeRef)). HasNoClash ns) (nodes_are_all e size image none) (gathered_has_no_clash gained kept (nodes_before_refusal e size image) all))
+
+pub first_clash_answers : (e : Endian) (size : ℕ) (image : List ℕ) (addr : ℕ) → IsScannable size image → Ascends (sightings e size image)
+    → FirstClash (nodes_before_refusal e size image) addr → Answers e size image (Err (fault.Clash addr))
+first_clash_answers e size image addr scannable ascends c =
+    clash_is_first e size image c.0 c.2 addr c.1 c.5.0 c.5.1 scannable ascends c.3 c.4 c.5.2 c.5.3
