@@ -1,22 +1,16 @@
 -- Of the nodes that stand in front of the refusal: which fault of an image is the one of least address.
-use Rattle.std.proofs.Common.{◌≡◌, ℕ, zero, suc, ◌+◌, ◌<◌, ◌≤◌, List, [], ◌∷◌, ◌++◌, length, take, drop, Option, None, Some, refl, sym, ap, ◌∙◌, subst, ⊎_elim, inl, inr, arith, get_or}
-use Rattle.std.specs.Prelude.{Contains, AllPairs, filter_map, map, option_map, ⊤, Err, ◌↔◌, ◌⊎◌}
+use Rattle.std.proofs.Common.{◌≡◌, ℕ, zero, suc, ◌<◌, ◌≤◌, List, [], ◌∷◌, ◌++◌, Option, None, Some, refl, sym, ap, ◌∙◌, subst, ⊎_elim, arith, get_or}
+use Rattle.std.specs.Prelude.{Contains, AllPairs, filter_map, option_map, ⊤, Err}
 use Rattle.std.specs.List.{cons_option}
 use Rattle.std.proofs.lemmas.Bool.{cases_lt}
 use Rattle.std.proofs.lemmas.Option.{same_Some, none-some}
-use Rattle.std.proofs.lemmas.List.Elements.{Contains-append_left, Contains-append_right, Contains-push, Contains-push_cases, filter_map-append}
-use Rattle.std.proofs.lemmas.List.{append-nil, map_push, take-append-drop, take_more, take_all, drop_more}
+use Rattle.std.proofs.lemmas.List.Elements.{Contains-append_left, Contains-append_right}
 use Rattle.jnode.specs.declared.order.Endian.{Endian}
 use Rattle.jnode.specs.Reading.{node_in}
-use Rattle.jnode.specs.declared.node.Dirent.{Dirent}
-use Rattle.jnode.specs.declared.node.InodeNode.{InodeNode}
 use Rattle.jnode.specs.declared.node.NodeRef.{NodeRef}
-use Rattle.jnode.specs.declared.node.NodeRef.TheVariants.{Entry, Inode}
 use Rattle.jnode.specs.declared.node.Seen.{Seen}
 use Rattle.jnode.specs.declared.node.Seen.TheVariants as seen
-use Rattle.jname.specs.Clash as names
-use Rattle.jname.specs.Live.{Gains}
-use Rattle.jname.proofs.MemberLemmas.{Contains-none, Contains-here, Contains-there, Contains-cases, Contains-map, Contains-map_from}
+use Rattle.jname.proofs.MemberLemmas.{Contains-none, Contains-here, Contains-there, Contains-cases}
 use Rattle.jname.proofs.SortedLemmas.{Contains-filter_map, Contains-filter_map_from}
 use Rattle.jscan.specs.Image.{node_sighted, sightings, nodes}
 use Rattle.jscan.specs.Scans.{IsScannable, IsNoNode, refusal_by, refusal_among, before_refusal, first_refused, nodes_before_refusal}
@@ -24,11 +18,11 @@ use Rattle.jscan.specs.Findings.{refused_node}
 use Rattle.jscan.specs.declared.geometry.ScanFault.{ScanFault}
 use Rattle.jscan.specs.declared.geometry.ScanFault.TheVariants as scan
 use Rattle.jscan.proofs.SurveyLemmas.{before_open, before_shut, before_none, refusal_open, refusal_shut}
-use Rattle.jmount.specs.Clash.{InodesClash, Clashes, SomeClashes, NoneClashes, NoClashes, IsClashAt}
-use Rattle.jmount.specs.StateOf.{inode_in, entry_in, inodes, entries}
+use Rattle.jmount.specs.Clash.{Clashes, IsClashAt}
 use Rattle.jmount.specs.Mounts.{StandsAt, IsFirstAt, IsSound, Answers}
 use Rattle.jmount.specs.declared.fault.MountFault.{MountFault}
 use Rattle.jmount.specs.declared.fault.MountFault.TheVariants as fault
+use Rattle.jmount.proofs.ClashLemmas.{HasNoClash, FirstClash, clash_among}
 
 -- ---- addresses that ascend
 
@@ -94,13 +88,13 @@ in_before (x ∷ xs) s t up h g le = by_refusal (in_before xs s t up.1) (refusal
     by_refusal next None is =
         subst (λ (l : List (ℕ × Seen)). Contains l s) (sym (before_open x xs is))
         (⊎_elim
-            (λ (e : x ≡ s). subst (λ (z : ℕ × Seen). Contains (x ∷ before_refusal xs) z) e (Contains-here x (before_refusal xs)))
-            (λ later.
-            ⊎_elim
-            (λ (e : x ≡ t). let above : x.0 < s.0 = up.0 s later in let same : x.0 ≡ t.0 = ap (λ (z : ℕ × Seen). z.0) e in absurd (omega arith))
-            (λ there. Contains-there x (before_refusal xs) s (next later there le))
-            (Contains-cases x (before_refusal xs) t (subst (λ (l : List (ℕ × Seen)). Contains l t) (before_open x xs is) g)))
-            (Contains-cases x xs s h))
+        (λ (e : x ≡ s). subst (λ (z : ℕ × Seen). Contains (x ∷ before_refusal xs) z) e (Contains-here x (before_refusal xs)))
+        (λ later.
+        ⊎_elim
+        (λ (e : x ≡ t). let above : x.0 < s.0 = up.0 s later in let same : x.0 ≡ t.0 = ap (λ (z : ℕ × Seen). z.0) e in absurd (omega arith))
+        (λ there. Contains-there x (before_refusal xs) s (next later there le))
+        (Contains-cases x (before_refusal xs) t (subst (λ (l : List (ℕ × Seen)). Contains l t) (before_open x xs is) g)))
+        (Contains-cases x xs s h))
     by_refusal next (Some why) is = absurd (Contains-none t (subst (λ (l : List (ℕ × Seen)). Contains l t) (before_shut x xs why is) g))
 
 -- the sighting that is refused, and all below it in front
@@ -115,13 +109,12 @@ refused_at (x ∷ xs) why up some = by_refusal (refused_at xs why up.1) (refusal
   where
     by_refusal : (refusal_among xs ≡ Some why → RefusedAt xs why) → (o : Option ScanFault) → refusal_by x ≡ o → RefusedAt (x ∷ xs) why
     by_refusal next None is =
-        let deep = next (sym (refusal_open x xs is) ∙ some) in
-        (
+        let deep = next (sym (refusal_open x xs is) ∙ some) in (
           deep.0,
           Contains-there x xs deep.0 deep.1,
           deep.2,
           λ t h lt. subst (λ (l : List (ℕ × Seen)). Contains l t) (sym (before_open x xs is))
-          (⊎_elim
+              (⊎_elim
               (λ (e : x ≡ t). subst (λ (z : ℕ × Seen). Contains (x ∷ before_refusal xs) z) e (Contains-here x (before_refusal xs)))
               (λ later. Contains-there x (before_refusal xs) t (deep.3 t later lt))
               (Contains-cases x xs t h)),
@@ -131,10 +124,10 @@ refused_at (x ∷ xs) why up some = by_refusal (refused_at xs why up.1) (refusal
       Contains-here x xs,
       is ∙ sym (refusal_shut x xs other is) ∙ some,
       λ t h lt.
-      ⊎_elim
-      (λ (e : x ≡ t). let same : x.0 ≡ t.0 = ap (λ (z : ℕ × Seen). z.0) e in absurd (omega arith))
-      (λ later. let above : x.0 < t.0 = up.0 t later in absurd (omega arith))
-      (Contains-cases x xs t h),
+          ⊎_elim
+          (λ (e : x ≡ t). let same : x.0 ≡ t.0 = ap (λ (z : ℕ × Seen). z.0) e in absurd (omega arith))
+          (λ later. let above : x.0 < t.0 = up.0 t later in absurd (omega arith))
+          (Contains-cases x xs t h),
     )
 
 rises_before : (ss : List (ℕ × Seen)) → Rises ss → Rises (before_refusal ss)
@@ -193,10 +186,6 @@ nodes_in_before ss n m up h g le =
 
 -- ---- the fault of least address
 
--- no node of these clashes with one below it
-abbrev pub HasNoClash : List (ℕ × NodeRef) → Type 0
-HasNoClash ns = (at : ℕ) → IsClashAt ns at → ⊥
-
 -- what is refused stands above all in front of the refusal
 above_before : (ss : List (ℕ × Seen)) (s t : ℕ × Seen) (why : ScanFault) → Rises ss → refusal_by s ≡ Some why → Contains ss s → Contains (before_refusal ss) t → t.0 < s.0
 above_before ss s t why up some h g =
@@ -204,12 +193,6 @@ above_before ss s t why up some h g =
     (λ lt. lt)
     (λ le. let none : refusal_by s ≡ None = (from_before ss s (in_before ss s t up h g le)).1 in absurd (none-some why (sym none ∙ some)))
     (cases_lt t.0 s.0)
-
--- a clash of these nodes is one of those, if its two nodes are
-clash_among : (ns ms : List (ℕ × NodeRef)) (at : ℕ) → ((n : ℕ × NodeRef) → Contains ns n → n.0 ≤ at → Contains ms n) → IsClashAt ns at → IsClashAt ms at
-clash_among ns ms at moves c =
-    let lt : c.1 < at = c.5 in
-    (c.0, c.1, c.2, moves (at, c.0) c.3 (omega arith), moves (c.1, c.2) c.4 (omega arith), c.5, c.6)
 
 -- the first node that clashes with one before it
 module _ (e : Endian) (size : ℕ) (image : List ℕ) (pre post : List (ℕ × NodeRef)) (addr : ℕ) (node : NodeRef) (up : Rises (sightings e size image)) (is : nodes_before_refusal e size image ≡ pre ++ (addr, node) ∷ post) where
@@ -275,6 +258,12 @@ clash_is_first e size image pre post addr node below other scannable ascends is 
     let up = rises (sightings e size image) ascends in
     (scannable, (refl, clash_here e size image pre post addr node up is below other h clash), least_clash e size image pre post addr node up is none)
 
+-- and so it is where a loop over them stops
+pub first_clash_answers : (e : Endian) (size : ℕ) (image : List ℕ) (addr : ℕ) → IsScannable size image → Ascends (sightings e size image)
+    → FirstClash (nodes_before_refusal e size image) addr → Answers e size image (Err (fault.Clash addr))
+first_clash_answers e size image addr scannable ascends c =
+    clash_is_first e size image c.0 c.2 addr c.1 c.5.0 c.5.1 scannable ascends c.3 c.4 c.5.2 c.5.3
+
 -- ---- an image without a clash in front of its refusal
 
 -- a refusal as a fault of mounting
@@ -323,12 +312,12 @@ module _ (e : Endian) (size : ℕ) (image : List ℕ) (up : Rises (sightings e s
   clash_below addr front at c =
       ⊎_elim
       (λ lt. absurd (none at (clash_among (nodes e size image) (nodes_before_refusal e size image) at
-          (λ n h le.
-          let found = sighted_from (sightings e size image) n h in
-          let same : found.0.0 ≡ n.0 = found.3 in
-          let low : found.0.0 < addr = omega arith in
-          Contains-filter_map node_sighted (before_refusal (sightings e size image)) found.0 n (front found.0 found.1 low) found.2)
-          c)))
+      (λ n h le.
+      let found = sighted_from (sightings e size image) n h in
+      let same : found.0.0 ≡ n.0 = found.3 in
+      let low : found.0.0 < addr = omega arith in
+      Contains-filter_map node_sighted (before_refusal (sightings e size image)) found.0 n (front found.0 found.1 low) found.2)
+      c)))
       (λ le. le)
       (cases_lt at addr)
 
@@ -349,13 +338,17 @@ module _ (e : Endian) (size : ℕ) (image : List ℕ) (up : Rises (sightings e s
       → IsRefusalOf s.0 s.1 why → Answers e size image (Err (refusal_fault why))
   unfolding IsRefusalOf
   first_by scannable (scan.Incompatible addr nodetype) s h front is =
-      let here : ◌≡◌ {A = ℕ × Seen} s (addr, seen.Incompatible nodetype) = λ i. (is.0 i, is.1 i) in
-      (scannable, (refl, subst (λ (t : ℕ × Seen). Contains (sightings e size image) t) here h),
-        least_refusal addr (λ t g lt. front t g (omega (arith, is.0))))
+      let here : ◌≡◌ {A = ℕ × Seen} s (addr, seen.Incompatible nodetype) = λ i. (is.0 i, is.1 i) in (
+        scannable,
+        (refl, subst (λ (t : ℕ × Seen). Contains (sightings e size image) t) here h),
+        least_refusal addr (λ t g lt. front t g (omega (arith, is.0))),
+      )
   first_by scannable (scan.Compressed addr compr) s h front is =
-      let here : ◌≡◌ {A = ℕ × Seen} s (addr, seen.Compressed compr) = λ i. (is.0 i, is.1 i) in
-      (scannable, (refl, subst (λ (t : ℕ × Seen). Contains (sightings e size image) t) here h),
-        least_refusal addr (λ t g lt. front t g (omega (arith, is.0))))
+      let here : ◌≡◌ {A = ℕ × Seen} s (addr, seen.Compressed compr) = λ i. (is.0 i, is.1 i) in (
+        scannable,
+        (refl, subst (λ (t : ℕ × Seen). Contains (sightings e size image) t) here h),
+        least_refusal addr (λ t g lt. front t g (omega (arith, is.0))),
+      )
   first_by scannable scan.BlockSize s h front is = absurd is
   first_by scannable scan.TooLarge s h front is = absurd is
   first_by scannable scan.OutOfMemory s h front is = absurd is
@@ -421,289 +414,3 @@ module _ (e : Endian) (size : ℕ) (image : List ℕ) (unrefused : first_refused
 
 pub none_is_sound : (e : Endian) (size : ℕ) (image : List ℕ) → IsScannable size image → first_refused e size image ≡ None → HasNoClash (nodes e size image) → IsSound e size image
 none_is_sound e size image scannable unrefused none = (scannable, none_stands e size image unrefused none)
-
--- ---- clashes
-
-pub clashes_sym : (a b : NodeRef) → Clashes a b → Clashes b a
-clashes_sym (Entry a) (Entry b) c = record { directory = sym c.directory; name = sym c.name; version = sym c.version; contents = λ (e : b ≡ a). c.contents (sym e) }
-clashes_sym (Inode a) (Inode b) c = record { ino = sym c.ino; version = sym c.version; contents = λ (e : b ≡ a). c.contents (sym e) }
-clashes_sym (Entry a) (Inode b) c = c
-clashes_sym (Inode a) (Entry b) c = c
-
--- ---- entries and inode nodes apart
-
--- the nodes of a list, without their addresses
-abbrev plain : List (ℕ × NodeRef) → List NodeRef
-plain ns = map (λ n. n.1) ns
-
-entry_is : (node : NodeRef) (entry : Dirent) → entry_in node ≡ Some entry → node ≡ Entry entry
-entry_is (Entry a) entry is = ap Entry (same_Some a entry is)
-entry_is (Inode a) entry is = absurd (none-some entry is)
-
-inode_is : (node : NodeRef) (inode : InodeNode) → inode_in node ≡ Some inode → node ≡ Inode inode
-inode_is (Entry a) inode is = absurd (none-some inode is)
-inode_is (Inode a) inode is = ap Inode (same_Some a inode is)
-
-pub in_entries : (ns : List NodeRef) (entry : Dirent) → Contains ns (Entry entry) → Contains (entries ns) entry
-in_entries ns entry h = Contains-filter_map entry_in ns (Entry entry) entry h refl
-
-pub in_inodes : (ns : List NodeRef) (inode : InodeNode) → Contains ns (Inode inode) → Contains (inodes ns) inode
-in_inodes ns inode h = Contains-filter_map inode_in ns (Inode inode) inode h refl
-
-pub from_entries : (ns : List NodeRef) (entry : Dirent) → Contains (entries ns) entry → Contains ns (Entry entry)
-from_entries ns entry h =
-    let found = Contains-filter_map_from entry_in ns entry h in
-    subst (λ (node : NodeRef). Contains ns node) (entry_is found.0 entry found.2) found.1
-
-pub from_inodes : (ns : List NodeRef) (inode : InodeNode) → Contains (inodes ns) inode → Contains ns (Inode inode)
-from_inodes ns inode h =
-    let found = Contains-filter_map_from inode_in ns inode h in
-    subst (λ (node : NodeRef). Contains ns node) (inode_is found.0 inode found.2) found.1
-
--- where no entries clash and no inode nodes, no nodes do
-plain_apart : (ns : List NodeRef) → names.NoClashes (entries ns) → NoClashes (inodes ns) → (a b : NodeRef) → Contains ns a → Contains ns b → Clashes a b → ⊥
-plain_apart ns of_entries of_inodes (Entry a) (Entry b) h g c = of_entries b (in_entries ns b g) a (in_entries ns a h) c
-plain_apart ns of_entries of_inodes (Inode a) (Inode b) h g c = of_inodes b (in_inodes ns b g) a (in_inodes ns a h) c
-plain_apart ns of_entries of_inodes (Entry a) (Inode b) h g c = c
-plain_apart ns of_entries of_inodes (Inode a) (Entry b) h g c = c
-
-pub tables_have_no_clash : (ns : List (ℕ × NodeRef)) → names.NoClashes (entries (map (λ n. n.1) ns)) → NoClashes (inodes (map (λ n. n.1) ns)) → HasNoClash ns
-tables_have_no_clash ns of_entries of_inodes at c =
-    plain_apart (plain ns) of_entries of_inodes c.0 c.2
-    (Contains-map (λ (n : ℕ × NodeRef). n.1) ns (at, c.0) c.3) (Contains-map (λ (n : ℕ × NodeRef). n.1) ns (c.1, c.2) c.4) c.6
-
--- a node of these that clashes with this one
-abbrev pub ClashesIn : List (ℕ × NodeRef) → NodeRef → Type 0
-ClashesIn ns node = (below : ℕ) × (other : NodeRef) × Contains ns (below, other) × Clashes node other
-
-with_address : (ns : List (ℕ × NodeRef)) (node other : NodeRef) → Contains (plain ns) other → Clashes other node → ClashesIn ns node
-with_address ns node other h c =
-    let found = Contains-map_from (λ (n : ℕ × NodeRef). n.1) ns other h in
-    (
-      found.0.0,
-      other,
-      subst (λ (m : NodeRef). Contains ns (found.0.0, m)) found.2 found.1,
-      clashes_sym other node c,
-    )
-
-pub entry_clashes_in : (ns : List (ℕ × NodeRef)) (entry : Dirent) → names.SomeClashes (entries (map (λ n. n.1) ns)) entry → ClashesIn ns (Entry entry)
-entry_clashes_in ns entry some = with_address ns (Entry entry) (Entry some.0) (from_entries (plain ns) some.0 some.1) some.2
-
-pub inode_clashes_in : (ns : List (ℕ × NodeRef)) (inode : InodeNode) → SomeClashes (inodes (map (λ n. n.1) ns)) inode → ClashesIn ns (Inode inode)
-inode_clashes_in ns inode some = with_address ns (Inode inode) (Inode some.0) (from_inodes (plain ns) some.0 some.1) some.2
-
--- ---- nodes gathered in order, entries and inode nodes apart
-
--- what was gathered of these nodes, of which no two clash
-pub record Gathered (gained : List Dirent) (kept : List InodeNode) (ns : List (ℕ × NodeRef)) : Type 0 where
-  pub same_entries : (x : Dirent) → Contains gained x ↔ Contains (entries (map (λ n. n.1) ns)) x
-  pub same_inodes : (x : InodeNode) → Contains kept x ↔ Contains (inodes (map (λ n. n.1) ns)) x
-  pub entries_apart : names.NoClashes gained
-  pub inodes_apart : NoClashes kept
-
-pub gathered_none : Gathered [] [] []
-gathered_none = record {
-  same_entries = λ x. (λ h. h, λ h. h);
-  same_inodes = λ x. (λ h. h, λ h. h);
-  entries_apart = λ entry h other g c. Contains-none entry h;
-  inodes_apart = λ node h other g c. Contains-none node h;
-}
-
-entries_push : (ns : List (ℕ × NodeRef)) (addr : ℕ) (node : NodeRef) → entries (plain (ns ++ (addr, node) ∷ [])) ≡ entries (plain ns) ++ entries (node ∷ [])
-entries_push ns addr node = ap (filter_map entry_in) (map_push (λ (n : ℕ × NodeRef). n.1) ns (addr, node)) ∙ filter_map-append entry_in (plain ns) (node ∷ [])
-
-inodes_push : (ns : List (ℕ × NodeRef)) (addr : ℕ) (node : NodeRef) → inodes (plain (ns ++ (addr, node) ∷ [])) ≡ inodes (plain ns) ++ inodes (node ∷ [])
-inodes_push ns addr node = ap (filter_map inode_in) (map_push (λ (n : ℕ × NodeRef). n.1) ns (addr, node)) ∙ filter_map-append inode_in (plain ns) (node ∷ [])
-
--- one more on both sides
-same_push : {X : Type 0} (old new all : List X) (y : X) → ((x : X) → Contains old x ↔ Contains all x) → ((x : X) → Contains new x ↔ (Contains old x ⊎ (x ≡ y)))
-    → (x : X) → Contains new x ↔ Contains (all ++ y ∷ []) x
-same_push {X} old new all y same gains x = (
-  λ h.
-  ⊎_elim
-  (λ was. Contains-append_left all (y ∷ []) x ((same x).0 was))
-  (λ (is : x ≡ y). subst (λ (z : X). Contains (all ++ y ∷ []) z) (sym is) (Contains-push all y))
-  ((gains x).0 h),
-  λ h.
-  ⊎_elim
-  (λ was. (gains x).1 (inl ((same x).1 was)))
-  (λ (is : y ≡ x). (gains x).1 (inr (sym is)))
-  (Contains-push_cases all y x h),
-)
-
-pub gathered_entry : (gained more : List Dirent) (kept : List InodeNode) (ns : List (ℕ × NodeRef)) (addr : ℕ) (entry : Dirent)
-    → Gathered gained kept ns → Gains gained more entry → names.NoneClashes gained entry → Gathered more kept (ns ++ (addr, Entry entry) ∷ [])
-gathered_entry gained more kept ns addr entry before gains none = record {
-  same_entries =
-      subst (λ (l : List Dirent). (x : Dirent) → Contains more x ↔ Contains l x) (sym (entries_push ns addr (Entry entry)))
-      (same_push gained more (entries (plain ns)) entry before.same_entries gains);
-  same_inodes =
-      subst (λ (l : List InodeNode). (x : InodeNode) → Contains kept x ↔ Contains l x) (sym (inodes_push ns addr (Entry entry) ∙ append-nil (inodes (plain ns))))
-      before.same_inodes;
-  entries_apart = λ a h b g c.
-      ⊎_elim
-      (λ a_was.
-      ⊎_elim
-      (λ b_was. before.entries_apart a a_was b b_was c)
-      (λ (b_is : b ≡ entry). none a a_was (names_sym b_is c))
-      ((gains b).0 g))
-      (λ (a_is : a ≡ entry).
-      ⊎_elim
-      (λ b_was. none b b_was (subst (λ (z : Dirent). names.Clashes b z) a_is c))
-      (λ (b_is : b ≡ entry). c.contents (b_is ∙ sym a_is))
-      ((gains b).0 g))
-      ((gains a).0 h);
-  inodes_apart = before.inodes_apart;
-}
-  where
-    names_sym : {a b : Dirent} → b ≡ entry → names.Clashes b a → names.Clashes a entry
-    names_sym {a} {b} is c =
-        let turned : names.Clashes a b = clashes_sym (Entry b) (Entry a) c in
-        subst (λ (z : Dirent). names.Clashes a z) is turned
-
-pub gathered_inode : (gained : List Dirent) (kept more : List InodeNode) (ns : List (ℕ × NodeRef)) (addr : ℕ) (node : InodeNode)
-    → Gathered gained kept ns → ((x : InodeNode) → Contains more x ↔ (Contains kept x ⊎ (x ≡ node))) → NoneClashes kept node
-    → Gathered gained more (ns ++ (addr, Inode node) ∷ [])
-gathered_inode gained kept more ns addr node before gains none = record {
-  same_entries =
-      subst (λ (l : List Dirent). (x : Dirent) → Contains gained x ↔ Contains l x) (sym (entries_push ns addr (Inode node) ∙ append-nil (entries (plain ns))))
-      before.same_entries;
-  same_inodes =
-      subst (λ (l : List InodeNode). (x : InodeNode) → Contains more x ↔ Contains l x) (sym (inodes_push ns addr (Inode node)))
-      (same_push kept more (inodes (plain ns)) node before.same_inodes gains);
-  entries_apart = before.entries_apart;
-  inodes_apart = λ a h b g c.
-      ⊎_elim
-      (λ a_was.
-      ⊎_elim
-      (λ b_was. before.inodes_apart a a_was b b_was c)
-      (λ (b_is : b ≡ node). none a a_was (inodes_sym b_is c))
-      ((gains b).0 g))
-      (λ (a_is : a ≡ node).
-      ⊎_elim
-      (λ b_was. none b b_was (subst (λ (z : InodeNode). InodesClash b z) a_is c))
-      (λ (b_is : b ≡ node). c.contents (b_is ∙ sym a_is))
-      ((gains b).0 g))
-      ((gains a).0 h);
-}
-  where
-    inodes_sym : {a b : InodeNode} → b ≡ node → InodesClash b a → InodesClash a node
-    inodes_sym {a} {b} is c =
-        let turned : InodesClash a b = clashes_sym (Inode b) (Inode a) c in
-        subst (λ (z : InodeNode). InodesClash a z) is turned
-
--- ---- what was gathered, as a fact on the nodes themselves
-
-pub gathered_entries_apart : (gained : List Dirent) (kept : List InodeNode) (ns : List (ℕ × NodeRef)) → Gathered gained kept ns → names.NoClashes (entries (map (λ n. n.1) ns))
-gathered_entries_apart gained kept ns all a h b g c = all.entries_apart a ((all.same_entries a).1 h) b ((all.same_entries b).1 g) c
-
-pub gathered_inodes_apart : (gained : List Dirent) (kept : List InodeNode) (ns : List (ℕ × NodeRef)) → Gathered gained kept ns → NoClashes (inodes (map (λ n. n.1) ns))
-gathered_inodes_apart gained kept ns all a h b g c = all.inodes_apart a ((all.same_inodes a).1 h) b ((all.same_inodes b).1 g) c
-
-pub gathered_has_no_clash : (gained : List Dirent) (kept : List InodeNode) (ns : List (ℕ × NodeRef)) → Gathered gained kept ns → HasNoClash ns
-gathered_has_no_clash gained kept ns all = tables_have_no_clash ns (gathered_entries_apart gained kept ns all) (gathered_inodes_apart gained kept ns all)
-
-pub gathered_entry_clashes : (gained : List Dirent) (kept : List InodeNode) (ns : List (ℕ × NodeRef)) (entry : Dirent) → Gathered gained kept ns
-    → names.SomeClashes gained entry → ClashesIn ns (Entry entry)
-gathered_entry_clashes gained kept ns entry all some = entry_clashes_in ns entry (some.0, (all.same_entries some.0).0 some.1, some.2)
-
-pub gathered_inode_clashes : (gained : List Dirent) (kept : List InodeNode) (ns : List (ℕ × NodeRef)) (node : InodeNode) → Gathered gained kept ns
-    → SomeClashes kept node → ClashesIn ns (Inode node)
-gathered_inode_clashes gained kept ns node all some = inode_clashes_in ns node (some.0, (all.same_inodes some.0).0 some.1, some.2)
-
--- without a refusal these are all nodes
-pub gathered_all_nodes : (e : Endian) (size : ℕ) (image : List ℕ) (gained : List Dirent) (kept : List InodeNode) → first_refused e size image ≡ None
-    → Gathered gained kept (nodes_before_refusal e size image) → Gathered gained kept (nodes e size image)
-gathered_all_nodes e size image gained kept none all = subst (λ (ns : List (ℕ × NodeRef)). Gathered gained kept ns) (nodes_are_all e size image none) all
-
--- ---- the first of a list that clashes with one before it
-
-abbrev pub FirstClash : List (ℕ × NodeRef) → ℕ → Type 0
-FirstClash ns addr =
-    (pre : List (ℕ × NodeRef)) × (node : NodeRef) × (post : List (ℕ × NodeRef))
-    × (ns ≡ pre ++ (addr, node) ∷ post) × HasNoClash pre × ClashesIn pre node
-
--- the parts of a list on either side of one of it
-sides : {X : Type 0} (xs : List X) (i : ℕ) (x : X) → i < length xs → x ≡ get_or xs i x → xs ≡ take i xs ++ x ∷ drop (i + 1) xs
-sides {X} xs i x lt is =
-    sym (take-append-drop i xs) ∙ ap (λ (l : List X). take i xs ++ l) (drop_more xs i x lt ∙ ap (λ (y : X). y ∷ drop (i + 1) xs) (sym is))
-
-more_at : {X : Type 0} (xs : List X) (i : ℕ) (x y : X) → i < length xs → x ≡ get_or xs i x → x ≡ y → take (i + 1) xs ≡ take i xs ++ y ∷ []
-more_at {X} xs i x y lt is same = take_more xs i x lt ∙ ap (λ (z : X). take i xs ++ z ∷ []) (sym is ∙ same)
-
--- the node at i is this entry or inode node
-abbrev pub IsNodeAt : List (ℕ × NodeRef) → ℕ → ℕ × NodeRef → NodeRef → Type 0
-IsNodeAt ns i n node = (i < length ns) × (n ≡ get_or ns i n) × (n.1 ≡ node)
-
-with_node : (n : ℕ × NodeRef) (node : NodeRef) → n.1 ≡ node → n ≡ (n.0, node)
-with_node n node is = ap (λ (m : NodeRef). (n.0, m)) is
-
-pub gathered_entry_at : (gained more : List Dirent) (kept : List InodeNode) (ns : List (ℕ × NodeRef)) (i : ℕ) (n : ℕ × NodeRef) (entry : Dirent)
-    → Gathered gained kept (take i ns) → IsNodeAt ns i n (Entry entry) → Gains gained more entry → names.NoneClashes gained entry
-    → Gathered more kept (take (i + 1) ns)
-gathered_entry_at gained more kept ns i n entry before at gains none =
-    subst (λ (l : List (ℕ × NodeRef)). Gathered more kept l) (sym (more_at ns i n (n.0, Entry entry) at.0 at.1 (with_node n (Entry entry) at.2)))
-    (gathered_entry gained more kept (take i ns) n.0 entry before gains none)
-
-pub gathered_inode_at : (gained : List Dirent) (kept more : List InodeNode) (ns : List (ℕ × NodeRef)) (i : ℕ) (n : ℕ × NodeRef) (node : InodeNode)
-    → Gathered gained kept (take i ns) → IsNodeAt ns i n (Inode node) → ((x : InodeNode) → Contains more x ↔ (Contains kept x ⊎ (x ≡ node))) → NoneClashes kept node
-    → Gathered gained more (take (i + 1) ns)
-gathered_inode_at gained kept more ns i n node before at gains none =
-    subst (λ (l : List (ℕ × NodeRef)). Gathered gained more l) (sym (more_at ns i n (n.0, Inode node) at.0 at.1 (with_node n (Inode node) at.2)))
-    (gathered_inode gained kept more (take i ns) n.0 node before gains none)
-
-pub gathered_end : (gained : List Dirent) (kept : List InodeNode) (ns : List (ℕ × NodeRef)) (i : ℕ) → Gathered gained kept (take i ns) → length ns ≤ i → Gathered gained kept ns
-gathered_end gained kept ns i all le = subst (λ (l : List (ℕ × NodeRef)). Gathered gained kept l) (take_all i ns le) all
-
-first_clash_at : (gained : List Dirent) (kept : List InodeNode) (ns : List (ℕ × NodeRef)) (i : ℕ) (n : ℕ × NodeRef) (node : NodeRef)
-    → Gathered gained kept (take i ns) → IsNodeAt ns i n node → ClashesIn (take i ns) node → FirstClash ns n.0
-first_clash_at gained kept ns i n node before at clash = (
-  take i ns,
-  node,
-  drop (i + 1) ns,
-  sides ns i n at.0 at.1 ∙ ap (λ (m : ℕ × NodeRef). take i ns ++ m ∷ drop (i + 1) ns) (with_node n node at.2),
-  gathered_has_no_clash gained kept (take i ns) before,
-  clash,
-)
-
-pub entry_clashes_first : (gained : List Dirent) (kept : List InodeNode) (ns : List (ℕ × NodeRef)) (i : ℕ) (n : ℕ × NodeRef) (entry : Dirent)
-    → Gathered gained kept (take i ns) → IsNodeAt ns i n (Entry entry) → names.SomeClashes gained entry → FirstClash ns n.0
-entry_clashes_first gained kept ns i n entry before at some =
-    first_clash_at gained kept ns i n (Entry entry) before at (gathered_entry_clashes gained kept (take i ns) entry before some)
-
-pub inode_clashes_first : (gained : List Dirent) (kept : List InodeNode) (ns : List (ℕ × NodeRef)) (i : ℕ) (n : ℕ × NodeRef) (node : InodeNode)
-    → Gathered gained kept (take i ns) → IsNodeAt ns i n (Inode node) → SomeClashes kept node → FirstClash ns n.0
-inode_clashes_first gained kept ns i n node before at some =
-    first_clash_at gained kept ns i n (Inode node) before at (gathered_inode_clashes gained kept (take i ns) node before some)
-
--- ---- answers
-
-pub entry_clash_answers : (e : Endian) (size : ℕ) (image : List ℕ) (gained : List Dirent) (kept : List InodeNode) (pre post : List (ℕ × NodeRef)) (addr : ℕ) (entry : Dirent)
-    → IsScannable size image → Ascends (sightings e size image) → nodes_before_refusal e size image ≡ pre ++ (addr, Entry entry) ∷ post
-    → Gathered gained kept pre → names.SomeClashes gained entry → Answers e size image (Err (fault.Clash addr))
-entry_clash_answers e size image gained kept pre post addr entry scannable ascends is all some =
-    let found = gathered_entry_clashes gained kept pre entry all some in
-    clash_is_first e size image pre post addr (Entry entry) found.0 found.1 scannable ascends is (gathered_has_no_clash gained kept pre all) found.2 found.3
-
-pub inode_clash_answers : (e : Endian) (size : ℕ) (image : List ℕ) (gained : List Dirent) (kept : List InodeNode) (pre post : List (ℕ × NodeRef)) (addr : ℕ) (node : InodeNode)
-    → IsScannable size image → Ascends (sightings e size image) → nodes_before_refusal e size image ≡ pre ++ (addr, Inode node) ∷ post
-    → Gathered gained kept pre → SomeClashes kept node → Answers e size image (Err (fault.Clash addr))
-inode_clash_answers e size image gained kept pre post addr node scannable ascends is all some =
-    let found = gathered_inode_clashes gained kept pre node all some in
-    clash_is_first e size image pre post addr (Inode node) found.0 found.1 scannable ascends is (gathered_has_no_clash gained kept pre all) found.2 found.3
-
-pub gathered_refusal_answers : (e : Endian) (size : ℕ) (image : List ℕ) (gained : List Dirent) (kept : List InodeNode) (why : ScanFault)
-    → IsScannable size image → Ascends (sightings e size image) → Gathered gained kept (nodes_before_refusal e size image)
-    → first_refused e size image ≡ Some why → Answers e size image (Err (refusal_fault why))
-gathered_refusal_answers e size image gained kept why scannable ascends all some =
-    refusal_answers e size image why scannable ascends (gathered_has_no_clash gained kept (nodes_before_refusal e size image) all) some
-
-pub gathered_is_sound : (e : Endian) (size : ℕ) (image : List ℕ) (gained : List Dirent) (kept : List InodeNode)
-    → IsScannable size image → first_refused e size image ≡ None → Gathered gained kept (nodes_before_refusal e size image) → IsSound e size image
-gathered_is_sound e size image gained kept scannable none all =
-    none_is_sound e size image scannable none (subst (λ (ns : List (ℕ × NodeRef)). HasNoClash ns) (nodes_are_all e size image none) (gathered_has_no_clash gained kept (nodes_before_refusal e size image) all))
-
-pub first_clash_answers : (e : Endian) (size : ℕ) (image : List ℕ) (addr : ℕ) → IsScannable size image → Ascends (sightings e size image)
-    → FirstClash (nodes_before_refusal e size image) addr → Answers e size image (Err (fault.Clash addr))
-first_clash_answers e size image addr scannable ascends c =
-    clash_is_first e size image c.0 c.2 addr c.1 c.5.0 c.5.1 scannable ascends c.3 c.4 c.5.2 c.5.3

@@ -1,1 +1,3 @@
+pub mod ClashLemmas
 pub mod FaultLemmas
+pub mod GatheredLemmas
