@@ -1,0 +1,96 @@
+-- Nodes that clash, their entries and inode nodes apart.
+use Rattle.std.proofs.Common.{◌≡◌, ℕ, ◌<◌, ◌≤◌, List, ◌∷◌, ◌++◌, Some, refl, sym, ap, subst, arith}
+use Rattle.std.specs.Prelude.{Contains, map}
+use Rattle.std.proofs.lemmas.Option.{same_Some, none-some}
+use Rattle.jnode.specs.declared.node.Dirent.{Dirent}
+use Rattle.jnode.specs.declared.node.InodeNode.{InodeNode}
+use Rattle.jnode.specs.declared.node.NodeRef.{NodeRef}
+use Rattle.jnode.specs.declared.node.NodeRef.TheVariants.{Entry, Inode}
+use Rattle.jname.specs.Clash as names
+use Rattle.jname.proofs.MemberLemmas.{Contains-map, Contains-map_from}
+use Rattle.jname.proofs.SortedLemmas.{Contains-filter_map, Contains-filter_map_from}
+use Rattle.jmount.specs.Clash.{Clashes, SomeClashes, NoClashes, IsClashAt}
+use Rattle.jmount.specs.StateOf.{inode_in, entry_in, inodes, entries}
+
+-- no node of these clashes with one below it
+abbrev pub HasNoClash : List (ℕ × NodeRef) → Type 0
+HasNoClash ns = (at : ℕ) → IsClashAt ns at → ⊥
+
+-- a node of these that clashes with this one
+abbrev pub ClashesIn : List (ℕ × NodeRef) → NodeRef → Type 0
+ClashesIn ns node = (below : ℕ) × (other : NodeRef) × Contains ns (below, other) × Clashes node other
+
+-- the first of a list that clashes with one before it, at this address
+abbrev pub FirstClash : List (ℕ × NodeRef) → ℕ → Type 0
+FirstClash ns addr =
+    (pre : List (ℕ × NodeRef)) × (node : NodeRef) × (post : List (ℕ × NodeRef))
+    × (ns ≡ pre ++ (addr, node) ∷ post) × HasNoClash pre × ClashesIn pre node
+
+-- a clash of these nodes is one of those, if its two nodes are
+pub clash_among : (ns ms : List (ℕ × NodeRef)) (at : ℕ) → ((n : ℕ × NodeRef) → Contains ns n → n.0 ≤ at → Contains ms n) → IsClashAt ns at → IsClashAt ms at
+clash_among ns ms at moves c =
+    let lt : c.1 < at = c.5 in
+    (c.0, c.1, c.2, moves (at, c.0) c.3 (omega arith), moves (c.1, c.2) c.4 (omega arith), c.5, c.6)
+
+pub clashes_sym : (a b : NodeRef) → Clashes a b → Clashes b a
+clashes_sym (Entry a) (Entry b) c = record { directory = sym c.directory; name = sym c.name; version = sym c.version; contents = λ (e : b ≡ a). c.contents (sym e) }
+clashes_sym (Inode a) (Inode b) c = record { ino = sym c.ino; version = sym c.version; contents = λ (e : b ≡ a). c.contents (sym e) }
+clashes_sym (Entry a) (Inode b) c = c
+clashes_sym (Inode a) (Entry b) c = c
+
+-- ---- entries and inode nodes apart
+
+-- the nodes of a list, without their addresses
+abbrev pub plain : List (ℕ × NodeRef) → List NodeRef
+plain ns = map (λ n. n.1) ns
+
+entry_is : (node : NodeRef) (entry : Dirent) → entry_in node ≡ Some entry → node ≡ Entry entry
+entry_is (Entry a) entry is = ap Entry (same_Some a entry is)
+entry_is (Inode a) entry is = absurd (none-some entry is)
+
+inode_is : (node : NodeRef) (inode : InodeNode) → inode_in node ≡ Some inode → node ≡ Inode inode
+inode_is (Entry a) inode is = absurd (none-some inode is)
+inode_is (Inode a) inode is = ap Inode (same_Some a inode is)
+
+pub in_entries : (ns : List NodeRef) (entry : Dirent) → Contains ns (Entry entry) → Contains (entries ns) entry
+in_entries ns entry h = Contains-filter_map entry_in ns (Entry entry) entry h refl
+
+pub in_inodes : (ns : List NodeRef) (inode : InodeNode) → Contains ns (Inode inode) → Contains (inodes ns) inode
+in_inodes ns inode h = Contains-filter_map inode_in ns (Inode inode) inode h refl
+
+pub from_entries : (ns : List NodeRef) (entry : Dirent) → Contains (entries ns) entry → Contains ns (Entry entry)
+from_entries ns entry h =
+    let found = Contains-filter_map_from entry_in ns entry h in
+    subst (λ (node : NodeRef). Contains ns node) (entry_is found.0 entry found.2) found.1
+
+pub from_inodes : (ns : List NodeRef) (inode : InodeNode) → Contains (inodes ns) inode → Contains ns (Inode inode)
+from_inodes ns inode h =
+    let found = Contains-filter_map_from inode_in ns inode h in
+    subst (λ (node : NodeRef). Contains ns node) (inode_is found.0 inode found.2) found.1
+
+-- where no entries clash and no inode nodes, no nodes do
+plain_apart : (ns : List NodeRef) → names.NoClashes (entries ns) → NoClashes (inodes ns) → (a b : NodeRef) → Contains ns a → Contains ns b → Clashes a b → ⊥
+plain_apart ns of_entries of_inodes (Entry a) (Entry b) h g c = of_entries b (in_entries ns b g) a (in_entries ns a h) c
+plain_apart ns of_entries of_inodes (Inode a) (Inode b) h g c = of_inodes b (in_inodes ns b g) a (in_inodes ns a h) c
+plain_apart ns of_entries of_inodes (Entry a) (Inode b) h g c = c
+plain_apart ns of_entries of_inodes (Inode a) (Entry b) h g c = c
+
+pub tables_have_no_clash : (ns : List (ℕ × NodeRef)) → names.NoClashes (entries (map (λ n. n.1) ns)) → NoClashes (inodes (map (λ n. n.1) ns)) → HasNoClash ns
+tables_have_no_clash ns of_entries of_inodes at c =
+    plain_apart (plain ns) of_entries of_inodes c.0 c.2
+    (Contains-map (λ (n : ℕ × NodeRef). n.1) ns (at, c.0) c.3) (Contains-map (λ (n : ℕ × NodeRef). n.1) ns (c.1, c.2) c.4) c.6
+
+with_address : (ns : List (ℕ × NodeRef)) (node other : NodeRef) → Contains (plain ns) other → Clashes other node → ClashesIn ns node
+with_address ns node other h c =
+    let found = Contains-map_from (λ (n : ℕ × NodeRef). n.1) ns other h in (
+      found.0.0,
+      other,
+      subst (λ (m : NodeRef). Contains ns (found.0.0, m)) found.2 found.1,
+      clashes_sym other node c,
+    )
+
+pub entry_clashes_in : (ns : List (ℕ × NodeRef)) (entry : Dirent) → names.SomeClashes (entries (map (λ n. n.1) ns)) entry → ClashesIn ns (Entry entry)
+entry_clashes_in ns entry some = with_address ns (Entry entry) (Entry some.0) (from_entries (plain ns) some.0 some.1) some.2
+
+pub inode_clashes_in : (ns : List (ℕ × NodeRef)) (inode : InodeNode) → SomeClashes (inodes (map (λ n. n.1) ns)) inode → ClashesIn ns (Inode inode)
+inode_clashes_in ns inode some = with_address ns (Inode inode) (Inode some.0) (from_inodes (plain ns) some.0 some.1) some.2
