@@ -10,6 +10,7 @@
 mod fault;
 mod mounted;
 mod object;
+mod path;
 mod stored;
 
 pub use crate::fault::{FindFault, MountFault};
