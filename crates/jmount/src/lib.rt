@@ -11,6 +11,7 @@ mod fault;
 mod mounted;
 mod object;
 mod path;
+mod shown;
 mod stored;
 
 pub use crate::fault::{FindFault, MountFault};

@@ -1,12 +1,22 @@
 //! A mounted image.
 
-ghost use Rattle.std.specs.Prelude.{◌≡◌};
+ghost use Rattle.std.specs.Prelude.{◌≡◌, option_map};
+ghost use Rattle.jmount.specs.Tree as tree;
+ghost use Rattle.jmount.specs.Find as walk;
+ghost use Rattle.jmount.specs.Shown.{shown};
 
+use crate::fault::FindFault;
+use crate::object::Object;
+use crate::path;
+use crate::shown::{self, shown};
 use crate::stored::Stored;
 use jname::Names;
 use jscan::Finding;
 use std::collections::BTreeMap;
 use std::marker::Model;
+
+// The root's number.
+const ROOT: u32 = 1;
 
 /// A mounted image: its bytes, and the file system that its nodes make.
 #[derive(Drop)]
@@ -56,5 +66,78 @@ impl<'a> Mounted<'a> {
         ensures { result ≡ self.now.read_only }
     {
         self.read_only
+    }
+
+    /// The object of a number.
+    pub fn object(&self, ino: u32) -> Option<Object>
+        ensures { result ≡ option_map shown (tree.object self.now.state ino) }
+    {
+        match self.objects.get(&ino) {
+            Some(stored) => Some(shown(stored)),
+            None => None,
+        }
+    }
+
+    /// The number of the object that a path names: `/` the root, else `/` before each name.
+    ///
+    /// The whole text is judged first. Symlinks are not followed. Takes log n steps a name and no memory.
+    ///
+    /// # Errors
+    /// `BadPath`: the text is no path: it does not begin with `/`, or a name in it is empty, `.` or `..`, or has a zero
+    /// byte. Then at the first name where it is so: `NotDirectory`: what stands before the name is no directory.
+    /// `NotFound`: the name does not stand for an object.
+    pub fn find(&self, text: &[u8]) -> Result<u32, FindFault>
+        ensures { result ≡ walk.find self.now.state text.now }
+    {
+        let names = path::after_slash(text).ok_or(FindFault::BadPath)?;
+        if names.is_empty() {
+            return Ok(ROOT);
+        }
+        self.walk(names)
+    }
+
+    /// From the root, name by name, up to the first fault.
+    fn walk(&self, names: &[u8]) -> Result<u32, FindFault>
+        ensures { result ≡ walk.walk self.now.state (walk.parts names.now) (Ok 1) }
+    {
+        let mut here = ROOT;
+        for name in names.split(|b| *b == b'/') {
+            here = self.step(here, name)?;
+        }
+        Ok(here)
+    }
+
+    /// From an object to the one that a name stands for there.
+    fn step(&self, here: u32, name: &[u8]) -> Result<u32, FindFault>
+        ensures { result ≡ walk.step self.now.state here name.now }
+    {
+        if !self.is_directory(here) {
+            return Err(FindFault::NotDirectory);
+        }
+        match self.named(here, name) {
+            Some(ino) if self.is_there(ino) => Ok(ino),
+            _ => Err(FindFault::NotFound),
+        }
+    }
+
+    fn is_directory(&self, ino: u32) -> bool
+        ensures { result ≡ tree.is_directory self.now.state ino }
+    {
+        match self.objects.get(&ino) {
+            Some(stored) => shown::is_directory(stored.mode),
+            None => false,
+        }
+    }
+
+    fn is_there(&self, ino: u32) -> bool
+        ensures { result ≡ tree.is_there self.now.state ino }
+    {
+        self.objects.contains_key(&ino)
+    }
+
+    fn named(&self, dir: u32, name: &[u8]) -> Option<u32>
+        ensures { result ≡ tree.named self.now.state dir name.now }
+    {
+        self.names.get(dir, name)
     }
 }
