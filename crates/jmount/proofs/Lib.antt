@@ -1,2 +1,4 @@
 pub mod PathLemmas
 pub mod StoredLemmas
+pub mod ReadLemmas
+pub mod TopLemmas

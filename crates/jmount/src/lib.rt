@@ -11,6 +11,7 @@ mod fault;
 mod mounted;
 mod object;
 mod path;
+mod read;
 mod shown;
 mod stored;
 

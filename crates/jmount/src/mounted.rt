@@ -1,16 +1,17 @@
 //! A mounted image.
 
-ghost use Rattle.std.specs.Prelude.{◌≡◌, option_map};
+ghost use Rattle.std.specs.Prelude.{◌≡◌, ◌-◌, ◌++◌, option_map, length, min, take, drop};
 ghost use Rattle.jmount.specs.Tree as tree;
 ghost use Rattle.jmount.specs.Find as walk;
-ghost use Rattle.jmount.specs.Shown.{shown};
+ghost use Rattle.jmount.specs.Shown.{shown, readable, top_at};
 
 use crate::fault::FindFault;
 use crate::object::Object;
 use crate::path;
+use crate::read::read_stored;
 use crate::shown::{self, shown};
 use crate::stored::Stored;
-use jname::Names;
+use jname::{All, Names, Of};
 use jscan::Finding;
 use std::collections::BTreeMap;
 use std::marker::Model;
@@ -139,5 +140,49 @@ impl<'a> Mounted<'a> {
         ensures { result ≡ tree.named self.now.state dir name.now }
     {
         self.names.get(dir, name)
+    }
+
+    /// The names of a directory, each with the number that it stands for, in byte order.
+    pub fn entries(&self, dir: u32) -> Of<'_, 'a>
+        ensures { result ≡ tree.entries_in self.now.state dir }
+    {
+        self.names.of(dir)
+    }
+
+    /// All names, each with its directory's number and its own, in order of the directory's number and then in byte order.
+    pub fn names(&self) -> All<'_, 'a>
+        ensures { result ≡ tree.all_entries self.now.state }
+    {
+        self.names.all()
+    }
+
+    /// Reads the bytes of a regular file or a symlink from an offset on: as many as the slice and the size allow, at the
+    /// front of the slice. Answers how many; 0 for what is neither of the two. Takes no memory.
+    pub fn read_at(&self, ino: u32, offset: u64, out: &mut [u8]) -> usize
+        ensures count { result ≡ min (length out.old) (length (readable self.now.state ino) - offset) }
+        ensures bytes { out.new ≡ take result (drop offset (readable self.now.state ino)) ++ drop result out.old }
+    {
+        match self.objects.get(&ino) {
+            Some(stored) => read_stored(stored, offset, out),
+            None => 0,
+        }
+    }
+
+    /// The greatest version of a number, over its inode nodes and the entries of its directory; 0 where there is none.
+    pub fn top(&self, ino: u32) -> u32
+        ensures { result ≡ top_at self.now.tops ino }
+    {
+        let own = match self.objects.get(&ino) {
+            Some(stored) => stored.version,
+            None => 0,
+        };
+        own.max(self.names.highest(ino).unwrap_or(0))
+    }
+
+    /// One more than the greatest number that a node names, the root's among them.
+    pub fn next(&self) -> u64
+        ensures { result ≡ self.now.state.next }
+    {
+        self.next
     }
 }
