@@ -7,3 +7,4 @@ pub mod Codes
 pub mod Shown
 pub mod Stored
 pub mod Paths
+pub mod Walk

@@ -1,9 +1,9 @@
 //! A mounted image.
 
-ghost use Rattle.std.specs.Prelude.{◌≡◌, ◌-◌, ◌++◌, option_map, length, min, take, drop};
+ghost use Rattle.std.specs.Prelude.{◌≡◌, ◌-◌, ◌++◌, IfOk, map, option_map, length, min, take, drop};
 ghost use Rattle.jmount.specs.Tree as tree;
 ghost use Rattle.jmount.specs.Find as walk;
-ghost use Rattle.jmount.specs.Shown.{shown, readable, top_at};
+ghost use Rattle.jmount.specs.Shown.{shown, objects_in, readable, top_at};
 
 use crate::fault::FindFault;
 use crate::object::Object;
@@ -11,8 +11,10 @@ use crate::path;
 use crate::read::read_stored;
 use crate::shown::{self, shown};
 use crate::stored::Stored;
+use crate::walk::Objects;
 use jname::{All, Names, Of};
 use jscan::Finding;
+use std::alloc::{AllocError, Global};
 use std::collections::BTreeMap;
 use std::marker::Model;
 
@@ -154,6 +156,23 @@ impl<'a> Mounted<'a> {
         ensures { result ≡ tree.all_entries self.now.state }
     {
         self.names.all()
+    }
+
+    /// All objects, the root among them, each with its number, in ascending order of number.
+    pub fn objects(&self) -> Objects<'_, 'a>
+        ensures { result ≡ objects_in self.now.state }
+    {
+        Objects::new(&self.objects)
+    }
+
+    /// The names whose objects are missing, each with its directory's number and its own, in order of the directory's
+    /// number and then in byte order. Takes memory for the answer alone.
+    pub fn dangling(&self, alloc: Global) -> Result<Vec<(u32, &[u8], u32)>, AllocError>
+        ensures { IfOk result (λ names. map (λ n. (n.0, n.1.now, n.2)) names.items ≡ tree.dangling self.now.state) }
+    {
+        self.names()
+            .filter(|(_, _, ino)| !self.is_there(*ino))
+            .collect(alloc)
     }
 
     /// Reads the bytes of a regular file or a symlink from an offset on: as many as the slice and the size allow, at the
