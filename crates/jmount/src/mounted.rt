@@ -205,3 +205,6 @@ impl<'a> Mounted<'a> {
         self.next
     }
 }
+
+#[cfg(test)]
+mod tests;
