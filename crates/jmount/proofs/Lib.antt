@@ -1,8 +1,13 @@
 pub mod NumbersLemmas
 pub mod OneMoreLemmas
 pub mod PathLemmas
+pub mod PathNameLemmas
 pub mod SameLemmas
 pub mod StateLemmas
 pub mod ClashLemmas
 pub mod FaultLemmas
 pub mod GatheredLemmas
+pub mod StoredLemmas
+pub mod ReadLemmas
+pub mod TopLemmas
+pub mod WalkLemmas

@@ -9,3 +9,5 @@ pub mod Shown
 pub mod Stored
 pub mod Laws
 pub mod Rows
+pub mod Paths
+pub mod Walk

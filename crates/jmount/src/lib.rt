@@ -12,8 +12,13 @@ pub mod laws;
 mod mounted;
 mod object;
 pub mod rows;
+mod path;
+mod read;
+mod shown;
 mod stored;
+mod walk;
 
 pub use crate::fault::{FindFault, MountFault};
 pub use crate::mounted::Mounted;
 pub use crate::object::{Kind, Object};
+pub use crate::walk::Objects;

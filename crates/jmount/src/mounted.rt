@@ -1,12 +1,25 @@
 //! A mounted image.
 
-ghost use Rattle.std.specs.Prelude.{◌≡◌};
+ghost use Rattle.std.specs.Prelude.{◌≡◌, ◌-◌, ◌++◌, IfOk, map, option_map, length, min, take, drop};
+ghost use Rattle.jmount.specs.Tree as tree;
+ghost use Rattle.jmount.specs.Find as walk;
+ghost use Rattle.jmount.specs.Shown.{shown, objects_in, readable, top_at};
 
+use crate::fault::FindFault;
+use crate::object::Object;
+use crate::path;
+use crate::read::read_stored;
+use crate::shown::{self, shown};
 use crate::stored::Stored;
-use jname::Names;
+use crate::walk::Objects;
+use jname::{All, Names, Of};
 use jscan::Finding;
+use std::alloc::{AllocError, Global};
 use std::collections::BTreeMap;
 use std::marker::Model;
+
+// The root's number.
+const ROOT: u32 = 1;
 
 /// A mounted image: its bytes, and the file system that its nodes make.
 #[derive(Drop)]
@@ -57,4 +70,141 @@ impl<'a> Mounted<'a> {
     {
         self.read_only
     }
+
+    /// The object of a number.
+    pub fn object(&self, ino: u32) -> Option<Object>
+        ensures { result ≡ option_map shown (tree.object self.now.state ino) }
+    {
+        match self.objects.get(&ino) {
+            Some(stored) => Some(shown(stored)),
+            None => None,
+        }
+    }
+
+    /// The number of the object that a path names: `/` the root, else `/` before each name.
+    ///
+    /// The whole text is judged first. Symlinks are not followed. Takes log n steps a name and no memory.
+    ///
+    /// # Errors
+    /// `BadPath`: the text is no path: it does not begin with `/`, or a name in it is empty, `.` or `..`, or has a zero
+    /// byte. Then at the first name where it is so: `NotDirectory`: what stands before the name is no directory.
+    /// `NotFound`: the name does not stand for an object.
+    pub fn find(&self, text: &[u8]) -> Result<u32, FindFault>
+        ensures { result ≡ walk.find self.now.state text.now }
+    {
+        let names = path::after_slash(text).ok_or(FindFault::BadPath)?;
+        if names.is_empty() {
+            return Ok(ROOT);
+        }
+        self.walk(names)
+    }
+
+    /// From the root, name by name, up to the first fault.
+    fn walk(&self, names: &[u8]) -> Result<u32, FindFault>
+        ensures { result ≡ walk.walk self.now.state (walk.parts names.now) (Ok 1) }
+    {
+        let mut here = ROOT;
+        for name in names.split(|b| *b == b'/') {
+            here = self.step(here, name)?;
+        }
+        Ok(here)
+    }
+
+    /// From an object to the one that a name stands for there.
+    fn step(&self, here: u32, name: &[u8]) -> Result<u32, FindFault>
+        ensures { result ≡ walk.step self.now.state here name.now }
+    {
+        if !self.is_directory(here) {
+            return Err(FindFault::NotDirectory);
+        }
+        match self.named(here, name) {
+            Some(ino) if self.is_there(ino) => Ok(ino),
+            _ => Err(FindFault::NotFound),
+        }
+    }
+
+    fn is_directory(&self, ino: u32) -> bool
+        ensures { result ≡ tree.is_directory self.now.state ino }
+    {
+        match self.objects.get(&ino) {
+            Some(stored) => shown::is_directory(stored.mode),
+            None => false,
+        }
+    }
+
+    fn is_there(&self, ino: u32) -> bool
+        ensures { result ≡ tree.is_there self.now.state ino }
+    {
+        self.objects.contains_key(&ino)
+    }
+
+    fn named(&self, dir: u32, name: &[u8]) -> Option<u32>
+        ensures { result ≡ tree.named self.now.state dir name.now }
+    {
+        self.names.get(dir, name)
+    }
+
+    /// The names of a directory, each with the number that it stands for, in byte order.
+    pub fn entries(&self, dir: u32) -> Of<'_, 'a>
+        ensures { result ≡ tree.entries_in self.now.state dir }
+    {
+        self.names.of(dir)
+    }
+
+    /// All names, each with its directory's number and its own, in order of the directory's number and then in byte order.
+    pub fn names(&self) -> All<'_, 'a>
+        ensures { result ≡ tree.all_entries self.now.state }
+    {
+        self.names.all()
+    }
+
+    /// All objects, the root among them, each with its number, in ascending order of number.
+    pub fn objects(&self) -> Objects<'_, 'a>
+        ensures { result ≡ objects_in self.now.state }
+    {
+        Objects::new(&self.objects)
+    }
+
+    /// The names whose objects are missing, each with its directory's number and its own, in order of the directory's
+    /// number and then in byte order. Takes memory for the answer alone.
+    pub fn dangling(&self, alloc: Global) -> Result<Vec<(u32, &[u8], u32)>, AllocError>
+        ensures { IfOk result (λ names. map (λ n. (n.0, n.1.now, n.2)) names.items ≡ tree.dangling self.now.state) }
+    {
+        self.names()
+            .filter(|(_, _, ino)| !self.is_there(*ino))
+            .collect(alloc)
+    }
+
+    /// Reads the bytes of a regular file or a symlink from an offset on: as many as the slice and the size allow, at the
+    /// front of the slice. Answers how many; 0 for what is neither of the two. Takes no memory.
+    pub fn read_at(&self, ino: u32, offset: u64, out: &mut [u8]) -> usize
+        ensures count { result ≡ min (length out.old) (length (readable self.now.state ino) - offset) }
+        ensures bytes { out.new ≡ take result (drop offset (readable self.now.state ino)) ++ drop result out.old }
+    {
+        match self.objects.get(&ino) {
+            Some(stored) => read_stored(stored, offset, out),
+            None => 0,
+        }
+    }
+
+    /// The greatest version of a number, over its inode nodes and the entries of its directory; 0 where there is none.
+    pub fn top(&self, ino: u32) -> u32
+        ensures { result ≡ top_at self.now.tops ino }
+    {
+        let own = match self.objects.get(&ino) {
+            Some(stored) => stored.version,
+            None => 0,
+        };
+        own.max(self.names.highest(ino).unwrap_or(0))
+    }
+
+    /// One more than the greatest number that a node names, the root's among them.
+    pub fn next(&self) -> u64
+        ensures { result ≡ self.now.state.next }
+    {
+        self.next
+    }
 }
+
+#[cfg(test)]
+mod tests;

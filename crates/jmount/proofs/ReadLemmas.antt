@@ -1,0 +1,27 @@
+-- The bytes that a read gives.
+use Rattle.std.proofs.Common.{◌≡◌, ℕ, ◌+◌, ◌-◌, ◌<◌, ◌≤◌, Bool, true, ◌==◌, ◌||◌, cond, List, [], length, take, drop, Some, ap, sym, ◌∙◌, arith}
+use Rattle.std.specs.Prelude.{min}
+use Rattle.std.proofs.lemmas.List.{same_lists, length-take, length-drop, get_or-take, get_or-drop}
+use Rattle.flashbase.specs.Lists.{each_below}
+use Rattle.flashbase.proofs.ListLemmas.{length-each_below, get_or-each_below}
+use Rattle.jmount.specs.Tree.{ObjectOf, type_bits, regular_bits, symlink_bits}
+use Rattle.jmount.specs.Shown.{bytes_if}
+
+-- a part of what a function gives is what it gives from the part's place on
+pub part-of_each : (size offset count : ℕ) (f : ℕ → ℕ) → count ≤ size - offset → take count (drop offset (each_below size f)) ≡ each_below count (λ k. f (offset + k))
+part-of_each size offset count f fits =
+    let all = each_below size f in
+    let part = each_below count (λ k. f (offset + k)) in
+    let whole : length all ≡ size = length-each_below size f in
+    let some : length part ≡ count = length-each_below count (λ k. f (offset + k)) in
+    let taken : length (take count (drop offset all)) ≡ min count (length (drop offset all)) = length-take count (drop offset all) in
+    let left : length (drop offset all) ≡ length all - offset = length-drop offset all in
+    same_lists (take count (drop offset all)) part (omega arith)
+    (λ k d h.
+    let within : k < count = omega arith in
+    let there : offset + k < size = omega arith in
+    get_or-take count (drop offset all) k d within ∙ get_or-drop offset all k d ∙ get_or-each_below size (offset + k) f d there
+    ∙ sym (get_or-each_below count k (λ j. f (offset + j)) d within))
+
+pub bytes-held : (o : ObjectOf (List ℕ)) → ((type_bits o.mode == regular_bits) || (type_bits o.mode == symlink_bits)) ≡ true → bytes_if (Some o) ≡ o.body
+bytes-held o has = ap (λ b. cond b o.body []) has

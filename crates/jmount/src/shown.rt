@@ -1,0 +1,66 @@
+// An object as callers see it, and its bytes.
+
+ghost use Rattle.std.specs.Prelude.{◌≡◌, ◌==◌, ◌||◌};
+ghost use Rattle.jmount.specs.Tree.{type_bits, directory_bits, regular_bits, symlink_bits};
+ghost use Rattle.jmount.specs.Shown.{kind_of, shown};
+ghost use Rattle.jmount.specs.Stored.{stored_object};
+
+use crate::object::{Kind, Object};
+use crate::stored::Stored;
+
+// Bits 12 to 15 of a mode (Linux, include/uapi/linux/stat.h).
+const DIRECTORY: u32 = 4;
+const REGULAR: u32 = 8;
+const SYMLINK: u32 = 10;
+
+/// An object as callers see it.
+pub fn shown(stored: &Stored<'_>) -> Object
+    ensures { result ≡ shown (stored_object stored.now) }
+{
+    Object {
+        kind: kind_of(stored.mode),
+        mode: stored.mode,
+        uid: stored.uid,
+        gid: stored.gid,
+        size: stored.size,
+        atime: stored.atime,
+        mtime: stored.mtime,
+        ctime: stored.ctime,
+    }
+}
+
+/// The kind that a mode says.
+fn kind_of(mode: u32) -> Kind
+    ensures { result ≡ kind_of (type_bits mode) }
+{
+    match type_bits(mode) {
+        1 => Kind::Fifo,
+        2 => Kind::CharacterDevice,
+        DIRECTORY => Kind::Directory,
+        6 => Kind::BlockDevice,
+        REGULAR => Kind::Regular,
+        SYMLINK => Kind::Symlink,
+        12 => Kind::Socket,
+        _ => Kind::Other,
+    }
+}
+
+/// Whether a mode says that an object is a directory.
+pub fn is_directory(mode: u32) -> bool
+    ensures { result ≡ (type_bits mode == directory_bits) }
+{
+    type_bits(mode) == DIRECTORY
+}
+
+/// Whether a mode says that an object has bytes: that it is a regular file or a symlink.
+pub fn has_bytes(mode: u32) -> bool
+    ensures { result ≡ (type_bits mode == regular_bits || type_bits mode == symlink_bits) }
+{
+    matches!(type_bits(mode), REGULAR | SYMLINK)
+}
+
+fn type_bits(mode: u32) -> u32
+    ensures { result ≡ type_bits mode }
+{
+    (mode >> 12) & 0xF
+}
