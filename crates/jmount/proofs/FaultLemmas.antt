@@ -1,10 +1,10 @@
 -- Of the nodes that stand in front of the refusal: which fault of an image is the one of least address.
-use Rattle.std.proofs.Common.{◌≡◌, ℕ, zero, suc, ◌<◌, ◌≤◌, List, [], ◌∷◌, ◌++◌, Option, None, Some, refl, sym, ap, ◌∙◌, subst, ⊎_elim, arith, get_or}
+use Rattle.std.proofs.Common.{◌≡◌, ℕ, zero, suc, ◌<◌, ◌≤◌, List, [], ◌∷◌, ◌++◌, Option, None, Some, refl, sym, ap, ◌∙◌, subst, ⊎_elim, append_assoc, arith, get_or}
 use Rattle.std.specs.Prelude.{Contains, AllPairs, filter_map, option_map, ⊤, Err}
 use Rattle.std.specs.List.{cons_option}
 use Rattle.std.proofs.lemmas.Bool.{cases_lt}
 use Rattle.std.proofs.lemmas.Option.{same_Some, none-some}
-use Rattle.std.proofs.lemmas.List.Elements.{Contains-append_left, Contains-append_right}
+use Rattle.std.proofs.lemmas.List.Elements.{Contains-append_left, Contains-append_right, Contains-get_or}
 use Rattle.jnode.specs.declared.order.Endian.{Endian}
 use Rattle.jnode.specs.Reading.{node_in}
 use Rattle.jnode.specs.declared.node.NodeRef.{NodeRef}
@@ -42,6 +42,24 @@ rises {X} (x ∷ xs) up = (
       subst (λ (z : ℕ × X). x.0 < z.0) h.2 below,
   rises xs (λ i j d lt within. up (suc i) (suc j) d (omega arith) (omega arith)),
 )
+
+-- the same in the words of the splits of a list
+rises_from : {X : Type 0} (all front xs : List (ℕ × X)) → ((before after : List (ℕ × X)) (s t : ℕ × X) → all ≡ before ++ s ∷ after → Contains after t → s.0 < t.0)
+    → all ≡ front ++ xs → Rises xs
+rises_from all front [] up is = tt
+rises_from {X} all front (x ∷ xs) up is = (
+  λ y h. up front xs x y is h,
+  rises_from all (front ++ x ∷ []) xs up (is ∙ sym (append_assoc front (x ∷ []) xs)),
+)
+
+ascends_by : {X : Type 0} (xs : List (ℕ × X)) → Rises xs → Ascends xs
+ascends_by [] up i j d lt within = absurd (omega arith)
+ascends_by (x ∷ xs) up i zero d lt within = absurd (omega arith)
+ascends_by (x ∷ xs) up zero (suc j) d lt within = up.0 (get_or xs j d) (Contains-get_or xs j d (omega arith))
+ascends_by (x ∷ xs) up (suc i) (suc j) d lt within = ascends_by xs up.1 i j d (omega arith) (omega arith)
+
+pub ascends_from_splits : {X : Type 0} (xs : List (ℕ × X)) → ((before after : List (ℕ × X)) (s t : ℕ × X) → xs ≡ before ++ s ∷ after → Contains after t → s.0 < t.0) → Ascends xs
+ascends_from_splits xs up = ascends_by xs (rises_from xs [] xs up refl)
 
 -- what stands in front of one of them is below it
 rises_front : {X : Type 0} (pre post : List (ℕ × X)) (z x : ℕ × X) → Rises (pre ++ z ∷ post) → Contains pre x → x.0 < z.0
