@@ -6,3 +6,4 @@ pub mod Mount
 pub mod Codes
 pub mod Shown
 pub mod Stored
+pub mod Inodes

@@ -8,9 +8,12 @@
 #![tactic(auto)]
 
 mod fault;
+mod inodes;
 mod mounted;
 mod object;
+mod sameness;
 mod stored;
+mod versions;
 
 pub use crate::fault::{FindFault, MountFault};
 pub use crate::mounted::Mounted;
