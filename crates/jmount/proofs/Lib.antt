@@ -1,1 +1,5 @@
 pub mod InodesLemmas
+pub mod NumbersLemmas
+pub mod SameLemmas
+pub mod StateLemmas
+pub mod StoredLemmas

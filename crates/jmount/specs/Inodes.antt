@@ -36,6 +36,10 @@ held numbers i v = option_and_then (λ versions. version_at versions v) (get nat
 abbrev pub IsKeyed : ByNumber → Type 0
 IsKeyed numbers = (i v : ℕ) (node : InodeNode) → held numbers i v ≡ Some node → (node.ino ≡ i) × (node.version ≡ v)
 
+-- each node of a number is held at its own version
+abbrev pub IsByVersion : Versions → Type 0
+IsByVersion versions = (v : ℕ) (node : InodeNode) → version_at versions v ≡ Some node → node.version ≡ v
+
 -- the nodes of a number, in order of version
 abbrev pub nodes_in : Versions → List InodeNode
 nodes_in versions = map (λ e. e.1) versions.nodes.entries

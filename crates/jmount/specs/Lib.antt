@@ -7,3 +7,5 @@ pub mod Codes
 pub mod Shown
 pub mod Stored
 pub mod Inodes
+pub mod Laws
+pub mod Storing

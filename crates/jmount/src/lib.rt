@@ -9,10 +9,12 @@
 
 mod fault;
 mod inodes;
+pub mod laws;
 mod mounted;
 mod object;
 mod sameness;
 mod stored;
+mod storing;
 mod versions;
 
 pub use crate::fault::{FindFault, MountFault};
