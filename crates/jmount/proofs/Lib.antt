@@ -1,3 +1,4 @@
+pub mod InodesLemmas
 pub mod NumbersLemmas
 pub mod OneMoreLemmas
 pub mod PathLemmas

@@ -7,7 +7,9 @@ pub mod Mounts
 pub mod Codes
 pub mod Shown
 pub mod Stored
+pub mod Inodes
 pub mod Laws
 pub mod Rows
 pub mod Paths
 pub mod Walk
+pub mod Storing

@@ -8,6 +8,7 @@
 #![tactic(auto)]
 
 mod fault;
+mod inodes;
 pub mod laws;
 mod mounted;
 mod object;
@@ -17,6 +18,9 @@ mod read;
 mod shown;
 mod stored;
 mod walk;
+mod sameness;
+mod storing;
+mod versions;
 
 pub use crate::fault::{FindFault, MountFault};
 pub use crate::mounted::Mounted;

@@ -1,0 +1,49 @@
+-- The inode nodes that a mount gathers, by number and version.
+use Rattle.std.specs.Prelude.{◌≡◌, ◌≢◌, ◌⊎◌, ◌↔◌, ℕ, List, map, Contains, Option, Some, None, ⊤}
+use Rattle.std.specs.List.{flat_map}
+use Rattle.std.specs.Option.{option_and_then}
+use Rattle.std.specs.Ordering.{nat_cmp}
+use Rattle.std.specs.BTreeMap.{BTreeMap, get}
+use Rattle.jnode.specs.declared.node.InodeNode.{InodeNode}
+use Rattle.jmount.specs.declared.versions.Versions.{Versions}
+
+-- the same nodes, and one more
+abbrev pub Gains : List InodeNode → List InodeNode → InodeNode → Type 0
+Gains old new node = (x : InodeNode) → Contains new x ↔ (Contains old x ⊎ (x ≡ node))
+
+-- another node is held
+abbrev pub Differs : Option InodeNode → InodeNode → Type 0
+Differs None node = ⊥
+Differs (Some there) node = there ≢ node
+
+-- no other node is held
+abbrev pub Agrees : Option InodeNode → InodeNode → Type 0
+Agrees None node = ⊤
+Agrees (Some there) node = there ≡ node
+
+-- the node that is held at a version
+abbrev pub version_at : Versions → ℕ → Option InodeNode
+version_at versions v = get nat_cmp versions.nodes v
+
+abbrev pub ByNumber : Type 0
+ByNumber = BTreeMap ℕ Versions
+
+-- the node that is held for a number and a version
+abbrev pub held : ByNumber → ℕ → ℕ → Option InodeNode
+held numbers i v = option_and_then (λ versions. version_at versions v) (get nat_cmp numbers i)
+
+-- each node is held for its own number and version
+abbrev pub IsKeyed : ByNumber → Type 0
+IsKeyed numbers = (i v : ℕ) (node : InodeNode) → held numbers i v ≡ Some node → (node.ino ≡ i) × (node.version ≡ v)
+
+-- each node of a number is held at its own version
+abbrev pub IsByVersion : Versions → Type 0
+IsByVersion versions = (v : ℕ) (node : InodeNode) → version_at versions v ≡ Some node → node.version ≡ v
+
+-- the nodes of a number, in order of version
+abbrev pub nodes_in : Versions → List InodeNode
+nodes_in versions = map (λ e. e.1) versions.nodes.entries
+
+-- all nodes, in order of number and version
+unfoldable pub nodes_of : ByNumber → List InodeNode
+nodes_of numbers = flat_map (λ e. nodes_in e.1) numbers.entries

@@ -1,0 +1,80 @@
+// The objects that inode nodes make.
+
+ghost use Rattle.std.specs.Prelude.{◌≡◌, ◌<◌, ◌^◌, ℕ, Some, IfOk, All, map, option_map};
+ghost use Rattle.std.specs.Ordering.{nat_cmp};
+ghost use Rattle.std.specs.BTreeMap.{IsOrdered, get};
+ghost use Rattle.jfrag.specs.Pieces.{end_of};
+ghost use Rattle.jmount.specs.Inodes.{IsByVersion, IsKeyed, nodes_in, nodes_of};
+ghost use Rattle.jmount.specs.StateOf.{body_of, piece_of};
+ghost use Rattle.jmount.specs.Storing.{made_at, made_by, shown};
+
+use crate::inodes::ByNumber;
+use crate::stored::Stored;
+use crate::versions::Versions;
+use jfrag::{Body, Piece, overlay};
+use jnode::{Fill, InodeNode};
+use std::alloc::{AllocError, Global};
+use std::collections::BTreeMap;
+
+/// The objects of these numbers.
+pub fn objects_of<'a>(
+    alloc: Global,
+    numbers: &ByNumber<'a>,
+) -> Result<BTreeMap<u32, Stored<'a>>, AllocError>
+    requires keyed { IsKeyed numbers.now }
+    requires ends { All (λ node. end_of (piece_of node) < 2 ^ 32) (nodes_of numbers.now) }
+    ensures each { IfOk result (λ objects. (i : ℕ) → option_map shown (get nat_cmp objects i) ≡ made_at numbers.now i) }
+    ensures ordered { IfOk result (IsOrdered nat_cmp) }
+{
+    let mut objects = BTreeMap::new(alloc);
+    for (ino, versions) in numbers {
+        objects.insert(*ino, object_of(alloc, versions)?)?;
+    }
+    Ok(objects)
+}
+
+/// The object that the nodes of one number make.
+fn object_of<'a>(alloc: Global, versions: &Versions<'a>) -> Result<Stored<'a>, AllocError>
+    requires by_version { IsByVersion versions.now }
+    requires ends { All (λ node. end_of (piece_of node) < 2 ^ 32) (nodes_in versions.now) }
+    ensures { IfOk result (λ stored. Some (shown stored) ≡ made_by (nodes_in versions.now)) }
+{
+    let pieces = pieces_of(alloc, versions)?;
+    let bytes = overlay(alloc, &pieces)?;
+    let (_, latest) = versions.nodes.last_key_value().unwrap();
+    Ok(Stored {
+        version: latest.version,
+        mode: latest.mode,
+        uid: latest.uid,
+        gid: latest.gid,
+        size: latest.isize,
+        atime: latest.atime,
+        mtime: latest.mtime,
+        ctime: latest.ctime,
+        bytes,
+    })
+}
+
+fn pieces_of<'a>(alloc: Global, versions: &Versions<'a>) -> Result<Vec<Piece<'a>>, AllocError>
+    ensures { IfOk result (λ pieces. pieces.items ≡ map piece_of (nodes_in versions.now)) }
+{
+    let mut pieces = Vec::with_capacity(alloc, versions.nodes.len())?;
+    for node in versions.nodes.values() {
+        pieces.push(piece_of(node))?;
+    }
+    Ok(pieces)
+}
+
+fn piece_of<'a>(node: &InodeNode<'a>) -> Piece<'a>
+    ensures { result ≡ piece_of node.now }
+{
+    let body = match &node.fill {
+        Fill::Zero => Body::Zero(node.dsize),
+        Fill::Data(bytes) => Body::Bytes(bytes.copied()),
+    };
+    Piece {
+        version: node.version,
+        offset: node.offset,
+        body,
+    }
+}
