@@ -9,6 +9,7 @@ pub mod ClashLemmas
 pub mod FaultLemmas
 pub mod GatheredLemmas
 pub mod StoredLemmas
+pub mod StoringLemmas
 pub mod ReadLemmas
 pub mod TopLemmas
 pub mod WalkLemmas

@@ -12,15 +12,15 @@ mod inodes;
 pub mod laws;
 mod mounted;
 mod object;
-pub mod rows;
 mod path;
 mod read;
+pub mod rows;
+mod sameness;
 mod shown;
 mod stored;
-mod walk;
-mod sameness;
 mod storing;
 mod versions;
+mod walk;
 
 pub use crate::fault::{FindFault, MountFault};
 pub use crate::mounted::Mounted;

@@ -10,7 +10,7 @@ use Rattle.jfrag.specs.Overlays.{IsHighestAt}
 use Rattle.jmount.specs.Inodes.{version_at, nodes_in}
 use Rattle.jmount.specs.Stored.{stands_in}
 use Rattle.jmount.specs.StateOf.{piece_of, object_by, with_bytes}
-use Rattle.jmount.proofs.StoredLemmas.{IsLast, latest_is, content-stands}
+use Rattle.jmount.proofs.StoringLemmas.{IsLast, latest_is, content-stands}
 use Rattle.jmount.proofs.storing.object_of.Goals as goal
 
 pub overlay-requires : goal.overlay-requires

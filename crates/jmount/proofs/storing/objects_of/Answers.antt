@@ -3,7 +3,7 @@ use Rattle.jnode.specs.declared.node.InodeNode.{InodeNode}
 use Rattle.jfrag.specs.Pieces.{end_of}
 use Rattle.jmount.specs.declared.versions.Versions.{Versions}
 use Rattle.jmount.specs.StateOf.{piece_of}
-use Rattle.jmount.proofs.StoredLemmas.{AreDone, AreLeft, none_done, first_left, others_left, first_done, by_version-of, All-of_number}
+use Rattle.jmount.proofs.StoringLemmas.{AreDone, AreLeft, none_done, first_left, others_left, first_done, by_version-of, All-of_number}
 use Rattle.jmount.proofs.storing.objects_of.Goals as goal
 
 pub loop-ino-init : goal.loop-ino-init

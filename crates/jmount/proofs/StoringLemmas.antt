@@ -1,0 +1,150 @@
+-- The objects that nodes make, as they are kept.
+use Rattle.std.proofs.Common.{◌≡◌, ℕ, ◌+◌, ◌<◌, ◌≤◌, Bool, true, false, List, [], ◌∷◌, map, length, get_or, Option, Some, None, refl, ap, sym, ◌∙◌, subst, arith}
+use Rattle.std.specs.Prelude.{All, Contains, IsSome, option_map, is_some, if◌then◌else◌, ◌==◌}
+use Rattle.std.specs.Cmp.{unsigned_tied}
+use Rattle.std.specs.List.{flat_map}
+use Rattle.std.specs.Map.{lookup}
+use Rattle.std.specs.Option.{option_and_then}
+use Rattle.std.specs.Ordering.{nat_cmp, is_lt, eq_by_cmp}
+use Rattle.std.specs.BTreeMap.{BTreeMap, get, Updates}
+use Rattle.std.proofs.lemmas.Bool.{eqb-true}
+use Rattle.std.proofs.lemmas.Map.Keys.{ge_from_not_lt}
+use Rattle.std.proofs.lemmas.Map.Lookups.{exact_unsigned}
+use Rattle.std.proofs.lemmas.Map.Views.{Contains-from_lookup, tells_apart}
+use Rattle.std.proofs.lemmas.List.Elements.{All-contains, All-head, All-tail, Contains-get_or}
+use Rattle.std.proofs.lemmas.Option.{same_Some}
+use Rattle.flashbase.specs.Lists.{newest, each_below}
+use Rattle.flashbase.proofs.ListLemmas.{newest_is_newest, newest_of_none}
+use Rattle.jnode.specs.declared.node.InodeNode.{InodeNode}
+use Rattle.jfrag.specs.declared.piece.Piece.{Piece}
+use Rattle.jfrag.specs.Pieces.{byte_of, covers}
+use Rattle.jfrag.specs.Overlays.{Standing, byte_at, IsHighestAt, standing, content}
+use Rattle.jfrag.specs.Laws as overlay
+use Rattle.jfrag.proofs.OverlaysLemmas.{only_one_is_highest}
+use Rattle.jname.proofs.EntriesLemmas.{nat_found}
+use Rattle.jname.proofs.HeldLemmas.{by_test}
+use Rattle.jname.proofs.MemberLemmas.{Contains-none, Contains-map, Contains-map_from, Contains-flat_map}
+use Rattle.jmount.specs.declared.versions.Versions.{Versions}
+use Rattle.jmount.specs.declared.stored.Stored.{Stored}
+use Rattle.jmount.specs.Inodes.{version_at, IsByVersion, IsKeyed, ByNumber, nodes_in, nodes_of}
+use Rattle.jmount.specs.StateOf.{latest, piece_of}
+use Rattle.jmount.specs.Storing.{Made, shown, made_by, made_at}
+use Rattle.jmount.proofs.NumbersLemmas.{eqb_symm}
+
+-- ---- the nodes of one number
+
+pub found_at_version : (versions : Versions) → IsByVersion versions → (x : InodeNode) → Contains (nodes_in versions) x → version_at versions x.version ≡ Some x
+found_at_version versions keyed x h =
+    let e = Contains-map_from (λ (e : ℕ × InodeNode). e.1) versions.nodes.entries x h in
+    let there : version_at versions e.0.0 ≡ Some e.0.1 = nat_found versions.nodes.entries e.0.0 e.0.1 versions.ordered e.1 in
+    let version : x.version ≡ e.0.0 = ap (λ (y : InodeNode). y.version) (sym e.2) ∙ keyed e.0.0 e.0.1 there in
+    ap (version_at versions) version ∙ there ∙ ap Some e.2
+
+pub Contains-at_version : (versions : Versions) (v : ℕ) (x : InodeNode) → version_at versions v ≡ Some x → Contains (nodes_in versions) x
+Contains-at_version versions v x h =
+    Contains-map (λ (e : ℕ × InodeNode). e.1) versions.nodes.entries (v, x) (Contains-from_lookup (tells_apart exact_unsigned) v x versions.nodes.entries h)
+
+pub one_of_version : (versions : Versions) → IsByVersion versions → (x y : InodeNode) → Contains (nodes_in versions) x → Contains (nodes_in versions) y → x.version ≡ y.version → x ≡ y
+one_of_version versions keyed x y in_x in_y same =
+    same_Some x y (sym (found_at_version versions keyed x in_x) ∙ ap (version_at versions) same ∙ found_at_version versions keyed y in_y)
+
+-- ---- their pieces agree
+
+pub pieces_agree_by_version : (versions : Versions) → IsByVersion versions → (place : ℕ) → overlay.AgreeAt (map piece_of (nodes_in versions)) place
+pieces_agree_by_version versions keyed place j k d below l same covers_first covers_second =
+    let ps = map piece_of (nodes_in versions) in
+    let first = Contains-map_from piece_of (nodes_in versions) (get_or ps j d) (Contains-get_or ps j d (omega arith)) in
+    let second = Contains-map_from piece_of (nodes_in versions) (get_or ps k d) (Contains-get_or ps k d l) in
+    let version : first.0.version ≡ second.0.version = ap (λ (p : Piece). p.version) first.2 ∙ same ∙ sym (ap (λ (p : Piece). p.version) second.2) in
+    ap (byte_of place) (sym first.2) ∙ ap (λ node. byte_of place (piece_of node)) (one_of_version versions keyed first.0 second.0 first.1 second.1 version) ∙ ap (byte_of place) second.2
+
+-- so what stands is the content
+pub content-stands : (versions : Versions) → IsByVersion versions → (stands : ℕ → Standing) → ((place : ℕ) → IsHighestAt (map piece_of (nodes_in versions)) place (stands place))
+    → (size : ℕ) → each_below size (λ place. byte_at (stands place)) ≡ content (map piece_of (nodes_in versions)) size
+content-stands versions keyed stands highest size =
+    λ i. each_below size (λ place. byte_at (only_one_is_highest (map piece_of (nodes_in versions)) place (stands place) (pieces_agree_by_version versions keyed place) (highest place) i))
+
+-- ---- the latest
+
+-- the node of the last version
+abbrev pub IsLast : Versions → ℕ → InodeNode → Type 0
+IsLast versions k node = (version_at versions k ≡ Some node) × ((q : ℕ) → IsSome (version_at versions q) → is_lt (nat_cmp k q) ≡ false)
+
+is_some_of : {X : Type 0} (o : Option X) (x : X) → o ≡ Some x → IsSome o
+is_some_of None x e = let no : None ≡ Some x = e in cc
+is_some_of (Some y) x e = grind arith
+
+last_is : (versions : Versions) → IsByVersion versions → (k : ℕ) (node : InodeNode) → IsLast versions k node → (o : Option InodeNode) → latest (nodes_in versions) ≡ o → o ≡ Some node
+last_is versions keyed k node last None e =
+    let none : nodes_in versions ≡ [] = newest_of_none (nodes_in versions) (λ n. n.version) e in
+    absurd (Contains-none node (subst (λ ns. Contains ns node) none (Contains-at_version versions k node last.0)))
+last_is versions keyed k node last (Some x) e =
+    let is = newest_is_newest (nodes_in versions) (λ n. n.version) x e in
+    let in_node : Contains (nodes_in versions) node = Contains-at_version versions k node last.0 in
+    let above : node.version ≤ x.version = is.1 node in_node in
+    let own : node.version ≡ k = keyed k node last.0 in
+    let below : x.version ≤ k = ge_from_not_lt k x.version (last.1 x.version (is_some_of (version_at versions x.version) x (found_at_version versions keyed x is.0))) in
+    let same : x.version ≡ node.version = omega arith in
+    ap Some (one_of_version versions keyed x node is.0 in_node same)
+
+pub latest_is : (versions : Versions) → IsByVersion versions → (k : ℕ) (node : InodeNode) → IsLast versions k node → latest (nodes_in versions) ≡ Some node
+latest_is versions keyed k node last = last_is versions keyed k node last (latest (nodes_in versions)) refl
+
+-- ---- the objects of all numbers
+
+abbrev Objects : Type 0
+Objects = BTreeMap ℕ Stored
+
+replaced_at : (old new : Objects) (k : ℕ) (stored : Stored) → Updates nat_cmp old new k (Some stored) → (i : ℕ) → get nat_cmp new i ≡ (if k == i then Some stored else get nat_cmp old i)
+replaced_at old new k stored u i = u.0 i ∙ ap (λ (b : Bool). if b then Some stored else get nat_cmp old i) (unsigned_tied k i)
+
+made_of : Option Versions → Option Made
+made_of o = option_and_then (λ versions. made_by (nodes_in versions)) o
+
+-- the objects of all numbers but those that are left
+abbrev pub AreDone : ByNumber → List (ℕ × Versions) → Objects → Type 0
+AreDone numbers rest objects = (i : ℕ) → lookup (eq_by_cmp nat_cmp i) rest ≡ None → option_map shown (get nat_cmp objects i) ≡ made_at numbers i
+
+one_object_done : (numbers : ByNumber) (old new : Objects) (k : ℕ) (versions : Versions) (rest : List (ℕ × Versions)) (stored : Stored)
+    → get nat_cmp numbers k ≡ Some versions → Some (shown stored) ≡ made_by (nodes_in versions) → Updates nat_cmp old new k (Some stored)
+    → AreDone numbers ((k, versions) ∷ rest) old → AreDone numbers rest new
+unfolding made_of
+one_object_done numbers old new k versions rest stored there made u before i none =
+    by_test (k == i)
+    (λ e. ap (option_map shown) (replaced_at old new k stored u i ∙ ap (λ (b : Bool). if b then Some stored else get nat_cmp old i) e)
+    ∙ made ∙ sym (ap made_of there) ∙ ap (made_at numbers) (eqb-true k i e))
+    (λ e. ap (option_map shown) (replaced_at old new k stored u i ∙ ap (λ (b : Bool). if b then Some stored else get nat_cmp old i) e)
+    ∙ before i (ap (λ (b : Bool). if b then Some versions else lookup (eq_by_cmp nat_cmp i) rest) (unsigned_tied i k ∙ eqb_symm i k ∙ e) ∙ none))
+
+-- each of those that are left has its versions
+abbrev pub AreLeft : ByNumber → List (ℕ × Versions) → Type 0
+AreLeft numbers rest = All (λ e. get nat_cmp numbers e.0 ≡ Some e.1) rest
+
+pub first_left : (numbers : ByNumber) (all rest : List (ℕ × Versions)) (k : ℕ) (versions : Versions) → all ≡ (k, versions) ∷ rest → AreLeft numbers all → get nat_cmp numbers k ≡ Some versions
+first_left numbers all rest k versions is left =
+    All-head (λ (e : ℕ × Versions). get nat_cmp numbers e.0 ≡ Some e.1) (k, versions) rest (subst (AreLeft numbers) is left)
+
+pub others_left : (numbers : ByNumber) (all rest : List (ℕ × Versions)) (k : ℕ) (versions : Versions) → all ≡ (k, versions) ∷ rest → AreLeft numbers all → AreLeft numbers rest
+others_left numbers all rest k versions is left =
+    All-tail (λ (e : ℕ × Versions). get nat_cmp numbers e.0 ≡ Some e.1) (k, versions) rest (subst (AreLeft numbers) is left)
+
+pub first_done : (numbers : ByNumber) (old new : Objects) (all rest : List (ℕ × Versions)) (k : ℕ) (versions : Versions) (stored : Stored) → all ≡ (k, versions) ∷ rest
+    → AreLeft numbers all → AreDone numbers all old → Some (shown stored) ≡ made_by (nodes_in versions) → Updates nat_cmp old new k (Some stored) → AreDone numbers rest new
+first_done numbers old new all rest k versions stored is left done made u =
+    one_object_done numbers old new k versions rest stored (first_left numbers all rest k versions is left) made u (subst (λ es. AreDone numbers es old) is done)
+
+pub none_done : (numbers : ByNumber) (objects : Objects) → objects.entries ≡ [] → AreDone numbers numbers.entries objects
+unfolding made_of
+none_done numbers objects empty i none =
+    ap (λ (es : List (ℕ × Stored)). option_map shown (lookup (eq_by_cmp nat_cmp i) es)) empty ∙ sym (ap made_of none)
+
+pub by_version-of : (numbers : ByNumber) → IsKeyed numbers → (k : ℕ) (versions : Versions) → get nat_cmp numbers k ≡ Some versions → IsByVersion versions
+by_version-of numbers keyed k versions there v node h =
+    (keyed k v node (ap (λ (o : Option Versions). option_and_then (λ vs. version_at vs v) o) there ∙ h)).1
+
+pub All-of_number : (P : InodeNode → Type 0) (numbers : ByNumber) (k : ℕ) (versions : Versions) → get nat_cmp numbers k ≡ Some versions → All P (nodes_of numbers) → All P (nodes_in versions)
+unfolding nodes_of
+All-of_number P numbers k versions there all j d l =
+    All-contains P (flat_map (λ (e : ℕ × Versions). nodes_in e.1) numbers.entries) (get_or (nodes_in versions) j d) all
+    (Contains-flat_map (λ (e : ℕ × Versions). nodes_in e.1) numbers.entries (k, versions) (get_or (nodes_in versions) j d)
+    (Contains-from_lookup (tells_apart exact_unsigned) k versions numbers.entries there) (Contains-get_or (nodes_in versions) j d l))
