@@ -1,4 +1,5 @@
 pub mod NumbersLemmas
+pub mod ObjectsLemmas
 pub mod OneMoreLemmas
 pub mod PathLemmas
 pub mod SameLemmas

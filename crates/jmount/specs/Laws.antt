@@ -1,18 +1,19 @@
 -- Laws of the definitions. Each is a statement: it holds since a public function's contract names it.
-use Rattle.std.specs.Prelude.{◌≡◌, ◌↔◌, ◌+◌, ◌<◌, ◌==◌, ℕ, max, List, [], ◌∷◌, ◌++◌, map, flat_map, slice_index, Contains, Some, unwrap_or, if◌then◌else◌}
+use Rattle.std.specs.Prelude.{◌≡◌, ◌≢◌, ◌↔◌, ◌⊎◌, ◌+◌, ◌<◌, ◌≤◌, ◌==◌, true, false, length, None, ℕ, max, List, [], ◌∷◌, ◌++◌, map, flat_map, slice_index, Contains, Some, unwrap_or, if◌then◌else◌}
 use Rattle.std.specs.FinMap.{get}
 use Rattle.flashbase.specs.Lists.{greatest}
-use Rattle.jfrag.specs.Pieces.{covers, byte_of}
+use Rattle.jfrag.specs.Pieces.{end_of, covers, byte_of}
 use Rattle.jfrag.specs.Overlays.{standing, byte_at}
 use Rattle.jname.specs.Live.{Key, is_at, ino_if_any, live, highest}
 use Rattle.jname.specs.Clash as names
 use Rattle.jnode.specs.declared.node.InodeNode.{InodeNode}
+use Rattle.jnode.specs.Writing.{HoldsRange}
 use Rattle.jnode.specs.declared.node.Dirent.{Dirent}
 use Rattle.jnode.specs.declared.node.NodeRef.{NodeRef}
 use Rattle.jnode.specs.declared.node.NodeRef.TheVariants.{Entry, Inode}
 use Rattle.jmount.specs.Clash.{NoClashes}
-use Rattle.jmount.specs.Tree.{object, named}
-use Rattle.jmount.specs.StateOf.{inodes, entries, versions_of, piece_of, contents, object_by, object_of, objects_of, numbers_in, next_of, owner, version_of, top, tops_of, state_of}
+use Rattle.jmount.specs.Tree.{ObjectOf, object, named}
+use Rattle.jmount.specs.StateOf.{inodes, entries, versions_of, piece_of, contents, default_root, object_by, object_of, objects_of, numbers_in, next_of, owner, version_of, top, tops_of, state_of}
 use Rattle.jmount.specs.Shown.{top_at}
 use Rattle.jmount.specs.Find.{IsPath, path_names}
 
@@ -113,3 +114,55 @@ InodeKeepsNames = (ns : List NodeRef) (node : InodeNode) → (state_of (ns ++ In
 -- the names that are found in a text are those whose path it is, and none are found in a text that is no path
 abbrev pub PathNamesExactly : Type 0
 PathNamesExactly = (text : List ℕ) (names : List (List ℕ)) → (path_names text ≡ Some names) ↔ IsPath text names
+
+-- ---- objects, by their nodes
+
+-- a node's piece is its range, where its data have the length of the range, as those of every node that is read
+abbrev pub PieceIsRange : Type 0
+PieceIsRange = (node : InodeNode) → HoldsRange node.fill node.dsize → end_of (piece_of node) ≡ node.offset + node.dsize
+
+-- a node of this number, and none of the number is higher
+pub record IsLatest (nodes : List InodeNode) (i : ℕ) (node : InodeNode) : Type 0 where
+  pub there : Contains nodes node
+  pub number : node.ino ≡ i
+  pub highest : (other : InodeNode) → Contains nodes other → other.ino ≡ i → other.version ≤ node.version
+
+-- the object has the node's attributes, and as many bytes as its size
+pub record HasAttributes (node : InodeNode) (o : ObjectOf (List ℕ)) : Type 0 where
+  pub mode : o.mode ≡ node.mode
+  pub uid : o.uid ≡ node.uid
+  pub gid : o.gid ≡ node.gid
+  pub atime : o.atime ≡ node.atime
+  pub mtime : o.mtime ≡ node.mtime
+  pub ctime : o.ctime ≡ node.ctime
+  pub size : length o.body ≡ node.isize
+
+-- no node is one of this number
+abbrev pub HasNone : List InodeNode → ℕ → Type 0
+HasNone nodes i = (node : InodeNode) → Contains nodes node → node.ino ≢ i
+
+-- attributes and size are those of the highest version, whatever bytes that node gives; the root stands without nodes
+abbrev pub ObjectIsOfLatest : Type 0
+ObjectIsOfLatest = (nodes : List InodeNode) (i : ℕ) (o : ObjectOf (List ℕ)) → object_of nodes i ≡ Some o
+    → ((node : InodeNode) × IsLatest nodes i node × HasAttributes node o) ⊎ (HasNone nodes i × (i ≡ 1) × (o ≡ default_root))
+
+-- and no other number has an object without nodes
+abbrev pub NoObjectWithoutNodes : Type 0
+NoObjectWithoutNodes = (nodes : List InodeNode) (i : ℕ) → object_of nodes i ≡ None → HasNone nodes i × (i ≢ 1)
+
+-- the node covers the place with this byte, and none of its number that covers the place is higher
+pub record IsHighestOver (nodes : List InodeNode) (i place byte : ℕ) (node : InodeNode) : Type 0 where
+  pub there : Contains nodes node
+  pub number : node.ino ≡ i
+  pub covering : covers place (piece_of node) ≡ true
+  pub gives : byte ≡ byte_of place (piece_of node)
+  pub highest : (other : InodeNode) → Contains nodes other → other.ino ≡ i → covers place (piece_of other) ≡ true → other.version ≤ node.version
+
+-- no node of this number covers the place
+abbrev pub NoneCovers : List InodeNode → ℕ → ℕ → Type 0
+NoneCovers nodes i place = (node : InodeNode) → Contains nodes node → node.ino ≡ i → covers place (piece_of node) ≡ false
+
+-- each byte is that of the highest version that covers it, and 0 where none does
+abbrev pub ByteIsOfHighest : Type 0
+ByteIsOfHighest = (nodes : List InodeNode) (i place : ℕ) (o : ObjectOf (List ℕ)) → object_of nodes i ≡ Some o → place < length o.body
+    → ((node : InodeNode) × IsHighestOver nodes i place (slice_index o.body place) node) ⊎ (NoneCovers nodes i place × (slice_index o.body place ≡ 0))

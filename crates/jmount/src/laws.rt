@@ -32,6 +32,14 @@ pub fn tops_have_each()
     ensures { law.TopsHaveEach }
 {}
 
+/// An object has the attributes and the size of its highest version, and each byte of the highest version that covers it.
+pub fn objects_are_of_highest()
+    ensures range { law.PieceIsRange }
+    ensures attributes { law.ObjectIsOfLatest }
+    ensures none { law.NoObjectWithoutNodes }
+    ensures bytes { law.ByteIsOfHighest }
+{}
+
 /// Greatest versions and the next number come of inode nodes and of entries.
 pub fn numbers_are_of_both_kinds()
     ensures top { law.TopIsOfBothKinds }
