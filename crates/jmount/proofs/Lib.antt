@@ -1,3 +1,5 @@
+pub mod LeastLemmas
+pub mod NamesLemmas
 pub mod NumbersLemmas
 pub mod ObjectsLemmas
 pub mod OneMoreLemmas

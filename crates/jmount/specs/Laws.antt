@@ -166,3 +166,39 @@ NoneCovers nodes i place = (node : InodeNode) → Contains nodes node → node.i
 abbrev pub ByteIsOfHighest : Type 0
 ByteIsOfHighest = (nodes : List InodeNode) (i place : ℕ) (o : ObjectOf (List ℕ)) → object_of nodes i ≡ Some o → place < length o.body
     → ((node : InodeNode) × IsHighestOver nodes i place (slice_index o.body place) node) ⊎ (NoneCovers nodes i place × (slice_index o.body place ≡ 0))
+
+-- ---- names, by their entries
+
+-- an entry of this directory and name, and none of them is higher
+pub record IsNewestEntry (given : List Dirent) (dir : ℕ) (name : List ℕ) (entry : Dirent) : Type 0 where
+  pub there : Contains given entry
+  pub directory : entry.pino ≡ dir
+  pub named : entry.name ≡ name
+  pub highest : (other : Dirent) → Contains given other → other.pino ≡ dir → other.name ≡ name → other.version ≤ entry.version
+
+-- a name stands for the number of its entry of highest version, where that is not 0
+abbrev pub NameIsOfNewest : Type 0
+NameIsOfNewest = (ns : List NodeRef) (dir : ℕ) (name : List ℕ) (i : ℕ) → named (state_of ns) dir name ≡ Some i
+    → (i ≢ 0) × ((entry : Dirent) × IsNewestEntry (entries ns) dir name entry × (entry.ino ≡ i))
+
+-- a name stands for nothing where it has no entry, or that of highest version says that it is gone, whatever older ones say
+abbrev pub NoNameIsOfNone : Type 0
+NoNameIsOfNone = (ns : List NodeRef) (dir : ℕ) (name : List ℕ) → named (state_of ns) dir name ≡ None
+    → ((entry : Dirent) × IsNewestEntry (entries ns) dir name entry × (entry.ino ≡ 0))
+    ⊎ ((entry : Dirent) → Contains (entries ns) entry → entry.pino ≡ dir → entry.name ≢ name)
+
+-- ---- numbers, by the nodes that name them
+
+-- the next number is the least that is above 1 and above every number that a node names
+abbrev pub IsPastAll : List NodeRef → ℕ → Type 0
+IsPastAll ns next = (1 < next) × ((node : NodeRef) (i : ℕ) → Contains ns node → Contains (numbers_in node) i → i < next)
+
+abbrev pub NextIsLeastPastAll : Type 0
+NextIsLeastPastAll = (ns : List NodeRef) → IsPastAll ns (next_of ns) × ((next : ℕ) → IsPastAll ns next → next_of ns ≤ next)
+
+-- the greatest version is the least that no version of the number passes
+abbrev pub IsNotPassed : List NodeRef → ℕ → ℕ → Type 0
+IsNotPassed ns i version = (node : NodeRef) → Contains ns node → owner node ≡ i → version_of node ≤ version
+
+abbrev pub TopIsLeastNotPassed : Type 0
+TopIsLeastNotPassed = (ns : List NodeRef) (i : ℕ) → IsNotPassed ns i (top ns i) × ((version : ℕ) → IsNotPassed ns i version → top ns i ≤ version)

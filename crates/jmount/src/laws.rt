@@ -40,6 +40,18 @@ pub fn objects_are_of_highest()
     ensures bytes { law.ByteIsOfHighest }
 {}
 
+/// A name stands for what its entry of highest version says, and for nothing where that says that it is gone.
+pub fn names_are_of_newest()
+    ensures some { law.NameIsOfNewest }
+    ensures none { law.NoNameIsOfNone }
+{}
+
+/// The next number and the greatest versions are the least that serve.
+pub fn numbers_are_least()
+    ensures next { law.NextIsLeastPastAll }
+    ensures top { law.TopIsLeastNotPassed }
+{}
+
 /// Greatest versions and the next number come of inode nodes and of entries.
 pub fn numbers_are_of_both_kinds()
     ensures top { law.TopIsOfBothKinds }
