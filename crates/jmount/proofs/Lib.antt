@@ -6,3 +6,4 @@ pub mod OneMoreLemmas
 pub mod PathLemmas
 pub mod SameLemmas
 pub mod StateLemmas
+pub mod UseLemmas

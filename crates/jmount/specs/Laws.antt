@@ -7,12 +7,13 @@ use Rattle.jfrag.specs.Overlays.{standing, byte_at}
 use Rattle.jname.specs.Live.{Key, is_at, ino_if_any, live, highest}
 use Rattle.jname.specs.Clash as names
 use Rattle.jnode.specs.declared.node.InodeNode.{InodeNode}
-use Rattle.jnode.specs.Writing.{HoldsRange}
+use Rattle.jnode.specs.Writing.{FitsInode, HoldsRange}
+use Rattle.flashbase.specs.Ranges.{IsHalf, IsWord}
 use Rattle.jnode.specs.declared.node.Dirent.{Dirent}
 use Rattle.jnode.specs.declared.node.NodeRef.{NodeRef}
 use Rattle.jnode.specs.declared.node.NodeRef.TheVariants.{Entry, Inode}
-use Rattle.jmount.specs.Clash.{NoClashes}
-use Rattle.jmount.specs.Tree.{ObjectOf, object, named}
+use Rattle.jmount.specs.Clash.{Clashes, NoClashes}
+use Rattle.jmount.specs.Tree.{ObjectOf, State, object, named}
 use Rattle.jmount.specs.StateOf.{inodes, entries, versions_of, piece_of, contents, default_root, object_by, object_of, objects_of, numbers_in, next_of, owner, version_of, top, tops_of, state_of}
 use Rattle.jmount.specs.Shown.{top_at}
 use Rattle.jmount.specs.Find.{IsPath, path_names}
@@ -202,3 +203,38 @@ IsNotPassed ns i version = (node : NodeRef) → Contains ns node → owner node 
 
 abbrev pub TopIsLeastNotPassed : Type 0
 TopIsLeastNotPassed = (ns : List NodeRef) (i : ℕ) → IsNotPassed ns i (top ns i) × ((version : ℕ) → IsNotPassed ns i version → top ns i ≤ version)
+
+-- ---- numbers that are in use
+
+-- objects, directories that have names, and what names stand for have numbers below the next
+pub record IsNumbered (s : State) : Type 0 where
+  pub objects : (i : ℕ) (o : ObjectOf (List ℕ)) → object s i ≡ Some o → i < s.next
+  pub directories : (dir : ℕ) (name : List ℕ) (i : ℕ) → named s dir name ≡ Some i → dir < s.next
+  pub linked : (dir : ℕ) (name : List ℕ) (i : ℕ) → named s dir name ≡ Some i → (0 < i) × (i < s.next)
+
+abbrev pub StateIsNumbered : Type 0
+StateIsNumbered = (ns : List NodeRef) → IsNumbered (state_of ns)
+
+-- a number from the next on has no object, no versions and no names
+abbrev pub FreshNumberIsFree : Type 0
+FreshNumberIsFree = (ns : List NodeRef) (i : ℕ) → (state_of ns).next ≤ i
+    → (object (state_of ns) i ≡ None) × (top ns i ≡ 0) × ((name : List ℕ) → named (state_of ns) i name ≡ None)
+
+-- a node of a version above its number's clashes with none
+abbrev pub NewNodeDoesNotClash : Type 0
+NewNodeDoesNotClash = (ns : List NodeRef) (node other : NodeRef) → top ns (owner node) < version_of node → Contains ns other → Clashes other node → ⊥
+
+-- ---- widths
+
+pub record ObjectFits (o : ObjectOf (List ℕ)) : Type 0 where
+  pub mode : IsWord o.mode
+  pub uid : IsHalf o.uid
+  pub gid : IsHalf o.gid
+  pub atime : IsWord o.atime
+  pub mtime : IsWord o.mtime
+  pub ctime : IsWord o.ctime
+  pub size : IsWord (length o.body)
+
+-- the objects of nodes that fit their widths fit theirs
+abbrev pub ObjectsFit : Type 0
+ObjectsFit = (nodes : List InodeNode) (i : ℕ) (o : ObjectOf (List ℕ)) → ((node : InodeNode) → Contains nodes node → FitsInode node) → object_of nodes i ≡ Some o → ObjectFits o

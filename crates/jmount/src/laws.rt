@@ -69,6 +69,18 @@ pub fn one_more_node()
     ensures names { law.InodeKeepsNames }
 {}
 
+/// Which numbers are in use, and what a new node may take.
+pub fn numbers_in_use()
+    ensures used { law.StateIsNumbered }
+    ensures free { law.FreshNumberIsFree }
+    ensures apart { law.NewNodeDoesNotClash }
+{}
+
+/// Objects fit their widths, as the nodes that make them do.
+pub fn objects_fit()
+    ensures { law.ObjectsFit }
+{}
+
 /// What a path is, as a relation and as a function.
 pub fn paths_have_names()
     ensures { law.PathNamesExactly }
