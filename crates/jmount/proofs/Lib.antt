@@ -1,5 +1,8 @@
 pub mod InodesLemmas
+pub mod LeastLemmas
+pub mod NamesLemmas
 pub mod NumbersLemmas
+pub mod ObjectsLemmas
 pub mod OneMoreLemmas
 pub mod PathLemmas
 pub mod PathNameLemmas
@@ -13,3 +16,4 @@ pub mod StoringLemmas
 pub mod ReadLemmas
 pub mod TopLemmas
 pub mod WalkLemmas
+pub mod UseLemmas

@@ -32,6 +32,26 @@ pub fn tops_have_each()
     ensures { law.TopsHaveEach }
 {}
 
+/// An object has the attributes and the size of its highest version, and each byte of the highest version that covers it.
+pub fn objects_are_of_highest()
+    ensures range { law.PieceIsRange }
+    ensures attributes { law.ObjectIsOfLatest }
+    ensures none { law.NoObjectWithoutNodes }
+    ensures bytes { law.ByteIsOfHighest }
+{}
+
+/// A name stands for what its entry of highest version says, and for nothing where that says that it is gone.
+pub fn names_are_of_newest()
+    ensures some { law.NameIsOfNewest }
+    ensures none { law.NoNameIsOfNone }
+{}
+
+/// The next number and the greatest versions are the least that serve.
+pub fn numbers_are_least()
+    ensures next { law.NextIsLeastPastAll }
+    ensures top { law.TopIsLeastNotPassed }
+{}
+
 /// Greatest versions and the next number come of inode nodes and of entries.
 pub fn numbers_are_of_both_kinds()
     ensures top { law.TopIsOfBothKinds }
@@ -47,6 +67,18 @@ pub fn one_more_node()
     ensures bytes { law.NewBytesStand }
     ensures objects { law.EntryKeepsObjects }
     ensures names { law.InodeKeepsNames }
+{}
+
+/// Which numbers are in use, and what a new node may take.
+pub fn numbers_in_use()
+    ensures used { law.StateIsNumbered }
+    ensures free { law.FreshNumberIsFree }
+    ensures apart { law.NewNodeDoesNotClash }
+{}
+
+/// Objects fit their widths, as the nodes that make them do.
+pub fn objects_fit()
+    ensures { law.ObjectsFit }
 {}
 
 /// What a path is, as a relation and as a function.
