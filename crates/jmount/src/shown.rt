@@ -10,7 +10,9 @@ use crate::stored::Stored;
 
 // Bits 12 to 15 of a mode (Linux, include/uapi/linux/stat.h).
 const DIRECTORY: u32 = 4;
+
 const REGULAR: u32 = 8;
+
 const SYMLINK: u32 = 10;
 
 /// An object as callers see it.

@@ -4,8 +4,8 @@ ghost use Rattle.std.specs.Prelude.{◌≡◌, ◌+◌, ◌≤◌, ◌<◌, ◌^
 ghost use Rattle.jfrag.specs.Pieces.{end_of};
 
 use super::Mounted;
-use crate::{FindFault, Kind, Object};
 use crate::stored::Stored;
+use crate::{FindFault, Kind, Object};
 use flashbase::Part;
 use jfrag::{Body, FragOverlay, Overlay, Piece};
 use jname::{NameFault, Names};
@@ -92,43 +92,65 @@ fn mounted(alloc: Global) -> Result<Mounted<'static>, NameFault> {
 }
 
 #[test]
-fn paths_name_objects(rt: HostRuntime) {
-    let Ok(mounted) = mounted(rt.alloc()) else {
-        return;
-    };
-    for (path, ino) in [(b"/".as_slice(), 1), (b"/d", 2), (b"/d/f", 3), (b"/d/x/d/x", 1), (b"/d/x/d/s", 5)] {
+fn paths_name_objects(rt: HostRuntime) -> Result<(), Fail> {
+    let mounted = mounted(rt.alloc())?;
+    for (path, ino) in [
+        (b"/".as_slice(), 1),
+        (b"/d", 2),
+        (b"/d/f", 3),
+        (b"/d/x/d/x", 1),
+        (b"/d/x/d/s", 5),
+    ] {
         assert_eq!(rt; mounted.find(path), Ok(ino));
     }
+    Ok(())
 }
 
 #[test]
-fn other_texts_are_no_paths(rt: HostRuntime) {
-    let Ok(mounted) = mounted(rt.alloc()) else {
-        return;
-    };
-    for text in [b"".as_slice(), b"d", b"d/f", b"//", b"/d/", b"//d", b"/.", b"/d/..", b"/d\0", b"/no//", b"/q/.", b"\0"] {
+fn other_texts_are_no_paths(rt: HostRuntime) -> Result<(), Fail> {
+    let mounted = mounted(rt.alloc())?;
+    for text in [
+        b"".as_slice(),
+        b"d",
+        b"d/f",
+        b"//",
+        b"/d/",
+        b"//d",
+        b"/.",
+        b"/d/..",
+        b"/d\0",
+        b"/no//",
+        b"/q/.",
+        b"\0",
+    ] {
         assert_eq!(rt; mounted.find(text), Err(FindFault::BadPath));
     }
+    Ok(())
 }
 
 #[test]
-fn the_first_fault_counts(rt: HostRuntime) {
-    let Ok(mounted) = mounted(rt.alloc()) else {
-        return;
-    };
-    for path in [b"/no".as_slice(), b"/q", b"/gone", b"/d/...", b"/q/f", b"/D", b"/d/d"] {
+fn the_first_fault_counts(rt: HostRuntime) -> Result<(), Fail> {
+    let mounted = mounted(rt.alloc())?;
+    for path in [
+        b"/no".as_slice(),
+        b"/q",
+        b"/gone",
+        b"/d/...",
+        b"/q/f",
+        b"/D",
+        b"/d/d",
+    ] {
         assert_eq!(rt; mounted.find(path), Err(FindFault::NotFound));
     }
     for path in [b"/d/f/x".as_slice(), b"/d/s/x", b"/d/f/no/x"] {
         assert_eq!(rt; mounted.find(path), Err(FindFault::NotDirectory));
     }
+    Ok(())
 }
 
 #[test]
-fn objects_are_shown(rt: HostRuntime) {
-    let Ok(mounted) = mounted(rt.alloc()) else {
-        return;
-    };
+fn objects_are_shown(rt: HostRuntime) -> Result<(), Fail> {
+    let mounted = mounted(rt.alloc())?;
     let file = Object {
         kind: Kind::Regular,
         mode: 0o100644,
@@ -155,33 +177,55 @@ fn objects_are_shown(rt: HostRuntime) {
         assert_eq!(rt; next.map(|(_, object)| object.kind), Some(kind));
     }
     assert_eq!(rt; objects.next(), None);
+    Ok(())
+}
+
+/// Whether these are all names, in this order.
+fn are_all(mounted: &Mounted<'_>, wanted: &[(u32, &[u8], u32)]) -> bool {
+    let mut names = mounted.names();
+    for &name in wanted {
+        if names.next() != Some(name) {
+            return false;
+        }
+    }
+    names.next().is_none()
 }
 
 #[test]
-fn names_are_listed(rt: HostRuntime) {
-    let Ok(mounted) = mounted(rt.alloc()) else {
-        return;
-    };
+fn names_are_listed(rt: HostRuntime) -> Result<(), Fail> {
+    let mounted = mounted(rt.alloc())?;
     let mut entries = mounted.entries(1);
     assert_eq!(rt; entries.next(), Some((b"d".as_slice(), 2)));
     assert_eq!(rt; entries.next(), Some((b"q".as_slice(), 57)));
     assert_eq!(rt; entries.next(), None);
-    assert_eq!(rt; mounted.entries(3).next(), None);
-    let mut names = mounted.names();
-    assert_eq!(rt; names.next(), Some((1, b"d".as_slice(), 2)));
-    assert_eq!(rt; names.next(), Some((1, b"q".as_slice(), 57)));
-    assert_eq!(rt; names.next(), Some((2, b"f".as_slice(), 3)));
-    assert_eq!(rt; names.count(), 3);
-    let dangling = mounted.dangling(rt.alloc());
-    assert_eq!(rt; dangling.as_deref().map(|names| names.len()), Ok(1));
-    assert_eq!(rt; dangling.as_deref().map(|names| names.first().copied()), Ok(Some((1, b"q".as_slice(), 57))));
+    assert!(rt; mounted.entries(3).next().is_none());
+    Ok(())
 }
 
 #[test]
-fn bytes_are_read(rt: HostRuntime) {
-    let Ok(mounted) = mounted(rt.alloc()) else {
-        return;
-    };
+fn all_names_are_listed(rt: HostRuntime) -> Result<(), Fail> {
+    let mounted = mounted(rt.alloc())?;
+    assert!(rt;
+        are_all(
+            &mounted,
+            &[
+                (1, b"d", 2),
+                (1, b"q", 57),
+                (2, b"f", 3),
+                (2, b"g", 4),
+                (2, b"s", 5),
+                (2, b"x", 1)
+            ]
+        )
+    );
+    let dangling = mounted.dangling(rt.alloc())?;
+    assert_eq!(rt; dangling.as_slice(), [(1, b"q".as_slice(), 57)].as_slice());
+    Ok(())
+}
+
+#[test]
+fn bytes_are_read(rt: HostRuntime) -> Result<(), Fail> {
+    let mounted = mounted(rt.alloc())?;
     for (ino, offset, count, bytes) in [
         (3, 0, 4, b"heLL"),
         (3, 1, 4, b"eLLo"),
@@ -196,17 +240,20 @@ fn bytes_are_read(rt: HostRuntime) {
         (57, 0, 0, b"####"),
     ] {
         let mut out = *b"####";
-        assert_eq!(rt; mounted.read_at(ino, offset, &mut out), count, "{ino} at {offset}");
+        assert_eq!(rt;
+            mounted.read_at(ino, offset, &mut out),
+            count,
+            "{ino} at {offset}"
+        );
         assert_eq!(rt; out, *bytes, "{ino} at {offset}");
     }
     assert_eq!(rt; mounted.read_at(3, 0, &mut []), 0);
+    Ok(())
 }
 
 #[test]
-fn versions_and_numbers_go_on(rt: HostRuntime) {
-    let Ok(mounted) = mounted(rt.alloc()) else {
-        return;
-    };
+fn versions_and_numbers_go_on(rt: HostRuntime) -> Result<(), Fail> {
+    let mounted = mounted(rt.alloc())?;
     for (ino, top) in [(1, 12), (2, 11), (3, 4), (9, 3), (57, 0), (6, 0)] {
         assert_eq!(rt; mounted.top(ino), top);
     }
@@ -214,4 +261,5 @@ fn versions_and_numbers_go_on(rt: HostRuntime) {
     assert_eq!(rt; mounted.image(), b"image".as_slice());
     assert!(rt; mounted.findings().is_empty());
     assert!(rt; !mounted.read_only());
+    Ok(())
 }

@@ -14,7 +14,7 @@ returns-clause-count c =
     let stored = c.args.stored.now in
     let has = sym c.has_bytes.ensures ∙ c.if-not-has_bytes.false in
     let held : length (bytes_if (Some (stored_object stored))) ≡ stored.size =
-        ap length (bytes-held (stored_object stored) has) ∙ length-each_below stored.size (λ place. byte_at (stands_in stored.bytes place)) in
+    ap length (bytes-held (stored_object stored) has) ∙ length-each_below stored.size (λ place. byte_at (stands_in stored.bytes place)) in
     let left = c.saturating_sub-left.ensures in
     let size = c.from.ensures in
     let count = c.min-count.ensures in
