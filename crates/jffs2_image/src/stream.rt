@@ -1,6 +1,6 @@
 //! The report of a source, block by block.
 
-ghost use Rattle.std.specs.Prelude.{◌≡◌, ◌<◌, ◌≤◌, ◌/◌, ◌↔◌, ◌⊎◌, IsFalse, IfErr, IfOk, IfSome, IsErrOf, OnOk, length};
+ghost use Rattle.std.specs.Prelude.{◌≡◌, ◌≢◌, ◌<◌, ◌≤◌, ◌/◌, ◌↔◌, ◌⊎◌, Err, IsFalse, IfErr, IfOk, IfSome, IsErrOf, OnOk, length};
 ghost use Rattle.std.specs.Io.KnownBytes.{Appends};
 ghost use Rattle.flashbase.specs.Device.{PutsPart, next_count};
 ghost use Rattle.jscan.specs.Counts.{is_found};
@@ -27,7 +27,6 @@ pub fn stream_lines<E: Order, S: Source, T: Sink>(
     ensures text { OnOk result (IfSome (S.rest source) (λ image. Appends (T.taken sink.old) (T.taken sink.new) (scan_text E.order geometry.block image))) }
     ensures findings { IfOk result (λ n. IfSome (S.rest source) (λ image. n ≡ number_of is_found E.order geometry.block image)) }
     ensures within { OnOk result (IfSome (S.rest source) (λ image. length image ≤ greatest_image)) }
-    ensures none_failed { OnOk result (T.failures sink.new ≡ T.failures sink.old) }
 
     // The size of a block is judged first, and then the memory of one is taken. Nothing is put before.
     ensures block_size { IsErrOf result (ProgramFault.Scan ScanFault.BlockSize) ↔ IsFalse (is_block_size geometry.block) }
@@ -44,8 +43,9 @@ pub fn stream_lines<E: Order, S: Source, T: Sink>(
     ensures before_limit { IsErrOf result (ProgramFault.Load LoadFault.TooLarge) → IfSome (S.rest source)
         (λ image. Appends (T.taken sink.old) (T.taken sink.new) (lines_below E.order geometry.block image (greatest_image / geometry.block))) }
 
-    // Where the sink fails, a beginning of the report has gone out.
+    // The sink is blamed exactly where it failed. A beginning of the report has gone out then.
     ensures output { IsErrOf result ProgramFault.Output → T.failures sink.new ≡ next_count (T.failures sink.old) }
+    ensures none_failed { result ≢ Err ProgramFault.Output → T.failures sink.new ≡ T.failures sink.old }
     ensures began { IsErrOf result ProgramFault.Output → IfSome (S.rest source)
         (λ image. PutsPart (T.taken sink.old) (T.taken sink.new) (scan_text E.order geometry.block image)) }
     ensures other { IfErr result IsFaultOfReport }
