@@ -13,3 +13,4 @@ pub mod StoringLemmas
 pub mod ReadLemmas
 pub mod TopLemmas
 pub mod WalkLemmas
+pub mod VersionsLemmas
