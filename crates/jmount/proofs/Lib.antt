@@ -17,3 +17,4 @@ pub mod ReadLemmas
 pub mod TopLemmas
 pub mod WalkLemmas
 pub mod UseLemmas
+pub mod VersionsLemmas

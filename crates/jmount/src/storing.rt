@@ -6,18 +6,55 @@ ghost use Rattle.std.specs.BTreeMap.{IsOrdered, get};
 ghost use Rattle.jfrag.specs.Pieces.{end_of};
 ghost use Rattle.jmount.specs.Inodes.{IsByVersion, IsKeyed, nodes_in, nodes_of};
 ghost use Rattle.jmount.specs.StateOf.{body_of, piece_of};
-ghost use Rattle.jmount.specs.Storing.{made_at, made_by, shown};
+ghost use Rattle.jmount.specs.Storing.{made_at, made_by, made_root, or_made_root, shown};
 
 use crate::inodes::ByNumber;
 use crate::stored::Stored;
 use crate::versions::Versions;
-use jfrag::{Body, Piece, overlay};
+use jfrag::{Body, FragOverlay, Overlay, Piece, overlay};
 use jnode::{Fill, InodeNode};
 use std::alloc::{AllocError, Global};
 use std::collections::BTreeMap;
 
+// The root's number.
+const ROOT: u32 = 1;
+
+/// The objects of these numbers, and the root.
+pub fn objects_with_root<'a>(
+    alloc: Global,
+    numbers: &ByNumber<'a>,
+) -> Result<BTreeMap<u32, Stored<'a>>, AllocError>
+    requires keyed { IsKeyed numbers.now }
+    requires ends { All (λ node. end_of (piece_of node) < 2 ^ 32) (nodes_of numbers.now) }
+    ensures each { IfOk result (λ objects. (i : ℕ) → option_map shown (get nat_cmp objects i) ≡ or_made_root i (made_at numbers.now i)) }
+    ensures ordered { IfOk result (IsOrdered nat_cmp) }
+{
+    let mut objects = objects_of(alloc, numbers)?;
+    if !objects.contains_key(&ROOT) {
+        objects.insert(ROOT, default_root(alloc))?;
+    }
+    Ok(objects)
+}
+
+/// The root of an image that has no inode node for it.
+fn default_root<'a>(alloc: Global) -> Stored<'a>
+    ensures { shown result ≡ made_root }
+{
+    Stored {
+        version: 0,
+        mode: 0o040755,
+        uid: 0,
+        gid: 0,
+        size: 0,
+        atime: 0,
+        mtime: 0,
+        ctime: 0,
+        bytes: FragOverlay::new(alloc),
+    }
+}
+
 /// The objects of these numbers.
-pub fn objects_of<'a>(
+fn objects_of<'a>(
     alloc: Global,
     numbers: &ByNumber<'a>,
 ) -> Result<BTreeMap<u32, Stored<'a>>, AllocError>
