@@ -90,9 +90,11 @@ unfolding Falls Ascends
 falls_ascend addr left [] falls = tt
 falls_ascend addr left (s ∷ ss) falls =
     let end : (addr + s.len) + (left - s.len) ≡ addr + left = omega (arith, falls.2) in
-    let next = subst (λ (n : ℕ). Ascends (λ (t : Stretch). t.addr) (addr + s.len) n ss) end (falls_ascend (addr + s.len) (left - s.len) ss falls.4) in
-    (omega (arith, falls.0), omega (arith, falls.0, falls.1, falls.2),
-    from_lower (λ (t : Stretch). t.addr) (addr + s.len) (s.addr + 1) (addr + left) ss (omega (arith, falls.0, falls.1)) next)
+    let next = subst (λ (n : ℕ). Ascends (λ (t : Stretch). t.addr) (addr + s.len) n ss) end (falls_ascend (addr + s.len) (left - s.len) ss falls.4) in (
+      omega (arith, falls.0),
+      omega (arith, falls.0, falls.1, falls.2),
+      from_lower (λ (t : Stretch). t.addr) (addr + s.len) (s.addr + 1) (addr + left) ss (omega (arith, falls.0, falls.1)) next,
+    )
 
 block_ascends : (e : Endian) (size : ℕ) (image : List ℕ) (k : ℕ) → Ascends (λ (s : Stretch). s.addr) (k * size) (suc k * size) (stretches_of_block e size image k)
 block_ascends e size image k =

@@ -66,7 +66,11 @@ tile_read : (e : Endian) (start place : ℕ) (block rest : List ℕ) → length 
 tile_read e start place block rest within words bytes =
     tile_cases e place rest (λ tile. (s : ℕ × Seen) → sighting e (start + tile.place) tile.bytes tile.kind ≡ Some s → IsReadIn e block s.1)
     (λ good s is. record {
-      rest = rest; good = good_found e rest good; words = words; within = within; bytes = bytes;
+      rest = rest;
+      good = good_found e rest good;
+      words = words;
+      within = within;
+      bytes = bytes;
       seen = ap (λ (t : ℕ × Seen). t.1) {x = s} {y = (start + place, seen_of e (tile_of e rest))} cc;
     })
     (λ bad long s is. cc)

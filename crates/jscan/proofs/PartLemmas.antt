@@ -21,9 +21,9 @@ filled_up size len rest is =
     ap (λ (n : ℕ). take n rest ++ erased (size - n)) all
     ∙ (ap (λ (l : List ℕ). l ++ erased (size - length rest)) (take_all (length rest) rest (omega arith))
     ∙ sym (
-      ap (λ (n : ℕ). take n (rest ++ erased size)) {y = length rest + (size - length rest)} (omega arith)
-      ∙ take-append-add rest (erased size) (size - length rest)
-      ∙ ap (λ (l : List ℕ). rest ++ l) (take-replicate (size - length rest) size 0xFF (omega arith))
+    ap (λ (n : ℕ). take n (rest ++ erased size)) {y = length rest + (size - length rest)} (omega arith)
+    ∙ take-append-add rest (erased size) (size - length rest)
+    ∙ ap (λ (l : List ℕ). rest ++ l) (take-replicate (size - length rest) size 0xFF (omega arith))
     )))
     (λ whole.
     let full : len ≡ size = omega (arith, is) in

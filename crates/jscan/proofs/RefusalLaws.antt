@@ -43,13 +43,17 @@ found_in (s ∷ ss) why is = by_cases (found_in ss why) (refusal_by s) refl
 pub refusal_is_first : (e : Endian) (size : ℕ) (image : List ℕ) (why : ScanFault) → first_refused e size image ≡ Some why
     → (before after : List (ℕ × Seen)) × (s : ℕ × Seen) × IsRefusedAt (sightings e size image) before after s why
 refusal_is_first e size image why is =
-    let it = found_in (sightings e size image) why is in
-    (it.front, it.back, it.at, record {
-      stands = it.is;
-      refuses = it.refuses;
-      none_before = λ t has. of_each (λ u. refusal_by u ≡ None) it.front t it.none has;
-      in_front = it.in_front;
-    })
+    let it = found_in (sightings e size image) why is in (
+      it.front,
+      it.back,
+      it.at,
+      record {
+        stands = it.is;
+        refuses = it.refuses;
+        none_before = λ t has. of_each (λ u. refusal_by u ≡ None) it.front t it.none has;
+        in_front = it.in_front;
+      },
+    )
 
 none_in : (ss : List (ℕ × Seen)) → refusal_among ss ≡ None → AllByRecursion (λ t. refusal_by t ≡ None) ss
 none_in [] is = tt
@@ -62,6 +66,7 @@ none_in (s ∷ ss) is = by_cases (none_in ss) (refusal_by s) refl
 
 pub none_refuses : (e : Endian) (size : ℕ) (image : List ℕ) → first_refused e size image ≡ None
     → (before_refusal (sightings e size image) ≡ sightings e size image) × ((s : ℕ × Seen) → Contains (sightings e size image) s → refusal_by s ≡ None)
-none_refuses e size image is =
-    (before_none (sightings e size image) is,
-    λ s has. of_each (λ u. refusal_by u ≡ None) (sightings e size image) s (none_in (sightings e size image) is) has)
+none_refuses e size image is = (
+  before_none (sightings e size image) is,
+  λ s has. of_each (λ u. refusal_by u ≡ None) (sightings e size image) s (none_in (sightings e size image) is) has,
+)

@@ -56,11 +56,7 @@ pub(crate) fn erased_run_of(part: &Part<'_>) -> usize
 {
     let held = part.held();
     let run = erased_run(held);
-    if run < held.len() {
-        run
-    } else {
-        part.len()
-    }
+    if run < held.len() { run } else { part.len() }
 }
 
 /// Whether all bytes are 0xFF.

@@ -38,11 +38,13 @@ fn sighting_row(sighting: (u32, Seen<'_>)) -> (u32, &'static str) {
     (addr, shown(&Look::Tiled(seen)))
 }
 
-/// Erased flash of `len` bytes, with these bytes at these places.
+/// Erased flash of `len` bytes, with as much of these bytes at these places as there is room for.
 fn image(alloc: Global, len: usize, pieces: &[(usize, &[u8])]) -> Result<Vec<u8>, Fail> {
     let mut bytes = vec![in alloc; 0xffu8; len]?;
     for (place, piece) in pieces {
-        bytes[*place..*place + piece.len()].copy_from_slice(piece);
+        for (byte, of_piece) in bytes.iter_mut().skip(*place).zip(piece.iter()) {
+            *byte = *of_piece;
+        }
     }
     Ok(bytes)
 }
@@ -90,7 +92,10 @@ fn a_name_that_passes_the_end_of_its_block(rt: HostRuntime) -> Result<(), Fail> 
     let bytes = image(alloc, 8192, &[(4056, &ENTRY_A)])?;
     let scan = scan::<LittleEndian>(alloc, &bytes, GEOMETRY)?;
     assert_eq!(rt; scan.nodes.len(), 0);
-    assert_eq!(rt; scan.findings.as_slice(), [dirt(0xfd8), dirt(0x1000)].as_slice());
+    assert_eq!(rt;
+        scan.findings.as_slice(),
+        [dirt(0xfd8), dirt(0x1000)].as_slice()
+    );
     Ok(())
 }
 
@@ -100,23 +105,52 @@ fn blocks_and_images_of_other_sizes(rt: HostRuntime) -> Result<(), Fail> {
     for block in [0, 4092, 4098, 4_194_308] {
         let geometry = Geometry { block };
         let fault = ScanFault::BlockSize;
-        assert_eq!(rt; survey::<BigEndian>(alloc, &[], geometry).err(), Some(fault));
+        assert_eq!(rt;
+            survey::<BigEndian>(alloc, &[], geometry).err(),
+            Some(fault)
+        );
         assert_eq!(rt; scan::<BigEndian>(alloc, &[], geometry).err(), Some(fault));
-        assert_eq!(rt; Sightings::<BigEndian>::new(&[], geometry).err(), Some(fault));
+        assert_eq!(rt;
+            Sightings::<BigEndian>::new(&[], geometry).err(),
+            Some(fault)
+        );
     }
     let scan = scan::<BigEndian>(alloc, &[], GEOMETRY)?;
-    assert_eq!(rt; (scan.nodes.len(), scan.findings.len(), scan.read_only), (0, 0, false));
+    assert_eq!(rt;
+        (scan.nodes.len(), scan.findings.len(), scan.read_only),
+        (0, 0, false)
+    );
     Ok(())
+}
+
+/// One byte more than is scanned.
+fn long_image(alloc: Global) -> Result<Vec<u8>, Fail> {
+    let mebibyte = vec![in alloc; 0u8; 1_048_576]?;
+    let mut bytes = Vec::with_capacity(alloc, GREATEST_IMAGE + 1)?;
+    for _ in 0..256 {
+        bytes.extend_from_slice(&mebibyte)?;
+    }
+    bytes.push(0)?;
+    Ok(bytes)
 }
 
 #[test]
 fn an_image_that_is_too_large(rt: HostRuntime) -> Result<(), Fail> {
     let alloc = rt.alloc();
-    let bytes = vec![in alloc; 0u8; GREATEST_IMAGE + 1]?;
+    let bytes = long_image(alloc)?;
     let fault = ScanFault::TooLarge;
-    assert_eq!(rt; survey::<BigEndian>(alloc, &bytes, GEOMETRY).err(), Some(fault));
-    assert_eq!(rt; scan::<BigEndian>(alloc, &bytes, GEOMETRY).err(), Some(fault));
-    assert_eq!(rt; Sightings::<BigEndian>::new(&bytes, GEOMETRY).err(), Some(fault));
+    assert_eq!(rt;
+        survey::<BigEndian>(alloc, &bytes, GEOMETRY).err(),
+        Some(fault)
+    );
+    assert_eq!(rt;
+        scan::<BigEndian>(alloc, &bytes, GEOMETRY).err(),
+        Some(fault)
+    );
+    assert_eq!(rt;
+        Sightings::<BigEndian>::new(&bytes, GEOMETRY).err(),
+        Some(fault)
+    );
     let unread = survey::<BigEndian>(alloc, &bytes, Geometry { block: 4095 });
     assert_eq!(rt; unread.err(), Some(ScanFault::BlockSize));
     Ok(())
@@ -162,10 +196,16 @@ fn the_first_refusal_counts(rt: HostRuntime) -> Result<(), Fail> {
     let second = [marked, (4096, &COMPRESSED), (8192, &INCOMPATIBLE)];
     for (pieces, want) in [(first, incompatible(4096)), (second, compressed(4096))] {
         let bytes = image(alloc, 12288, &pieces)?;
-        assert_eq!(rt; scan::<LittleEndian>(alloc, &bytes, GEOMETRY).err(), Some(want));
+        assert_eq!(rt;
+            scan::<LittleEndian>(alloc, &bytes, GEOMETRY).err(),
+            Some(want)
+        );
         let survey = survey::<LittleEndian>(alloc, &bytes, GEOMETRY)?;
         assert_eq!(rt; survey.refused, Some(want));
-        assert_eq!(rt; rows(alloc, &survey.nodes)?.as_slice(), [(0, "entry", 2, 1, 1)].as_slice());
+        assert_eq!(rt;
+            rows(alloc, &survey.nodes)?.as_slice(),
+            [(0, "entry", 2, 1, 1)].as_slice()
+        );
     }
     Ok(())
 }
@@ -185,10 +225,7 @@ fn node_with_tail(alloc: Global) -> Result<Vec<u8>, Fail> {
         ctime: 0,
         offset: 0,
         dsize: 8,
-        fill: Fill::Data(Part::new(
-            &[0x61, 0x62, 0xff, 0xff, 0xff, 0xff, 0xff, 0xff],
-            0,
-        )),
+        fill: Fill::Data(Part::new(&[0x61, 0x62, 0xff, 0xff, 0xff, 0xff, 0xff, 0xff], 0)),
     };
     write_inode::<LittleEndian>(&mut bytes, &node)?;
     Ok(bytes)
@@ -198,13 +235,17 @@ fn node_with_tail(alloc: Global) -> Result<Vec<u8>, Fail> {
 fn data_that_pass_the_end_of_the_image(rt: HostRuntime) -> Result<(), Fail> {
     let alloc = rt.alloc();
     let node = node_with_tail(alloc)?;
-    let whole = image(alloc, 4096 + 76, &[(4096, &node)])?;
     for len in [4096 + 70, 4096 + 72, 4096 + 73, 4096 + 76] {
-        let scan = scan::<LittleEndian>(alloc, &whole[..len], GEOMETRY)?;
-        assert_eq!(rt; rows(alloc, &scan.nodes)?.as_slice(), [(4096, "inode", 2, 1, 8)].as_slice());
+        let bytes = image(alloc, len, &[(4096, &node)])?;
+        let scan = scan::<LittleEndian>(alloc, &bytes, GEOMETRY)?;
+        assert_eq!(rt;
+            rows(alloc, &scan.nodes)?.as_slice(),
+            [(4096, "inode", 2, 1, 8)].as_slice()
+        );
         assert_eq!(rt; scan.findings.len(), 0);
     }
-    let scan = scan::<LittleEndian>(alloc, &whole[..4096 + 69], GEOMETRY)?;
+    let bytes = image(alloc, 4096 + 69, &[(4096, &node)])?;
+    let scan = scan::<LittleEndian>(alloc, &bytes, GEOMETRY)?;
     let damaged = Finding {
         addr: 4096,
         kind: FindingKind::Damaged(Damage::DataCrc),
@@ -225,7 +266,37 @@ fn words_that_pass_the_end_of_the_image(rt: HostRuntime) -> Result<(), Fail> {
         kind: FindingKind::OtherOrder,
     };
     assert_eq!(rt; scanned.findings.as_slice(), [other].as_slice());
-    let scanned = scan::<LittleEndian>(alloc, &bytes[..4097], GEOMETRY)?;
+    let bytes = image(alloc, 4097, &[(4096, &other_order)])?;
+    let scanned = scan::<LittleEndian>(alloc, &bytes, GEOMETRY)?;
     assert_eq!(rt; scanned.findings.as_slice(), [dirt(4096)].as_slice());
     Ok(())
+}
+
+/// Passes with each allocation failing in turn too: memory is then blamed, and nothing else. Sightings take none.
+#[test]
+fn scans_with_little_memory(rt: HostRuntime) {
+    let alloc = rt.alloc();
+    let mut image = [0xff; 4137];
+    image[..12].copy_from_slice(&LITTLE_MARKER);
+    image[12..56].copy_from_slice(&ENTRY_A);
+    image[64] = 0;
+    image[4096..4137].copy_from_slice(&ENTRY_A[..41]);
+    match scan::<LittleEndian>(alloc, &image, GEOMETRY) {
+        Ok(scan) => {
+            assert_eq!(rt; scan.nodes.len(), 2);
+            assert_eq!(rt; scan.findings.as_slice(), [dirt(64)].as_slice());
+        }
+        Err(fault) => assert_eq!(rt; fault, ScanFault::OutOfMemory),
+    }
+    match survey::<LittleEndian>(alloc, &image, GEOMETRY) {
+        Ok(survey) => {
+            assert_eq!(rt; (survey.nodes.len(), survey.refused), (2, None));
+            assert_eq!(rt; survey.findings.as_slice(), [dirt(64)].as_slice());
+        }
+        Err(fault) => assert_eq!(rt; fault, ScanFault::OutOfMemory),
+    }
+    match Sightings::<LittleEndian>::new(&image, GEOMETRY) {
+        Ok(sightings) => assert_eq!(rt; sightings.count(), 3),
+        Err(fault) => assert!(rt; false, "{fault}"),
+    }
 }
