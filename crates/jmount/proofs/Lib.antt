@@ -3,6 +3,7 @@ pub mod NamesLemmas
 pub mod NumbersLemmas
 pub mod ObjectsLemmas
 pub mod OneMoreLemmas
+pub mod OutlineLemmas
 pub mod PathLemmas
 pub mod SameLemmas
 pub mod StateLemmas
