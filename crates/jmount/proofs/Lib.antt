@@ -4,6 +4,7 @@ pub mod NamesLemmas
 pub mod NumbersLemmas
 pub mod ObjectsLemmas
 pub mod OneMoreLemmas
+pub mod OutlineLemmas
 pub mod PathLemmas
 pub mod PathNameLemmas
 pub mod SameLemmas

@@ -1,5 +1,5 @@
 -- Laws of the definitions. Each is a statement: it holds since a public function's contract names it.
-use Rattle.std.specs.Prelude.{◌≡◌, ◌≢◌, ◌↔◌, ◌⊎◌, ◌+◌, ◌<◌, ◌≤◌, ◌==◌, true, false, length, None, ℕ, max, List, [], ◌∷◌, ◌++◌, map, flat_map, slice_index, Contains, Some, unwrap_or, if◌then◌else◌}
+use Rattle.std.specs.Prelude.{◌≡◌, ◌≢◌, ◌↔◌, ◌⊎◌, ◌+◌, ◌<◌, ◌≤◌, ◌==◌, true, false, length, None, ℕ, max, List, [], ◌∷◌, ◌++◌, map, flat_map, slice_index, Contains, option_map, Some, unwrap_or, if◌then◌else◌}
 use Rattle.std.specs.FinMap.{get}
 use Rattle.flashbase.specs.Lists.{greatest}
 use Rattle.jfrag.specs.Pieces.{end_of, covers, byte_of}
@@ -13,10 +13,10 @@ use Rattle.jnode.specs.declared.node.Dirent.{Dirent}
 use Rattle.jnode.specs.declared.node.NodeRef.{NodeRef}
 use Rattle.jnode.specs.declared.node.NodeRef.TheVariants.{Entry, Inode}
 use Rattle.jmount.specs.Clash.{Clashes, NoClashes}
-use Rattle.jmount.specs.Tree.{ObjectOf, State, object, named}
+use Rattle.jmount.specs.Tree.{ObjectOf, State, sized, outline, object, named}
 use Rattle.jmount.specs.StateOf.{inodes, entries, versions_of, piece_of, contents, default_root, object_by, object_of, objects_of, numbers_in, next_of, owner, version_of, top, tops_of, state_of}
 use Rattle.jmount.specs.Shown.{top_at}
-use Rattle.jmount.specs.Find.{IsPath, path_names}
+use Rattle.jmount.specs.Find.{IsPath, path_names, find}
 
 -- the same elements, in any order and number
 abbrev pub SameElements : {X : Type 0} → List X → List X → Type 0
@@ -238,3 +238,13 @@ pub record ObjectFits (o : ObjectOf (List ℕ)) : Type 0 where
 -- the objects of nodes that fit their widths fit theirs
 abbrev pub ObjectsFit : Type 0
 ObjectsFit = (nodes : List InodeNode) (i : ℕ) (o : ObjectOf (List ℕ)) → ((node : InodeNode) → Contains nodes node → FitsInode node) → object_of nodes i ≡ Some o → ObjectFits o
+
+-- ---- outlines
+
+-- an outline has each object, with the number of its bytes
+abbrev pub OutlineHasObjects : Type 0
+OutlineHasObjects = (s : State) (i : ℕ) → object (outline s) i ≡ option_map sized (object s i)
+
+-- what a path names is a matter of the outline alone
+abbrev pub FindIsOfOutline : Type 0
+FindIsOfOutline = (s : State) (text : List ℕ) → find (outline s) text ≡ find s text

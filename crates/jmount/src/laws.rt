@@ -85,3 +85,9 @@ pub fn objects_fit()
 pub fn paths_have_names()
     ensures { law.PathNamesExactly }
 {}
+
+/// What an outline keeps of a file system.
+pub fn outline_keeps_find()
+    ensures objects { law.OutlineHasObjects }
+    ensures find { law.FindIsOfOutline }
+{}
