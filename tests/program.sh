@@ -106,6 +106,8 @@ for image in larger /dev/zero; do
 done
 line="an image of 256 MiB in 64 MiB of memory"
 (ulimit -v 65536; "$program" check --scan greatest > out 2> err); got=$?; want 3 "*total blocks 4096 entries 0 inodes 0 findings 4096" ""
+line="a block of 4 MiB in 5 MB of memory"
+(ulimit -v 5000; "$program" check --scan --block 4194304 block > out 2> err); got=$?; want 1 "" "jffs2_image: L3 OutOfMemory"
 
 # The sample image, in its own byte order and in the other one
 sample=$samples/one_entry.img
