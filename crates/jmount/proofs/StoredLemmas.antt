@@ -1,6 +1,8 @@
 -- What is kept, by look-up.
 use Rattle.std.proofs.Common.{◌≡◌, ℕ, Bool, true, false, ◌||◌, List, [], ◌∷◌, map, cond, Option, Some, None, refl, ap, sym, ◌∙◌}
-use Rattle.std.specs.Prelude.{option_map, is_some}
+use Rattle.std.specs.Prelude.{◌==◌, option_map, unwrap_or, is_some, MatchOption}
+use Rattle.std.specs.Option.{option_copied}
+use Rattle.std.specs.Borrow.{Bor}
 use Rattle.std.specs.List.{list_any}
 use Rattle.std.specs.Map.{lookup}
 use Rattle.std.specs.Ordering.{nat_cmp, eq_by_cmp}
@@ -13,7 +15,8 @@ use Rattle.flashbase.proofs.ListLemmas.{get-tabled_all}
 use Rattle.jname.proofs.NamingLemmas.{get-live_names}
 use Rattle.jnode.specs.declared.node.Dirent.{Dirent}
 use Rattle.jname.specs.Live.{live}
-use Rattle.jmount.specs.Tree.{State, object, named}
+use Rattle.jmount.specs.Tree.{State, object, named, type_bits, directory_bits, has_bits}
+use Rattle.jmount.specs.Shown.{shown}
 use Rattle.jmount.specs.declared.stored.Stored.{Stored}
 use Rattle.jmount.specs.Stored.{ByNumber, stored_object, stored_objects, stored_state}
 
@@ -45,3 +48,18 @@ module _ (s : State) (objects : ByNumber) (names : List Dirent) (next : ℕ) (ke
 pub is_some-map : {X Y : Type 0} (f : X → Y) (o : Option X) → is_some o ≡ is_some (option_map f o)
 is_some-map f None = refl
 is_some-map f (Some x) = refl
+
+-- ---- what a function gives of what a look-up finds, and else a default
+
+pub by-found : {X Y : Type 0} (o : Option (Bor X)) (k : Option X) (d r : Y) (f : X → Y) (Q : Bor X → Type 0) → option_copied o ≡ k → MatchOption o (r ≡ d) Q → ((x : Bor X) → Q x → r ≡ f x.now)
+    → r ≡ unwrap_or (option_map f k) d
+by-found None k d r f Q found none some = none ∙ ap (λ j. unwrap_or (option_map f j) d) found
+by-found (Some x) k d r f Q found q some = some x q ∙ ap (λ j. unwrap_or (option_map f j) d) found
+
+pub shown-found : (k : Option Stored) → unwrap_or (option_map (λ stored. Some (shown (stored_object stored))) k) None ≡ option_map shown (option_map stored_object k)
+shown-found None = refl
+shown-found (Some stored) = refl
+
+pub directory-found : (k : Option Stored) → unwrap_or (option_map (λ stored. type_bits stored.mode == directory_bits) k) false ≡ has_bits directory_bits (option_map stored_object k)
+directory-found None = refl
+directory-found (Some stored) = refl

@@ -75,10 +75,7 @@ impl<'a> Mounted<'a> {
     pub fn object(&self, ino: u32) -> Option<Object>
         ensures { result ≡ option_map shown (tree.object self.now.state ino) }
     {
-        match self.objects.get(&ino) {
-            Some(stored) => Some(shown(stored)),
-            None => None,
-        }
+        self.objects.get(&ino).map(shown)
     }
 
     /// The number of the object that a path names: `/` the root, else `/` before each name.
@@ -87,8 +84,8 @@ impl<'a> Mounted<'a> {
     ///
     /// # Errors
     /// `BadPath`: the text is no path: it does not begin with `/`, or a name in it is empty, `.` or `..`, or has a zero
-    /// byte. Then at the first name where it is so: `NotDirectory`: what stands before the name is no directory.
-    /// `NotFound`: the name does not stand for an object.
+    /// byte. Else the fault of the first name that has one. `NotDirectory`: what stands before the name is no directory.
+    /// `NotFound`: the name stands for nothing there, or for an object that is missing.
     pub fn find(&self, text: &[u8]) -> Result<u32, FindFault>
         ensures { result ≡ walk.find self.now.state text.now }
     {
@@ -126,10 +123,9 @@ impl<'a> Mounted<'a> {
     fn is_directory(&self, ino: u32) -> bool
         ensures { result ≡ tree.is_directory self.now.state ino }
     {
-        match self.objects.get(&ino) {
-            Some(stored) => shown::is_directory(stored.mode),
-            None => false,
-        }
+        self.objects
+            .get(&ino)
+            .is_some_and(|stored| shown::is_directory(stored.mode))
     }
 
     fn is_there(&self, ino: u32) -> bool
@@ -167,6 +163,9 @@ impl<'a> Mounted<'a> {
 
     /// The names whose objects are missing, each with its directory's number and its own, in order of the directory's
     /// number and then in byte order. Takes memory for the answer alone.
+    ///
+    /// # Errors
+    /// Out of memory.
     pub fn dangling(&self, alloc: Global) -> Result<Vec<(u32, &[u8], u32)>, AllocError>
         ensures { IfOk result (λ names. map (λ n. (n.0, n.1.now, n.2)) names.items ≡ tree.dangling self.now.state) }
     {
@@ -191,10 +190,7 @@ impl<'a> Mounted<'a> {
     pub fn top(&self, ino: u32) -> u32
         ensures { result ≡ top_at self.now.tops ino }
     {
-        let own = match self.objects.get(&ino) {
-            Some(stored) => stored.version,
-            None => 0,
-        };
+        let own = self.objects.get(&ino).map_or(0, |stored| stored.version);
         own.max(self.names.highest(ino).unwrap_or(0))
     }
 

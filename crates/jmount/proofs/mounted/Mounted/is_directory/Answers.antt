@@ -1,19 +1,15 @@
-use Rattle.std.proofs.Common.{rules, ◌≡◌, Some, None, sym, ap, ◌∙◌}
+use Rattle.std.proofs.Common.{rules, ◌==◌, false, sym, ap, ◌∙◌}
 use Rattle.std.specs.Ordering.{nat_cmp}
 use Rattle.std.specs.BTreeMap.{get}
 use Rattle.jmount.specs.Mount.{Mount}
-use Rattle.jmount.specs.Tree.{has_bits, directory_bits}
-use Rattle.jmount.proofs.StoredLemmas.{object-found}
+use Rattle.jmount.specs.Tree.{type_bits, has_bits, directory_bits}
+use Rattle.jmount.proofs.StoredLemmas.{object-is, by-found, directory-found}
 use Rattle.jmount.proofs.mounted.Mounted.is_directory.Goals as goal
 
-pub returns-in-Some : goal.returns-in-Some
-returns-in-Some c =
+pub returns : goal.returns
+returns c =
     let m = c.self.inside in
-    let found : get nat_cmp m.objects c.args.ino ≡ Some c.in-Some.stored.now = search rules in
-    c.is_directory.ensures ∙ sym (ap (has_bits directory_bits) (object-found c.args.self.now.state m.objects m.names m.next (ap (λ (v : Mount). v.state) c.self.view_is) c.args.ino _ found))
-
-pub returns-in-None : goal.returns-in-None
-returns-in-None c =
-    let m = c.self.inside in
-    let found : get nat_cmp m.objects c.args.ino ≡ None = search rules in
-    sym (ap (has_bits directory_bits) (object-found c.args.self.now.state m.objects m.names m.next (ap (λ (v : Mount). v.state) c.self.view_is) c.args.ino _ found))
+    let found = get nat_cmp m.objects c.args.ino in
+    by-found c.get.result found false c.is_some_and.result (λ stored. type_bits stored.mode == directory_bits) _ c.get.ensures.value c.is_some_and.ensures (λ x q. search rules)
+    ∙ directory-found found
+    ∙ sym (ap (has_bits directory_bits) (object-is c.args.self.now.state m.objects m.names m.next (ap (λ (v : Mount). v.state) c.self.view_is) c.args.ino))
