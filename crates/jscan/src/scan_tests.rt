@@ -271,32 +271,3 @@ fn words_that_pass_the_end_of_the_image(rt: HostRuntime) -> Result<(), Fail> {
     assert_eq!(rt; scanned.findings.as_slice(), [dirt(4096)].as_slice());
     Ok(())
 }
-
-/// Passes with each allocation failing in turn too: memory is then blamed, and nothing else. Sightings take none.
-#[test]
-fn scans_with_little_memory(rt: HostRuntime) {
-    let alloc = rt.alloc();
-    let mut image = [0xff; 4137];
-    image[..12].copy_from_slice(&LITTLE_MARKER);
-    image[12..56].copy_from_slice(&ENTRY_A);
-    image[64] = 0;
-    image[4096..4137].copy_from_slice(&ENTRY_A[..41]);
-    match scan::<LittleEndian>(alloc, &image, GEOMETRY) {
-        Ok(scan) => {
-            assert_eq!(rt; scan.nodes.len(), 2);
-            assert_eq!(rt; scan.findings.as_slice(), [dirt(64)].as_slice());
-        }
-        Err(fault) => assert_eq!(rt; fault, ScanFault::OutOfMemory),
-    }
-    match survey::<LittleEndian>(alloc, &image, GEOMETRY) {
-        Ok(survey) => {
-            assert_eq!(rt; (survey.nodes.len(), survey.refused), (2, None));
-            assert_eq!(rt; survey.findings.as_slice(), [dirt(64)].as_slice());
-        }
-        Err(fault) => assert_eq!(rt; fault, ScanFault::OutOfMemory),
-    }
-    match Sightings::<LittleEndian>::new(&image, GEOMETRY) {
-        Ok(sightings) => assert_eq!(rt; sightings.count(), 3),
-        Err(fault) => assert!(rt; false, "{fault}"),
-    }
-}
