@@ -20,7 +20,7 @@ use Rattle.jscan.specs.declared.stretch.Look.TheVariants.{Tiled, Erased, OtherOr
 use Rattle.jscan.specs.declared.stretch.Stretch.{Stretch}
 use Rattle.jscan.proofs.ImageLemmas.{image_sighted, starts_small}
 use Rattle.jscan.proofs.PartLemmas.{block_length}
-use Rattle.jscan.proofs.StretchLaws.{Apart, Falls, falls_from}
+use Rattle.jscan.proofs.StretchLaws.{Falls, falls_from}
 
 -- what holds of each holds of one of them
 pub of_each : {X : Type 0} (P : X → Type 0) (xs : List X) (x : X) → AllByRecursion P xs → Contains xs x → P x

@@ -1,11 +1,11 @@
 -- What the nodes of an image hold.
-use Rattle.std.proofs.Common.{◌≡◌, ◌≢◌, ℕ, zero, suc, ◌+◌, ◌*◌, ◌%◌, ◌<◌, ◌≤◌, List, [], ◌∷◌, ◌++◌, length, take, drop, refl, sym, ap, subst, ◌∙◌, arith, length-take-le, length-take, length-drop, Option, None, Some, replicate}
+use Rattle.std.proofs.Common.{◌≡◌, ◌≢◌, ℕ, zero, suc, ◌+◌, ◌*◌, ◌%◌, ◌≤◌, List, [], ◌∷◌, ◌++◌, length, drop, refl, sym, ap, subst, ◌∙◌, arith, length-take-le, length-take, length-drop, Option, None, Some}
 use Rattle.std.specs.Prelude.{filter_map, flat_map, Contains, IsTrue, option_map}
 use Rattle.std.specs.List.{AllByRecursion, cons_option}
 use Rattle.flashbase.specs.Bytes.{pad4_of, erased}
 use Rattle.flashbase.specs.Lists.{below}
 use Rattle.flashbase.specs.Ranges.{AreBytes}
-use Rattle.jnode.specs.Header.{IsGood, header_of, totlen_of}
+use Rattle.jnode.specs.Header.{IsGood, totlen_of}
 use Rattle.jnode.specs.Reading.{Reads, ReadsEntry, ReadsInode, ReadsFill, seen_of, tile_of, node_in, nsize_of, csize_of, name_of, data_of}
 use Rattle.jnode.specs.Writing.{Fits, HoldsBytes, IsWritable, IsWritableEntry, IsWritableInode, HoldsRange, held_bytes}
 use Rattle.jnode.specs.declared.order.Endian.{Endian}
@@ -20,9 +20,7 @@ use Rattle.jnode.proofs.FitsLemmas.{seen_fits, seen_is_read}
 use Rattle.jnode.proofs.HeaderLemmas.{good_found}
 use Rattle.jnode.proofs.OrderLemmas.{bytes-take, bytes-drop}
 use Rattle.jscan.specs.Image.{is_block_size, block_of, block_count, sighting, sightings_from, sightings_in, node_sighted, sightings, nodes}
-use Rattle.jscan.specs.Tiling.{Tile, tile_at}
-use Rattle.jscan.specs.declared.tiles.TileKind.{TileKind}
-use Rattle.jscan.specs.declared.tiles.TileKind.TheVariants.{Node, Word, Rest}
+use Rattle.jscan.specs.Tiling.{tile_at}
 use Rattle.jscan.proofs.AddressLaws.{of_each}
 use Rattle.jscan.proofs.ImageLemmas.{readable_most}
 use Rattle.jscan.proofs.PaddingLemmas.{pad4_up}
@@ -30,7 +28,7 @@ use Rattle.jscan.proofs.PartLemmas.{block_length}
 use Rattle.jscan.proofs.QuietLemmas.{seen_among}
 use Rattle.jscan.proofs.StreamCounts.{readable_words}
 use Rattle.jscan.proofs.StretchLaws.{tile_words, tile_within}
-use Rattle.jscan.proofs.TileLemmas.{tile_cases, tile_then_rest, tile_some}
+use Rattle.jscan.proofs.TileLemmas.{tile_cases, tile_then_rest}
 
 -- ---- where a sighting is read
 

@@ -1,5 +1,5 @@
 -- Going over the blocks of an image.
-use Rattle.std.proofs.Common.{◌≡◌, ℕ, zero, suc, ◌+◌, ◌-◌, ◌*◌, ◌%◌, ◌<◌, ◌≤◌, true, List, [], ◌∷◌, ◌++◌, length, drop, get_or, refl, sym, ap, ap₂, ◌∙◌, arith, append-nil}
+use Rattle.std.proofs.Common.{◌≡◌, ℕ, suc, ◌+◌, ◌*◌, ◌%◌, ◌<◌, ◌≤◌, true, List, [], ◌∷◌, ◌++◌, length, drop, refl, sym, ap, ap₂, ◌∙◌, arith}
 use Rattle.std.specs.Prelude.{flat_map, filter_map, ◌==◌, ◌&&◌, nat_le}
 use Rattle.std.proofs.Math.Seq.{drop-cons}
 use Rattle.std.proofs.lemmas.Bool.{and_parts, leb-true}
@@ -14,7 +14,6 @@ use Rattle.jscan.specs.Scans.{image_stretches}
 use Rattle.jscan.specs.ImageLeft.{stretches_on}
 use Rattle.jscan.specs.Stretches.{sighted, stretches}
 use Rattle.jscan.specs.declared.stretch.Stretch.{Stretch}
-use Rattle.jnode.specs.declared.node.Seen.{Seen}
 use Rattle.jscan.proofs.BlockLemmas.{filter_map-flat_map}
 use Rattle.jscan.proofs.SightingLaws.{sightings_are_stretches}
 use Rattle.jscan.proofs.StreamCounts.{readable_some}

@@ -1,5 +1,5 @@
 -- Runs: how they begin, go on and end.
-use Rattle.std.proofs.Common.{◌≡◌, ℕ, zero, suc, ◌+◌, ◌-◌, ◌*◌, ◌/◌, ◌%◌, ◌<◌, ◌≤◌, true, false, leb, List, [], ◌∷◌, length, drop, take, map, arith, refl, ap, ap₂, sym, ◌∙◌, subst, min, max, ⊎_elim, inl, inr, ◌⊎◌, slice_index, length-drop, length-take-le, drop_of_length-le}
+use Rattle.std.proofs.Common.{◌≡◌, ℕ, zero, suc, ◌+◌, ◌-◌, ◌*◌, ◌/◌, ◌%◌, ◌<◌, ◌≤◌, true, false, leb, List, [], ◌∷◌, length, drop, take, map, arith, refl, ap, ap₂, sym, ◌∙◌, subst, min, max, ⊎_elim, inl, inr, ◌⊎◌, slice_index, length-take-le}
 use Rattle.std.proofs.lemmas.Bool.{cond-true, cond-false, cases_Bool, leb-true, leb-false}
 use Rattle.std.proofs.lemmas.List.{take_rest, drop-drop, get_or-drop}
 use Rattle.jnode.specs.declared.order.Endian.{Endian}

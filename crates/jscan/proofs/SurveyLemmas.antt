@@ -1,5 +1,5 @@
 -- Taking in the stretches of an image one by one, up to a refusal.
-use Rattle.std.proofs.Common.{◌≡◌, ℕ, suc, ◌+◌, Bool, true, false, not, List, [], ◌∷◌, ◌++◌, take, cond, refl, sym, ap, ap₂, ◌∙◌, arith, append_assoc, Option, None, Some, Err, subst}
+use Rattle.std.proofs.Common.{◌≡◌, ℕ, suc, ◌+◌, Bool, true, false, not, List, [], ◌∷◌, ◌++◌, take, cond, refl, sym, ap, ◌∙◌, arith, append_assoc, Option, None, Some, Err, subst}
 use Rattle.std.specs.Prelude.{filter_map, ◌||◌, option_to_list}
 use Rattle.std.specs.List.{list_any, prefix_len, cons_option}
 use Rattle.std.specs.Option.{is_some, option_or}

@@ -7,7 +7,7 @@ use Rattle.jscan.specs.Image.{block_of}
 use Rattle.jscan.specs.Stretches.{stretches}
 use Rattle.jscan.specs.declared.counts.Counts.{Counts}
 use Rattle.jscan.specs.declared.stretch.Look.{Look}
-use Rattle.jscan.specs.declared.stretch.Look.TheVariants.{Tiled, Erased, OtherOrder, Dirt}
+use Rattle.jscan.specs.declared.stretch.Look.TheVariants.{Tiled, OtherOrder, Dirt}
 use Rattle.jscan.specs.declared.stretch.Stretch.{Stretch}
 
 abbrev pub is_entry_tile : Look → Bool

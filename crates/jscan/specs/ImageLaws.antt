@@ -1,5 +1,5 @@
 -- Laws of whole images. Each is a statement: it holds since a public function's contract names it.
-use Rattle.std.specs.Prelude.{◌≡◌, ℕ, ◌+◌, ◌*◌, ◌<◌, ◌^◌, IsTrue, List, ◌∷◌, ◌++◌, Contains, Option, None, Some}
+use Rattle.std.specs.Prelude.{◌≡◌, ℕ, ◌*◌, ◌<◌, ◌^◌, IsTrue, List, ◌∷◌, ◌++◌, Contains, None, Some}
 use Rattle.flashbase.specs.Ranges.{AreBytes}
 use Rattle.jnode.specs.Writing.{Fits, HoldsBytes, IsWritable}
 use Rattle.jnode.specs.declared.order.Endian.{Endian}

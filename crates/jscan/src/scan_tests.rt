@@ -271,3 +271,26 @@ fn words_that_pass_the_end_of_the_image(rt: HostRuntime) -> Result<(), Fail> {
     assert_eq!(rt; scanned.findings.as_slice(), [dirt(4096)].as_slice());
     Ok(())
 }
+
+/// Passes with each allocation behind that of the image failing in turn too: memory is then blamed, and nothing else.
+/// Sightings take none.
+#[test]
+fn scans_with_little_memory(rt: HostRuntime) -> Result<(), Fail> {
+    let alloc = rt.alloc();
+    let pieces: [(usize, &[u8]); 3] = [(12, &ENTRY_A), (64, &[0]), (4096, &ENTRY_A[..41])];
+    let bytes = image(alloc, 4137, &pieces)?;
+    match scan::<LittleEndian>(alloc, &bytes, GEOMETRY) {
+        Ok(scan) => {
+            assert_eq!(rt; scan.nodes.len(), 2);
+            assert_eq!(rt; scan.findings.as_slice(), [dirt(64)].as_slice());
+        }
+        Err(fault) => assert_eq!(rt; fault, ScanFault::OutOfMemory),
+    }
+    match survey::<LittleEndian>(alloc, &bytes, GEOMETRY) {
+        Ok(survey) => assert_eq!(rt; survey.nodes.len(), 2),
+        Err(fault) => assert_eq!(rt; fault, ScanFault::OutOfMemory),
+    }
+    let sightings = Sightings::<LittleEndian>::new(&bytes, GEOMETRY);
+    assert!(rt; sightings.is_ok());
+    Ok(())
+}

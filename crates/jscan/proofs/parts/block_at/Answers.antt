@@ -1,4 +1,4 @@
-use Rattle.std.proofs.Common.{arith, refl, ◌∙◌, length-drop}
+use Rattle.std.proofs.Common.{arith, refl, length-drop}
 use Rattle.jscan.proofs.PartLemmas.{block_at}
 use Rattle.jscan.proofs.parts.block_at.Goals as goal
 

@@ -1,5 +1,4 @@
-use Rattle.std.proofs.Common.{rules, ◌≡◌, ◌∙◌, sym, ap}
-use Rattle.jnode.specs.Order.{number_in}
+use Rattle.std.proofs.Common.{rules, ◌≡◌, ◌∙◌, ap}
 use Rattle.jnode.specs.Header.{magic_of}
 use Rattle.jscan.proofs.PartLemmas.{magic_front}
 use Rattle.jscan.proofs.parts.magic_of.Goals as goal

@@ -1,4 +1,4 @@
-use Rattle.std.proofs.Common.{◌≡◌, ℕ, List, Option, None, Some, Ok, IfSome, ap, subst, ◌∙◌}
+use Rattle.std.proofs.Common.{Ok, IfSome, ap, subst, ◌∙◌}
 use Rattle.jscan.specs.Stream.{Gives}
 use Rattle.jscan.proofs.StreamCounts.{scanning_next, scanning_end, all_given, all_within}
 use Rattle.jscan.proofs.StreamLemmas.{IsWhole}

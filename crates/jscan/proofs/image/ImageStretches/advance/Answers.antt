@@ -1,10 +1,9 @@
-use Rattle.std.proofs.Common.{◌≡◌, ℕ, ◌*◌, ◌+◌, ◌++◌, List, ap, sym, refl, ◌∙◌, arith}
+use Rattle.std.proofs.Common.{◌*◌, ◌+◌, ◌++◌, List, ap, sym, refl, ◌∙◌, arith}
 use Rattle.jscan.specs.ImageLeft.{stretches_on}
-use Rattle.jscan.specs.Counts.{stretches_of_block}
 use Rattle.jscan.specs.Stretches.{stretches}
 use Rattle.jscan.specs.declared.stretch.Stretch.{Stretch}
 use Rattle.jscan.proofs.StreamCounts.{readable_some}
-use Rattle.jscan.proofs.ImageLemmas.{on_step, on_end, begins_within, ends_within, starts_small}
+use Rattle.jscan.proofs.ImageLemmas.{on_step, on_end, begins_within, ends_within}
 use Rattle.jscan.proofs.image.ImageStretches.advance.Goals as goal
 
 pub returns-then-self-start-clause-ends : goal.returns-then-self-start-clause-ends

@@ -1,7 +1,7 @@
-use Rattle.std.proofs.Common.{rules, ◌≡◌, ◌-◌, ◌+◌, ◌<◌, ◌≤◌, ◌++◌, length, take, drop, sym, ap, ◌∙◌, subst, arith, List, ℕ, replicate}
+use Rattle.std.proofs.Common.{rules, ◌≡◌, ◌-◌, ◌+◌, ◌<◌, ◌≤◌, ◌++◌, length, take, drop, sym, ap, ◌∙◌, subst, arith, ℕ, replicate}
 use Rattle.std.proofs.lemmas.List.{take_at}
 use Rattle.jscan.specs.Image.{greatest_image}
-use Rattle.jscan.specs.Stream.{GivesBlock, IsNextBlock}
+use Rattle.jscan.specs.Stream.{IsNextBlock}
 use Rattle.jscan.proofs.StreamLemmas.{next_block}
 use Rattle.jscan.proofs.stream.BlockReader.advance.Goals as goal
 
