@@ -14,3 +14,4 @@ pub mod ReadLemmas
 pub mod TopLemmas
 pub mod WalkLemmas
 pub mod VersionsLemmas
+pub mod GatherLemmas

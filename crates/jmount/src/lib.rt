@@ -8,6 +8,7 @@
 #![tactic(auto)]
 
 mod fault;
+mod gathering;
 mod inodes;
 pub mod laws;
 mod mounted;
