@@ -1,5 +1,5 @@
 -- Nodes that clash, their entries and inode nodes apart.
-use Rattle.std.proofs.Common.{◌≡◌, ℕ, ◌<◌, ◌≤◌, List, ◌∷◌, ◌++◌, Some, refl, sym, ap, subst, arith}
+use Rattle.std.proofs.Common.{◌≡◌, ℕ, ◌<◌, ◌≤◌, List, Some, refl, sym, ap, subst, arith}
 use Rattle.std.specs.Prelude.{Contains, map}
 use Rattle.std.proofs.lemmas.Option.{same_Some, none-some}
 use Rattle.jnode.specs.declared.node.Dirent.{Dirent}
@@ -10,7 +10,7 @@ use Rattle.jname.specs.Clash as names
 use Rattle.jname.proofs.MemberLemmas.{Contains-map, Contains-map_from}
 use Rattle.jname.proofs.SortedLemmas.{Contains-filter_map, Contains-filter_map_from}
 use Rattle.jmount.specs.Clash.{Clashes, SomeClashes, NoClashes, IsClashAt}
-use Rattle.jmount.specs.Gathered.{plain, HasNoClash, ClashesIn, FirstClash}
+use Rattle.jmount.specs.Gathered.{plain, HasNoClash, ClashesIn}
 use Rattle.jmount.specs.StateOf.{inode_in, entry_in, inodes, entries}
 
 -- a clash of these nodes is one of those, if its two nodes are

@@ -15,3 +15,5 @@ pub mod TopLemmas
 pub mod WalkLemmas
 pub mod VersionsLemmas
 pub mod GatherLemmas
+pub mod KeptLemmas
+pub mod MountLemmas

@@ -1,11 +1,9 @@
 -- The greatest versions that are kept.
 use Rattle.std.proofs.Common.{◌≡◌, ℕ, Bool, true, false, ◌==◌, ◌||◌, List, [], ◌∷◌, ◌++◌, map, cond, Option, Some, None, max, refl, ap, sym, ◌∙◌}
-use Rattle.std.specs.Prelude.{option_map, unwrap_or, filter}
+use Rattle.std.specs.Prelude.{option_map, unwrap_or}
 use Rattle.std.specs.List.{list_any}
 use Rattle.std.specs.Ordering.{nat_cmp, eq_by_cmp}
 use Rattle.std.specs.Cmp.{nat_cmp_total, eq_by_cmp_equiv, unsigned_tied}
-use Rattle.std.specs.BTreeMap.{get}
-use Rattle.std.specs.FinMap as finite
 use Rattle.std.specs.FinMap.{nat_cmp-IsAntisymmetric}
 use Rattle.std.proofs.lemmas.Bool.{true≢false}
 use Rattle.flashbase.specs.Lists.{newest}

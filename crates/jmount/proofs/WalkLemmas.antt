@@ -1,5 +1,5 @@
 -- The objects that are kept, in order.
-use Rattle.std.proofs.Common.{◌≡◌, ℕ, Bool, true, false, List, [], ◌∷◌, map, cond, Option, Some, None, refl, ap, sym, ◌∙◌, subst}
+use Rattle.std.proofs.Common.{◌≡◌, ℕ, Bool, true, false, List, [], ◌∷◌, map, cond, Option, Some, refl, ap, sym, ◌∙◌, subst}
 use Rattle.std.specs.Prelude.{option_map, T}
 use Rattle.std.specs.declared.cmp.Ordering.TheVariants.{Less}
 use Rattle.std.specs.List.{AllByRecursion}
@@ -7,12 +7,12 @@ use Rattle.std.specs.List.Sorted.{IsStrictlySortedBy}
 use Rattle.std.specs.Map.{lookup}
 use Rattle.std.specs.Ordering.{nat_cmp, eq_by_cmp, is_lt}
 use Rattle.std.specs.Cmp.{nat_cmp_total}
-use Rattle.std.specs.BTreeMap.{get, IsOrdered}
+use Rattle.std.specs.BTreeMap.{IsOrdered}
 use Rattle.std.specs.FinMap.{entries, entries_sorted, get-entries, nat_cmp-IsAntisymmetric}
 use Rattle.std.specs.FinMap.Entries.{find, below_all, is_sorted, same_entries}
 use Rattle.jname.proofs.SortedLemmas.{T_both}
 use Rattle.jmount.specs.Tree.{ObjectOf}
-use Rattle.jmount.specs.Shown.{shown, objects_in}
+use Rattle.jmount.specs.Shown.{shown}
 use Rattle.jmount.specs.declared.object.Object.{Object}
 use Rattle.jmount.specs.declared.stored.Stored.{Stored}
 use Rattle.jmount.specs.Stored.{ByNumber, stored_object, stored_objects}

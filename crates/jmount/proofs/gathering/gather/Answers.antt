@@ -1,7 +1,6 @@
 use Rattle.std.proofs.Common.{rules, ◌≡◌, ℕ, List, ◌∷◌, [], ◌++◌, max, IfErr, sym, ap, subst, ◌∙◌, append_assoc, Err}
 use Rattle.std.specs.Vec.Iter.{into_iter_items}
 use Rattle.jnode.specs.declared.node.NodeRef.{NodeRef}
-use Rattle.jnode.specs.declared.node.NodeRef.TheVariants.{Entry, Inode}
 use Rattle.jmount.specs.Gathered.{Gathered, StopsGathering}
 use Rattle.jmount.proofs.GatheredLemmas.{gathered_entry, gathered_inode}
 use Rattle.jmount.proofs.GatherLemmas.{number_push, entry_refused, inode_refused}

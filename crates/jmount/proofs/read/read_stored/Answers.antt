@@ -1,9 +1,8 @@
-use Rattle.std.proofs.Common.{rules, ◌≡◌, ℕ, ◌+◌, ◌-◌, ◌++◌, ◌≤◌, ◌==◌, ◌||◌, true, Some, List, length, take, drop, ap, sym, ◌∙◌, arith}
+use Rattle.std.proofs.Common.{◌≡◌, ℕ, ◌+◌, ◌-◌, ◌++◌, ◌≤◌, Some, length, take, drop, ap, sym, ◌∙◌, arith}
 use Rattle.std.proofs.lemmas.List.{length-take}
 use Rattle.flashbase.specs.Lists.{each_below}
 use Rattle.flashbase.proofs.ListLemmas.{length-each_below}
 use Rattle.jfrag.specs.Overlays.{byte_at}
-use Rattle.jmount.specs.Tree.{type_bits, regular_bits, symlink_bits}
 use Rattle.jmount.specs.Stored.{stored_object, stands_in}
 use Rattle.jmount.specs.Shown.{bytes_if}
 use Rattle.jmount.proofs.ReadLemmas.{part-of_each, bytes-held}

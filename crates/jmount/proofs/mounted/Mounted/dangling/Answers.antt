@@ -1,4 +1,4 @@
-use Rattle.std.proofs.Common.{rules, tests, ◌≡◌, ℕ, List, not, ap, ◌∙◌}
+use Rattle.std.proofs.Common.{rules, tests, not, ◌∙◌}
 use Rattle.std.proofs.lemmas.Iterator.Consumers.{YieldsList-from_first, YieldsList-from_filter, map_from_collect}
 use Rattle.jmount.specs.Tree.{is_there, all_entries}
 use Rattle.jmount.proofs.mounted.Mounted.dangling.Goals as goal

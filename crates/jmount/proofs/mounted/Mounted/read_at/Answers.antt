@@ -1,10 +1,9 @@
-use Rattle.std.proofs.Common.{rules, ◌≡◌, ◌-◌, ◌++◌, ◌≤◌, ℕ, List, [], Some, None, length, take, drop, ap, sym, ◌∙◌, arith}
+use Rattle.std.proofs.Common.{rules, ◌≡◌, ◌-◌, ◌++◌, ℕ, List, Some, None, length, take, drop, ap, sym, ◌∙◌, arith}
 use Rattle.std.specs.Prelude.{min}
 use Rattle.std.specs.Ordering.{nat_cmp}
 use Rattle.std.specs.BTreeMap.{get}
 use Rattle.jmount.specs.Mount.{Mount}
 use Rattle.jmount.specs.Shown.{bytes_if, readable}
-use Rattle.jmount.specs.Stored.{stored_object}
 use Rattle.jmount.proofs.StoredLemmas.{object-found}
 use Rattle.jmount.proofs.mounted.Mounted.read_at.Goals as goal
 
