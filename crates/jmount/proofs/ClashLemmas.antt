@@ -1,5 +1,5 @@
 -- Nodes that clash, their entries and inode nodes apart.
-use Rattle.std.proofs.Common.{◌≡◌, ℕ, ◌<◌, ◌≤◌, List, ◌∷◌, ◌++◌, Some, refl, sym, ap, subst, arith}
+use Rattle.std.proofs.Common.{◌≡◌, ℕ, ◌<◌, ◌≤◌, List, Some, refl, sym, ap, subst, arith}
 use Rattle.std.specs.Prelude.{Contains, map}
 use Rattle.std.proofs.lemmas.Option.{same_Some, none-some}
 use Rattle.jnode.specs.declared.node.Dirent.{Dirent}
@@ -10,21 +10,8 @@ use Rattle.jname.specs.Clash as names
 use Rattle.jname.proofs.MemberLemmas.{Contains-map, Contains-map_from}
 use Rattle.jname.proofs.SortedLemmas.{Contains-filter_map, Contains-filter_map_from}
 use Rattle.jmount.specs.Clash.{Clashes, SomeClashes, NoClashes, IsClashAt}
+use Rattle.jmount.specs.Gathered.{plain, HasNoClash, ClashesIn}
 use Rattle.jmount.specs.StateOf.{inode_in, entry_in, inodes, entries}
-
--- no node of these clashes with one below it
-abbrev pub HasNoClash : List (ℕ × NodeRef) → Type 0
-HasNoClash ns = (at : ℕ) → IsClashAt ns at → ⊥
-
--- a node of these that clashes with this one
-abbrev pub ClashesIn : List (ℕ × NodeRef) → NodeRef → Type 0
-ClashesIn ns node = (below : ℕ) × (other : NodeRef) × Contains ns (below, other) × Clashes node other
-
--- the first of a list that clashes with one before it, at this address
-abbrev pub FirstClash : List (ℕ × NodeRef) → ℕ → Type 0
-FirstClash ns addr =
-    (pre : List (ℕ × NodeRef)) × (node : NodeRef) × (post : List (ℕ × NodeRef))
-    × (ns ≡ pre ++ (addr, node) ∷ post) × HasNoClash pre × ClashesIn pre node
 
 -- a clash of these nodes is one of those, if its two nodes are
 pub clash_among : (ns ms : List (ℕ × NodeRef)) (at : ℕ) → ((n : ℕ × NodeRef) → Contains ns n → n.0 ≤ at → Contains ms n) → IsClashAt ns at → IsClashAt ms at
@@ -39,10 +26,6 @@ clashes_sym (Entry a) (Inode b) c = c
 clashes_sym (Inode a) (Entry b) c = c
 
 -- ---- entries and inode nodes apart
-
--- the nodes of a list, without their addresses
-abbrev pub plain : List (ℕ × NodeRef) → List NodeRef
-plain ns = map (λ n. n.1) ns
 
 entry_is : (node : NodeRef) (entry : Dirent) → entry_in node ≡ Some entry → node ≡ Entry entry
 entry_is (Entry a) entry is = ap Entry (same_Some a entry is)

@@ -22,7 +22,8 @@ use Rattle.jmount.specs.Clash.{Clashes, IsClashAt}
 use Rattle.jmount.specs.Mounts.{StandsAt, IsFirstAt, IsSound, Answers}
 use Rattle.jmount.specs.declared.fault.MountFault.{MountFault}
 use Rattle.jmount.specs.declared.fault.MountFault.TheVariants as fault
-use Rattle.jmount.proofs.ClashLemmas.{HasNoClash, FirstClash, clash_among}
+use Rattle.jmount.specs.Gathered.{HasNoClash, FirstClash, refusal_fault}
+use Rattle.jmount.proofs.ClashLemmas.{clash_among}
 
 -- ---- addresses that ascend
 
@@ -283,14 +284,6 @@ first_clash_answers e size image addr scannable ascends c =
     clash_is_first e size image c.0 c.2 addr c.1 c.5.0 c.5.1 scannable ascends c.3 c.4 c.5.2 c.5.3
 
 -- ---- an image without a clash in front of its refusal
-
--- a refusal as a fault of mounting
-abbrev pub refusal_fault : ScanFault → MountFault
-refusal_fault scan.BlockSize = fault.BlockSize
-refusal_fault scan.TooLarge = fault.TooLarge
-refusal_fault (scan.Incompatible addr nodetype) = fault.Incompatible addr nodetype
-refusal_fault (scan.Compressed addr compr) = fault.Compressed addr compr
-refusal_fault scan.OutOfMemory = fault.OutOfMemory
 
 -- the fault that a refusal by this sighting gives
 IsRefusalOf : ℕ → Seen → ScanFault → Type 0

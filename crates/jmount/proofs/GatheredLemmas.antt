@@ -18,17 +18,11 @@ use Rattle.jmount.specs.Clash.{InodesClash, SomeClashes, NoneClashes, NoClashes}
 use Rattle.jmount.specs.StateOf.{inode_in, entry_in, inodes, entries}
 use Rattle.jmount.specs.Mounts.{IsSound, Answers}
 use Rattle.jmount.specs.declared.fault.MountFault.TheVariants as fault
-use Rattle.jmount.proofs.ClashLemmas.{HasNoClash, ClashesIn, FirstClash, clashes_sym, tables_have_no_clash, plain, entry_clashes_in, inode_clashes_in}
-use Rattle.jmount.proofs.FaultLemmas.{Ascends, refusal_fault, nodes_are_all, clash_is_first, refusal_answers, none_is_sound}
+use Rattle.jmount.specs.Gathered.{plain, HasNoClash, ClashesIn, FirstClash, Gathered, refusal_fault}
+use Rattle.jmount.proofs.ClashLemmas.{clashes_sym, tables_have_no_clash, entry_clashes_in, inode_clashes_in}
+use Rattle.jmount.proofs.FaultLemmas.{Ascends, nodes_are_all, clash_is_first, refusal_answers, none_is_sound}
 
 -- ---- nodes gathered in order, entries and inode nodes apart
-
--- what was gathered of these nodes, of which no two clash
-pub record Gathered (gained : List Dirent) (kept : List InodeNode) (ns : List (ℕ × NodeRef)) : Type 0 where
-  pub same_entries : (x : Dirent) → Contains gained x ↔ Contains (entries (map (λ n. n.1) ns)) x
-  pub same_inodes : (x : InodeNode) → Contains kept x ↔ Contains (inodes (map (λ n. n.1) ns)) x
-  pub entries_apart : names.NoClashes gained
-  pub inodes_apart : NoClashes kept
 
 pub gathered_none : Gathered [] [] []
 gathered_none = record {

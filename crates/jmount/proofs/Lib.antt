@@ -19,3 +19,6 @@ pub mod TopLemmas
 pub mod WalkLemmas
 pub mod UseLemmas
 pub mod VersionsLemmas
+pub mod GatherLemmas
+pub mod KeptLemmas
+pub mod MountLemmas

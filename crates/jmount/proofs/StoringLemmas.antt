@@ -1,6 +1,6 @@
 -- The objects that nodes make, as they are kept.
-use Rattle.std.proofs.Common.{◌≡◌, ℕ, ◌+◌, ◌<◌, ◌≤◌, Bool, true, false, List, [], ◌∷◌, map, length, get_or, Option, Some, None, refl, ap, sym, ◌∙◌, subst, arith}
-use Rattle.std.specs.Prelude.{All, Contains, IsSome, option_map, is_some, if◌then◌else◌, ◌==◌}
+use Rattle.std.proofs.Common.{◌≡◌, ℕ, ◌≤◌, Bool, false, List, [], ◌∷◌, map, get_or, Option, Some, None, refl, ap, sym, ◌∙◌, subst, arith}
+use Rattle.std.specs.Prelude.{All, Contains, IsSome, option_map, if◌then◌else◌, ◌==◌}
 use Rattle.std.specs.Cmp.{unsigned_tied}
 use Rattle.std.specs.List.{flat_map}
 use Rattle.std.specs.Map.{lookup}
@@ -13,12 +13,12 @@ use Rattle.std.proofs.lemmas.Map.Lookups.{exact_unsigned}
 use Rattle.std.proofs.lemmas.Map.Views.{Contains-from_lookup, tells_apart}
 use Rattle.std.proofs.lemmas.List.Elements.{All-contains, All-head, All-tail, Contains-get_or}
 use Rattle.std.proofs.lemmas.Option.{same_Some}
-use Rattle.flashbase.specs.Lists.{newest, each_below}
+use Rattle.flashbase.specs.Lists.{each_below}
 use Rattle.flashbase.proofs.ListLemmas.{newest_is_newest, newest_of_none}
 use Rattle.jnode.specs.declared.node.InodeNode.{InodeNode}
 use Rattle.jfrag.specs.declared.piece.Piece.{Piece}
-use Rattle.jfrag.specs.Pieces.{byte_of, covers}
-use Rattle.jfrag.specs.Overlays.{Standing, byte_at, IsHighestAt, standing, content}
+use Rattle.jfrag.specs.Pieces.{byte_of}
+use Rattle.jfrag.specs.Overlays.{Standing, byte_at, IsHighestAt, content}
 use Rattle.jfrag.specs.Laws as overlay
 use Rattle.jfrag.proofs.OverlaysLemmas.{only_one_is_highest}
 use Rattle.jname.proofs.EntriesLemmas.{nat_found}

@@ -1,5 +1,5 @@
 -- The nodes of a number, among all that are kept.
-use Rattle.std.proofs.Common.{◌≡◌, ℕ, Bool, true, false, cond, List, [], ◌∷◌, ◌++◌, map, Option, Some, None, refl, ap, sym, ◌∙◌, subst}
+use Rattle.std.proofs.Common.{◌≡◌, ℕ, Bool, true, false, cond, List, [], ◌∷◌, ◌++◌, map, Option, Some, None, refl, ap, sym, ◌∙◌}
 use Rattle.std.specs.Prelude.{Contains, filter, ◌==◌}
 use Rattle.std.specs.declared.cmp.Ordering.TheVariants.{Less}
 use Rattle.std.specs.List.{flat_map, AllByRecursion}
@@ -9,7 +9,7 @@ use Rattle.std.specs.Option.{option_and_then}
 use Rattle.std.specs.Ordering.{nat_cmp, is_eq, eq_by_cmp}
 use Rattle.std.specs.Cmp.{unsigned_tied}
 use Rattle.std.specs.BTreeMap.{get, IsOrdered}
-use Rattle.std.proofs.lemmas.Bool.{eq-eqb, eqb-true}
+use Rattle.std.proofs.lemmas.Bool.{eqb-true}
 use Rattle.std.proofs.lemmas.List.{append-nil}
 use Rattle.std.proofs.lemmas.List.Elements.{filter-append}
 use Rattle.jnode.specs.declared.node.InodeNode.{InodeNode}
@@ -19,7 +19,7 @@ use Rattle.jname.proofs.MemberLemmas.{Contains-here, Contains-there, Contains-ma
 use Rattle.jmount.specs.declared.versions.Versions.{Versions}
 use Rattle.jmount.specs.Inodes.{ByNumber, IsKeyed, held, version_at, nodes_in, nodes_of}
 use Rattle.jmount.specs.StateOf.{versions_of}
-use Rattle.jmount.specs.Storing.{Made, made_at, made_by}
+use Rattle.jmount.specs.Storing.{made_at, made_by}
 
 filter_all : {X : Type 0} (p : X → Bool) (xs : List X) → ((x : X) → Contains xs x → p x ≡ true) → filter p xs ≡ xs
 filter_all p [] h = refl

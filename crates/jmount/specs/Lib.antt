@@ -13,3 +13,4 @@ pub mod Rows
 pub mod Paths
 pub mod Walk
 pub mod Storing
+pub mod Gathered

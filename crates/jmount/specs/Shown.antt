@@ -3,7 +3,7 @@ use Rattle.std.specs.Prelude.{ℕ, ◌==◌, ◌||◌, List, [], map, Option, So
 use Rattle.std.specs.Ordering.{nat_cmp}
 use Rattle.std.specs.FinMap as finite
 use Rattle.std.specs.FinMap.{FinMap}
-use Rattle.jmount.specs.Tree.{ObjectOf, Tree, State, sized, object, type_bits, regular_bits, symlink_bits}
+use Rattle.jmount.specs.Tree.{ObjectOf, State, sized, object, type_bits, regular_bits, symlink_bits}
 use Rattle.jmount.specs.declared.object.Object.{Object}
 use Rattle.jmount.specs.declared.object.Kind.{Kind}
 use Rattle.jmount.specs.declared.object.Kind.TheVariants as kind

@@ -14,7 +14,7 @@ use Rattle.jfrag.specs.declared.piece.Body.{Body}
 use Rattle.jfrag.specs.declared.piece.Body.TheVariants as body
 use Rattle.jfrag.specs.Overlays.{content}
 use Rattle.jname.specs.Live.{live_names}
-use Rattle.jmount.specs.Tree.{ObjectOf, Tree, State}
+use Rattle.jmount.specs.Tree.{ObjectOf, State}
 
 -- ---- the two kinds of node
 

@@ -1,5 +1,5 @@
 -- How a mounted image keeps its file system.
-use Rattle.std.specs.Prelude.{ℕ, List, ◌++◌, map, max, Option, Some, option_map, unwrap_or}
+use Rattle.std.specs.Prelude.{ℕ, List, ◌++◌, map, max, Some, option_map, unwrap_or}
 use Rattle.std.specs.Ordering.{nat_cmp}
 use Rattle.std.specs.BTreeMap.{BTreeMap, get}
 use Rattle.std.specs.FinMap.{FinMap}

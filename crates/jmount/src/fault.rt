@@ -1,5 +1,11 @@
 // Why an image does not mount, and why a path names nothing.
 
+ghost use Rattle.std.specs.Prelude.{◌≡◌};
+ghost use Rattle.jmount.specs.declared.fault.MountFault.TheVariants.{OutOfMemory};
+ghost use Rattle.jmount.specs.Gathered.{refusal_fault};
+
+use jscan::ScanFault;
+use std::alloc::AllocError;
 use thiserror::Error;
 
 /// Why an image does not mount.
@@ -25,6 +31,30 @@ pub enum MountFault {
     RootKind,
     #[error("M7 OutOfMemory")]
     OutOfMemory,
+}
+
+impl From<AllocError> for MountFault {
+    ghost from_gives = { λ _ fault. fault ≡ OutOfMemory };
+
+    fn from(_error: AllocError) -> MountFault {
+        MountFault::OutOfMemory
+    }
+}
+
+impl From<ScanFault> for MountFault {
+    ghost from_gives = { λ refusal fault. fault ≡ refusal_fault refusal };
+
+    fn from(refusal: ScanFault) -> MountFault {
+        match refusal {
+            ScanFault::BlockSize => MountFault::BlockSize,
+            ScanFault::TooLarge => MountFault::TooLarge,
+            ScanFault::Incompatible { addr, nodetype } => {
+                MountFault::Incompatible { addr, nodetype }
+            }
+            ScanFault::Compressed { addr, compr } => MountFault::Compressed { addr, compr },
+            ScanFault::OutOfMemory => MountFault::OutOfMemory,
+        }
+    }
 }
 
 /// Why a path names nothing.

@@ -8,9 +8,11 @@
 #![tactic(auto)]
 
 mod fault;
+mod gathering;
 mod inodes;
 pub mod laws;
 mod mounted;
+mod mounting;
 mod object;
 mod path;
 mod read;
@@ -24,5 +26,6 @@ mod walk;
 
 pub use crate::fault::{FindFault, MountFault};
 pub use crate::mounted::Mounted;
+pub use crate::mounting::mount;
 pub use crate::object::{Kind, Object};
 pub use crate::walk::Objects;

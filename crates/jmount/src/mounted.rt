@@ -18,8 +18,8 @@ use std::alloc::{AllocError, Global};
 use std::collections::BTreeMap;
 use std::marker::Model;
 
-// The root's number.
-const ROOT: u32 = 1;
+/// The root's number.
+pub(crate) const ROOT: u32 = 1;
 
 /// A mounted image: its bytes, and the file system that its nodes make.
 #[derive(Drop)]
@@ -49,6 +49,32 @@ impl<'a> Model for Mounted<'a> {
 }
 
 impl<'a> Mounted<'a> {
+    ghost use Rattle.std.specs.Ordering.{nat_cmp};
+    ghost use Rattle.std.specs.BTreeMap.{IsOrdered};
+    ghost use Rattle.jmount.specs.Stored.{stored_state, stored_tops};
+
+    /// A mounted image of its parts.
+    pub(crate) fn new(
+        image: &'a [u8],
+        objects: BTreeMap<u32, Stored<'a>>,
+        names: Names<'a>,
+        next: u64,
+        findings: Vec<Finding>,
+        read_only: bool,
+    ) -> Mounted<'a>
+        requires { IsOrdered nat_cmp objects }
+        ensures { result ≡ record { image = image.now; state = stored_state objects.entry names.entry next; tops = stored_tops objects.entry names.entry; findings = findings.items; read_only = read_only } }
+    {
+        Mounted {
+            image,
+            objects,
+            names,
+            next,
+            findings,
+            read_only,
+        }
+    }
+
     /// The bytes that were mounted.
     pub fn image(&self) -> &'a [u8]
         ensures { result.now ≡ self.now.image }
@@ -120,7 +146,7 @@ impl<'a> Mounted<'a> {
         }
     }
 
-    fn is_directory(&self, ino: u32) -> bool
+    pub(crate) fn is_directory(&self, ino: u32) -> bool
         ensures { result ≡ tree.is_directory self.now.state ino }
     {
         self.objects

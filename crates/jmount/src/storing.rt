@@ -9,15 +9,13 @@ ghost use Rattle.jmount.specs.StateOf.{body_of, piece_of};
 ghost use Rattle.jmount.specs.Storing.{made_at, made_by, made_root, or_made_root, shown};
 
 use crate::inodes::ByNumber;
+use crate::mounted::ROOT;
 use crate::stored::Stored;
 use crate::versions::Versions;
 use jfrag::{Body, FragOverlay, Overlay, Piece, overlay};
 use jnode::{Fill, InodeNode};
 use std::alloc::{AllocError, Global};
 use std::collections::BTreeMap;
-
-// The root's number.
-const ROOT: u32 = 1;
 
 /// The objects of these numbers, and the root.
 pub fn objects_with_root<'a>(

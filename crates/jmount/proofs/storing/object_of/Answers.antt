@@ -1,16 +1,14 @@
-use Rattle.std.proofs.Common.{rules, false, ◌≡◌, ◌<◌, ◌^◌, ℕ, Some, Option, List, All, map, refl, ap, sym, ◌∙◌, subst}
+use Rattle.std.proofs.Common.{rules, false, ◌≡◌, ◌<◌, ◌^◌, ℕ, Some, List, All, map, refl, ap, sym, ◌∙◌, subst}
 use Rattle.std.specs.Prelude.{IsSome, option_map}
 use Rattle.std.specs.Ordering.{nat_cmp, is_lt}
-use Rattle.std.specs.BTreeMap.{get}
 use Rattle.std.proofs.lemmas.List.Elements.{All-map}
-use Rattle.jnode.specs.declared.node.InodeNode.{InodeNode}
 use Rattle.jfrag.specs.declared.piece.Piece.{Piece}
 use Rattle.jfrag.specs.Pieces.{end_of}
 use Rattle.jfrag.specs.Overlays.{IsHighestAt}
 use Rattle.jmount.specs.Inodes.{version_at, nodes_in}
 use Rattle.jmount.specs.Stored.{stands_in}
 use Rattle.jmount.specs.StateOf.{piece_of, object_by, with_bytes}
-use Rattle.jmount.proofs.StoringLemmas.{IsLast, latest_is, content-stands}
+use Rattle.jmount.proofs.StoringLemmas.{latest_is, content-stands}
 use Rattle.jmount.proofs.storing.object_of.Goals as goal
 
 pub overlay-requires : goal.overlay-requires

@@ -1,4 +1,4 @@
-use Rattle.std.proofs.Common.{◌≡◌, ℕ, ap, ◌∙◌, List, IfOk, option_map}
+use Rattle.std.proofs.Common.{◌≡◌, ℕ, ap, ◌∙◌, List, option_map}
 use Rattle.std.specs.Ordering.{nat_cmp}
 use Rattle.std.specs.BTreeMap.{BTreeMap, get}
 use Rattle.jnode.specs.declared.node.InodeNode.{InodeNode}

@@ -1,0 +1,42 @@
+// Mounting an image.
+
+ghost use Rattle.jmount.specs.Mounts.{Answers};
+
+use crate::fault::MountFault;
+use crate::gathering::gather;
+use crate::mounted::{Mounted, ROOT};
+use jnode::Order;
+use jscan::{Geometry, Survey, survey};
+use std::alloc::Global;
+
+/// Mounts an image: the file system that its nodes make. The missing tail of the last block counts as erased. Each byte
+/// of the nodes' data is checked once and none is copied; n nodes take n log n steps.
+///
+/// # Errors
+/// `BlockSize` or `TooLarge`, before any byte is read. Else of the nodes that no image may have, as `Incompatible`,
+/// `Compressed` or `Clash`, the one of least address; else `RootKind`. `OutOfMemory` may come at any time.
+pub fn mount<'a, E: Order>(
+    alloc: Global,
+    image: &'a [u8],
+    geometry: Geometry,
+) -> Result<Mounted<'a>, MountFault>
+    ensures { Answers E.order geometry.block image.now result }
+{
+    let Survey {
+        nodes,
+        findings,
+        read_only,
+        refused,
+    } = survey::<E>(alloc, image, geometry)?;
+    let tables = gather(alloc, nodes)?;
+    if let Some(refusal) = refused {
+        return Err(MountFault::from(refusal));
+    }
+    let objects = tables.inodes.objects()?;
+    let next = u64::from(tables.greatest) + 1;
+    let mounted = Mounted::new(image, objects, tables.names, next, findings, read_only);
+    if !mounted.is_directory(ROOT) {
+        return Err(MountFault::RootKind);
+    }
+    Ok(mounted)
+}
