@@ -10,8 +10,10 @@
 mod fault;
 mod mounted;
 mod object;
+mod standin;
 mod stored;
 
 pub use crate::fault::{FindFault, MountFault};
 pub use crate::mounted::Mounted;
 pub use crate::object::{Kind, Object};
+pub use crate::standin::mount;

@@ -17,7 +17,11 @@ pub struct Mounted<'a> {
     next: u64,
     findings: Vec<Finding>,
     read_only: bool,
+    pub never: Never,
 }
+
+#[derive(Drop)]
+pub enum Never {}
 
 impl<'a> Model for Mounted<'a> {
     ghost use Rattle.std.specs.Ordering.{nat_cmp};
