@@ -1,5 +1,8 @@
-pub mod WordLemmas
-pub mod StretchLemmas
-pub mod PutLemmas
 pub mod BlockLemmas
 pub mod FaultLemmas
+pub mod PathLemmas
+pub mod PutLemmas
+pub mod StretchLemmas
+pub mod TurnLemmas
+pub mod VerdictLemmas
+pub mod WordLemmas

@@ -10,11 +10,14 @@ pub mod blocks;
 pub mod check;
 pub mod commands;
 pub mod counts;
+pub mod escapes;
 pub mod faults;
+pub mod files;
 pub mod forms;
 pub mod laws;
 pub mod line;
 pub mod outcome;
+pub mod paths;
 pub mod program;
 pub mod report;
 pub mod report_fault;
@@ -24,6 +27,7 @@ mod report_tests;
 pub mod request;
 #[cfg(test)]
 mod tests;
+pub mod verdict;
 
 use faults::ProgramFault;
 use flashbase::FromWriter;
