@@ -87,13 +87,25 @@ run check --scan none; want 1 "" "jffs2_image: P1 File none"
 run check --scan ""; want 1 "" "jffs2_image: P1 File "
 run check --scan "two words"; want 1 "" "jffs2_image: P1 File two words"
 run check --scan folder; want 1 "" "jffs2_image: L1 Device"
-run check --scan --block 4096 longer; want 1 "" "jffs2_image: L2 TooLarge"
-run check --scan --block 4096 /dev/zero; want 1 "" "jffs2_image: L2 TooLarge"
+run check --scan --block 4096 longer
+want 0 $'block 0\n00000000 erased 4096\nblock 1\n00001000 erased 4096\ntotal blocks 2 entries 0 inodes 0 findings 0' ""
 run check --scan --block 4194304 longer; want 0 $'block 0\n00000000 erased 4194304\ntotal blocks 1 entries 0 inodes 0 findings 0' ""
 run check --scan --block 4096 block; want 0 $'block 0\n00000000 erased 4096\ntotal blocks 1 entries 0 inodes 0 findings 0' ""
 nothing="total blocks 0 entries 0 inodes 0 findings 0"
 run check --scan empty; want 0 "$nothing" ""
 run check --scan --endian big empty; want 0 "$nothing" ""
+
+# The greatest image, and one byte more: the lines of the blocks before have gone out.
+last=$'block 63\n0fc00000 dirt 4194304'
+truncate -s 268435456 greatest
+run check --scan --block 4194304 greatest
+want 3 $'block 0\n00000000 dirt 4194304\n*'"$last"$'\ntotal blocks 64 entries 0 inodes 0 findings 64' ""
+truncate -s 268435457 larger
+for image in larger /dev/zero; do
+    run check --scan --block 4194304 $image; want 1 $'block 0\n00000000 dirt 4194304\n*'"$last" "jffs2_image: L2 TooLarge"
+done
+line="an image of 256 MiB in 64 MiB of memory"
+(ulimit -v 65536; "$program" check --scan greatest > out 2> err); got=$?; want 3 "*total blocks 4096 entries 0 inodes 0 findings 4096" ""
 
 # The sample image, in its own byte order and in the other one
 sample=$samples/one_entry.img

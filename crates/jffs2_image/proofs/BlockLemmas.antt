@@ -14,8 +14,9 @@ use Rattle.jscan.specs.Image.{is_block_size, greatest_image, block_of, block_cou
 use Rattle.jscan.specs.Stretches.{stretches}
 use Rattle.jscan.specs.declared.stretch.Look.{Look}
 use Rattle.jscan.specs.declared.stretch.Stretch.{Stretch}
-use Rattle.jffs2_image.specs.Report.{lines_of, is_entry_tile, is_inode_tile, is_found, number_in, stretches_of_block, stretches_below, lines_below, block_lines, counts_below, counted, with_block, HasRoom}
-use Rattle.jffs2_image.specs.declared.counts.Counts.{Counts}
+use Rattle.jscan.specs.Counts.{is_entry_tile, is_inode_tile, is_found, number_in, stretches_of_block, stretches_below, counts_of, block_counted}
+use Rattle.jscan.specs.declared.counts.Counts.{Counts}
+use Rattle.jffs2_image.specs.Report.{lines_of, lines_below, block_lines, HasRoom}
 use Rattle.jffs2_image.proofs.StretchLemmas.{length_stretches, number_in-le}
 use Rattle.jffs2_image.proofs.PutLemmas.{count_by-append}
 
@@ -33,7 +34,7 @@ pub filled_block_is : (size : ℕ) (image : List ℕ) (k : ℕ)
     → take size (take (length image - k * size) (drop (k * size) image) ++ erased size) ≡ block_of size image k
 filled_block_is size image k = ap (λ (l : List ℕ). take size (l ++ erased size)) (take_rest image (k * size))
 
-one_more : (k size : ℕ) → (k + 1) * size ≡ k * size + size
+pub one_more : (k size : ℕ) → (k + 1) * size ≡ k * size + size
 one_more k size = grind arith
 
 -- a block begins inside the image
@@ -96,9 +97,9 @@ length_stretches_below e size image (suc k) =
     let within : length (stretches_below e size image (k + 1)) ≤ (k + 1) * size = omega (arith, here, full, before, both, more) in
     subst (λ (n : ℕ). length (stretches_below e size image n) ≤ n * size) {x = k + 1} {y = suc k} (omega arith) within
 
-pub counts_below_more : (e : Endian) (size : ℕ) (image : List ℕ) (k : ℕ)
-    → with_block (counted (counts_below e size image k) (stretches_of_block e size image k)) ≡ counts_below e size image (k + 1)
-counts_below_more e size image k =
+pub counts_of_more : (e : Endian) (size : ℕ) (image : List ℕ) (k : ℕ)
+    → block_counted (counts_of e size image k) (stretches_of_block e size image k) ≡ counts_of e size image (k + 1)
+counts_of_more e size image k =
     λ i. record {
       blocks = k + 1;
       entries = rises (λ s. is_entry_tile s.look) i;
@@ -122,7 +123,7 @@ block_size_is size fits =
     (leb-true 4096 size parts.0, leb-true size 4194304 parts.1)
 
 -- what the blocks before count, and what this one can
-pub room_for_block : (e : Endian) (size : ℕ) (image : List ℕ) (k n : ℕ) (c : Counts) → c ≡ counts_below e size image k
+pub room_for_block : (e : Endian) (size : ℕ) (image : List ℕ) (k n : ℕ) (c : Counts) → c ≡ counts_of e size image k
     → IsTrue (is_block_size size) → length image ≤ greatest_image → k < block_count size image → n ≤ size → HasRoom c (n + 1)
 room_for_block e size image k n c is fits small next within = subst (λ (x : Counts). HasRoom x (n + 1)) (sym is) (record {
   blocks = omega (arith, few, first, within, sizes.1);
@@ -144,18 +145,18 @@ room_for_block e size image k n c is fits small next within = subst (λ (x : Cou
     room test = omega (arith, number_in-le test (stretches_below e size image k), length_stretches_below e size image k, few, within, sizes.1)
 
 -- the lines of a block, as `put_block` says them
-pub block_text : (e : Endian) (size : ℕ) (image : List ℕ) (k : ℕ) (c : Counts) (block : List ℕ) → c ≡ counts_below e size image k → block ≡ block_of size image k
+pub block_text : (e : Endian) (size : ℕ) (image : List ℕ) (k : ℕ) (c : Counts) (block : List ℕ) → c ≡ counts_of e size image k → block ≡ block_of size image k
     → lines_of c.blocks (stretches e (k * size) block) ≡ block_lines e size image k
 unfolding block_lines
 block_text e size image k c block is same =
     ap (λ (n : Counts). lines_of n.blocks (stretches e (k * size) block)) is ∙ ap (λ (l : List ℕ). lines_of k (stretches e (k * size) l)) same
 
-pub block_counts : (e : Endian) (size : ℕ) (image : List ℕ) (k : ℕ) (c : Counts) (block : List ℕ) → c ≡ counts_below e size image k → block ≡ block_of size image k
-    → with_block (counted c (stretches e (k * size) block)) ≡ counts_below e size image (k + 1)
+pub block_counts : (e : Endian) (size : ℕ) (image : List ℕ) (k : ℕ) (c : Counts) (block : List ℕ) → c ≡ counts_of e size image k → block ≡ block_of size image k
+    → block_counted c (stretches e (k * size) block) ≡ counts_of e size image (k + 1)
 block_counts e size image k c block is same =
-    ap (λ (n : Counts). with_block (counted n (stretches e (k * size) block))) is
-    ∙ ap (λ (l : List ℕ). with_block (counted (counts_below e size image k) (stretches e (k * size) l))) same
-    ∙ counts_below_more e size image k
+    ap (λ (n : Counts). block_counted n (stretches e (k * size) block)) is
+    ∙ ap (λ (l : List ℕ). block_counted (counts_of e size image k) (stretches e (k * size) l)) same
+    ∙ counts_of_more e size image k
 
 -- the lines of the first blocks begin those of all
 pub lines_begin : (e : Endian) (size : ℕ) (image : List ℕ) (k n : ℕ) → k < n

@@ -10,8 +10,9 @@ use Rattle.jscan.specs.Image.{block_count}
 use Rattle.jscan.specs.declared.geometry.ScanFault.TheVariants as scan
 use Rattle.jffs2_image.specs.declared.report_fault.ReportFault.{ReportFault}
 use Rattle.jffs2_image.specs.declared.report_fault.ReportFault.TheVariants.{Scan, Output}
-use Rattle.jffs2_image.specs.declared.counts.Counts.{Counts}
-use Rattle.jffs2_image.specs.Report.{scan_text, lines_below, counts_below, totals_line}
+use Rattle.jscan.specs.Counts.{counts_of}
+use Rattle.jscan.specs.declared.counts.Counts.{Counts}
+use Rattle.jffs2_image.specs.Report.{scan_text, lines_below, totals_line}
 use Rattle.jffs2_image.specs.Puts.{IsScannable, PutsLines, PutsReport}
 
 pub output_fault : {T : Type 0} (size : ℕ) (image : List ℕ) (old new : Option (List ℕ)) (before now : ℕ) (text : List ℕ) (r : Result T ReportFault)
@@ -56,7 +57,7 @@ early_fault e size image old new before now f (Err x) is scannable part =
     subst (λ (y : ReportFault). PutsReport e size image old new before now (Err y)) (sym is) (by f part)
   where
     longer : PutsPart old new (lines_below e size image (block_count size image)) → PutsPart old new (scan_text e size image)
-    longer p = part_before old new (lines_below e size image (block_count size image)) (totals_line (counts_below e size image (block_count size image))) p
+    longer p = part_before old new (lines_below e size image (block_count size image)) (totals_line (counts_of e size image (block_count size image))) p
 
     by : (g : ReportFault) → PutsLines {T = Counts} size image old new before now (lines_below e size image (block_count size image)) (Err g)
         → PutsReport e size image old new before now (Err g)
@@ -70,17 +71,17 @@ early_fault e size image old new before now f (Err x) is scannable part =
 -- a fault of the sink at the last line
 pub last_fault : (e : Endian) (size : ℕ) (image : List ℕ) (a b c : Option (List ℕ)) (before now : ℕ) (r : Result ℕ ReportFault)
     → IsErrAnd r (λ x. x ≡ Output) → IsScannable size image → Appends a b (lines_below e size image (block_count size image))
-    → PutsPart b c (totals_line (counts_below e size image (block_count size image))) → now ≡ next_count before
+    → PutsPart b c (totals_line (counts_of e size image (block_count size image))) → now ≡ next_count before
     → PutsReport e size image a c before now r
 unfolding scan_text
 last_fault e size image a b c before now (Ok x) is scannable put part failed = absurd is
 last_fault e size image a b c before now (Err x) is scannable put part failed =
     subst (λ (y : ReportFault). PutsReport e size image a c before now (Err y)) (sym is)
-    (scannable, part_behind a b c (lines_below e size image (block_count size image)) (totals_line (counts_below e size image (block_count size image))) put part, failed)
+    (scannable, part_behind a b c (lines_below e size image (block_count size image)) (totals_line (counts_of e size image (block_count size image))) put part, failed)
 
 -- all lines, and the last
 pub whole_text : (e : Endian) (size : ℕ) (image : List ℕ) (a b c : Option (List ℕ)) → Appends a b (lines_below e size image (block_count size image))
-    → Appends b c (totals_line (counts_below e size image (block_count size image))) → Appends a c (scan_text e size image)
+    → Appends b c (totals_line (counts_of e size image (block_count size image))) → Appends a c (scan_text e size image)
 unfolding scan_text
 whole_text e size image a b c lines total =
-    Appends-trans a b c (lines_below e size image (block_count size image)) (totals_line (counts_below e size image (block_count size image))) lines total
+    Appends-trans a b c (lines_below e size image (block_count size image)) (totals_line (counts_of e size image (block_count size image))) lines total

@@ -2,6 +2,7 @@ pub mod BlockLemmas
 pub mod FaultLemmas
 pub mod PathLemmas
 pub mod PutLemmas
+pub mod StreamLemmas
 pub mod StretchLemmas
 pub mod TurnLemmas
 pub mod VerdictLemmas

@@ -7,26 +7,34 @@ use Rattle.std.proofs.Math.Seq.{drop-cons}
 use Rattle.std.specs.List.{flat_map}
 use Rattle.std.specs.Io.KnownBytes.{Appends}
 use Rattle.std.proofs.lemmas.Grind.{flat_map-append, common_steps}
+use Rattle.std.proofs.lemmas.List.Sums.{sum_by-cons}
 use Rattle.std.specs.Prelude.{Result, Ok, Err, IsErr}
 use Rattle.flashbase.specs.Device.{PutsPart, Puts, next_count}
 use Rattle.flashbase.proofs.DeviceLemmas.{part_before, part_behind}
 use Rattle.jscan.specs.declared.stretch.Stretch.{Stretch}
-use Rattle.jffs2_image.specs.Report.{block_line, stretch_line, lines_of, is_entry_tile, is_inode_tile, is_found, counted, HasRoom}
-use Rattle.jffs2_image.specs.declared.counts.Counts.{Counts}
+use Rattle.jscan.specs.Counts.{is_entry_tile, is_inode_tile, is_found, number_in, one_if, counted, block_counted}
+use Rattle.jscan.specs.declared.counts.Counts.{Counts}
+use Rattle.jscan.specs.declared.stretch.Look.{Look}
+use Rattle.jffs2_image.specs.Report.{block_line, stretch_line, lines_of, HasRoom}
 use Rattle.jffs2_image.proofs.StretchLemmas.{number_in-le}
 
 pub count_by-append : {X : Type 0} (test : X → Bool) (xs ys : List X) → count_by test (xs ++ ys) ≡ count_by test xs + count_by test ys
 count_by-append test xs ys = grind (arith, common_steps)
 
-pub counted-append : (c : Counts) (xs ys : List Stretch) → counted (counted c xs) ys ≡ counted c (xs ++ ys)
-counted-append c xs ys =
-    let entries = count_by-append (λ (s : Stretch). is_entry_tile s.look) xs ys in
-    let inodes = count_by-append (λ (s : Stretch). is_inode_tile s.look) xs ys in
-    let findings = count_by-append (λ (s : Stretch). is_found s.look) xs ys in
-    (λ i. record { blocks = c.blocks; entries = at c.entries _ _ _ entries i; inodes = at c.inodes _ _ _ inodes i; findings = at c.findings _ _ _ findings i })
-  where
-    at : (n a b sum : ℕ) → sum ≡ a + b → (n + a) + b ≡ n + sum
-    at n a b sum e = omega arith
+number_more : (test : Look → Bool) (xs : List Stretch) (x : Stretch) → number_in test (xs ++ x ∷ []) ≡ number_in test xs + one_if (test x.look)
+number_more test xs x =
+    omega (arith, count_by-append (λ (s : Stretch). test s.look) xs (x ∷ []), sum_by-cons (λ (s : Stretch). one_if (test s.look)) x [])
+
+-- one stretch more of a block
+pub block_counted_more : (c : Counts) (xs : List Stretch) (x : Stretch) → counted (block_counted c xs) x.look ≡ block_counted c (xs ++ x ∷ [])
+block_counted_more c xs x =
+    let entries : (c.entries + number_in is_entry_tile xs) + one_if (is_entry_tile x.look) ≡ c.entries + number_in is_entry_tile (xs ++ x ∷ []) =
+    omega (arith, number_more is_entry_tile xs x) in
+    let inodes : (c.inodes + number_in is_inode_tile xs) + one_if (is_inode_tile x.look) ≡ c.inodes + number_in is_inode_tile (xs ++ x ∷ []) =
+    omega (arith, number_more is_inode_tile xs x) in
+    let findings : (c.findings + number_in is_found xs) + one_if (is_found x.look) ≡ c.findings + number_in is_found (xs ++ x ∷ []) =
+    omega (arith, number_more is_found xs x) in
+    λ i. record { blocks = c.blocks + 1; entries = entries i; inodes = inodes i; findings = findings i }
 
 -- a list, split behind the item that follows a beginning of it
 pub split_behind : {X : Type 0} (all xs : List X) (x : X) → xs ≡ take (length xs) all → length xs < length all → x ≡ get_or all (length xs) x
@@ -88,9 +96,9 @@ part_of_lines k all xs rest x a b c split put part =
 
 -- ---- counts
 
-pub counted_has_room : (c d : Counts) (ss : List Stretch) (n : ℕ) → d ≡ counted c ss → length ss < n → HasRoom c (n + 1) → HasRoom d 1
+pub counted_has_room : (c d : Counts) (ss : List Stretch) (n : ℕ) → d ≡ block_counted c ss → length ss < n → HasRoom c (n + 1) → HasRoom d 1
 counted_has_room c d ss n is few room = subst (λ (x : Counts). HasRoom x 1) (sym is) (record {
-  blocks = omega (arith, room.blocks);
+  blocks = omega (arith, few, room.blocks);
   entries = omega (arith, room.entries, number_in-le is_entry_tile ss);
   inodes = omega (arith, room.inodes, number_in-le is_inode_tile ss);
   findings = omega (arith, room.findings, number_in-le is_found ss);

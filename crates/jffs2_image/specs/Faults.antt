@@ -9,6 +9,8 @@ use Rattle.jmount.specs.declared.fault.MountFault.{MountFault}
 use Rattle.jmount.specs.declared.fault.MountFault.TheVariants as mount
 use Rattle.jmount.specs.declared.fault.FindFault.{FindFault}
 use Rattle.jmount.specs.declared.fault.FindFault.TheVariants as find
+use Rattle.jscan.specs.declared.stream.StreamFault.{StreamFault}
+use Rattle.jscan.specs.declared.stream.StreamFault.TheVariants as stream
 use Rattle.jffs2_image.specs.Words.{hex}
 use Rattle.jffs2_image.specs.declared.report_fault.ReportFault.{ReportFault}
 use Rattle.jffs2_image.specs.declared.report_fault.ReportFault.TheVariants as report
@@ -59,23 +61,24 @@ fault_text_of program.OutOfMemory = codes "P6 OutOfMemory"
 unfoldable pub fault_line_of : ProgramFault → List ℕ
 fault_line_of fault = codes "jffs2_image: " ++ (fault_text_of fault ++ 10 ∷ [])
 
--- the faults of a scan: of the image's file, of its geometry, of memory, of what is printed
-abbrev pub IsFaultOfScan : ProgramFault → Type 0
-IsFaultOfScan (program.Load fault) = Unit {0}
-IsFaultOfScan (program.Scan scan.BlockSize) = Unit {0}
-IsFaultOfScan (program.Scan scan.OutOfMemory) = Unit {0}
-IsFaultOfScan program.Output = Unit {0}
-IsFaultOfScan _ = ⊥
-
--- the image was not read
-abbrev pub IsFaultOfLoad : ProgramFault → Type 0
-IsFaultOfLoad (program.Load fault) = Unit {0}
-IsFaultOfLoad _ = ⊥
+-- the faults of a stream's report: of its geometry, of the source, of memory, of what is printed
+abbrev pub IsFaultOfReport : ProgramFault → Type 0
+IsFaultOfReport (program.Load fault) = Unit {0}
+IsFaultOfReport (program.Scan scan.BlockSize) = Unit {0}
+IsFaultOfReport program.Output = Unit {0}
+IsFaultOfReport _ = ⊥
 
 -- the program's fault that a report's fault is
 abbrev pub fault_of_report : ReportFault → ProgramFault
 fault_of_report (report.Scan fault) = program.Scan fault
 fault_of_report report.Output = program.Output
+
+-- the program's fault that a stream's fault is
+abbrev pub fault_of_stream : StreamFault → ProgramFault
+fault_of_stream stream.BlockSize = program.Scan scan.BlockSize
+fault_of_stream stream.Device = program.Load load.Device
+fault_of_stream stream.TooLarge = program.Load load.TooLarge
+fault_of_stream stream.OutOfMemory = program.Load load.OutOfMemory
 
 -- the line of a fault went out
 abbrev pub TellsFault : Option (List ℕ) → Option (List ℕ) → Type 0

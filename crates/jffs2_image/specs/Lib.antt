@@ -2,6 +2,7 @@ pub mod Asked
 pub mod Commands
 pub mod Content
 pub mod Faults
+pub mod Loaded
 pub mod Paths
 pub mod Puts
 pub mod Refused

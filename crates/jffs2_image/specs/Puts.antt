@@ -8,7 +8,8 @@ use Rattle.jscan.specs.declared.geometry.ScanFault.{ScanFault}
 use Rattle.jscan.specs.declared.geometry.ScanFault.TheVariants as scan
 use Rattle.jffs2_image.specs.declared.report_fault.ReportFault.{ReportFault}
 use Rattle.jffs2_image.specs.declared.report_fault.ReportFault.TheVariants.{Scan, Output}
-use Rattle.jffs2_image.specs.Report.{scan_text, number_of, is_found}
+use Rattle.jscan.specs.Counts.{is_found}
+use Rattle.jffs2_image.specs.Report.{scan_text, number_of}
 
 -- an image that can be scanned at all
 abbrev pub IsScannable : ℕ → List ℕ → Type 0

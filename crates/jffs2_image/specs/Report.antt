@@ -1,5 +1,5 @@
 -- The lines that `check --scan` prints, as functions of the image.
-use Rattle.std.specs.Prelude.{ℕ, ◌+◌, ◌*◌, ◌^◌, ◌<◌, Bool, true, false, List, [], ◌++◌, count_by, codes, decimal}
+use Rattle.std.specs.Prelude.{ℕ, ◌+◌, ◌^◌, ◌<◌, Bool, List, [], ◌++◌, codes, decimal}
 use Rattle.std.specs.List.{flat_map}
 use Rattle.flashbase.specs.Lists.{below}
 use Rattle.jnode.specs.declared.order.Endian.{Endian}
@@ -11,12 +11,12 @@ use Rattle.jnode.specs.declared.node.Fill.TheVariants as fill
 use Rattle.jnode.specs.declared.node.InodeNode.{InodeNode}
 use Rattle.jnode.specs.declared.node.Seen.{Seen}
 use Rattle.jnode.specs.declared.node.Seen.TheVariants as seen
-use Rattle.jscan.specs.Image.{block_of, block_count}
-use Rattle.jscan.specs.Stretches.{stretches}
+use Rattle.jscan.specs.Counts.{counts_of, number_in, stretches_of_block, stretches_below}
+use Rattle.jscan.specs.Image.{block_count}
+use Rattle.jscan.specs.declared.counts.Counts.{Counts}
 use Rattle.jscan.specs.declared.stretch.Look.{Look}
 use Rattle.jscan.specs.declared.stretch.Look.TheVariants.{Tiled, Erased, OtherOrder, Dirt}
 use Rattle.jscan.specs.declared.stretch.Stretch.{Stretch}
-use Rattle.jffs2_image.specs.declared.counts.Counts.{Counts}
 use Rattle.jffs2_image.specs.Words.{hex, octal, escaped}
 
 -- ---- the line forms
@@ -94,47 +94,7 @@ stretch_line s = look_line s.addr s.len s.look
 
 -- ---- what is counted
 
-abbrev pub is_entry_tile : Look → Bool
-is_entry_tile (Tiled (seen.Entry d)) = true
-is_entry_tile _ = false
-
-abbrev pub is_inode_tile : Look → Bool
-is_inode_tile (Tiled (seen.Inode i)) = true
-is_inode_tile _ = false
-
--- the findings: nodes that are not read, and words that are not erased
-abbrev pub is_found_tile : Seen → Bool
-is_found_tile seen.Attribute = true
-is_found_tile (seen.ReadOnly nodetype) = true
-is_found_tile (seen.Incompatible nodetype) = true
-is_found_tile (seen.Compressed compr) = true
-is_found_tile (seen.Damaged which) = true
-is_found_tile _ = false
-
-abbrev pub is_found : Look → Bool
-is_found (Tiled tile) = is_found_tile tile
-is_found Erased = false
-is_found OtherOrder = true
-is_found Dirt = true
-
--- how many stretches have a look that passes the test
-abbrev pub number_in : (Look → Bool) → List Stretch → ℕ
-number_in test ss = count_by (λ s. test s.look) ss
-
--- the counts when these stretches are met as well
-abbrev pub counted : Counts → List Stretch → Counts
-counted c ss = record {
-  blocks = c.blocks;
-  entries = c.entries + number_in is_entry_tile ss;
-  inodes = c.inodes + number_in is_inode_tile ss;
-  findings = c.findings + number_in is_found ss;
-}
-
--- the counts when the block is done
-abbrev pub with_block : Counts → Counts
-with_block c = record c { blocks = c.blocks + 1 }
-
--- n more can be counted
+-- n more of each can be counted
 pub record HasRoom (c : Counts) (n : ℕ) : Type 0 where
   pub blocks : c.blocks + n < 2 ^ 64
   pub entries : c.entries + n < 2 ^ 64
@@ -143,13 +103,7 @@ pub record HasRoom (c : Counts) (n : ℕ) : Type 0 where
 
 -- ---- an image, block by block
 
-abbrev pub stretches_of_block : Endian → ℕ → List ℕ → ℕ → List Stretch
-stretches_of_block e size image k = stretches e (k * size) (block_of size image k)
-
--- the stretches of the first n blocks
-abbrev pub stretches_below : Endian → ℕ → List ℕ → ℕ → List Stretch
-stretches_below e size image n = flat_map (stretches_of_block e size image) (below n)
-
+-- how many stretches of an image have a look that passes the test
 abbrev pub number_of : (Look → Bool) → Endian → ℕ → List ℕ → ℕ
 number_of test e size image = number_in test (stretches_below e size image (block_count size image))
 
@@ -160,17 +114,9 @@ lines_of k ss = block_line k ++ flat_map stretch_line ss
 unfoldable pub block_lines : Endian → ℕ → List ℕ → ℕ → List ℕ
 block_lines e size image k = lines_of k (stretches_of_block e size image k)
 
--- the lines and the counts of the first n blocks
+-- the lines of the first n blocks
 abbrev pub lines_below : Endian → ℕ → List ℕ → ℕ → List ℕ
 lines_below e size image n = flat_map (block_lines e size image) (below n)
-
-abbrev pub counts_below : Endian → ℕ → List ℕ → ℕ → Counts
-counts_below e size image n = record {
-  blocks = n;
-  entries = number_in is_entry_tile (stretches_below e size image n);
-  inodes = number_in is_inode_tile (stretches_below e size image n);
-  findings = number_in is_found (stretches_below e size image n);
-}
 
 -- the line of these totals
 abbrev pub totals_line : Counts → List ℕ
@@ -178,7 +124,7 @@ totals_line c = total_line c.blocks c.entries c.inodes c.findings
 
 -- what `check --scan` prints
 unfoldable pub scan_text : Endian → ℕ → List ℕ → List ℕ
-scan_text e size image = let blocks = block_count size image in lines_below e size image blocks ++ totals_line (counts_below e size image blocks)
+scan_text e size image = let blocks = block_count size image in lines_below e size image blocks ++ totals_line (counts_of e size image blocks)
 
 -- ---- what a line holds
 

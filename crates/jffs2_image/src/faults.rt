@@ -8,7 +8,7 @@ use crate::line::LineBuffer;
 use crate::report_fault::ReportFault;
 use flashbase::{LoadFault, PutFault, Sink, put_all};
 use jmount::{FindFault, MountFault};
-use jscan::ScanFault;
+use jscan::{ScanFault, StreamFault};
 use std::alloc::{AllocError, AllocFailed};
 
 /// Why the program gives up.
@@ -71,16 +71,6 @@ impl From<FindFault> for ProgramFault<'_> {
     }
 }
 
-impl From<PutFault> for ProgramFault<'_> {
-    ghost use Rattle.jffs2_image.specs.declared.faults.ProgramFault.TheVariants.{Output};
-
-    ghost from_gives = { λ _ e. e ≡ Output };
-
-    fn from(_fault: PutFault) -> Self {
-        ProgramFault::Output
-    }
-}
-
 impl From<AllocError> for ProgramFault<'_> {
     ghost use Rattle.jffs2_image.specs.declared.faults.ProgramFault.TheVariants.{OutOfMemory};
 
@@ -111,6 +101,31 @@ impl From<ReportFault> for ProgramFault<'_> {
             ReportFault::Scan(fault) => ProgramFault::Scan(fault),
             ReportFault::Output => ProgramFault::Output,
         }
+    }
+}
+
+impl From<StreamFault> for ProgramFault<'_> {
+    ghost use Rattle.jffs2_image.specs.Faults.{fault_of_stream};
+
+    ghost from_gives = { λ fault e. e ≡ fault_of_stream fault };
+
+    fn from(fault: StreamFault) -> Self {
+        match fault {
+            StreamFault::BlockSize => ProgramFault::Scan(ScanFault::BlockSize),
+            StreamFault::Device => ProgramFault::Load(LoadFault::Device),
+            StreamFault::TooLarge => ProgramFault::Load(LoadFault::TooLarge),
+            StreamFault::OutOfMemory => ProgramFault::Load(LoadFault::OutOfMemory),
+        }
+    }
+}
+
+impl From<PutFault> for ProgramFault<'_> {
+    ghost use Rattle.jffs2_image.specs.declared.faults.ProgramFault.TheVariants.{Output};
+
+    ghost from_gives = { λ _ e. e ≡ Output };
+
+    fn from(_fault: PutFault) -> Self {
+        ProgramFault::Output
     }
 }
 

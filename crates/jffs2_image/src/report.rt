@@ -2,18 +2,16 @@
 
 ghost use Rattle.std.specs.Prelude.{◌≡◌, ◌+◌, ◌<◌, ◌≤◌, ◌++◌, length, take, IsTrue, IfOk, OnOk, IfErr};
 ghost use Rattle.flashbase.specs.Bytes.{erased};
+ghost use Rattle.jscan.specs.Counts.{counts_of, is_found};
 ghost use Rattle.jscan.specs.Image.{is_block_size, greatest_image, block_count};
-ghost use Rattle.jffs2_image.specs.Report.{scan_text, lines_below, counts_below, block_lines, number_of, is_found};
+ghost use Rattle.jffs2_image.specs.Report.{scan_text, lines_below, block_lines, number_of};
 ghost use Rattle.jffs2_image.specs.Puts.{IsScannable, IsFaultOf, PutsLines, PutsReport};
 
-use crate::blocks::put_block;
-use crate::counts::Counts;
-use crate::forms::write_total;
-use crate::line::LineBuffer;
+use crate::blocks::{nothing, put_block, put_total};
 use crate::report_fault::ReportFault;
-use flashbase::{FromWriter, Sink, put_all};
+use flashbase::{FromWriter, Sink};
 use jnode::Order;
-use jscan::{GREATEST_IMAGE, Geometry, ScanFault};
+use jscan::{Counts, GREATEST_IMAGE, Geometry, ScanFault};
 use std::alloc::{AllocError, Global};
 
 /// The first bytes of a block, and 0xFF for those that are missing.
@@ -39,10 +37,10 @@ fn put_block_of<E: Order, T: Sink>(
     requires size { IsTrue (is_block_size size) }
     requires small { length image.now ≤ greatest_image }
     requires next { k < block_count size image.now }
-    requires counts { counts.old ≡ counts_below E.order size image.now k }
+    requires counts { counts.old ≡ counts_of E.order size image.now k }
     ensures puts { PutsLines size image.now (T.taken sink.old) (T.taken sink.new) (T.failures sink.old) (T.failures sink.new)
         (block_lines E.order size image.now k) result }
-    ensures counts { OnOk result (counts.new ≡ counts_below E.order size image.now (k + 1)) }
+    ensures counts { OnOk result (counts.new ≡ counts_of E.order size image.now (k + 1)) }
 {
     let start = k * size;
     let held = &image[start..];
@@ -66,9 +64,9 @@ fn put_blocks<E: Order, T: Sink>(
     requires small { length image.now ≤ greatest_image }
     ensures puts { PutsLines size image.now (T.taken sink.old) (T.taken sink.new) (T.failures sink.old) (T.failures sink.new)
         (lines_below E.order size image.now (block_count size image.now)) result }
-    ensures counts { IfOk result (λ counts. counts ≡ counts_below E.order size image.now (block_count size image.now)) }
+    ensures counts { IfOk result (λ counts. counts ≡ counts_of E.order size image.now (block_count size image.now)) }
 {
-    let mut counts = Counts::none();
+    let mut counts = nothing();
     for k in 0..image.len().div_ceil(size) {
         put_block_of::<E, T>(alloc, image, size, k, sink, &mut counts)?;
     }
@@ -94,15 +92,7 @@ pub fn put_report<E: Order, T: Sink>(
         return Err(ReportFault::Scan(ScanFault::TooLarge));
     }
     let counts = put_blocks::<E, T>(alloc, image, geometry.block as usize, sink)?;
-    let mut line = LineBuffer::new();
-    write_total(
-        &mut line,
-        counts.blocks,
-        counts.entries,
-        counts.inodes,
-        counts.findings,
-    );
-    put_all(sink, line.as_slice())?;
+    put_total(sink, &counts)?;
     Ok(counts.findings)
 }
 

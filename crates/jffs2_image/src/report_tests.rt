@@ -2,6 +2,7 @@
 
 use crate::report::{put_report, scan_lines};
 use crate::report_fault::ReportFault;
+use crate::stream_tests::streamed;
 use byteorder::{BigEndian, LittleEndian};
 use flashbase::{DeviceFault, Sink};
 use jnode::Order;
@@ -9,14 +10,14 @@ use jscan::{Geometry, ScanFault};
 use std::alloc::{AllocError, Global};
 use std::test::Fail;
 
-const BLOCK: usize = 4096;
+pub(crate) const BLOCK: usize = 4096;
 
-const LITTLE_MARKER: [u8; 12] = [
+pub(crate) const LITTLE_MARKER: [u8; 12] = [
     0x85, 0x19, 0x03, 0x20, 0x0c, 0x00, 0x00, 0x00, 0xb1, 0xb0, 0x1e, 0xe4,
 ];
 
 /// An entry of 41 bytes: parent 1, version 1, object 2, type 8, name `a`.
-const ENTRY_A: [u8; 41] = [
+pub(crate) const ENTRY_A: [u8; 41] = [
     0x85, 0x19, 0x01, 0xe0, 0x29, 0x00, 0x00, 0x00, 0x6d, 0xa6, 0x2f, 0xd7, 0x01, 0x00, 0x00, 0x00,
     0x01, 0x00, 0x00, 0x00, 0x02, 0x00, 0x00, 0x00, 0x00, 0x00, 0x00, 0x00, 0x01, 0x08, 0x00, 0x00,
     0x95, 0x02, 0x9b, 0x91, 0xce, 0x51, 0xb5, 0x3a, 0x61,
@@ -57,7 +58,12 @@ const FIVE_TYPES: [u8; 60] = [
 ];
 
 /// An image: bytes 0xFF, then these parts, and 0xFF up to its length.
-fn image(alloc: Global, erased: usize, parts: &[&[u8]], len: usize) -> Result<Vec<u8>, AllocError> {
+pub(crate) fn image(
+    alloc: Global,
+    erased: usize,
+    parts: &[&[u8]],
+    len: usize,
+) -> Result<Vec<u8>, AllocError> {
     let mut image = vec![in alloc; 0xFF; erased]?;
     for part in parts {
         image.extend_from_slice(part)?;
@@ -68,13 +74,25 @@ fn image(alloc: Global, erased: usize, parts: &[&[u8]], len: usize) -> Result<Ve
     Ok(image)
 }
 
-/// The report of an image in blocks of 4,096 bytes, and its number of findings.
-fn report<E: Order>(alloc: Global, image: &[u8]) -> Result<(Vec<u8>, u64), &'static str> {
+/// The report of an image in blocks of 4,096 bytes, and its number of findings. A source of its bytes has the same one,
+/// however it cuts them.
+pub(crate) fn report<E: Order>(
+    alloc: Global,
+    image: &[u8],
+) -> Result<(Vec<u8>, u64), &'static str> {
     let geometry = Geometry {
         block: BLOCK as u32,
     };
     match scan_lines::<E>(alloc, image, geometry) {
-        Ok(lines) => Ok((lines.text, lines.findings)),
+        Ok(lines) => {
+            for piece in [1, 3, 4095, 4096] {
+                let (answer, text) = streamed::<E>(alloc, image, piece, usize::MAX);
+                if answer != Ok(lines.findings) || text.as_slice() != lines.text.as_slice() {
+                    return Err("another report of a stream");
+                }
+            }
+            Ok((lines.text, lines.findings))
+        }
         Err(_) => Err("no report"),
     }
 }
@@ -215,10 +233,10 @@ fn block_sizes_that_are_refused(rt: HostRuntime) {
 
 /// Takes up to `limit` bytes, one a call, and then fails.
 #[derive(Drop)]
-struct Short {
-    bytes: Vec<u8>,
-    limit: usize,
-    failures: u64,
+pub(crate) struct Short {
+    pub(crate) bytes: Vec<u8>,
+    pub(crate) limit: usize,
+    pub(crate) failures: u64,
 }
 
 impl Sink for Short {

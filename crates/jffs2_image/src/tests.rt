@@ -1,11 +1,10 @@
 //! What no clause says: texts, and that each call succeeds where memory is ample.
 use crate::asked::{Options, Request, endian, number};
-use crate::check::check_scan;
 use crate::faults::{ProgramFault, fault_line, fault_text};
 use crate::outcome::{Outcome, status};
 use crate::request::{RequestFault, request};
-use byteorder::{BigEndian, LittleEndian};
-use flashbase::{DeviceFault, FromReader, FromWriter, LoadFault, PutFault, Sink, Source};
+use flashbase::{DeviceFault, FromWriter, LoadFault, PutFault, Sink};
+use jmount::{FindFault, MountFault};
 use jnode::Endian;
 use jscan::{Geometry, ScanFault};
 use std::test::Fail;
@@ -58,10 +57,31 @@ fn words_that_ask_for_a_scan(rt: HostRuntime) {
         let image = "a.img";
         let answer = request(rt.alloc(), words);
         assert!(rt;
-            matches!(answer, Ok(request) if request == Request::Check { options, image }),
+            matches!(answer, Ok(request) if request == Request::Scan { options, image }),
             "{words:?}"
         );
     }
+}
+
+#[test]
+fn words_that_ask_for_more(rt: HostRuntime) {
+    let image = "a.img";
+    let answer = request(rt.alloc(), &["t", "check", "a.img"]);
+    let check = Request::Check {
+        options: options(65536, Endian::Little),
+        image,
+    };
+    assert!(rt; matches!(answer, Ok(request) if request == check));
+    let answer = request(
+        rt.alloc(),
+        &["t", "cat", "--endian", "big", "--block=4096", "a.img", "/b"],
+    );
+    let content = Request::Content {
+        options: options(4096, Endian::Big),
+        image,
+        path: "/b",
+    };
+    assert!(rt; matches!(answer, Ok(request) if request == content));
 }
 
 /// One line feed ends the text, and only one.
@@ -105,8 +125,11 @@ fn words_that_are_wrong(rt: HostRuntime) {
             ["t", "ls", "a.img"].as_slice(),
             "unrecognized subcommand 'ls'",
         ),
-        (["t", "check"].as_slice(), "--scan"),
-        (["t", "check", "a.img"].as_slice(), "--scan"),
+        (["t", "check"].as_slice(), "<IMAGE>"),
+        (["t", "cat"].as_slice(), "<IMAGE>"),
+        (["t", "cat", "a.img"].as_slice(), "<PATH>"),
+        (["t", "cat", "--scan", "a.img", "/a"].as_slice(), "--scan"),
+        (["t", "cat", "a.img", "/a", "/b"].as_slice(), "'/b'"),
         (["t", "check", "--scan"].as_slice(), "<IMAGE>"),
         (["t", "check", "--scan", "a", "b"].as_slice(), "'b'"),
         (["t", "check", "--scan", "--scan", "a"].as_slice(), "--scan"),
@@ -161,15 +184,19 @@ fn words_that_ask_for_help(rt: HostRuntime) {
         (["t", "help"].as_slice(), "Usage: t <COMMAND>"),
         (
             ["t", "check", "--help"].as_slice(),
-            "Usage: t check [OPTIONS] --scan <IMAGE>",
+            "Usage: t check [OPTIONS] <IMAGE>",
         ),
         (
             ["t", "check", "-h"].as_slice(),
-            "Usage: t check [OPTIONS] --scan <IMAGE>",
+            "Usage: t check [OPTIONS] <IMAGE>",
         ),
         (
             ["t", "help", "check"].as_slice(),
-            "Usage: t check [OPTIONS] --scan <IMAGE>",
+            "Usage: t check [OPTIONS] <IMAGE>",
+        ),
+        (
+            ["t", "cat", "--help"].as_slice(),
+            "Usage: t cat [OPTIONS] <IMAGE> <PATH>",
         ),
     ];
     for (words, usage) in rows {
@@ -191,7 +218,7 @@ fn values_of_options(rt: HostRuntime) {
     assert_eq!(rt; endian("bigger"), None);
 }
 
-const FAULTS: [(ProgramFault<'static>, &str); 11] = [
+const FAULTS: [(ProgramFault<'static>, &str); 22] = [
     (ProgramFault::Load(LoadFault::Device), "L1 Device"),
     (ProgramFault::Load(LoadFault::TooLarge), "L2 TooLarge"),
     (ProgramFault::Load(LoadFault::OutOfMemory), "L3 OutOfMemory"),
@@ -213,6 +240,38 @@ const FAULTS: [(ProgramFault<'static>, &str); 11] = [
         ProgramFault::File("two \\ words/é"),
         "P1 File two \\ words/é",
     ),
+    (
+        ProgramFault::Mount(MountFault::BlockSize),
+        "M1 BlockSize",
+    ),
+    (ProgramFault::Mount(MountFault::TooLarge), "M2 TooLarge"),
+    (
+        ProgramFault::Mount(MountFault::Incompatible {
+            addr: 12,
+            nodetype: 0xE0F7,
+        }),
+        "M3 Incompatible at 0000000c type e0f7",
+    ),
+    (
+        ProgramFault::Mount(MountFault::Compressed { addr: 12, compr: 6 }),
+        "M4 Compressed at 0000000c compr 6",
+    ),
+    (
+        ProgramFault::Mount(MountFault::Clash { addr: 0x50 }),
+        "M5 Clash at 00000050",
+    ),
+    (ProgramFault::Mount(MountFault::RootKind), "M6 RootKind"),
+    (
+        ProgramFault::Mount(MountFault::OutOfMemory),
+        "M7 OutOfMemory",
+    ),
+    (ProgramFault::Path(FindFault::BadPath), "P3 Path BadPath"),
+    (ProgramFault::Path(FindFault::NotFound), "P3 Path NotFound"),
+    (
+        ProgramFault::Path(FindFault::NotDirectory),
+        "P3 Path NotDirectory",
+    ),
+    (ProgramFault::NotRegular, "P4 NotRegular"),
     (ProgramFault::Output, "P5 Output"),
     (ProgramFault::OutOfMemory, "P6 OutOfMemory"),
 ];
@@ -283,75 +342,4 @@ fn statuses(rt: HostRuntime) {
     assert_eq!(rt; status(Outcome::Fault), 1);
     assert_eq!(rt; status(Outcome::Usage), 2);
     assert_eq!(rt; status(Outcome::Found), 3);
-}
-
-/// Fails at once.
-#[derive(Drop)]
-struct Broken {
-    failures: u64,
-}
-
-impl Source for Broken {
-    ghost use Rattle.std.specs.Prelude.{None};
-
-    ghost rest = { λ _. None };
-
-    ghost failures = { λ s. s.failures };
-
-    fn fill(&mut self, _buf: &mut [u8]) -> Result<usize, DeviceFault> {
-        self.failures = self.failures.wrapping_add(1);
-        Err(DeviceFault)
-    }
-}
-
-fn checked(
-    rt: &HostRuntime,
-    image: &[u8],
-    block: u32,
-) -> (Result<u64, ProgramFault<'static>>, usize) {
-    let mut sink = FromWriter::new(Vec::new(rt.alloc()));
-    let mut source = FromReader::new(image);
-    let geometry = Geometry { block };
-    let answer = check_scan::<LittleEndian, _, _>(rt.alloc(), &mut source, geometry, &mut sink);
-    (answer, sink.into_writer().len())
-}
-
-#[test]
-fn scans(rt: HostRuntime) {
-    let (answer, len) = checked(&rt, &[], 4096);
-    assert_eq!(rt; answer, Ok(0));
-    assert!(rt; len > 0);
-    let image = [0xFF; 4097];
-    let large = Err(ProgramFault::Load(LoadFault::TooLarge));
-    assert_eq!(rt; checked(&rt, &image, 4096), (large, 0));
-    let size = Err(ProgramFault::Scan(ScanFault::BlockSize));
-    for block in [0, 4092, 4095, 4097, 4098, 4194305, 4194308, u32::MAX] {
-        assert_eq!(rt; checked(&rt, &image, block), (size, 0));
-    }
-    assert!(rt; checked(&rt, &image[..4096], 4096).0.is_ok());
-    assert!(rt; checked(&rt, &image, 4194304).0.is_ok());
-}
-
-#[test]
-fn scans_of_devices_that_fail(rt: HostRuntime) {
-    let geometry = Geometry { block: 4096 };
-    let mut broken = Broken { failures: 7 };
-    let mut sink = FromWriter::new(Vec::new(rt.alloc()));
-    let answer = check_scan::<BigEndian, _, _>(rt.alloc(), &mut broken, geometry, &mut sink);
-    assert_eq!(rt; answer, Err(ProgramFault::Load(LoadFault::Device)));
-    assert_eq!(rt; broken.failures, 8);
-    let odd = Geometry { block: 4095 };
-    let answer = check_scan::<BigEndian, _, _>(rt.alloc(), &mut broken, odd, &mut sink);
-    assert_eq!(rt; answer, Err(ProgramFault::Scan(ScanFault::BlockSize)));
-    assert_eq!(rt; broken.failures, 8);
-    let mut short = Short {
-        bytes: Vec::new(rt.alloc()),
-        limit: 3,
-        failures: 0,
-    };
-    let mut source = FromReader::new([].as_slice());
-    let answer = check_scan::<BigEndian, _, _>(rt.alloc(), &mut source, geometry, &mut short);
-    assert_eq!(rt; answer, Err(ProgramFault::Output));
-    assert_eq!(rt; short.bytes.len(), 3);
-    assert_eq!(rt; short.failures, 1);
 }

@@ -1,4 +1,4 @@
-use Rattle.std.proofs.Common.{ℕ, ◌+◌, ◌∷◌, ◌++◌, [], List, length, drop, ap, ◌∙◌, subst, arith}
+use Rattle.std.proofs.Common.{ℕ, ◌+◌, ◌++◌, List, length, drop, ap, ◌∙◌, subst, arith}
 use Rattle.std.specs.Io.KnownBytes.{Appends}
 use Rattle.std.specs.List.{flat_map}
 use Rattle.std.proofs.KnownBytes.{Appends-trans}
@@ -7,10 +7,11 @@ use Rattle.flashbase.proofs.DeviceLemmas.{part_before}
 use Rattle.jscan.specs.Stretches.{stretches}
 use Rattle.jscan.specs.StretchesLeft.{stretches_left}
 use Rattle.jscan.specs.declared.stretch.Stretch.{Stretch}
-use Rattle.jffs2_image.specs.Report.{block_line, stretch_line, counted, with_block, lines_of}
-use Rattle.jffs2_image.specs.declared.counts.Counts.{Counts}
+use Rattle.jscan.specs.Counts.{block_counted, counted}
+use Rattle.jscan.specs.declared.counts.Counts.{Counts}
+use Rattle.jffs2_image.specs.Report.{block_line, stretch_line, lines_of}
 use Rattle.jffs2_image.proofs.StretchLemmas.{short_stretches, length_stretches}
-use Rattle.jffs2_image.proofs.PutLemmas.{turn, all_given, puts_err, lines_more, part_of_lines, split_behind, counted-append, counted_has_room}
+use Rattle.jffs2_image.proofs.PutLemmas.{turn, all_given, puts_err, lines_more, part_of_lines, split_behind, block_counted_more, counted_has_room}
 use Rattle.jffs2_image.proofs.blocks.put_block.Goals as goal
 
 pub returns-in_err-put_all-clause-puts : goal.returns-in_err-put_all-clause-puts
@@ -47,7 +48,7 @@ loop-stretch-preserved g c =
       put = subst (Appends (g.T.Sink.taken c.args.sink.now) (g.T.Sink.taken c.put_stretch.new.sink)) (lines_more k xs x)
           (Appends-trans _ _ _ (block_line k ++ flat_map stretch_line xs) (stretch_line x) before.put put.0);
       failed = put.1 ∙ before.failed;
-      counts = c.in_ok-put_stretch.ensures.counts ∙ ap (λ (n : Counts). counted n (x ∷ [])) before.counts ∙ counted-append c.args.counts.now xs (x ∷ []);
+      counts = c.in_ok-put_stretch.ensures.counts ∙ ap (λ (n : Counts). counted n x.look) before.counts ∙ block_counted_more c.args.counts.now xs x;
     }
 
 pub returns-in_err-put_stretch-clause-puts : goal.returns-in_err-put_stretch-clause-puts
@@ -64,9 +65,6 @@ returns-in_err-put_stretch-clause-puts g c =
     puts_err _ _ _ _ _ _ c.from_residual-in_err-put_stretch.ensures.0
     (part_of_lines k all xs (drop (length xs + 1) all) x _ _ _ split before.put put.0) (put.1 ∙ ap next_count before.failed)
 
-pub overflow_add-counts : goal.overflow_add-counts
-overflow_add-counts g c = rw c.loop-stretch.invariant.counts (omega (arith, c.requires.room.blocks))
-
 pub returns-clause-puts : goal.returns-clause-puts
 returns-clause-puts g c =
     let all = stretches g.E.Order.order c.args.start c.args.block.now in
@@ -80,4 +78,4 @@ returns-clause-counts g c =
     let all = stretches g.E.Order.order c.args.start c.args.block.now in
     let given = all_given stretches_left _ _ c.next.new.self all c.loop-stretch.yielded _
     (ap stretches_left c.into_iter-stretch-iterator.ensures.into_iter_gives ∙ c.new-stretch-items.ensures) c.loop-stretch.yielded_by c.in-None.is c.next.ensures.steps in
-    ap with_block (c.loop-stretch.invariant.counts ∙ ap (counted c.args.counts.now) given)
+    c.loop-stretch.invariant.counts ∙ ap (block_counted c.args.counts.now) given
