@@ -1,5 +1,6 @@
 pub mod BlockLemmas
 pub mod FaultLemmas
+pub mod LoadedLemmas
 pub mod PathLemmas
 pub mod PutLemmas
 pub mod StreamLemmas

@@ -55,7 +55,7 @@ pub item_failed : {X T E : Type 0} (f : X → List ℕ) (xs : List X) (i : ℕ) 
 item_failed f xs i d x a b c before mid now r err within here put same part failed =
     subst (λ (l : List ℕ). Puts a c before now l r) (flat_map-around f xs i d x within here)
     (first_failed a c before now (flat_map f (take i xs) ++ f x) (flat_map f (drop (i + 1) xs)) r err
-        (part_behind a b c (flat_map f (take i xs)) (f x) put part) (failed ∙ ap next_count same))
+    (part_behind a b c (flat_map f (take i xs)) (f x) put part) (failed ∙ ap next_count same))
 
 -- ---- the texts of the pieces of a list
 

@@ -18,9 +18,15 @@ pub struct Options {
 #[derive(Clone, Copy, Debug, PartialEq, Eq)]
 pub enum Request<'a> {
     /// `check --scan`: the tiles of the image and what is found in them.
-    Scan { options: Options, image: &'a str },
+    Scan {
+        options: Options,
+        image: &'a str,
+    },
     /// `check`: the same, and whether the image mounts.
-    Check { options: Options, image: &'a str },
+    Check {
+        options: Options,
+        image: &'a str,
+    },
     /// `cat`: the content of a file.
     Content {
         options: Options,

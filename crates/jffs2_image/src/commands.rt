@@ -16,7 +16,8 @@ const CAT: &str = "Write the content of a regular file to standard output";
 
 const IMAGE: &str = "File with the bytes of the flash";
 
-const PATH: &str = "Path of the file from the root, as /a/b; \\x and two hexadecimal digits are one byte";
+const PATH: &str =
+    "Path of the file from the root, as /a/b; \\x and two hexadecimal digits are one byte";
 
 /// What stands at the end of the program's help.
 const EPILOGUE: &str = "\

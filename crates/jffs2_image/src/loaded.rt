@@ -1,6 +1,6 @@
 //! What is done with an image that is read as a whole.
 
-ghost use Rattle.std.specs.Prelude.{◌≡◌, ◌↔◌, ◌<◌, IsFalse, IfErr, IfOk, IfSome, IsErrOf, OnOk, length};
+ghost use Rattle.std.specs.Prelude.{◌≡◌, ◌↔◌, ◌<◌, ◌||◌, nat_lt, IsFalse, IfErr, IfOk, IfSome, IsErrOf, OnOk, length};
 ghost use Rattle.std.specs.Io.KnownBytes.{IsAtEnd};
 ghost use Rattle.flashbase.specs.Device.{next_count};
 ghost use Rattle.jscan.specs.Image.{is_block_size, greatest_image};
@@ -15,6 +15,13 @@ use jmount::mount;
 use jnode::Order;
 use jscan::{GREATEST_IMAGE, Geometry, ScanFault};
 use std::alloc::Global;
+
+/// Whether anything was found, in the report or by the mount.
+fn is_any(findings: u64, bad: bool) -> bool
+    ensures { result ≡ nat_lt 0 findings || bad }
+{
+    findings > 0 || bad
+}
 
 /// Reads an image and puts its report, and then the verdict on its mount. Answers whether anything was found.
 pub fn check_lines<E: Order, S: Source, T: Sink>(
@@ -46,7 +53,7 @@ pub fn check_lines<E: Order, S: Source, T: Sink>(
     let image = load(alloc, source, GREATEST_IMAGE)?;
     let findings = put_report::<E, T>(alloc, image.as_slice(), geometry, sink)?;
     let bad = verdict_lines::<E, T>(alloc, image.as_slice(), geometry, sink)?;
-    Ok(findings > 0 || bad)
+    Ok(is_any(findings, bad))
 }
 
 /// Reads an image, and puts the content of the regular file that a path names there.

@@ -65,7 +65,12 @@ fn check_file<'a, R: Files + AllocGlobal, T: Sink>(
     let mut source = FromReader::new(file);
     let geometry = options.geometry;
     match options.endian {
-        Endian::Little => check_lines::<LittleEndian, _, _>(rt.alloc(), &mut source, geometry, sink),
+        Endian::Little => check_lines::<LittleEndian, _, _>(
+            rt.alloc(),
+            &mut source,
+            geometry,
+            sink,
+        ),
         Endian::Big => check_lines::<BigEndian, _, _>(rt.alloc(), &mut source, geometry, sink),
     }
 }
@@ -86,7 +91,13 @@ fn write_file<'a, R: Files + AllocGlobal, T: Sink>(
     let mut source = FromReader::new(file);
     let geometry = options.geometry;
     match options.endian {
-        Endian::Little => file_bytes::<LittleEndian, _, _>(alloc, &mut source, geometry, &path, sink),
+        Endian::Little => file_bytes::<LittleEndian, _, _>(
+            alloc,
+            &mut source,
+            geometry,
+            &path,
+            sink,
+        ),
         Endian::Big => file_bytes::<BigEndian, _, _>(alloc, &mut source, geometry, &path, sink),
     }
 }

@@ -101,9 +101,16 @@ fn verdicts(rt: HostRuntime) -> Result<(), Fail> {
     let (text, bad) = verdict(alloc, &refused)?;
     assert_eq!(rt; text.as_slice(), b"mount refused M6 RootKind\n".as_slice());
     assert!(rt; bad);
-    let clash = image(alloc, &[inode(2, 0o100644, b""), inode(2, 0o100600, b"")], &[])?;
+    let clash = image(
+        alloc,
+        &[inode(2, 0o100644, b""), inode(2, 0o100600, b"")],
+        &[],
+    )?;
     let (text, bad) = verdict(alloc, &clash)?;
-    assert_eq!(rt; text.as_slice(), b"mount refused M5 Clash at 00000044\n".as_slice());
+    assert_eq!(rt;
+        text.as_slice(),
+        b"mount refused M5 Clash at 00000044\n".as_slice()
+    );
     assert!(rt; bad);
     Ok(())
 }
@@ -136,7 +143,10 @@ fn contents(rt: HostRuntime) -> Result<(), Fail> {
     let rows = [
         (b"/b".as_slice(), ProgramFault::Path(FindFault::NotFound)),
         (b"a".as_slice(), ProgramFault::Path(FindFault::BadPath)),
-        (b"/a/b".as_slice(), ProgramFault::Path(FindFault::NotDirectory)),
+        (
+            b"/a/b".as_slice(),
+            ProgramFault::Path(FindFault::NotDirectory),
+        ),
         (b"/".as_slice(), ProgramFault::NotRegular),
         (b"/s".as_slice(), ProgramFault::NotRegular),
     ];
@@ -190,7 +200,11 @@ fn whole_images(rt: HostRuntime) -> Result<(), Fail> {
     let mut source = FromReader::new(image.as_slice());
     let found = check_lines::<LittleEndian, _, _>(alloc, &mut source, GEOMETRY, &mut sink);
     assert_eq!(rt; found, Ok(false));
-    assert!(rt; sink.into_writer().as_slice().ends_with(b"findings 0\nmount ok\n"));
+    assert!(rt;
+        sink.into_writer()
+            .as_slice()
+            .ends_with(b"findings 0\nmount ok\n")
+    );
     let mut sink = FromWriter::new(Vec::new(alloc));
     let mut source = FromReader::new(image.as_slice());
     let answer = file_bytes::<LittleEndian, _, _>(alloc, &mut source, GEOMETRY, b"/a", &mut sink);

@@ -240,10 +240,7 @@ const FAULTS: [(ProgramFault<'static>, &str); 22] = [
         ProgramFault::File("two \\ words/é"),
         "P1 File two \\ words/é",
     ),
-    (
-        ProgramFault::Mount(MountFault::BlockSize),
-        "M1 BlockSize",
-    ),
+    (ProgramFault::Mount(MountFault::BlockSize), "M1 BlockSize"),
     (ProgramFault::Mount(MountFault::TooLarge), "M2 TooLarge"),
     (
         ProgramFault::Mount(MountFault::Incompatible {

@@ -29,12 +29,7 @@ fn write_start(line: &mut LineBuffer, pino: u32, ino: u32)
 }
 
 /// Puts the line of a dangling entry.
-fn put_dangling<T: Sink>(
-    sink: &mut T,
-    pino: u32,
-    name: &[u8],
-    ino: u32,
-) -> Result<(), PutFault>
+fn put_dangling<T: Sink>(sink: &mut T, pino: u32, name: &[u8], ino: u32) -> Result<(), PutFault>
     ensures { Puts (T.taken sink.old) (T.taken sink.new) (T.failures sink.old) (T.failures sink.new)
         (dangling_line (pino, name.now, ino)) result }
 {
@@ -79,10 +74,7 @@ fn put_refused<T: Sink>(sink: &mut T, fault: MountFault) -> Result<(), PutFault>
 }
 
 /// Puts the lines of these dangling entries.
-fn put_all_dangling<T: Sink>(
-    sink: &mut T,
-    entries: &[(u32, &[u8], u32)],
-) -> Result<(), PutFault>
+fn put_all_dangling<T: Sink>(sink: &mut T, entries: &[(u32, &[u8], u32)]) -> Result<(), PutFault>
     ensures { Puts (T.taken sink.old) (T.taken sink.new) (T.failures sink.old) (T.failures sink.new)
         (flat_map (λ x. dangling_line (x.0, x.1.now, x.2)) entries.now) result }
 {

@@ -17,7 +17,7 @@ returns-in_err-put_ok g c =
     let put = c.in_err-put_ok.ensures in
     mounted_failed m _ _ _ _ _ c.from_residual-in_err-put_ok.ensures.1
     (part_before _ _ (ok_line m.read_only) (flat_map dangling_line (dangling m.state))
-        (subst (λ (b : Bool). PutsPart (g.T.Sink.taken c.args.sink.now) (g.T.Sink.taken c.put_ok.new.sink) (ok_line b)) c.read_only.ensures put.0)) put.1
+    (subst (λ (b : Bool). PutsPart (g.T.Sink.taken c.args.sink.now) (g.T.Sink.taken c.put_ok.new.sink) (ok_line b)) c.read_only.ensures put.0)) put.1
 
 pub returns-in_err-put_all_dangling : goal.returns-in_err-put_all_dangling
 returns-in_err-put_all_dangling g c =
@@ -28,8 +28,8 @@ returns-in_err-put_all_dangling g c =
     ∙ ap (flat_map dangling_line) c.in_ok-dangling.ensures in
     mounted_failed m _ _ _ _ _ c.from_residual-in_err-put_all_dangling.ensures.1
     (part_behind _ (g.T.Sink.taken c.put_ok.new.sink) _ (ok_line m.read_only) (flat_map dangling_line (dangling m.state))
-        (subst (λ (b : Bool). Appends (g.T.Sink.taken c.args.sink.now) (g.T.Sink.taken c.put_ok.new.sink) (ok_line b)) c.read_only.ensures put.0)
-        (subst (λ (l : List ℕ). PutsPart (g.T.Sink.taken c.put_ok.new.sink) (g.T.Sink.taken c.put_all_dangling.new.sink) l) lines next.0))
+    (subst (λ (b : Bool). Appends (g.T.Sink.taken c.args.sink.now) (g.T.Sink.taken c.put_ok.new.sink) (ok_line b)) c.read_only.ensures put.0)
+    (subst (λ (l : List ℕ). PutsPart (g.T.Sink.taken c.put_ok.new.sink) (g.T.Sink.taken c.put_all_dangling.new.sink) l) lines next.0))
     (next.1 ∙ ap next_count put.1)
 
 pub returns : goal.returns

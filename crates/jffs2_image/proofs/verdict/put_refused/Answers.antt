@@ -19,4 +19,4 @@ returns g c =
     let put = c.in_ok-put_all.ensures.puts in
     then_puts _ (g.T.Sink.taken c.put_all.new.sink) _ _ _ _ (codes "mount refused ") (mount_text c.args.fault ++ 10 ∷ []) _ put.0 put.1
     (subst (λ (l : List ℕ). Puts (g.T.Sink.taken c.put_all.new.sink) (g.T.Sink.taken c.put_all-2.new.sink) (g.T.Sink.failures c.put_all.new.sink)
-        (g.T.Sink.failures c.put_all-2.new.sink) l c.put_all-2.result) line c.put_all-2.ensures.puts)
+    (g.T.Sink.failures c.put_all-2.new.sink) l c.put_all-2.result) line c.put_all-2.ensures.puts)
