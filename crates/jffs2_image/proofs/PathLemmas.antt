@@ -1,5 +1,5 @@
 -- The word of a path, byte by byte.
-use Rattle.std.proofs.Common.{◌≡◌, ◌≢◌, ℕ, ◌<◌, ◌==◌, Bool, true, false, List, [], ◌∷◌, ◌++◌, length, drop, ap, refl, sym, ◌∙◌, append_assoc, Option, Some, None, option_map, arith, get_or}
+use Rattle.std.proofs.Common.{◌≡◌, ◌≢◌, ℕ, List, [], ◌∷◌, ◌++◌, ap, sym, ◌∙◌, append_assoc, Option, Some, None, option_map, arith}
 use Rattle.std.proofs.lemmas.Grind.{common_steps}
 use Rattle.jffs2_image.specs.Paths.{path_of, byte_of, and_byte}
 

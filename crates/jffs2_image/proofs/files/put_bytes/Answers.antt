@@ -1,6 +1,5 @@
-use Rattle.std.proofs.Common.{ℕ, ◌≤◌, ◌-◌, List, length, take, drop, ◌∙◌, subst, arith}
+use Rattle.std.proofs.Common.{ℕ, List, ◌∙◌, subst, arith}
 use Rattle.std.specs.Io.KnownBytes.{Appends}
-use Rattle.std.proofs.Math.Nat.{min-le_right}
 use Rattle.flashbase.specs.Device.{PutsPart}
 use Rattle.jmount.specs.Shown.{readable}
 use Rattle.jffs2_image.proofs.TurnLemmas.{bytes_put, bytes_failed, piece_read}

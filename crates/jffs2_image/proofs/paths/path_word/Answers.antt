@@ -1,4 +1,4 @@
-use Rattle.std.proofs.Common.{◌≡◌, ℕ, List, [], ◌∷◌, ◌++◌, ap, sym, ◌∙◌, subst, Option, option_map}
+use Rattle.std.proofs.Common.{◌≡◌, ℕ, List, ◌++◌, ap, sym, ◌∙◌, subst, option_map}
 use Rattle.jffs2_image.specs.Paths.{path_of}
 use Rattle.jffs2_image.proofs.PathLemmas.{path_more}
 use Rattle.jffs2_image.proofs.paths.path_word.Goals as goal

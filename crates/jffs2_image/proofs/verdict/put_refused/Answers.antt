@@ -1,6 +1,5 @@
-use Rattle.std.proofs.Common.{ℕ, List, [], ◌∷◌, ◌++◌, ◌≡◌, ap, sym, ◌∙◌, subst, codes}
-use Rattle.std.specs.Io.KnownBytes.{Appends}
-use Rattle.flashbase.specs.Device.{Puts, PutsPart}
+use Rattle.std.proofs.Common.{ℕ, List, [], ◌∷◌, ◌++◌, ◌≡◌, ◌∙◌, subst, codes}
+use Rattle.flashbase.specs.Device.{Puts}
 use Rattle.jffs2_image.specs.Faults.{mount_text}
 use Rattle.jffs2_image.specs.Verdict.{refused_line}
 use Rattle.jffs2_image.proofs.TurnLemmas.{first_failed, then_puts}
