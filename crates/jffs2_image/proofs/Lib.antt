@@ -2,6 +2,7 @@ pub mod BlockLemmas
 pub mod FaultLemmas
 pub mod LoadedLemmas
 pub mod PathLemmas
+pub mod PathTextLemmas
 pub mod PutLemmas
 pub mod StreamLemmas
 pub mod StretchLemmas

@@ -8,5 +8,6 @@ pub mod Puts
 pub mod Refused
 pub mod Report
 pub mod Status
+pub mod TreeText
 pub mod Verdict
 pub mod Words

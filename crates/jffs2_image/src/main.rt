@@ -32,6 +32,7 @@ pub mod stream;
 mod stream_tests;
 #[cfg(test)]
 mod tests;
+pub mod tree;
 pub mod verdict;
 
 use faults::ProgramFault;
