@@ -1,6 +1,11 @@
-pub mod WordLemmas
-pub mod StretchLemmas
-pub mod PutLemmas
 pub mod BlockLemmas
 pub mod FaultLemmas
+pub mod LoadedLemmas
+pub mod PathLemmas
+pub mod PathTextLemmas
+pub mod PutLemmas
 pub mod StreamLemmas
+pub mod StretchLemmas
+pub mod TurnLemmas
+pub mod VerdictLemmas
+pub mod WordLemmas

@@ -1,5 +1,5 @@
 -- What a command line asks for, by clap's matches of its words.
-use Rattle.std.specs.Prelude.{◌≡◌, ◌≢◌, ◌+◌, ◌-◌, ◌*◌, ◌^◌, ◌&&◌, ℕ, Bool, List, [], ◌∷◌, Option, Some, None, if◌then◌else◌, nat_lt, codes, option_and_then}
+use Rattle.std.specs.Prelude.{◌≡◌, ◌≢◌, ◌+◌, ◌-◌, ◌*◌, ◌^◌, ◌&&◌, ℕ, Bool, false, List, [], ◌∷◌, Option, Some, None, if◌then◌else◌, nat_lt, codes, option_and_then}
 use Rattle.std.specs.Char.{is_ascii_digit}
 use Rattle.std.specs.Str.{bytes_eq}
 use Rattle.clap.specs.Words.{Row, Text, IsAmong, fault_of, first_of, subcommand_of, takes}
@@ -32,10 +32,14 @@ number_in id rows = option_and_then number_of (first_of id rows)
 -- ---- a request, without where its texts lie
 
 pub data Asked : Type 0 where
+  ScanAsked : Options → Text → Asked
   CheckAsked : Options → Text → Asked
+  ContentAsked : Options → Text → Text → Asked
 
 abbrev pub view : Request → Asked
+view (request.Scan options image) = ScanAsked options image.now
 view (request.Check options image) = CheckAsked options image.now
+view (request.Content options image path) = ContentAsked options image.now path.now
 
 -- ---- by the rows of the subcommand's matches
 
@@ -49,13 +53,28 @@ options_in rows = number_in (codes "block") rows >>= λ block.
     (first_of (codes "endian") rows >>= endian_of) >>= λ endian.
     Some (record { geometry = record { block = block }; endian = endian })
 
+-- the options and the image that each subcommand takes
+abbrev pub image_in : List Row → Option (Options × Text)
+image_in rows = options_in rows >>= λ options. first_of (codes "IMAGE") rows >>= λ image. Some (options, image)
+
+-- a flag that is given
+abbrev pub is_given : Option Text → Bool
+is_given (Some text) = bytes_eq text (codes "true")
+is_given None = false
+
 abbrev pub check_in : List Row → Option Asked
-check_in rows = options_in rows >>= λ options. first_of (codes "IMAGE") rows >>= λ image.
-    Some (CheckAsked options image)
+check_in rows = image_in rows >>= λ p.
+    Some (if is_given (first_of (codes "scan") rows) then ScanAsked p.0 p.1 else CheckAsked p.0 p.1)
+
+abbrev pub cat_in : List Row → Option Asked
+cat_in rows = image_in rows >>= λ p. first_of (codes "PATH") rows >>= λ path. Some (ContentAsked p.0 p.1 path)
 
 -- what the subcommand of this name asks for, with these rows; None where it is no subcommand or a value can't be read
 unfoldable pub asked : Text → List Row → Option Asked
-asked name rows = if bytes_eq name (codes "check") then check_in rows else None
+asked name rows =
+    if bytes_eq name (codes "check") then check_in rows
+    else if bytes_eq name (codes "cat") then cat_in rows
+    else None
 
 abbrev pub asked_by : Option (Text × List Row) → Option Asked
 asked_by (Some p) = asked p.0 p.1

@@ -11,22 +11,26 @@ word id = record (new_rule id) { required = true }
 abbrev pub option_or : Text → Text → Rule
 option_or id default = record (new_rule id) { long = Some id; value_names = 1; defaults = default ∷ [] }
 
--- a flag that has to be there
-abbrev pub needed_flag : Text → Rule
-needed_flag id = record (new_rule id) { long = Some id; action = Some SetTrue; required = true }
+-- a flag that may be left out
+abbrev pub flag : Text → Rule
+flag id = record (new_rule id) { long = Some id; action = Some SetTrue }
 
 -- a subcommand with the options that each one has
 abbrev pub plain : Text → App
 plain name = with_rule (with_rule (new_app name) (option_or (codes "block") (codes "65536")))
     (option_or (codes "endian") (codes "little"))
 
--- `check --scan [--block N] [--endian ORDER] IMAGE`
+-- `check [--scan] [--block N] [--endian ORDER] IMAGE`
 abbrev pub check_app : App
-check_app = with_rule (with_rule (plain (codes "check")) (needed_flag (codes "scan"))) (word (codes "IMAGE"))
+check_app = with_rule (with_rule (plain (codes "check")) (flag (codes "scan"))) (word (codes "IMAGE"))
+
+-- `cat [--block N] [--endian ORDER] IMAGE PATH`
+abbrev pub cat_app : App
+cat_app = with_rule (with_rule (plain (codes "cat")) (word (codes "IMAGE"))) (word (codes "PATH"))
 
 -- the program without its subcommands, of which one has to be named
 abbrev pub bare : App
 bare = let app = new_app (codes "jffs2_image") in record app { top = record app.top { subcommand_required = true } }
 
 unfoldable pub program : App
-program = with_subcommand bare check_app.top
+program = with_subcommand (with_subcommand bare check_app.top) cat_app.top

@@ -5,6 +5,10 @@ use Rattle.flashbase.specs.declared.source.LoadFault.{LoadFault}
 use Rattle.flashbase.specs.declared.source.LoadFault.TheVariants as load
 use Rattle.jscan.specs.declared.geometry.ScanFault.{ScanFault}
 use Rattle.jscan.specs.declared.geometry.ScanFault.TheVariants as scan
+use Rattle.jmount.specs.declared.fault.MountFault.{MountFault}
+use Rattle.jmount.specs.declared.fault.MountFault.TheVariants as mount
+use Rattle.jmount.specs.declared.fault.FindFault.{FindFault}
+use Rattle.jmount.specs.declared.fault.FindFault.TheVariants as find
 use Rattle.jscan.specs.declared.stream.StreamFault.{StreamFault}
 use Rattle.jscan.specs.declared.stream.StreamFault.TheVariants as stream
 use Rattle.jffs2_image.specs.Words.{hex}
@@ -29,10 +33,27 @@ scan_fault_text (scan.Incompatible addr nodetype) = codes "C3 Incompatible" ++ a
 scan_fault_text (scan.Compressed addr compr) = codes "C4 Compressed" ++ at_text addr ++ codes " compr " ++ decimal compr
 scan_fault_text scan.OutOfMemory = codes "C5 OutOfMemory"
 
+unfoldable pub mount_text : MountFault → List ℕ
+mount_text mount.BlockSize = codes "M1 BlockSize"
+mount_text mount.TooLarge = codes "M2 TooLarge"
+mount_text (mount.Incompatible addr nodetype) = codes "M3 Incompatible" ++ at_text addr ++ codes " type " ++ hex 4 nodetype
+mount_text (mount.Compressed addr compr) = codes "M4 Compressed" ++ at_text addr ++ codes " compr " ++ decimal compr
+mount_text (mount.Clash addr) = codes "M5 Clash" ++ at_text addr
+mount_text mount.RootKind = codes "M6 RootKind"
+mount_text mount.OutOfMemory = codes "M7 OutOfMemory"
+
+unfoldable pub find_text : FindFault → List ℕ
+find_text find.BadPath = codes "P3 Path BadPath"
+find_text find.NotFound = codes "P3 Path NotFound"
+find_text find.NotDirectory = codes "P3 Path NotDirectory"
+
 unfoldable pub fault_text_of : ProgramFault → List ℕ
 fault_text_of (program.Load fault) = load_text fault
 fault_text_of (program.Scan fault) = scan_fault_text fault
+fault_text_of (program.Mount fault) = mount_text fault
 fault_text_of (program.File name) = codes "P1 File " ++ name.now
+fault_text_of (program.Path fault) = find_text fault
+fault_text_of program.NotRegular = codes "P4 NotRegular"
 fault_text_of program.Output = codes "P5 Output"
 fault_text_of program.OutOfMemory = codes "P6 OutOfMemory"
 

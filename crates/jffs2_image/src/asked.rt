@@ -1,7 +1,7 @@
 //! What the matches of the program's command line ask for.
 ghost use Rattle.std.specs.Prelude.{◌≡◌, option_map};
 ghost use Rattle.clap.specs.Words.{found_of, rows_of, first_of};
-ghost use Rattle.jffs2_image.specs.Asked.{number_of, endian_of, number_in, options_in, check_in, asked, view};
+ghost use Rattle.jffs2_image.specs.Asked.{number_of, endian_of, number_in, options_in, image_in, is_given, check_in, cat_in, asked, view};
 
 use clap::ArgMatches;
 use jnode::Endian;
@@ -18,7 +18,21 @@ pub struct Options {
 #[derive(Clone, Copy, Debug, PartialEq, Eq)]
 pub enum Request<'a> {
     /// `check --scan`: the tiles of the image and what is found in them.
-    Check { options: Options, image: &'a str },
+    Scan {
+        options: Options,
+        image: &'a str,
+    },
+    /// `check`: the same, and whether the image mounts.
+    Check {
+        options: Options,
+        image: &'a str,
+    },
+    /// `cat`: the content of a file.
+    Content {
+        options: Options,
+        image: &'a str,
+        path: &'a str,
+    },
 }
 
 /// A number below 2^32 in decimal digits.
@@ -77,12 +91,46 @@ fn options_at(found: &ArgMatches<'_>) -> Option<Options>
     })
 }
 
-fn check_at<'a>(found: &ArgMatches<'a>) -> Option<Request<'a>>
-    ensures { option_map view result ≡ check_in (rows_of (found_of found.now)) }
+/// The options and the image that each subcommand takes.
+fn image_at<'a>(found: &ArgMatches<'a>) -> Option<(Options, &'a str)>
+    ensures { option_map (λ p. (p.0, p.1.now)) result ≡ image_in (rows_of (found_of found.now)) }
 {
     let options = options_at(found)?;
     let image = text_at(found, "IMAGE")?;
-    Some(Request::Check { options, image })
+    Some((options, image))
+}
+
+/// Whether a flag is given.
+fn is_given(found: &ArgMatches<'_>, id: &str) -> bool
+    ensures { result ≡ is_given (first_of id.now (rows_of (found_of found.now))) }
+{
+    match text_at(found, id) {
+        Some(text) => text == "true",
+        None => false,
+    }
+}
+
+fn check_at<'a>(found: &ArgMatches<'a>) -> Option<Request<'a>>
+    ensures { option_map view result ≡ check_in (rows_of (found_of found.now)) }
+{
+    let (options, image) = image_at(found)?;
+    if is_given(found, "scan") {
+        Some(Request::Scan { options, image })
+    } else {
+        Some(Request::Check { options, image })
+    }
+}
+
+fn cat_at<'a>(found: &ArgMatches<'a>) -> Option<Request<'a>>
+    ensures { option_map view result ≡ cat_in (rows_of (found_of found.now)) }
+{
+    let (options, image) = image_at(found)?;
+    let path = text_at(found, "PATH")?;
+    Some(Request::Content {
+        options,
+        image,
+        path,
+    })
 }
 
 /// What the subcommand asks for, or nothing where a value can't be read.
@@ -92,6 +140,7 @@ pub fn asked_of<'a>(name: &str, found: &ArgMatches<'a>) -> Option<Request<'a>>
 {
     match name {
         "check" => check_at(found),
+        "cat" => cat_at(found),
         _ => None,
     }
 }

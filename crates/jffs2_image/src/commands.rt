@@ -2,17 +2,36 @@
 ghost use Rattle.std.specs.Prelude.{◌≡◌, false, IfOk};
 ghost use Rattle.clap.specs.Words.{app_of, new_app, rule_of};
 ghost use Rattle.clap.specs.declared.builder.Command.TheViews.{out-Command as fields_of};
-ghost use Rattle.jffs2_image.specs.Commands.{word, option_or, needed_flag, plain, check_app, bare, program};
+ghost use Rattle.jffs2_image.specs.Commands.{word, option_or, flag, plain, check_app, cat_app, bare, program};
 
 use clap::{Arg, ArgAction, Command};
 use std::alloc::{AllocError, Global};
 
 const PROGRAM: &str = "Reads flash images of JFFS2, a file system that is a log of nodes.";
 
-const CHECK: &str = "Print the tiles of an image and what is wrong with them";
+const CHECK: &str = "\
+Print the tiles of an image, what is wrong with them, and whether the image mounts";
 
-/// What stands at the end of each help.
+const CAT: &str = "Write the content of a regular file to standard output";
+
+const IMAGE: &str = "File with the bytes of the flash";
+
+const PATH: &str =
+    "Path of the file from the root, as /a/b; \\x and two hexadecimal digits are one byte";
+
+/// What stands at the end of the program's help.
 const EPILOGUE: &str = "\
+Examples:
+  jffs2_image check flash.img
+  jffs2_image cat --endian big flash.img /etc/passwd
+
+Exit status:
+  0  done, and nothing was found
+  1  a fault, which standard error names
+  2  the command line is wrong
+  3  check found something";
+
+const CHECK_EPILOGUE: &str = "\
 Example:
   jffs2_image check --scan --endian little --block 65536 flash.img
 
@@ -20,7 +39,16 @@ Exit status:
   0  done, and nothing was found
   1  a fault, which standard error names
   2  the command line is wrong
-  3  check found something";
+  3  a finding, an image that does not mount, or a name without an object";
+
+const CAT_EPILOGUE: &str = "\
+Example:
+  jffs2_image cat --endian big flash.img /etc/passwd
+
+Exit status:
+  0  done
+  1  a fault, which standard error names
+  2  the command line is wrong";
 
 /// A word that has to be there.
 fn make_word<'a>(alloc: Global, id: &'a str, help: &'a str) -> Arg<'a>
@@ -48,15 +76,14 @@ fn make_option<'a>(
         .help(help)
 }
 
-/// A flag that has to be there.
-fn make_needed_flag<'a>(alloc: Global, id: &'a str, help: &'a str) -> Arg<'a>
-    ensures rule { rule_of result ≡ needed_flag id.now }
+/// A flag that may be left out.
+fn make_flag<'a>(alloc: Global, id: &'a str, help: &'a str) -> Arg<'a>
+    ensures rule { rule_of result ≡ flag id.now }
     ensures local { result.global ≡ false }
 {
     Arg::new(alloc, id)
         .long(id)
         .action(ArgAction::SetTrue)
-        .required(true)
         .help(help)
 }
 
@@ -102,15 +129,23 @@ fn make_check<'a>(alloc: Global) -> Result<Command<'a>, AllocError>
     ensures app { IfOk result (λ c. app_of c ≡ check_app) }
     ensures local { IfOk result (λ c. (fields_of c).has_globals ≡ false) }
 {
-    let scan = make_needed_flag(
-        alloc,
-        "scan",
-        "Print the tiles alone; this version needs it",
-    );
-    let image = make_word(alloc, "IMAGE", "File with the bytes of the flash");
-    let command = make_plain(alloc, "check", CHECK, EPILOGUE)?
+    let scan = make_flag(alloc, "scan", "Print the tiles alone, and do not mount");
+    let image = make_word(alloc, "IMAGE", IMAGE);
+    let command = make_plain(alloc, "check", CHECK, CHECK_EPILOGUE)?
         .arg(scan)?
         .arg(image)?;
+    Ok(command)
+}
+
+fn make_cat<'a>(alloc: Global) -> Result<Command<'a>, AllocError>
+    ensures app { IfOk result (λ c. app_of c ≡ cat_app) }
+    ensures local { IfOk result (λ c. (fields_of c).has_globals ≡ false) }
+{
+    let image = make_word(alloc, "IMAGE", IMAGE);
+    let path = make_word(alloc, "PATH", PATH);
+    let command = make_plain(alloc, "cat", CAT, CAT_EPILOGUE)?
+        .arg(image)?
+        .arg(path)?;
     Ok(command)
 }
 
@@ -127,6 +162,8 @@ pub fn make_program<'a>(alloc: Global) -> Result<Command<'a>, AllocError>
     ensures app { IfOk result (λ c. app_of c ≡ program) }
     ensures local { IfOk result (λ c. (fields_of c).has_globals ≡ false) }
 {
-    let command = make_bare(alloc).subcommand(make_check(alloc)?)?;
+    let command = make_bare(alloc)
+        .subcommand(make_check(alloc)?)?
+        .subcommand(make_cat(alloc)?)?;
     Ok(command)
 }

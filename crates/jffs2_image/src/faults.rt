@@ -1,13 +1,15 @@
 //! Why the program gives up, and the texts that say so.
-ghost use Rattle.std.specs.Prelude.{◌≡◌, ◌<◌, ◌++◌, [], length, take, OnOk, IfErr};
+ghost use Rattle.std.specs.Prelude.{◌≡◌, ◌<◌, ◌≤◌, ◌++◌, [], length, take, OnOk, IfErr};
 ghost use Rattle.std.specs.Io.KnownBytes.{Appends};
 ghost use Rattle.flashbase.specs.Device.{next_count};
-ghost use Rattle.jffs2_image.specs.Faults.{fault_line_of, fault_text_of, load_text, scan_fault_text};
+ghost use Rattle.jffs2_image.specs.Faults.{fault_line_of, fault_text_of, find_text, load_text, mount_text, scan_fault_text};
 
 use crate::line::LineBuffer;
 use crate::report_fault::ReportFault;
 use flashbase::{LoadFault, PutFault, Sink, put_all};
+use jmount::{FindFault, MountFault};
 use jscan::{ScanFault, StreamFault};
+use std::alloc::{AllocError, AllocFailed};
 
 /// Why the program gives up.
 #[derive(Clone, Copy, Debug, PartialEq, Eq)]
@@ -16,8 +18,14 @@ pub enum ProgramFault<'a> {
     Load(LoadFault),
     /// The image was not scanned.
     Scan(ScanFault),
+    /// The image does not mount.
+    Mount(MountFault),
     /// The file of this name can't be opened.
     File(&'a str),
+    /// The path names nothing.
+    Path(FindFault),
+    /// What the path names is no regular file.
+    NotRegular,
     /// Standard output failed.
     Output,
     OutOfMemory,
@@ -40,6 +48,46 @@ impl From<ScanFault> for ProgramFault<'_> {
 
     fn from(fault: ScanFault) -> Self {
         ProgramFault::Scan(fault)
+    }
+}
+
+impl From<MountFault> for ProgramFault<'_> {
+    ghost use Rattle.jffs2_image.specs.declared.faults.ProgramFault.TheVariants.{Mount};
+
+    ghost from_gives = { λ fault e. e ≡ Mount fault };
+
+    fn from(fault: MountFault) -> Self {
+        ProgramFault::Mount(fault)
+    }
+}
+
+impl From<FindFault> for ProgramFault<'_> {
+    ghost use Rattle.jffs2_image.specs.declared.faults.ProgramFault.TheVariants.{Path};
+
+    ghost from_gives = { λ fault e. e ≡ Path fault };
+
+    fn from(fault: FindFault) -> Self {
+        ProgramFault::Path(fault)
+    }
+}
+
+impl From<AllocError> for ProgramFault<'_> {
+    ghost use Rattle.jffs2_image.specs.declared.faults.ProgramFault.TheVariants.{OutOfMemory};
+
+    ghost from_gives = { λ _ e. e ≡ OutOfMemory };
+
+    fn from(_fault: AllocError) -> Self {
+        ProgramFault::OutOfMemory
+    }
+}
+
+impl<T: Drop> From<AllocFailed<T>> for ProgramFault<'_> {
+    ghost use Rattle.jffs2_image.specs.declared.faults.ProgramFault.TheVariants.{OutOfMemory};
+
+    ghost from_gives = { λ _ e. e ≡ OutOfMemory };
+
+    fn from(_fault: AllocFailed<T>) -> Self {
+        ProgramFault::OutOfMemory
     }
 }
 
@@ -117,6 +165,49 @@ fn push_scan(line: &mut LineBuffer, fault: ScanFault)
     }
 }
 
+/// The text of a mount's fault.
+#[tactic(auto, unfolding(crate::specs::Faults::mount_text))]
+pub fn push_mount(line: &mut LineBuffer, fault: MountFault)
+    requires { line.old ≡ [] }
+    ensures text { line.new ≡ mount_text fault }
+    ensures short { length line.new ≤ 64 }
+{
+    match fault {
+        MountFault::BlockSize => line.push_text(b"M1 BlockSize"),
+        MountFault::TooLarge => line.push_text(b"M2 TooLarge"),
+        MountFault::Incompatible { addr, nodetype } => {
+            line.push_text(b"M3 Incompatible at ");
+            line.push_hex(8, u64::from(addr));
+            line.push_text(b" type ");
+            line.push_hex(4, u64::from(nodetype));
+        }
+        MountFault::Compressed { addr, compr } => {
+            line.push_text(b"M4 Compressed at ");
+            line.push_hex(8, u64::from(addr));
+            line.push_text(b" compr ");
+            line.push_decimal(u64::from(compr));
+        }
+        MountFault::Clash { addr } => {
+            line.push_text(b"M5 Clash at ");
+            line.push_hex(8, u64::from(addr));
+        }
+        MountFault::RootKind => line.push_text(b"M6 RootKind"),
+        MountFault::OutOfMemory => line.push_text(b"M7 OutOfMemory"),
+    }
+}
+
+#[tactic(auto, unfolding(crate::specs::Faults::find_text))]
+fn push_find(line: &mut LineBuffer, fault: FindFault)
+    requires { line.old ≡ [] }
+    ensures { line.new ≡ find_text fault }
+{
+    line.push_text(match fault {
+        FindFault::BadPath => b"P3 Path BadPath",
+        FindFault::NotFound => b"P3 Path NotFound",
+        FindFault::NotDirectory => b"P3 Path NotDirectory",
+    });
+}
+
 /// What comes before the name in a fault's text, and the name.
 #[tactic(auto, unfolding(crate::specs::Faults::fault_text_of))]
 fn push_fault<'a>(line: &mut LineBuffer, fault: &ProgramFault<'a>) -> &'a str
@@ -126,10 +217,13 @@ fn push_fault<'a>(line: &mut LineBuffer, fault: &ProgramFault<'a>) -> &'a str
     match *fault {
         ProgramFault::Load(fault) => push_load(line, fault),
         ProgramFault::Scan(fault) => push_scan(line, fault),
+        ProgramFault::Mount(fault) => push_mount(line, fault),
         ProgramFault::File(name) => {
             line.push_text(b"P1 File ");
             return name;
         }
+        ProgramFault::Path(fault) => push_find(line, fault),
+        ProgramFault::NotRegular => line.push_text(b"P4 NotRegular"),
         ProgramFault::Output => line.push_text(b"P5 Output"),
         ProgramFault::OutOfMemory => line.push_text(b"P6 OutOfMemory"),
     }

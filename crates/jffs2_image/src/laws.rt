@@ -5,7 +5,7 @@ ghost use Rattle.clap.specs.declared.error.ErrorKind.TheVariants.{DisplayHelp, M
 ghost use Rattle.flashbase.specs.declared.source.LoadFault.TheVariants as load;
 ghost use Rattle.jnode.specs.declared.order.Endian.TheVariants.{Little, Big};
 ghost use Rattle.jscan.specs.declared.geometry.ScanFault.TheVariants as scan;
-ghost use Rattle.jffs2_image.specs.Asked.{CheckAsked, asked_for, endian_of, number_of};
+ghost use Rattle.jffs2_image.specs.Asked.{ScanAsked, CheckAsked, ContentAsked, asked_for, endian_of, number_of};
 ghost use Rattle.jffs2_image.specs.Commands.{program};
 ghost use Rattle.jffs2_image.specs.Faults.{fault_text_of};
 ghost use Rattle.jffs2_image.specs.declared.faults.ProgramFault.TheVariants as fault;
@@ -34,16 +34,18 @@ pub fn known_values()
 /// What words ask for.
 pub fn known_requests()
     ensures defaults { asked_for (codes "jffs2_image" ∷ codes "check" ∷ codes "--scan" ∷ codes "a" ∷ [])
-        ≡ Some (CheckAsked (record { geometry = record { block = 65536 }; endian = Little }) (codes "a")) }
+        ≡ Some (ScanAsked (record { geometry = record { block = 65536 }; endian = Little }) (codes "a")) }
     ensures given { asked_for (codes "jffs2_image" ∷ codes "check" ∷ codes "--block" ∷ codes "4096" ∷ codes "--endian=big"
-        ∷ codes "--scan" ∷ codes "a" ∷ [])
+        ∷ codes "a" ∷ [])
         ≡ Some (CheckAsked (record { geometry = record { block = 4096 }; endian = Big }) (codes "a")) }
+    ensures content { asked_for (codes "jffs2_image" ∷ codes "cat" ∷ codes "a" ∷ codes "/b" ∷ [])
+        ≡ Some (ContentAsked (record { geometry = record { block = 65536 }; endian = Little }) (codes "a") (codes "/b")) }
 {}
 
 /// Words that ask for nothing.
 pub fn known_refusals()
     ensures help { fault_of program (codes "jffs2_image" ∷ codes "check" ∷ codes "--help" ∷ []) ≡ DisplayHelp ∷ [] }
     ensures no_words { fault_of program [] ≡ MissingSubcommand ∷ [] }
-    ensures no_scan { fault_of program (codes "jffs2_image" ∷ codes "check" ∷ codes "a" ∷ []) ≡ MissingRequiredArgument ∷ [] }
+    ensures no_path { fault_of program (codes "jffs2_image" ∷ codes "cat" ∷ codes "a" ∷ []) ≡ MissingRequiredArgument ∷ [] }
     ensures unreadable { asked_for (codes "jffs2_image" ∷ codes "check" ∷ codes "--block=x" ∷ codes "--scan" ∷ codes "a" ∷ []) ≡ None }
 {}

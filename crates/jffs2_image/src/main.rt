@@ -1,6 +1,7 @@
 //! Reads flash images of JFFS2: the program `jffs2_image`.
 //!
-//! `commands`, `asked` and `request` read the command line, `stream` and `report` do the work over sources and sinks,
+//! `commands`, `asked` and `request` read the command line, `stream`, `loaded`, `report`, `verdict` and `files` do the work
+//! over sources and sinks,
 //! `faults` and `outcome` say how it ends, and `program` puts them together. `main` hands over the process's words and
 //! streams.
 #![tactic(auto)]
@@ -8,12 +9,18 @@
 pub mod asked;
 pub mod blocks;
 pub mod commands;
+pub mod escapes;
 pub mod faults;
+pub mod files;
 pub mod forms;
 pub mod laws;
 pub mod line;
+pub mod loaded;
 pub mod outcome;
+pub mod paths;
 pub mod program;
+#[cfg(test)]
+mod read_tests;
 pub mod report;
 pub mod report_fault;
 pub mod report_rows;
@@ -25,6 +32,8 @@ pub mod stream;
 mod stream_tests;
 #[cfg(test)]
 mod tests;
+pub mod tree;
+pub mod verdict;
 
 use faults::ProgramFault;
 use flashbase::FromWriter;

@@ -5,7 +5,9 @@ ghost use Rattle.jffs2_image.specs.Faults.{TellsFault, fault_line_of};
 
 use crate::asked::{Options, Request};
 use crate::faults::{ProgramFault, fault_line};
+use crate::loaded::{check_lines, file_bytes};
 use crate::outcome::Outcome;
+use crate::paths::path_word;
 use crate::request::{RequestFault, request};
 use crate::stream::stream_lines;
 use byteorder::{BigEndian, LittleEndian};
@@ -32,8 +34,8 @@ impl<'a> From<ProgramFault<'a>> for Stop<'a> {
     }
 }
 
-/// Reports the image in a file, and answers the number of findings.
-fn check_file<'a, R: Files + AllocGlobal, T: Sink>(
+/// Reports the image in a file, block after block, and answers the number of findings.
+fn scan_file<'a, R: Files + AllocGlobal, T: Sink>(
     rt: &R,
     options: Options,
     image: &'a str,
@@ -50,14 +52,76 @@ fn check_file<'a, R: Files + AllocGlobal, T: Sink>(
     }
 }
 
-/// Meets the request, and answers the number of findings.
+/// Reports the image in a file, with the verdict on its mount. Answers whether anything was found.
+fn check_file<'a, R: Files + AllocGlobal, T: Sink>(
+    rt: &R,
+    options: Options,
+    image: &'a str,
+    sink: &mut T,
+) -> Result<bool, ProgramFault<'a>> {
+    let Ok(file) = fs::open(rt, image) else {
+        return Err(ProgramFault::File(image));
+    };
+    let mut source = FromReader::new(file);
+    let geometry = options.geometry;
+    match options.endian {
+        Endian::Little => check_lines::<LittleEndian, _, _>(
+            rt.alloc(),
+            &mut source,
+            geometry,
+            sink,
+        ),
+        Endian::Big => check_lines::<BigEndian, _, _>(rt.alloc(), &mut source, geometry, sink),
+    }
+}
+
+/// Writes the content of a file in the image. The word of the path is judged before the image is opened.
+fn write_file<'a, R: Files + AllocGlobal, T: Sink>(
+    rt: &R,
+    options: Options,
+    image: &'a str,
+    path: &str,
+    sink: &mut T,
+) -> Result<(), ProgramFault<'a>> {
+    let alloc = rt.alloc();
+    let path = path_word(alloc, path.as_bytes())?;
+    let Ok(file) = fs::open(rt, image) else {
+        return Err(ProgramFault::File(image));
+    };
+    let mut source = FromReader::new(file);
+    let geometry = options.geometry;
+    match options.endian {
+        Endian::Little => file_bytes::<LittleEndian, _, _>(
+            alloc,
+            &mut source,
+            geometry,
+            &path,
+            sink,
+        ),
+        Endian::Big => file_bytes::<BigEndian, _, _>(alloc, &mut source, geometry, &path, sink),
+    }
+}
+
+/// Meets the request, and answers how much was found.
 fn meet<'a, R: Files + AllocGlobal, T: Sink>(
     rt: &R,
     request: Request<'a>,
     sink: &mut T,
 ) -> Result<u64, ProgramFault<'a>> {
     match request {
-        Request::Check { options, image } => check_file(rt, options, image, sink),
+        Request::Scan { options, image } => scan_file(rt, options, image, sink),
+        Request::Check { options, image } => {
+            let found = check_file(rt, options, image, sink)?;
+            Ok(u64::from(found))
+        }
+        Request::Content {
+            options,
+            image,
+            path,
+        } => {
+            write_file(rt, options, image, path, sink)?;
+            Ok(0)
+        }
     }
 }
 

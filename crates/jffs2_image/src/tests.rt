@@ -4,6 +4,7 @@ use crate::faults::{ProgramFault, fault_line, fault_text};
 use crate::outcome::{Outcome, status};
 use crate::request::{RequestFault, request};
 use flashbase::{DeviceFault, FromWriter, LoadFault, PutFault, Sink};
+use jmount::{FindFault, MountFault};
 use jnode::Endian;
 use jscan::{Geometry, ScanFault};
 use std::test::Fail;
@@ -56,10 +57,31 @@ fn words_that_ask_for_a_scan(rt: HostRuntime) {
         let image = "a.img";
         let answer = request(rt.alloc(), words);
         assert!(rt;
-            matches!(answer, Ok(request) if request == Request::Check { options, image }),
+            matches!(answer, Ok(request) if request == Request::Scan { options, image }),
             "{words:?}"
         );
     }
+}
+
+#[test]
+fn words_that_ask_for_more(rt: HostRuntime) {
+    let image = "a.img";
+    let answer = request(rt.alloc(), &["t", "check", "a.img"]);
+    let check = Request::Check {
+        options: options(65536, Endian::Little),
+        image,
+    };
+    assert!(rt; matches!(answer, Ok(request) if request == check));
+    let answer = request(
+        rt.alloc(),
+        &["t", "cat", "--endian", "big", "--block=4096", "a.img", "/b"],
+    );
+    let content = Request::Content {
+        options: options(4096, Endian::Big),
+        image,
+        path: "/b",
+    };
+    assert!(rt; matches!(answer, Ok(request) if request == content));
 }
 
 /// One line feed ends the text, and only one.
@@ -103,8 +125,11 @@ fn words_that_are_wrong(rt: HostRuntime) {
             ["t", "ls", "a.img"].as_slice(),
             "unrecognized subcommand 'ls'",
         ),
-        (["t", "check"].as_slice(), "--scan"),
-        (["t", "check", "a.img"].as_slice(), "--scan"),
+        (["t", "check"].as_slice(), "<IMAGE>"),
+        (["t", "cat"].as_slice(), "<IMAGE>"),
+        (["t", "cat", "a.img"].as_slice(), "<PATH>"),
+        (["t", "cat", "--scan", "a.img", "/a"].as_slice(), "--scan"),
+        (["t", "cat", "a.img", "/a", "/b"].as_slice(), "'/b'"),
         (["t", "check", "--scan"].as_slice(), "<IMAGE>"),
         (["t", "check", "--scan", "a", "b"].as_slice(), "'b'"),
         (["t", "check", "--scan", "--scan", "a"].as_slice(), "--scan"),
@@ -159,15 +184,19 @@ fn words_that_ask_for_help(rt: HostRuntime) {
         (["t", "help"].as_slice(), "Usage: t <COMMAND>"),
         (
             ["t", "check", "--help"].as_slice(),
-            "Usage: t check [OPTIONS] --scan <IMAGE>",
+            "Usage: t check [OPTIONS] <IMAGE>",
         ),
         (
             ["t", "check", "-h"].as_slice(),
-            "Usage: t check [OPTIONS] --scan <IMAGE>",
+            "Usage: t check [OPTIONS] <IMAGE>",
         ),
         (
             ["t", "help", "check"].as_slice(),
-            "Usage: t check [OPTIONS] --scan <IMAGE>",
+            "Usage: t check [OPTIONS] <IMAGE>",
+        ),
+        (
+            ["t", "cat", "--help"].as_slice(),
+            "Usage: t cat [OPTIONS] <IMAGE> <PATH>",
         ),
     ];
     for (words, usage) in rows {
@@ -189,7 +218,7 @@ fn values_of_options(rt: HostRuntime) {
     assert_eq!(rt; endian("bigger"), None);
 }
 
-const FAULTS: [(ProgramFault<'static>, &str); 11] = [
+const FAULTS: [(ProgramFault<'static>, &str); 22] = [
     (ProgramFault::Load(LoadFault::Device), "L1 Device"),
     (ProgramFault::Load(LoadFault::TooLarge), "L2 TooLarge"),
     (ProgramFault::Load(LoadFault::OutOfMemory), "L3 OutOfMemory"),
@@ -211,6 +240,35 @@ const FAULTS: [(ProgramFault<'static>, &str); 11] = [
         ProgramFault::File("two \\ words/é"),
         "P1 File two \\ words/é",
     ),
+    (ProgramFault::Mount(MountFault::BlockSize), "M1 BlockSize"),
+    (ProgramFault::Mount(MountFault::TooLarge), "M2 TooLarge"),
+    (
+        ProgramFault::Mount(MountFault::Incompatible {
+            addr: 12,
+            nodetype: 0xE0F7,
+        }),
+        "M3 Incompatible at 0000000c type e0f7",
+    ),
+    (
+        ProgramFault::Mount(MountFault::Compressed { addr: 12, compr: 6 }),
+        "M4 Compressed at 0000000c compr 6",
+    ),
+    (
+        ProgramFault::Mount(MountFault::Clash { addr: 0x50 }),
+        "M5 Clash at 00000050",
+    ),
+    (ProgramFault::Mount(MountFault::RootKind), "M6 RootKind"),
+    (
+        ProgramFault::Mount(MountFault::OutOfMemory),
+        "M7 OutOfMemory",
+    ),
+    (ProgramFault::Path(FindFault::BadPath), "P3 Path BadPath"),
+    (ProgramFault::Path(FindFault::NotFound), "P3 Path NotFound"),
+    (
+        ProgramFault::Path(FindFault::NotDirectory),
+        "P3 Path NotDirectory",
+    ),
+    (ProgramFault::NotRegular, "P4 NotRegular"),
     (ProgramFault::Output, "P5 Output"),
     (ProgramFault::OutOfMemory, "P6 OutOfMemory"),
 ];

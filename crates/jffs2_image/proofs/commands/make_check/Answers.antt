@@ -4,6 +4,6 @@ use Rattle.jffs2_image.proofs.commands.make_check.Goals as goal
 
 pub returns-clause-app : goal.returns-clause-app
 returns-clause-app c =
-    let first = c.in_ok-arg.ensures.shape c.make_needed_flag-scan.ensures.local
-    ∙ ap₂ with_rule c.in_ok-make_plain.ensures.app c.make_needed_flag-scan.ensures.rule in
+    let first = c.in_ok-arg.ensures.shape c.make_flag-scan.ensures.local
+    ∙ ap₂ with_rule c.in_ok-make_plain.ensures.app c.make_flag-scan.ensures.rule in
     c.in_ok-command.ensures.shape c.make_word-image.ensures.local ∙ ap₂ with_rule first c.make_word-image.ensures.rule

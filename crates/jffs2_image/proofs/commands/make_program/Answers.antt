@@ -7,5 +7,7 @@ pub returns-clause-app : goal.returns-clause-app
 unfolding program
 returns-clause-app c =
     let top = λ (a : App). a.top in
-    c.in_ok-command.ensures.shape c.in_ok-make_check.ensures.local
-    ∙ ap₂ with_subcommand c.make_bare.ensures.app (ap top c.in_ok-make_check.ensures.app)
+    let first = c.in_ok-subcommand.ensures.shape c.in_ok-make_check.ensures.local
+    ∙ ap₂ with_subcommand c.make_bare.ensures.app (ap top c.in_ok-make_check.ensures.app) in
+    c.in_ok-command.ensures.shape c.in_ok-make_cat.ensures.local
+    ∙ ap₂ with_subcommand first (ap top c.in_ok-make_cat.ensures.app)

@@ -12,9 +12,9 @@ pub returns-clause-no_words : goal.returns-clause-no_words
 unfolding clap_on_literals program asked asked_for
 returns-clause-no_words c = refl
 
-pub returns-clause-no_scan : goal.returns-clause-no_scan
+pub returns-clause-no_path : goal.returns-clause-no_path
 unfolding clap_on_literals program asked asked_for
-returns-clause-no_scan c = refl
+returns-clause-no_path c = refl
 
 pub returns-clause-unreadable : goal.returns-clause-unreadable
 unfolding clap_on_literals program asked asked_for

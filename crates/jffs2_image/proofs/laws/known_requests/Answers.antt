@@ -11,3 +11,7 @@ returns-clause-defaults c = refl
 pub returns-clause-given : goal.returns-clause-given
 unfolding clap_on_literals program asked asked_for
 returns-clause-given c = refl
+
+pub returns-clause-content : goal.returns-clause-content
+unfolding clap_on_literals program asked asked_for
+returns-clause-content c = refl
