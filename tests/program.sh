@@ -47,7 +47,7 @@ wrong="error: *Usage: *--help*"
 run; want 2 "" "error: *Usage: jffs2_image <COMMAND>*"
 run paint; want 2 "" "error: unrecognized subcommand 'paint'*Usage: *"
 run ls block; want 2 "" "$wrong"
-run check block; want 2 "" "error: *--scan*Usage: jffs2_image check *"
+run check; want 2 "" "error: *<IMAGE>*Usage: *"
 run check --scan; want 2 "" "error: *<IMAGE>*Usage: *"
 run check --scan block block; want 2 "" "$wrong"
 run check --scan --colour block; want 2 "" "error: unexpected argument '--colour' found*Usage: *"
@@ -115,9 +115,37 @@ run check --scan --block 4096 "$sample"; want 0 "$(cat "$samples/../stdout")" ""
 run check --scan --block 4096 --endian big "$sample"
 want 3 $'block 0\n00000000 other-order 4\n00000004 dirt 8\n0000000c other-order 4\n00000010 dirt 40\n00000038 erased 4040\ntotal blocks 1 entries 0 inodes 0 findings 4' ""
 
+# Images that are mounted: the report, and then the verdict
+run check block; want 0 "*findings 0*mount ok" ""
+run check empty; want 0 "total blocks 0 *mount ok" ""
+run check --block 4096 "$sample"; want 3 "*findings 0*mount ok*dangling pino 1 ino 2 name a" ""
+run check --endian big --block 4096 "$sample"; want 3 "*findings 4*mount ok" ""
+run check --block 4095 block; want 1 "" "jffs2_image: C1 BlockSize"
+run check none; want 1 "" "jffs2_image: P1 File none"
+run check folder; want 1 "" "jffs2_image: L1 Device"
+
+# Files
+run cat block; want 2 "" "error: *<PATH>*Usage: *"
+run cat block /; want 1 "" "jffs2_image: P4 NotRegular"
+run cat block a; want 1 "" "jffs2_image: P3 Path BadPath"
+run cat block /a; want 1 "" "jffs2_image: P3 Path NotFound"
+run cat block /a/b; want 1 "" "jffs2_image: P3 Path NotFound"
+run cat --block 4096 "$sample" /a; want 1 "" "jffs2_image: P3 Path NotFound"
+run cat none /; want 1 "" "jffs2_image: P1 File none"
+run cat folder /; want 1 "" "jffs2_image: L1 Device"
+run cat --block 4095 block /; want 1 "" "jffs2_image: M1 BlockSize"
+# The word of the path is judged before the image is opened.
+for path in '/\' '/\x1' '/\X11' '/\xg1' '/\\'; do
+    run cat none "$path"; want 1 "" "jffs2_image: P3 Path BadPath"
+done
+run cat block '/\x61'; want 1 "" "jffs2_image: P3 Path NotFound"
+for words in "cat --help" "cat -h" "help cat"; do
+    run $words; want 0 "*Usage: jffs2_image cat *<IMAGE> <PATH>*--block <N>*65536*Exit status:*" ""
+done
+
 # Standard output that fails
 line="standard output is /dev/full"
-for words in "--help" "check --help" "check --scan empty"; do
+for words in "--help" "check --help" "check --scan empty" "check empty"; do
     "$program" $words > /dev/full 2> err; got=$?; : > out; want 1 "" "jffs2_image: P5 Output"
 done
 line="standard output is closed"
