@@ -102,9 +102,9 @@ unfolding keys
 objects_kept objects nodes ordered each =
     tabled-same (keys objects) (1 ∷ map (λ (node : InodeNode). node.ino) nodes) (λ i. option_map stored_object (get nat_cmp objects i)) (object_of nodes)
     (λ i. (
-    λ h. ⊎_elim (λ one. subst (λ j. Contains (1 ∷ map (λ (node : InodeNode). node.ino) nodes) j) (sym one) (Contains-here 1 (map (λ (node : InodeNode). node.ino) nodes)))
-        (λ later. Contains-there 1 (map (λ (node : InodeNode). node.ino) nodes) i later) (number_of_key objects nodes ordered each i h),
-    λ h. key_of_number objects nodes each i (⊎_elim (λ one. inl (sym one)) (λ later. inr later) (Contains-cases 1 (map (λ (node : InodeNode). node.ino) nodes) i h)),
+      λ h. ⊎_elim (λ one. subst (λ j. Contains (1 ∷ map (λ (node : InodeNode). node.ino) nodes) j) (sym one) (Contains-here 1 (map (λ (node : InodeNode). node.ino) nodes)))
+          (λ later. Contains-there 1 (map (λ (node : InodeNode). node.ino) nodes) i later) (number_of_key objects nodes ordered each i h),
+      λ h. key_of_number objects nodes each i (⊎_elim (λ one. inl (sym one)) (λ later. inr later) (Contains-cases 1 (map (λ (node : InodeNode). node.ino) nodes) i h)),
     ))
     (λ i. first_shown (get nat_cmp objects i) ∙ ap (option_map (λ (m : Made). m.0)) (each i) ∙ object_made i (versions_of nodes i) (latest (versions_of nodes i)))
 

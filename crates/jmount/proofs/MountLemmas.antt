@@ -110,14 +110,16 @@ module _ (e : Endian) (size : ℕ) (image : List ℕ) (names : List Dirent) (kep
   pub mounted : (mount : Mount) (found : List Finding) (forbids b : Bool) → mount ≡ record { image = image; state = stored_state objects names next; tops = stored_tops objects names; findings = found; read_only = forbids }
       → found ≡ findings e size image → forbids ≡ is_read_only e size image → b ≡ is_directory mount.state 1 → b ≡ true → (mount.image ≡ image) × IsMountOf e size mount
   mounted mount found forbids b is of_findings of_read_only same is_true =
-      subst (λ (m : Mount). (m.image ≡ image) × IsMountOf e size m) (sym is)
-      (refl, record {
-        mounts = record {
-          sound = is_sound;
-          root = sym (root_is b (same ∙ ap (λ (m : Mount). is_directory m.state 1) is)) ∙ is_true;
-          same = sym same_state;
-        };
-        tops = same_tops;
-        findings = of_findings;
-        read_only = of_read_only;
-      })
+      subst (λ (m : Mount). (m.image ≡ image) × IsMountOf e size m) (sym is) (
+        refl,
+        record {
+          mounts = record {
+            sound = is_sound;
+            root = sym (root_is b (same ∙ ap (λ (m : Mount). is_directory m.state 1) is)) ∙ is_true;
+            same = sym same_state;
+          };
+          tops = same_tops;
+          findings = of_findings;
+          read_only = of_read_only;
+        },
+      )

@@ -26,10 +26,7 @@ pub struct Tables<'a> {
 }
 
 /// Gathers nodes in order, up to the first that clashes with one before it.
-pub fn gather<'a>(
-    alloc: Global,
-    nodes: Vec<(u32, NodeRef<'a>)>,
-) -> Result<Tables<'a>, MountFault>
+pub fn gather<'a>(alloc: Global, nodes: Vec<(u32, NodeRef<'a>)>) -> Result<Tables<'a>, MountFault>
     ensures ok { IfOk result (λ tables. Gathered tables.names tables.inodes nodes.entry.items) }
     ensures greatest { IfOk result (λ tables. tables.greatest ≡ greatest_number (plain nodes.entry.items)) }
     ensures err { IfErr result (StopsGathering nodes.entry.items) }
@@ -75,11 +72,7 @@ fn add_entry<'a>(names: &mut Names<'a>, addr: u32, entry: &Dirent<'a>) -> Result
 }
 
 /// Adds the inode node at an address.
-fn add_inode<'a>(
-    inodes: &mut Inodes<'a>,
-    addr: u32,
-    inode: InodeNode<'a>,
-) -> Result<(), MountFault>
+fn add_inode<'a>(inodes: &mut Inodes<'a>, addr: u32, inode: InodeNode<'a>) -> Result<(), MountFault>
     ensures ok { OnOk result (Gains inodes.old inodes.new inode.entry) }
     ensures alone { OnOk result (NoneClashes inodes.old inode.entry) }
     ensures err { IfErr result (IsRefused addr (SomeClashes inodes.old inode.entry)) }

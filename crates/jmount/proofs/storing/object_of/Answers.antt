@@ -13,9 +13,11 @@ use Rattle.jmount.proofs.storing.object_of.Goals as goal
 
 pub overlay-requires : goal.overlay-requires
 overlay-requires c κs =
-    let pieces : c.deref.result.now ≡ map piece_of (nodes_in c.args.versions.now) = c.deref.ensures.value ∙ c.in_ok-pieces.ensures in
-    ((refl, tt), subst (λ (ps : List Piece). All (λ piece. end_of piece < 2 ^ 32) ps) (sym pieces)
-    (All-map (λ (piece : Piece). end_of piece < 2 ^ 32) piece_of (nodes_in c.args.versions.now) c.requires.ends))
+    let pieces : c.deref.result.now ≡ map piece_of (nodes_in c.args.versions.now) = c.deref.ensures.value ∙ c.in_ok-pieces.ensures in (
+      (refl, tt),
+      subst (λ (ps : List Piece). All (λ piece. end_of piece < 2 ^ 32) ps) (sym pieces)
+          (All-map (λ (piece : Piece). end_of piece < 2 ^ 32) piece_of (nodes_in c.args.versions.now) c.requires.ends),
+    )
 
 pub returns : goal.returns
 returns c =
