@@ -12,6 +12,8 @@ mod gathering;
 mod inodes;
 pub mod laws;
 mod mounted;
+#[cfg(test)]
+mod mount_tests;
 mod mounting;
 mod object;
 mod path;
