@@ -7,8 +7,9 @@ use Rattle.jmount.specs.Mount.{Mount}
 use Rattle.jmount.specs.Mounts.{Answers}
 use Rattle.jmount.specs.declared.fault.MountFault.{MountFault}
 use Rattle.jmount.specs.declared.fault.MountFault.TheVariants as mount
-use Rattle.jffs2_image.specs.Verdict.{PutsMounted, PutsVerdict, mounted_text, refused_line}
+use Rattle.jffs2_image.specs.Verdict.{IsVerdict, PutsMounted, PutsVerdict, is_dangling, mounted_text, refused_line}
 use Rattle.jffs2_image.specs.declared.faults.ProgramFault.{ProgramFault}
+use Rattle.jffs2_image.specs.declared.faults.ProgramFault.TheVariants as program
 use Rattle.jffs2_image.specs.declared.faults.ProgramFault.TheVariants.{Output}
 
 pub mounted_failed : (m : Mount) (old new : Option (List ℕ)) (before now : ℕ) (r : Result Bool ProgramFault) → IsErrAnd r (λ x. x ≡ Output)
@@ -27,3 +28,29 @@ refused_failed e size image fault old new before now (Err x) is answers memory p
   where
     injected : (f g : MountFault) (x y : Result Mount MountFault) → x ≡ Err f → y ≡ Err g → x ≡ y → f ≡ g
     injected f g x y is_f is_g same = cc
+
+ok_is_no_err : (m : Mount) (f : MountFault) (x y : Result Mount MountFault) → x ≡ Ok m → y ≡ Err f → x ≡ y → ⊥
+ok_is_no_err m f x y is_ok is_err same = cc
+
+mounted_verdict : (e : Endian) (size : ℕ) (image : List ℕ) (m : Mount) → Answers e size image (Ok m) → IsVerdict e size image (mounted_text m) (is_dangling m)
+mounted_verdict e size image m answers = record {
+  answer = Ok m;
+  answers = answers;
+  memory = λ same. ok_is_no_err m mount.OutOfMemory (Ok m) (Err mount.OutOfMemory) refl refl same;
+  said = refl;
+  judged = refl;
+}
+
+pub verdict_of_mounted : (e : Endian) (size : ℕ) (image : List ℕ) (m : Mount) (old new : Option (List ℕ)) (before now : ℕ) (r : Result Bool ProgramFault)
+    → Answers e size image (Ok m) → PutsMounted m old new before now r → PutsVerdict e size image old new before now r
+verdict_of_mounted e size image m old new before now (Ok bad) answers put =
+    (mounted_text m, subst (λ (b : Bool). IsVerdict e size image (mounted_text m) b) (sym put.0) (mounted_verdict e size image m answers), put.1, put.2)
+verdict_of_mounted e size image m old new before now (Err program.Output) answers put =
+    (mounted_text m, is_dangling m, mounted_verdict e size image m answers, put.0, put.1)
+verdict_of_mounted e size image m old new before now (Err program.OutOfMemory) answers put = (m, answers, put.0, put.1)
+verdict_of_mounted e size image m old new before now (Err (program.Load f)) answers put = absurd put
+verdict_of_mounted e size image m old new before now (Err (program.Scan f)) answers put = absurd put
+verdict_of_mounted e size image m old new before now (Err (program.Mount f)) answers put = absurd put
+verdict_of_mounted e size image m old new before now (Err (program.File f)) answers put = absurd put
+verdict_of_mounted e size image m old new before now (Err (program.Path f)) answers put = absurd put
+verdict_of_mounted e size image m old new before now (Err program.NotRegular) answers put = absurd put

@@ -13,4 +13,3 @@ pub record Mount : Type 0 where
   pub tops : FinMap nat_cmp ℕ
   pub findings : List Finding
   pub read_only : Bool
-

@@ -11,9 +11,9 @@ mod fault;
 mod gathering;
 mod inodes;
 pub mod laws;
-mod mounted;
 #[cfg(test)]
 mod mount_tests;
+mod mounted;
 mod mounting;
 mod object;
 mod path;
