@@ -16,20 +16,24 @@ use std::test::Fail;
 
 const GEOMETRY: Geometry = Geometry { block: 4096 };
 
+/// A block with room for a file of several pieces.
+const LARGE: Geometry = Geometry { block: 16384 };
+
 /// An inode node of version 1 with all its bytes.
 fn inode(ino: u32, mode: u32, bytes: &[u8]) -> InodeNode<'_> {
+    let size = u32::try_from(bytes.len()).unwrap_or(u32::MAX);
     InodeNode {
         ino,
         version: 1,
         mode,
         uid: 0,
         gid: 0,
-        isize: bytes.len() as u32,
+        isize: size,
         atime: 0,
         mtime: 0,
         ctime: 0,
         offset: 0,
-        dsize: bytes.len() as u32,
+        dsize: size,
         fill: Fill::Data(Part::new(bytes, 0)),
     }
 }
@@ -57,7 +61,7 @@ fn image(
         if write_inode::<LittleEndian>(&mut image, node).is_err() {
             return Err("no inode node");
         }
-        while !image.len().is_multiple_of(4) {
+        for _ in 0..(4 - image.len() % 4) % 4 {
             if image.push(0xFF).is_err() {
                 return Err("no memory");
             }
@@ -67,7 +71,7 @@ fn image(
         if write_entry::<LittleEndian>(&mut image, node).is_err() {
             return Err("no entry");
         }
-        while !image.len().is_multiple_of(4) {
+        for _ in 0..(4 - image.len() % 4) % 4 {
             if image.push(0xFF).is_err() {
                 return Err("no memory");
             }
@@ -117,7 +121,7 @@ fn verdicts(rt: HostRuntime) -> Result<(), Fail> {
 
 /// What `cat` writes of a path, or its fault.
 fn read(alloc: Global, image: &[u8], path: &[u8]) -> Result<Vec<u8>, ProgramFault<'static>> {
-    let mounted = mount::<LittleEndian>(alloc, image, GEOMETRY)?;
+    let mounted = mount::<LittleEndian>(alloc, image, LARGE)?;
     let mut sink = FromWriter::new(Vec::new(alloc));
     content(&mounted, path, &mut sink)?;
     Ok(sink.into_writer())
@@ -133,7 +137,7 @@ fn fault_of(answer: Result<Vec<u8>, ProgramFault<'static>>) -> Option<ProgramFau
 #[test]
 fn contents(rt: HostRuntime) -> Result<(), Fail> {
     let alloc = rt.alloc();
-    let long = vec![in alloc; b'x'; 4095]?;
+    let long = vec![in alloc; b'x'; 9000]?;
     let nodes = [inode(2, 0o100644, &long), inode(3, 0o120777, b"a")];
     let image = image(alloc, &nodes, &[entry(2, b"a"), entry(3, b"s")])?;
     match read(alloc, &image, b"/a") {
