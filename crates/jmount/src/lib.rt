@@ -4,7 +4,8 @@
 //! promise to the layers above: `mount` answers the state of the image's nodes, or the fault of least address.
 //!
 //! `specs/Tree.antt` says what a file system is, `specs/StateOf.antt` which one nodes make, `specs/Find.antt` what a path
-//! names, `specs/Clash.antt` which nodes contradict each other, and `specs/Mounts.antt` what a mount answers.
+//! names, `specs/Clash.antt` which nodes contradict each other, and `specs/Mounts.antt` what a mount answers. `laws` has what
+//! follows from them, many of them once more as relations, and `rows` has worked examples.
 #![tactic(auto)]
 
 mod fault;

@@ -11,9 +11,9 @@ use std::alloc::AllocError;
 pub struct Survey<'a> {
     /// The nodes in front of the refusal, or all; each with its address.
     pub nodes: Vec<(u32, NodeRef<'a>)>,
-    /// The findings in front of the refusal, or all.
+    /// The findings of an image that nothing refuses.
     pub findings: Vec<Finding>,
-    /// Whether a node in front of the refusal, or any, forbids writing.
+    /// Whether a node of an image that nothing refuses forbids writing.
     pub read_only: bool,
     /// The refusal of least address: `Incompatible` or `Compressed`.
     pub refused: Option<ScanFault>,
