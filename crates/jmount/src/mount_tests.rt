@@ -30,6 +30,21 @@ const COMPRESSED: [u8; 72] = [
     0x72, 0x9a, 0xfb, 0x8e, 0x01, 0x02, 0x03, 0x04,
 ];
 
+/// Headers of an attribute, a summary, an obsolete node of an unknown type, and an inode node of 109 bytes whose data are
+/// an entry's and whose data_crc is wrong.
+const OTHERS: [u8; 148] = [
+    0x85, 0x19, 0x08, 0xe0, 0x0c, 0x00, 0x00, 0x00, 0xa9, 0xa8, 0xcc, 0x67, 0x85, 0x19, 0x06, 0x20,
+    0x0c, 0x00, 0x00, 0x00, 0x02, 0x21, 0xd3, 0xb4, 0x85, 0x19, 0xf7, 0xc0, 0x0c, 0x00, 0x00, 0x00,
+    0x65, 0x03, 0x08, 0x83, 0x85, 0x19, 0x02, 0xe0, 0x6d, 0x00, 0x00, 0x00, 0xa9, 0x1b, 0xcd, 0x45,
+    0x02, 0x00, 0x00, 0x00, 0x02, 0x00, 0x00, 0x00, 0xa4, 0x81, 0x00, 0x00, 0x00, 0x00, 0x00, 0x00,
+    0x29, 0x00, 0x00, 0x00, 0x00, 0x00, 0x00, 0x00, 0x00, 0x00, 0x00, 0x00, 0x00, 0x00, 0x00, 0x00,
+    0x00, 0x00, 0x00, 0x00, 0x29, 0x00, 0x00, 0x00, 0x29, 0x00, 0x00, 0x00, 0x00, 0x00, 0x00, 0x00,
+    0x00, 0x00, 0x00, 0x00, 0x8a, 0xec, 0x61, 0x44, 0x85, 0x19, 0x01, 0xe0, 0x29, 0x00, 0x00, 0x00,
+    0x6d, 0xa6, 0x2f, 0xd7, 0x01, 0x00, 0x00, 0x00, 0x01, 0x00, 0x00, 0x00, 0x02, 0x00, 0x00, 0x00,
+    0x00, 0x00, 0x00, 0x00, 0x01, 0x08, 0x00, 0x00, 0x95, 0x02, 0x9b, 0x91, 0xce, 0x51, 0xb5, 0x3a,
+    0x61, 0xff, 0xff, 0xff,
+];
+
 const FILE: u32 = 0o100644;
 
 const DIRECTORY: u32 = 0o040755;
@@ -310,6 +325,65 @@ fn what_is_no_node_changes_nothing(rt: HostRuntime) -> Result<(), Fail> {
             assert_eq!(rt; mounted.findings().len(), 3);
             assert_eq!(rt; mounted.find(b"/a"), Err(FindFault::NotFound));
             assert_eq!(rt; mounted.find(b"/c"), Ok(2));
+        }
+        Err(_) => assert!(rt; false),
+    }
+    Ok(())
+}
+
+#[test]
+fn what_is_skipped_or_damaged_makes_nothing(rt: HostRuntime) -> Result<(), Fail> {
+    match mount::<LittleEndian>(rt.alloc(), &OTHERS, GEOMETRY) {
+        Ok(mounted) => {
+            // The attribute and the damaged node.
+            assert_eq!(rt; mounted.findings().len(), 2);
+            assert!(rt; !mounted.read_only());
+            assert!(rt; mounted.names().next().is_none());
+            assert_eq!(rt; mounted.object(2), None);
+            assert_eq!(rt; mounted.next(), 2);
+        }
+        Err(_) => assert!(rt; false),
+    }
+    Ok(())
+}
+
+#[test]
+fn a_root_of_version_0_stands(rt: HostRuntime) -> Result<(), Fail> {
+    let root = NodeRef::Inode(version(1, 0, 0o040700, 0));
+    let image = image_of::<LittleEndian>(rt.alloc(), &[root])?;
+    match mount::<LittleEndian>(rt.alloc(), &image, GEOMETRY) {
+        Ok(mounted) => {
+            assert_eq!(rt; mounted.object(1).map(|root| root.mode), Some(0o040700));
+            assert_eq!(rt; mounted.top(1), 0);
+        }
+        Err(_) => assert!(rt; false),
+    }
+    Ok(())
+}
+
+const OLD: [u8; 100] = [1; 100];
+
+const NEWER: [u8; 10] = [2; 10];
+
+const NEWEST: [u8; 10] = [3; 10];
+
+#[test]
+fn three_versions_of_a_hundred_bytes(rt: HostRuntime) -> Result<(), Fail> {
+    let nodes = [
+        written(3, 100, 0, &NEWEST),
+        written(2, 100, 50, &NEWER),
+        written(1, 100, 0, &OLD),
+    ];
+    let image = image_of::<LittleEndian>(rt.alloc(), &nodes)?;
+    match mount::<LittleEndian>(rt.alloc(), &image, GEOMETRY) {
+        Ok(mounted) => {
+            let mut bytes = [9; 101];
+            assert_eq!(rt; mounted.read_at(2, 0, &mut bytes), 100);
+            assert!(rt; bytes.iter().take(10).all(|byte| *byte == 3));
+            assert!(rt; bytes.iter().skip(10).take(40).all(|byte| *byte == 1));
+            assert!(rt; bytes.iter().skip(50).take(10).all(|byte| *byte == 2));
+            assert!(rt; bytes.iter().skip(60).take(40).all(|byte| *byte == 1));
+            assert_eq!(rt; bytes[100], 9);
         }
         Err(_) => assert!(rt; false),
     }
