@@ -1,13 +1,4 @@
 pub mod Asked
 pub mod Commands
-pub mod Content
-pub mod Faults
-pub mod Loaded
-pub mod Paths
-pub mod Puts
 pub mod Refused
-pub mod Report
 pub mod Status
-pub mod TreeText
-pub mod Verdict
-pub mod Words

@@ -2,22 +2,9 @@
 ghost use Rattle.std.specs.Prelude.{◌≡◌, [], ◌∷◌, Some, None, codes};
 ghost use Rattle.clap.specs.Words.{fault_of};
 ghost use Rattle.clap.specs.declared.error.ErrorKind.TheVariants.{DisplayHelp, MissingSubcommand, MissingRequiredArgument};
-ghost use Rattle.flashbase.specs.declared.source.LoadFault.TheVariants as load;
 ghost use Rattle.jnode.specs.declared.order.Endian.TheVariants.{Little, Big};
-ghost use Rattle.jscan.specs.declared.geometry.ScanFault.TheVariants as scan;
 ghost use Rattle.jffs2_image.specs.Asked.{ScanAsked, CheckAsked, ContentAsked, asked_for, endian_of, number_of};
 ghost use Rattle.jffs2_image.specs.Commands.{program};
-ghost use Rattle.jffs2_image.specs.Faults.{fault_text_of};
-ghost use Rattle.jffs2_image.specs.declared.faults.ProgramFault.TheVariants as fault;
-
-/// The texts of faults.
-#[tactic(auto, unfolding(crate::specs::Faults::fault_text_of, crate::specs::Faults::load_text, crate::specs::Faults::scan_fault_text, crate::specs::Words::hex))]
-pub fn known_fault_texts()
-    ensures device { fault_text_of (fault.Load load.Device) ≡ codes "L1 Device" }
-    ensures block_size { fault_text_of (fault.Scan scan.BlockSize) ≡ codes "C1 BlockSize" }
-    ensures incompatible { fault_text_of (fault.Scan (scan.Incompatible 12 0xE0F7)) ≡ codes "C3 Incompatible at 0000000c type e0f7" }
-    ensures output { fault_text_of fault.Output ≡ codes "P5 Output" }
-{}
 
 /// The values of options.
 pub fn known_values()

@@ -1,42 +1,20 @@
 //! Reads flash images of JFFS2: the program `jffs2_image`.
 //!
-//! `commands`, `asked` and `request` read the command line, `stream`, `loaded`, `report`, `verdict` and `files` do the work
-//! over sources and sinks,
-//! `faults` and `outcome` say how it ends, and `program` puts them together. `main` hands over the process's words and
-//! streams.
+//! `commands`, `asked` and `request` read the command line, `outcome` says how it ends, and `program` opens files and lets
+//! `jreport` do the work over them. `main` hands over the process's words and streams.
 #![tactic(auto)]
 
 pub mod asked;
-pub mod blocks;
 pub mod commands;
-pub mod escapes;
-pub mod faults;
-pub mod files;
-pub mod forms;
 pub mod laws;
-pub mod line;
-pub mod loaded;
 pub mod outcome;
-pub mod paths;
 pub mod program;
-#[cfg(test)]
-mod read_tests;
-pub mod report;
-pub mod report_fault;
-pub mod report_rows;
-#[cfg(test)]
-mod report_tests;
 pub mod request;
-pub mod stream;
-#[cfg(test)]
-mod stream_tests;
 #[cfg(test)]
 mod tests;
-pub mod tree;
-pub mod verdict;
 
-use faults::ProgramFault;
 use flashbase::FromWriter;
+use jreport::ProgramFault;
 use outcome::{Outcome, status};
 use program::{refuse, tell};
 use std::alloc::{AllocError, Global};

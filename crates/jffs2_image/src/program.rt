@@ -1,18 +1,15 @@
 //! The program on its words: it opens files, buffers output and prints.
 ghost use Rattle.std.specs.Prelude.{◌≡◌, ◌⊎◌};
 ghost use Rattle.std.specs.Io.KnownBytes.{Appends};
-ghost use Rattle.jffs2_image.specs.Faults.{TellsFault, fault_line_of};
+ghost use Rattle.jreport.specs.Faults.{TellsFault, fault_line_of};
 
 use crate::asked::{Options, Request};
-use crate::faults::{ProgramFault, fault_line};
-use crate::loaded::{check_lines, file_bytes};
 use crate::outcome::Outcome;
-use crate::paths::path_word;
 use crate::request::{RequestFault, request};
-use crate::stream::stream_lines;
 use byteorder::{BigEndian, LittleEndian};
 use flashbase::{FromReader, FromWriter, Sink, put_all};
 use jnode::Endian;
+use jreport::{ProgramFault, check_lines, fault_line, file_bytes, path_word, stream_lines};
 use std::fs;
 use std::io::{BufWriter, Write};
 use std::rt::Files;

@@ -1,9 +1,0 @@
-use Rattle.std.proofs.Common.{ℕ, List, ◌∙◌, subst}
-use Rattle.flashbase.specs.Device.{Puts}
-use Rattle.jffs2_image.proofs.blocks.put_total.Goals as goal
-
-pub returns : goal.returns
-returns g c =
-    let line = c.as_slice.ensures ∙ c.write_total.ensures in
-    subst (λ (text : List ℕ). Puts (g.T.Sink.taken c.args.sink.now) (g.T.Sink.taken c.put_all.new.sink) (g.T.Sink.failures c.args.sink.now)
-    (g.T.Sink.failures c.put_all.new.sink) text c.put_all.result) line c.put_all.ensures.puts

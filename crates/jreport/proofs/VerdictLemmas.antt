@@ -1,0 +1,56 @@
+-- A verdict that ends early.
+use Rattle.std.proofs.Common.{◌≡◌, ◌≢◌, ℕ, Bool, true, List, sym, refl, subst, Option, Result, Ok, Err}
+use Rattle.std.specs.Prelude.{IsErrAnd}
+use Rattle.flashbase.specs.Device.{PutsPart, next_count}
+use Rattle.jnode.specs.declared.order.Endian.{Endian}
+use Rattle.jmount.specs.Mount.{Mount}
+use Rattle.jmount.specs.Mounts.{Answers}
+use Rattle.jmount.specs.declared.fault.MountFault.{MountFault}
+use Rattle.jmount.specs.declared.fault.MountFault.TheVariants as mount
+use Rattle.jreport.specs.Verdict.{IsVerdict, PutsMounted, PutsVerdict, is_dangling, mounted_text, refused_line}
+use Rattle.jreport.specs.declared.faults.ProgramFault.{ProgramFault}
+use Rattle.jreport.specs.declared.faults.ProgramFault.TheVariants as program
+use Rattle.jreport.specs.declared.faults.ProgramFault.TheVariants.{Output}
+
+pub mounted_failed : (m : Mount) (old new : Option (List ℕ)) (before now : ℕ) (r : Result Bool ProgramFault) → IsErrAnd r (λ x. x ≡ Output)
+    → PutsPart old new (mounted_text m) → now ≡ next_count before → PutsMounted m old new before now r
+mounted_failed m old new before now (Ok x) is part failed = absurd is
+mounted_failed m old new before now (Err x) is part failed =
+    subst (λ (y : ProgramFault). PutsMounted m old new before now (Err y)) (sym is) (part, failed)
+
+pub refused_failed : (e : Endian) (size : ℕ) (image : List ℕ) (fault : MountFault) (old new : Option (List ℕ)) (before now : ℕ) (r : Result Bool ProgramFault)
+    → IsErrAnd r (λ x. x ≡ Output) → Answers e size image (Err fault) → fault ≢ mount.OutOfMemory
+    → PutsPart old new (refused_line fault) → now ≡ next_count before → PutsVerdict e size image old new before now r
+refused_failed e size image fault old new before now (Ok x) is answers memory part failed = absurd is
+refused_failed e size image fault old new before now (Err x) is answers memory part failed =
+    subst (λ (y : ProgramFault). PutsVerdict e size image old new before now (Err y)) (sym is)
+    (refused_line fault, true, record { answer = Err fault; answers = answers; memory = λ same. memory (injected fault mount.OutOfMemory (Err fault) (Err mount.OutOfMemory) refl refl same); said = refl; judged = refl }, part, failed)
+  where
+    injected : (f g : MountFault) (x y : Result Mount MountFault) → x ≡ Err f → y ≡ Err g → x ≡ y → f ≡ g
+    injected f g x y is_f is_g same = cc
+
+ok_is_no_err : (m : Mount) (f : MountFault) (x y : Result Mount MountFault) → x ≡ Ok m → y ≡ Err f → x ≡ y → ⊥
+ok_is_no_err m f x y is_ok is_err same = cc
+
+mounted_verdict : (e : Endian) (size : ℕ) (image : List ℕ) (m : Mount) → Answers e size image (Ok m) → IsVerdict e size image (mounted_text m) (is_dangling m)
+mounted_verdict e size image m answers = record {
+  answer = Ok m;
+  answers = answers;
+  memory = λ same. ok_is_no_err m mount.OutOfMemory (Ok m) (Err mount.OutOfMemory) refl refl same;
+  said = refl;
+  judged = refl;
+}
+
+pub verdict_of_mounted : (e : Endian) (size : ℕ) (image : List ℕ) (m : Mount) (old new : Option (List ℕ)) (before now : ℕ) (r : Result Bool ProgramFault)
+    → Answers e size image (Ok m) → PutsMounted m old new before now r → PutsVerdict e size image old new before now r
+verdict_of_mounted e size image m old new before now (Ok bad) answers put =
+    (mounted_text m, subst (λ (b : Bool). IsVerdict e size image (mounted_text m) b) (sym put.0) (mounted_verdict e size image m answers), put.1, put.2)
+verdict_of_mounted e size image m old new before now (Err program.Output) answers put =
+    (mounted_text m, is_dangling m, mounted_verdict e size image m answers, put.0, put.1)
+verdict_of_mounted e size image m old new before now (Err program.OutOfMemory) answers put = (m, answers, put.0, put.1)
+verdict_of_mounted e size image m old new before now (Err (program.Load f)) answers put = absurd put
+verdict_of_mounted e size image m old new before now (Err (program.Scan f)) answers put = absurd put
+verdict_of_mounted e size image m old new before now (Err (program.Mount f)) answers put = absurd put
+verdict_of_mounted e size image m old new before now (Err (program.File f)) answers put = absurd put
+verdict_of_mounted e size image m old new before now (Err (program.Path f)) answers put = absurd put
+verdict_of_mounted e size image m old new before now (Err program.NotRegular) answers put = absurd put

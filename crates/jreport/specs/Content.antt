@@ -1,0 +1,36 @@
+-- The content of a file, as `cat` writes it.
+use Rattle.std.specs.Prelude.{◌≡◌, ℕ, Bool, List, Option, Result, Ok, Err, if◌then◌else◌}
+use Rattle.std.specs.Io.KnownBytes.{Appends}
+use Rattle.flashbase.specs.Device.{PutsPart, next_count}
+use Rattle.jmount.specs.Tree.{State, object, has_bits, regular_bits}
+use Rattle.jmount.specs.Find.{find}
+use Rattle.jmount.specs.Shown.{readable}
+use Rattle.jmount.specs.declared.fault.FindFault.{FindFault}
+use Rattle.jreport.specs.declared.faults.ProgramFault.{ProgramFault}
+use Rattle.jreport.specs.declared.faults.ProgramFault.TheVariants.{Path, NotRegular, Output}
+
+abbrev pub is_regular : State → ℕ → Bool
+is_regular s i = has_bits regular_bits (object s i)
+
+abbrev pub bytes_if_regular : State → ℕ → Result (List ℕ) ProgramFault
+bytes_if_regular s i = if is_regular s i then Ok (readable s i) else Err NotRegular
+
+abbrev pub content_found : State → Result ℕ FindFault → Result (List ℕ) ProgramFault
+content_found s (Ok i) = bytes_if_regular s i
+content_found s (Err fault) = Err (Path fault)
+
+-- the bytes of the regular file that a path names, or why there are none
+unfoldable pub content_of : State → List ℕ → Result (List ℕ) ProgramFault
+content_of s path = content_found s (find s path)
+
+-- the fault says why there are none
+abbrev pub IsContentFault : Result (List ℕ) ProgramFault → ProgramFault → Type 0
+IsContentFault content (Path fault) = content ≡ Err (Path fault)
+IsContentFault content NotRegular = content ≡ Err NotRegular
+IsContentFault content _ = ⊥
+
+-- A call puts these bytes. Where the sink fails, a beginning of them went out; where there are none, nothing did.
+abbrev pub PutsContent : {T : Type 0} → Result (List ℕ) ProgramFault → Option (List ℕ) → Option (List ℕ) → ℕ → ℕ → Result T ProgramFault → Type 0
+PutsContent content old new before now (Ok _) = (bytes : List ℕ) × (content ≡ Ok bytes) × Appends old new bytes × (now ≡ before)
+PutsContent content old new before now (Err Output) = (bytes : List ℕ) × (content ≡ Ok bytes) × PutsPart old new bytes × (now ≡ next_count before)
+PutsContent content old new before now (Err fault) = IsContentFault content fault × (new ≡ old) × (now ≡ before)

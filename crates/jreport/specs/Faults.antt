@@ -1,0 +1,85 @@
+-- The texts of faults: a number and a name, and then the parts.
+use Rattle.std.specs.Prelude.{ℕ, List, [], ◌∷◌, ◌++◌, Option, codes, decimal}
+use Rattle.std.specs.Io.KnownBytes.{Appends}
+use Rattle.flashbase.specs.declared.source.LoadFault.{LoadFault}
+use Rattle.flashbase.specs.declared.source.LoadFault.TheVariants as load
+use Rattle.jscan.specs.declared.geometry.ScanFault.{ScanFault}
+use Rattle.jscan.specs.declared.geometry.ScanFault.TheVariants as scan
+use Rattle.jmount.specs.declared.fault.MountFault.{MountFault}
+use Rattle.jmount.specs.declared.fault.MountFault.TheVariants as mount
+use Rattle.jmount.specs.declared.fault.FindFault.{FindFault}
+use Rattle.jmount.specs.declared.fault.FindFault.TheVariants as find
+use Rattle.jscan.specs.declared.stream.StreamFault.{StreamFault}
+use Rattle.jscan.specs.declared.stream.StreamFault.TheVariants as stream
+use Rattle.jreport.specs.Words.{hex}
+use Rattle.jreport.specs.declared.report_fault.ReportFault.{ReportFault}
+use Rattle.jreport.specs.declared.report_fault.ReportFault.TheVariants as report
+use Rattle.jreport.specs.declared.faults.ProgramFault.{ProgramFault}
+use Rattle.jreport.specs.declared.faults.ProgramFault.TheVariants as program
+
+unfoldable pub load_text : LoadFault → List ℕ
+load_text load.Device = codes "L1 Device"
+load_text load.TooLarge = codes "L2 TooLarge"
+load_text load.OutOfMemory = codes "L3 OutOfMemory"
+
+-- at an address
+abbrev pub at_text : ℕ → List ℕ
+at_text addr = codes " at " ++ hex 8 addr
+
+unfoldable pub scan_fault_text : ScanFault → List ℕ
+scan_fault_text scan.BlockSize = codes "C1 BlockSize"
+scan_fault_text scan.TooLarge = codes "C2 TooLarge"
+scan_fault_text (scan.Incompatible addr nodetype) = codes "C3 Incompatible" ++ at_text addr ++ codes " type " ++ hex 4 nodetype
+scan_fault_text (scan.Compressed addr compr) = codes "C4 Compressed" ++ at_text addr ++ codes " compr " ++ decimal compr
+scan_fault_text scan.OutOfMemory = codes "C5 OutOfMemory"
+
+unfoldable pub mount_text : MountFault → List ℕ
+mount_text mount.BlockSize = codes "M1 BlockSize"
+mount_text mount.TooLarge = codes "M2 TooLarge"
+mount_text (mount.Incompatible addr nodetype) = codes "M3 Incompatible" ++ at_text addr ++ codes " type " ++ hex 4 nodetype
+mount_text (mount.Compressed addr compr) = codes "M4 Compressed" ++ at_text addr ++ codes " compr " ++ decimal compr
+mount_text (mount.Clash addr) = codes "M5 Clash" ++ at_text addr
+mount_text mount.RootKind = codes "M6 RootKind"
+mount_text mount.OutOfMemory = codes "M7 OutOfMemory"
+
+unfoldable pub find_text : FindFault → List ℕ
+find_text find.BadPath = codes "P3 Path BadPath"
+find_text find.NotFound = codes "P3 Path NotFound"
+find_text find.NotDirectory = codes "P3 Path NotDirectory"
+
+unfoldable pub fault_text_of : ProgramFault → List ℕ
+fault_text_of (program.Load fault) = load_text fault
+fault_text_of (program.Scan fault) = scan_fault_text fault
+fault_text_of (program.Mount fault) = mount_text fault
+fault_text_of (program.File name) = codes "P1 File " ++ name.now
+fault_text_of (program.Path fault) = find_text fault
+fault_text_of program.NotRegular = codes "P4 NotRegular"
+fault_text_of program.Output = codes "P5 Output"
+fault_text_of program.OutOfMemory = codes "P6 OutOfMemory"
+
+-- the line on standard error
+unfoldable pub fault_line_of : ProgramFault → List ℕ
+fault_line_of fault = codes "jffs2_image: " ++ (fault_text_of fault ++ 10 ∷ [])
+
+-- the faults of a stream's report: of its geometry, of the source, of memory, of what is printed
+abbrev pub IsFaultOfReport : ProgramFault → Type 0
+IsFaultOfReport (program.Load fault) = Unit {0}
+IsFaultOfReport (program.Scan scan.BlockSize) = Unit {0}
+IsFaultOfReport program.Output = Unit {0}
+IsFaultOfReport _ = ⊥
+
+-- the program's fault that a report's fault is
+abbrev pub fault_of_report : ReportFault → ProgramFault
+fault_of_report (report.Scan fault) = program.Scan fault
+fault_of_report report.Output = program.Output
+
+-- the program's fault that a stream's fault is
+abbrev pub fault_of_stream : StreamFault → ProgramFault
+fault_of_stream stream.BlockSize = program.Scan scan.BlockSize
+fault_of_stream stream.Device = program.Load load.Device
+fault_of_stream stream.TooLarge = program.Load load.TooLarge
+fault_of_stream stream.OutOfMemory = program.Load load.OutOfMemory
+
+-- the line of a fault went out
+abbrev pub TellsFault : Option (List ℕ) → Option (List ℕ) → Type 0
+TellsFault old new = (fault : ProgramFault) × Appends old new (fault_line_of fault)

@@ -1,0 +1,9 @@
+pub mod Content
+pub mod Faults
+pub mod Loaded
+pub mod Paths
+pub mod Puts
+pub mod Report
+pub mod TreeText
+pub mod Verdict
+pub mod Words

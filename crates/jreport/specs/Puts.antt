@@ -1,0 +1,46 @@
+-- What the calls of a report put, and when they fail.
+use Rattle.std.specs.Prelude.{◌≡◌, ◌≢◌, ℕ, ◌%◌, ◌<◌, ◌≤◌, false, IsTrue, List, length, Option, Result, Ok, Err}
+use Rattle.std.specs.Io.KnownBytes.{Appends}
+use Rattle.flashbase.specs.Device.{PutsPart, next_count}
+use Rattle.jnode.specs.declared.order.Endian.{Endian}
+use Rattle.jscan.specs.Image.{is_block_size, greatest_image}
+use Rattle.jscan.specs.declared.geometry.ScanFault.{ScanFault}
+use Rattle.jscan.specs.declared.geometry.ScanFault.TheVariants as scan
+use Rattle.jreport.specs.declared.report_fault.ReportFault.{ReportFault}
+use Rattle.jreport.specs.declared.report_fault.ReportFault.TheVariants.{Scan, Output}
+use Rattle.jscan.specs.Counts.{is_found}
+use Rattle.jreport.specs.Report.{scan_text, number_of}
+
+-- an image that can be scanned at all
+abbrev pub IsScannable : ℕ → List ℕ → Type 0
+IsScannable size image = IsTrue (is_block_size size) × (length image ≤ greatest_image)
+
+-- The fault that fits the image: its block size comes first, and then its length. A report meets no other fault of
+-- a scan than want of memory.
+abbrev pub IsFaultOf : ℕ → List ℕ → ScanFault → Type 0
+IsFaultOf size image scan.BlockSize = is_block_size size ≡ false
+IsFaultOf size image scan.TooLarge = IsTrue (is_block_size size) × (greatest_image < length image)
+IsFaultOf size image scan.OutOfMemory = IsScannable size image
+IsFaultOf size image (scan.Incompatible addr nodetype) = ⊥
+IsFaultOf size image (scan.Compressed addr compr) = ⊥
+
+-- A call puts lines of an image that can be scanned. At a fault a beginning of them went out, and the sink failed
+-- once if the fault is its own. Memory is wanted only where the last block has a missing tail.
+abbrev pub PutsLines : {T : Type 0} → ℕ → List ℕ → Option (List ℕ) → Option (List ℕ) → ℕ → ℕ → List ℕ → Result T ReportFault → Type 0
+PutsLines size image old new before now text (Ok _) = Appends old new text × (now ≡ before)
+PutsLines size image old new before now text (Err Output) = PutsPart old new text × (now ≡ next_count before)
+PutsLines size image old new before now text (Err (Scan scan.OutOfMemory)) =
+    (length image % size ≢ 0) × PutsPart old new text × (now ≡ before)
+PutsLines size image old new before now text (Err (Scan _)) = ⊥
+
+-- A report puts its whole text and answers the number of findings; at a fault a beginning of the text went out. An
+-- image that can't be scanned is refused before anything is put.
+abbrev pub PutsReport : Endian → ℕ → List ℕ → Option (List ℕ) → Option (List ℕ) → ℕ → ℕ → Result ℕ ReportFault → Type 0
+PutsReport e size image old new before now (Ok findings) =
+    IsScannable size image × (findings ≡ number_of is_found e size image)
+    × Appends old new (scan_text e size image) × (now ≡ before)
+PutsReport e size image old new before now (Err Output) =
+    IsScannable size image × PutsPart old new (scan_text e size image) × (now ≡ next_count before)
+PutsReport e size image old new before now (Err (Scan scan.OutOfMemory)) =
+    IsFaultOf size image scan.OutOfMemory × (length image % size ≢ 0) × PutsPart old new (scan_text e size image) × (now ≡ before)
+PutsReport e size image old new before now (Err (Scan fault)) = IsFaultOf size image fault × (new ≡ old) × (now ≡ before)

@@ -1,0 +1,83 @@
+//! The lines of one block, and the last line.
+
+ghost use Rattle.std.specs.Prelude.{◌≡◌, ◌%◌, ◌^◌, ◌+◌, ◌<◌, ◌≤◌, length, OnOk};
+ghost use Rattle.flashbase.specs.Device.{Puts};
+ghost use Rattle.jscan.specs.Counts.{block_counted, counted, no_counts};
+ghost use Rattle.jscan.specs.Stretches.{stretches};
+ghost use Rattle.jreport.specs.Report.{stretch_line, shown_name, lines_of, totals_line, HasRoom};
+
+use crate::forms::{write_block, write_stretch, write_total};
+use crate::line::LineBuffer;
+use flashbase::{PutFault, Sink, put_all};
+use jnode::Order;
+use jscan::{Counts, Stretch, Stretches};
+
+/// The counts before the first block.
+pub fn nothing() -> Counts
+    ensures { result ≡ no_counts }
+{
+    Counts {
+        blocks: 0,
+        entries: 0,
+        inodes: 0,
+        findings: 0,
+    }
+}
+
+/// Puts the line of a stretch, and counts it.
+fn put_stretch<T: Sink>(
+    sink: &mut T,
+    line: &mut LineBuffer,
+    counts: &mut Counts,
+    stretch: &Stretch<'_>,
+) -> Result<(), PutFault>
+    requires name { length (shown_name stretch.now.look) ≤ 255 }
+    requires room { HasRoom counts.old 1 }
+    ensures puts { Puts (T.taken sink.old) (T.taken sink.new) (T.failures sink.old) (T.failures sink.new) (stretch_line stretch.now) result }
+    ensures counts { OnOk result (counts.new ≡ counted counts.old stretch.now.look) }
+{
+    write_stretch(line, stretch);
+    put_all(sink, line.as_slice())?;
+    counts.add(&stretch.look);
+    Ok(())
+}
+
+/// Puts the lines of the next block, whose bytes begin at the address `start`, and counts what they tell.
+#[tactic(auto, using(crate::proofs::StretchLemmas::length_stretches))]
+pub fn put_block<E: Order, T: Sink>(
+    sink: &mut T,
+    start: u32,
+    block: &[u8],
+    counts: &mut Counts,
+) -> Result<(), PutFault>
+    requires whole_words { length block.now % 4 ≡ 0 }
+    requires addressed { start + length block.now < 2 ^ 32 }
+    requires room { HasRoom counts.old (length block.now + 1) }
+    ensures puts { Puts (T.taken sink.old) (T.taken sink.new) (T.failures sink.old) (T.failures sink.new)
+        (lines_of counts.old.blocks (stretches E.order start block.now)) result }
+    ensures counts { OnOk result (counts.new ≡ block_counted counts.old (stretches E.order start block.now)) }
+{
+    let mut line = LineBuffer::new();
+    write_block(&mut line, counts.blocks);
+    put_all(sink, line.as_slice())?;
+    counts.blocks += 1;
+    for stretch in Stretches::<E>::new(start, block) {
+        put_stretch(sink, &mut line, counts, &stretch)?;
+    }
+    Ok(())
+}
+
+/// Puts the last line of a report.
+pub fn put_total<T: Sink>(sink: &mut T, counts: &Counts) -> Result<(), PutFault>
+    ensures { Puts (T.taken sink.old) (T.taken sink.new) (T.failures sink.old) (T.failures sink.new) (totals_line counts.now) result }
+{
+    let mut line = LineBuffer::new();
+    write_total(
+        &mut line,
+        counts.blocks,
+        counts.entries,
+        counts.inodes,
+        counts.findings,
+    );
+    put_all(sink, line.as_slice())
+}

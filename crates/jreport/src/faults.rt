@@ -1,0 +1,275 @@
+//! Why the program gives up, and the texts that say so.
+ghost use Rattle.std.specs.Prelude.{◌≡◌, ◌<◌, ◌≤◌, ◌++◌, [], length, take, OnOk, IfErr};
+ghost use Rattle.std.specs.Io.KnownBytes.{Appends};
+ghost use Rattle.flashbase.specs.Device.{next_count};
+ghost use Rattle.jreport.specs.Faults.{fault_line_of, fault_text_of, find_text, load_text, mount_text, scan_fault_text};
+
+use crate::line::LineBuffer;
+use crate::report_fault::ReportFault;
+use flashbase::{LoadFault, PutFault, Sink, put_all};
+use jmount::{FindFault, MountFault};
+use jscan::{ScanFault, StreamFault};
+use std::alloc::{AllocError, AllocFailed};
+
+/// Why the program gives up.
+#[derive(Clone, Copy, Debug, PartialEq, Eq)]
+pub enum ProgramFault<'a> {
+    /// A file was not read to its end.
+    Load(LoadFault),
+    /// The image was not scanned.
+    Scan(ScanFault),
+    /// The image does not mount.
+    Mount(MountFault),
+    /// The file of this name can't be opened.
+    File(&'a str),
+    /// The path names nothing.
+    Path(FindFault),
+    /// What the path names is no regular file.
+    NotRegular,
+    /// Standard output failed.
+    Output,
+    OutOfMemory,
+}
+
+impl From<LoadFault> for ProgramFault<'_> {
+    ghost use Rattle.jreport.specs.declared.faults.ProgramFault.TheVariants.{Load};
+
+    ghost from_gives = { λ fault e. e ≡ Load fault };
+
+    fn from(fault: LoadFault) -> Self {
+        ProgramFault::Load(fault)
+    }
+}
+
+impl From<ScanFault> for ProgramFault<'_> {
+    ghost use Rattle.jreport.specs.declared.faults.ProgramFault.TheVariants.{Scan};
+
+    ghost from_gives = { λ fault e. e ≡ Scan fault };
+
+    fn from(fault: ScanFault) -> Self {
+        ProgramFault::Scan(fault)
+    }
+}
+
+impl From<MountFault> for ProgramFault<'_> {
+    ghost use Rattle.jreport.specs.declared.faults.ProgramFault.TheVariants.{Mount};
+
+    ghost from_gives = { λ fault e. e ≡ Mount fault };
+
+    fn from(fault: MountFault) -> Self {
+        ProgramFault::Mount(fault)
+    }
+}
+
+impl From<FindFault> for ProgramFault<'_> {
+    ghost use Rattle.jreport.specs.declared.faults.ProgramFault.TheVariants.{Path};
+
+    ghost from_gives = { λ fault e. e ≡ Path fault };
+
+    fn from(fault: FindFault) -> Self {
+        ProgramFault::Path(fault)
+    }
+}
+
+impl From<AllocError> for ProgramFault<'_> {
+    ghost use Rattle.jreport.specs.declared.faults.ProgramFault.TheVariants.{OutOfMemory};
+
+    ghost from_gives = { λ _ e. e ≡ OutOfMemory };
+
+    fn from(_fault: AllocError) -> Self {
+        ProgramFault::OutOfMemory
+    }
+}
+
+impl<T: Drop> From<AllocFailed<T>> for ProgramFault<'_> {
+    ghost use Rattle.jreport.specs.declared.faults.ProgramFault.TheVariants.{OutOfMemory};
+
+    ghost from_gives = { λ _ e. e ≡ OutOfMemory };
+
+    fn from(_fault: AllocFailed<T>) -> Self {
+        ProgramFault::OutOfMemory
+    }
+}
+
+impl From<ReportFault> for ProgramFault<'_> {
+    ghost use Rattle.jreport.specs.Faults.{fault_of_report};
+
+    ghost from_gives = { λ fault e. e ≡ fault_of_report fault };
+
+    fn from(fault: ReportFault) -> Self {
+        match fault {
+            ReportFault::Scan(fault) => ProgramFault::Scan(fault),
+            ReportFault::Output => ProgramFault::Output,
+        }
+    }
+}
+
+impl From<StreamFault> for ProgramFault<'_> {
+    ghost use Rattle.jreport.specs.Faults.{fault_of_stream};
+
+    ghost from_gives = { λ fault e. e ≡ fault_of_stream fault };
+
+    fn from(fault: StreamFault) -> Self {
+        match fault {
+            StreamFault::BlockSize => ProgramFault::Scan(ScanFault::BlockSize),
+            StreamFault::Device => ProgramFault::Load(LoadFault::Device),
+            StreamFault::TooLarge => ProgramFault::Load(LoadFault::TooLarge),
+            StreamFault::OutOfMemory => ProgramFault::Load(LoadFault::OutOfMemory),
+        }
+    }
+}
+
+impl From<PutFault> for ProgramFault<'_> {
+    ghost use Rattle.jreport.specs.declared.faults.ProgramFault.TheVariants.{Output};
+
+    ghost from_gives = { λ _ e. e ≡ Output };
+
+    fn from(_fault: PutFault) -> Self {
+        ProgramFault::Output
+    }
+}
+
+#[tactic(auto, unfolding(crate::specs::Faults::load_text))]
+fn push_load(line: &mut LineBuffer, fault: LoadFault)
+    requires { line.old ≡ [] }
+    ensures { line.new ≡ load_text fault }
+{
+    line.push_text(match fault {
+        LoadFault::Device => b"L1 Device",
+        LoadFault::TooLarge => b"L2 TooLarge",
+        LoadFault::OutOfMemory => b"L3 OutOfMemory",
+    });
+}
+
+#[tactic(auto, unfolding(crate::specs::Faults::scan_fault_text))]
+fn push_scan(line: &mut LineBuffer, fault: ScanFault)
+    requires { line.old ≡ [] }
+    ensures { line.new ≡ scan_fault_text fault }
+{
+    match fault {
+        ScanFault::BlockSize => line.push_text(b"C1 BlockSize"),
+        ScanFault::TooLarge => line.push_text(b"C2 TooLarge"),
+        ScanFault::Incompatible { addr, nodetype } => {
+            line.push_text(b"C3 Incompatible at ");
+            line.push_hex(8, u64::from(addr));
+            line.push_text(b" type ");
+            line.push_hex(4, u64::from(nodetype));
+        }
+        ScanFault::Compressed { addr, compr } => {
+            line.push_text(b"C4 Compressed at ");
+            line.push_hex(8, u64::from(addr));
+            line.push_text(b" compr ");
+            line.push_decimal(u64::from(compr));
+        }
+        ScanFault::OutOfMemory => line.push_text(b"C5 OutOfMemory"),
+    }
+}
+
+/// The text of a mount's fault.
+#[tactic(auto, unfolding(crate::specs::Faults::mount_text))]
+pub fn push_mount(line: &mut LineBuffer, fault: MountFault)
+    requires { line.old ≡ [] }
+    ensures text { line.new ≡ mount_text fault }
+    ensures short { length line.new ≤ 64 }
+{
+    match fault {
+        MountFault::BlockSize => line.push_text(b"M1 BlockSize"),
+        MountFault::TooLarge => line.push_text(b"M2 TooLarge"),
+        MountFault::Incompatible { addr, nodetype } => {
+            line.push_text(b"M3 Incompatible at ");
+            line.push_hex(8, u64::from(addr));
+            line.push_text(b" type ");
+            line.push_hex(4, u64::from(nodetype));
+        }
+        MountFault::Compressed { addr, compr } => {
+            line.push_text(b"M4 Compressed at ");
+            line.push_hex(8, u64::from(addr));
+            line.push_text(b" compr ");
+            line.push_decimal(u64::from(compr));
+        }
+        MountFault::Clash { addr } => {
+            line.push_text(b"M5 Clash at ");
+            line.push_hex(8, u64::from(addr));
+        }
+        MountFault::RootKind => line.push_text(b"M6 RootKind"),
+        MountFault::OutOfMemory => line.push_text(b"M7 OutOfMemory"),
+    }
+}
+
+#[tactic(auto, unfolding(crate::specs::Faults::find_text))]
+fn push_find(line: &mut LineBuffer, fault: FindFault)
+    requires { line.old ≡ [] }
+    ensures { line.new ≡ find_text fault }
+{
+    line.push_text(match fault {
+        FindFault::BadPath => b"P3 Path BadPath",
+        FindFault::NotFound => b"P3 Path NotFound",
+        FindFault::NotDirectory => b"P3 Path NotDirectory",
+    });
+}
+
+/// What comes before the name in a fault's text, and the name.
+#[tactic(auto, unfolding(crate::specs::Faults::fault_text_of))]
+fn push_fault<'a>(line: &mut LineBuffer, fault: &ProgramFault<'a>) -> &'a str
+    requires { line.old ≡ [] }
+    ensures text { line.new ++ result.now ≡ fault_text_of fault.now }
+{
+    match *fault {
+        ProgramFault::Load(fault) => push_load(line, fault),
+        ProgramFault::Scan(fault) => push_scan(line, fault),
+        ProgramFault::Mount(fault) => push_mount(line, fault),
+        ProgramFault::File(name) => {
+            line.push_text(b"P1 File ");
+            return name;
+        }
+        ProgramFault::Path(fault) => push_find(line, fault),
+        ProgramFault::NotRegular => line.push_text(b"P4 NotRegular"),
+        ProgramFault::Output => line.push_text(b"P5 Output"),
+        ProgramFault::OutOfMemory => line.push_text(b"P6 OutOfMemory"),
+    }
+    ""
+}
+
+/// Puts one text after another.
+fn put_both<T: Sink>(sink: &mut T, first: &[u8], second: &[u8]) -> Result<(), PutFault>
+    ensures ok { OnOk result (Appends (T.taken sink.old) (T.taken sink.new) (first.now ++ second.now)) }
+    ensures none_failed { OnOk result (T.failures sink.new ≡ T.failures sink.old) }
+    ensures part { IfErr result (λ e. (e.taken < length (first.now ++ second.now))
+        × Appends (T.taken sink.old) (T.taken sink.new) (take e.taken (first.now ++ second.now))) }
+    ensures failed { IfErr result (λ _. T.failures sink.new ≡ next_count (T.failures sink.old)) }
+{
+    put_all(sink, first)?;
+    match put_all(sink, second) {
+        Ok(()) => Ok(()),
+        Err(PutFault { taken }) => Err(PutFault {
+            taken: first.len() + taken,
+        }),
+    }
+}
+
+/// Puts the text of a fault: its number and name, and then its parts. There is no line feed after it, and no memory is
+/// taken.
+pub fn fault_text<T: Sink>(fault: &ProgramFault<'_>, sink: &mut T) -> Result<(), PutFault>
+    ensures ok { OnOk result (Appends (T.taken sink.old) (T.taken sink.new) (fault_text_of fault.now)) }
+    ensures none_failed { OnOk result (T.failures sink.new ≡ T.failures sink.old) }
+
+    // On a fault of the sink exactly the first `taken` bytes of the text went out.
+    ensures part { IfErr result (λ e. (e.taken < length (fault_text_of fault.now))
+        × Appends (T.taken sink.old) (T.taken sink.new) (take e.taken (fault_text_of fault.now))) }
+    ensures failed { IfErr result (λ _. T.failures sink.new ≡ next_count (T.failures sink.old)) }
+{
+    let mut line = LineBuffer::new();
+    let name = push_fault(&mut line, fault);
+    put_both(sink, line.as_slice(), name.as_bytes())
+}
+
+/// Puts the line of a fault, as it stands on standard error.
+pub fn fault_line<T: Sink>(fault: &ProgramFault<'_>, sink: &mut T) -> Result<(), PutFault>
+    ensures ok { OnOk result (Appends (T.taken sink.old) (T.taken sink.new) (fault_line_of fault.now)) }
+    ensures failed { IfErr result (λ _. T.failures sink.new ≡ next_count (T.failures sink.old)) }
+{
+    put_all(sink, b"jffs2_image: ")?;
+    fault_text(fault, sink)?;
+    put_all(sink, b"\n")?;
+    Ok(())
+}

@@ -1,0 +1,47 @@
+//! What is told of an image: its report, the verdict on its mount, the listing of its tree, and the content of its files.
+//!
+//! It stands on `jscan` (the stretches of an image) and `jmount` (the file system that its nodes make). Its promise to the
+//! program: what goes to a sink is the text of the bytes that were read, and a fault says why no more of it did.
+//!
+//! `specs/Report.antt` says what the report of an image is, `specs/Verdict.antt` what is said of its mount,
+//! `specs/TreeText.antt` what the listing is, `specs/Content.antt` which bytes a path names, `specs/Faults.antt` how faults
+//! are spelled, and `specs/Loaded.antt` what the calls do that read a whole image. `report_rows` and `fault_rows` have worked
+//! examples.
+#![tactic(auto)]
+
+mod blocks;
+mod escapes;
+pub mod fault_rows;
+#[cfg(test)]
+mod fault_tests;
+mod faults;
+mod files;
+mod forms;
+mod line;
+mod listing;
+mod loaded;
+mod paths;
+#[cfg(test)]
+mod read_tests;
+mod report;
+mod report_fault;
+pub mod report_rows;
+#[cfg(test)]
+mod report_tests;
+mod stream;
+#[cfg(test)]
+mod stream_tests;
+mod tree;
+mod verdict;
+
+pub use crate::escapes::put_escaped;
+pub use crate::faults::{ProgramFault, fault_line, fault_text};
+pub use crate::files::content;
+pub use crate::listing::tree_lines;
+pub use crate::loaded::{check_lines, file_bytes, list_lines};
+pub use crate::paths::path_word;
+pub use crate::report::{Lines, put_report, scan_lines};
+pub use crate::report_fault::ReportFault;
+pub use crate::stream::stream_lines;
+pub use crate::tree::put_object;
+pub use crate::verdict::verdict_lines;

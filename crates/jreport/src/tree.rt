@@ -1,0 +1,172 @@
+//! What `ls` prints of an object of a mounted image.
+
+ghost use Rattle.std.specs.Prelude.{◌≡◌, ◌+◌, ◌%◌, ◌<◌, ◌≤◌, ◌++◌, [], Some, codes, decimal, length, map, option_map};
+ghost use Rattle.std.specs.List.{flat_map};
+ghost use Rattle.flashbase.specs.Device.{Puts};
+ghost use Rattle.jmount.specs.Tree as tree;
+ghost use Rattle.jmount.specs.Shown.{readable, shown};
+ghost use Rattle.jreport.specs.TreeText.{kind_letter, permissions, object_start, name_shown, path_shown, target_shown, tail_shown, object_line};
+
+use crate::escapes::put_escaped;
+use crate::line::{LineBuffer, MAX_LINE};
+use flashbase::{PutFault, Sink, put_all};
+use jmount::{Kind, Mounted, Object};
+
+/// A symlink with more bytes is shown as a long one.
+const GREATEST_TARGET: usize = 4095;
+
+/// The letter of a kind.
+fn letter(kind: Kind) -> &'static [u8]
+    ensures { result.now ≡ kind_letter kind }
+{
+    match kind {
+        Kind::Fifo => b"p",
+        Kind::CharacterDevice => b"c",
+        Kind::Directory => b"d",
+        Kind::BlockDevice => b"b",
+        Kind::Regular => b"-",
+        Kind::Symlink => b"l",
+        Kind::Socket => b"s",
+        Kind::Other => b"?",
+    }
+}
+
+/// The last octal digit of a number.
+fn octal_digit(n: u32) -> u8
+    ensures { result ≡ 48 + n % 8 }
+{
+    b'0' + (n % 8) as u8
+}
+
+/// The kind and the permissions.
+fn write_mode(line: &mut LineBuffer, kind: Kind, mode: u32)
+    requires { line.old ≡ [] }
+    ensures text { line.new ≡ kind_letter kind ++ codes " " ++ permissions mode }
+    ensures short { length line.new ≤ 6 }
+{
+    line.push_text(letter(kind));
+    line.push(b' ');
+    line.push_text(&[
+        octal_digit(mode / 512),
+        octal_digit(mode / 64),
+        octal_digit(mode / 8),
+        octal_digit(mode),
+    ]);
+}
+
+/// A space, and a number in decimal digits.
+fn push_number(line: &mut LineBuffer, n: u32)
+    requires { length line.old + 21 ≤ MAX_LINE }
+    ensures text { line.new ≡ line.old ++ codes " " ++ decimal n }
+    ensures grows { length line.new ≤ length line.old + 21 }
+{
+    line.push(b' ');
+    line.push_decimal(u64::from(n));
+}
+
+/// What stands before the path.
+#[tactic(auto, unfolding(crate::specs::TreeText::object_start), using(std::proofs::Common::append_assoc))]
+fn write_object(line: &mut LineBuffer, ino: u32, object: &Object)
+    requires { line.old ≡ [] }
+    ensures { line.new ≡ object_start ino object.now }
+{
+    write_mode(line, object.kind, object.mode);
+    push_number(line, u32::from(object.uid));
+    push_number(line, u32::from(object.gid));
+    push_number(line, object.size);
+    push_number(line, object.mtime);
+    push_number(line, ino);
+    line.push(b' ');
+}
+
+/// Puts a name of a path.
+fn put_name<T: Sink>(sink: &mut T, name: &[u8]) -> Result<(), PutFault>
+    ensures { Puts (T.taken sink.old) (T.taken sink.new) (T.failures sink.old) (T.failures sink.new)
+        (name_shown name.now) result }
+{
+    put_all(sink, b"/")?;
+    put_escaped(sink, name)
+}
+
+fn put_names<T: Sink>(sink: &mut T, path: &[&[u8]]) -> Result<(), PutFault>
+    ensures { Puts (T.taken sink.old) (T.taken sink.new) (T.failures sink.old) (T.failures sink.new)
+        (flat_map (λ name. name_shown name.now) path.now) result }
+{
+    for name in path {
+        put_name(sink, name)?;
+    }
+    Ok(())
+}
+
+/// Puts a path, from its names.
+fn put_path<T: Sink>(sink: &mut T, path: &[&[u8]]) -> Result<(), PutFault>
+    ensures { Puts (T.taken sink.old) (T.taken sink.new) (T.failures sink.old) (T.failures sink.new)
+        (path_shown (map (λ name. name.now) path.now)) result }
+{
+    if path.is_empty() {
+        return put_all(sink, b"/");
+    }
+    put_names(sink, path)
+}
+
+/// Puts where a symlink of this size leads.
+#[tactic(auto, unfolding(crate::specs::TreeText::target_shown))]
+fn put_target<T: Sink>(
+    mounted: &Mounted<'_>,
+    ino: u32,
+    size: u32,
+    sink: &mut T,
+) -> Result<(), PutFault>
+    requires { length (readable mounted.now.state ino) ≡ size }
+    ensures { Puts (T.taken sink.old) (T.taken sink.new) (T.failures sink.old) (T.failures sink.new)
+        (target_shown (readable mounted.now.state ino)) result }
+{
+    if size as usize > GREATEST_TARGET {
+        return put_all(sink, b" -> (long)");
+    }
+    let mut target = [0u8; GREATEST_TARGET];
+    let count = mounted.read_at(ino, 0, &mut target);
+    put_all(sink, b" -> ")?;
+    put_escaped(sink, &target[..count])
+}
+
+/// Puts what follows the path.
+fn put_tail<T: Sink>(
+    mounted: &Mounted<'_>,
+    ino: u32,
+    object: &Object,
+    again: bool,
+    sink: &mut T,
+) -> Result<(), PutFault>
+    requires { option_map shown (tree.object mounted.now.state ino) ≡ Some object.now }
+    ensures { Puts (T.taken sink.old) (T.taken sink.new) (T.failures sink.old) (T.failures sink.new)
+        (tail_shown (readable mounted.now.state ino) object.now.kind again) result }
+{
+    match object.kind {
+        Kind::Symlink => put_target(mounted, ino, object.size, sink),
+        _ if again => put_all(sink, b" (again)"),
+        _ => Ok(()),
+    }
+}
+
+/// Puts the line of an object. `again` says that it is a directory that was met before. Takes no memory, however long the
+/// path and the names are.
+pub fn put_object<T: Sink>(
+    mounted: &Mounted<'_>,
+    path: &[&[u8]],
+    ino: u32,
+    object: &Object,
+    again: bool,
+    sink: &mut T,
+) -> Result<(), PutFault>
+    requires { option_map shown (tree.object mounted.now.state ino) ≡ Some object.now }
+    ensures { Puts (T.taken sink.old) (T.taken sink.new) (T.failures sink.old) (T.failures sink.new)
+        (object_line mounted.now.state (map (λ name. name.now) path.now) ino object.now again) result }
+{
+    let mut line = LineBuffer::new();
+    write_object(&mut line, ino, object);
+    put_all(sink, line.as_slice())?;
+    put_path(sink, path)?;
+    put_tail(mounted, ino, object, again, sink)?;
+    put_all(sink, b"\n")
+}

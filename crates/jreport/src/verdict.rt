@@ -1,0 +1,122 @@
+//! The verdict of `check`: whether the image mounts, and which entries dangle.
+
+ghost use Rattle.std.specs.Prelude.{◌≡◌, [], ◌++◌, ◌∷◌};
+ghost use Rattle.std.specs.List.{flat_map};
+ghost use Rattle.flashbase.specs.Device.{Puts};
+ghost use Rattle.jreport.specs.Faults.{mount_text};
+ghost use Rattle.jreport.specs.Verdict.{dangling_line, dangling_start, ok_line, refused_line, PutsMounted, PutsVerdict};
+
+use crate::escapes::put_escaped;
+use crate::faults::{ProgramFault, push_mount};
+use crate::line::LineBuffer;
+use flashbase::{PutFault, Sink, put_all};
+use jmount::{MountFault, Mounted, mount};
+use jnode::Order;
+use jscan::Geometry;
+use std::alloc::Global;
+
+/// What comes before the name of a dangling entry.
+#[tactic(auto, unfolding(crate::specs::Verdict::dangling_start))]
+fn write_start(line: &mut LineBuffer, pino: u32, ino: u32)
+    requires { line.old ≡ [] }
+    ensures { line.new ≡ dangling_start pino ino }
+{
+    line.push_text(b"dangling pino ");
+    line.push_decimal(u64::from(pino));
+    line.push_text(b" ino ");
+    line.push_decimal(u64::from(ino));
+    line.push_text(b" name ");
+}
+
+/// Puts the line of a dangling entry.
+fn put_dangling<T: Sink>(sink: &mut T, pino: u32, name: &[u8], ino: u32) -> Result<(), PutFault>
+    ensures { Puts (T.taken sink.old) (T.taken sink.new) (T.failures sink.old) (T.failures sink.new)
+        (dangling_line (pino, name.now, ino)) result }
+{
+    let mut line = LineBuffer::new();
+    write_start(&mut line, pino, ino);
+    put_all(sink, line.as_slice())?;
+    put_escaped(sink, name)?;
+    put_all(sink, b"\n")
+}
+
+/// Puts the line of a mount that went well.
+#[tactic(auto, unfolding(crate::specs::Verdict::ok_line))]
+fn put_ok<T: Sink>(sink: &mut T, read_only: bool) -> Result<(), PutFault>
+    ensures { Puts (T.taken sink.old) (T.taken sink.new) (T.failures sink.old) (T.failures sink.new)
+        (ok_line read_only) result }
+{
+    if read_only {
+        put_all(sink, b"mount ok read-only\n")
+    } else {
+        put_all(sink, b"mount ok\n")
+    }
+}
+
+/// The text of a fault, and a line feed.
+fn write_fault(line: &mut LineBuffer, fault: MountFault)
+    requires { line.old ≡ [] }
+    ensures { line.new ≡ mount_text fault ++ 10 ∷ [] }
+{
+    push_mount(line, fault);
+    line.push(b'\n');
+}
+
+/// Puts the line of a mount that was refused.
+fn put_refused<T: Sink>(sink: &mut T, fault: MountFault) -> Result<(), PutFault>
+    ensures { Puts (T.taken sink.old) (T.taken sink.new) (T.failures sink.old) (T.failures sink.new)
+        (refused_line fault) result }
+{
+    let mut line = LineBuffer::new();
+    write_fault(&mut line, fault);
+    put_all(sink, b"mount refused ")?;
+    put_all(sink, line.as_slice())
+}
+
+/// Puts the lines of these dangling entries.
+fn put_all_dangling<T: Sink>(sink: &mut T, entries: &[(u32, &[u8], u32)]) -> Result<(), PutFault>
+    ensures { Puts (T.taken sink.old) (T.taken sink.new) (T.failures sink.old) (T.failures sink.new)
+        (flat_map (λ x. dangling_line (x.0, x.1.now, x.2)) entries.now) result }
+{
+    for (pino, name, ino) in entries {
+        put_dangling(sink, *pino, name, *ino)?;
+    }
+    Ok(())
+}
+
+/// Puts what a mount says, and answers whether an entry dangles.
+fn put_mounted<T: Sink>(
+    alloc: Global,
+    mounted: &Mounted<'_>,
+    sink: &mut T,
+) -> Result<bool, ProgramFault<'static>>
+    ensures { PutsMounted mounted.now (T.taken sink.old) (T.taken sink.new) (T.failures sink.old) (T.failures sink.new) result }
+{
+    let dangling = mounted.dangling(alloc)?;
+    put_ok(sink, mounted.read_only())?;
+    put_all_dangling(sink, &dangling)?;
+    Ok(!dangling.is_empty())
+}
+
+/// Puts the verdict on an image, and answers whether the mount was refused or an entry dangles.
+///
+/// `Mount(OutOfMemory)`: memory ran out in the mount, which is no verdict. `OutOfMemory`: for the list of the dangling
+/// entries.
+pub fn verdict_lines<E: Order, T: Sink>(
+    alloc: Global,
+    image: &[u8],
+    geometry: Geometry,
+    sink: &mut T,
+) -> Result<bool, ProgramFault<'static>>
+    ensures { PutsVerdict E.order geometry.block image.now (T.taken sink.old) (T.taken sink.new)
+        (T.failures sink.old) (T.failures sink.new) result }
+{
+    match mount::<E>(alloc, image, geometry) {
+        Ok(mounted) => put_mounted(alloc, &mounted, sink),
+        Err(MountFault::OutOfMemory) => Err(ProgramFault::Mount(MountFault::OutOfMemory)),
+        Err(fault) => {
+            put_refused(sink, fault)?;
+            Ok(true)
+        }
+    }
+}
