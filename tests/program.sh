@@ -187,6 +187,8 @@ done
 run ls none; want 1 "" "jffs2_image: P1 File none"
 run ls folder; want 1 "" "jffs2_image: L1 Device"
 run ls larger; want 1 "" "jffs2_image: L2 TooLarge"
+line="the tree of an image of 256 MiB in 64 MiB of memory"
+(ulimit -v 65536; "$program" ls greatest > out 2> err); got=$?; want 1 "" "jffs2_image: L3 OutOfMemory"
 for words in "ls --help" "ls -h" "help ls"; do
     run $words; want 0 "*Usage: jffs2_image ls *<IMAGE>*--block <N>*65536*KIND MODE UID GID SIZE MTIME INO PATH*Exit status:*" ""
 done
