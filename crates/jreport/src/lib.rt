@@ -36,6 +36,8 @@ mod stream_tests;
 mod tree;
 pub mod tree_laws;
 mod verdict;
+#[cfg(test)]
+mod verdict_tests;
 
 pub use crate::escapes::put_escaped;
 pub use crate::faults::{ProgramFault, fault_line, fault_text};
