@@ -2,7 +2,7 @@
 """Makes images of folders for the benchmarks: python3 bench/trees.py FOLDER
 
   tree.img   64 MiB: 16,000 files of about 4 KiB in the folders of a root file system
-  large.img  64 MiB: one file of 60 MiB, /usr/lib/large
+  large.img  64 MiB: a file of 58 MiB, /usr/lib/large, and one of 4 MiB, /usr/lib/small
 
 By mkfs.jffs2 of mtd-utils, without compression, little order, erase blocks of 65,536 bytes; ends with status 77 where
 that is missing.
@@ -38,7 +38,8 @@ def make_tree(root):
 
 def make_large(root):
     os.makedirs(os.path.join(root, "usr/lib"))
-    write(root, "usr/lib/large", random.Random(2).randbytes(60 << 20))
+    write(root, "usr/lib/large", random.Random(2).randbytes(58 << 20))
+    write(root, "usr/lib/small", random.Random(3).randbytes(4 << 20))
 
 
 def main():

@@ -16,7 +16,7 @@ def test(what, faults):
     """Counts a test, and tells its first faults."""
     COUNTS[1 if faults else 0] += 1
     for fault in faults[:8]:
-        print(f"FAILED: {what}: {fault}", flush=True)
+        print(f"FAILED: {what}: {fault}"[:400], flush=True)
 
 
 def run(*words):
@@ -49,7 +49,7 @@ def compare(what, words, image, folder, squash=tree.Squash(), status=0, verdict=
 def compare_files(what, words, image, folder):
     for path, _, names in sorted(os.walk(folder)):
         # Of the many small files of one folder some serve.
-        for name in sorted(names)[:40]:
+        for name in sorted(names)[:20]:
             file = os.path.join(path, name)
             if not os.path.isfile(file) or os.path.islink(file):
                 continue

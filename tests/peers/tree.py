@@ -7,7 +7,7 @@ import stat
 SIZES = (0, 1, 2, 3, 4, 5, 4095, 4096, 4097, 8191, 8192, 8193, 65536, 100000)
 NAMES = (b"two words", b" ", b"back\\slash", b"->", b"a -> b", b"\\x41", b"tab\tfeed\nreturn\r", b"\x01\x1f\x7f\x80\xff",
          "größe.txt".encode(), "名前".encode(), b"-rf", b"...", b"*?[]", b"%s%n", b"y" * 254)
-TARGETS = (b"sizes/4096", b"/etc/pass wd", b"../no\\where", b"missing", b"/", b"\xff\n", b"t" * 4000)
+TARGETS = (b"sizes/4096", b"/etc/pass wd", b"../no\\where", b"missing", b"/", b"\xff\n", b"t" * 254)
 TIMES = (0, 1, 999999999, 2**31 - 1, 2**31, 2**32 - 1)
 OWNERS = ((0, 0), (1000, 100), (65534, 65535), (65536 + 7, 3 * 65536 + 8))
 MODES = (0o644, 0o000, 0o777, 0o4755, 0o2755, 0o1777, 0o7777, 0o400)
