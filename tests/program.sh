@@ -4,6 +4,8 @@
 set -u
 program=$(realpath "${1:-$(dirname "$0")/../crates/jffs2_image/out/jffs2_image}")
 samples=$(realpath "$(dirname "$0")/../crates/jffs2_image/data")
+manual=$(realpath "$(dirname "$0")/../docs/jffs2_image.1")
+format=$(realpath "$(dirname "$0")/../docs/FORMAT.md")
 folder=$(mktemp -d)
 trap 'rm -rf "$folder"' EXIT
 cd "$folder" || exit 1
@@ -11,6 +13,17 @@ cd "$folder" || exit 1
 head -c 4096 /dev/zero | tr '\0' '\377' > block
 head -c 4097 /dev/zero | tr '\0' '\377' > longer
 mkdir folder
+# The examples of docs/FORMAT.md: an entry of the root that names inode 2 `a`, and the node of inode 2, an empty file.
+bytes() {
+    for byte in "$@"; do printf %b "\\x$byte"; done
+}
+{
+    bytes 85 19 01 e0 29 00 00 00 6d a6 2f d7 01 00 00 00 01 00 00 00 02 00 00 00
+    bytes 00 00 00 00 01 08 00 00 95 02 9b 91 ce 51 b5 3a 61 ff ff ff
+    bytes 85 19 02 e0 44 00 00 00 1d fb f7 98 02 00 00 00 01 00 00 00 a4 81 00 00
+    bytes 00 00 00 00 00 00 00 00 00 00 00 00 00 00 00 00 00 00 00 00 00 00 00 00
+    bytes 00 00 00 00 00 00 00 00 00 00 00 00 00 00 00 00 14 d0 c4 71
+} > file
 passed=0
 failed=0
 
@@ -34,6 +47,14 @@ want() {
     fi
 }
 
+# told WORD PATTERN: the manual page has a line of this pattern.
+told() {
+    grep -qE -- "$2" "$manual"
+    local missing=$?
+    count $missing
+    [[ $missing == 0 ]] || echo "FAILED: the manual page tells of $1"
+}
+
 run() {
     line="jffs2_image $*"
     "$program" "$@" > out 2> err < /dev/null
@@ -46,7 +67,12 @@ wrong="error: *Usage: *--help*"
 # Words
 run; want 2 "" "error: *Usage: jffs2_image <COMMAND>*"
 run paint; want 2 "" "error: unrecognized subcommand 'paint'*Usage: *"
-run ls block; want 2 "" "$wrong"
+run ls; want 2 "" "error: *<IMAGE>*Usage: *"
+run ls block /; want 2 "" "error: unexpected argument '/' found*Usage: *"
+run ls --scan block; want 2 "" "error: unexpected argument '--scan' found*Usage: *"
+run ls block --block; want 2 "" "error: *--block <N>*"
+run ls --block=4k block; want 2 "" "error: invalid value '4k' for '--block <N>': *--help*"
+run ls --endian=middle block; want 2 "" "error: invalid value 'middle' for '--endian <ORDER>': *--help*"
 run check; want 2 "" "error: *<IMAGE>*Usage: *"
 run check --scan; want 2 "" "error: *<IMAGE>*Usage: *"
 run check --scan block block; want 2 "" "$wrong"
@@ -143,13 +169,51 @@ for words in "cat --help" "cat -h" "help cat"; do
     run $words; want 0 "*Usage: jffs2_image cat *<IMAGE> <PATH>*--block <N>*65536*Exit status:*" ""
 done
 
+# Trees
+root="d 0755 0 0 0 0 1 /"
+run ls block; want 0 "$root" ""
+run ls empty; want 0 "$root" ""
+run ls --endian big empty; want 0 "$root" ""
+run ls --block 4096 longer; want 0 "$root" ""
+run ls --block 4096 "$sample"; want 0 "$root" ""
+run ls --block 4096 --endian big "$sample"; want 0 "$root" ""
+run ls file; want 0 "$root"$'\n- 0644 0 0 0 0 2 /a' ""
+run ls --endian big file; want 0 "$root" ""
+run cat file /a; want 0 "" ""
+run check file; want 0 "*total blocks 1 entries 1 inodes 1 findings 0*mount ok" ""
+for value in 0 4095 4097 4194308; do
+    run ls --block $value block; want 1 "" "jffs2_image: M1 BlockSize"
+done
+run ls none; want 1 "" "jffs2_image: P1 File none"
+run ls folder; want 1 "" "jffs2_image: L1 Device"
+run ls larger; want 1 "" "jffs2_image: L2 TooLarge"
+line="the tree of an image of 256 MiB in 64 MiB of memory"
+(ulimit -v 65536; "$program" ls greatest > out 2> err); got=$?; want 1 "" "jffs2_image: L3 OutOfMemory"
+for words in "ls --help" "ls -h" "help ls"; do
+    run $words; want 0 "*Usage: jffs2_image ls *<IMAGE>*--block <N>*65536*KIND MODE UID GID SIZE MTIME INO PATH*Exit status:*" ""
+done
+
+# The manual page has the commands and options of the help, and the faults.
+for words in --help "check --help" "ls --help" "cat --help"; do
+    run $words
+    for word in $(sed -n '/^Commands:/,/^$/s/^  \([a-z]*\) .*/\1/p' out); do
+        told "$word" "^\.It Cm $word$"
+    done
+    for word in $(sed -n '/^Options:/,/^$/p' out | grep -oE -- '--[a-z]+'); do
+        told "$word" "^\.It Fl (h , Fl )?${word#-}( |$)"
+    done
+done
+while read -r fault; do
+    told "$fault" "^\.It $fault"
+done < <(grep -oE '`[CLMP][0-9] [A-Z][A-Za-z]+' "$format" | tr -d '`' | sort -u)
+
 # Standard output that fails
 line="standard output is /dev/full"
-for words in "--help" "check --help" "check --scan empty" "check empty"; do
+for words in "--help" "check --help" "ls --help" "check --scan empty" "check empty" "ls empty"; do
     "$program" $words > /dev/full 2> err; got=$?; : > out; want 1 "" "jffs2_image: P5 Output"
 done
 line="standard output is closed"
-for words in "--help" "check --scan empty"; do
+for words in "--help" "check --scan empty" "ls empty"; do
     "$program" $words >&- 2> err; got=$?; : > out; want 1 "" "jffs2_image: P5 Output"
 done
 line="standard error is closed"

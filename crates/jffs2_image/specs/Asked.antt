@@ -34,12 +34,20 @@ number_in id rows = option_and_then number_of (first_of id rows)
 pub data Asked : Type 0 where
   ScanAsked : Options → Text → Asked
   CheckAsked : Options → Text → Asked
+  TreeAsked : Options → Text → Asked
   ContentAsked : Options → Text → Text → Asked
 
 abbrev pub view : Request → Asked
 view (request.Scan options image) = ScanAsked options image.now
 view (request.Check options image) = CheckAsked options image.now
+view (request.Tree options image) = TreeAsked options image.now
 view (request.Content options image path) = ContentAsked options image.now path.now
+
+abbrev pub options_of : Request → Options
+options_of (request.Scan options image) = options
+options_of (request.Check options image) = options
+options_of (request.Tree options image) = options
+options_of (request.Content options image path) = options
 
 -- ---- by the rows of the subcommand's matches
 
@@ -66,6 +74,9 @@ abbrev pub check_in : List Row → Option Asked
 check_in rows = image_in rows >>= λ p.
     Some (if is_given (first_of (codes "scan") rows) then ScanAsked p.0 p.1 else CheckAsked p.0 p.1)
 
+abbrev pub ls_in : List Row → Option Asked
+ls_in rows = image_in rows >>= λ p. Some (TreeAsked p.0 p.1)
+
 abbrev pub cat_in : List Row → Option Asked
 cat_in rows = image_in rows >>= λ p. first_of (codes "PATH") rows >>= λ path. Some (ContentAsked p.0 p.1 path)
 
@@ -73,6 +84,7 @@ cat_in rows = image_in rows >>= λ p. first_of (codes "PATH") rows >>= λ path. 
 unfoldable pub asked : Text → List Row → Option Asked
 asked name rows =
     if bytes_eq name (codes "check") then check_in rows
+    else if bytes_eq name (codes "ls") then ls_in rows
     else if bytes_eq name (codes "cat") then cat_in rows
     else None
 

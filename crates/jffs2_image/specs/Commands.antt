@@ -24,6 +24,10 @@ plain name = with_rule (with_rule (new_app name) (option_or (codes "block") (cod
 abbrev pub check_app : App
 check_app = with_rule (with_rule (plain (codes "check")) (flag (codes "scan"))) (word (codes "IMAGE"))
 
+-- `ls [--block N] [--endian ORDER] IMAGE`
+abbrev pub ls_app : App
+ls_app = with_rule (plain (codes "ls")) (word (codes "IMAGE"))
+
 -- `cat [--block N] [--endian ORDER] IMAGE PATH`
 abbrev pub cat_app : App
 cat_app = with_rule (with_rule (plain (codes "cat")) (word (codes "IMAGE"))) (word (codes "PATH"))
@@ -33,4 +37,4 @@ abbrev pub bare : App
 bare = let app = new_app (codes "jffs2_image") in record app { top = record app.top { subcommand_required = true } }
 
 unfoldable pub program : App
-program = with_subcommand (with_subcommand bare check_app.top) cat_app.top
+program = with_subcommand (with_subcommand (with_subcommand bare check_app.top) ls_app.top) cat_app.top

@@ -1,7 +1,7 @@
 //! What the matches of the program's command line ask for.
 ghost use Rattle.std.specs.Prelude.{◌≡◌, option_map};
 ghost use Rattle.clap.specs.Words.{found_of, rows_of, first_of};
-ghost use Rattle.jffs2_image.specs.Asked.{number_of, endian_of, number_in, options_in, image_in, is_given, check_in, cat_in, asked, view};
+ghost use Rattle.jffs2_image.specs.Asked.{number_of, endian_of, number_in, options_in, image_in, is_given, check_in, ls_in, cat_in, asked, options_of, view};
 
 use clap::ArgMatches;
 use jnode::Endian;
@@ -27,12 +27,31 @@ pub enum Request<'a> {
         options: Options,
         image: &'a str,
     },
+    /// `ls`: a line for each object of the tree.
+    Tree {
+        options: Options,
+        image: &'a str,
+    },
     /// `cat`: the content of a file.
     Content {
         options: Options,
         image: &'a str,
         path: &'a str,
     },
+}
+
+impl Request<'_> {
+    /// What each subcommand is given.
+    pub fn options(&self) -> Options
+        ensures { result ≡ options_of self.now }
+    {
+        match *self {
+            Request::Scan { options, .. }
+            | Request::Check { options, .. }
+            | Request::Tree { options, .. }
+            | Request::Content { options, .. } => options,
+        }
+    }
 }
 
 /// A number below 2^32 in decimal digits.
@@ -121,6 +140,13 @@ fn check_at<'a>(found: &ArgMatches<'a>) -> Option<Request<'a>>
     }
 }
 
+fn ls_at<'a>(found: &ArgMatches<'a>) -> Option<Request<'a>>
+    ensures { option_map view result ≡ ls_in (rows_of (found_of found.now)) }
+{
+    let (options, image) = image_at(found)?;
+    Some(Request::Tree { options, image })
+}
+
 fn cat_at<'a>(found: &ArgMatches<'a>) -> Option<Request<'a>>
     ensures { option_map view result ≡ cat_in (rows_of (found_of found.now)) }
 {
@@ -140,6 +166,7 @@ pub fn asked_of<'a>(name: &str, found: &ArgMatches<'a>) -> Option<Request<'a>>
 {
     match name {
         "check" => check_at(found),
+        "ls" => ls_at(found),
         "cat" => cat_at(found),
         _ => None,
     }

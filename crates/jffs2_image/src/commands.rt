@@ -2,15 +2,17 @@
 ghost use Rattle.std.specs.Prelude.{◌≡◌, false, IfOk};
 ghost use Rattle.clap.specs.Words.{app_of, new_app, rule_of};
 ghost use Rattle.clap.specs.declared.builder.Command.TheViews.{out-Command as fields_of};
-ghost use Rattle.jffs2_image.specs.Commands.{word, option_or, flag, plain, check_app, cat_app, bare, program};
+ghost use Rattle.jffs2_image.specs.Commands.{word, option_or, flag, plain, check_app, ls_app, cat_app, bare, program};
 
 use clap::{Arg, ArgAction, Command};
 use std::alloc::{AllocError, Global};
 
-const PROGRAM: &str = "Reads flash images of JFFS2, a file system that is a log of nodes.";
+const PROGRAM: &str = "\
+Looks into flash images of JFFS2, a file system that is a log of nodes";
 
-const CHECK: &str = "\
-Print the tiles of an image, what is wrong with them, and whether the image mounts";
+const CHECK: &str = "Print what stands in an image, what is wrong with it, and whether it mounts";
+
+const LIST: &str = "Print a line for each object of the tree";
 
 const CAT: &str = "Write the content of a regular file to standard output";
 
@@ -21,8 +23,13 @@ const PATH: &str =
 
 /// What stands at the end of the program's help.
 const EPILOGUE: &str = "\
+Each command takes --block, the size of an erase block, and --endian, the byte order.
+The image is only read. 'jffs2_image help check' tells what check prints, and so for the
+others.
+
 Examples:
   jffs2_image check flash.img
+  jffs2_image ls --block 131072 flash.img
   jffs2_image cat --endian big flash.img /etc/passwd
 
 Exit status:
@@ -32,8 +39,17 @@ Exit status:
   3  check found something";
 
 const CHECK_EPILOGUE: &str = "\
-Example:
-  jffs2_image check --scan --endian little --block 65536 flash.img
+For each block it prints 'block' and its number, and then a line for each node and for
+each longest run of erased flash or dirt, with its address, kind and number of bytes.
+The last line has the totals. Findings are damaged, compressed, attribute, read-only and
+incompatible nodes, and runs of dirt or of words in the other byte order.
+
+Then comes the verdict, unless --scan is given: 'mount ok', 'mount ok read-only', or
+'mount refused' and why. After an ok, 'dangling' tells of a name without an object.
+
+Examples:
+  jffs2_image check flash.img
+  jffs2_image check --scan --endian big --block 131072 flash.img
 
 Exit status:
   0  done, and nothing was found
@@ -41,7 +57,36 @@ Exit status:
   2  the command line is wrong
   3  a finding, an image that does not mount, or a name without an object";
 
+const LIST_EPILOGUE: &str = "\
+The root is the first line. A directory stands before what lies in it, and names are in
+byte order. A line is
+
+  KIND MODE UID GID SIZE MTIME INO PATH
+
+  KIND   - regular file, d directory, l symlink, c character device, b block device,
+         p FIFO, s socket, ? anything else
+  MODE   the low 12 bits of the mode, as four octal digits
+  SIZE   bytes
+  MTIME  seconds since 1970
+  INO    inode number
+  PATH   from the root; a byte of a name that is no visible ASCII character, and
+         backslash and slash, are \\x and two hexadecimal digits
+
+' -> TARGET' follows the path of a symlink, escaped likewise, or ' -> (long)' where the
+target has more than 4095 bytes. ' (again)' follows a directory that was met before.
+
+Example:
+  jffs2_image ls --endian big flash.img
+
+Exit status:
+  0  done
+  1  a fault, which standard error names
+  2  the command line is wrong";
+
 const CAT_EPILOGUE: &str = "\
+The path begins with / and leads from the root by names, through directories alone:
+symlinks are not followed. A path can be given as ls prints it.
+
 Example:
   jffs2_image cat --endian big flash.img /etc/passwd
 
@@ -137,6 +182,15 @@ fn make_check<'a>(alloc: Global) -> Result<Command<'a>, AllocError>
     Ok(command)
 }
 
+fn make_ls<'a>(alloc: Global) -> Result<Command<'a>, AllocError>
+    ensures app { IfOk result (λ c. app_of c ≡ ls_app) }
+    ensures local { IfOk result (λ c. (fields_of c).has_globals ≡ false) }
+{
+    let image = make_word(alloc, "IMAGE", IMAGE);
+    let command = make_plain(alloc, "ls", LIST, LIST_EPILOGUE)?.arg(image)?;
+    Ok(command)
+}
+
 fn make_cat<'a>(alloc: Global) -> Result<Command<'a>, AllocError>
     ensures app { IfOk result (λ c. app_of c ≡ cat_app) }
     ensures local { IfOk result (λ c. (fields_of c).has_globals ≡ false) }
@@ -164,6 +218,7 @@ pub fn make_program<'a>(alloc: Global) -> Result<Command<'a>, AllocError>
 {
     let command = make_bare(alloc)
         .subcommand(make_check(alloc)?)?
+        .subcommand(make_ls(alloc)?)?
         .subcommand(make_cat(alloc)?)?;
     Ok(command)
 }

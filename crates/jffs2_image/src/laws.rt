@@ -1,9 +1,9 @@
 //! Worked rows of the definitions that the contracts cite.
 ghost use Rattle.std.specs.Prelude.{◌≡◌, [], ◌∷◌, Some, None, codes};
 ghost use Rattle.clap.specs.Words.{fault_of};
-ghost use Rattle.clap.specs.declared.error.ErrorKind.TheVariants.{DisplayHelp, MissingSubcommand, MissingRequiredArgument};
+ghost use Rattle.clap.specs.declared.error.ErrorKind.TheVariants.{DisplayHelp, MissingSubcommand, MissingRequiredArgument, UnknownArgument};
 ghost use Rattle.jnode.specs.declared.order.Endian.TheVariants.{Little, Big};
-ghost use Rattle.jffs2_image.specs.Asked.{ScanAsked, CheckAsked, ContentAsked, asked_for, endian_of, number_of};
+ghost use Rattle.jffs2_image.specs.Asked.{ScanAsked, CheckAsked, TreeAsked, ContentAsked, asked_for, endian_of, number_of};
 ghost use Rattle.jffs2_image.specs.Commands.{program};
 
 /// The values of options.
@@ -25,6 +25,8 @@ pub fn known_requests()
     ensures given { asked_for (codes "jffs2_image" ∷ codes "check" ∷ codes "--block" ∷ codes "4096" ∷ codes "--endian=big"
         ∷ codes "a" ∷ [])
         ≡ Some (CheckAsked (record { geometry = record { block = 4096 }; endian = Big }) (codes "a")) }
+    ensures tree { asked_for (codes "jffs2_image" ∷ codes "ls" ∷ codes "a" ∷ codes "--block=8192" ∷ [])
+        ≡ Some (TreeAsked (record { geometry = record { block = 8192 }; endian = Little }) (codes "a")) }
     ensures content { asked_for (codes "jffs2_image" ∷ codes "cat" ∷ codes "a" ∷ codes "/b" ∷ [])
         ≡ Some (ContentAsked (record { geometry = record { block = 65536 }; endian = Little }) (codes "a") (codes "/b")) }
 {}
@@ -33,6 +35,8 @@ pub fn known_requests()
 pub fn known_refusals()
     ensures help { fault_of program (codes "jffs2_image" ∷ codes "check" ∷ codes "--help" ∷ []) ≡ DisplayHelp ∷ [] }
     ensures no_words { fault_of program [] ≡ MissingSubcommand ∷ [] }
+    ensures no_image { fault_of program (codes "jffs2_image" ∷ codes "ls" ∷ []) ≡ MissingRequiredArgument ∷ [] }
+    ensures not_of_ls { fault_of program (codes "jffs2_image" ∷ codes "ls" ∷ codes "--scan" ∷ codes "a" ∷ []) ≡ UnknownArgument ∷ [] }
     ensures no_path { fault_of program (codes "jffs2_image" ∷ codes "cat" ∷ codes "a" ∷ []) ≡ MissingRequiredArgument ∷ [] }
     ensures unreadable { asked_for (codes "jffs2_image" ∷ codes "check" ∷ codes "--block=x" ∷ codes "--scan" ∷ codes "a" ∷ []) ≡ None }
 {}

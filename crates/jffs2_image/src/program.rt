@@ -3,13 +3,15 @@ ghost use Rattle.std.specs.Prelude.{◌≡◌, ◌⊎◌};
 ghost use Rattle.std.specs.Io.KnownBytes.{Appends};
 ghost use Rattle.jreport.specs.Faults.{TellsFault, fault_line_of};
 
-use crate::asked::{Options, Request};
+use crate::asked::Request;
 use crate::outcome::Outcome;
 use crate::request::{RequestFault, request};
 use byteorder::{BigEndian, LittleEndian};
 use flashbase::{FromReader, FromWriter, Sink, put_all};
-use jnode::Endian;
-use jreport::{ProgramFault, check_lines, fault_line, file_bytes, path_word, stream_lines};
+use jnode::{Endian, Order};
+use jreport::{
+    ProgramFault, check_lines, fault_line, file_bytes, list_lines, path_word, stream_lines,
+};
 use std::fs;
 use std::io::{BufWriter, Write};
 use std::rt::Files;
@@ -31,71 +33,39 @@ impl<'a> From<ProgramFault<'a>> for Stop<'a> {
     }
 }
 
-/// Reports the image in a file, block after block, and answers the number of findings.
-fn scan_file<'a, R: Files + AllocGlobal, T: Sink>(
+fn open<'a, R: Files>(rt: &R, image: &'a str) -> Result<FromReader<R::File>, ProgramFault<'a>> {
+    match fs::open(rt, image) {
+        Ok(file) => Ok(FromReader::new(file)),
+        Err(_) => Err(ProgramFault::File(image)),
+    }
+}
+
+/// Meets the request in the byte order `E`, and answers how much was found.
+fn meet_in<'a, E: Order, R: Files + AllocGlobal, T: Sink>(
     rt: &R,
-    options: Options,
-    image: &'a str,
+    request: Request<'a>,
     sink: &mut T,
 ) -> Result<u64, ProgramFault<'a>> {
-    let Ok(file) = fs::open(rt, image) else {
-        return Err(ProgramFault::File(image));
-    };
-    let source = FromReader::new(file);
-    let geometry = options.geometry;
-    match options.endian {
-        Endian::Little => stream_lines::<LittleEndian, _, _>(rt.alloc(), source, geometry, sink),
-        Endian::Big => stream_lines::<BigEndian, _, _>(rt.alloc(), source, geometry, sink),
-    }
-}
-
-/// Reports the image in a file, with the verdict on its mount. Answers whether anything was found.
-fn check_file<'a, R: Files + AllocGlobal, T: Sink>(
-    rt: &R,
-    options: Options,
-    image: &'a str,
-    sink: &mut T,
-) -> Result<bool, ProgramFault<'a>> {
-    let Ok(file) = fs::open(rt, image) else {
-        return Err(ProgramFault::File(image));
-    };
-    let mut source = FromReader::new(file);
-    let geometry = options.geometry;
-    match options.endian {
-        Endian::Little => check_lines::<LittleEndian, _, _>(
-            rt.alloc(),
-            &mut source,
-            geometry,
-            sink,
-        ),
-        Endian::Big => check_lines::<BigEndian, _, _>(rt.alloc(), &mut source, geometry, sink),
-    }
-}
-
-/// Writes the content of a file in the image. The word of the path is judged before the image is opened.
-fn write_file<'a, R: Files + AllocGlobal, T: Sink>(
-    rt: &R,
-    options: Options,
-    image: &'a str,
-    path: &str,
-    sink: &mut T,
-) -> Result<(), ProgramFault<'a>> {
     let alloc = rt.alloc();
-    let path = path_word(alloc, path.as_bytes())?;
-    let Ok(file) = fs::open(rt, image) else {
-        return Err(ProgramFault::File(image));
-    };
-    let mut source = FromReader::new(file);
-    let geometry = options.geometry;
-    match options.endian {
-        Endian::Little => file_bytes::<LittleEndian, _, _>(
-            alloc,
-            &mut source,
-            geometry,
-            &path,
-            sink,
-        ),
-        Endian::Big => file_bytes::<BigEndian, _, _>(alloc, &mut source, geometry, &path, sink),
+    let geometry = request.options().geometry;
+    match request {
+        Request::Scan { image, .. } => {
+            stream_lines::<E, _, _>(alloc, open(rt, image)?, geometry, sink)
+        }
+        Request::Check { image, .. } => {
+            let found = check_lines::<E, _, _>(alloc, &mut open(rt, image)?, geometry, sink)?;
+            Ok(u64::from(found))
+        }
+        Request::Tree { image, .. } => {
+            list_lines::<E, _, _>(alloc, &mut open(rt, image)?, geometry, sink)?;
+            Ok(0)
+        }
+        Request::Content { image, path, .. } => {
+            // The word of the path is judged before the image is opened.
+            let path = path_word(alloc, path.as_bytes())?;
+            file_bytes::<E, _, _>(alloc, &mut open(rt, image)?, geometry, &path, sink)?;
+            Ok(0)
+        }
     }
 }
 
@@ -105,20 +75,9 @@ fn meet<'a, R: Files + AllocGlobal, T: Sink>(
     request: Request<'a>,
     sink: &mut T,
 ) -> Result<u64, ProgramFault<'a>> {
-    match request {
-        Request::Scan { options, image } => scan_file(rt, options, image, sink),
-        Request::Check { options, image } => {
-            let found = check_file(rt, options, image, sink)?;
-            Ok(u64::from(found))
-        }
-        Request::Content {
-            options,
-            image,
-            path,
-        } => {
-            write_file(rt, options, image, path, sink)?;
-            Ok(0)
-        }
+    match request.options().endian {
+        Endian::Little => meet_in::<LittleEndian, _, _>(rt, request, sink),
+        Endian::Big => meet_in::<BigEndian, _, _>(rt, request, sink),
     }
 }
 

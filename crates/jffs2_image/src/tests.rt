@@ -70,6 +70,15 @@ fn words_that_ask_for_more(rt: HostRuntime) {
     assert!(rt; matches!(answer, Ok(request) if request == check));
     let answer = request(
         rt.alloc(),
+        &["t", "ls", "a.img", "--block", "8192", "--endian=big"],
+    );
+    let tree = Request::Tree {
+        options: options(8192, Endian::Big),
+        image,
+    };
+    assert!(rt; matches!(answer, Ok(request) if request == tree));
+    let answer = request(
+        rt.alloc(),
         &["t", "cat", "--endian", "big", "--block=4096", "a.img", "/b"],
     );
     let content = Request::Content {
@@ -117,9 +126,16 @@ fn words_that_are_wrong(rt: HostRuntime) {
     let rows = [
         (["t"].as_slice(), "requires a subcommand"),
         (["t", "paint"].as_slice(), "unrecognized subcommand 'paint'"),
+        (["t", "ls"].as_slice(), "<IMAGE>"),
+        (["t", "ls", "a.img", "/a"].as_slice(), "'/a'"),
+        (["t", "ls", "--scan", "a.img"].as_slice(), "--scan"),
         (
-            ["t", "ls", "a.img"].as_slice(),
-            "unrecognized subcommand 'ls'",
+            ["t", "ls", "--block=many", "a.img"].as_slice(),
+            "'many' for '--block <N>'",
+        ),
+        (
+            ["t", "ls", "a.img", "--endian="].as_slice(),
+            "'' for '--endian <ORDER>'",
         ),
         (["t", "check"].as_slice(), "<IMAGE>"),
         (["t", "cat"].as_slice(), "<IMAGE>"),
@@ -189,6 +205,14 @@ fn words_that_ask_for_help(rt: HostRuntime) {
         (
             ["t", "help", "check"].as_slice(),
             "Usage: t check [OPTIONS] <IMAGE>",
+        ),
+        (
+            ["t", "ls", "--help"].as_slice(),
+            "Usage: t ls [OPTIONS] <IMAGE>",
+        ),
+        (
+            ["t", "help", "ls"].as_slice(),
+            "KIND MODE UID GID SIZE MTIME INO PATH",
         ),
         (
             ["t", "cat", "--help"].as_slice(),

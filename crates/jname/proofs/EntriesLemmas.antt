@@ -1,5 +1,5 @@
 -- An entry is in the list exactly where its content is held at its directory, name and version.
-use Rattle.std.proofs.Common.{◌≡◌, ℕ, List, [], map, Option, Some, None, refl, ap, sym, ◌∙◌, subst}
+use Rattle.std.proofs.Common.{◌≡◌, ℕ, List, [], map, Option, Some, None, refl, ap, sym, ◌∙◌, subst, ⊎_elim}
 use Rattle.std.specs.Prelude.{Contains}
 use Rattle.std.specs.List.{flat_map}
 use Rattle.std.specs.List.Sorted.{IsStrictlySortedBy}
@@ -20,11 +20,12 @@ use Rattle.jnode.specs.declared.node.Dirent.{Dirent}
 use Rattle.jname.specs.declared.versions.Content.{Content}
 use Rattle.jname.specs.declared.versions.Versions.{Versions}
 use Rattle.jname.specs.declared.directory.Directory.{Directory}
-use Rattle.jname.specs.Versions.{version_at}
+use Rattle.jname.specs.Versions.{contents_of, version_at}
 use Rattle.jname.specs.Held.{Name, name_cmp, ByName, versions_of, shown, IsSameHeld}
 use Rattle.jname.specs.Directories.{ByNumber, held, held_under}
 use Rattle.jname.specs.Entries.{content_of, entry_of, entries_under, entries_in, entries_of}
-use Rattle.jname.proofs.MemberLemmas.{Contains-map, Contains-map_from, Contains-flat_map, Contains-flat_map_from, Contains-lookup}
+use Rattle.jname.proofs.VersionLemmas.{newest_at, older_at}
+use Rattle.jname.proofs.MemberLemmas.{Contains-cases, Contains-map, Contains-map_from, Contains-flat_map, Contains-flat_map_from, Contains-lookup}
 
 -- what a step gives comes from a value
 and_then_from : {A B : Type 0} (f : A → Option B) (o : Option A) (b : B) → option_and_then f o ≡ Some b → (a : A) × (o ≡ Some a) × (f a ≡ Some b)
@@ -33,6 +34,14 @@ and_then_from f (Some a) b h = (a, refl, h)
 
 pub nat_found : {X : Type 0} (es : List (ℕ × X)) (k : ℕ) (x : X) → IsStrictlySortedBy nat_cmp (map (λ e. e.0) es) → Contains es (k, x) → lookup (eq_by_cmp nat_cmp k) es ≡ Some x
 nat_found es k x sorted h = lookup-from_Contains (eq_by_cmp_equiv nat_cmp_total) k x es (IsDistinct-from_sorted nat_cmp _ sorted) h
+
+-- a content that is held at a version is found there
+pub version_found : (versions : Versions) (v : ℕ) (content : Content) → Contains (contents_of versions) (v, content) → version_at versions v ≡ Some content
+version_found versions v content h =
+    ⊎_elim
+    (λ is. newest_at versions v (sym (ap (λ (e : ℕ × Content). e.0) is)) ∙ ap (λ (e : ℕ × Content). Some e.1) is)
+    (λ older. older_at versions v content (nat_found versions.older.entries v content versions.ordered older))
+    (Contains-cases (versions.greatest, versions.newest) versions.older.entries (v, content) h)
 
 name_cmp_total : IsTotalOrder name_cmp
 name_cmp_total = on_total cow_slice_items nat_list_cmp_total
@@ -46,10 +55,10 @@ unfolding entries_of
 held-from_Contains directories ordered x h =
     let a = Contains-flat_map_from entries_in directories.entries x h in
     let b = Contains-flat_map_from (entries_under a.0.0) a.0.1.names.entries x a.2 in
-    let c = Contains-map_from (entry_of a.0.0 (cow_slice_items b.0.0)) b.0.1.contents.entries x b.2 in
+    let c = Contains-map_from (entry_of a.0.0 (cow_slice_items b.0.0)) (contents_of b.0.1) x b.2 in
     let directory : get nat_cmp directories a.0.0 ≡ Some a.0.1 = nat_found directories.entries a.0.0 a.0.1 ordered a.1 in
     let name : versions_of a.0.1.names (cow_slice_items b.0.0) ≡ Some b.0.1 = name_found a.0.1.names b.0.0 b.0.1 a.0.1.ordered b.1 in
-    let version : version_at b.0.1 c.0.0 ≡ Some c.0.1 = nat_found b.0.1.contents.entries c.0.0 c.0.1 b.0.1.ordered c.1 in
+    let version : version_at b.0.1 c.0.0 ≡ Some c.0.1 = version_found b.0.1 c.0.0 c.0.1 c.1 in
     let there : held directories a.0.0 (cow_slice_items b.0.0) c.0.0 ≡ Some c.0.1 =
     ap (λ (o : Option Directory). option_and_then (λ d. held_under d (cow_slice_items b.0.0) c.0.0) o) directory
     ∙ ap (λ (o : Option Versions). option_and_then (λ vs. version_at vs c.0.0) o) name ∙ version in
@@ -64,10 +73,10 @@ Contains-from_held directories x h =
     let in_directories : Contains directories.entries (x.pino, d.0) = Contains-from_lookup (tells_apart exact_unsigned) x.pino d.0 directories.entries d.1 in
     let k = Contains-lookup (λ (k : Name). is_eq (slice_cmp nat_cmp x.name (cow_slice_items k))) d.0.names.entries vs.0 vs.1 in
     let same_name : x.name ≡ cow_slice_items k.0 = (bytes_eq-Decides x.name (cow_slice_items k.0)).0 (sym (is_eq-slice_cmp x.name (cow_slice_items k.0)) ∙ k.2) in
-    let in_versions : Contains vs.0.contents.entries (x.version, content_of x) = Contains-from_lookup (tells_apart exact_unsigned) x.version (content_of x) vs.0.contents.entries vs.2 in
+    let in_versions : Contains (contents_of vs.0) (x.version, content_of x) = Contains-from_lookup (tells_apart exact_unsigned) x.version (content_of x) (contents_of vs.0) vs.2 in
     let under : Contains (entries_under x.pino (k.0, vs.0)) x =
     subst (λ (name : List ℕ). Contains (entries_under x.pino (k.0, vs.0)) (entry_of x.pino name (x.version, content_of x))) (sym same_name)
-    (Contains-map (entry_of x.pino (cow_slice_items k.0)) vs.0.contents.entries (x.version, content_of x) in_versions) in
+    (Contains-map (entry_of x.pino (cow_slice_items k.0)) (contents_of vs.0) (x.version, content_of x) in_versions) in
     Contains-flat_map entries_in directories.entries (x.pino, d.0) x in_directories
     (Contains-flat_map (entries_under x.pino) d.0.names.entries (k.0, vs.0) x k.1 under)
 

@@ -7,4 +7,5 @@ pub mod MemberLemmas
 pub mod NamingLemmas
 pub mod OrderLemmas
 pub mod SortedLemmas
+pub mod VersionLemmas
 pub mod WalkLemmas

@@ -1,53 +1,33 @@
 -- The live names among what is held, one by one.
-use Rattle.std.proofs.Common.{◌≡◌, ℕ, Bool, true, false, List, [], ◌∷◌, Option, Some, None, refl, ap, sym, ◌∙◌}
+use Rattle.std.proofs.Common.{◌≡◌, ℕ, Bool, true, false, List, ◌∷◌, Option, Some, None, refl, ap, sym, ◌∙◌}
 use Rattle.std.specs.Prelude.{if◌then◌else◌, ◌==◌}
 use Rattle.std.specs.List.{cons_option}
-use Rattle.std.specs.Option.{option_map, option_and_then}
-use Rattle.std.specs.Ordering.{nat_cmp, eq_by_cmp}
+use Rattle.std.specs.Option.{option_map}
 use Rattle.std.specs.Cow.{cow_slice_items}
-use Rattle.std.specs.Map.{lookup}
 use Rattle.std.proofs.lemmas.Bool.{eq-eqb, eqb-true}
-use Rattle.std.proofs.lemmas.Map.Lookups.{exact_unsigned}
-use Rattle.std.proofs.lemmas.Map.Views.{Contains-from_lookup, tells_apart}
-use Rattle.flashbase.specs.Lists.{newest}
-use Rattle.flashbase.proofs.ListLemmas.{newest_is_newest, newest_of_none}
 use Rattle.jname.specs.declared.versions.Content.{Content}
 use Rattle.jname.specs.declared.versions.Versions.{Versions}
 use Rattle.jname.specs.Versions.{IsTop, IsLiveIn, version_at}
 use Rattle.jname.specs.Held.{Name}
-use Rattle.jname.specs.Walk.{ino_unless_gone, live_ino, names_under}
-use Rattle.jname.proofs.LiveLemmas.{same_top, some_of}
-use Rattle.jname.proofs.EntriesLemmas.{nat_found}
+use Rattle.jname.specs.Walk.{live_ino, names_under}
+use Rattle.jname.proofs.LiveLemmas.{same_top}
+use Rattle.jname.proofs.VersionLemmas.{at_most_greatest, newest_at}
 
 -- ---- one name
 
-gone_is_zero : (at : ℕ → Option Content) (v : ℕ) (content : Content) → IsTop at v content → content.ino ≡ 0 → IsLiveIn at None
+pub gone_is_zero : (at : ℕ → Option Content) (v : ℕ) (content : Content) → IsTop at v content → content.ino ≡ 0 → IsLiveIn at None
 gone_is_zero at v content top zero w other other_top = ap (λ (c : Content). c.ino) (same_top at w v other content other_top top) ∙ zero
 
 live_or_gone : (at : ℕ → Option Content) (v : ℕ) (content : Content) (b : Bool) → (content.ino == 0) ≡ b → IsTop at v content → IsLiveIn at (if b then None else Some content.ino)
 live_or_gone at v content true e top = gone_is_zero at v content top (eqb-true content.ino 0 e)
 live_or_gone at v content false e top = ((λ (zero : content.ino ≡ 0). let yes : (content.ino == 0) ≡ true = eq-eqb content.ino 0 zero in cc), (v, content, top, refl))
 
-nothing_newest : (versions : Versions) → newest (λ e. e.0) versions.contents.entries ≡ None → IsLiveIn (version_at versions) None
-nothing_newest versions e v content top =
-    let none : versions.contents.entries ≡ [] = newest_of_none versions.contents.entries (λ e. e.0) e in
-    let no : None ≡ Some content = sym (ap (λ (es : List (ℕ × Content)). lookup (eq_by_cmp nat_cmp v) es) none) ∙ top.0 in
-    cc
-
-top_of_newest : (versions : Versions) (top : ℕ × Content) → newest (λ e. e.0) versions.contents.entries ≡ Some top → IsTop (version_at versions) top.0 top.1
-top_of_newest versions top e =
-    let is = newest_is_newest versions.contents.entries (λ e. e.0) top e in (
-      nat_found versions.contents.entries top.0 top.1 versions.ordered is.0,
-      λ w h. let there = some_of (version_at versions w) h in is.1 (w, there.0) (Contains-from_lookup (tells_apart exact_unsigned) w there.0 versions.contents.entries there.1),
-    )
-
-by_newest : (versions : Versions) (o : Option (ℕ × Content)) → newest (λ e. e.0) versions.contents.entries ≡ o → IsLiveIn (version_at versions) (option_and_then ino_unless_gone o)
-by_newest versions None e = nothing_newest versions e
-by_newest versions (Some top) e = live_or_gone (version_at versions) top.0 top.1 (top.1.ino == 0) refl (top_of_newest versions top e)
+pub newest_is_top : (versions : Versions) → IsTop (version_at versions) versions.greatest versions.newest
+newest_is_top versions = (newest_at versions versions.greatest refl, λ w h. at_most_greatest versions w h)
 
 pub live_ino-IsLiveIn : (versions : Versions) → IsLiveIn (version_at versions) (live_ino versions)
 unfolding live_ino
-live_ino-IsLiveIn versions = by_newest versions (newest (λ e. e.0) versions.contents.entries) refl
+live_ino-IsLiveIn versions = live_or_gone (version_at versions) versions.greatest versions.newest (versions.newest.ino == 0) refl (newest_is_top versions)
 
 -- there is one answer
 pub one_live : (at : ℕ → Option Content) (r s : Option ℕ) → IsLiveIn at r → IsLiveIn at s → r ≡ s

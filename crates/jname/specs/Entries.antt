@@ -1,4 +1,4 @@
--- The entries that the map holds, as a list: in order of directory, name and version.
+-- The entries that the map holds, as a list: in order of directory and name.
 use Rattle.std.specs.Prelude.{ℕ, List, map}
 use Rattle.std.specs.List.{flat_map}
 use Rattle.std.specs.Cow.{cow_slice_items}
@@ -6,6 +6,7 @@ use Rattle.jnode.specs.declared.node.Dirent.{Dirent}
 use Rattle.jname.specs.declared.versions.Content.{Content}
 use Rattle.jname.specs.declared.versions.Versions.{Versions}
 use Rattle.jname.specs.declared.directory.Directory.{Directory}
+use Rattle.jname.specs.Versions.{contents_of}
 use Rattle.jname.specs.Held.{Name}
 use Rattle.jname.specs.Directories.{ByNumber}
 
@@ -16,7 +17,7 @@ abbrev pub entry_of : ℕ → List ℕ → ℕ × Content → Dirent
 entry_of pino name e = record { pino = pino; version = e.0; ino = e.1.ino; mctime = e.1.mctime; kind = e.1.kind; name = name }
 
 abbrev pub entries_under : ℕ → Name × Versions → List Dirent
-entries_under pino e = map (entry_of pino (cow_slice_items e.0)) e.1.contents.entries
+entries_under pino e = map (entry_of pino (cow_slice_items e.0)) (contents_of e.1)
 
 abbrev pub entries_in : ℕ × Directory → List Dirent
 entries_in e = flat_map (entries_under e.0) e.1.names.entries

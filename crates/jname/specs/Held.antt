@@ -10,7 +10,7 @@ use Rattle.std.specs.declared.alloc.Global.{Global}
 use Rattle.std.specs.BTreeMap.{BTreeMap, get_by}
 use Rattle.jname.specs.declared.versions.Content.{Content}
 use Rattle.jname.specs.declared.versions.Versions.{Versions}
-use Rattle.jname.specs.Versions.{version_at}
+use Rattle.jname.specs.Versions.{contents_of, version_at}
 
 abbrev pub Name : Type 0
 Name = CowSlice ℕ Global
@@ -32,7 +32,7 @@ held_in names name v = option_and_then (λ versions. version_at versions v) (ver
 
 -- a name with the contents at its versions, in order
 abbrev pub shown : Name × Versions → Name × List (ℕ × Content)
-shown e = (e.0, e.1.contents.entries)
+shown e = (e.0, contents_of e.1)
 
 -- the same names, with the same contents at the same versions
 abbrev pub IsSameHeld : ByName → ByName → Type 0

@@ -1,13 +1,17 @@
 -- What is held of one name.
-use Rattle.std.specs.Prelude.{◌≡◌, ◌≢◌, ℕ, ◌≤◌, Option, Some, None, IsSome, MatchOption, ⊤}
-use Rattle.std.specs.Ordering.{nat_cmp}
-use Rattle.std.specs.BTreeMap.{get}
+use Rattle.std.specs.Prelude.{◌≡◌, ◌≢◌, ℕ, ◌≤◌, List, ◌∷◌, Option, Some, None, IsSome, MatchOption, ⊤}
+use Rattle.std.specs.Map.{lookup}
+use Rattle.std.specs.Ordering.{nat_cmp, eq_by_cmp}
 use Rattle.jname.specs.declared.versions.Content.{Content}
 use Rattle.jname.specs.declared.versions.Versions.{Versions}
 
+-- the contents that are held, each with its version: that of the greatest, and the older ones in order
+abbrev pub contents_of : Versions → List (ℕ × Content)
+contents_of versions = (versions.greatest, versions.newest) ∷ versions.older.entries
+
 -- the content that is held at a version
 abbrev pub version_at : Versions → ℕ → Option Content
-version_at versions v = get nat_cmp versions.contents v
+version_at versions v = lookup (eq_by_cmp nat_cmp v) (contents_of versions)
 
 -- something else is held
 abbrev pub Differs : Option Content → Content → Type 0

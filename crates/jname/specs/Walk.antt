@@ -1,20 +1,15 @@
 -- The live names among what is held, in order.
 use Rattle.std.specs.Prelude.{ℕ, ◌==◌, List, map, Option, Some, None, if◌then◌else◌, filter_map}
 use Rattle.std.specs.List.{flat_map}
-use Rattle.std.specs.Option.{option_map, option_and_then}
+use Rattle.std.specs.Option.{option_map}
 use Rattle.std.specs.Cow.{cow_slice_items}
-use Rattle.flashbase.specs.Lists.{newest}
-use Rattle.jname.specs.declared.versions.Content.{Content}
 use Rattle.jname.specs.declared.versions.Versions.{Versions}
 use Rattle.jname.specs.declared.directory.Directory.{Directory}
 use Rattle.jname.specs.Held.{Name}
 
-abbrev pub ino_unless_gone : ℕ × Content → Option ℕ
-ino_unless_gone e = if e.1.ino == 0 then None else Some e.1.ino
-
 -- the inode number at the highest version, where it is not 0
 unfoldable pub live_ino : Versions → Option ℕ
-live_ino versions = option_and_then ino_unless_gone (newest (λ e. e.0) versions.contents.entries)
+live_ino versions = if versions.newest.ino == 0 then None else Some versions.newest.ino
 
 -- a name with its inode number, if it is live
 abbrev pub live_name : Name × Versions → Option (List ℕ × ℕ)

@@ -46,8 +46,7 @@ pub fn add_name<'a>(
     if let Some(versions) = names.get_mut(name.as_slice()) {
         return versions.add(version, content);
     }
-    let versions = Versions::of_one(alloc, version, content)?;
-    names.insert(name, versions)?;
+    names.insert(name, Versions::of_one(alloc, version, content))?;
     Ok(())
 }
 
@@ -63,9 +62,8 @@ impl<'a> Directory<'a> {
     ) -> Result<Self, AllocError>
         ensures { IfOk result (λ directory. (n : List ℕ) (v : ℕ) → held_under directory n v ≡ (if bytes_eq (cow_slice_items name.entry) n && version == v then Some content else None)) }
     {
-        let versions = Versions::of_one(alloc, version, content)?;
         let mut names = BTreeMap::new(alloc);
-        names.insert(name, versions)?;
+        names.insert(name, Versions::of_one(alloc, version, content))?;
         Ok(Directory {
             names,
             highest: version,

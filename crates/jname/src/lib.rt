@@ -11,6 +11,7 @@ mod directory;
 mod fault;
 pub mod laws;
 mod names;
+mod older;
 mod versions;
 mod walk;
 

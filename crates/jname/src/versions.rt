@@ -1,12 +1,13 @@
 // What is held of one name: the contents of its entries, by version.
 
-ghost use Rattle.std.specs.Prelude.{◌≡◌, ◌↔◌, ◌==◌, ℕ, Some, None, IfOk, OnOk, OnErr, if◌then◌else◌, MatchOption};
+ghost use Rattle.std.specs.Prelude.{◌≡◌, ◌<◌, ◌==◌, ℕ, Some, None, IsSome, OnOk, OnErr, if◌then◌else◌};
 ghost use Rattle.std.specs.Ordering.{nat_cmp};
-ghost use Rattle.std.specs.BTreeMap.{IsOrdered};
+ghost use Rattle.std.specs.BTreeMap.{IsOrdered, get};
 ghost use Rattle.std.proofs.Props.{props};
 
 use crate::NameFault;
-use std::alloc::{AllocError, Global};
+use crate::older::{add_older, agree};
+use std::alloc::Global;
 use std::collections::BTreeMap;
 
 /// What an entry says besides its place: the fields in which two entries of one place can clash.
@@ -17,23 +18,29 @@ pub struct Content {
     pub kind: u8,
 }
 
-/// The contents of the entries of one name, by version.
+/// The contents of the entries of one name, by version. That of the greatest stands apart, since most names have no other:
+/// a map takes memory only from the second one on.
 #[derive(Drop)]
 pub struct Versions {
-    pub contents: BTreeMap<u32, Content>,
-    ghost ordered: { IsOrdered nat_cmp contents } by { Prim.hlevel props },
+    pub greatest: u32,
+    pub newest: Content,
+    pub older: BTreeMap<u32, Content>,
+    ghost ordered: { IsOrdered nat_cmp older } by { Prim.hlevel props },
+    ghost below: { (v : ℕ) → IsSome (get nat_cmp older v) → v < greatest },
 }
 
 impl Versions {
-    ghost use Rattle.jname.specs.Versions.{version_at, Agrees, Differs, IsLiveIn};
+    ghost use Rattle.jname.specs.Versions.{contents_of, version_at, Agrees, Differs, IsLiveIn};
 
-    /// One content, at a version.
-    pub fn of_one(alloc: Global, version: u32, content: Content) -> Result<Self, AllocError>
-        ensures { IfOk result (λ versions. (v : ℕ) → version_at versions v ≡ (if version == v then Some content else None)) }
+    /// One content, at a version. Takes no memory.
+    pub fn of_one(alloc: Global, version: u32, content: Content) -> Self
+        ensures { (v : ℕ) → version_at result v ≡ (if version == v then Some content else None) }
     {
-        let mut contents = BTreeMap::new(alloc);
-        contents.insert(version, content)?;
-        Ok(Versions { contents })
+        Versions {
+            greatest: version,
+            newest: content,
+            older: BTreeMap::new(alloc),
+        }
     }
 
     /// Holds a content at a version.
@@ -41,26 +48,25 @@ impl Versions {
         ensures clash { result ≡ Err NameFault.Clash → Differs (version_at self.old version) content }
         ensures alone { OnOk result (Agrees (version_at self.old version) content) }
         ensures ok { OnOk result ((v : ℕ) → version_at self.new v ≡ (if version == v then Some content else version_at self.old v)) }
-        ensures err { OnErr result (self.new.contents.entries ≡ self.old.contents.entries) }
+        ensures err { OnErr result (contents_of self.new ≡ contents_of self.old) }
     {
-        if let Some(there) = self.contents.get(&version) {
-            let there = *there;
-            return if there == content {
-                Ok(())
-            } else {
-                Err(NameFault::Clash)
-            };
+        if version == self.greatest {
+            return agree(self.newest, content);
         }
-        self.contents.insert(version, content)?;
+        if version < self.greatest {
+            return add_older(&mut self.older, version, content);
+        }
+        self.older.insert(self.greatest, self.newest)?;
+        self.greatest = version;
+        self.newest = content;
         Ok(())
     }
 
-    /// The inode number at the highest version, where there is one and it is not 0.
+    /// The inode number at the highest version, where it is not 0.
     pub fn live(&self) -> Option<u32>
         ensures { IsLiveIn (version_at self.now) result }
     {
-        let (_, content) = self.contents.last_key_value()?;
-        let ino = content.ino;
+        let ino = self.newest.ino;
         if ino == 0 { None } else { Some(ino) }
     }
 }

@@ -1,5 +1,6 @@
 pub mod BlockLemmas
 pub mod FaultLemmas
+pub mod ListingLemmas
 pub mod LoadedLemmas
 pub mod PathLemmas
 pub mod PathTextLemmas
@@ -8,4 +9,5 @@ pub mod StreamLemmas
 pub mod StretchLemmas
 pub mod TurnLemmas
 pub mod VerdictLemmas
+pub mod WalkLemmas
 pub mod WordLemmas

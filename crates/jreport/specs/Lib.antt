@@ -6,4 +6,5 @@ pub mod Puts
 pub mod Report
 pub mod TreeText
 pub mod Verdict
+pub mod Walking
 pub mod Words

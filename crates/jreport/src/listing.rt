@@ -1,11 +1,14 @@
 //! The listing of a mounted image's tree, as `ls` prints it.
 
+ghost use Rattle.std.specs.Prelude.{map};
 ghost use Rattle.jreport.specs.TreeText.{PutsTree};
+ghost use Rattle.jreport.specs.Walking.{GoesUp, PutsStep, PutsVisit};
 
 use crate::faults::ProgramFault;
 use crate::tree::put_object;
 use flashbase::Sink;
 use jmount::{Kind, Mounted};
+use jname::Of;
 use std::alloc::Global;
 use std::collections::BTreeSet;
 use std::mem;
@@ -19,14 +22,69 @@ fn visit<T: Sink>(
     ino: u32,
     met: &mut BTreeSet<u32>,
     sink: &mut T,
-) -> Result<bool, ProgramFault<'static>> {
+) -> Result<bool, ProgramFault<'static>>
+    ensures { PutsVisit mounted.now.state met.old met.new (map (λ name. name.now) path.now, ino)
+        (T.taken sink.old) (T.taken sink.new) (T.failures sink.old) (T.failures sink.new) result }
+{
     let Some(object) = mounted.object(ino) else {
         return Ok(false);
     };
-    let is_directory = object.kind == Kind::Directory;
-    let is_first = is_directory && met.insert(ino)?;
-    put_object(mounted, path, ino, &object, is_directory && !is_first, sink)?;
+    if object.kind != Kind::Directory {
+        put_object(mounted, path, ino, &object, false, sink)?;
+        return Ok(false);
+    }
+    let is_first = met.insert(ino)?;
+    put_object(mounted, path, ino, &object, !is_first, sink)?;
     Ok(is_first)
+}
+
+/// A walk through a tree, a directory before what lies in it.
+#[derive(Drop)]
+struct Walk<'m, 'a> {
+    /// The names that lead to the directory that is read.
+    path: Vec<&'m [u8]>,
+    /// What is left of that directory.
+    left: Of<'m, 'a>,
+    /// What is left of the directories above it, from the root on.
+    above: Vec<Of<'m, 'a>>,
+    /// The directories that were met.
+    met: BTreeSet<u32>,
+}
+
+impl<'m, 'a> Walk<'m, 'a> {
+    /// Visits what the next name leads to, or goes up where there is none. Answers whether the walk goes on.
+    fn step<T: Sink>(
+        &mut self,
+        mounted: &'m Mounted<'a>,
+        sink: &mut T,
+    ) -> Result<bool, ProgramFault<'static>>
+        ensures { PutsStep mounted.now.state self.old self.new
+            (T.taken sink.old) (T.taken sink.new) (T.failures sink.old) (T.failures sink.new) result }
+    {
+        let Some((name, ino)) = self.left.next() else {
+            return Ok(self.go_up());
+        };
+        self.path.push(name)?;
+        if visit(mounted, &self.path, ino, &mut self.met, sink)? {
+            self.above
+                .push(mem::replace(&mut self.left, mounted.entries(ino)))?;
+        } else {
+            self.path.pop();
+        }
+        Ok(true)
+    }
+
+    /// Goes back to the directory above, if there is one.
+    fn go_up(&mut self) -> bool
+        ensures { GoesUp self.old self.new result }
+    {
+        let Some(left) = self.above.pop() else {
+            return false;
+        };
+        self.left = left;
+        self.path.pop();
+        true
+    }
 }
 
 /// Puts a line for each object that a path leads to, a directory before what lies in it and each name in byte order. A
@@ -40,29 +98,15 @@ pub fn tree_lines<T: Sink>(
     ensures { PutsTree mounted.now.state (T.taken sink.old) (T.taken sink.new) (T.failures sink.old) (T.failures sink.new) result }
 {
     let mut met = BTreeSet::new(alloc);
-    let mut path = Vec::new(alloc);
-    if !visit(mounted, &path, ROOT, &mut met, sink)? {
+    if !visit(mounted, &[], ROOT, &mut met, sink)? {
         return Ok(());
     }
-    let mut left = mounted.entries(ROOT);
-    let mut above = Vec::new(alloc);
-    loop {
-        match left.next() {
-            Some((name, ino)) => {
-                path.push(name)?;
-                if visit(mounted, &path, ino, &mut met, sink)? {
-                    above.push(mem::replace(&mut left, mounted.entries(ino)))?;
-                } else {
-                    path.pop();
-                }
-            }
-            None => match above.pop() {
-                Some(directory) => {
-                    left = directory;
-                    path.pop();
-                }
-                None => return Ok(()),
-            },
-        }
-    }
+    let mut walk = Walk {
+        path: Vec::new(alloc),
+        left: mounted.entries(ROOT),
+        above: Vec::new(alloc),
+        met,
+    };
+    while walk.step(mounted, sink)? {}
+    Ok(())
 }

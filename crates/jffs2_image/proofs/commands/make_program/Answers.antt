@@ -7,7 +7,9 @@ pub returns-clause-app : goal.returns-clause-app
 unfolding program
 returns-clause-app c =
     let top = λ (a : App). a.top in
-    let first = c.in_ok-subcommand.ensures.shape c.in_ok-make_check.ensures.local
+    let check = c.in_ok-subcommand.ensures.shape c.in_ok-make_check.ensures.local
     ∙ ap₂ with_subcommand c.make_bare.ensures.app (ap top c.in_ok-make_check.ensures.app) in
+    let ls = c.in_ok-subcommand-2.ensures.shape c.in_ok-make_ls.ensures.local
+    ∙ ap₂ with_subcommand check (ap top c.in_ok-make_ls.ensures.app) in
     c.in_ok-command.ensures.shape c.in_ok-make_cat.ensures.local
-    ∙ ap₂ with_subcommand first (ap top c.in_ok-make_cat.ensures.app)
+    ∙ ap₂ with_subcommand ls (ap top c.in_ok-make_cat.ensures.app)

@@ -12,6 +12,14 @@ pub returns-clause-no_words : goal.returns-clause-no_words
 unfolding clap_on_literals program asked asked_for
 returns-clause-no_words c = refl
 
+pub returns-clause-no_image : goal.returns-clause-no_image
+unfolding clap_on_literals program asked asked_for
+returns-clause-no_image c = refl
+
+pub returns-clause-not_of_ls : goal.returns-clause-not_of_ls
+unfolding clap_on_literals program asked asked_for
+returns-clause-not_of_ls c = refl
+
 pub returns-clause-no_path : goal.returns-clause-no_path
 unfolding clap_on_literals program asked asked_for
 returns-clause-no_path c = refl

@@ -12,6 +12,10 @@ pub returns-clause-given : goal.returns-clause-given
 unfolding clap_on_literals program asked asked_for
 returns-clause-given c = refl
 
+pub returns-clause-tree : goal.returns-clause-tree
+unfolding clap_on_literals program asked asked_for
+returns-clause-tree c = refl
+
 pub returns-clause-content : goal.returns-clause-content
 unfolding clap_on_literals program asked asked_for
 returns-clause-content c = refl

@@ -1,0 +1,353 @@
+-- The steps of a walk through a tree.
+use Rattle.std.proofs.Common.{◌≡◌, ℕ, suc, ◌+◌, ◌-◌, ◌*◌, ◌<◌, ◌≤◌, ◌&&◌, ◌||◌, ◌==◌, not, cond, Bool, true, false, List, [], ◌∷◌, ◌++◌, length, map, take, refl, sym, ap, ◌∙◌, subst, arith, append_assoc, append-nil, Option, Some, None, Result, Ok, Err, Bor}
+use Rattle.std.specs.Prelude.{filter, reverse, sum_by, count_by, is_some, option_map, IsErrAnd}
+use Rattle.std.specs.BTreeSet.{BTreeSet}
+use Rattle.std.specs.Io.KnownBytes.{Appends}
+use Rattle.std.proofs.KnownBytes.{Appends-nil, Appends-trans}
+use Rattle.std.proofs.lemmas.Grind.{common_steps}
+use Rattle.std.proofs.lemmas.List.Sums.{sum_by_push}
+use Rattle.std.proofs.lemmas.List.{map-append, reverse-append, length-append, length_push}
+use Rattle.std.proofs.Math.Seq.{take-append_seam}
+use Rattle.flashbase.specs.Device.{PutsPart, next_count}
+use Rattle.flashbase.proofs.DeviceLemmas.{part_before, part_behind}
+use Rattle.jmount.specs.Tree.{ObjectOf, State, object, is_there, is_directory, has_bits, directory_bits, entries_in}
+use Rattle.jmount.specs.Shown.{readable, shown}
+use Rattle.jreport.specs.TreeText.{Item, Met, items_of, line_if, line_of, none_met, met_after, todo_after, is_entered, AreLinesOf, IsTreeText, PutsPartOfTree, PutsTree}
+use Rattle.jreport.specs.Walking.{IsTextOf, PutsPartOf, PutsVisit, PutsStep, GoesUp, met_of, way_up, items_up, way_of, todo_of, unmet, names_left, steps_left}
+use Rattle.jreport.specs.declared.listing.Walk.{Walk}
+use Rattle.jreport.specs.declared.faults.ProgramFault.{ProgramFault}
+use Rattle.jreport.specs.declared.faults.ProgramFault.TheVariants as program
+use Rattle.jreport.specs.declared.faults.ProgramFault.TheVariants.{Output, OutOfMemory}
+use Rattle.jreport.proofs.ListingLemmas.{unmet_entered, unmet_after, has_text, next_line}
+
+-- ---- an item that is there, and one that is not
+
+items_there : (s : State) (path : List (List ℕ)) (name : List ℕ) (i : ℕ) (names : List (List ℕ × ℕ)) → is_there s i ≡ true
+    → items_of s path ((name, i) ∷ names) ≡ (path ++ name ∷ [], i) ∷ items_of s path names
+items_there s path name i names there =
+    ap (λ b. map (λ e. (path ++ e.0 ∷ [], e.1)) (cond b ((name, i) ∷ filter (λ e. is_there s e.1) names) (filter (λ e. is_there s e.1) names))) there
+
+items_gone : (s : State) (path : List (List ℕ)) (name : List ℕ) (i : ℕ) (names : List (List ℕ × ℕ)) → is_there s i ≡ false
+    → items_of s path ((name, i) ∷ names) ≡ items_of s path names
+items_gone s path name i names gone =
+    ap (λ b. map (λ e. (path ++ e.0 ∷ [], e.1)) (cond b ((name, i) ∷ filter (λ e. is_there s e.1) names) (filter (λ e. is_there s e.1) names))) gone
+
+no_object : {X : Type 0} (o : Option X) → is_some o ≡ false → o ≡ None
+no_object None gone = refl
+no_object (Some x) gone = absurd (cc)
+
+line_gone : (s : State) (met : Met) (path : List (List ℕ)) (i : ℕ) → is_there s i ≡ false → line_of s met (path, i) ≡ []
+line_gone s met path i gone =
+    ap (λ (o : Option (ObjectOf (List ℕ))). line_if s path i (option_map shown o) (has_bits directory_bits o && met i)) (no_object (object s i) gone)
+
+directory_gone : (s : State) (i : ℕ) → is_there s i ≡ false → is_directory s i ≡ false
+directory_gone s i gone = ap (has_bits directory_bits) (no_object (object s i) gone)
+
+or_none : (b : Bool) → b || false ≡ b
+or_none true = refl
+or_none false = refl
+
+met_gone : (s : State) (met : Met) (i : ℕ) → is_there s i ≡ false → met_after s met i ≡ met
+met_gone s met i gone =
+    ap (λ (d : Bool). λ (j : ℕ). met j || (d && i == j)) (directory_gone s i gone) ∙ (λ t j. or_none (met j) t)
+
+todo_gone : (s : State) (met : Met) (path : List (List ℕ)) (i : ℕ) (todo : List Item) → is_there s i ≡ false → todo_after s met (path, i) todo ≡ todo
+todo_gone s met path i todo gone =
+    ap (λ (d : Bool). cond (d && not (met i)) (items_of s path (entries_in s i) ++ todo) todo) (directory_gone s i gone)
+
+-- the text of what is still to print, where it begins with a name that leads to an object or to none
+pub next_text : (s : State) (met : Met) (path : List (List ℕ)) (name : List ℕ) (i : ℕ) (names : List (List ℕ × ℕ)) (more : List Item) (rest : List ℕ)
+    → IsTextOf s (met_after s met i) (todo_after s met (path ++ name ∷ [], i) (items_of s path names ++ more)) rest
+    → IsTextOf s met (items_of s path ((name, i) ∷ names) ++ more) (line_of s met (path ++ name ∷ [], i) ++ rest)
+next_text s met path name i names more rest is = by (is_there s i) refl
+  where
+    by : (there : Bool) → is_there s i ≡ there → IsTextOf s met (items_of s path ((name, i) ∷ names) ++ more) (line_of s met (path ++ name ∷ [], i) ++ rest)
+    by true there =
+        subst (λ (todo : List Item). IsTextOf s met (todo ++ more) (line_of s met (path ++ name ∷ [], i) ++ rest)) (sym (items_there s path name i names there))
+        (next_line s met (path ++ name ∷ [], i) (items_of s path names ++ more) rest is)
+    by false gone =
+        subst (λ (todo : List Item). IsTextOf s met (todo ++ more) (line_of s met (path ++ name ∷ [], i) ++ rest)) (sym (items_gone s path name i names gone))
+        (subst (λ (line : List ℕ). IsTextOf s met (items_of s path names ++ more) (line ++ rest)) (sym (line_gone s met (path ++ name ∷ []) i gone))
+        (subst (λ (m : Met). IsTextOf s m (items_of s path names ++ more) rest) (met_gone s met i gone)
+        (subst (λ (todo : List Item). IsTextOf s (met_after s met i) todo rest) (todo_gone s met (path ++ name ∷ []) i (items_of s path names ++ more) gone) is)))
+
+-- ---- where the walk ends, or goes up
+
+pub is_at_end : (s : State) (w n : Walk) (old : Option (List ℕ)) (before : ℕ) → w.left ≡ [] → w.above.items ≡ [] → PutsStep s w n old old before before (Ok false)
+is_at_end s w n old before none empty = (
+    ap (λ (left : List (List ℕ × ℕ)). items_up s (left ∷ reverse w.above.items) (way_of w)) none
+    ∙ ap (λ (above : List (List (List ℕ × ℕ))). items_up s (reverse above) (way_up (way_of w))) empty,
+    Appends-nil old,
+    refl,
+  )
+
+up_todo : (s : State) (w n : Walk) → w.left ≡ [] → GoesUp w n true → todo_of s w ≡ todo_of s n
+up_todo s w n none up =
+    ap (λ (left : List (List ℕ × ℕ)). items_up s (left ∷ reverse w.above.items) (way_of w)) none
+    ∙ ap (λ (above : List (List (List ℕ × ℕ))). items_up s (reverse above) (way_up (way_of w))) up.0
+    ∙ ap (λ (above : List (List (List ℕ × ℕ))). items_up s above (way_up (way_of w))) (reverse-append n.above.items (n.left ∷ []))
+    ∙ ap (items_up s (n.left ∷ reverse n.above.items)) (sym up.1)
+
+up_steps : (s : State) (w n : Walk) → w.left ≡ [] → GoesUp w n true → steps_left s n < steps_left s w
+up_steps s w n none up =
+    let left : length w.left ≡ 0 = ap length none in
+    let sum : sum_by (λ left. length left) w.above.items ≡ sum_by (λ left. length left) n.above.items + length n.left =
+    ap (sum_by (λ left. length left)) up.0 ∙ sum_by_push (λ left. length left) n.above.items n.left in
+    let deep : length w.above.items ≡ length n.above.items + 1 = ap length up.0 ∙ length_push n.above.items n.left in
+    let met : unmet s (met_of n.met) ≡ unmet s (met_of w.met) = ap (λ m. unmet s (met_of m)) up.2 in
+    omega arith
+
+pub went_up : (s : State) (w n : Walk) (old : Option (List ℕ)) (before : ℕ) → w.left ≡ [] → GoesUp w n true → PutsStep s w n old old before before (Ok true)
+went_up s w n old before none up = (
+    (
+      [],
+      Appends-nil old,
+      λ rest is. subst (λ (todo : List Item). IsTextOf s (met_of w.met) todo rest) (sym (up_todo s w n none up)) (subst (λ m. IsTextOf s (met_of m) (todo_of s n) rest) up.2 is),
+    ),
+    up_steps s w n none up,
+    refl,
+  )
+
+pub goes_up : (s : State) (w n : Walk) (left : List (List ℕ × ℕ)) (up : Bool) (old : Option (List ℕ)) (before : ℕ) → w.left ≡ []
+    → GoesUp (record w { left = left }) n up → PutsStep s w n old old before before (Ok up)
+goes_up s w n left true old before none is = went_up s w n old before none is
+goes_up s w n left false old before none is = is_at_end s w n old before none is
+
+-- ---- where a name was read
+
+-- what a walk has left, beside the directory that it reads
+abbrev pub more_of : State → Walk → List Item
+more_of s w = items_up s (reverse w.above.items) (way_up (way_of w))
+
+abbrev pub item_of : Walk → List ℕ → ℕ → Item
+item_of w name i = (way_of w ++ name ∷ [], i)
+
+-- the text of a walk that read a name
+read_text : (s : State) (w : Walk) (name : List ℕ) (i : ℕ) (names : List (List ℕ × ℕ)) (rest : List ℕ) → w.left ≡ (name, i) ∷ names
+    → IsTextOf s (met_after s (met_of w.met) i) (todo_after s (met_of w.met) (item_of w name i) (items_of s (way_of w) names ++ more_of s w)) rest
+    → IsTextOf s (met_of w.met) (todo_of s w) (line_of s (met_of w.met) (item_of w name i) ++ rest)
+read_text s w name i names rest read is =
+    subst (λ (left : List (List ℕ × ℕ)). IsTextOf s (met_of w.met) (items_of s (way_of w) left ++ more_of s w) (line_of s (met_of w.met) (item_of w name i) ++ rest))
+    (sym read) (next_text s (met_of w.met) (way_of w) name i names (more_of s w) rest is)
+
+-- the walk goes on in the same directory
+pub stays : (s : State) (w n : Walk) (name : List ℕ) (i : ℕ) (old new : Option (List ℕ)) (before now : ℕ) → w.left ≡ (name, i) ∷ n.left
+    → n.above.items ≡ w.above.items → way_of n ≡ way_of w → PutsVisit s w.met n.met (item_of w name i) old new before now (Ok false)
+    → PutsStep s w n old new before now (Ok true)
+stays s w n name i old new before now read above way put =
+    let todo : todo_after s (met_of w.met) (item_of w name i) (items_of s (way_of w) n.left ++ more_of s w) ≡ todo_of s n =
+    ap (λ (b : Bool). cond b (items_of s (item_of w name i).0 (entries_in s i) ++ (items_of s (way_of w) n.left ++ more_of s w)) (items_of s (way_of w) n.left ++ more_of s w)) (sym put.0)
+    ∙ ap (λ (above : List (List (List ℕ × ℕ))). items_up s (n.left ∷ reverse above) (way_of w)) (sym above)
+    ∙ ap (items_up s (n.left ∷ reverse n.above.items)) (sym way) in
+    let fewer : unmet s (met_of n.met) ≤ unmet s (met_of w.met) = subst (λ (m : Met). unmet s m ≤ unmet s (met_of w.met)) (sym put.1) (unmet_after s (met_of w.met) i) in
+    let left : length w.left ≡ length n.left + 1 = ap length read ∙ omega arith in
+    let sum : sum_by (λ left. length left) n.above.items ≡ sum_by (λ left. length left) w.above.items = ap (sum_by (λ left. length left)) above in
+    let deep : length n.above.items ≡ length w.above.items = ap length above in
+    (
+      (
+        line_of s (met_of w.met) (item_of w name i),
+        put.2,
+        λ rest is. read_text s w name i n.left rest read
+        (subst (λ (todo : List Item). IsTextOf s (met_after s (met_of w.met) i) todo rest) (sym todo) (subst (λ (m : Met). IsTextOf s m (todo_of s n) rest) put.1 is)),
+      ),
+      omega arith,
+      put.3,
+    )
+
+-- the walk goes on in the directory that the name leads to
+pub enters : (s : State) (w n : Walk) (name : List ℕ) (i : ℕ) (names : List (List ℕ × ℕ)) (old new : Option (List ℕ)) (before now : ℕ) → w.left ≡ (name, i) ∷ names
+    → n.left ≡ entries_in s i → n.above.items ≡ w.above.items ++ names ∷ [] → way_of n ≡ way_of w ++ name ∷ []
+    → PutsVisit s w.met n.met (item_of w name i) old new before now (Ok true) → PutsStep s w n old new before now (Ok true)
+enters s w n name i names old new before now read left above way put =
+    let back : way_up (way_of n) ≡ way_of w =
+    ap way_up way
+    ∙ ap (λ (k : ℕ). take k (way_of w ++ name ∷ [])) {x = length (way_of w ++ name ∷ []) - 1} {y = length (way_of w)} (omega (arith, length_push (way_of w) name))
+    ∙ take-append_seam (way_of w) (name ∷ []) in
+    let reversed : reverse n.above.items ≡ names ∷ reverse w.above.items = ap reverse above ∙ reverse-append w.above.items (names ∷ []) in
+    let todo : todo_after s (met_of w.met) (item_of w name i) (items_of s (way_of w) names ++ more_of s w) ≡ todo_of s n =
+    ap (λ (b : Bool). cond b (items_of s (item_of w name i).0 (entries_in s i) ++ (items_of s (way_of w) names ++ more_of s w)) (items_of s (way_of w) names ++ more_of s w)) (sym put.0)
+    ∙ ap (λ (p : List (List ℕ)). items_of s (item_of w name i).0 (entries_in s i) ++ items_up s (names ∷ reverse w.above.items) p) (sym back)
+    ∙ ap (λ (l : List (List (List ℕ × ℕ))). items_of s (item_of w name i).0 (entries_in s i) ++ items_up s l (way_up (way_of n))) (sym reversed)
+    ∙ ap (λ (l : List (List ℕ × ℕ)). items_of s (item_of w name i).0 l ++ items_up s (reverse n.above.items) (way_up (way_of n))) (sym left)
+    ∙ ap (λ (p : List (List ℕ)). items_of s p n.left ++ items_up s (reverse n.above.items) (way_up (way_of n))) (sym way) in
+    let met : unmet s (met_of n.met) + length (entries_in s i) ≡ unmet s (met_of w.met) =
+    ap (λ (m : Met). unmet s m + length (entries_in s i)) put.1 ∙ unmet_entered s (met_of w.met) i (sym put.0) in
+    let own : length n.left ≡ length (entries_in s i) = ap length left in
+    let one : length w.left ≡ length names + 1 = ap length read ∙ omega arith in
+    let sum : sum_by (λ left. length left) n.above.items ≡ sum_by (λ left. length left) w.above.items + length names =
+    ap (sum_by (λ left. length left)) above ∙ sum_by_push (λ left. length left) w.above.items names in
+    let deep : length n.above.items ≡ length w.above.items + 1 = ap length above ∙ length_push w.above.items names in
+    (
+      (
+        line_of s (met_of w.met) (item_of w name i),
+        put.2,
+        λ rest is. read_text s w name i names rest read
+        (subst (λ (todo : List Item). IsTextOf s (met_after s (met_of w.met) i) todo rest) (sym todo) (subst (λ (m : Met). IsTextOf s m (todo_of s n) rest) put.1 is)),
+      ),
+      omega arith,
+      put.3,
+    )
+
+-- ---- where memory is wanting, or the sink fails
+
+pub nothing_put : (s : State) (w n : Walk) (old : Option (List ℕ)) (before : ℕ) → PutsStep s w n old old before before (Err OutOfMemory)
+nothing_put s w n old before = let whole = has_text s (met_of w.met) (todo_of s w) in ((whole.0, whole.1, (0, Appends-nil old)), refl)
+
+-- a beginning of what a name leads to went out
+line_part : (s : State) (w : Walk) (name : List ℕ) (i : ℕ) (names : List (List ℕ × ℕ)) (old new : Option (List ℕ)) → w.left ≡ (name, i) ∷ names
+    → PutsPart old new (line_of s (met_of w.met) (item_of w name i)) → PutsPartOf s (met_of w.met) (todo_of s w) old new
+line_part s w name i names old new read part =
+    let whole = has_text s (met_after s (met_of w.met) i) (todo_after s (met_of w.met) (item_of w name i) (items_of s (way_of w) names ++ more_of s w)) in
+    let line = line_of s (met_of w.met) (item_of w name i) in
+    (line ++ whole.0, read_text s w name i names whole.0 read whole.1, part_before old new line whole.0 part)
+
+whole_part : (old new : Option (List ℕ)) (line : List ℕ) → Appends old new line → PutsPart old new line
+whole_part old new line put = (length line, subst (Appends old new) (sym (take_whole line)) put)
+  where
+    take_whole : (xs : List ℕ) → take (length xs) xs ≡ xs
+    take_whole xs = grind (arith, common_steps)
+
+pub line_put : (s : State) (w n : Walk) (name : List ℕ) (i : ℕ) (names : List (List ℕ × ℕ)) (met_after_it : BTreeSet ℕ) (entered : Bool) (old new : Option (List ℕ)) (before now : ℕ)
+    → w.left ≡ (name, i) ∷ names → PutsVisit s w.met met_after_it (item_of w name i) old new before now (Ok entered)
+    → PutsStep s w n old new before now (Err OutOfMemory)
+line_put s w n name i names set entered old new before now read put =
+    (line_part s w name i names old new read (whole_part old new _ put.2), put.3)
+
+pub line_failed : (s : State) (w n : Walk) (name : List ℕ) (i : ℕ) (names : List (List ℕ × ℕ)) (set : BTreeSet ℕ) (fault : ProgramFault) (old new : Option (List ℕ)) (before now : ℕ)
+    → w.left ≡ (name, i) ∷ names → PutsVisit s w.met set (item_of w name i) old new before now (Err fault)
+    → PutsStep s w n old new before now (Err fault)
+line_failed s w n name i names set Output old new before now read put = (line_part s w name i names old new read put.0, put.1)
+line_failed s w n name i names set OutOfMemory old new before now read put =
+    (line_part s w name i names old new read (0, put.0), put.1)
+line_failed s w n name i names set (program.Load f) old new before now read put = absurd put
+line_failed s w n name i names set (program.Scan f) old new before now read put = absurd put
+line_failed s w n name i names set (program.Mount f) old new before now read put = absurd put
+line_failed s w n name i names set (program.File f) old new before now read put = absurd put
+line_failed s w n name i names set (program.Path f) old new before now read put = absurd put
+line_failed s w n name i names set program.NotRegular old new before now read put = absurd put
+
+pub step_failed : (s : State) (w n : Walk) (old new : Option (List ℕ)) (before now : ℕ) (r : Result Bool ProgramFault) (fault : ProgramFault)
+    → IsErrAnd r (λ e. e ≡ fault) → PutsStep s w n old new before now (Err fault) → PutsStep s w n old new before now r
+step_failed s w n old new before now (Ok x) fault is put = absurd is
+step_failed s w n old new before now (Err e) fault is put = subst (λ (y : ProgramFault). PutsStep s w n old new before now (Err y)) (sym is) put
+
+-- ---- the way to an item
+
+pub way_on : (w : Walk) (name : Bor (List ℕ)) (path pushed : List (Bor (List ℕ))) → path ≡ pushed → pushed ≡ w.path.items ++ name ∷ [] → map (λ n. n.now) path ≡ way_of w ++ name.now ∷ []
+way_on w name path pushed same is = ap (map (λ n. n.now)) (same ∙ is) ∙ map-append (λ n. n.now) w.path.items (name ∷ [])
+
+pub way_back : (w : Walk) (name : Bor (List ℕ)) (pushed popped : List (Bor (List ℕ))) → pushed ≡ w.path.items ++ name ∷ [] → popped ≡ take (length pushed - 1) pushed
+    → map (λ n. n.now) popped ≡ way_of w
+way_back w name pushed popped is cut =
+    let one : length pushed - 1 ≡ length w.path.items = omega (arith, ap length is ∙ length_push w.path.items name) in
+    ap (map (λ n. n.now)) (cut ∙ ap (λ (k : ℕ). take k pushed) one ∙ ap (take (length w.path.items)) is ∙ take-append_seam w.path.items (name ∷ []))
+
+pub visit_at : (s : State) (set set_after : BTreeSet ℕ) (path way : List (List ℕ)) (i : ℕ) (old new : Option (List ℕ)) (before now : ℕ) (r : Result Bool ProgramFault)
+    → path ≡ way → PutsVisit s set set_after (path, i) old new before now r → PutsVisit s set set_after (way, i) old new before now r
+visit_at s set set_after path way i old new before now r is put =
+    subst (λ (p : List (List ℕ)). PutsVisit s set set_after (p, i) old new before now r) is put
+
+-- ---- from the root on
+
+-- what went out, and the text of what a walk has still to print, make the tree's text
+abbrev pub Reaches : State → Walk → Option (List ℕ) → Option (List ℕ) → Type 0
+Reaches s w old new = (text : List ℕ) × Appends old new text × ((rest : List ℕ) → IsTextOf s (met_of w.met) (todo_of s w) rest → IsTreeText s (text ++ rest))
+
+abbrev pub root : Item
+root = ([], 1)
+
+none_in : (set : BTreeSet ℕ) → set.keys ≡ [] → met_of set ≡ none_met
+none_in set empty = ap (λ (keys : List ℕ). met_of (record { keys = keys })) empty
+
+-- the root was visited
+root_text : (s : State) (empty set : BTreeSet ℕ) (entered : Bool) (old new : Option (List ℕ)) (before now : ℕ) (rest : List ℕ) → empty.keys ≡ []
+    → PutsVisit s empty set root old new before now (Ok entered)
+    → IsTextOf s (met_of set) (cond entered (items_of s [] (entries_in s 1) ++ []) []) rest → IsTreeText s (line_of s (met_of empty) root ++ rest)
+root_text s empty set entered old new before now rest none put is =
+    let none_met_yet = none_in empty none in
+    subst (λ (m : Met). IsTextOf s m (root ∷ []) (line_of s (met_of empty) root ++ rest)) none_met_yet
+    (next_line s (met_of empty) root [] rest
+    (subst (λ (b : Bool). IsTextOf s (met_after s (met_of empty) 1) (cond b (items_of s [] (entries_in s 1) ++ []) []) rest) put.0
+    (subst (λ (m : Met). IsTextOf s m (cond entered (items_of s [] (entries_in s 1) ++ []) []) rest) put.1 is)))
+
+pub root_entered : (s : State) (w : Walk) (empty : BTreeSet ℕ) (old new : Option (List ℕ)) (before now : ℕ) → empty.keys ≡ []
+    → w.path.items ≡ [] → w.left ≡ entries_in s 1 → w.above.items ≡ []
+    → PutsVisit s empty w.met root old new before now (Ok true) → Reaches s w old new
+root_entered s w empty old new before now none path left above put = (
+    line_of s (met_of empty) root,
+    put.2,
+    λ rest is. root_text s empty w.met true old new before now rest none put (subst (λ (todo : List Item). IsTextOf s (met_of w.met) todo rest) here is),
+  )
+  where
+    here : todo_of s w ≡ items_of s [] (entries_in s 1) ++ []
+    here =
+        ap (λ (p : List (Bor (List ℕ))). items_up s (w.left ∷ reverse w.above.items) (map (λ n. n.now) p)) path
+        ∙ ap (λ (l : List (List ℕ × ℕ)). items_up s (l ∷ reverse w.above.items) []) left
+        ∙ ap (λ (l : List (List (List ℕ × ℕ))). items_up s (entries_in s 1 ∷ reverse l) []) above
+
+pub root_alone : {T : Type 0} (s : State) (empty set : BTreeSet ℕ) (old new : Option (List ℕ)) (before now : ℕ) (x : T) → empty.keys ≡ []
+    → PutsVisit s empty set root old new before now (Ok false) → PutsTree s old new before now (Ok x)
+root_alone s empty set old new before now x none put = (
+    line_of s (met_of empty) root ++ [],
+    root_text s empty set false old new before now [] none put ([], refl, refl),
+    subst (Appends old new) (sym (append-nil (line_of s (met_of empty) root))) put.2,
+    put.3,
+  )
+
+-- a beginning of the root's line went out
+root_part : (s : State) (empty : BTreeSet ℕ) (old new : Option (List ℕ)) → empty.keys ≡ [] → PutsPart old new (line_of s (met_of empty) root)
+    → PutsPartOfTree s old new
+root_part s empty old new none part =
+    let line = line_of s none_met root in
+    let rest = has_text s (met_after s none_met 1) (todo_after s none_met root []) in
+    (
+      line ++ rest.0,
+      next_line s none_met root [] rest.0 rest.1,
+      part_before old new line rest.0 (subst (λ (m : Met). PutsPart old new (line_of s m root)) (none_in empty none) part),
+    )
+
+pub root_failed : (T : Type 0) (s : State) (empty set : BTreeSet ℕ) (fault : ProgramFault) (old new : Option (List ℕ)) (before now : ℕ) → empty.keys ≡ []
+    → PutsVisit s empty set root old new before now (Err fault) → PutsTree {T = T} s old new before now (Err fault)
+root_failed T s empty set Output old new before now none put = (root_part s empty old new none put.0, put.1)
+root_failed T s empty set OutOfMemory old new before now none put = (root_part s empty old new none (0, put.0), put.1)
+root_failed T s empty set (program.Load f) old new before now none put = absurd put
+root_failed T s empty set (program.Scan f) old new before now none put = absurd put
+root_failed T s empty set (program.Mount f) old new before now none put = absurd put
+root_failed T s empty set (program.File f) old new before now none put = absurd put
+root_failed T s empty set (program.Path f) old new before now none put = absurd put
+root_failed T s empty set program.NotRegular old new before now none put = absurd put
+
+pub steps_on : (s : State) (w n : Walk) (a b c : Option (List ℕ)) (before now : ℕ) → Reaches s w a b → PutsStep s w n b c before now (Ok true) → Reaches s n a c
+steps_on s w n a b c before now far put = (
+    far.0 ++ put.0.0,
+    Appends-trans a b c far.0 put.0.0 far.1 put.0.1,
+    λ rest is. subst (IsTreeText s) (sym (append_assoc far.0 put.0.0 rest)) (far.2 (put.0.0 ++ rest) (put.0.2 rest is)),
+  )
+
+pub all_steps : {T : Type 0} (s : State) (w n : Walk) (a b c : Option (List ℕ)) (first before now : ℕ) (x : T) → Reaches s w a b → before ≡ first
+    → PutsStep s w n b c before now (Ok false) → PutsTree s a c first now (Ok x)
+all_steps s w n a b c first before now x far same put = (
+    far.0 ++ [],
+    far.2 [] (subst (λ (todo : List Item). IsTextOf s (met_of w.met) todo []) (sym put.0) ([], refl, refl)),
+    Appends-trans a b c far.0 [] far.1 put.1,
+    put.2 ∙ same,
+  )
+
+whole_of_part : (s : State) (w : Walk) (a b c : Option (List ℕ)) → Reaches s w a b → PutsPartOf s (met_of w.met) (todo_of s w) b c → PutsPartOfTree s a c
+whole_of_part s w a b c far part = (far.0 ++ part.0, far.2 part.0 part.1, part_behind a b c far.0 part.0 far.1 part.2)
+
+pub stopped : (T : Type 0) (s : State) (w n : Walk) (fault : ProgramFault) (a b c : Option (List ℕ)) (first before now : ℕ) → Reaches s w a b → before ≡ first
+    → PutsStep s w n b c before now (Err fault) → PutsTree {T = T} s a c first now (Err fault)
+stopped T s w n Output a b c first before now far same put = (whole_of_part s w a b c far put.0, put.1 ∙ ap next_count same)
+stopped T s w n OutOfMemory a b c first before now far same put = (whole_of_part s w a b c far put.0, put.1 ∙ same)
+stopped T s w n (program.Load f) a b c first before now far same put = absurd put
+stopped T s w n (program.Scan f) a b c first before now far same put = absurd put
+stopped T s w n (program.Mount f) a b c first before now far same put = absurd put
+stopped T s w n (program.File f) a b c first before now far same put = absurd put
+stopped T s w n (program.Path f) a b c first before now far same put = absurd put
+stopped T s w n program.NotRegular a b c first before now far same put = absurd put
+
+pub tree_failed : {T : Type 0} (s : State) (old new : Option (List ℕ)) (before now : ℕ) (r : Result T ProgramFault) (fault : ProgramFault)
+    → IsErrAnd r (λ e. e ≡ fault) → PutsTree {T = T} s old new before now (Err fault) → PutsTree s old new before now r
+tree_failed s old new before now (Ok x) fault is put = absurd is
+tree_failed {T} s old new before now (Err e) fault is put = subst (λ (y : ProgramFault). PutsTree {T = T} s old new before now (Err y)) (sym is) put
