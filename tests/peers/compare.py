@@ -100,13 +100,13 @@ def table(folder, image):
 
 def strange(folder, image):
     """What does not mount, or has findings, and why: README.md."""
-    for options, compr in (([], 6), (["-x", "zlib"], 2), (["-x", "zlib", "-X", "lzo"], 7)):
+    for options in ([], ["-x", "zlib"], ["-x", "zlib", "-X", "lzo"]):
         subprocess.run(["mkfs.jffs2", "-l", "-r", folder, "-o", image, *options], check=True)
         what = "compressed " + " ".join(options)
         check(what, [], image, 3, "mount refused M4 Compressed at ")
         for words in (["ls", image], ["cat", image, "/third"]):
             status, out, errors = run(*words)
-            fine = status == 1 and not out and errors.startswith("jffs2_image: M4 Compressed at ") and errors.endswith(f" compr {compr}")
+            fine = status == 1 and not out and errors.startswith("jffs2_image: M4 Compressed at ")
             test(what, [] if fine else [f"{words[0]}: status {status}: {errors}"])
     produce(image, folder, "-l")
     check("the other order", ["--endian", "big"], image, 3, "mount ok")
