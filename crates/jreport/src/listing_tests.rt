@@ -2,11 +2,10 @@
 
 use crate::faults::ProgramFault;
 use crate::listing::tree_lines;
-use crate::loaded::list_lines;
 use crate::report_tests::Short;
 use crate::tree::put_object;
 use byteorder::LittleEndian;
-use flashbase::{DeviceFault, FromReader, FromWriter, Sink};
+use flashbase::{DeviceFault, FromWriter, Sink};
 use jmount::mount;
 use jnode::{Dirent, Fill, InodeNode, NodeRef, Part, write_entry, write_inode};
 use jscan::Geometry;
@@ -342,16 +341,4 @@ fn memory_that_is_refused(rt: HostRuntime) {
         Ok(()) => assert!(rt; sink.rest.is_empty()),
         Err(fault) => assert_eq!(rt; fault, ProgramFault::OutOfMemory),
     }
-}
-
-#[test]
-fn a_whole_image(rt: HostRuntime) -> Result<(), Fail> {
-    let alloc = rt.alloc();
-    let image = image_of(alloc, &circle())?;
-    let mut sink = FromWriter::new(Vec::new(alloc));
-    let mut source = FromReader::new(image.as_slice());
-    let answer = list_lines::<LittleEndian, _, _>(alloc, &mut source, GEOMETRY, &mut sink);
-    assert_eq!(rt; answer, Ok(()));
-    assert_eq!(rt; sink.into_writer().as_slice(), CIRCLE_LINES);
-    Ok(())
 }

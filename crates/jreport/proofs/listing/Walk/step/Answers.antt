@@ -1,8 +1,6 @@
-use Rattle.std.proofs.Common.{◌≡◌, ℕ, Bool, true, false, List, [], ◌∷◌, ◌++◌, refl, sym, ap, ◌∙◌, map, take, ◌-◌, subst, Ok, Err}
-use Rattle.std.proofs.lemmas.List.{map-append}
+use Rattle.std.proofs.Common.{ℕ, Bool, true, List, [], ◌∷◌, ◌++◌, refl, sym, ap, ◌∙◌, take, ◌-◌, subst, Ok, Err}
 use Rattle.jreport.specs.Walking.{PutsVisit, PutsStep, way_of}
 use Rattle.jreport.specs.declared.listing.Walk.{Walk}
-use Rattle.jreport.specs.declared.faults.ProgramFault.{ProgramFault}
 use Rattle.jreport.specs.declared.faults.ProgramFault.TheVariants.{OutOfMemory}
 use Rattle.jreport.proofs.WalkLemmas.{goes_up, stays, enters, nothing_put, line_put, line_failed, step_failed, visit_at, way_back, way_on}
 use Rattle.jreport.proofs.listing.Walk.step.Goals as goal

@@ -1,0 +1,71 @@
+#!/usr/bin/env python3
+"""Compares `ls` and `cat` with other readers of the same images: python3 bench/readers.py FOLDER [RUNS] [PROGRAM]
+
+The images are those of bench/trees.py, the programs those that `rt run` built, jffs2reader that of mtd-utils. Of each
+command the least processor time over the runs counts, and the greatest memory. What jffs2reader prints is not judged:
+bench/README.md says what it leaves out. The commands of a round run one after the other, so that other work on the
+machine meets them all.
+"""
+import os
+import shutil
+import subprocess
+import sys
+
+HERE = os.path.dirname(os.path.abspath(__file__))
+FOLDER = sys.argv[1]
+RUNS = int(sys.argv[2]) if len(sys.argv) > 2 else 5
+PROGRAM = sys.argv[3] if len(sys.argv) > 3 else os.path.join(HERE, "../crates/jffs2_image/out/jffs2_image")
+CHECKSUM = os.path.join(HERE, "../crates/bench_crc/out/bench_crc")
+TREE, LARGE = os.path.join(FOLDER, "tree.img"), os.path.join(FOLDER, "large.img")
+
+# What is measured: a name, the command, and in how many of the runs.
+GROUPS = {
+    "listing of tree.img": (
+        ("ls", [PROGRAM, "ls", TREE], RUNS),
+        ("bare checksum", [CHECKSUM, TREE], RUNS),
+        ("jffs2reader -r -d", ["jffs2reader", "-r", "-d", "/", TREE], min(RUNS, 2)),
+    ),
+    "58 MiB of large.img": (
+        ("cat", [PROGRAM, "cat", LARGE, "/usr/lib/large"], RUNS),
+        ("bare checksum", [CHECKSUM, LARGE], RUNS),
+        ("jffs2reader -f", ["jffs2reader", "-f", "/usr/lib/large", LARGE], RUNS),
+        ("cat of coreutils", ["cat", LARGE], RUNS),
+    ),
+    "4 MiB of large.img": (
+        ("cat", [PROGRAM, "cat", LARGE, "/usr/lib/small"], RUNS),
+        ("bare checksum", [CHECKSUM, LARGE], RUNS),
+        ("jffs2reader -f", ["jffs2reader", "-f", "/usr/lib/small", LARGE], RUNS),
+    ),
+}
+
+
+def measured(words):
+    """Runs a command, and answers its seconds of processor time, its KiB of memory and its status."""
+    told = os.path.join(FOLDER, "memory")
+    with open(os.path.join(FOLDER, "out"), "wb") as out:
+        child = subprocess.Popen(["/usr/bin/time", "-q", "-o", told, "-f", "%M", *words], stdout=out, stderr=subprocess.DEVNULL)
+        _, status, used = os.wait4(child.pid, 0)
+    with open(told) as file:
+        return used.ru_utime + used.ru_stime, int(file.read().split()[-1]), os.waitstatus_to_exitcode(status)
+
+
+def main():
+    if not shutil.which("jffs2reader"):
+        print("jffs2reader is missing: apt-get install mtd-utils", file=sys.stderr)
+        return 77
+    for group, commands in GROUPS.items():
+        print(group)
+        tries = {name: [] for name, _, _ in commands}
+        for round_number in range(RUNS):
+            for name, words, runs in commands:
+                if round_number < runs:
+                    tries[name].append(measured(words))
+        first = min(tries[commands[0][0]])[0]
+        for name, _, _ in commands:
+            seconds, memory = min(tries[name])[0], max(memory for _, memory, _ in tries[name])
+            states = {status for _, _, status in tries[name]} - {0}
+            print(f"  {name:18} {seconds:8.3f} s {seconds / first:8.2f} times {memory:7} KiB" + (f"  status {states}" if states else ""), flush=True)
+    return 0
+
+
+sys.exit(main())
