@@ -1,14 +1,16 @@
 -- The lines of a tree: that there is a text of them, and how a walk comes to it.
 use Rattle.std.proofs.Common.{◌≡◌, ℕ, zero, suc, ◌+◌, ◌-◌, ◌*◌, ◌<◌, ◌≤◌, ◌&&◌, ◌||◌, ◌==◌, nat_eq, not, cond, Bool, true, false, List, [], ◌∷◌, ◌++◌, length, map, take, refl, sym, ap, ◌∙◌, subst, arith, append_assoc, append-nil, Option, Some, None}
-use Rattle.std.specs.Prelude.{filter, reverse, sum_by, count_by, is_some}
+use Rattle.std.specs.Prelude.{filter, reverse, sum_by, count_by, is_some, option_map}
 use Rattle.std.specs.FinMap.{entries}
 use Rattle.std.specs.List.{flat_map}
 use Rattle.std.proofs.lemmas.Grind.{common_steps}
 use Rattle.std.proofs.lemmas.Bool.Decides.{nat_tests}
 use Rattle.std.proofs.lemmas.List.Sums.{sum_by-cons, length-filter, count_by-le-length}
 use Rattle.std.proofs.lemmas.List.{length-map, length-append}
-use Rattle.jmount.specs.Tree.{State, object, is_there, is_directory, has_bits, directory_bits, entries_in}
-use Rattle.jreport.specs.TreeText.{Item, Met, items_of, line_of, met_after, todo_after, is_entered, AreLinesOf}
+use Rattle.jmount.specs.Tree.{ObjectOf, State, object, is_there, is_directory, has_bits, directory_bits, entries_in}
+use Rattle.jreport.specs.TreeText.{Item, Met, none_met, items_of, object_line, line_if, line_of, met_after, todo_after, is_entered, AreLinesOf}
+use Rattle.jmount.specs.Shown.{shown}
+use Rattle.jreport.specs.TreeLaws.{EachTreeHasOneText, RootComesFirst}
 use Rattle.jreport.specs.Walking.{IsTextOf, unmet}
 
 -- ---- the names whose directory was not met
@@ -18,13 +20,13 @@ count_apart : {X : Type 0} (p q r : X → Bool) → ((x : X) → cond (p x) 1 0 
     → (xs : List X) → count_by p xs + count_by q xs ≡ count_by r xs
 count_apart p q r apart [] = refl
 count_apart p q r apart (x ∷ xs) = omega (
-    arith,
-    apart x,
-    count_apart p q r apart xs,
-    sum_by-cons (λ y. cond (p y) 1 0) x xs,
-    sum_by-cons (λ y. cond (q y) 1 0) x xs,
-    sum_by-cons (λ y. cond (r y) 1 0) x xs,
-  )
+  arith,
+  apart x,
+  count_apart p q r apart xs,
+  sum_by-cons (λ y. cond (p y) 1 0) x xs,
+  sum_by-cons (λ y. cond (q y) 1 0) x xs,
+  sum_by-cons (λ y. cond (r y) 1 0) x xs,
+)
 
 count_fewer : {X : Type 0} (p r : X → Bool) → ((x : X) → cond (p x) 1 0 ≤ cond (r x) 1 0) → (xs : List X) → count_by p xs ≤ count_by r xs
 count_fewer p r fewer [] = omega arith
@@ -43,8 +45,10 @@ unmet_entered s met d entered =
   where
     flip : (a b : ℕ) → (a == b) ≡ (b == a)
     flip a b = grind (arith, nat_tests)
+
     same : (a b : ℕ) → (b == a) ≡ true → met b ≡ met a
     same a b is = ap met (grind (arith, nat_tests))
+
     one : (dir here there at from : Bool) → dir && not here ≡ true → at ≡ from → (from ≡ true → there ≡ here)
         → cond (not (there || (dir && at))) 1 0 + cond from 1 0 ≡ cond (not there) 1 0
     one dir here there at from is flipped equal = grind (arith, common_steps)
@@ -62,11 +66,11 @@ length_items : (s : State) (path : List (List ℕ)) (names : List (List ℕ × �
 length_items s path names =
     let shown : List ℕ × ℕ → Item = λ e. (path ++ e.0 ∷ [], e.1) in
     omega (
-    arith,
-    length-map (filter (λ e. is_there s e.1) names) shown,
-    length-filter (λ e. is_there s e.1) names,
-    count_by-le-length (λ e. is_there s e.1) names,
-  )
+      arith,
+      length-map (filter (λ e. is_there s e.1) names) shown,
+      length-filter (λ e. is_there s e.1) names,
+      count_by-le-length (λ e. is_there s e.1) names,
+    )
 
 weight_falls : (s : State) (met : Met) (item : Item) (todo : List Item) → unmet s (met_after s met item.1) + length (todo_after s met item todo) ≤ unmet s met + length todo
 weight_falls s met item todo = by (is_entered s met item.1) refl
@@ -74,11 +78,11 @@ weight_falls s met item todo = by (is_entered s met item.1) refl
     by : (entered : Bool) → is_entered s met item.1 ≡ entered
         → unmet s (met_after s met item.1) + length (cond entered (items_of s item.0 (entries_in s item.1) ++ todo) todo) ≤ unmet s met + length todo
     by true is = omega (
-        arith,
-        unmet_entered s met item.1 is,
-        length_items s item.0 (entries_in s item.1),
-        length-append (items_of s item.0 (entries_in s item.1)) todo,
-      )
+      arith,
+      unmet_entered s met item.1 is,
+      length_items s item.0 (entries_in s item.1),
+      length-append (items_of s item.0 (entries_in s item.1)) todo,
+    )
     by false is = omega (arith, unmet_after s met item.1)
 
 has_lines : (n : ℕ) (s : State) (met : Met) (todo : List Item) → unmet s met + length todo ≤ n → (lines : List (List ℕ)) × AreLinesOf s met todo lines
@@ -113,3 +117,28 @@ text_is_one s met todo a b first other =
 pub next_line : (s : State) (met : Met) (item : Item) (todo : List Item) (rest : List ℕ)
     → IsTextOf s (met_after s met item.1) (todo_after s met item todo) rest → IsTextOf s met (item ∷ todo) (line_of s met item ++ rest)
 next_line s met item todo rest is = (line_of s met item ∷ is.0, (refl, is.1), ap (λ l. line_of s met item ++ l) is.2)
+
+-- ---- the laws
+
+pub one_text : EachTreeHasOneText
+one_text s =
+    let found = has_text s none_met (([], 1) ∷ []) in
+    (found.0, found.1, λ other is. text_is_one s none_met (([], 1) ∷ []) other found.0 is found.1)
+
+-- a list of lines that begins with the line of the first item
+first_line : (s : State) (met : Met) (item : Item) (todo : List Item) (lines : List (List ℕ)) → AreLinesOf s met (item ∷ todo) lines
+    → (rest : List ℕ) × (flat_map (λ line. line) lines ≡ line_of s met item ++ rest)
+first_line s met item todo [] are = absurd are
+first_line s met item todo (line ∷ lines) are = (flat_map (λ l. l) lines, ap (λ l. l ++ flat_map (λ x. x) lines) are.0)
+
+no_mark : (b : Bool) → b && false ≡ false
+no_mark true = refl
+no_mark false = refl
+
+pub root_first : RootComesFirst
+root_first s root text there is =
+    let first = first_line s none_met ([], 1) [] is.0 is.1 in
+    let line : line_of s none_met ([], 1) ≡ object_line s [] 1 (shown root) false =
+    ap (λ (b : Bool). line_if s [] 1 (option_map shown (object s 1)) b) (no_mark (is_directory s 1))
+    ∙ ap (λ (o : Option (ObjectOf (List ℕ))). line_if s [] 1 (option_map shown o) false) there in
+    (first.0, is.2 ∙ first.1 ∙ ap (λ (l : List ℕ). l ++ first.0) line)

@@ -75,11 +75,11 @@ next_text s met path name i names more rest is = by (is_there s i) refl
 
 pub is_at_end : (s : State) (w n : Walk) (old : Option (List ℕ)) (before : ℕ) → w.left ≡ [] → w.above.items ≡ [] → PutsStep s w n old old before before (Ok false)
 is_at_end s w n old before none empty = (
-    ap (λ (left : List (List ℕ × ℕ)). items_up s (left ∷ reverse w.above.items) (way_of w)) none
-    ∙ ap (λ (above : List (List (List ℕ × ℕ))). items_up s (reverse above) (way_up (way_of w))) empty,
-    Appends-nil old,
-    refl,
-  )
+  ap (λ (left : List (List ℕ × ℕ)). items_up s (left ∷ reverse w.above.items) (way_of w)) none
+      ∙ ap (λ (above : List (List (List ℕ × ℕ))). items_up s (reverse above) (way_up (way_of w))) empty,
+  Appends-nil old,
+  refl,
+)
 
 up_todo : (s : State) (w n : Walk) → w.left ≡ [] → GoesUp w n true → todo_of s w ≡ todo_of s n
 up_todo s w n none up =
@@ -99,14 +99,14 @@ up_steps s w n none up =
 
 pub went_up : (s : State) (w n : Walk) (old : Option (List ℕ)) (before : ℕ) → w.left ≡ [] → GoesUp w n true → PutsStep s w n old old before before (Ok true)
 went_up s w n old before none up = (
-    (
-      [],
-      Appends-nil old,
-      λ rest is. subst (λ (todo : List Item). IsTextOf s (met_of w.met) todo rest) (sym (up_todo s w n none up)) (subst (λ m. IsTextOf s (met_of m) (todo_of s n) rest) up.2 is),
-    ),
-    up_steps s w n none up,
-    refl,
-  )
+  (
+    [],
+    Appends-nil old,
+    λ rest is. subst (λ (todo : List Item). IsTextOf s (met_of w.met) todo rest) (sym (up_todo s w n none up)) (subst (λ m. IsTextOf s (met_of m) (todo_of s n) rest) up.2 is),
+  ),
+  up_steps s w n none up,
+  refl,
+)
 
 pub goes_up : (s : State) (w n : Walk) (left : List (List ℕ × ℕ)) (up : Bool) (old : Option (List ℕ)) (before : ℕ) → w.left ≡ []
     → GoesUp (record w { left = left }) n up → PutsStep s w n old old before before (Ok up)
@@ -142,13 +142,12 @@ stays s w n name i old new before now read above way put =
     let fewer : unmet s (met_of n.met) ≤ unmet s (met_of w.met) = subst (λ (m : Met). unmet s m ≤ unmet s (met_of w.met)) (sym put.1) (unmet_after s (met_of w.met) i) in
     let left : length w.left ≡ length n.left + 1 = ap length read ∙ omega arith in
     let sum : sum_by (λ left. length left) n.above.items ≡ sum_by (λ left. length left) w.above.items = ap (sum_by (λ left. length left)) above in
-    let deep : length n.above.items ≡ length w.above.items = ap length above in
-    (
+    let deep : length n.above.items ≡ length w.above.items = ap length above in (
       (
         line_of s (met_of w.met) (item_of w name i),
         put.2,
         λ rest is. read_text s w name i n.left rest read
-        (subst (λ (todo : List Item). IsTextOf s (met_after s (met_of w.met) i) todo rest) (sym todo) (subst (λ (m : Met). IsTextOf s m (todo_of s n) rest) put.1 is)),
+            (subst (λ (todo : List Item). IsTextOf s (met_after s (met_of w.met) i) todo rest) (sym todo) (subst (λ (m : Met). IsTextOf s m (todo_of s n) rest) put.1 is)),
       ),
       omega arith,
       put.3,
@@ -176,13 +175,12 @@ enters s w n name i names old new before now read left above way put =
     let one : length w.left ≡ length names + 1 = ap length read ∙ omega arith in
     let sum : sum_by (λ left. length left) n.above.items ≡ sum_by (λ left. length left) w.above.items + length names =
     ap (sum_by (λ left. length left)) above ∙ sum_by_push (λ left. length left) w.above.items names in
-    let deep : length n.above.items ≡ length w.above.items + 1 = ap length above ∙ length_push w.above.items names in
-    (
+    let deep : length n.above.items ≡ length w.above.items + 1 = ap length above ∙ length_push w.above.items names in (
       (
         line_of s (met_of w.met) (item_of w name i),
         put.2,
         λ rest is. read_text s w name i names rest read
-        (subst (λ (todo : List Item). IsTextOf s (met_after s (met_of w.met) i) todo rest) (sym todo) (subst (λ (m : Met). IsTextOf s m (todo_of s n) rest) put.1 is)),
+            (subst (λ (todo : List Item). IsTextOf s (met_after s (met_of w.met) i) todo rest) (sym todo) (subst (λ (m : Met). IsTextOf s m (todo_of s n) rest) put.1 is)),
       ),
       omega arith,
       put.3,
@@ -274,10 +272,10 @@ pub root_entered : (s : State) (w : Walk) (empty : BTreeSet ℕ) (old new : Opti
     → w.path.items ≡ [] → w.left ≡ entries_in s 1 → w.above.items ≡ []
     → PutsVisit s empty w.met root old new before now (Ok true) → Reaches s w old new
 root_entered s w empty old new before now none path left above put = (
-    line_of s (met_of empty) root,
-    put.2,
-    λ rest is. root_text s empty w.met true old new before now rest none put (subst (λ (todo : List Item). IsTextOf s (met_of w.met) todo rest) here is),
-  )
+  line_of s (met_of empty) root,
+  put.2,
+  λ rest is. root_text s empty w.met true old new before now rest none put (subst (λ (todo : List Item). IsTextOf s (met_of w.met) todo rest) here is),
+)
   where
     here : todo_of s w ≡ items_of s [] (entries_in s 1) ++ []
     here =
@@ -288,19 +286,18 @@ root_entered s w empty old new before now none path left above put = (
 pub root_alone : {T : Type 0} (s : State) (empty set : BTreeSet ℕ) (old new : Option (List ℕ)) (before now : ℕ) (x : T) → empty.keys ≡ []
     → PutsVisit s empty set root old new before now (Ok false) → PutsTree s old new before now (Ok x)
 root_alone s empty set old new before now x none put = (
-    line_of s (met_of empty) root ++ [],
-    root_text s empty set false old new before now [] none put ([], refl, refl),
-    subst (Appends old new) (sym (append-nil (line_of s (met_of empty) root))) put.2,
-    put.3,
-  )
+  line_of s (met_of empty) root ++ [],
+  root_text s empty set false old new before now [] none put ([], refl, refl),
+  subst (Appends old new) (sym (append-nil (line_of s (met_of empty) root))) put.2,
+  put.3,
+)
 
 -- a beginning of the root's line went out
 root_part : (s : State) (empty : BTreeSet ℕ) (old new : Option (List ℕ)) → empty.keys ≡ [] → PutsPart old new (line_of s (met_of empty) root)
     → PutsPartOfTree s old new
 root_part s empty old new none part =
     let line = line_of s none_met root in
-    let rest = has_text s (met_after s none_met 1) (todo_after s none_met root []) in
-    (
+    let rest = has_text s (met_after s none_met 1) (todo_after s none_met root []) in (
       line ++ rest.0,
       next_line s none_met root [] rest.0 rest.1,
       part_before old new line rest.0 (subst (λ (m : Met). PutsPart old new (line_of s m root)) (none_in empty none) part),
@@ -319,19 +316,19 @@ root_failed T s empty set program.NotRegular old new before now none put = absur
 
 pub steps_on : (s : State) (w n : Walk) (a b c : Option (List ℕ)) (before now : ℕ) → Reaches s w a b → PutsStep s w n b c before now (Ok true) → Reaches s n a c
 steps_on s w n a b c before now far put = (
-    far.0 ++ put.0.0,
-    Appends-trans a b c far.0 put.0.0 far.1 put.0.1,
-    λ rest is. subst (IsTreeText s) (sym (append_assoc far.0 put.0.0 rest)) (far.2 (put.0.0 ++ rest) (put.0.2 rest is)),
-  )
+  far.0 ++ put.0.0,
+  Appends-trans a b c far.0 put.0.0 far.1 put.0.1,
+  λ rest is. subst (IsTreeText s) (sym (append_assoc far.0 put.0.0 rest)) (far.2 (put.0.0 ++ rest) (put.0.2 rest is)),
+)
 
 pub all_steps : {T : Type 0} (s : State) (w n : Walk) (a b c : Option (List ℕ)) (first before now : ℕ) (x : T) → Reaches s w a b → before ≡ first
     → PutsStep s w n b c before now (Ok false) → PutsTree s a c first now (Ok x)
 all_steps s w n a b c first before now x far same put = (
-    far.0 ++ [],
-    far.2 [] (subst (λ (todo : List Item). IsTextOf s (met_of w.met) todo []) (sym put.0) ([], refl, refl)),
-    Appends-trans a b c far.0 [] far.1 put.1,
-    put.2 ∙ same,
-  )
+  far.0 ++ [],
+  far.2 [] (subst (λ (todo : List Item). IsTextOf s (met_of w.met) todo []) (sym put.0) ([], refl, refl)),
+  Appends-trans a b c far.0 [] far.1 put.1,
+  put.2 ∙ same,
+)
 
 whole_of_part : (s : State) (w : Walk) (a b c : Option (List ℕ)) → Reaches s w a b → PutsPartOf s (met_of w.met) (todo_of s w) b c → PutsPartOfTree s a c
 whole_of_part s w a b c far part = (far.0 ++ part.0, far.2 part.0 part.1, part_behind a b c far.0 part.0 far.1 part.2)

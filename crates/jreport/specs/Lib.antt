@@ -4,6 +4,7 @@ pub mod Loaded
 pub mod Paths
 pub mod Puts
 pub mod Report
+pub mod TreeLaws
 pub mod TreeText
 pub mod Verdict
 pub mod Walking

@@ -6,7 +6,7 @@
 //! `specs/Report.antt` says what the report of an image is, `specs/Verdict.antt` what is said of its mount,
 //! `specs/TreeText.antt` what the listing is, `specs/Content.antt` which bytes a path names, `specs/Faults.antt` how faults
 //! are spelled, and `specs/Loaded.antt` what the calls do that read a whole image. `report_rows` and `fault_rows` have worked
-//! examples.
+//! examples, and `tree_laws` laws of the listing.
 #![tactic(auto)]
 
 mod blocks;
@@ -19,6 +19,8 @@ mod files;
 mod forms;
 mod line;
 mod listing;
+#[cfg(test)]
+mod listing_tests;
 mod loaded;
 mod paths;
 #[cfg(test)]
@@ -32,7 +34,10 @@ mod stream;
 #[cfg(test)]
 mod stream_tests;
 mod tree;
+pub mod tree_laws;
 mod verdict;
+#[cfg(test)]
+mod verdict_tests;
 
 pub use crate::escapes::put_escaped;
 pub use crate::faults::{ProgramFault, fault_line, fault_text};

@@ -8,8 +8,8 @@ ghost use Rattle.jreport.specs.Loaded.{IsFaultOfCheck, IsFaultOfLoad, PutsCheck,
 
 use crate::faults::ProgramFault;
 use crate::files::content;
-use crate::report::put_report;
 use crate::listing::tree_lines;
+use crate::report::put_report;
 use crate::verdict::verdict_lines;
 use flashbase::{LoadFault, Sink, Source, load};
 use jmount::mount;

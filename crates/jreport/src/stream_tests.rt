@@ -16,11 +16,11 @@ const SMALL: Geometry = Geometry {
 
 /// Gives its bytes in pieces, and fails once it has given `limit`.
 #[derive(Drop)]
-struct Pieces<'a> {
-    bytes: &'a [u8],
-    piece: usize,
-    limit: usize,
-    failures: u64,
+pub(crate) struct Pieces<'a> {
+    pub(crate) bytes: &'a [u8],
+    pub(crate) piece: usize,
+    pub(crate) limit: usize,
+    pub(crate) failures: u64,
 }
 
 impl Source for Pieces<'_> {

@@ -13,7 +13,7 @@ returns-in_err-content-clause-put g c =
     (g.T.Sink.taken c.args.sink.now) (g.T.Sink.taken c.content.new.sink) (g.T.Sink.failures c.args.sink.now) (g.T.Sink.failures c.content.new.sink) c.from_residual-in_err-content.result
     c.as_slice.ensures.value c.in_ok-image.ensures.whole c.in_ok-mounted.ensures
     (content_passed ℕ c.in_ok-mounted.mounted c.args.path.now (g.T.Sink.taken c.args.sink.now) (g.T.Sink.taken c.content.new.sink) (g.T.Sink.failures c.args.sink.now) (g.T.Sink.failures c.content.new.sink)
-      c.in_err-content.field-0.0 _ c.from_residual-in_err-content.ensures.1 c.in_err-content.ensures)
+    c.in_err-content.field-0.0 _ c.from_residual-in_err-content.ensures.1 c.in_err-content.ensures)
 
 pub returns-clause-put : goal.returns-clause-put
 returns-clause-put g c =

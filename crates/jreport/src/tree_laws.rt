@@ -1,0 +1,13 @@
+//! Laws of the listing, each the contract of an empty function.
+
+ghost use Rattle.jreport.specs.TreeLaws as law;
+
+/// However the names of a file system lead, also in a circle, there is one text of its tree.
+pub fn every_tree_has_one_text()
+    ensures { law.EachTreeHasOneText }
+{}
+
+/// The text begins with the root's line, which does not say that the root was met before.
+pub fn root_comes_first()
+    ensures { law.RootComesFirst }
+{}
