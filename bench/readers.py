@@ -1,11 +1,10 @@
 #!/usr/bin/env python3
 """Compares `ls` and `cat` with other readers of the same images: python3 bench/readers.py FOLDER [RUNS] [CRATES]
 
-The images are those of bench/trees.py, the programs those that `rt run` built in CRATES (here, if it is not given),
-jffs2reader that of mtd-utils. Of each
-command the least processor time over the runs counts, and the greatest memory. What jffs2reader prints is not judged:
-bench/README.md says what it leaves out. The commands of a round run one after the other, so that other work on the
-machine meets them all.
+The images are those of bench/trees.py, jffs2reader that of mtd-utils, and the other programs those that `rt run` built in
+CRATES (here, where it is not given). Of each command the least processor time over the runs counts, and the greatest
+memory; the commands of a round run one after the other, so that other work on the machine meets them all. What
+jffs2reader prints is not judged: bench/README.md says what it leaves out.
 """
 import os
 import shutil
