@@ -1,10 +1,10 @@
 #!/usr/bin/env python3
-"""Compares `ls` and `cat` with other readers of the same images: python3 bench/readers.py FOLDER [RUNS] [PROGRAM]
+"""Compares `ls` and `cat` with other readers of the same images: python3 bench/readers.py FOLDER [RUNS] [CRATES]
 
-The images are those of bench/trees.py, the programs those that `rt run` built, jffs2reader that of mtd-utils. Of each
-command the least processor time over the runs counts, and the greatest memory. What jffs2reader prints is not judged:
-bench/README.md says what it leaves out. The commands of a round run one after the other, so that other work on the
-machine meets them all.
+The images are those of bench/trees.py, jffs2reader that of mtd-utils, and the other programs those that `rt run` built in
+CRATES (here, where it is not given). Of each command the least processor time over the runs counts, and the greatest
+memory; the commands of a round run one after the other, so that other work on the machine meets them all. What
+jffs2reader prints is not judged: bench/README.md says what it leaves out.
 """
 import os
 import shutil
@@ -14,16 +14,17 @@ import sys
 HERE = os.path.dirname(os.path.abspath(__file__))
 FOLDER = sys.argv[1]
 RUNS = int(sys.argv[2]) if len(sys.argv) > 2 else 5
-PROGRAM = sys.argv[3] if len(sys.argv) > 3 else os.path.join(HERE, "../crates/jffs2_image/out/jffs2_image")
-CHECKSUM = os.path.join(HERE, "../crates/bench_crc/out/bench_crc")
+CRATES = sys.argv[3] if len(sys.argv) > 3 else os.path.join(HERE, "../crates")
+PROGRAM = os.path.join(CRATES, "jffs2_image/out/jffs2_image")
+CHECKSUM = os.path.join(CRATES, "bench_crc/out/bench_crc")
 TREE, LARGE = os.path.join(FOLDER, "tree.img"), os.path.join(FOLDER, "large.img")
 
-# What is measured: a name, the command, and in how many of the runs.
+# What is measured: a name, the command, and in how many of the runs. Once is enough for what takes many seconds.
 GROUPS = {
     "listing of tree.img": (
         ("ls", [PROGRAM, "ls", TREE], RUNS),
         ("bare checksum", [CHECKSUM, TREE], RUNS),
-        ("jffs2reader -r -d", ["jffs2reader", "-r", "-d", "/", TREE], min(RUNS, 2)),
+        ("jffs2reader -r -d", ["jffs2reader", "-r", "-d", "/", TREE], 1),
     ),
     "58 MiB of large.img": (
         ("cat", [PROGRAM, "cat", LARGE, "/usr/lib/large"], RUNS),

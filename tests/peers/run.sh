@@ -15,4 +15,4 @@ if [[ ! -x $program ]]; then
     echo "$program is no program: build it by rt run in crates/jffs2_image, or name another"
     exit 1
 fi
-exec python3 "$here/compare.py" "$program"
+exec python3 -B "$here/compare.py" "$program"
