@@ -135,9 +135,10 @@ line="an image of 256 MiB in 64 MiB of memory"
 line="a block of 4 MiB in 5 MB of memory"
 (ulimit -v 5000; "$program" check --scan --block 4194304 block > out 2> err); got=$?; want 1 "" "jffs2_image: L3 OutOfMemory"
 
-# The sample image, in its own byte order and in the other one
+# A sample image, in its own byte order and in the other one
 sample=$samples/one_entry.img
-run check --scan --block 4096 "$sample"; want 0 "$(cat "$samples/../stdout")" ""
+run check --scan --block 4096 "$sample"
+want 0 $'block 0\n00000000 marker 12\n0000000c entry 44 pino 1 version 1 ino 2 type 8 name a\n00000038 erased 4040\ntotal blocks 1 entries 1 inodes 0 findings 0' ""
 run check --scan --block 4096 --endian big "$sample"
 want 3 $'block 0\n00000000 other-order 4\n00000004 dirt 8\n0000000c other-order 4\n00000010 dirt 40\n00000038 erased 4040\ntotal blocks 1 entries 0 inodes 0 findings 4' ""
 
@@ -169,6 +170,17 @@ for words in "cat --help" "cat -h" "help cat"; do
     run $words; want 0 "*Usage: jffs2_image cat *<IMAGE> <PATH>*--block <N>*65536*Exit status:*" ""
 done
 
+# The sample image with a tree, which mkfs.jffs2 made
+tree=$samples/tree.img
+run ls --block 8192 "$tree"; want 0 "$(sed 's/\\/\\\\/g' "$samples/../stdout")" ""
+run check --block 8192 "$tree"; want 0 "*entries 12 inodes 11 findings 0*mount ok" ""
+run cat --block 8192 "$tree" /etc/passwd; want 0 "root:x:0:0:root:/root:/bin/sh" ""
+run cat --block 8192 "$tree" '/var/log/boot\x20log'; want 0 "two words" ""
+run cat --block 8192 "$tree" '/var/log/boot log'; want 0 "two words" ""
+run cat --block 8192 "$tree" /var/name; want 1 "" "jffs2_image: P4 NotRegular"
+run cat --block 8192 "$tree" /etc/passwd/a; want 1 "" "jffs2_image: P3 Path NotDirectory"
+run ls --block 8192 --endian big "$tree"; want 0 "d 0755 0 0 0 0 1 /" ""
+
 # Trees
 root="d 0755 0 0 0 0 1 /"
 run ls block; want 0 "$root" ""
@@ -179,6 +191,14 @@ run ls --block 4096 "$sample"; want 0 "$root" ""
 run ls --block 4096 --endian big "$sample"; want 0 "$root" ""
 run ls file; want 0 "$root"$'\n- 0644 0 0 0 0 2 /a' ""
 run ls --endian big file; want 0 "$root" ""
+run ls --block 4096 "$tree"; want 0 "$(sed 's/\\/\\\\/g' "$samples/../stdout")" ""
+run cat --block 4096 "$tree" '/var/log/boot\x20log'; want 0 "*" ""
+line="the 10 bytes of $line"
+[[ $(wc -c < out) == 10 ]]
+bad=$?
+count $bad
+[[ $bad == 0 ]] || echo "FAILED: $line"
+run check --block 4096 "$tree"; want 0 "*total blocks 2 entries 12 inodes 11 findings 0*mount ok" ""
 run cat file /a; want 0 "" ""
 run check file; want 0 "*total blocks 1 entries 1 inodes 1 findings 0*mount ok" ""
 for value in 0 4095 4097 4194308; do
