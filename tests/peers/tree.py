@@ -51,6 +51,8 @@ def make(root):
     with socket.socket(socket.AF_UNIX) as door:
         door.bind(at(b"kinds", b"s"))
     for mode in MODES:
+        if not mode & 0o400 and os.geteuid() != 0:
+            continue  # mkfs.jffs2 could not read it
         write(at(b"modes", b"%04o" % mode), b"m")
         os.chmod(at(b"modes", b"%04o" % mode), mode)
         os.mkdir(at(b"modes", b"d%04o" % mode))
