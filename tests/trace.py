@@ -1,0 +1,56 @@
+#!/usr/bin/env python3
+"""Looks up each name of docs/TRACE.md in the repository: tests/trace.py. The last line is 'N passed, M failed'.
+
+The names stand between backquotes, in three forms: `crate.File.name` is a definition in crates/crate/specs/File.antt,
+`crate::module::name` an item of crates/crate/src/module.rt, and `crate/name` an edit, crates/crate/must-fail/name.edit.
+"""
+import os
+import re
+import sys
+
+HERE = os.path.dirname(os.path.abspath(__file__))
+CRATES = os.path.join(HERE, "..", "crates")
+WORD = r"[A-Za-z_][A-Za-z0-9_]*"
+DEFINITION = re.compile(rf"({WORD})\.({WORD})\.({WORD})")
+ITEM = re.compile(rf"({WORD})::((?:{WORD}::)+)({WORD})")
+EDIT = re.compile(rf"({WORD})/({WORD})")
+
+
+def text_of(*path):
+    try:
+        with open(os.path.join(CRATES, *path), encoding="utf-8") as file:
+            return file.read()
+    except OSError:
+        return ""
+
+
+def is_there(name):
+    """Whether what a name stands for is there; None where it has none of the three forms."""
+    if found := DEFINITION.fullmatch(name):
+        crate, file, word = found.groups()
+        text = text_of(crate, "specs", f"{file}.antt")
+        return bool(re.search(rf"^(?:(?:pub|unfoldable|abbrev|record|data|opaque) )*{word}\b", text, re.M))
+    if found := ITEM.fullmatch(name):
+        crate, modules, word = found.groups()
+        module = modules.split("::")[0]
+        text = text_of(crate, "src", f"{module}.rt")
+        return bool(re.search(rf"\b(?:fn|struct|enum|trait|type|const|impl(?:<[^>]*>)?) {word}\b", text))
+    if found := EDIT.fullmatch(name):
+        return os.path.isfile(os.path.join(CRATES, found[1], "must-fail", f"{found[2]}.edit"))
+    return None
+
+
+def main():
+    with open(os.path.join(HERE, "..", "docs", "TRACE.md"), encoding="utf-8") as file:
+        rows = [line for line in file if line.startswith("|")]
+    names = sorted({name for row in rows for name in re.findall(r"`([^`]+)`", row)})
+    answers = {name: is_there(name) for name in names}
+    missing = [name for name, answer in answers.items() if answer is False]
+    for name in missing:
+        print(f"FAILED: docs/TRACE.md names {name}, which is not there")
+    passed = sum(answer is True for answer in answers.values())
+    print(f"{passed} passed, {len(missing)} failed")
+    return 1 if missing or not passed else 0
+
+
+sys.exit(main())
