@@ -12,8 +12,6 @@ mod fault;
 mod gathering;
 mod inodes;
 pub mod laws;
-#[cfg(test)]
-mod mount_tests;
 mod mounted;
 mod mounting;
 mod object;

@@ -227,6 +227,3 @@ impl<'a> Mounted<'a> {
         self.next
     }
 }
-
-#[cfg(test)]
-mod tests;

@@ -1,0 +1,112 @@
+// What is asked of a mounted image.
+
+use crate::images::{Item, image_of};
+use jmount::{FindFault, Kind, Mounted, Object, mount};
+use jnode::Order;
+use jscan::Geometry;
+use std::alloc::Global;
+use std::test::Fail;
+
+/// A call on a mounted image, and its answer.
+#[derive(Clone, Copy)]
+pub enum Fact {
+    Find(&'static [u8], Result<u32, FindFault>),
+    Object(u32, Option<Object>),
+    /// All objects, by number and kind.
+    Objects(&'static [(u32, Kind)]),
+    /// The names of a directory.
+    Entries(u32, &'static [(&'static [u8], u32)]),
+    Names(&'static [(u32, &'static [u8], u32)]),
+    Dangling(&'static [(u32, &'static [u8], u32)]),
+    /// What reading from an offset into a slice of so many bytes puts at its front.
+    Bytes(u32, u64, usize, &'static [u8]),
+    Top(u32, u32),
+    Next(u64),
+    /// How many findings there are.
+    Findings(usize),
+    ReadOnly(bool),
+}
+
+/// Which of the facts is the first that is wrong of the mounted image. 0 is that it shows its bytes.
+pub fn first_wrong<E: Order>(
+    alloc: Global,
+    items: &[Item],
+    facts: &[Fact],
+) -> Result<Option<usize>, Fail> {
+    let image = image_of::<E>(alloc, items)?;
+    let mounted = mount::<E>(alloc, &image, Geometry { block: 4096 })?;
+    if mounted.image() != image.as_slice() {
+        return Ok(Some(0));
+    }
+    let wrong = facts.iter().position(|fact| !holds(alloc, &mounted, *fact));
+    Ok(wrong.map(|index| index + 1))
+}
+
+fn holds(alloc: Global, mounted: &Mounted<'_>, fact: Fact) -> bool {
+    match fact {
+        Fact::Find(path, wanted) => mounted.find(path) == wanted,
+        Fact::Object(ino, wanted) => mounted.object(ino) == wanted,
+        Fact::Objects(wanted) => are_objects(mounted, wanted),
+        Fact::Entries(dir, wanted) => are_entries(mounted, dir, wanted),
+        Fact::Names(wanted) => are_names(mounted, wanted),
+        Fact::Dangling(wanted) => are_dangling(alloc, mounted, wanted),
+        Fact::Bytes(ino, offset, room, wanted) => reads(mounted, ino, offset, room, wanted),
+        Fact::Top(ino, wanted) => mounted.top(ino) == wanted,
+        Fact::Next(wanted) => mounted.next() == wanted,
+        Fact::Findings(wanted) => mounted.findings().len() == wanted,
+        Fact::ReadOnly(wanted) => mounted.read_only() == wanted,
+    }
+}
+
+fn are_objects(mounted: &Mounted<'_>, wanted: &[(u32, Kind)]) -> bool {
+    let mut objects = mounted.objects();
+    for &(ino, kind) in wanted {
+        let next = objects.next();
+        let object = mounted.object(ino);
+        if next != object.map(|object| (ino, object))
+            || object.map(|object| object.kind) != Some(kind)
+        {
+            return false;
+        }
+    }
+    objects.next().is_none()
+}
+
+fn are_entries(mounted: &Mounted<'_>, dir: u32, wanted: &[(&[u8], u32)]) -> bool {
+    let mut entries = mounted.entries(dir);
+    for &entry in wanted {
+        if entries.next() != Some(entry) {
+            return false;
+        }
+    }
+    entries.next().is_none()
+}
+
+fn are_names(mounted: &Mounted<'_>, wanted: &[(u32, &[u8], u32)]) -> bool {
+    let mut names = mounted.names();
+    for &name in wanted {
+        if names.next() != Some(name) {
+            return false;
+        }
+    }
+    names.next().is_none()
+}
+
+fn are_dangling(alloc: Global, mounted: &Mounted<'_>, wanted: &[(u32, &[u8], u32)]) -> bool {
+    match mounted.dangling(alloc) {
+        Ok(names) => names.as_slice() == wanted,
+        Err(_) => false,
+    }
+}
+
+/// Reads into a slice of at most 128 bytes. What is not read stays as it was.
+fn reads(mounted: &Mounted<'_>, ino: u32, offset: u64, room: usize, wanted: &[u8]) -> bool {
+    let mut bytes = [b'#'; 128];
+    let Some(out) = bytes.get_mut(..room) else {
+        return false;
+    };
+    let count = mounted.read_at(ino, offset, out);
+    bytes.starts_with(wanted)
+        && count == wanted.len()
+        && bytes[count..].iter().all(|byte| *byte == b'#')
+}

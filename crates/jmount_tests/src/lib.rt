@@ -1,0 +1,16 @@
+//! Tests of `jmount` through its public calls: worked images, what they mount as, and why others do not mount.
+//!
+//! `images` has how an image is written down, `facts` what is asked of a mounted one. The tests are the tables of the other
+//! modules: `mounts` has small images, `calls` every call on one file system, `refusals` the images that do not mount.
+#![tactic(auto)]
+
+#[cfg(test)]
+mod calls;
+#[cfg(test)]
+mod facts;
+#[cfg(test)]
+mod images;
+#[cfg(test)]
+mod mounts;
+#[cfg(test)]
+mod refusals;
