@@ -1,10 +1,12 @@
 #!/usr/bin/env bash
 # Passes all tests: `rt ci` (every proof from nothing, the edits that the prover must refuse, the tests, the program's
-# stored run), then the finished program as a user meets it. The last line is 'N passed, M failed'.
+# stored run), then the finished program as a user meets it. The last lines are where the processor time of `rt ci` went, crate
+# by crate in minutes, and 'N passed, M failed'.
 set -uo pipefail
 cd "$(dirname "$0")/.."
 log=$(mktemp)
-trap 'rm -f "$log"' EXIT
+times=$(mktemp)
+trap 'rm -f "$log" "$times"' EXIT
 passed=0
 failed=0
 
@@ -19,7 +21,8 @@ suite() {
   failed=$((failed + bad))
 }
 
-suite rt ci
+suite tests/gate_clock.py "$times" rt ci
 suite tests/program.sh crates/jffs2_image/out/jffs2_image
+cat "$times"
 echo "$passed passed, $failed failed"
 [ "$failed" -eq 0 ]

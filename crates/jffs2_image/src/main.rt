@@ -1,21 +1,14 @@
 //! Reads flash images of JFFS2: the program `jffs2_image`.
 //!
-//! `commands`, `asked` and `request` read the command line, `outcome` says how it ends, and `program` opens files and lets
-//! `jreport` do the work over them. `main` hands over the process's words and streams.
+//! `jcommand` reads the command line, and `program` opens files and lets `jreport` do the work over them. `main` hands over
+//! the process's words and streams.
 #![tactic(auto)]
 
-pub mod asked;
-pub mod commands;
-pub mod laws;
-pub mod outcome;
 pub mod program;
-pub mod request;
-#[cfg(test)]
-mod tests;
 
 use flashbase::FromWriter;
+use jcommand::{Outcome, status};
 use jreport::ProgramFault;
-use outcome::{Outcome, status};
 use program::{refuse, tell};
 use std::alloc::{AllocError, Global};
 use std::io::ErrorKind;

@@ -3,11 +3,9 @@ ghost use Rattle.std.specs.Prelude.{◌≡◌, ◌⊎◌};
 ghost use Rattle.std.specs.Io.KnownBytes.{Appends};
 ghost use Rattle.jreport.specs.Faults.{TellsFault, fault_line_of};
 
-use crate::asked::Request;
-use crate::outcome::Outcome;
-use crate::request::{RequestFault, request};
 use byteorder::{BigEndian, LittleEndian};
 use flashbase::{FromReader, FromWriter, Sink, put_all};
+use jcommand::{Outcome, Request, RequestFault, request};
 use jnode::{Endian, Order};
 use jreport::{
     ProgramFault, check_lines, fault_line, file_bytes, list_lines, path_word, stream_lines,
@@ -20,7 +18,7 @@ use std::rt::Files;
 const OUTPUT_BUFFER: usize = 65536;
 
 /// Why a run ends early.
-#[derive(Debug, Drop)]
+#[derive(Drop)]
 enum Stop<'a> {
     /// The command line is wrong.
     Usage { text: String },

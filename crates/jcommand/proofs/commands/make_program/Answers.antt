@@ -1,0 +1,9 @@
+use Rattle.jcommand.specs.Commands.{program}
+use Rattle.jcommand.proofs.commands.make_program.Goals as goal
+
+pub returns : goal.returns
+unfolding program
+returns c =
+    let check = c.add_subcommand-command.ensures _ _ c.make_bare.ensures c.make_check.ensures in
+    let ls = c.add_subcommand-command-2.ensures _ _ check c.make_ls.ensures in
+    c.add_subcommand.ensures _ _ ls c.make_cat.ensures

@@ -1,0 +1,59 @@
+-- The command line, as clap sees it: the program, its subcommands, and the words that each one takes.
+use Rattle.std.specs.Prelude.{◌≡◌, true, false, [], ◌∷◌, Some, Result, IfOk, codes}
+use Rattle.clap.specs.Words.{App, Rule, Text, app_of, new_app, new_rule, rule_of, with_rule, with_subcommand}
+use Rattle.clap.specs.declared.builder.Arg.{Arg}
+use Rattle.clap.specs.declared.builder.Command.{Command}
+use Rattle.clap.specs.declared.builder.Command.TheViews.{out-Command as fields_of}
+use Rattle.clap.specs.declared.builder.action.ArgAction.TheVariants.{SetTrue}
+
+-- a word that has to be there
+abbrev pub word : Text → Rule
+word id = record (new_rule id) { required = true }
+
+-- an option with a value, and the value that stands for it where it is not given
+abbrev pub option_or : Text → Text → Rule
+option_or id default = record (new_rule id) { long = Some id; value_names = 1; defaults = default ∷ [] }
+
+-- a flag that may be left out
+abbrev pub flag : Text → Rule
+flag id = record (new_rule id) { long = Some id; action = Some SetTrue }
+
+-- a subcommand with the options that each one has
+abbrev pub plain : Text → App
+plain name = with_rule (with_rule (new_app name) (option_or (codes "block") (codes "65536")))
+    (option_or (codes "endian") (codes "little"))
+
+-- `check [--scan] [--block N] [--endian ORDER] IMAGE`
+abbrev pub check_app : App
+check_app = with_rule (with_rule (plain (codes "check")) (flag (codes "scan"))) (word (codes "IMAGE"))
+
+-- `ls [--block N] [--endian ORDER] IMAGE`
+abbrev pub ls_app : App
+ls_app = with_rule (plain (codes "ls")) (word (codes "IMAGE"))
+
+-- `cat [--block N] [--endian ORDER] IMAGE PATH`
+abbrev pub cat_app : App
+cat_app = with_rule (with_rule (plain (codes "cat")) (word (codes "IMAGE"))) (word (codes "PATH"))
+
+-- the program without its subcommands, of which one has to be named
+abbrev pub bare : App
+bare = let app = new_app (codes "jffs2_image") in record app { top = record app.top { subcommand_required = true } }
+
+unfoldable pub program : App
+program = with_subcommand (with_subcommand (with_subcommand bare check_app.top) ls_app.top) cat_app.top
+
+-- ---- what is made
+
+-- the word or option is to clap this rule, of its command alone
+pub record IsRule (arg : Arg) (wanted : Rule) : Type 0 where
+  pub rule : rule_of arg ≡ wanted
+  pub local : arg.global ≡ false
+
+-- the command is to clap this one, and no word is shared with its subcommands
+pub record IsApp (command : Command) (wanted : App) : Type 0 where
+  pub app : app_of command ≡ wanted
+  pub local : (fields_of command).has_globals ≡ false
+
+-- where there is memory, that command is made
+abbrev pub MakesApp : {E : Type 0} → Result Command E → App → Type 0
+MakesApp made wanted = IfOk made (λ command. IsApp command wanted)

@@ -1,0 +1,127 @@
+//! The request that a command line makes.
+ghost use Rattle.std.specs.Prelude.{◌≡◌, ◌≢◌, ◌⊎◌, [], true, map, IfOk, IfErr, IsSome, OnOk, Some, option_map};
+ghost use Rattle.clap.specs.Words.{HasKind, fault_of, kind_of, subcommand_of, subcommand_rows_of, takes};
+ghost use Rattle.jcommand.specs.Commands.{program};
+ghost use Rattle.jcommand.specs.Asked.{view, asked_by, asked_for, is_taken, IsHelpAsked, IsRefused, IsUnreadable};
+ghost use Rattle.jcommand.specs.Refused.{IsHelp, IsUsage};
+ghost use Rattle.jcommand.specs.declared.command_line.RequestFault.TheVariants.{OutOfMemory};
+
+use crate::asked::{Request, asked_of, endian, number, text_at};
+use crate::commands::make_program;
+use clap::error::ErrorKind;
+use clap::{ArgMatches, Error};
+use std::alloc::{AllocError, Global};
+
+/// Why a command line makes no request. Each text ends with one line feed.
+#[derive(Drop)]
+pub enum RequestFault {
+    /// It asks for help.
+    Help { text: String },
+    /// It is wrong.
+    Usage { text: String },
+    OutOfMemory,
+}
+
+impl From<AllocError> for RequestFault {
+    ghost from_gives = { λ _ e. e ≡ OutOfMemory };
+
+    fn from(_e: AllocError) -> RequestFault {
+        RequestFault::OutOfMemory
+    }
+}
+
+/// What a wrong command line is answered.
+fn usage(text: Result<String, AllocError>) -> RequestFault
+    ensures { (result ≡ RequestFault.OutOfMemory) ⊎ IsUsage result }
+{
+    match text {
+        Ok(text) => RequestFault::Usage { text },
+        Err(AllocError) => RequestFault::OutOfMemory,
+    }
+}
+
+/// The fault that clap's error is.
+fn fault_of_error(alloc: Global, error: &Error) -> RequestFault
+    ensures memory { kind_of error.now ≡ ErrorKind.OutOfMemory → result ≡ RequestFault.OutOfMemory }
+    ensures help { IsHelp result → kind_of error.now ≡ ErrorKind.DisplayHelp }
+    ensures usage { IsUsage result → (kind_of error.now ≢ ErrorKind.DisplayHelp) × (kind_of error.now ≢ ErrorKind.OutOfMemory) }
+{
+    let text = match error.kind() {
+        ErrorKind::OutOfMemory => return RequestFault::OutOfMemory,
+        _ => format!(in alloc; "{error}"),
+    };
+    match error.kind() {
+        ErrorKind::DisplayHelp => match text {
+            Ok(text) => RequestFault::Help { text },
+            Err(AllocError) => RequestFault::OutOfMemory,
+        },
+        _ => usage(text),
+    }
+}
+
+/// Clap's matches of the words.
+fn matched<'a>(alloc: Global, words: &'a [&'a str]) -> Result<ArgMatches<'a>, RequestFault>
+    ensures ok { IfOk result (λ m. subcommand_rows_of m ≡ subcommand_of program (map (λ w. w.now) words.entry.now)) }
+    ensures not_refused { OnOk result (fault_of program (map (λ w. w.now) words.entry.now) ≡ []) }
+    ensures taken { IfErr result (λ e. takes program (map (λ w. w.now) words.entry.now) ≡ true → e ≡ RequestFault.OutOfMemory) }
+    ensures help { IfErr result (λ e. IsHelp e → IsHelpAsked (map (λ w. w.now) words.entry.now)) }
+    ensures usage { IfErr result (λ e. IsUsage e → IsRefused (map (λ w. w.now) words.entry.now)) }
+{
+    let command = make_program(alloc)?;
+    match command.try_get_matches_from(words) {
+        Ok(matches) => Ok(matches),
+        Err(error) => Err(fault_of_error(alloc, &error)),
+    }
+}
+
+fn asked_in<'a>(matches: &ArgMatches<'a>) -> Option<Request<'a>>
+    ensures { option_map view result ≡ asked_by (subcommand_rows_of matches.now) }
+{
+    let (name, found) = matches.subcommand()?;
+    asked_of(name, found)
+}
+
+/// The text about the value that can't be read.
+fn unreadable(alloc: Global, matches: &ArgMatches<'_>) -> Result<String, AllocError> {
+    let Some((name, found)) = matches.subcommand() else {
+        return String::from_str(alloc, "error: no subcommand; try '--help'\n");
+    };
+    let block = text_at(found, "block").unwrap_or("");
+    let order = text_at(found, "endian").unwrap_or("");
+    let (value, option, wanted) = match number(block) {
+        None => (
+            block,
+            "--block <N>",
+            "a number of bytes in decimal digits, below 4294967296",
+        ),
+        Some(_) => (order, "--endian <ORDER>", "little or big"),
+    };
+    format!(in alloc;
+        "error: invalid value '{value}' for '{option}': wanted {wanted}\n\n\
+         For more information, try 'jffs2_image {name} --help'.\n"
+    )
+}
+
+/// What the words of a command line ask for. The first word is the program's own name.
+#[tactic(auto, unfolding(crate::specs::Asked::asked_for, crate::specs::Asked::is_taken, crate::specs::Asked::IsUnreadable))]
+pub fn request<'a>(alloc: Global, words: &'a [&'a str]) -> Result<Request<'a>, RequestFault>
+    // The subcommand and its values are clap's own function of the words.
+    ensures ok { IfOk result (λ r. asked_for (map (λ w. w.now) words.entry.now) ≡ Some (view r)) }
+
+    // Where clap takes the words and every value can be read, only memory can be wanting.
+    ensures only { is_taken (map (λ w. w.now) words.entry.now) ≡ true → IsSome (asked_for (map (λ w. w.now) words.entry.now))
+        → IfErr result (λ e. e ≡ RequestFault.OutOfMemory) }
+
+    // Help comes only where clap answers the words by help.
+    ensures help { IfErr result (λ e. IsHelp e → IsHelpAsked (map (λ w. w.now) words.entry.now)) }
+
+    // A command line is wrong only where clap refuses the words, or takes them and a value can't be read.
+    ensures usage { IfErr result (λ e. IsUsage e → IsRefused (map (λ w. w.now) words.entry.now)
+        ⊎ IsUnreadable (map (λ w. w.now) words.entry.now)) }
+{
+    let matches = matched(alloc, words)?;
+    match asked_in(&matches) {
+        Some(request) => Ok(request),
+        None => Err(usage(unreadable(alloc, &matches))),
+    }
+}
