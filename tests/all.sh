@@ -22,6 +22,7 @@ suite() {
 }
 
 suite tests/gate_clock.py "$times" rt ci
+suite tests/trace.py
 suite tests/program.sh crates/jffs2_image/out/jffs2_image
 cat "$times"
 echo "$passed passed, $failed failed"
