@@ -15,9 +15,9 @@ fn is_list(
 ) -> Result<(), Fail> {
     let bytes: Vec<u8> = part.iter().collect(alloc)?;
     assert!(rt; bytes.as_slice() == list);
-    assert_eq!(rt; part.len(), list.len());
-    assert_eq!(rt; part.is_empty(), list.is_empty());
-    assert_eq!(rt; part.crc(), sum, "of {list:?}");
+    assert!(rt; part.len() == list.len());
+    assert!(rt; part.is_empty() == list.is_empty());
+    assert!(rt; part.crc() == sum);
     Ok(())
 }
 
