@@ -7,7 +7,5 @@ pub mod PathTextLemmas
 pub mod PutLemmas
 pub mod StreamLemmas
 pub mod StretchLemmas
-pub mod TurnLemmas
 pub mod VerdictLemmas
 pub mod WalkLemmas
-pub mod WordLemmas

@@ -11,7 +11,7 @@ use Rattle.jmount.specs.declared.fault.FindFault.{FindFault}
 use Rattle.jmount.specs.declared.fault.FindFault.TheVariants as find
 use Rattle.jscan.specs.declared.stream.StreamFault.{StreamFault}
 use Rattle.jscan.specs.declared.stream.StreamFault.TheVariants as stream
-use Rattle.jreport.specs.Words.{hex}
+use Rattle.jline.specs.Words.{hex}
 use Rattle.jreport.specs.declared.report_fault.ReportFault.{ReportFault}
 use Rattle.jreport.specs.declared.report_fault.ReportFault.TheVariants as report
 use Rattle.jreport.specs.declared.faults.ProgramFault.{ProgramFault}

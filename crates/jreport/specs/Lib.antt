@@ -8,4 +8,3 @@ pub mod TreeLaws
 pub mod TreeText
 pub mod Verdict
 pub mod Walking
-pub mod Words

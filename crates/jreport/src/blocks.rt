@@ -4,11 +4,11 @@ ghost use Rattle.std.specs.Prelude.{◌≡◌, ◌%◌, ◌^◌, ◌+◌, ◌<�
 ghost use Rattle.flashbase.specs.Device.{Puts};
 ghost use Rattle.jscan.specs.Counts.{block_counted, counted, no_counts};
 ghost use Rattle.jscan.specs.Stretches.{stretches};
-ghost use Rattle.jreport.specs.Report.{stretch_line, shown_name, lines_of, totals_line, HasRoom};
+ghost use Rattle.jline.specs.Forms.{stretch_line, shown_name};
+ghost use Rattle.jreport.specs.Report.{lines_of, totals_line, HasRoom};
 
-use crate::forms::{write_block, write_stretch, write_total};
-use crate::line::LineBuffer;
 use flashbase::{PutFault, Sink, put_all};
+use jline::{LineBuffer, write_block, write_stretch, write_total};
 use jnode::Order;
 use jscan::{Counts, Stretch, Stretches};
 

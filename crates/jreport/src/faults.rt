@@ -4,9 +4,9 @@ ghost use Rattle.std.specs.Io.KnownBytes.{Appends};
 ghost use Rattle.flashbase.specs.Device.{next_count};
 ghost use Rattle.jreport.specs.Faults.{fault_line_of, fault_text_of, find_text, load_text, mount_text, scan_fault_text};
 
-use crate::line::LineBuffer;
 use crate::report_fault::ReportFault;
 use flashbase::{LoadFault, PutFault, Sink, put_all};
+use jline::LineBuffer;
 use jmount::{FindFault, MountFault};
 use jscan::{ScanFault, StreamFault};
 use std::alloc::{AllocError, AllocFailed};

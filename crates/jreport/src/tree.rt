@@ -7,9 +7,8 @@ ghost use Rattle.jmount.specs.Tree as tree;
 ghost use Rattle.jmount.specs.Shown.{readable, shown};
 ghost use Rattle.jreport.specs.TreeText.{kind_letter, permissions, object_start, name_shown, path_shown, target_shown, tail_shown, object_line};
 
-use crate::escapes::put_escaped;
-use crate::line::{LineBuffer, MAX_LINE};
 use flashbase::{PutFault, Sink, put_all};
+use jline::{LineBuffer, MAX_LINE, put_escaped};
 use jmount::{Kind, Mounted, Object};
 
 /// A symlink with more bytes is shown as a long one.

@@ -6,10 +6,9 @@ ghost use Rattle.flashbase.specs.Device.{Puts};
 ghost use Rattle.jreport.specs.Faults.{mount_text};
 ghost use Rattle.jreport.specs.Verdict.{dangling_line, dangling_start, ok_line, refused_line, PutsMounted, PutsVerdict};
 
-use crate::escapes::put_escaped;
 use crate::faults::{ProgramFault, push_mount};
-use crate::line::LineBuffer;
 use flashbase::{PutFault, Sink, put_all};
+use jline::{LineBuffer, put_escaped};
 use jmount::{MountFault, Mounted, mount};
 use jnode::Order;
 use jscan::Geometry;

@@ -9,7 +9,8 @@ use Rattle.jscan.specs.StretchesLeft.{stretches_left}
 use Rattle.jscan.specs.declared.stretch.Stretch.{Stretch}
 use Rattle.jscan.specs.Counts.{block_counted, counted}
 use Rattle.jscan.specs.declared.counts.Counts.{Counts}
-use Rattle.jreport.specs.Report.{block_line, stretch_line, lines_of}
+use Rattle.jline.specs.Forms.{block_line, stretch_line}
+use Rattle.jreport.specs.Report.{lines_of}
 use Rattle.jreport.proofs.StretchLemmas.{short_stretches, length_stretches}
 use Rattle.jreport.proofs.PutLemmas.{turn, all_given, puts_err, lines_more, part_of_lines, split_behind, block_counted_more, counted_has_room}
 use Rattle.jreport.proofs.blocks.put_block.Goals as goal

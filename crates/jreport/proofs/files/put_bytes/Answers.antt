@@ -2,7 +2,7 @@ use Rattle.std.proofs.Common.{ℕ, List, ◌∙◌, subst, arith}
 use Rattle.std.specs.Io.KnownBytes.{Appends}
 use Rattle.flashbase.specs.Device.{PutsPart}
 use Rattle.jmount.specs.Shown.{readable}
-use Rattle.jreport.proofs.TurnLemmas.{bytes_put, bytes_failed, piece_read}
+use Rattle.jline.proofs.TurnLemmas.{bytes_put, bytes_failed, piece_read}
 use Rattle.jreport.proofs.files.put_bytes.Goals as goal
 
 pub returns-in_err-put_all : goal.returns-in_err-put_all

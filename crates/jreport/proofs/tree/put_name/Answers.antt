@@ -1,6 +1,6 @@
 use Rattle.std.proofs.Common.{[], ◌∷◌}
-use Rattle.jreport.specs.Words.{escaped}
-use Rattle.jreport.proofs.TurnLemmas.{first_failed, then_puts}
+use Rattle.jline.specs.Words.{escaped}
+use Rattle.jline.proofs.TurnLemmas.{first_failed, then_puts}
 use Rattle.jreport.proofs.tree.put_name.Goals as goal
 
 pub returns-in_err-put_all : goal.returns-in_err-put_all

@@ -4,7 +4,7 @@ use Rattle.flashbase.specs.Device.{PutsPart}
 use Rattle.flashbase.proofs.DeviceLemmas.{part_before}
 use Rattle.jmount.specs.Shown.{readable}
 use Rattle.jreport.specs.TreeText.{object_start, path_shown, tail_shown}
-use Rattle.jreport.proofs.TurnLemmas.{first_failed, then_puts, then_failed}
+use Rattle.jline.proofs.TurnLemmas.{first_failed, then_puts, then_failed}
 use Rattle.jreport.proofs.tree.put_object.Goals as goal
 
 pub returns-in_err-put_all : goal.returns-in_err-put_all

@@ -1,9 +1,9 @@
 use Rattle.std.proofs.Common.{ℕ, ◌≤◌, List, length, subst, arith, codes}
 use Rattle.flashbase.specs.Device.{Puts}
 use Rattle.jmount.specs.Shown.{readable}
-use Rattle.jreport.specs.Words.{escaped}
+use Rattle.jline.specs.Words.{escaped}
 use Rattle.jreport.proofs.PathTextLemmas.{target_short, target_read}
-use Rattle.jreport.proofs.TurnLemmas.{first_failed, then_puts}
+use Rattle.jline.proofs.TurnLemmas.{first_failed, then_puts}
 use Rattle.jreport.proofs.tree.put_target.Goals as goal
 
 pub returns-in_err-put_all : goal.returns-in_err-put_all

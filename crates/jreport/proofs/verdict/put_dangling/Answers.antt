@@ -2,9 +2,9 @@ use Rattle.std.proofs.Common.{ℕ, List, [], ◌∷◌, ◌++◌, ◌∙◌, sub
 use Rattle.std.specs.Io.KnownBytes.{Appends}
 use Rattle.flashbase.specs.Device.{PutsPart}
 use Rattle.flashbase.proofs.DeviceLemmas.{part_before}
-use Rattle.jreport.specs.Words.{escaped}
+use Rattle.jline.specs.Words.{escaped}
 use Rattle.jreport.specs.Verdict.{dangling_start}
-use Rattle.jreport.proofs.TurnLemmas.{first_failed, then_puts, then_failed}
+use Rattle.jline.proofs.TurnLemmas.{first_failed, then_puts, then_failed}
 use Rattle.jreport.proofs.verdict.put_dangling.Goals as goal
 
 pub returns-in_err-put_all : goal.returns-in_err-put_all
