@@ -18,3 +18,6 @@ pub mod SurveyLemmas
 pub mod AddressLaws
 pub mod RefusalLaws
 pub mod FitLaws
+pub mod ElementLemmas
+pub mod RunLaws
+pub mod NodeLaws
