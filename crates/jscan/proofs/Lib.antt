@@ -6,6 +6,7 @@ pub mod TilingLaws
 pub mod StretchLaws
 pub mod QuietLemmas
 pub mod BlankLemmas
+pub mod BlankCalls
 pub mod SightingLaws
 pub mod MarkedLemmas
 pub mod BlockLemmas
