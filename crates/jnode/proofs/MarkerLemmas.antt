@@ -1,9 +1,9 @@
 -- No header stands in a clean marker that was cut: twelve cuts in both orders are computed.
-use Rattle.std.proofs.Common.{◌≡◌, ℕ, zero, suc, ◌+◌, ◌-◌, ◌*◌, ◌<◌, ◌≤◌, ◌==◌, false, List, ◌++◌, length, take, drop, refl, sym, ap, ◌∙◌, arith, inl, inr, length-drop}
+use Rattle.std.proofs.Common.{◌≡◌, ℕ, zero, suc, ◌+◌, ◌-◌, ◌*◌, ◌<◌, ◌≤◌, ◌==◌, false, List, [], ◌∷◌, ◌++◌, slice_index, length, take, drop, refl, sym, ap, ◌∙◌, arith, inl, inr, length-drop}
 use Rattle.std.proofs.lemmas.Bool.{cases_lt, agree_below_at}
 use Rattle.std.proofs.lemmas.List.{length-take-le}
 use Rattle.flashbase.specs.Bytes.{erased}
-use Rattle.flashbase.specs.Crc.{crc_after, push_byte, push_bits, push_bit}
+use Rattle.flashbase.specs.Crc.{crc_of, crc_after, push_byte, push_bits, push_bit}
 use Rattle.jnode.specs.Order.{number_in, number_at, bytes_in}
 use Rattle.jnode.specs.Header.{magic, header_crc_of, has_header, is_good}
 use Rattle.jnode.specs.Writing.{header_bytes, clean_marker}
@@ -77,3 +77,13 @@ torn_marker_is_none e j n (suc (suc (suc word))) h =
     let k : ℕ = 4 * suc (suc (suc word)) in
     let cut = cut_long e j h in
     ap (is_good e) (behind (take j (clean_marker e)) n k (omega arith)) ∙ erased_is_not_good e (n - (k - length (take j (clean_marker e))))
+
+-- the marker byte by byte
+pub marker_spelled : (e : Endian) (m t l c : List ℕ) (n : ℕ) → m ≡ bytes_in e 2 magic → t ≡ bytes_in e 2 0x2003 → l ≡ bytes_in e 4 12
+    → n ≡ crc_of (slice_index m 0 ∷ slice_index m 1 ∷ slice_index t 0 ∷ slice_index t 1 ∷ slice_index l 0 ∷ slice_index l 1 ∷ slice_index l 2 ∷ slice_index l 3 ∷ [])
+    → c ≡ bytes_in e 4 n
+    → slice_index m 0 ∷ slice_index m 1 ∷ slice_index t 0 ∷ slice_index t 1 ∷ slice_index l 0 ∷ slice_index l 1 ∷ slice_index l 2 ∷ slice_index l 3
+    ∷ slice_index c 0 ∷ slice_index c 1 ∷ slice_index c 2 ∷ slice_index c 3 ∷ [] ≡ clean_marker e
+unfolding header_bytes bytes_in
+marker_spelled Little m t l c n hm ht hl hn hc = rw (hc, hn, hm, ht, hl) refl
+marker_spelled Big m t l c n hm ht hl hn hc = rw (hc, hn, hm, ht, hl) refl

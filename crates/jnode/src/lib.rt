@@ -5,7 +5,8 @@
 //!
 //! - `header_at` and `header_in` find the good header at the start of the rest of a block, which is a slice or a
 //!   `Part` whose end the image lacks; `read_node` and `read_part` say what its node is seen as.
-//! - `write_entry`, `write_inode`, `write_marker` and `write_padding` append the written form of a node.
+//! - `write_entry`, `write_inode`, `write_marker` and `write_padding` append the written form of a node; `marker_bytes`
+//!   is that of the marker.
 //! - `Order` names the byte order, and `Endian` is that order as a value, which the definitions take.
 //! - `laws` has what holds of the definitions themselves: round trips, torn nodes, worked examples.
 //!
@@ -25,5 +26,7 @@ pub use crate::header::{Header, header_at, header_in};
 pub use crate::node::{Damage, Dirent, Fill, InodeNode, NodeRef, Seen};
 pub use crate::order::{Endian, Order};
 pub use crate::reading::{read_node, read_part};
-pub use crate::writing::{WriteFault, write_entry, write_inode, write_marker, write_padding};
+pub use crate::writing::{
+    WriteFault, marker_bytes, write_entry, write_inode, write_marker, write_padding,
+};
 pub use flashbase::Part;

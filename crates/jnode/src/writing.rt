@@ -328,6 +328,18 @@ pub fn write_marker<E: Order>(out: &mut Vec<u8>) -> Result<(), WriteFault>
     Ok(())
 }
 
+/// The bytes of the clean marker.
+#[tactic(auto, unfolding(crate::specs::Writing::header_bytes))]
+pub fn marker_bytes<E: Order>() -> [u8; header::LEN]
+    ensures { result ≡ clean_marker E.order }
+{
+    let [a, b] = u16_bytes::<E>(MAGIC);
+    let [c, d] = u16_bytes::<E>(nodetype::CLEANMARKER);
+    let [e, f, g, h] = u32_bytes::<E>(header::LEN as u32);
+    let [i, j, k, l] = u32_bytes::<E>(crc(&[a, b, c, d, e, f, g, h]));
+    [a, b, c, d, e, f, g, h, i, j, k, l]
+}
+
 /// Appends a padding node of `totlen` bytes. A refusal leaves `out` as it was.
 pub fn write_padding<E: Order>(out: &mut Vec<u8>, totlen: u32) -> Result<(), WriteFault>
     ensures ok { OnOk result (out.new.items ≡ out.old.items ++ padding_node E.order totlen) }

@@ -30,10 +30,10 @@ pub block_past : (size : ℕ) (image : List ℕ) (k : ℕ) → length image ≤ 
 block_past size image k h =
     ap (λ (xs : List ℕ). take size (xs ++ erased size)) (drop_all (k * size) image h) ∙ take-replicate size size 0xFF (omega arith)
 
-past_count : (size : ℕ) (image : List ℕ) (k : ℕ) → 0 < size → block_count size image ≤ k → length image ≤ k * size
+pub past_count : (size : ℕ) (image : List ℕ) (k : ℕ) → 0 < size → block_count size image ≤ k → length image ≤ k * size
 past_count size image k p h = grind (arith, div_ceil_times (length image) size p)
 
-count_within : (size blocks : ℕ) (image : List ℕ) → 0 < size → length image ≤ blocks * size → block_count size image ≤ blocks
+pub count_within : (size blocks : ℕ) (image : List ℕ) → 0 < size → length image ≤ blocks * size → block_count size image ≤ blocks
 count_within size blocks image p h = grind (arith, div_ceil_times (length image) size p)
 
 pub nodes_are_of_blocks : (e : Endian) (size blocks : ℕ) (image : List ℕ) → 0 < size → length image ≤ blocks * size

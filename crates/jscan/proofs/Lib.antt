@@ -6,6 +6,7 @@ pub mod TilingLaws
 pub mod StretchLaws
 pub mod QuietLemmas
 pub mod BlankLemmas
+pub mod BlankCalls
 pub mod SightingLaws
 pub mod MarkedLemmas
 pub mod BlockLemmas
@@ -18,3 +19,6 @@ pub mod SurveyLemmas
 pub mod AddressLaws
 pub mod RefusalLaws
 pub mod FitLaws
+pub mod ElementLemmas
+pub mod RunLaws
+pub mod NodeLaws

@@ -14,7 +14,7 @@ use Rattle.jnode.specs.Reading.{tile_of, name_of, nsize_of}
 use Rattle.jnode.proofs.HeaderLemmas.{good_found}
 use Rattle.jnode.proofs.ReadingLemmas.{read_entry}
 use Rattle.flashbase.specs.Bytes.{pad4_of}
-use Rattle.jscan.specs.Tiling.{Tile, tile_at}
+use Rattle.jscan.specs.Tiling.{Tile, tile_at, tiling_from, tiling}
 use Rattle.jscan.specs.Stretches.{class_of, other_magic, stretch_of, is_one_run, in_front, runs_joined, stretches_from, stretches}
 use Rattle.jscan.specs.Laws.{MakeUp, IsNodeAt}
 use Rattle.jscan.specs.declared.stretch.Look.{Look}
@@ -162,6 +162,24 @@ tile_words e place rest words some =
     let taken = length-take-le 4 rest (omega (arith, leb-true 12 (length rest) long)) in
     (omega (arith, taken), omega (arith, taken)))
     (λ bad short. (omega arith, words))
+
+tiles_few_from : (n : ℕ) (e : Endian) (place : ℕ) (rest : List ℕ) → length rest ≤ n → length rest % 4 ≡ 0 → 4 * length (tiling_from e place 0 rest) ≤ length rest
+tiles_few_from n e place [] h words = omega arith
+tiles_few_from zero e place (b ∷ bs) h words = absurd (omega arith)
+tiles_few_from (suc n) e place (b ∷ bs) h words =
+    let rest : List ℕ = b ∷ bs in
+    let tile = tile_at e place rest in
+    let size = tile_words e place rest words (omega arith) in
+    let within = tile_within e place rest in
+    let left = length-drop (length tile.bytes) rest in
+    let tiles = tiling_from e (place + length tile.bytes) 0 (drop (length tile.bytes) rest) in
+    let next : 4 * length tiles ≤ length (drop (length tile.bytes) rest) =
+    tiles_few_from n e (place + length tile.bytes) (drop (length tile.bytes) rest) (omega (arith, left, size.0)) (omega (arith, left, size.1, within)) in
+    let more : length (tiling_from e place 0 rest) ≡ suc (length tiles) = ap length (tile_then_rest e place rest (omega arith)) in
+    omega (arith, next, left, within, size.0, more)
+
+pub tiles_are_few : (e : Endian) (block : List ℕ) → length block % 4 ≡ 0 → 4 * length (tiling e block) ≤ length block
+tiles_are_few e block words = tiles_few_from (length block) e 0 block (omega arith) words
 
 in_front_more : (s : Stretch) (ss : List Stretch) → length (in_front s ss) ≤ length ss + 1
 in_front_more s [] = omega arith

@@ -64,7 +64,7 @@ by_rule e block p q Rest bytes left words here split total rule =
       words = λ h. absurd (omega (arith, rule.2));
     }
 
-left_behind : (block : List ℕ) (before tiles : List Tile) (tile : Tile) → bytes_of (before ++ tile ∷ tiles) ≡ block
+pub left_behind : (block : List ℕ) (before tiles : List Tile) (tile : Tile) → bytes_of (before ++ tile ∷ tiles) ≡ block
     → drop (length (bytes_of before)) block ≡ tile.bytes ++ bytes_of tiles
 left_behind block before tiles tile whole =
     ap (drop (length (bytes_of before))) (sym whole ∙ flat_map-append (λ (x : Tile). x.bytes) before (tile ∷ tiles))

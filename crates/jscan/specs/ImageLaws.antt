@@ -1,14 +1,18 @@
 -- Laws of whole images. Each is a statement: it holds since a public function's contract names it.
-use Rattle.std.specs.Prelude.{◌≡◌, ℕ, ◌*◌, ◌<◌, ◌^◌, IsTrue, List, ◌∷◌, ◌++◌, Contains, None, Some}
+use Rattle.std.specs.Prelude.{◌≡◌, ◌↔◌, ℕ, ◌+◌, ◌*◌, ◌%◌, ◌<◌, ◌^◌, IsTrue, List, ◌∷◌, ◌++◌, Contains, None, Some}
 use Rattle.flashbase.specs.Ranges.{AreBytes}
 use Rattle.jnode.specs.Writing.{Fits, HoldsBytes, IsWritable}
+use Rattle.jnode.specs.Reading.{Reads}
+use Rattle.jnode.specs.declared.header.Header.{Header}
 use Rattle.jnode.specs.declared.order.Endian.{Endian}
 use Rattle.jnode.specs.declared.node.NodeRef.{NodeRef}
 use Rattle.jnode.specs.declared.node.Seen.{Seen}
-use Rattle.jscan.specs.Image.{is_block_size, block_count, sightings, nodes}
+use Rattle.jscan.specs.Image.{is_block_size, block_of, block_count, sightings, nodes}
 use Rattle.jscan.specs.Scans.{IsScannable, findings, refusal_by, before_refusal, first_refused}
+use Rattle.jscan.specs.Tiling.{Tile, IsTiling}
 use Rattle.jscan.specs.declared.finding.Finding.{Finding}
 use Rattle.jscan.specs.declared.geometry.ScanFault.{ScanFault}
+use Rattle.jscan.specs.declared.tiles.TileKind.TheVariants.{Node}
 
 -- ---- addresses
 
@@ -55,6 +59,23 @@ NoneRefuses = (e : Endian) (size : ℕ) (image : List ℕ) → first_refused e s
     × ((s : ℕ × Seen) → Contains (sightings e size image) s → refusal_by s ≡ None)
 
 -- ---- nodes
+
+-- Some tile of the block's one tiling is a node's, stands at this place and reads as this node.
+pub record HoldsNode (e : Endian) (block : List ℕ) (place : ℕ) (node : NodeRef) : Type 0 where
+  pub tiles : List Tile
+  pub tile : Tile
+  pub header : Header
+  pub tiling : IsTiling e block tiles
+  pub among : Contains tiles tile
+  pub here : tile.place ≡ place
+  pub is_node : tile.kind ≡ Node header
+  pub reads : Reads e tile.bytes node
+
+-- An entry or inode node is among an image's nodes, with its address, exactly where one of its blocks holds it.
+abbrev pub NodesAreHeld : Type 0
+NodesAreHeld = (e : Endian) (size : ℕ) (image : List ℕ) (addr : ℕ) (node : NodeRef) → size % 4 ≡ 0
+    → Contains (nodes e size image) (addr, node)
+    ↔ ((k place : ℕ) × (k < block_count size image) × (addr ≡ k * size + place) × HoldsNode e (block_of size image k) place node)
 
 -- What is read of bytes fits its widths,
 abbrev pub NodesFit : Type 0

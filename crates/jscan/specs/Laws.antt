@@ -1,5 +1,5 @@
 -- Laws of tilings and stretches. Each is a statement: it holds since a public function's contract names it.
-use Rattle.std.specs.Prelude.{◌≡◌, ℕ, ◌+◌, ◌*◌, ◌%◌, ◌<◌, ◌≤◌, ◌==◌, false, if◌then◌else◌, List, [], ◌∷◌, ◌++◌, length, drop, sum_by, filter_map, flat_map}
+use Rattle.std.specs.Prelude.{◌≡◌, ℕ, ◌+◌, ◌*◌, ◌%◌, ◌<◌, ◌≤◌, ◌==◌, false, if◌then◌else◌, List, [], ◌∷◌, ◌++◌, length, take, drop, sum_by, filter_map, flat_map, Contains}
 use Rattle.jnode.specs.declared.order.Endian.{Endian}
 use Rattle.jnode.specs.declared.node.Dirent.{Dirent}
 use Rattle.jnode.specs.declared.node.Seen.{Seen}
@@ -9,12 +9,12 @@ use Rattle.jnode.specs.declared.node.NodeRef.{NodeRef}
 use Rattle.jnode.specs.declared.node.Seen.TheVariants.{Entry, Marker}
 use Rattle.jnode.specs.Header.{header_len, IsGood, is_good}
 use Rattle.jnode.specs.Reading.{seen_of, tile_of}
-use Rattle.jscan.specs.Tiling.{Tile, IsTiling, tile_at, tiling_from, tiling}
-use Rattle.jscan.specs.Stretches.{is_one_run, stretches, sighted}
+use Rattle.jscan.specs.Tiling.{Tile, bytes_of, IsTiling, tile_at, tiling_from, tiling}
+use Rattle.jscan.specs.Stretches.{look_of, is_one_run, stretches, sighted}
 use Rattle.jscan.specs.Image.{block_of, sightings_from, sightings_in, node_sighted, nodes}
 use Rattle.jscan.specs.Blank.{marked, blank_from, IsBlankFrom}
 use Rattle.jscan.specs.declared.stretch.Stretch.{Stretch}
-use Rattle.jscan.specs.declared.stretch.Look.TheVariants.{Tiled}
+use Rattle.jscan.specs.declared.stretch.Look.TheVariants.{Tiled, Erased}
 
 -- A block of whole words has a tiling, which the function computes,
 abbrev pub TilingExists : Type 0
@@ -23,6 +23,10 @@ TilingExists = (e : Endian) (block : List ℕ) → length block % 4 ≡ 0 → Is
 -- and no block has another.
 abbrev pub TilingIsOnly : Type 0
 TilingIsOnly = (e : Endian) (block : List ℕ) (tiles : List Tile) → IsTiling e block tiles → tiles ≡ tiling e block
+
+-- Each tile has a word or more.
+abbrev pub TilesAreFew : Type 0
+TilesAreFew = (e : Endian) (block : List ℕ) → length block % 4 ≡ 0 → 4 * length (tiling e block) ≤ length block
 
 -- the first tile, and then those of what follows it
 abbrev pub TileThenRest : Type 0
@@ -47,6 +51,23 @@ StretchesMakeUp = (e : Endian) (start : ℕ) (block : List ℕ) → MakeUp start
 -- Each has a word or more.
 abbrev pub StretchesAreFew : Type 0
 StretchesAreFew = (e : Endian) (start : ℕ) (block : List ℕ) → length block % 4 ≡ 0 → 4 * length (stretches e start block) ≤ length block
+
+-- These tiles of the block begin at a place, have the stretch's bytes, and look like it.
+pub record MakeStretch (e : Endian) (block : List ℕ) (place : ℕ) (s : Stretch) (before tiles after : List Tile) : Type 0 where
+  pub stand : tiling e block ≡ before ++ (tiles ++ after)
+  pub begin : length (bytes_of before) ≡ place
+  pub long : length (bytes_of tiles) ≡ s.len
+  pub look : (tile : Tile) → Contains tiles tile → look_of e tile.kind tile.bytes ≡ s.look
+
+-- A stretch consists of the bytes of tiles, each of which looks like it:
+abbrev pub StretchesAreTiles : Type 0
+StretchesAreTiles = (e : Endian) (start : ℕ) (block : List ℕ) (before after : List Stretch) (s : Stretch) → stretches e start block ≡ before ++ s ∷ after
+    → (tiles_before tiles tiles_after : List Tile) × MakeStretch e block (sum_by (λ t. t.len) before) s tiles_before tiles tiles_after
+
+-- an erased one of bytes 0xFF alone.
+abbrev pub ErasedRunsAreErased : Type 0
+ErasedRunsAreErased = (e : Endian) (start : ℕ) (block : List ℕ) (before after : List Stretch) (s : Stretch) → stretches e start block ≡ before ++ s ∷ after
+    → s.look ≡ Erased → take s.len (drop (sum_by (λ t. t.len) before) block) ≡ erased s.len
 
 -- A stretch seen as a node is the whole tile of a good header that stands there.
 pub record IsNodeAt (e : Endian) (rest : List ℕ) (s : Stretch) (what : Seen) : Type 0 where

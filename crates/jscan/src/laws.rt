@@ -1,12 +1,17 @@
 //! Laws of tilings and stretches. Each function's contract is a law, and its body is empty.
 
-ghost use Rattle.jscan.specs.Laws.{TilingExists, TilingIsOnly, TileThenRest, RunsAreLongest, StretchesMakeUp, StretchesAreFew, NodesAreSeen, NamesAreShort, SightingsAreStretches, QuietHasNoNodes, ErasedHasNoNodes, MarkedHasNoNodes, NodesAreOfBlocks, BlankFromIsLeast};
-ghost use Rattle.jscan.specs.ImageLaws.{SightingsAscend, NodesAscend, FindingsAscend, SightingsAreWithin, SightingsHaveAddresses, RefusalIsFirst, NoneRefuses, NodesFit, NodesAreWritable};
+ghost use Rattle.jscan.specs.Laws.{TilingExists, TilingIsOnly, TilesAreFew, TileThenRest, RunsAreLongest, StretchesMakeUp, StretchesAreFew, StretchesAreTiles, ErasedRunsAreErased, NodesAreSeen, NamesAreShort, SightingsAreStretches, QuietHasNoNodes, ErasedHasNoNodes, MarkedHasNoNodes, NodesAreOfBlocks, BlankFromIsLeast};
+ghost use Rattle.jscan.specs.ImageLaws.{SightingsAscend, NodesAscend, FindingsAscend, SightingsAreWithin, SightingsHaveAddresses, RefusalIsFirst, NoneRefuses, NodesAreHeld, NodesFit, NodesAreWritable};
 
 /// A block of whole words has exactly one tiling, and it is the one computed.
 pub fn one_tiling()
     ensures exists { TilingExists }
     ensures only { TilingIsOnly }
+{}
+
+/// A block has at most one tile for each of its words.
+pub fn tiles_are_few()
+    ensures { TilesAreFew }
 {}
 
 /// A block's tiles are the first one, and then those of what follows it.
@@ -27,6 +32,12 @@ pub fn stretches_make_up()
 /// A block has at most one stretch for each of its words.
 pub fn stretches_are_few()
     ensures { StretchesAreFew }
+{}
+
+/// A stretch consists of the bytes of tiles that look like it, an erased one of bytes 0xFF alone.
+pub fn stretches_are_tiles()
+    ensures tiles { StretchesAreTiles }
+    ensures erased { ErasedRunsAreErased }
 {}
 
 /// A stretch seen as a node is the whole tile of a good header, and the name of an entry seen has
@@ -76,6 +87,11 @@ pub fn addresses_are_within()
 pub fn refusal_is_first()
     ensures first { RefusalIsFirst }
     ensures none { NoneRefuses }
+{}
+
+/// An image's nodes are what the node tiles of its blocks' tilings read as.
+pub fn nodes_are_held()
+    ensures { NodesAreHeld }
 {}
 
 /// The nodes of an image fit their widths, and could be written.

@@ -17,6 +17,7 @@
 #![tactic(auto)]
 
 mod answer;
+mod blank;
 mod counts;
 mod finding;
 mod geometry;
@@ -32,6 +33,7 @@ mod stretches;
 mod tiles;
 
 pub use crate::answer::{Scan, Survey};
+pub use crate::blank::blank_from;
 pub use crate::counts::Counts;
 pub use crate::finding::{Finding, FindingKind};
 pub use crate::geometry::{GREATEST_BLOCK, GREATEST_IMAGE, Geometry, LEAST_BLOCK, ScanFault};

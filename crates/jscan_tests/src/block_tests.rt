@@ -216,10 +216,12 @@ fn block_sizes(rt: HostRuntime) {
 #[test]
 fn laws_can_be_called(_rt: HostRuntime) {
     laws::one_tiling();
+    laws::tiles_are_few();
     laws::tile_then_rest();
     laws::runs_are_longest();
     laws::stretches_make_up();
     laws::stretches_are_few();
+    laws::stretches_are_tiles();
     laws::nodes_are_seen();
     laws::sightings_are_stretches();
     laws::quiet_has_no_nodes();
@@ -228,6 +230,7 @@ fn laws_can_be_called(_rt: HostRuntime) {
     laws::addresses_ascend();
     laws::addresses_are_within();
     laws::refusal_is_first();
+    laws::nodes_are_held();
     laws::nodes_fit();
     rows::no_length_is_dirt();
     rows::past_the_end_is_dirt();

@@ -2,6 +2,8 @@
 #![tactic(auto)]
 
 #[cfg(test)]
+mod blank_tests;
+#[cfg(test)]
 mod block_tests;
 #[cfg(test)]
 mod bytes;

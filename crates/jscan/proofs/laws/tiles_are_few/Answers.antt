@@ -1,0 +1,5 @@
+use Rattle.jscan.proofs.StretchLaws as laws
+use Rattle.jscan.proofs.laws.tiles_are_few.Goals as goal
+
+pub returns : goal.returns
+returns c = laws.tiles_are_few
