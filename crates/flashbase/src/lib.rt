@@ -29,6 +29,3 @@ pub use crate::laws::{
 pub use crate::part::{Part, PartBytes};
 pub use crate::sink::{FromWriter, PutFault, Sink, put_all};
 pub use crate::source::{DeviceFault, FromReader, LoadFault, Source, load};
-
-#[cfg(test)]
-mod tests;

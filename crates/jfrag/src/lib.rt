@@ -15,8 +15,6 @@ mod overlays;
 mod piece;
 mod plain;
 mod runs;
-#[cfg(test)]
-mod tests;
 
 pub use all::overlay;
 pub use frag::FragOverlay;

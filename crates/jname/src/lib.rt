@@ -19,6 +19,3 @@ mod walk;
 pub use crate::fault::NameFault;
 pub use crate::names::Names;
 pub use crate::walk::{All, Of};
-
-#[cfg(test)]
-mod tests;

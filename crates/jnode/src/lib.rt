@@ -27,6 +27,3 @@ pub use crate::order::{Endian, Order};
 pub use crate::reading::{read_node, read_part};
 pub use crate::writing::{WriteFault, write_entry, write_inode, write_marker, write_padding};
 pub use flashbase::Part;
-
-#[cfg(test)]
-mod tests;

@@ -1,0 +1,11 @@
+//! Tests of `flashbase`: values from outside, and devices that fail.
+#![tactic(auto)]
+
+#[cfg(test)]
+mod checksums;
+#[cfg(test)]
+mod parts;
+#[cfg(test)]
+mod sinks;
+#[cfg(test)]
+mod sources;

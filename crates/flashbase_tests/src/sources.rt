@@ -1,0 +1,135 @@
+//! Loads of sources that end, fail, or are too large.
+
+use flashbase::{DeviceFault, FromReader, LoadFault, Source, load};
+use std::io;
+use std::io::{ErrorKind, Read};
+use std::test::Fail;
+
+/// Gives one byte a call, and fails once, after so many calls.
+#[derive(Drop)]
+struct Drip<'a> {
+    rest: &'a [u8],
+    calls_left: usize,
+    failures: u64,
+}
+
+impl<'a> Source for Drip<'a> {
+    ghost use Rattle.std.specs.Prelude.{Some};
+
+    ghost rest = { λ s. Some s.rest.now };
+
+    ghost failures = { λ s. s.failures };
+
+    fn fill(&mut self, buf: &mut [u8]) -> Result<usize, DeviceFault> {
+        if self.calls_left == 0 {
+            self.calls_left = usize::MAX;
+            self.failures = self.failures.wrapping_add(1);
+            return Err(DeviceFault);
+        }
+        self.calls_left -= 1;
+        if buf.is_empty() {
+            return Ok(0);
+        }
+        let Some((first, others)) = self.rest.split_first() else {
+            return Ok(0);
+        };
+        buf[0] = *first;
+        self.rest = others;
+        Ok(1)
+    }
+}
+
+#[derive(Drop)]
+struct Interrupted;
+
+impl Read for Interrupted {
+    fn read(&mut self, _buf: &mut [u8]) -> io::Result<usize> {
+        Err(ErrorKind::Interrupted.into())
+    }
+}
+
+/// The source fails once, at each of its calls in turn, and is then loaded to its end.
+#[test]
+fn a_load_meets_each_failure(rt: HostRuntime) -> Result<(), Fail> {
+    for calls_left in 0..5usize {
+        let mut source = Drip {
+            rest: b"abcd",
+            calls_left,
+            failures: u64::MAX,
+        };
+        assert!(rt; matches!(load(rt.alloc(), &mut source, 9), Err(LoadFault::Device)));
+        assert_eq!(rt; source.failures, 0);
+        let rest = load(rt.alloc(), &mut source, 9).map_err(|_| "not loaded")?;
+        assert_eq!(rt; rest.len(), 4 - calls_left);
+        assert_eq!(rt; source.failures, 0);
+    }
+    Ok(())
+}
+
+#[test]
+fn a_load_without_a_failure(rt: HostRuntime) -> Result<(), Fail> {
+    let mut source = Drip {
+        rest: b"abcd",
+        calls_left: 5,
+        failures: 3,
+    };
+    let bytes = load(rt.alloc(), &mut source, 4).map_err(|_| "not loaded")?;
+    assert!(rt; bytes.as_slice() == b"abcd".as_slice());
+    assert_eq!(rt; source.failures, 3);
+    Ok(())
+}
+
+/// Passes with each allocation failing in turn too: memory is then blamed, and nothing else.
+#[test]
+fn a_load_with_little_memory(rt: HostRuntime) {
+    let text = b"the quick brown fox jumps over the lazy dog".as_slice();
+    let mut source = Drip {
+        rest: text,
+        calls_left: usize::MAX,
+        failures: 0,
+    };
+    match load(rt.alloc(), &mut source, text.len()) {
+        Ok(bytes) => assert!(rt; bytes.as_slice() == text),
+        Err(fault) => assert_eq!(rt; fault, LoadFault::OutOfMemory),
+    }
+    assert_eq!(rt; source.failures, 0);
+}
+
+#[test]
+fn a_load_of_a_reader(rt: HostRuntime) -> Result<(), Fail> {
+    let large = vec![in rt.alloc(); 7u8; 200_000]?;
+    for text in [b"abcd".as_slice(), large.as_slice()] {
+        let mut source = FromReader::new(text);
+        let bytes = load(rt.alloc(), &mut source, text.len()).map_err(|_| "not loaded")?;
+        assert!(rt; bytes.as_slice() == text);
+    }
+    Ok(())
+}
+
+#[test]
+fn a_reader_that_is_not_loaded(rt: HostRuntime) {
+    let mut source = FromReader::new(b"abcd".as_slice());
+    assert!(rt; matches!(load(rt.alloc(), &mut source, 3), Err(LoadFault::TooLarge)));
+    let mut source = FromReader::new(Interrupted);
+    assert!(rt; matches!(load(rt.alloc(), &mut source, 9), Err(LoadFault::Device)));
+}
+
+#[test]
+fn a_reader_behind_a_fill(rt: HostRuntime) {
+    let mut source = FromReader::new(b"abcd".as_slice());
+    let mut buf = [0u8; 3];
+    assert_eq!(rt; source.fill(&mut buf), Ok(3));
+    assert!(rt; source.into_reader() == b"d".as_slice());
+}
+
+#[test]
+fn texts_of_faults(rt: HostRuntime) -> Result<(), Fail> {
+    for (fault, text) in [
+        (LoadFault::Device, "L1 Device"),
+        (LoadFault::TooLarge, "L2 TooLarge"),
+        (LoadFault::OutOfMemory, "L3 OutOfMemory"),
+    ] {
+        assert!(rt; format!(in rt.alloc(); "{fault}")?.as_str() == text);
+    }
+    Ok(())
+}

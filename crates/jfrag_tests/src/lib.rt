@@ -1,0 +1,9 @@
+//! Tests of `jfrag`: what stands after pieces in any order of arrival, in both kinds of overlay.
+#![tactic(auto)]
+
+#[cfg(test)]
+mod growth;
+#[cfg(test)]
+mod orders;
+#[cfg(test)]
+mod pieces;

@@ -1,0 +1,148 @@
+//! What stands after pieces in any order of arrival.
+
+use crate::pieces::{byte_at, bytes_at, first_bytes, worked_bytes, worked_piece, zeros_at};
+use flashbase::Part;
+use jfrag::{Body, FragOverlay, Overlay, Piece, PlainOverlay, overlay};
+use std::alloc::Global;
+use std::process::Abort;
+use std::test::Fail;
+
+const ORDERS_OF_THREE: [[u32; 3]; 6] = [
+    [1, 2, 3],
+    [1, 3, 2],
+    [2, 1, 3],
+    [2, 3, 1],
+    [3, 1, 2],
+    [3, 2, 1],
+];
+
+/// The worked example, one `add` after another.
+fn laid_in<'a, O: Overlay<'a>>(alloc: Global, order: [u32; 3]) -> Result<O, Fail> {
+    let mut laid = O::new(alloc);
+    for version in order {
+        laid.add(worked_piece(version))?;
+    }
+    Ok(laid)
+}
+
+/// Whether an overlay shows the worked example, kept in so many pieces.
+fn is_worked_example<'a, O: Overlay<'a>>(rt: &impl Abort, laid: &O, pieces: usize) {
+    assert_eq!(rt; first_bytes(laid), worked_bytes());
+    assert_eq!(rt; laid.pieces(), pieces);
+    assert_eq!(rt; byte_at(laid, 59), 22);
+    assert_eq!(rt; byte_at(laid, u64::MAX), 0);
+}
+
+#[test]
+fn three_pieces_in_any_order(rt: HostRuntime) -> Result<(), Fail> {
+    for order in ORDERS_OF_THREE {
+        let plain: PlainOverlay = laid_in(rt.alloc(), order)?;
+        is_worked_example(&rt, &plain, 3);
+        let frag: FragOverlay = laid_in(rt.alloc(), order)?;
+        is_worked_example(&rt, &frag, 4);
+    }
+    Ok(())
+}
+
+/// A piece that is there already, and one of no length, change no interval.
+#[test]
+fn idle_pieces(rt: HostRuntime) -> Result<(), Fail> {
+    for order in ORDERS_OF_THREE {
+        let mut frag: FragOverlay = laid_in(rt.alloc(), order)?;
+        frag.add(worked_piece(1))?;
+        frag.add(zeros_at(9, 20, 0))?;
+        is_worked_example(&rt, &frag, 4);
+    }
+    Ok(())
+}
+
+#[test]
+fn three_pieces_at_once(rt: HostRuntime) -> Result<(), Fail> {
+    for order in ORDERS_OF_THREE {
+        let [a, b, c] = order;
+        let pieces = [worked_piece(a), worked_piece(b), worked_piece(c)];
+        let plain: PlainOverlay = overlay(rt.alloc(), &pieces)?;
+        is_worked_example(&rt, &plain, 3);
+        let frag: FragOverlay = overlay(rt.alloc(), &pieces)?;
+        is_worked_example(&rt, &frag, 4);
+    }
+    Ok(())
+}
+
+#[test]
+fn zeros_hide_older_bytes(rt: HostRuntime) -> Result<(), Fail> {
+    let zeros = zeros_at(2, 0, 10);
+    let bytes = bytes_at(1, 0, &[7; 20]);
+    let frag: FragOverlay = overlay(rt.alloc(), &[zeros, bytes])?;
+    let mut wanted = [0; 25];
+    wanted[10..20].fill(7);
+    let mut out = [9u8; 25];
+    frag.read_at(0, &mut out);
+    assert_eq!(rt; out, wanted);
+    Ok(())
+}
+
+#[test]
+fn missing_bytes_are_erased_flash(rt: HostRuntime) -> Result<(), Fail> {
+    let piece = Piece {
+        version: 1,
+        offset: 2,
+        body: Body::Bytes(Part::new(&[7; 3], 2)),
+    };
+    let frag: FragOverlay = overlay(rt.alloc(), &[piece])?;
+    let mut out = [9u8; 8];
+    frag.read_at(0, &mut out);
+    assert_eq!(rt; out, [0, 0, 7, 7, 7, 0xFF, 0xFF, 0]);
+    Ok(())
+}
+
+/// The orders of four, each once.
+const ORDERS_OF_FOUR: [[usize; 4]; 24] = [
+    [0, 1, 2, 3],
+    [0, 1, 3, 2],
+    [0, 2, 1, 3],
+    [0, 2, 3, 1],
+    [0, 3, 1, 2],
+    [0, 3, 2, 1],
+    [1, 0, 2, 3],
+    [1, 0, 3, 2],
+    [1, 2, 0, 3],
+    [1, 2, 3, 0],
+    [1, 3, 0, 2],
+    [1, 3, 2, 0],
+    [2, 0, 1, 3],
+    [2, 0, 3, 1],
+    [2, 1, 0, 3],
+    [2, 1, 3, 0],
+    [2, 3, 0, 1],
+    [2, 3, 1, 0],
+    [3, 0, 1, 2],
+    [3, 0, 2, 1],
+    [3, 1, 0, 2],
+    [3, 1, 2, 0],
+    [3, 2, 0, 1],
+    [3, 2, 1, 0],
+];
+
+/// An old piece over 0 to 99, or one of three newer ones within it.
+fn piece_in_the_way(index: usize) -> Piece<'static> {
+    match index {
+        0 => zeros_at(1, 0, 100),
+        1 => zeros_at(2, 10, 10),
+        2 => zeros_at(3, 30, 10),
+        _ => zeros_at(4, 50, 10),
+    }
+}
+
+/// An old piece over 0 to 99 fills every gap between newer ones.
+#[test]
+fn every_gap_is_filled_in_any_order(rt: HostRuntime) -> Result<(), Fail> {
+    for order in ORDERS_OF_FOUR {
+        let mut frag: FragOverlay = FragOverlay::new(rt.alloc());
+        for index in order {
+            frag.add(piece_in_the_way(index))?;
+        }
+        assert_eq!(rt; frag.pieces(), 7);
+    }
+    Ok(())
+}

@@ -1,0 +1,45 @@
+//! Entries that are added, and all names that stand then.
+
+ghost use Rattle.std.specs.Prelude.{◌<◌, ◌^◌, length};
+
+use jname::Names;
+use jnode::{Dirent, Part};
+use std::process::Abort;
+
+/// An entry of a regular file.
+pub(crate) fn entry(pino: u32, version: u32, ino: u32, name: &[u8]) -> Dirent<'_> {
+    Dirent {
+        pino,
+        version,
+        ino,
+        mctime: 0,
+        kind: 8,
+        name: Part::new(name, 0),
+    }
+}
+
+/// An entry whose name is `held` and then bytes that the image lacks.
+pub(crate) fn cut_entry(pino: u32, version: u32, ino: u32, held: &[u8], missing: u8) -> Dirent<'_>
+    requires { length held.now < 2 ^ 32 }
+{
+    Dirent {
+        name: Part::new(held, usize::from(missing)),
+        ..entry(pino, version, ino, b"")
+    }
+}
+
+/// Adds an entry that nothing hinders.
+pub(crate) fn add<'a>(rt: &impl Abort, names: &mut Names<'a>, entry: &Dirent<'a>) {
+    assert_eq!(rt; names.add(entry), Ok(()));
+}
+
+/// Whether these are all names that stand, in this order.
+pub(crate) fn are_all(names: &Names<'_>, wanted: &[(u32, &[u8], u32)]) -> bool {
+    let mut all = names.all();
+    for &name in wanted {
+        if all.next() != Some(name) {
+            return false;
+        }
+    }
+    all.next().is_none()
+}

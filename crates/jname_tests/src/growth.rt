@@ -1,0 +1,44 @@
+//! A growth that is refused leaves what stood.
+
+use crate::entries::{are_all, cut_entry, entry};
+use jname::{NameFault, Names};
+use jnode::Dirent;
+
+/// Adds an entry. Where a growth is refused, what stood still stands, and the entry can be added then.
+fn add_again(
+    names: &mut Names<'static>,
+    added: &Dirent<'static>,
+    before: &[(u32, &[u8], u32)],
+) -> bool {
+    let highest = names.highest(added.pino);
+    match names.add(added) {
+        Ok(()) => true,
+        Err(NameFault::Clash) => false,
+        Err(NameFault::OutOfMemory) => {
+            are_all(names, before)
+                && names.highest(added.pino) == highest
+                && names.add(added) == Ok(())
+        }
+    }
+}
+
+/// What is added in turn, and what stands before each and after the last.
+#[test]
+fn refused_growth_leaves_what_stood(rt: HostRuntime) {
+    let mut names = Names::new(rt.alloc());
+    let a_2: (u32, &[u8], u32) = (1, b"a", 2);
+    let a_4: (u32, &[u8], u32) = (1, b"a", 4);
+    let b_3: (u32, &[u8], u32) = (1, b"b", 3);
+    let c_5: (u32, &[u8], u32) = (7, b"c", 5);
+    let d_6: (u32, &[u8], u32) = (7, b"d\xFF\xFF\xFF", 6);
+    for (added, before) in [
+        (entry(1, 1, 2, b"a"), [].as_slice()),
+        (entry(1, 2, 3, b"b"), [a_2].as_slice()),
+        (entry(1, 3, 4, b"a"), [a_2, b_3].as_slice()),
+        (entry(7, 1, 5, b"c"), [a_4, b_3].as_slice()),
+        (cut_entry(7, 9, 6, b"d", 3), [a_4, b_3, c_5].as_slice()),
+    ] {
+        assert!(rt; add_again(&mut names, &added, before));
+    }
+    assert!(rt; are_all(&names, &[a_4, b_3, c_5, d_6]));
+}
