@@ -83,4 +83,5 @@ def main():
             out.write(image)
 
 
-main()
+if __name__ == "__main__":
+    main()

@@ -15,7 +15,8 @@ use Rattle.jname.proofs.EntriesLemmas.{nat_found}
 use Rattle.jname.proofs.MemberLemmas.{Contains-map, Contains-map_from, Contains-flat_map, Contains-flat_map_from}
 use Rattle.jmount.specs.declared.versions.Versions.{Versions}
 use Rattle.jmount.specs.Clash.{SomeClashes, NoneClashes}
-use Rattle.jmount.specs.Inodes.{Gains, Agrees, Differs, version_at, ByNumber, held, IsKeyed, nodes_in, nodes_of}
+use Rattle.jmount.specs.Inodes.{Gains, Agrees, Differs, versions_in, version_at, ByNumber, held, IsKeyed, nodes_in, nodes_of}
+use Rattle.jmount.proofs.NewestLemmas.{version_found}
 
 -- ---- the list
 
@@ -48,18 +49,18 @@ unfolding nodes_of
 Contains-from_held numbers i v node h =
     let vs = and_then_from (λ (vs : Versions). version_at vs v) (get nat_cmp numbers i) node h in
     let at_number : Contains numbers.entries (i, vs.0) = Contains-from_lookup (tells_apart exact_unsigned) i vs.0 numbers.entries vs.1 in
-    let at_version : Contains vs.0.nodes.entries (v, node) = Contains-from_lookup (tells_apart exact_unsigned) v node vs.0.nodes.entries vs.2 in
+    let at_version : Contains (versions_in vs.0) (v, node) = Contains-from_lookup (tells_apart exact_unsigned) v node (versions_in vs.0) vs.2 in
     Contains-flat_map nodes_at numbers.entries (i, vs.0) node at_number
-    (Contains-map (λ (e : ℕ × InodeNode). e.1) vs.0.nodes.entries (v, node) at_version)
+    (Contains-map (λ (e : ℕ × InodeNode). e.1) (versions_in vs.0) (v, node) at_version)
 
 -- and a node of the list is held, for its own number and version
 pub held-from_Contains : (numbers : ByNumber) → IsOrdered nat_cmp numbers → IsKeyed numbers → (node : InodeNode) → Contains (nodes_of numbers) node → held numbers node.ino node.version ≡ Some node
 unfolding nodes_of
 held-from_Contains numbers ordered keyed node h =
     let a = Contains-flat_map_from nodes_at numbers.entries node h in
-    let b = Contains-map_from (λ (e : ℕ × InodeNode). e.1) a.0.1.nodes.entries node a.2 in
+    let b = Contains-map_from (λ (e : ℕ × InodeNode). e.1) (versions_in a.0.1) node a.2 in
     let number : get nat_cmp numbers a.0.0 ≡ Some a.0.1 = nat_found numbers.entries a.0.0 a.0.1 ordered a.1 in
-    let version : version_at a.0.1 b.0.0 ≡ Some b.0.1 = nat_found a.0.1.nodes.entries b.0.0 b.0.1 a.0.1.ordered b.1 in
+    let version : version_at a.0.1 b.0.0 ≡ Some b.0.1 = version_found a.0.1 b.0.0 b.0.1 b.1 in
     let there : held numbers a.0.0 b.0.0 ≡ Some node =
     ap (λ (o : Option Versions). option_and_then (λ vs. version_at vs b.0.0) o) number ∙ version ∙ ap Some b.2 in
     let key = keyed a.0.0 b.0.0 node there in

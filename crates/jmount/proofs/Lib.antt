@@ -1,3 +1,4 @@
+pub mod NewestLemmas
 pub mod InodesLemmas
 pub mod LeastLemmas
 pub mod NamesLemmas

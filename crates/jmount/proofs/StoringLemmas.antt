@@ -23,26 +23,27 @@ use Rattle.jfrag.specs.Laws as overlay
 use Rattle.jfrag.proofs.OverlaysLemmas.{only_one_is_highest}
 use Rattle.jname.proofs.EntriesLemmas.{nat_found}
 use Rattle.jname.proofs.HeldLemmas.{by_test}
-use Rattle.jname.proofs.MemberLemmas.{Contains-none, Contains-map, Contains-map_from, Contains-flat_map}
+use Rattle.jname.proofs.MemberLemmas.{Contains-none, Contains-here, Contains-map, Contains-map_from, Contains-flat_map}
 use Rattle.jmount.specs.declared.versions.Versions.{Versions}
 use Rattle.jmount.specs.declared.stored.Stored.{Stored}
-use Rattle.jmount.specs.Inodes.{version_at, IsByVersion, IsKeyed, ByNumber, nodes_in, nodes_of}
+use Rattle.jmount.specs.Inodes.{versions_in, version_at, IsByVersion, IsKeyed, ByNumber, nodes_in, nodes_of}
 use Rattle.jmount.specs.StateOf.{latest, piece_of}
 use Rattle.jmount.specs.Storing.{Made, shown, made_by, made_at}
 use Rattle.jmount.proofs.NumbersLemmas.{eqb_symm}
+use Rattle.jmount.proofs.NewestLemmas.{version_found, at_most_newest}
 
 -- ---- the nodes of one number
 
 pub found_at_version : (versions : Versions) → IsByVersion versions → (x : InodeNode) → Contains (nodes_in versions) x → version_at versions x.version ≡ Some x
 found_at_version versions keyed x h =
-    let e = Contains-map_from (λ (e : ℕ × InodeNode). e.1) versions.nodes.entries x h in
-    let there : version_at versions e.0.0 ≡ Some e.0.1 = nat_found versions.nodes.entries e.0.0 e.0.1 versions.ordered e.1 in
+    let e = Contains-map_from (λ (e : ℕ × InodeNode). e.1) (versions_in versions) x h in
+    let there : version_at versions e.0.0 ≡ Some e.0.1 = version_found versions e.0.0 e.0.1 e.1 in
     let version : x.version ≡ e.0.0 = ap (λ (y : InodeNode). y.version) (sym e.2) ∙ keyed e.0.0 e.0.1 there in
     ap (version_at versions) version ∙ there ∙ ap Some e.2
 
 pub Contains-at_version : (versions : Versions) (v : ℕ) (x : InodeNode) → version_at versions v ≡ Some x → Contains (nodes_in versions) x
 Contains-at_version versions v x h =
-    Contains-map (λ (e : ℕ × InodeNode). e.1) versions.nodes.entries (v, x) (Contains-from_lookup (tells_apart exact_unsigned) v x versions.nodes.entries h)
+    Contains-map (λ (e : ℕ × InodeNode). e.1) (versions_in versions) (v, x) (Contains-from_lookup (tells_apart exact_unsigned) v x (versions_in versions) h)
 
 pub one_of_version : (versions : Versions) → IsByVersion versions → (x y : InodeNode) → Contains (nodes_in versions) x → Contains (nodes_in versions) y → x.version ≡ y.version → x ≡ y
 one_of_version versions keyed x y in_x in_y same =
@@ -66,29 +67,26 @@ content-stands versions keyed stands highest size =
 
 -- ---- the latest
 
--- the node of the last version
-abbrev pub IsLast : Versions → ℕ → InodeNode → Type 0
-IsLast versions k node = (version_at versions k ≡ Some node) × ((q : ℕ) → IsSome (version_at versions q) → is_lt (nat_cmp k q) ≡ false)
-
 is_some_of : {X : Type 0} (o : Option X) (x : X) → o ≡ Some x → IsSome o
 is_some_of None x e = let no : None ≡ Some x = e in cc
 is_some_of (Some y) x e = grind arith
 
-last_is : (versions : Versions) → IsByVersion versions → (k : ℕ) (node : InodeNode) → IsLast versions k node → (o : Option InodeNode) → latest (nodes_in versions) ≡ o → o ≡ Some node
-last_is versions keyed k node last None e =
-    let none : nodes_in versions ≡ [] = newest_of_none (nodes_in versions) (λ n. n.version) e in
-    absurd (Contains-none node (subst (λ ns. Contains ns node) none (Contains-at_version versions k node last.0)))
-last_is versions keyed k node last (Some x) e =
-    let is = newest_is_newest (nodes_in versions) (λ n. n.version) x e in
-    let in_node : Contains (nodes_in versions) node = Contains-at_version versions k node last.0 in
-    let above : node.version ≤ x.version = is.1 node in_node in
-    let own : node.version ≡ k = keyed k node last.0 in
-    let below : x.version ≤ k = ge_from_not_lt k x.version (last.1 x.version (is_some_of (version_at versions x.version) x (found_at_version versions keyed x is.0))) in
-    let same : x.version ≡ node.version = omega arith in
-    ap Some (one_of_version versions keyed x node is.0 in_node same)
+in_newest : (versions : Versions) → Contains (nodes_in versions) versions.newest
+in_newest versions = Contains-here versions.newest (map (λ e. e.1) versions.older.entries)
 
-pub latest_is : (versions : Versions) → IsByVersion versions → (k : ℕ) (node : InodeNode) → IsLast versions k node → latest (nodes_in versions) ≡ Some node
-latest_is versions keyed k node last = last_is versions keyed k node last (latest (nodes_in versions)) refl
+latest_from : (versions : Versions) → IsByVersion versions → (o : Option InodeNode) → latest (nodes_in versions) ≡ o → o ≡ Some versions.newest
+latest_from versions keyed None e =
+    let none : nodes_in versions ≡ [] = newest_of_none (nodes_in versions) (λ n. n.version) e in
+    absurd (Contains-none versions.newest (subst (λ ns. Contains ns versions.newest) none (in_newest versions)))
+latest_from versions keyed (Some x) e =
+    let is = newest_is_newest (nodes_in versions) (λ n. n.version) x e in
+    let above : versions.newest.version ≤ x.version = is.1 versions.newest (in_newest versions) in
+    let below : x.version ≤ versions.newest.version = at_most_newest versions x.version (is_some_of (version_at versions x.version) x (found_at_version versions keyed x is.0)) in
+    let same : x.version ≡ versions.newest.version = omega arith in
+    ap Some (one_of_version versions keyed x versions.newest is.0 (in_newest versions) same)
+
+pub latest_is : (versions : Versions) → IsByVersion versions → latest (nodes_in versions) ≡ Some versions.newest
+latest_is versions keyed = latest_from versions keyed (latest (nodes_in versions)) refl
 
 -- ---- the objects of all numbers
 

@@ -17,9 +17,10 @@ use Rattle.jname.proofs.EntriesLemmas.{nat_found}
 use Rattle.jname.proofs.HeldLemmas.{by_test}
 use Rattle.jname.proofs.MemberLemmas.{Contains-here, Contains-there, Contains-map_from}
 use Rattle.jmount.specs.declared.versions.Versions.{Versions}
-use Rattle.jmount.specs.Inodes.{ByNumber, IsKeyed, held, version_at, nodes_in, nodes_of}
+use Rattle.jmount.specs.Inodes.{ByNumber, IsKeyed, held, versions_in, version_at, nodes_in, nodes_of}
 use Rattle.jmount.specs.StateOf.{versions_of}
 use Rattle.jmount.specs.Storing.{made_at, made_by}
+use Rattle.jmount.proofs.NewestLemmas.{version_found}
 
 filter_all : {X : Type 0} (p : X → Bool) (xs : List X) → ((x : X) → Contains xs x → p x ≡ true) → filter p xs ≡ xs
 filter_all p [] h = refl
@@ -70,9 +71,9 @@ versions_listed (e ∷ es) i sorted own =
 
 own-of : (numbers : ByNumber) → IsOrdered nat_cmp numbers → IsKeyed numbers → AreOwn numbers.entries
 own-of numbers ordered keyed e c node h =
-    let at_version = Contains-map_from (λ (f : ℕ × InodeNode). f.1) e.1.nodes.entries node h in
+    let at_version = Contains-map_from (λ (f : ℕ × InodeNode). f.1) (versions_in e.1) node h in
     let number : get nat_cmp numbers e.0 ≡ Some e.1 = nat_found numbers.entries e.0 e.1 ordered c in
-    let version : version_at e.1 at_version.0.0 ≡ Some at_version.0.1 = nat_found e.1.nodes.entries at_version.0.0 at_version.0.1 e.1.ordered at_version.1 in
+    let version : version_at e.1 at_version.0.0 ≡ Some at_version.0.1 = version_found e.1 at_version.0.0 at_version.0.1 at_version.1 in
     let there : held numbers e.0 at_version.0.0 ≡ Some node = ap (λ (o : Option Versions). option_and_then (λ vs. version_at vs at_version.0.0) o) number ∙ version ∙ ap Some at_version.2 in
     (keyed e.0 at_version.0.0 node there).0
 

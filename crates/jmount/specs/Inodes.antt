@@ -1,8 +1,9 @@
 -- The inode nodes that a mount gathers, by number and version.
-use Rattle.std.specs.Prelude.{◌≡◌, ◌≢◌, ◌⊎◌, ◌↔◌, ℕ, List, map, Contains, Option, Some, None, ⊤}
+use Rattle.std.specs.Prelude.{◌≡◌, ◌≢◌, ◌⊎◌, ◌↔◌, ℕ, List, ◌∷◌, map, Contains, Option, Some, None, ⊤}
 use Rattle.std.specs.List.{flat_map}
 use Rattle.std.specs.Option.{option_and_then}
-use Rattle.std.specs.Ordering.{nat_cmp}
+use Rattle.std.specs.Map.{lookup}
+use Rattle.std.specs.Ordering.{nat_cmp, eq_by_cmp}
 use Rattle.std.specs.BTreeMap.{BTreeMap, get}
 use Rattle.jnode.specs.declared.node.InodeNode.{InodeNode}
 use Rattle.jmount.specs.declared.versions.Versions.{Versions}
@@ -21,9 +22,13 @@ abbrev pub Agrees : Option InodeNode → InodeNode → Type 0
 Agrees None node = ⊤
 Agrees (Some there) node = there ≡ node
 
+-- the nodes of a number, each with its version: that of the greatest, and the older ones in order
+abbrev pub versions_in : Versions → List (ℕ × InodeNode)
+versions_in versions = (versions.newest.version, versions.newest) ∷ versions.older.entries
+
 -- the node that is held at a version
 abbrev pub version_at : Versions → ℕ → Option InodeNode
-version_at versions v = get nat_cmp versions.nodes v
+version_at versions v = lookup (eq_by_cmp nat_cmp v) (versions_in versions)
 
 abbrev pub ByNumber : Type 0
 ByNumber = BTreeMap ℕ Versions
@@ -40,10 +45,9 @@ IsKeyed numbers = (i v : ℕ) (node : InodeNode) → held numbers i v ≡ Some n
 abbrev pub IsByVersion : Versions → Type 0
 IsByVersion versions = (v : ℕ) (node : InodeNode) → version_at versions v ≡ Some node → node.version ≡ v
 
--- the nodes of a number, in order of version
 abbrev pub nodes_in : Versions → List InodeNode
-nodes_in versions = map (λ e. e.1) versions.nodes.entries
+nodes_in versions = map (λ e. e.1) (versions_in versions)
 
--- all nodes, in order of number and version
+-- all nodes, in order of number
 unfoldable pub nodes_of : ByNumber → List InodeNode
 nodes_of numbers = flat_map (λ e. nodes_in e.1) numbers.entries

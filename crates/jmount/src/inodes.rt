@@ -96,7 +96,6 @@ fn add_node<'a>(
         return versions.add(node);
     }
     let ino = node.ino;
-    let versions = Versions::of_one(alloc, node)?;
-    numbers.insert(ino, versions)?;
+    numbers.insert(ino, Versions::of_one(alloc, node))?;
     Ok(())
 }

@@ -15,6 +15,7 @@ pub mod laws;
 mod mounted;
 mod mounting;
 mod object;
+mod older;
 mod path;
 mod read;
 pub mod rows;

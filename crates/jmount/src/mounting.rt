@@ -28,6 +28,8 @@ pub fn mount<'a, E: Order>(
         read_only,
         refused,
     } = survey::<E>(alloc, image, geometry)?;
+    // The survey stops at the first node that is refused: all nodes that it gives lie below that one, so a clash of
+    // theirs is the fault of least address, and is looked for first.
     let tables = gather(alloc, nodes)?;
     if let Some(refusal) = refused {
         return Err(MountFault::from(refusal));

@@ -76,7 +76,7 @@ fn object_of<'a>(alloc: Global, versions: &Versions<'a>) -> Result<Stored<'a>, A
 {
     let pieces = pieces_of(alloc, versions)?;
     let bytes = overlay(alloc, &pieces)?;
-    let (_, latest) = versions.nodes.last_key_value().unwrap();
+    let latest = &versions.newest;
     Ok(Stored {
         version: latest.version,
         mode: latest.mode,
@@ -93,8 +93,9 @@ fn object_of<'a>(alloc: Global, versions: &Versions<'a>) -> Result<Stored<'a>, A
 fn pieces_of<'a>(alloc: Global, versions: &Versions<'a>) -> Result<Vec<Piece<'a>>, AllocError>
     ensures { IfOk result (λ pieces. pieces.items ≡ map piece_of (nodes_in versions.now)) }
 {
-    let mut pieces = Vec::with_capacity(alloc, versions.nodes.len())?;
-    for node in versions.nodes.values() {
+    let mut pieces = Vec::with_capacity(alloc, versions.older.len() + 1)?;
+    pieces.push(piece_of(&versions.newest))?;
+    for node in versions.older.values() {
         pieces.push(piece_of(node))?;
     }
     Ok(pieces)

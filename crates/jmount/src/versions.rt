@@ -1,11 +1,11 @@
 // The inode nodes of one number.
 
-ghost use Rattle.std.specs.Prelude.{◌≡◌, ◌==◌, ◌<◌, ℕ, Some, None, IfOk, OnOk, OnErr, if◌then◌else◌};
+ghost use Rattle.std.specs.Prelude.{◌≡◌, ◌==◌, ◌<◌, ℕ, Some, None, IsSome, OnOk, OnErr, if◌then◌else◌};
 ghost use Rattle.std.specs.Ordering.{nat_cmp};
-ghost use Rattle.std.specs.BTreeMap.{IsOrdered, btree_map_len};
+ghost use Rattle.std.specs.BTreeMap.{IsOrdered, get};
 ghost use Rattle.std.proofs.Props.{props};
 
-use crate::sameness::is_same_node;
+use crate::older::{add_older, agree, copied};
 use jnode::InodeNode;
 use std::alloc::{AllocError, AllocFailed, Global};
 use std::collections::BTreeMap;
@@ -38,24 +38,27 @@ impl<T: Drop> From<AllocFailed<T>> for InodeFault {
     }
 }
 
-/// The nodes of one number, by version. There is one at least.
+/// The nodes of one number, by version. That of the greatest stands apart, since most numbers have no other: a map takes
+/// memory only from the second one on.
 #[derive(Drop)]
 pub struct Versions<'a> {
-    pub nodes: BTreeMap<u32, InodeNode<'a>>,
-    ghost ordered: { IsOrdered nat_cmp nodes } by { Prim.hlevel props },
-    ghost any: { 0 < btree_map_len nodes },
+    pub newest: InodeNode<'a>,
+    pub older: BTreeMap<u32, InodeNode<'a>>,
+    ghost ordered: { IsOrdered nat_cmp older } by { Prim.hlevel props },
+    ghost below: { (v : ℕ) → IsSome (get nat_cmp older v) → v < newest.version },
 }
 
 impl<'a> Versions<'a> {
-    ghost use Rattle.jmount.specs.Inodes.{Agrees, Differs, version_at};
+    ghost use Rattle.jmount.specs.Inodes.{Agrees, Differs, version_at, versions_in};
 
-    /// One node.
-    pub fn of_one(alloc: Global, node: InodeNode<'a>) -> Result<Self, AllocError>
-        ensures { IfOk result (λ versions. (v : ℕ) → version_at versions v ≡ (if node.entry.version == v then Some node.entry else None)) }
+    /// One node. Takes no memory.
+    pub fn of_one(alloc: Global, node: InodeNode<'a>) -> Self
+        ensures { (v : ℕ) → version_at result v ≡ (if node.entry.version == v then Some node.entry else None) }
     {
-        let mut nodes = BTreeMap::new(alloc);
-        nodes.insert(node.version, node)?;
-        Ok(Versions { nodes })
+        Versions {
+            newest: node,
+            older: BTreeMap::new(alloc),
+        }
     }
 
     /// Adds a node.
@@ -63,16 +66,17 @@ impl<'a> Versions<'a> {
         ensures clash { result ≡ Err InodeFault.Clash → Differs (version_at self.old node.entry.version) node.entry }
         ensures alone { OnOk result (Agrees (version_at self.old node.entry.version) node.entry) }
         ensures ok { OnOk result ((v : ℕ) → version_at self.new v ≡ (if node.entry.version == v then Some node.entry else version_at self.old v)) }
-        ensures err { OnErr result (self.new.nodes.entries ≡ self.old.nodes.entries) }
+        ensures err { OnErr result (versions_in self.new ≡ versions_in self.old) }
     {
-        if let Some(there) = self.nodes.get(&node.version) {
-            return if is_same_node(there, &node) {
-                Ok(())
-            } else {
-                Err(InodeFault::Clash)
-            };
+        if node.version == self.newest.version {
+            return agree(&self.newest, &node);
         }
-        self.nodes.insert(node.version, node)?;
+        if node.version < self.newest.version {
+            return add_older(&mut self.older, node);
+        }
+        self.older
+            .insert(self.newest.version, copied(&self.newest))?;
+        self.newest = node;
         Ok(())
     }
 }

@@ -21,9 +21,12 @@ use Rattle.jname.specs.declared.versions.Content.{Content}
 use Rattle.jname.specs.declared.versions.Versions.{Versions}
 use Rattle.jname.specs.declared.directory.Directory.{Directory}
 use Rattle.jname.specs.Versions.{contents_of, version_at}
-use Rattle.jname.specs.Held.{Name, name_cmp, ByName, versions_of, shown, IsSameHeld}
+use Rattle.jname.specs.declared.name_map.NameMap.{NameMap}
+use Rattle.jname.specs.Held.{Name, name_cmp, versions_of, shown, IsSameHeld}
+use Rattle.jname.specs.NameMaps.{names_in}
 use Rattle.jname.specs.Directories.{ByNumber, held, held_under}
 use Rattle.jname.specs.Entries.{content_of, entry_of, entries_under, entries_in, entries_of}
+use Rattle.jname.proofs.NameMapLemmas.{names_ordered}
 use Rattle.jname.proofs.VersionLemmas.{newest_at, older_at}
 use Rattle.jname.proofs.MemberLemmas.{Contains-cases, Contains-map, Contains-map_from, Contains-flat_map, Contains-flat_map_from, Contains-lookup}
 
@@ -46,18 +49,18 @@ version_found versions v content h =
 name_cmp_total : IsTotalOrder name_cmp
 name_cmp_total = on_total cow_slice_items nat_list_cmp_total
 
-pub name_found : (names : ByName) (k : Name) (versions : Versions) → IsOrdered name_cmp names → Contains names.entries (k, versions) → versions_of names (cow_slice_items k) ≡ Some versions
-name_found names k versions sorted h = lookup-from_Contains (eq_by_cmp_equiv name_cmp_total) k versions names.entries (IsDistinct-from_sorted name_cmp _ sorted) h
+pub name_found : (names : NameMap) (k : Name) (versions : Versions) → Contains (names_in names) (k, versions) → versions_of (names_in names) (cow_slice_items k) ≡ Some versions
+name_found names k versions h = lookup-from_Contains (eq_by_cmp_equiv name_cmp_total) k versions (names_in names) (IsDistinct-from_sorted name_cmp _ (names_ordered names)) h
 
 -- the content of an entry of the list is held
 pub held-from_Contains : (directories : ByNumber) → IsOrdered nat_cmp directories → (x : Dirent) → Contains (entries_of directories) x → held directories x.pino x.name x.version ≡ Some (content_of x)
 unfolding entries_of
 held-from_Contains directories ordered x h =
     let a = Contains-flat_map_from entries_in directories.entries x h in
-    let b = Contains-flat_map_from (entries_under a.0.0) a.0.1.names.entries x a.2 in
+    let b = Contains-flat_map_from (entries_under a.0.0) (names_in a.0.1.names) x a.2 in
     let c = Contains-map_from (entry_of a.0.0 (cow_slice_items b.0.0)) (contents_of b.0.1) x b.2 in
     let directory : get nat_cmp directories a.0.0 ≡ Some a.0.1 = nat_found directories.entries a.0.0 a.0.1 ordered a.1 in
-    let name : versions_of a.0.1.names (cow_slice_items b.0.0) ≡ Some b.0.1 = name_found a.0.1.names b.0.0 b.0.1 a.0.1.ordered b.1 in
+    let name : versions_of (names_in a.0.1.names) (cow_slice_items b.0.0) ≡ Some b.0.1 = name_found a.0.1.names b.0.0 b.0.1 b.1 in
     let version : version_at b.0.1 c.0.0 ≡ Some c.0.1 = version_found b.0.1 c.0.0 c.0.1 c.1 in
     let there : held directories a.0.0 (cow_slice_items b.0.0) c.0.0 ≡ Some c.0.1 =
     ap (λ (o : Option Directory). option_and_then (λ d. held_under d (cow_slice_items b.0.0) c.0.0) o) directory
@@ -69,28 +72,28 @@ pub Contains-from_held : (directories : ByNumber) (x : Dirent) → held director
 unfolding entries_of
 Contains-from_held directories x h =
     let d = and_then_from (λ (d : Directory). held_under d x.name x.version) (get nat_cmp directories x.pino) (content_of x) h in
-    let vs = and_then_from (λ (vs : Versions). version_at vs x.version) (versions_of d.0.names x.name) (content_of x) d.2 in
+    let vs = and_then_from (λ (vs : Versions). version_at vs x.version) (versions_of (names_in d.0.names) x.name) (content_of x) d.2 in
     let in_directories : Contains directories.entries (x.pino, d.0) = Contains-from_lookup (tells_apart exact_unsigned) x.pino d.0 directories.entries d.1 in
-    let k = Contains-lookup (λ (k : Name). is_eq (slice_cmp nat_cmp x.name (cow_slice_items k))) d.0.names.entries vs.0 vs.1 in
+    let k = Contains-lookup (λ (k : Name). is_eq (slice_cmp nat_cmp x.name (cow_slice_items k))) (names_in d.0.names) vs.0 vs.1 in
     let same_name : x.name ≡ cow_slice_items k.0 = (bytes_eq-Decides x.name (cow_slice_items k.0)).0 (sym (is_eq-slice_cmp x.name (cow_slice_items k.0)) ∙ k.2) in
     let in_versions : Contains (contents_of vs.0) (x.version, content_of x) = Contains-from_lookup (tells_apart exact_unsigned) x.version (content_of x) (contents_of vs.0) vs.2 in
     let under : Contains (entries_under x.pino (k.0, vs.0)) x =
     subst (λ (name : List ℕ). Contains (entries_under x.pino (k.0, vs.0)) (entry_of x.pino name (x.version, content_of x))) (sym same_name)
     (Contains-map (entry_of x.pino (cow_slice_items k.0)) (contents_of vs.0) (x.version, content_of x) in_versions) in
     Contains-flat_map entries_in directories.entries (x.pino, d.0) x in_directories
-    (Contains-flat_map (entries_under x.pino) d.0.names.entries (k.0, vs.0) x k.1 under)
+    (Contains-flat_map (entries_under x.pino) (names_in d.0.names) (k.0, vs.0) x k.1 under)
 
 -- ---- the list, where a directory shows the same
 
 shown_under : ℕ → Name × List (ℕ × Content) → List Dirent
 shown_under pino s = map (entry_of pino (cow_slice_items s.0)) s.1
 
-pub entries_in-same : (pino : ℕ) (old new : Directory) → IsSameHeld old.names new.names → entries_in (pino, new) ≡ entries_in (pino, old)
+pub entries_in-same : (pino : ℕ) (old new : Directory) → IsSameHeld (names_in old.names) (names_in new.names) → entries_in (pino, new) ≡ entries_in (pino, old)
 unfolding shown_under
 entries_in-same pino old new same =
-    sym (flat_map-map (shown_under pino) shown new.names.entries)
+    sym (flat_map-map (shown_under pino) shown (names_in new.names))
     ∙ ap (λ (ss : List (Name × List (ℕ × Content))). flat_map (shown_under pino) ss) same
-    ∙ flat_map-map (shown_under pino) shown old.names.entries
+    ∙ flat_map-map (shown_under pino) shown (names_in old.names)
 
 -- the list is made of the lists of the directories
 pub entries_of-same : (old new : ByNumber) → map entries_in new.entries ≡ map entries_in old.entries → entries_of new ≡ entries_of old

@@ -1,5 +1,5 @@
 -- What a change of one name, or of one directory, leaves at every name, version and directory.
-use Rattle.std.proofs.Common.{◌≡◌, ℕ, Bool, true, false, ◌&&◌, List, [], refl, sym, ap, subst, Some, None, Option, Result, Ok, Err, OnOk, OnErr, ◌∙◌, ⊎_elim, inl, inr, ◌≤◌, arith, ◌↔◌}
+use Rattle.std.proofs.Common.{◌≡◌, ℕ, Bool, true, false, cond, ◌&&◌, List, [], ◌∷◌, map, refl, sym, ap, subst, Some, None, Option, Result, Ok, Err, OnOk, OnErr, ◌∙◌, ⊎_elim, inl, inr, ◌≤◌, arith, ◌↔◌}
 use Rattle.std.specs.Prelude.{◌⊎◌, if◌then◌else◌, ◌==◌, IsSome, max}
 use Rattle.std.specs.Option.{option_and_then}
 use Rattle.std.specs.Ordering.{nat_cmp, is_eq, eq_by_cmp}
@@ -10,13 +10,12 @@ use Rattle.std.specs.Str.{bytes_eq}
 use Rattle.std.specs.BTreeMap.{UpdatesBy}
 use Rattle.std.specs.Map.{lookup, KeepsOthers, IsKeyTest, AreApart}
 use Rattle.std.proofs.lemmas.Bool.{cases_lt, eq-eqb, eqb-true}
-use Rattle.std.proofs.lemmas.Grind.{common_steps}
 use Rattle.std.proofs.lemmas.Slice.Eq.{bytes_eq-Decides}
 use Rattle.std.proofs.lemmas.Map.Text.{is_eq-slice_cmp}
 use Rattle.jname.specs.declared.versions.Content.{Content}
 use Rattle.jname.specs.declared.versions.Versions.{Versions}
-use Rattle.jname.specs.Versions.{version_at, Differs}
-use Rattle.jname.specs.Held.{Name, name_cmp, ByName, versions_of, held_in}
+use Rattle.jname.specs.Versions.{contents_of, version_at, Differs}
+use Rattle.jname.specs.Held.{Name, name_cmp, ByName, versions_of, held_in, shown, IsSameHeld}
 
 pub ok_map : {T E : Type 0} {P Q : Type 0} (r : Result T E) → (P → Q) → OnOk r P → OnOk r Q
 ok_map (Ok x) f h = f h
@@ -55,10 +54,10 @@ other_entries eq test old new h = h
 abbrev pub Replaces : ByName → ByName → List ℕ → Versions → Type 0
 Replaces old new name versions = UpdatesBy name_cmp (λ (k : Name). slice_cmp nat_cmp name (cow_slice_items k)) old new (Some versions)
 
-pub versions_of-same : (old new : ByName) (name : List ℕ) (versions : Versions) → Replaces old new name versions → (n : List ℕ) → bytes_eq name n ≡ true → versions_of new n ≡ Some versions
-versions_of-same old new name versions u n e = subst (λ (x : List ℕ). versions_of new x ≡ Some versions) ((bytes_eq-Decides name n).0 e) u.1
+pub versions_of-same : (old new : ByName) (name : List ℕ) (versions : Versions) → Replaces old new name versions → (n : List ℕ) → bytes_eq name n ≡ true → versions_of new.entries n ≡ Some versions
+versions_of-same old new name versions u n e = subst (λ (x : List ℕ). versions_of new.entries x ≡ Some versions) ((bytes_eq-Decides name n).0 e) u.1
 
-pub versions_of-other : (old new : ByName) (name : List ℕ) (versions : Versions) → Replaces old new name versions → (n : List ℕ) → bytes_eq name n ≡ false → versions_of new n ≡ versions_of old n
+pub versions_of-other : (old new : ByName) (name : List ℕ) (versions : Versions) → Replaces old new name versions → (n : List ℕ) → bytes_eq name n ≡ false → versions_of new.entries n ≡ versions_of old.entries n
 versions_of-other old new name versions u n e =
     other_entries (eq_by_cmp name_cmp) (λ (k : Name). is_eq (slice_cmp nat_cmp name (cow_slice_items k))) old.entries new.entries u.3
     (λ (k : Name). is_eq (slice_cmp nat_cmp n (cow_slice_items k)))
@@ -70,25 +69,25 @@ at_version v o = option_and_then (λ (x : Versions). version_at x v) o
 
 -- where the versions of a name have one content more, so has the directory
 pub held_in-replaced : (old new : ByName) (name : List ℕ) (versions : Versions) (version : ℕ) (content : Content) → Replaces old new name versions
-    → ((v : ℕ) → version_at versions v ≡ (if version == v then Some content else held_in old name v))
-    → (n : List ℕ) (v : ℕ) → held_in new n v ≡ (if bytes_eq name n && version == v then Some content else held_in old n v)
+    → ((v : ℕ) → version_at versions v ≡ (if version == v then Some content else held_in old.entries name v))
+    → (n : List ℕ) (v : ℕ) → held_in new.entries n v ≡ (if bytes_eq name n && version == v then Some content else held_in old.entries n v)
 unfolding at_version
 held_in-replaced old new name versions version content u h n v =
     by_test (bytes_eq name n)
     (λ e. ap (at_version v) (versions_of-same old new name versions u n e) ∙ h v
-    ∙ ap (λ (x : List ℕ). if version == v then Some content else held_in old x v) ((bytes_eq-Decides name n).0 e)
-    ∙ ap (λ (b : Bool). if b && version == v then Some content else held_in old n v) (sym e))
+    ∙ ap (λ (x : List ℕ). if version == v then Some content else held_in old.entries x v) ((bytes_eq-Decides name n).0 e)
+    ∙ ap (λ (b : Bool). if b && version == v then Some content else held_in old.entries n v) (sym e))
     (λ e. ap (at_version v) (versions_of-other old new name versions u n e)
-    ∙ ap (λ (b : Bool). if b && version == v then Some content else held_in old n v) (sym e))
+    ∙ ap (λ (b : Bool). if b && version == v then Some content else held_in old.entries n v) (sym e))
 
 -- where they are as they were, so is the directory
 pub held_in-kept : (old new : ByName) (name : List ℕ) (versions : Versions) → Replaces old new name versions
-    → ((v : ℕ) → version_at versions v ≡ held_in old name v)
-    → (n : List ℕ) (v : ℕ) → held_in new n v ≡ held_in old n v
+    → ((v : ℕ) → version_at versions v ≡ held_in old.entries name v)
+    → (n : List ℕ) (v : ℕ) → held_in new.entries n v ≡ held_in old.entries n v
 unfolding at_version
 held_in-kept old new name versions u h n v =
     by_test (bytes_eq name n)
-    (λ e. ap (at_version v) (versions_of-same old new name versions u n e) ∙ h v ∙ ap (λ (x : List ℕ). held_in old x v) ((bytes_eq-Decides name n).0 e))
+    (λ e. ap (at_version v) (versions_of-same old new name versions u n e) ∙ h v ∙ ap (λ (x : List ℕ). held_in old.entries x v) ((bytes_eq-Decides name n).0 e))
     (λ e. ap (at_version v) (versions_of-other old new name versions u n e))
 
 -- ---- the greatest version
@@ -99,14 +98,14 @@ some_of_both true false x o e = e
 some_of_both false c x o e = e
 
 -- no version that is held is higher
-abbrev pub IsBound : ByName → ℕ → Type 0
+abbrev pub IsBound : List (Name × Versions) → ℕ → Type 0
 IsBound names highest = (n : List ℕ) (v : ℕ) → IsSome (held_in names n v) → v ≤ highest
 
 -- one that is held is as high
-abbrev pub IsReached : ByName → ℕ → Type 0
+abbrev pub IsReached : List (Name × Versions) → ℕ → Type 0
 IsReached names highest = ((n : List ℕ) → held_in names n highest ≡ None) → ⊥
 
-abbrev pub HasOneMore : ByName → ByName → List ℕ → ℕ → Content → Type 0
+abbrev pub HasOneMore : List (Name × Versions) → List (Name × Versions) → List ℕ → ℕ → Content → Type 0
 HasOneMore old new name version content = (n : List ℕ) (v : ℕ) → held_in new n v ≡ (if bytes_eq name n && version == v then Some content else held_in old n v)
 
 one_more_bound : (b c : Bool) (x : Content) (o : Option Content) (v version highest : ℕ) → (c ≡ true → version ≡ v) → (IsSome o → v ≤ highest) → IsSome (if b && c then Some x else o) → v ≤ max highest version
@@ -114,7 +113,7 @@ one_more_bound true true x o v version highest same below h = let e : version �
 one_more_bound true false x o v version highest same below h = let e : v ≤ highest = below h in omega arith
 one_more_bound false c x o v version highest same below h = let e : v ≤ highest = below h in omega arith
 
-pub bound_of_one_more : (old new : ByName) (name : List ℕ) (version : ℕ) (content : Content) (highest top : ℕ) → HasOneMore old new name version content → top ≡ max highest version → IsBound old highest → IsBound new top
+pub bound_of_one_more : (old new : List (Name × Versions)) (name : List ℕ) (version : ℕ) (content : Content) (highest top : ℕ) → HasOneMore old new name version content → top ≡ max highest version → IsBound old highest → IsBound new top
 bound_of_one_more old new name version content highest top more is below n v h =
     let e : v ≤ max highest version = one_more_bound (bytes_eq name n) (version == v) content (held_in old n v) v version highest (eqb-true version v) (below n v) (subst (λ (o : Option Content). IsSome o) (more n v) h) in
     omega arith
@@ -122,20 +121,20 @@ bound_of_one_more old new name version content highest top more is below n v h =
 bytes_eq-self : (n : List ℕ) → bytes_eq n n ≡ true
 bytes_eq-self n = (bytes_eq-Decides n n).1 refl
 
-pub reached_there : (old new : ByName) (name : List ℕ) (version : ℕ) (content : Content) → HasOneMore old new name version content → IsReached new version
+pub reached_there : (old new : List (Name × Versions)) (name : List ℕ) (version : ℕ) (content : Content) → HasOneMore old new name version content → IsReached new version
 reached_there old new name version content more none =
     let there : held_in new name version ≡ Some content = more name version ∙ ap (λ (b : Bool). if b && version == version then Some content else held_in old name version) (bytes_eq-self name) ∙ ap (λ (b : Bool). if b then Some content else held_in old name version) (eq-eqb version version refl) in
     let gone : held_in new name version ≡ None = none name in
     cc
 
-reached_still : (old new : ByName) (name : List ℕ) (version : ℕ) (content : Content) (highest : ℕ) → HasOneMore old new name version content → IsReached old highest → IsReached new highest
+reached_still : (old new : List (Name × Versions)) (name : List ℕ) (version : ℕ) (content : Content) (highest : ℕ) → HasOneMore old new name version content → IsReached old highest → IsReached new highest
 reached_still old new name version content highest more reached none =
     reached (λ n. some_of_both (bytes_eq name n) (version == highest) content (held_in old n highest) (sym (more n highest) ∙ none n))
 
 one_of_max : (a b m : ℕ) → m ≡ max a b → (m ≡ a) ⊎ (m ≡ b)
 one_of_max a b m e = ⊎_elim (λ lt. inr (omega arith)) (λ ge. inl (omega arith)) (cases_lt a b)
 
-pub reached_by_one_more : (old new : ByName) (name : List ℕ) (version : ℕ) (content : Content) (highest top : ℕ) → HasOneMore old new name version content → top ≡ max highest version → IsReached old highest → IsReached new top
+pub reached_by_one_more : (old new : List (Name × Versions)) (name : List ℕ) (version : ℕ) (content : Content) (highest top : ℕ) → HasOneMore old new name version content → top ≡ max highest version → IsReached old highest → IsReached new top
 reached_by_one_more old new name version content highest top more is reached =
     ⊎_elim
     (λ (e : top ≡ highest). subst (λ (t : ℕ). IsReached new t) (sym e) (reached_still old new name version content highest more reached))
@@ -147,27 +146,34 @@ reached_by_one_more old new name version content highest top more is reached =
 pub no_clash : (o : Option Content) (content : Content) (P : Type 0) → o ≡ None → (P → ⊥) → P ↔ Differs o content
 no_clash o content P gone not = (λ p. absurd (not p), λ d. absurd (subst (λ (q : Option Content). Differs q content) gone d))
 
-pub held_in-none : (names : ByName) (name : List ℕ) (v : ℕ) → versions_of names name ≡ None → held_in names name v ≡ None
+pub held_in-none : (names : List (Name × Versions)) (name : List ℕ) (v : ℕ) → versions_of names name ≡ None → held_in names name v ≡ None
 unfolding at_version
 held_in-none names name v e = ap (at_version v) e
 
--- ---- the first content of a directory
+-- ---- names that show the same
 
-pub held_in-empty : (names : ByName) → names.entries ≡ [] → (n : List ℕ) (v : ℕ) → held_in names n v ≡ None
-unfolding at_version
-held_in-empty names e n v = ap (at_version v) (ap (λ (es : List (Name × Versions)). lookup (λ (k : Name). is_eq (slice_cmp nat_cmp n (cow_slice_items k))) es) e)
+-- the content at a version of a name that shows as these
+held_shown : List (Name × List (ℕ × Content)) → List ℕ → ℕ → Option Content
+held_shown ss n v = option_and_then (λ (cs : List (ℕ × Content)). lookup (eq_by_cmp nat_cmp v) cs) (lookup (λ (k : Name). is_eq (slice_cmp nat_cmp n (cow_slice_items k))) ss)
 
--- one name and one content, where there was none
-pub held_in-first : (old new : ByName) (name : List ℕ) (versions : Versions) (version : ℕ) (content : Content) → old.entries ≡ [] → Replaces old new name versions
-    → ((v : ℕ) → version_at versions v ≡ (if version == v then Some content else None))
-    → (n : List ℕ) (v : ℕ) → held_in new n v ≡ (if bytes_eq name n && version == v then Some content else None)
-held_in-first old new name versions version content empty u h n v =
-    held_in-replaced old new name versions version content u (λ w. h w ∙ ap (λ (o : Option Content). if version == w then Some content else o) (sym (held_in-empty old empty name w))) n v
-    ∙ ap (λ (o : Option Content). if bytes_eq name n && version == v then Some content else o) (held_in-empty old empty n v)
+shown_first : (b : Bool) (e : Name × Versions) (v : ℕ) (o : Option Versions) (p : Option (List (ℕ × Content)))
+    → option_and_then (λ (x : Versions). version_at x v) o ≡ option_and_then (λ (cs : List (ℕ × Content)). lookup (eq_by_cmp nat_cmp v) cs) p
+    → option_and_then (λ (x : Versions). version_at x v) (cond b (Some e.1) o) ≡ option_and_then (λ (cs : List (ℕ × Content)). lookup (eq_by_cmp nat_cmp v) cs) (cond b (Some (contents_of e.1)) p)
+shown_first true e v o p h = refl
+shown_first false e v o p h = h
 
-nothing_is_some : (o : Option Content) → o ≡ None → IsSome o → ⊥
-nothing_is_some o e h = absurd (grind (arith, common_steps))
+held_shown-is : (es : List (Name × Versions)) (n : List ℕ) (v : ℕ) → held_in es n v ≡ held_shown (map shown es) n v
+unfolding held_shown
+held_shown-is [] n v = refl
+held_shown-is (e ∷ es) n v =
+    shown_first (is_eq (slice_cmp nat_cmp n (cow_slice_items e.0))) e v (versions_of es n) (lookup (λ (k : Name). is_eq (slice_cmp nat_cmp n (cow_slice_items k))) (map shown es)) (held_shown-is es n v)
 
-pub bound_of_first : (old new : ByName) (name : List ℕ) (version : ℕ) (content : Content) → old.entries ≡ [] → HasOneMore old new name version content → IsBound new version
-bound_of_first old new name version content empty more =
-    bound_of_one_more old new name version content 0 version more (omega arith) (λ n v h. absurd (nothing_is_some (held_in old n v) (held_in-empty old empty n v) h))
+held_in-same : (old new : List (Name × Versions)) → IsSameHeld old new → (n : List ℕ) (v : ℕ) → held_in new n v ≡ held_in old n v
+held_in-same old new same n v =
+    held_shown-is new n v ∙ ap (λ (ss : List (Name × List (ℕ × Content))). held_shown ss n v) same ∙ sym (held_shown-is old n v)
+
+pub bound_the_same : (old new : List (Name × Versions)) (highest : ℕ) → IsSameHeld old new → IsBound old highest → IsBound new highest
+bound_the_same old new highest same bound n v h = bound n v (subst (λ (o : Option Content). IsSome o) (held_in-same old new same n v) h)
+
+pub reached_the_same : (old new : List (Name × Versions)) (highest : ℕ) → IsSameHeld old new → IsReached old highest → IsReached new highest
+reached_the_same old new highest same reached none = reached (λ n. sym (held_in-same old new same n highest) ∙ none n)

@@ -4,6 +4,7 @@ pub mod HeldLemmas
 pub mod LawLemmas
 pub mod LiveLemmas
 pub mod MemberLemmas
+pub mod NameMapLemmas
 pub mod NamingLemmas
 pub mod OrderLemmas
 pub mod SortedLemmas

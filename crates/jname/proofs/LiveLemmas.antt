@@ -15,6 +15,7 @@ use Rattle.jname.specs.declared.versions.Content.{Content}
 use Rattle.jname.specs.declared.directory.Directory.{Directory}
 use Rattle.jname.specs.Versions.{IsTop, IsLiveIn}
 use Rattle.jname.specs.Held.{held_in}
+use Rattle.jname.specs.NameMaps.{names_in}
 use Rattle.jname.specs.Directories.{ByNumber, held, held_under, highest_at}
 use Rattle.jname.specs.Entries.{content_of, entry_of, entries_of}
 use Rattle.jname.specs.Live.{Key, is_at, ino_if_any, live, highest}
@@ -130,15 +131,15 @@ by_highest directories ordered pino None there (Some z) e =
     cc
 by_highest directories ordered pino (Some d) there None e =
     let none : of_directory directories pino ≡ [] = newest_of_none (of_directory directories pino) (λ entry. entry.version) e in
-    absurd (d.reached (λ name. is_none (held_in d.names name d.highest) (λ content h.
+    absurd (d.reached (λ name. is_none (held_in (names_in d.names) name d.highest) (λ content h.
     Contains-none (entry_of pino name (d.highest, content)) (subst (λ (xs : List Dirent). Contains xs (entry_of pino name (d.highest, content))) none
     (in_number directories pino name d.highest content (held-directory directories pino (Some d) there name d.highest ∙ h))))))
 by_highest directories ordered pino (Some d) there (Some z) e =
     let is = newest_is_newest (of_directory directories pino) (λ entry. entry.version) z e in
-    let held_z : held_in d.names z.name z.version ≡ Some (content_of z) = sym (held-directory directories pino (Some d) there z.name z.version) ∙ from_number directories ordered pino z is.0 in
+    let held_z : held_in (names_in d.names) z.name z.version ≡ Some (content_of z) = sym (held-directory directories pino (Some d) there z.name z.version) ∙ from_number directories ordered pino z is.0 in
     let low : z.version ≤ d.highest = d.bounds z.name z.version (subst (λ (o : Option Content). IsSome o) (sym held_z) refl) in
     ⊎_elim
-    (λ (lt : z.version < d.highest). absurd (d.reached (λ name. is_none (held_in d.names name d.highest) (λ content h.
+    (λ (lt : z.version < d.highest). absurd (d.reached (λ name. is_none (held_in (names_in d.names) name d.highest) (λ content h.
     let most : d.highest ≤ z.version = is.1 (entry_of pino name (d.highest, content)) (in_number directories pino name d.highest content (held-directory directories pino (Some d) there name d.highest ∙ h)) in
     absurd (omega arith)))))
     (λ (ge : d.highest ≤ z.version). let same : d.highest ≡ z.version = omega arith in ap Some same)

@@ -6,10 +6,11 @@ use Rattle.std.specs.BTreeMap.{BTreeMap, get}
 use Rattle.jname.specs.declared.versions.Content.{Content}
 use Rattle.jname.specs.declared.directory.Directory.{Directory}
 use Rattle.jname.specs.Held.{held_in}
+use Rattle.jname.specs.NameMaps.{names_in}
 
 -- the content that is held in a directory under a name at a version
 abbrev pub held_under : Directory → List ℕ → ℕ → Option Content
-held_under directory name v = held_in directory.names name v
+held_under directory name v = held_in (names_in directory.names) name v
 
 abbrev pub ByNumber : Type 0
 ByNumber = BTreeMap ℕ Directory

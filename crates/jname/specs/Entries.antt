@@ -8,6 +8,7 @@ use Rattle.jname.specs.declared.versions.Versions.{Versions}
 use Rattle.jname.specs.declared.directory.Directory.{Directory}
 use Rattle.jname.specs.Versions.{contents_of}
 use Rattle.jname.specs.Held.{Name}
+use Rattle.jname.specs.NameMaps.{names_in}
 use Rattle.jname.specs.Directories.{ByNumber}
 
 abbrev pub content_of : Dirent → Content
@@ -20,7 +21,7 @@ abbrev pub entries_under : ℕ → Name × Versions → List Dirent
 entries_under pino e = map (entry_of pino (cow_slice_items e.0)) (contents_of e.1)
 
 abbrev pub entries_in : ℕ × Directory → List Dirent
-entries_in e = flat_map (entries_under e.0) e.1.names.entries
+entries_in e = flat_map (entries_under e.0) (names_in e.1.names)
 
 unfoldable pub entries_of : ByNumber → List Dirent
 entries_of directories = flat_map entries_in directories.entries

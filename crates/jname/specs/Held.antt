@@ -2,12 +2,13 @@
 use Rattle.std.specs.Prelude.{◌≡◌, ℕ, List, map, Option}
 use Rattle.std.specs.Option.{option_and_then}
 use Rattle.std.specs.declared.cmp.Ordering.{Ordering}
-use Rattle.std.specs.Ordering.{nat_cmp}
+use Rattle.std.specs.Map.{lookup}
+use Rattle.std.specs.Ordering.{nat_cmp, is_eq}
 use Rattle.std.specs.Cmp.Lexicographic.{slice_cmp}
 use Rattle.std.specs.Cow.{cow_slice_items}
 use Rattle.std.specs.declared.borrow.CowSlice.{CowSlice}
 use Rattle.std.specs.declared.alloc.Global.{Global}
-use Rattle.std.specs.BTreeMap.{BTreeMap, get_by}
+use Rattle.std.specs.BTreeMap.{BTreeMap}
 use Rattle.jname.specs.declared.versions.Content.{Content}
 use Rattle.jname.specs.declared.versions.Versions.{Versions}
 use Rattle.jname.specs.Versions.{contents_of, version_at}
@@ -22,12 +23,12 @@ name_cmp x y = slice_cmp nat_cmp (cow_slice_items x) (cow_slice_items y)
 abbrev pub ByName : Type 0
 ByName = BTreeMap Name Versions
 
--- the versions of a name
-abbrev pub versions_of : ByName → List ℕ → Option Versions
-versions_of names name = get_by (λ k. slice_cmp nat_cmp name (cow_slice_items k)) names
+-- the versions of a name among these
+abbrev pub versions_of : List (Name × Versions) → List ℕ → Option Versions
+versions_of names name = lookup (λ k. is_eq (slice_cmp nat_cmp name (cow_slice_items k))) names
 
 -- the content that is held under a name at a version
-abbrev pub held_in : ByName → List ℕ → ℕ → Option Content
+abbrev pub held_in : List (Name × Versions) → List ℕ → ℕ → Option Content
 held_in names name v = option_and_then (λ versions. version_at versions v) (versions_of names name)
 
 -- a name with the contents at its versions, in order
@@ -35,5 +36,5 @@ abbrev pub shown : Name × Versions → Name × List (ℕ × Content)
 shown e = (e.0, contents_of e.1)
 
 -- the same names, with the same contents at the same versions
-abbrev pub IsSameHeld : ByName → ByName → Type 0
-IsSameHeld old new = map shown new.entries ≡ map shown old.entries
+abbrev pub IsSameHeld : List (Name × Versions) → List (Name × Versions) → Type 0
+IsSameHeld old new = map shown new ≡ map shown old

@@ -2,6 +2,7 @@ pub mod Clash
 pub mod Directories
 pub mod Entries
 pub mod Held
+pub mod NameMaps
 pub mod Live
 pub mod Versions
 pub mod Walk

@@ -6,6 +6,7 @@ use Rattle.std.specs.Cow.{cow_slice_items}
 use Rattle.jname.specs.declared.versions.Versions.{Versions}
 use Rattle.jname.specs.declared.directory.Directory.{Directory}
 use Rattle.jname.specs.Held.{Name}
+use Rattle.jname.specs.NameMaps.{names_in}
 
 -- the inode number at the highest version, where it is not 0
 unfoldable pub live_ino : Versions → Option ℕ
@@ -25,4 +26,4 @@ placed pino e = (pino, e.0, e.1)
 
 -- the live names of directories
 abbrev pub names_within : List (ℕ × Directory) → List (ℕ × List ℕ × ℕ)
-names_within es = flat_map (λ e. map (placed e.0) (names_under e.1.names.entries)) es
+names_within es = flat_map (λ e. map (placed e.0) (names_under (names_in e.1.names))) es

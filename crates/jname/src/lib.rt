@@ -10,6 +10,7 @@
 mod directory;
 mod fault;
 pub mod laws;
+mod name_map;
 mod names;
 mod older;
 mod versions;

@@ -9,7 +9,8 @@ ghost use Rattle.jname.specs.Directories.{held, highest_at};
 ghost use Rattle.jname.specs.Entries.{entries_of};
 
 use crate::NameFault;
-use crate::directory::{ByName, Directory};
+use crate::directory::Directory;
+use crate::name_map::ByName;
 use crate::versions::Content;
 use crate::walk::{All, Of};
 use flashbase::Part;
@@ -102,7 +103,7 @@ impl<'a> Names<'a> {
     {
         match self.directories.get(&dir) {
             Some(directory) => Of::new(&directory.names),
-            None => Of::new(&self.none),
+            None => Of::none(&self.none),
         }
     }
 
@@ -153,8 +154,7 @@ fn add_entry<'a>(
     if let Some(directory) = directories.get_mut(&pino) {
         return directory.add(alloc, name, version, content);
     }
-    let directory = Directory::of_one(alloc, name, version, content)?;
-    directories.insert(pino, directory)?;
+    directories.insert(pino, Directory::of_one(alloc, name, version, content))?;
     Ok(())
 }
 

@@ -2,9 +2,8 @@
 
 ghost use Rattle.std.specs.Prelude.{◌≡◌, ℕ, List};
 
-use crate::directory::{ByName, Directory};
-use crate::versions::Versions;
-use std::borrow::CowSlice;
+use crate::directory::Directory;
+use crate::name_map::{ByName, NameIter, NameMap};
 use std::collections::BTreeMap;
 use std::collections::btree_map::Iter;
 use std::marker::Model;
@@ -12,26 +11,38 @@ use std::marker::Model;
 /// The names of a directory that stand, each with its inode number, in byte order.
 #[derive(Drop)]
 pub struct Of<'n, 'a> {
-    left: Iter<'n, CowSlice<'a, u8>, Versions>,
+    left: NameIter<'n, 'a>,
 }
 
 impl<'n, 'a> Model for Of<'n, 'a> {
     ghost use Rattle.std.specs.Prelude.{ℕ, List};
+    ghost use Rattle.jname.specs.NameMaps.{names_left};
     ghost use Rattle.jname.specs.Walk.{names_under};
 
     ghost Value = { List (List ℕ × ℕ) };
 
-    ghost view = { λ of. names_under of.left };
+    ghost view = { λ of. names_under (names_left of.left) };
 }
 
 impl<'n, 'a> Of<'n, 'a> {
-    ghost use Rattle.std.specs.Prelude.{◌≡◌};
+    ghost use Rattle.std.specs.Prelude.{◌≡◌, []};
+    ghost use Rattle.jname.specs.NameMaps.{names_in};
     ghost use Rattle.jname.specs.Walk.{names_under};
 
-    pub(crate) fn new(names: &'n ByName<'a>) -> Self
-        ensures { result ≡ names_under names.now.entries }
+    pub(crate) fn new(names: &'n NameMap<'a>) -> Self
+        ensures { result ≡ names_under (names_in names.now) }
     {
         Of { left: names.iter() }
+    }
+
+    /// No names; `none` is a map without any.
+    pub(crate) fn none(none: &'n ByName<'a>) -> Self
+        requires { none.now.entries ≡ [] }
+        ensures { result ≡ [] }
+    {
+        Of {
+            left: NameIter::none(none),
+        }
     }
 }
 
@@ -84,7 +95,7 @@ impl<'n, 'a> All<'n, 'a> {
         All {
             directories: directories.iter(),
             pino: 0,
-            names: Of::new(none),
+            names: Of::none(none),
         }
     }
 }

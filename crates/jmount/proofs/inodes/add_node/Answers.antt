@@ -22,5 +22,5 @@ pub returns-in_err-insert-clause-err : goal.returns-in_err-insert-clause-err
 returns-in_err-insert-clause-err c =
     let kept : c.get_mut.follows.lender-at-none ≡ c.args.numbers.now = search rules in
     let same : c.insert.new.self.entries ≡ c.get_mut.follows.lender-at-none.entries = c.in_err-insert.ensures.err in
-    err_always c.from_residual-in_err-insert.result
+    err_always c.from_residual.result
     (nodes_of-unchanged c.args.numbers.now c.insert.new.self (same ∙ ap (λ (m : ByNumber). m.entries) kept))

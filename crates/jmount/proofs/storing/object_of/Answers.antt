@@ -1,11 +1,10 @@
-use Rattle.std.proofs.Common.{rules, false, ◌≡◌, ◌<◌, ◌^◌, ℕ, Some, List, All, map, refl, ap, sym, ◌∙◌, subst}
-use Rattle.std.specs.Prelude.{IsSome, option_map}
-use Rattle.std.specs.Ordering.{nat_cmp, is_lt}
+use Rattle.std.proofs.Common.{◌≡◌, ◌<◌, ◌^◌, ℕ, Some, List, All, map, refl, ap, sym, ◌∙◌, subst}
+use Rattle.std.specs.Prelude.{option_map}
 use Rattle.std.proofs.lemmas.List.Elements.{All-map}
 use Rattle.jfrag.specs.declared.piece.Piece.{Piece}
 use Rattle.jfrag.specs.Pieces.{end_of}
 use Rattle.jfrag.specs.Overlays.{IsHighestAt}
-use Rattle.jmount.specs.Inodes.{version_at, nodes_in}
+use Rattle.jmount.specs.Inodes.{nodes_in}
 use Rattle.jmount.specs.Stored.{stands_in}
 use Rattle.jmount.specs.StateOf.{piece_of, object_by, with_bytes}
 use Rattle.jmount.proofs.StoringLemmas.{latest_is, content-stands}
@@ -21,11 +20,10 @@ overlay-requires c κs =
 
 pub returns : goal.returns
 returns c =
-    let value : version_at c.args.versions.now c.unwrap.result.0.now ≡ Some c.unwrap.result.1.now = search rules in
-    let greatest : (q : ℕ) → IsSome (version_at c.args.versions.now q) → is_lt (nat_cmp c.unwrap.result.0.now q) ≡ false = search rules in
     let pieces : c.deref.result.now ≡ map piece_of (nodes_in c.args.versions.now) = c.deref.ensures.value ∙ c.in_ok-pieces.ensures in
     let highest : (place : ℕ) → IsHighestAt (map piece_of (nodes_in c.args.versions.now)) place (stands_in c.in_ok-bytes.bytes place) =
     λ place. subst (λ (ps : List Piece). IsHighestAt ps place (stands_in c.in_ok-bytes.bytes place)) pieces (c.in_ok-bytes.ensures.highest place) in
-    let body = content-stands c.args.versions.now c.requires.by_version (stands_in c.in_ok-bytes.bytes) highest c.unwrap.result.1.now.isize in
-    ap (λ bytes. Some (with_bytes c.unwrap.result.1.now bytes, c.unwrap.result.1.now.version)) body
-    ∙ ap (option_map (λ node. (object_by (nodes_in c.args.versions.now) node, node.version))) (sym (latest_is c.args.versions.now c.requires.by_version c.unwrap.result.0.now c.unwrap.result.1.now (value, greatest)))
+    let latest = c.args.versions.now.newest in
+    let body = content-stands c.args.versions.now c.requires.by_version (stands_in c.in_ok-bytes.bytes) highest latest.isize in
+    ap (λ bytes. Some (with_bytes latest bytes, latest.version)) body
+    ∙ ap (option_map (λ node. (object_by (nodes_in c.args.versions.now) node, node.version))) (sym (latest_is c.args.versions.now c.requires.by_version))

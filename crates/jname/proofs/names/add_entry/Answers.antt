@@ -1,4 +1,4 @@
-use Rattle.std.proofs.Common.{rules, ◌≡◌, ℕ, ◌∙◌, ap, sym, List, map, Some, Option}
+use Rattle.std.proofs.Common.{rules, ◌≡◌, ℕ, ◌∙◌, ap, sym, subst, List, map, None, Some, Option}
 use Rattle.std.specs.Prelude.{if◌then◌else◌, ◌==◌, ◌&&◌, IsSome, bytes_eq}
 use Rattle.std.specs.Option.{option_and_then}
 use Rattle.std.specs.Ordering.{nat_cmp, eq_by_cmp}
@@ -33,5 +33,15 @@ pub returns-in_err-insert-clause-err : goal.returns-in_err-insert-clause-err
 returns-in_err-insert-clause-err c =
     let kept : c.get_mut.follows.lender-at-none ≡ c.args.directories.now = search rules in
     let same : c.insert.new.self.entries ≡ c.get_mut.follows.lender-at-none.entries = c.in_err-insert.ensures.err in
-    err_always c.from_residual-in_err-insert.result
+    err_always c.from_residual.result
     (entries_of-unchanged c.args.directories.now c.insert.new.self (same ∙ ap (λ (m : ByNumber). m.entries) kept))
+
+pub returns-clause-ok : goal.returns-clause-ok
+returns-clause-ok c =
+    let kept : c.get_mut.follows.lender-at-none ≡ c.args.directories.now = search rules in
+    let absent : get nat_cmp c.args.directories.now c.args.pino ≡ None = search rules in
+    let updates : Updates nat_cmp c.args.directories.now c.insert.new.self c.args.pino (Some c.of_one.result) =
+    subst (λ (m : ByNumber). Updates nat_cmp m c.insert.new.self c.args.pino (Some c.of_one.result)) kept c.in_ok-insert.ensures.updates in
+    held-replaced c.args.directories.now c.insert.new.self c.args.pino c.of_one.result (cow_slice_items c.args.name) c.args.version c.args.content updates
+    (λ n v. c.of_one.ensures n v
+    ∙ ap (λ (o : Option Directory). if bytes_eq (cow_slice_items c.args.name) n && c.args.version == v then Some c.args.content else option_and_then (λ (d : Directory). held_under d n v) o) (sym absent))
