@@ -5,7 +5,8 @@ ghost use Rattle.flashbase.specs.Device.{Puts};
 ghost use Rattle.jline.specs.Words.{escaped};
 
 use crate::line::LineBuffer;
-use flashbase::{PutFault, Sink, put_all};
+use crate::texts::put_text;
+use flashbase::{DeviceFault, Sink};
 use jnode::Part;
 
 /// So many bytes go out at a time.
@@ -21,7 +22,7 @@ fn write_piece(line: &mut LineBuffer, piece: &[u8])
 }
 
 /// Puts bytes, each that is not plain as `\x` and two hexadecimal digits. Takes no memory.
-pub fn put_escaped<T: Sink>(sink: &mut T, bytes: &[u8]) -> Result<(), PutFault>
+pub fn put_escaped<T: Sink>(sink: &mut T, bytes: &[u8]) -> Result<(), DeviceFault>
     ensures { Puts (T.taken sink.old) (T.taken sink.new) (T.failures sink.old) (T.failures sink.new) (escaped bytes.now) result }
 {
     let mut line = LineBuffer::new();
@@ -29,7 +30,7 @@ pub fn put_escaped<T: Sink>(sink: &mut T, bytes: &[u8]) -> Result<(), PutFault>
     while start < bytes.len() {
         let end = bytes.len().min(start + PIECE);
         write_piece(&mut line, &bytes[start..end]);
-        put_all(sink, line.as_slice())?;
+        put_text(sink, line.as_slice())?;
         start = end;
     }
     Ok(())

@@ -1,5 +1,6 @@
 pub mod BlockLemmas
 pub mod FaultLemmas
+pub mod GrowingLemmas
 pub mod ListingLemmas
 pub mod LoadedLemmas
 pub mod PathLemmas

@@ -61,13 +61,6 @@ fault_text_of program.OutOfMemory = codes "P6 OutOfMemory"
 unfoldable pub fault_line_of : ProgramFault → List ℕ
 fault_line_of fault = codes "jffs2_image: " ++ (fault_text_of fault ++ 10 ∷ [])
 
--- the faults of a stream's report: of its geometry, of the source, of memory, of what is printed
-abbrev pub IsFaultOfReport : ProgramFault → Type 0
-IsFaultOfReport (program.Load fault) = Unit {0}
-IsFaultOfReport (program.Scan scan.BlockSize) = Unit {0}
-IsFaultOfReport program.Output = Unit {0}
-IsFaultOfReport _ = ⊥
-
 -- the program's fault that a report's fault is
 abbrev pub fault_of_report : ReportFault → ProgramFault
 fault_of_report (report.Scan fault) = program.Scan fault

@@ -1,12 +1,16 @@
 //! Images that are read as a whole: what `check`, `cat` and `ls` write of them, and what they answer.
 
 use crate::devices::{Pieces, Short};
-use crate::images::{CLASH, FILE, FILE_AS_ROOT, GEOMETRY, LARGE, Node, SYMLINK, TREE, image_of};
+use crate::images::{
+    ATTRIBUTE, CLASH, DAMAGED_INODE_2, ENTRY_A, FILE, FILE_AS_ROOT, GEOMETRY, INODE_2, LARGE,
+    LITTLE_MARKER, NO_LENGTH, Node, ONE_BLOCK, OTHER_ORDER, READ_ONLY, Raw, SYMLINK, TREE,
+    image_of, raw_image,
+};
 use byteorder::LittleEndian;
 use flashbase::{FromReader, FromWriter, LoadFault, Sink, Source};
 use jline::put_escaped;
 use jmount::{FindFault, MountFault, mount};
-use jreport::{ProgramFault, check_lines, content, file_bytes, list_lines, path_word};
+use jreport::{ProgramFault, check_lines, content, file_bytes, list_lines, note_line, path_word};
 use jscan::{Geometry, ScanFault};
 use std::alloc::Global;
 use std::test::Fail;
@@ -112,22 +116,24 @@ enum Call {
 /// A call of each kind, the second of the file in `TREE`.
 const CALLS: [Call; 3] = [Call::Check, Call::Content(b"/d/f"), Call::Listing];
 
-/// The answer of a call; what finds nothing wrong by itself answers `false`.
+/// The answer of a call: how much it found.
 fn ask<S: Source, T: Sink>(
     alloc: Global,
     call: Call,
     source: &mut S,
     geometry: Geometry,
     sink: &mut T,
-) -> Result<bool, ProgramFault<'static>> {
+) -> Result<u64, ProgramFault<'static>> {
     match call {
-        Call::Check => return check_lines::<LittleEndian, S, T>(alloc, source, geometry, sink),
-        Call::Content(path) => file_bytes::<LittleEndian, S, T>(
-            alloc, source, geometry, path, sink,
-        )?,
-        Call::Listing => list_lines::<LittleEndian, S, T>(alloc, source, geometry, sink)?,
+        Call::Check => {
+            let found = check_lines::<LittleEndian, S, T>(alloc, source, geometry, sink)?;
+            Ok(u64::from(found))
+        }
+        Call::Content(path) => {
+            file_bytes::<LittleEndian, S, T>(alloc, source, geometry, path, sink)
+        }
+        Call::Listing => list_lines::<LittleEndian, S, T>(alloc, source, geometry, sink),
     }
-    Ok(false)
 }
 
 /// The answer of a call, and what it puts.
@@ -136,7 +142,7 @@ fn told(
     call: Call,
     image: &[u8],
     geometry: Geometry,
-) -> (Result<bool, ProgramFault<'static>>, Vec<u8>) {
+) -> (Result<u64, ProgramFault<'static>>, Vec<u8>) {
     let mut source = FromReader::new(image);
     let mut sink = FromWriter::new(Vec::new(alloc));
     let answer = ask(alloc, call, &mut source, geometry, &mut sink);
@@ -169,20 +175,20 @@ const SOUND: &[Node<'static>] = &[Node::Inode(2, FILE, b"hi"), Node::Entry(1, 2,
 type Row = (
     &'static [Node<'static>],
     Call,
-    Result<bool, ProgramFault<'static>>,
+    Result<u64, ProgramFault<'static>>,
     &'static [u8],
 );
 
-const CLASHES: Result<bool, ProgramFault<'static>> = Err(ProgramFault::Mount(MountFault::Clash {
+const CLASHES: Result<u64, ProgramFault<'static>> = Err(ProgramFault::Mount(MountFault::Clash {
     addr: 0x44,
 }));
 
-const NO_ROOT: Result<bool, ProgramFault<'static>> = Err(ProgramFault::Mount(MountFault::RootKind));
+const NO_ROOT: Result<u64, ProgramFault<'static>> = Err(ProgramFault::Mount(MountFault::RootKind));
 
 /// What is put whole.
 const WHOLE: [Row; 9] = [
-    (TREE, Call::Check, Ok(true), TREE_CHECKED),
-    (TREE, Call::Content(b"/d/f"), Ok(false), b"hi"),
+    (TREE, Call::Check, Ok(1), TREE_CHECKED),
+    (TREE, Call::Content(b"/d/f"), Ok(0), b"hi"),
     (
         TREE,
         Call::Content(b"/x"),
@@ -195,7 +201,7 @@ const WHOLE: [Row; 9] = [
         Err(ProgramFault::NotRegular),
         b"",
     ),
-    (TREE, Call::Listing, Ok(false), TREE_LISTED),
+    (TREE, Call::Listing, Ok(0), TREE_LISTED),
     (CLASH, Call::Content(b"/d/f"), CLASHES, b""),
     (CLASH, Call::Listing, CLASHES, b""),
     (FILE_AS_ROOT, Call::Content(b"/d/f"), NO_ROOT, b""),
@@ -214,18 +220,18 @@ fn worked_calls(rt: HostRuntime) -> Result<(), Fail> {
 }
 
 const ENDS: [Row; 4] = [
-    (SOUND, Call::Check, Ok(false), b"findings 0\nmount ok\n"),
-    (SOUND, Call::Listing, Ok(false), b"\n- 0644 0 0 2 0 2 /a\n"),
+    (SOUND, Call::Check, Ok(0), b"findings 0\nmount ok\n"),
+    (SOUND, Call::Listing, Ok(0), b"\n- 0644 0 0 2 0 2 /a\n"),
     (
         CLASH,
         Call::Check,
-        Ok(true),
+        Ok(1),
         b"findings 0\nmount refused M5 Clash at 00000044\n",
     ),
     (
         FILE_AS_ROOT,
         Call::Check,
-        Ok(true),
+        Ok(1),
         b"findings 0\nmount refused M6 RootKind\n",
     ),
 ];
@@ -277,6 +283,48 @@ fn is_unread(alloc: Global, call: Call, image: &[u8], limit: usize) -> bool {
     answer == Err(ProgramFault::Load(LoadFault::Device))
         && source.failures == 0
         && sink.into_writer().is_empty()
+}
+
+/// Blocks with an empty file of the name `a`, and how many of its findings are told of.
+const FOUND: [(&[&[u8]], u64); 5] = [
+    (&[LITTLE_MARKER, ATTRIBUTE, READ_ONLY, INODE_2, ENTRY_A], 0),
+    (&[LITTLE_MARKER, NO_LENGTH, INODE_2, ENTRY_A], 1),
+    (&[OTHER_ORDER, INODE_2, ENTRY_A], 1),
+    (&[DAMAGED_INODE_2, INODE_2, ENTRY_A], 1),
+    (
+        &[
+            DAMAGED_INODE_2,
+            ATTRIBUTE,
+            OTHER_ORDER,
+            LITTLE_MARKER,
+            NO_LENGTH,
+            INODE_2,
+            ENTRY_A,
+        ],
+        3,
+    ),
+];
+
+#[test]
+fn findings_of_mounted_images(rt: HostRuntime) -> Result<(), Fail> {
+    for (nodes, count) in FOUND {
+        let image = raw_image(rt.alloc(), Raw { nodes, ..ONE_BLOCK })?;
+        for call in [Call::Listing, Call::Content(b"/a")] {
+            let (answer, _) = told(rt.alloc(), call, &image, GEOMETRY);
+            assert_eq!(rt; answer, Ok(count));
+        }
+    }
+    Ok(())
+}
+
+#[test]
+fn a_note(rt: HostRuntime) {
+    let mut sink = FromWriter::new(Vec::new(rt.alloc()));
+    assert_eq!(rt; note_line(17, &mut sink), Ok(()));
+    assert_eq!(rt;
+        sink.into_writer().as_slice(),
+        b"jffs2_image: note: 17 findings, see check --scan; a wrong --block or --endian shows as findings too\n".as_slice()
+    );
 }
 
 #[test]
