@@ -1,6 +1,6 @@
 -- A report that ends early: what has gone out.
 use Rattle.std.proofs.Common.{◌≡◌, ◌≢◌, ℕ, ◌%◌, List, ◌++◌, length, refl, sym, subst, Option}
-use Rattle.std.specs.Prelude.{Result, Ok, Err, IsErrAnd}
+use Rattle.std.specs.Prelude.{Result, Ok, Err, IfErr, IsErrAnd}
 use Rattle.std.specs.Io.KnownBytes.{Appends}
 use Rattle.std.proofs.KnownBytes.{Appends-trans, Appends-nil}
 use Rattle.flashbase.specs.Device.{PutsPart, next_count}
@@ -14,6 +14,11 @@ use Rattle.jscan.specs.Counts.{counts_of}
 use Rattle.jscan.specs.declared.counts.Counts.{Counts}
 use Rattle.jreport.specs.Report.{scan_text, lines_below, totals_line}
 use Rattle.jreport.specs.Puts.{IsScannable, PutsLines, PutsReport}
+
+-- what holds at each fault
+pub at_any_err : {T E P : Type 0} (r : Result T E) → P → IfErr r (λ _. P)
+at_any_err (Ok x) holds = tt
+at_any_err (Err e) holds = holds
 
 pub output_fault : {T : Type 0} (size : ℕ) (image : List ℕ) (old new : Option (List ℕ)) (before now : ℕ) (text : List ℕ) (r : Result T ReportFault)
     → IsErrAnd r (λ e. e ≡ Output) → PutsPart old new text → now ≡ next_count before → PutsLines size image old new before now text r

@@ -1,5 +1,6 @@
 pub mod BlockLemmas
 pub mod FaultLemmas
+pub mod GrowingLemmas
 pub mod ListingLemmas
 pub mod LoadedLemmas
 pub mod PathLemmas
@@ -7,7 +8,5 @@ pub mod PathTextLemmas
 pub mod PutLemmas
 pub mod StreamLemmas
 pub mod StretchLemmas
-pub mod TurnLemmas
 pub mod VerdictLemmas
 pub mod WalkLemmas
-pub mod WordLemmas

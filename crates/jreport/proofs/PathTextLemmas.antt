@@ -1,8 +1,8 @@
 -- Paths and targets as they are printed.
 use Rattle.std.proofs.Common.{◌≡◌, ℕ, ◌<◌, ◌≤◌, ◌-◌, Bool, false, nat_lt, min, List, [], ◌∷◌, ◌++◌, length, take, drop, take_all, ap, arith, codes, if◌then◌else◌, map, Bor, sym, ◌∙◌}
 use Rattle.std.proofs.lemmas.Grind.{common_steps}
-use Rattle.jreport.specs.Words.{escaped}
-use Rattle.jreport.proofs.TurnLemmas.{piece_read}
+use Rattle.jline.specs.Words.{escaped}
+use Rattle.jline.proofs.TurnLemmas.{piece_read}
 use Rattle.std.specs.List.{flat_map}
 use Rattle.std.proofs.lemmas.List.Folds.{flat_map-map}
 use Rattle.jreport.specs.TreeText.{name_shown, path_shown, target_shown}

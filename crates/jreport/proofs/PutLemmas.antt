@@ -15,7 +15,8 @@ use Rattle.jscan.specs.declared.stretch.Stretch.{Stretch}
 use Rattle.jscan.specs.Counts.{is_entry_tile, is_inode_tile, is_found, number_in, one_if, counted, block_counted}
 use Rattle.jscan.specs.declared.counts.Counts.{Counts}
 use Rattle.jscan.specs.declared.stretch.Look.{Look}
-use Rattle.jreport.specs.Report.{block_line, stretch_line, lines_of, HasRoom}
+use Rattle.jline.specs.Forms.{block_line, stretch_line}
+use Rattle.jreport.specs.Report.{lines_of, HasRoom}
 use Rattle.jreport.proofs.StretchLemmas.{number_in-le}
 
 pub count_by-append : {X : Type 0} (test : X → Bool) (xs ys : List X) → count_by test (xs ++ ys) ≡ count_by test xs + count_by test ys

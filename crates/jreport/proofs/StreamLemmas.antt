@@ -1,33 +1,37 @@
 -- The report of a source while it goes out block by block.
-use Rattle.std.proofs.Common.{◌≡◌, ℕ, ◌+◌, ◌-◌, ◌*◌, ◌/◌, ◌<◌, ◌≤◌, min, List, ◌++◌, length, drop, Option, None, Some, IfSome, IfNone, ⊎_elim, false, refl, sym, ap, subst, ◌∙◌, arith, length-drop}
+use Rattle.std.proofs.Common.{◌≡◌, ◌≢◌, ℕ, ◌+◌, ◌-◌, ◌*◌, ◌/◌, ◌<◌, ◌≤◌, min, List, [], ◌++◌, length, drop, Option, None, Some, IfSome, IfNone, ⊎_elim, true, false, refl, sym, ap, subst, ◌∙◌, arith, length-drop}
 use Rattle.std.specs.Prelude.{Result, Ok, Err, IsErrAnd, IsErrOf}
 use Rattle.std.specs.Io.KnownBytes.{Appends}
-use Rattle.std.proofs.KnownBytes.{Appends-trans}
+use Rattle.std.proofs.KnownBytes.{Appends-trans, Appends-nil}
 use Rattle.std.proofs.lemmas.Bool.{cases_lt}
 use Rattle.std.proofs.lemmas.Grind.{div_ceil_times}
 use Rattle.std.proofs.lemmas.Nat.{div_below, le-div}
 use Rattle.std.proofs.Math.Nat.{mul-le-mul_right}
-use Rattle.flashbase.specs.Device.{PutsPart}
+use Rattle.flashbase.specs.Device.{PutsPart, next_count}
 use Rattle.flashbase.specs.declared.source.LoadFault.TheVariants as load
 use Rattle.flashbase.specs.declared.source.Source.{Ghosts as OfSource}
 use Rattle.flashbase.proofs.DeviceLemmas.{part_before, part_behind}
 use Rattle.jnode.specs.declared.order.Endian.{Endian}
-use Rattle.jscan.specs.Counts.{is_found, counts_of, block_counted}
-use Rattle.jscan.specs.Filling.{Breaks}
-use Rattle.jscan.specs.Image.{block_count, greatest_image}
-use Rattle.jscan.specs.Stream.{IsNextBlock, GivesBlock, GivesNone, GivesFault, size_of, start_of, rest_of, failures_of, has_ended}
+use Rattle.jscan.specs.Counts.{is_found, counts_of, block_counted, no_counts}
+use Rattle.jscan.specs.Filling.{Breaks, StopsWithin}
+use Rattle.jscan.specs.Image.{block_count, greatest_image, is_block_size}
+use Rattle.jscan.specs.Stream.{IsNextBlock, GivesBlock, GivesNone, GivesFault, size_of, start_of, source_of, rest_of, failures_of, fault_of, has_ended}
 use Rattle.jscan.specs.Stretches.{stretches}
 use Rattle.jscan.specs.declared.counts.Counts.{Counts}
 use Rattle.jscan.specs.declared.stream.BlockReader.{BlockReader}
 use Rattle.jscan.specs.declared.stream.StreamFault.{StreamFault}
 use Rattle.jscan.specs.declared.stream.StreamFault.TheVariants as stream
-use Rattle.jscan.proofs.StreamCounts.{Scanning, IsCounted, scanning_next, scanning_end, readable_some}
+use Rattle.jscan.proofs.StreamCounts.{Scanning, IsCounted, scanning_next, scanning_end, scanning_torn, readable_some}
 use Rattle.jscan.proofs.StreamLemmas.{IsAtBlock, IsWhole, block_here}
 use Rattle.jreport.specs.Faults.{fault_of_stream}
+use Rattle.jreport.specs.Loaded.{OfSomeImage}
 use Rattle.jreport.specs.Report.{scan_text, lines_of, lines_below, block_lines, totals_line, number_of}
+use Rattle.jreport.specs.Stream.{PutsStream}
 use Rattle.jreport.specs.declared.faults.ProgramFault.{ProgramFault}
 use Rattle.jreport.specs.declared.faults.ProgramFault.TheVariants as program
 use Rattle.jreport.proofs.BlockLemmas.{lines_below_more, lines_begin, one_more}
+use Rattle.jreport.proofs.GrowingLemmas.{Untold, untold_next, untold_count, untold_part}
+use Rattle.jreport.proofs.LoadedLemmas.{of_unread}
 
 -- the lines of the first n blocks of these bytes have gone out
 abbrev pub Gone : Endian → ℕ → ℕ → Option (List ℕ) → Option (List ℕ) → List ℕ → Type 0
@@ -38,6 +42,7 @@ pub record Streaming {S : Type 0} {o : OfSource S} (e : Endian) (source : S) (si
     (old new : Option (List ℕ)) (before now : ℕ) : Type 0 where
   pub scanning : Scanning e source size start counts reader
   pub put : IfSome (o.rest source) (Gone e size counts.blocks old new)
+  pub untold : IfNone (o.rest source) (Untold e size counts old new)
   pub none_failed : now ≡ before
 
 -- all blocks of these bytes were counted, and their lines have gone out
@@ -97,6 +102,51 @@ module _ {S : Type 0} {o : OfSource S} where
       subst (λ (s : ℕ). IsNextBlock s start (rest_of old) (rest_of new) block) before.blocks_of
       (subst (λ (s : ℕ). IsNextBlock (size_of old) s (rest_of old) (rest_of new) block) before.here gives.bytes)
 
+  pub streaming_start : (e : Endian) (source : S) (size : ℕ) (counts : Counts) (reader : BlockReader S o) (a : Option (List ℕ)) (n : ℕ)
+      → counts ≡ no_counts → size_of reader ≡ size → start_of reader ≡ 0 → source_of reader ≡ source → fault_of reader ≡ None → is_block_size size ≡ true
+      → Streaming e source size 0 counts reader a a n n
+  streaming_start e source size counts reader a n none sized begins is well readable = record {
+    scanning = record {
+      blocks_of = sized;
+      readable = readable;
+      here = begins;
+      blocks = omega (arith, ap (λ (k : ℕ). k * size) no_blocks);
+      entries = omega (arith, ap (λ (c : Counts). c.entries) none);
+      inodes = omega (arith, ap (λ (c : Counts). c.inodes) none);
+      findings = omega (arith, ap (λ (c : Counts). c.findings) none);
+      well = well;
+      none_failed = ap o.failures is;
+      known = known (o.rest source) (ap o.rest is);
+    };
+    put = gone (o.rest source);
+    untold = empty (o.rest source);
+    none_failed = refl;
+  }
+    where
+      no_blocks : counts.blocks ≡ 0
+      no_blocks = ap (λ (c : Counts). c.blocks) none
+
+      counted : (image : List ℕ) → counts ≡ counts_of e size image counts.blocks
+      counted image = none ∙ ap (counts_of e size image) (sym no_blocks)
+
+      nothing : (image : List ℕ) → Gone e size counts.blocks a a image
+      nothing image = subst (λ (k : ℕ). Appends a a (lines_below e size image k)) (sym no_blocks) (Appends-nil a)
+
+      known : (told : Option (List ℕ)) → rest_of reader ≡ told → IfSome told (λ image. IsCounted e size 0 counts image (rest_of reader))
+      known None left = tt
+      known (Some image) left = record {
+        place = record { left = left; fits = omega arith; tight = omega (arith, readable_some size readable) };
+        so_far = counted image;
+      }
+
+      gone : (told : Option (List ℕ)) → IfSome told (Gone e size counts.blocks a a)
+      gone None = tt
+      gone (Some image) = nothing image
+
+      empty : (told : Option (List ℕ)) → IfNone told (Untold e size counts a a)
+      empty None = record { image = []; whole = omega (arith, ap (λ (k : ℕ). k * size) no_blocks); counted = counted []; gone = nothing [] }
+      empty (Some image) = tt
+
   pub streaming_next : (e : Endian) (source : S) (size start : ℕ) (counts now : Counts) (old new : BlockReader S o) (block : List ℕ)
       (a b c : Option (List ℕ)) (n m k : ℕ) → Streaming e source size start counts old a b n m → GivesBlock old new block
       → now ≡ block_counted counts (stretches e start block) → Appends b c (lines_of counts.blocks (stretches e start block)) → k ≡ m
@@ -105,9 +155,15 @@ module _ {S : Type 0} {o : OfSource S} where
       record {
         scanning = scanning_next e source size start counts now old new block before.scanning gives is;
         put = known (o.rest source) before.scanning.known before.put;
+        untold = grown (o.rest source) before.untold;
         none_failed = none ∙ before.none_failed;
       }
     where
+      grown : (told : Option (List ℕ)) → IfNone told (Untold e size counts a b) → IfNone told (Untold e size now a c)
+      grown None so_far =
+          untold_next e size start counts now block a b c so_far (gives.whole ∙ before.scanning.blocks_of) before.scanning.blocks is put
+      grown (Some image) so_far = tt
+
       known : (told : Option (List ℕ)) → IfSome told (λ image. IsCounted e size start counts image (rest_of old)) → IfSome told (Gone e size counts.blocks a b)
           → IfSome told (Gone e size now.blocks a c)
       known None so_far gone = tt
@@ -155,6 +211,23 @@ module _ {S : Type 0} {o : OfSource S} where
           let some : 0 < size = omega (arith, readable_some size before.scanning.readable) in
           (counts.blocks, upto_count size start counts.blocks image (rest_of reader) some before.scanning.blocks so_far.place, gone)
 
+  -- where the device failed, less than a block is gone of what follows the blocks whose lines have gone out
+  pub stopped : (e : Endian) (source : S) (size start : ℕ) (counts : Counts) (old new : BlockReader S o) (fault : StreamFault)
+      (a b : Option (List ℕ)) (n m : ℕ) → Streaming e source size start counts old a b n m → GivesFault old new fault → fault ≡ stream.Device
+      → (left : S) × (o.failures left ≡ next_count (o.failures source))
+      × IfSome (o.rest source) (λ image. (k : ℕ) × (k ≤ block_count size image) × StopsWithin (Some (drop (k * size) image)) (o.rest left) size × Gone e size k a b image)
+  stopped e source size start counts old new fault a b n m before gives is =
+      let torn = scanning_torn e source size start counts old new fault before.scanning gives is in
+      (torn.0, torn.1, known torn.0 (o.rest source) before.scanning.known before.put torn.2)
+    where
+      known : (left : S) (told : Option (List ℕ)) → IfSome told (λ image. IsCounted e size start counts image (rest_of old)) → IfSome told (Gone e size counts.blocks a b)
+          → IfSome told (λ image. StopsWithin (Some (drop (counts.blocks * size) image)) (o.rest left) size)
+          → IfSome told (λ image. (k : ℕ) × (k ≤ block_count size image) × StopsWithin (Some (drop (k * size) image)) (o.rest left) size × Gone e size k a b image)
+      known left None so_far gone torn = tt
+      known left (Some image) so_far gone torn =
+          let some : 0 < size = omega (arith, readable_some size before.scanning.readable) in
+          (counts.blocks, upto_count size start counts.blocks image (rest_of old) some before.scanning.blocks so_far.place, torn, gone)
+
   pub gone_to_limit : (e : Endian) (source : S) (size start : ℕ) (counts : Counts) (old new : BlockReader S o) (fault : StreamFault)
       (a b : Option (List ℕ)) (n m : ℕ) → Streaming e source size start counts old a b n m → GivesFault old new fault → fault ≡ stream.TooLarge
       → IfSome (o.rest source) (Gone e size (greatest_image / size) a b)
@@ -195,29 +268,128 @@ module _ {S : Type 0} {o : OfSource S} where
         gone = subst (λ (k : ℕ). Appends a b (lines_below e size image k)) whole.all gone;
       }
 
--- the last line
-pub ended_text : (e : Endian) (size : ℕ) (counts : Counts) (a b c : Option (List ℕ)) (told : Option (List ℕ)) → IfSome told (Ended e size counts a b)
-    → Appends b c (totals_line counts) → IfSome told (λ image. Appends a c (scan_text e size image))
+-- ---- what is put, of the image that was read
+
+-- all blocks were counted, and their lines have gone out
+pub record Finished (e : Endian) (size : ℕ) (counts : Counts) (old new : Option (List ℕ)) (image : List ℕ) : Type 0 where
+  pub totals : counts ≡ counts_of e size image (block_count size image)
+  pub gone : Gone e size (block_count size image) old new image
+
+pub finished : (e : Endian) (size : ℕ) (counts : Counts) (a b : Option (List ℕ)) (told : Option (List ℕ)) → 0 < size
+    → IfSome told (Ended e size counts a b) → IfNone told (Untold e size counts a b) → OfSomeImage told (Finished e size counts a b)
+finished e size counts a b None some ended untold =
+    let count = sym (untold_count size counts.blocks untold.image some untold.whole) in (
+      untold.image,
+      tt,
+      record {
+        totals = untold.counted ∙ ap (counts_of e size untold.image) count;
+        gone = subst (λ (k : ℕ). Appends a b (lines_below e size untold.image k)) count untold.gone;
+      },
+    )
+finished e size counts a b (Some image) some ended untold = (image, refl, record { totals = ended.totals; gone = ended.gone })
+
+-- and then the last
+pub all_put : (e : Endian) (size : ℕ) (counts : Counts) (a b c : Option (List ℕ)) (before mid now : ℕ) (told : Option (List ℕ))
+    → OfSomeImage told (Finished e size counts a b) → Appends b c (totals_line counts) → mid ≡ before → now ≡ mid
+    → OfSomeImage told (λ image. PutsStream e size image a c before now (Ok counts.findings))
 unfolding scan_text
-ended_text e size counts a b c None ended put = tt
-ended_text e size counts a b c (Some image) ended put =
-    Appends-trans a b c (lines_below e size image (block_count size image)) (totals_line (counts_of e size image (block_count size image))) ended.gone
-    (subst (λ (n : Counts). Appends b c (totals_line n)) ended.totals put)
+all_put e size counts a b c before mid now told all put stayed stays =
+    let image = all.0 in (
+      image,
+      all.1,
+      (
+        ap (λ (n : Counts). n.findings) all.2.totals,
+        Appends-trans a b c (lines_below e size image (block_count size image)) (totals_line (counts_of e size image (block_count size image))) all.2.gone
+            (subst (λ (n : Counts). Appends b c (totals_line n)) all.2.totals put),
+        stays ∙ stayed,
+      ),
+    )
 
--- a beginning of it
-pub ended_part : (e : Endian) (size : ℕ) (counts : Counts) (a b c : Option (List ℕ)) (told : Option (List ℕ)) → IfSome told (Ended e size counts a b)
-    → PutsPart b c (totals_line counts) → IfSome told (λ image. PutsPart a c (scan_text e size image))
+-- or a beginning of it
+pub total_failed : (e : Endian) (size : ℕ) (counts : Counts) (a b c : Option (List ℕ)) (before mid now : ℕ) (told : Option (List ℕ)) (r : Result ℕ ProgramFault)
+    → IsErrAnd r (λ x. x ≡ program.Output) → OfSomeImage told (Finished e size counts a b) → PutsPart b c (totals_line counts) → mid ≡ before → now ≡ next_count mid
+    → OfSomeImage told (λ image. PutsStream e size image a c before now r)
 unfolding scan_text
-ended_part e size counts a b c None ended put = tt
-ended_part e size counts a b c (Some image) ended put =
-    part_behind a b c (lines_below e size image (block_count size image)) (totals_line (counts_of e size image (block_count size image))) ended.gone
-    (subst (λ (n : Counts). PutsPart b c (totals_line n)) ended.totals put)
+total_failed e size counts a b c before mid now told (Ok x) is all part stayed failed = absurd is
+total_failed e size counts a b c before mid now told (Err x) is all part stayed failed =
+    let image = all.0 in (
+      image,
+      all.1,
+      subst (λ (y : ProgramFault). PutsStream e size image a c before now (Err y)) (sym is) (
+        part_behind a b c (lines_below e size image (block_count size image)) (totals_line (counts_of e size image (block_count size image))) all.2.gone
+            (subst (λ (n : Counts). PutsPart b c (totals_line n)) all.2.totals part),
+        failed ∙ ap next_count stayed,
+      ),
+    )
 
-pub ended_findings : (e : Endian) (size : ℕ) (counts : Counts) (a b : Option (List ℕ)) (told : Option (List ℕ)) → IfSome told (Ended e size counts a b)
-    → IfSome told (λ image. counts.findings ≡ number_of is_found e size image)
-ended_findings e size counts a b None ended = tt
-ended_findings e size counts a b (Some image) ended = ap (λ (n : Counts). n.findings) ended.totals
+module _ {S : Type 0} {o : OfSource S} where
+  -- the sink failed at the lines of a block
+  pub block_failed : (e : Endian) (source : S) (size start : ℕ) (counts : Counts) (old new : BlockReader S o) (block : List ℕ)
+      (a b c : Option (List ℕ)) (before mid now : ℕ) (r : Result ℕ ProgramFault) → IsErrAnd r (λ x. x ≡ program.Output)
+      → Streaming e source size start counts old a b before mid → GivesBlock old new block
+      → PutsPart b c (lines_of counts.blocks (stretches e start block)) → now ≡ next_count mid
+      → OfSomeImage (o.rest source) (λ image. PutsStream e size image a c before now r)
+  block_failed e source size start counts old new block a b c before mid now (Ok x) is so_far gives part failed = absurd is
+  block_failed e source size start counts old new block a b c before mid now (Err x) is so_far gives part failed =
+      known (o.rest source) so_far.untold (began_at_block e source size start counts old new block a b c before mid so_far gives part)
+    where
+      put : (image : List ℕ) → PutsPart a c (scan_text e size image) → PutsStream e size image a c before now (Err x)
+      put image text = subst (λ (y : ProgramFault). PutsStream e size image a c before now (Err y)) (sym is) (text, failed ∙ ap next_count so_far.none_failed)
 
+      known : (told : Option (List ℕ)) → IfNone told (Untold e size counts a b) → IfSome told (λ image. PutsPart a c (scan_text e size image))
+          → OfSomeImage told (λ image. PutsStream e size image a c before now (Err x))
+      known None untold text =
+          let some : 0 < size = omega (arith, readable_some size so_far.scanning.readable) in
+          let began = untold_part e size start counts block a b c some untold (gives.whole ∙ so_far.scanning.blocks_of) so_far.scanning.blocks part in
+          (began.0, tt, put began.0 began.1)
+      known (Some image) untold text = (image, refl, put image text)
+
+  -- the source was not read on
+  pub source_failed : (e : Endian) (source : S) (size start : ℕ) (counts : Counts) (old new : BlockReader S o) (fault : StreamFault)
+      (a b : Option (List ℕ)) (before mid : ℕ) (r : Result ℕ ProgramFault) → IsErrAnd r (λ x. x ≡ fault_of_stream fault)
+      → Streaming e source size start counts old a b before mid → GivesFault old new fault
+      → OfSomeImage (o.rest source) (λ image. PutsStream e size image a b before mid r)
+  source_failed e source size start counts old new fault a b before mid (Ok x) is so_far gives = absurd is
+  source_failed e source size start counts old new fault a b before mid (Err x) is so_far gives =
+      known (o.rest source) so_far.untold (gone_before e source size start counts old a b before mid so_far)
+    where
+      first : (has_ended old ≡ false) × Breaks (rest_of old) (failures_of old) (failures_of new) (size_of old) (greatest_image - start_of old) fault
+      first = subst (λ (f : Option StreamFault). IfNone f ((has_ended old ≡ false)
+          × Breaks (rest_of old) (failures_of old) (failures_of new) (size_of old) (greatest_image - start_of old) fault)) so_far.scanning.well gives.first
+
+      by : (image : List ℕ) (f : StreamFault) → Breaks (rest_of old) (failures_of old) (failures_of new) (size_of old) (greatest_image - start_of old) f
+          → (k : ℕ) × (k ≤ block_count size image) × Gone e size k a b image → PutsStream e size image a b before mid (Err (fault_of_stream f))
+      by image stream.Device breaks gone = (gone.0, gone.1, gone.2, so_far.none_failed)
+      by image stream.TooLarge breaks gone = (gone.0, gone.1, gone.2, so_far.none_failed)
+      by image stream.BlockSize breaks gone = absurd breaks
+      by image stream.OutOfMemory breaks gone = absurd breaks
+
+      put : (image : List ℕ) → (k : ℕ) × (k ≤ block_count size image) × Gone e size k a b image → PutsStream e size image a b before mid (Err x)
+      put image gone = subst (λ (y : ProgramFault). PutsStream e size image a b before mid (Err y)) (sym is) (by image fault first.1 gone)
+
+      known : (told : Option (List ℕ)) → IfNone told (Untold e size counts a b) → IfSome told (λ image. (k : ℕ) × (k ≤ block_count size image) × Gone e size k a b image)
+          → OfSomeImage told (λ image. PutsStream e size image a b before mid (Err x))
+      known None untold gone =
+          let some : 0 < size = omega (arith, readable_some size so_far.scanning.readable) in
+          let count = untold_count size counts.blocks untold.image some untold.whole in
+          (untold.image, tt, put untold.image (counts.blocks, omega (arith, count), untold.gone))
+      known (Some image) untold gone = (image, refl, put image gone)
+
+-- nothing was read
+pub unread_failed : (e : Endian) (size : ℕ) (a : Option (List ℕ)) (n : ℕ) (told : Option (List ℕ)) (f : StreamFault) (r : Result ℕ ProgramFault)
+    → IsErrAnd r (λ x. x ≡ fault_of_stream f) → f ≢ stream.Device → f ≢ stream.TooLarge
+    → OfSomeImage told (λ image. PutsStream e size image a a n n r)
+unread_failed e size a n told f (Ok x) is no_device no_limit = absurd is
+unread_failed e size a n told f (Err x) is no_device no_limit =
+    of_unread told (λ image. subst (λ (y : ProgramFault). PutsStream e size image a a n n (Err y)) (sym is) (by image f no_device no_limit))
+  where
+    by : (image : List ℕ) (g : StreamFault) → g ≢ stream.Device → g ≢ stream.TooLarge → PutsStream e size image a a n n (Err (fault_of_stream g))
+    by image stream.BlockSize no_device no_limit = (refl, refl)
+    by image stream.OutOfMemory no_device no_limit = (refl, refl)
+    by image stream.Device no_device no_limit = absurd (no_device refl)
+    by image stream.TooLarge no_device no_limit = absurd (no_limit refl)
+
+-- no byte past the greatest image was read
 pub ended_within : (e : Endian) (size : ℕ) (counts : Counts) (a b : Option (List ℕ)) (told : Option (List ℕ)) → IfSome told (Ended e size counts a b)
     → IfSome told (λ image. length image ≤ greatest_image)
 ended_within e size counts a b None ended = tt
@@ -231,3 +403,11 @@ is_limit (Err e) stream.TooLarge is limit = refl
 is_limit (Err e) stream.Device is limit = cc
 is_limit (Err e) stream.BlockSize is limit = cc
 is_limit (Err e) stream.OutOfMemory is limit = cc
+
+pub is_device : {T : Type 0} (r : Result T ProgramFault) (f : StreamFault) → IsErrAnd r (λ e. e ≡ fault_of_stream f) → IsErrOf r (program.Load load.Device)
+    → f ≡ stream.Device
+is_device (Ok x) f is device = absurd is
+is_device (Err e) stream.Device is device = refl
+is_device (Err e) stream.TooLarge is device = cc
+is_device (Err e) stream.BlockSize is device = cc
+is_device (Err e) stream.OutOfMemory is device = cc

@@ -19,7 +19,7 @@ use Rattle.jscan.specs.declared.stretch.Look.{Look}
 use Rattle.jscan.specs.declared.stretch.Look.TheVariants.{Tiled, Erased, OtherOrder, Dirt}
 use Rattle.jscan.specs.declared.stretch.Stretch.{Stretch}
 use Rattle.jscan.specs.Counts.{number_in}
-use Rattle.jreport.specs.Report.{shown_name}
+use Rattle.jline.specs.Forms.{shown_name}
 
 -- a tile has a byte of its own
 length_tiling_from : (e : Endian) (place inside : ℕ) (rest : List ℕ) → length (tiling_from e place inside rest) ≤ length rest

@@ -11,7 +11,7 @@ use Rattle.jmount.specs.declared.fault.FindFault.{FindFault}
 use Rattle.jmount.specs.declared.fault.FindFault.TheVariants as find
 use Rattle.jscan.specs.declared.stream.StreamFault.{StreamFault}
 use Rattle.jscan.specs.declared.stream.StreamFault.TheVariants as stream
-use Rattle.jreport.specs.Words.{hex}
+use Rattle.jline.specs.Words.{hex}
 use Rattle.jreport.specs.declared.report_fault.ReportFault.{ReportFault}
 use Rattle.jreport.specs.declared.report_fault.ReportFault.TheVariants as report
 use Rattle.jreport.specs.declared.faults.ProgramFault.{ProgramFault}
@@ -60,13 +60,6 @@ fault_text_of program.OutOfMemory = codes "P6 OutOfMemory"
 -- the line on standard error
 unfoldable pub fault_line_of : ProgramFault → List ℕ
 fault_line_of fault = codes "jffs2_image: " ++ (fault_text_of fault ++ 10 ∷ [])
-
--- the faults of a stream's report: of its geometry, of the source, of memory, of what is printed
-abbrev pub IsFaultOfReport : ProgramFault → Type 0
-IsFaultOfReport (program.Load fault) = Unit {0}
-IsFaultOfReport (program.Scan scan.BlockSize) = Unit {0}
-IsFaultOfReport program.Output = Unit {0}
-IsFaultOfReport _ = ⊥
 
 -- the program's fault that a report's fault is
 abbrev pub fault_of_report : ReportFault → ProgramFault

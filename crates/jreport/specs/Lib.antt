@@ -1,11 +1,12 @@
 pub mod Content
 pub mod Faults
 pub mod Loaded
+pub mod Notes
 pub mod Paths
 pub mod Puts
 pub mod Report
+pub mod Stream
 pub mod TreeLaws
 pub mod TreeText
 pub mod Verdict
 pub mod Walking
-pub mod Words

@@ -9,7 +9,7 @@ use Rattle.jmount.specs.Mount.{Mount}
 use Rattle.jmount.specs.Mounts.{Answers}
 use Rattle.jmount.specs.declared.fault.MountFault.{MountFault}
 use Rattle.jmount.specs.declared.fault.MountFault.TheVariants as mount
-use Rattle.jreport.specs.Words.{escaped}
+use Rattle.jline.specs.Words.{escaped}
 use Rattle.jreport.specs.Faults.{mount_text}
 use Rattle.jreport.specs.declared.faults.ProgramFault.{ProgramFault}
 use Rattle.jreport.specs.declared.faults.ProgramFault.TheVariants as program

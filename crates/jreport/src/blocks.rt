@@ -4,11 +4,11 @@ ghost use Rattle.std.specs.Prelude.{◌≡◌, ◌%◌, ◌^◌, ◌+◌, ◌<�
 ghost use Rattle.flashbase.specs.Device.{Puts};
 ghost use Rattle.jscan.specs.Counts.{block_counted, counted, no_counts};
 ghost use Rattle.jscan.specs.Stretches.{stretches};
-ghost use Rattle.jreport.specs.Report.{stretch_line, shown_name, lines_of, totals_line, HasRoom};
+ghost use Rattle.jline.specs.Forms.{stretch_line, shown_name};
+ghost use Rattle.jreport.specs.Report.{lines_of, totals_line, HasRoom};
 
-use crate::forms::{write_block, write_stretch, write_total};
-use crate::line::LineBuffer;
-use flashbase::{PutFault, Sink, put_all};
+use flashbase::{DeviceFault, Sink};
+use jline::{LineBuffer, put_text, write_block, write_stretch, write_total};
 use jnode::Order;
 use jscan::{Counts, Stretch, Stretches};
 
@@ -30,14 +30,14 @@ fn put_stretch<T: Sink>(
     line: &mut LineBuffer,
     counts: &mut Counts,
     stretch: &Stretch<'_>,
-) -> Result<(), PutFault>
+) -> Result<(), DeviceFault>
     requires name { length (shown_name stretch.now.look) ≤ 255 }
     requires room { HasRoom counts.old 1 }
     ensures puts { Puts (T.taken sink.old) (T.taken sink.new) (T.failures sink.old) (T.failures sink.new) (stretch_line stretch.now) result }
     ensures counts { OnOk result (counts.new ≡ counted counts.old stretch.now.look) }
 {
     write_stretch(line, stretch);
-    put_all(sink, line.as_slice())?;
+    put_text(sink, line.as_slice())?;
     counts.add(&stretch.look);
     Ok(())
 }
@@ -49,7 +49,7 @@ pub fn put_block<E: Order, T: Sink>(
     start: u32,
     block: &[u8],
     counts: &mut Counts,
-) -> Result<(), PutFault>
+) -> Result<(), DeviceFault>
     requires whole_words { length block.now % 4 ≡ 0 }
     requires addressed { start + length block.now < 2 ^ 32 }
     requires room { HasRoom counts.old (length block.now + 1) }
@@ -59,7 +59,7 @@ pub fn put_block<E: Order, T: Sink>(
 {
     let mut line = LineBuffer::new();
     write_block(&mut line, counts.blocks);
-    put_all(sink, line.as_slice())?;
+    put_text(sink, line.as_slice())?;
     counts.blocks += 1;
     for stretch in Stretches::<E>::new(start, block) {
         put_stretch(sink, &mut line, counts, &stretch)?;
@@ -68,7 +68,7 @@ pub fn put_block<E: Order, T: Sink>(
 }
 
 /// Puts the last line of a report.
-pub fn put_total<T: Sink>(sink: &mut T, counts: &Counts) -> Result<(), PutFault>
+pub fn put_total<T: Sink>(sink: &mut T, counts: &Counts) -> Result<(), DeviceFault>
     ensures { Puts (T.taken sink.old) (T.taken sink.new) (T.failures sink.old) (T.failures sink.new) (totals_line counts.now) result }
 {
     let mut line = LineBuffer::new();
@@ -79,5 +79,5 @@ pub fn put_total<T: Sink>(sink: &mut T, counts: &Counts) -> Result<(), PutFault>
         counts.inodes,
         counts.findings,
     );
-    put_all(sink, line.as_slice())
+    put_text(sink, line.as_slice())
 }

@@ -6,7 +6,7 @@ ghost use Rattle.jreport.specs.Faults.{fault_text_of};
 ghost use Rattle.jreport.specs.declared.faults.ProgramFault.TheVariants as fault;
 
 /// The texts of faults.
-#[tactic(auto, unfolding(crate::specs::Faults::fault_text_of, crate::specs::Faults::load_text, crate::specs::Faults::scan_fault_text, crate::specs::Words::hex))]
+#[tactic(auto, unfolding(crate::specs::Faults::fault_text_of, crate::specs::Faults::load_text, crate::specs::Faults::scan_fault_text, jline::specs::Words::hex))]
 pub fn known_fault_texts()
     ensures device { fault_text_of (fault.Load load.Device) ≡ codes "L1 Device" }
     ensures block_size { fault_text_of (fault.Scan scan.BlockSize) ≡ codes "C1 BlockSize" }

@@ -1,12 +1,12 @@
 //! Why the program gives up, and the texts that say so.
 ghost use Rattle.std.specs.Prelude.{◌≡◌, ◌<◌, ◌≤◌, ◌++◌, [], length, take, OnOk, IfErr};
 ghost use Rattle.std.specs.Io.KnownBytes.{Appends};
-ghost use Rattle.flashbase.specs.Device.{next_count};
+ghost use Rattle.flashbase.specs.Device.{Puts, PutsPart, next_count};
 ghost use Rattle.jreport.specs.Faults.{fault_line_of, fault_text_of, find_text, load_text, mount_text, scan_fault_text};
 
-use crate::line::LineBuffer;
 use crate::report_fault::ReportFault;
-use flashbase::{LoadFault, PutFault, Sink, put_all};
+use flashbase::{DeviceFault, LoadFault, PutFault, Sink, put_all};
+use jline::{LineBuffer, put_text};
 use jmount::{FindFault, MountFault};
 use jscan::{ScanFault, StreamFault};
 use std::alloc::{AllocError, AllocFailed};
@@ -119,12 +119,13 @@ impl From<StreamFault> for ProgramFault<'_> {
     }
 }
 
-impl From<PutFault> for ProgramFault<'_> {
+/// The sink's: what a source says comes as a fault of a load or of a stream.
+impl From<DeviceFault> for ProgramFault<'_> {
     ghost use Rattle.jreport.specs.declared.faults.ProgramFault.TheVariants.{Output};
 
     ghost from_gives = { λ _ e. e ≡ Output };
 
-    fn from(_fault: PutFault) -> Self {
+    fn from(_fault: DeviceFault) -> Self {
         ProgramFault::Output
     }
 }
@@ -263,13 +264,26 @@ pub fn fault_text<T: Sink>(fault: &ProgramFault<'_>, sink: &mut T) -> Result<(),
     put_both(sink, line.as_slice(), name.as_bytes())
 }
 
+/// Puts the text of a fault, and says no more of a fault of the sink than that it failed.
+fn put_fault<T: Sink>(fault: &ProgramFault<'_>, sink: &mut T) -> Result<(), DeviceFault>
+    ensures { Puts (T.taken sink.old) (T.taken sink.new) (T.failures sink.old) (T.failures sink.new) (fault_text_of fault.now) result }
+{
+    match fault_text(fault, sink) {
+        Ok(()) => Ok(()),
+        Err(PutFault { .. }) => Err(DeviceFault),
+    }
+}
+
 /// Puts the line of a fault, as it stands on standard error.
-pub fn fault_line<T: Sink>(fault: &ProgramFault<'_>, sink: &mut T) -> Result<(), PutFault>
+pub fn fault_line<T: Sink>(fault: &ProgramFault<'_>, sink: &mut T) -> Result<(), DeviceFault>
     ensures ok { OnOk result (Appends (T.taken sink.old) (T.taken sink.new) (fault_line_of fault.now)) }
     ensures failed { IfErr result (λ _. T.failures sink.new ≡ next_count (T.failures sink.old)) }
+
+    // On a fault of the sink a beginning of the line went out.
+    ensures part { IfErr result (λ _. PutsPart (T.taken sink.old) (T.taken sink.new) (fault_line_of fault.now)) }
 {
-    put_all(sink, b"jffs2_image: ")?;
-    fault_text(fault, sink)?;
-    put_all(sink, b"\n")?;
+    put_text(sink, b"jffs2_image: ")?;
+    put_fault(fault, sink)?;
+    put_text(sink, b"\n")?;
     Ok(())
 }

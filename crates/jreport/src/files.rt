@@ -6,7 +6,8 @@ ghost use Rattle.jmount.specs.Shown.{readable};
 ghost use Rattle.jreport.specs.Content.{content_of, is_regular, IsContentFault, PutsContent};
 
 use crate::faults::ProgramFault;
-use flashbase::{PutFault, Sink, put_all};
+use flashbase::{DeviceFault, Sink};
+use jline::put_text;
 use jmount::{Kind, Mounted, Object};
 
 /// A file goes out in pieces of this many bytes.
@@ -18,7 +19,7 @@ fn put_bytes<T: Sink>(
     ino: u32,
     size: u32,
     sink: &mut T,
-) -> Result<(), PutFault>
+) -> Result<(), DeviceFault>
     requires { length (readable mounted.now.state ino) ≡ size }
     ensures { Puts (T.taken sink.old) (T.taken sink.new) (T.failures sink.old) (T.failures sink.new)
         (readable mounted.now.state ino) result }
@@ -28,7 +29,7 @@ fn put_bytes<T: Sink>(
     let mut offset = 0u64;
     while offset < size {
         let count = mounted.read_at(ino, offset, &mut piece);
-        put_all(sink, &piece[..count])?;
+        put_text(sink, &piece[..count])?;
         offset += count as u64;
     }
     Ok(())

@@ -1,7 +1,7 @@
 //! What is told of an image: its report, the verdict on its mount, the listing of its tree, and the content of its files.
 //!
-//! It stands on `jscan` (the stretches of an image) and `jmount` (the file system that its nodes make). Its promise to the
-//! program: what goes to a sink is the text of the bytes that were read, and a fault says why no more of it did.
+//! It stands on `jline` (lines of text), `jscan` (the stretches of an image) and `jmount` (the file system that its nodes make).
+//! Its promise to the program: what goes to a sink is the text of the bytes that were read, and a fault says why no more of it did.
 //!
 //! `specs/Report.antt` says what the report of an image is, `specs/Verdict.antt` what is said of its mount,
 //! `specs/TreeText.antt` what the listing is, `specs/Content.antt` which bytes a path names, `specs/Faults.antt` how faults
@@ -10,40 +10,26 @@
 #![tactic(auto)]
 
 mod blocks;
-mod escapes;
 pub mod fault_rows;
-#[cfg(test)]
-mod fault_tests;
 mod faults;
 mod files;
-mod forms;
-mod line;
 mod listing;
-#[cfg(test)]
-mod listing_tests;
 mod loaded;
+mod notes;
 mod paths;
-#[cfg(test)]
-mod read_tests;
 mod report;
 mod report_fault;
 pub mod report_rows;
-#[cfg(test)]
-mod report_tests;
 mod stream;
-#[cfg(test)]
-mod stream_tests;
 mod tree;
 pub mod tree_laws;
 mod verdict;
-#[cfg(test)]
-mod verdict_tests;
 
-pub use crate::escapes::put_escaped;
 pub use crate::faults::{ProgramFault, fault_line, fault_text};
 pub use crate::files::content;
 pub use crate::listing::tree_lines;
 pub use crate::loaded::{check_lines, file_bytes, list_lines};
+pub use crate::notes::note_line;
 pub use crate::paths::path_word;
 pub use crate::report::{Lines, put_report, scan_lines};
 pub use crate::report_fault::ReportFault;

@@ -1,17 +1,16 @@
 //! What is done with an image that is read as a whole.
 
-ghost use Rattle.std.specs.Prelude.{◌≡◌, ◌↔◌, ◌<◌, ◌||◌, nat_lt, IsFalse, IfErr, IfOk, IfSome, IsErrOf, OnOk, length};
-ghost use Rattle.std.specs.Io.KnownBytes.{IsAtEnd};
-ghost use Rattle.flashbase.specs.Device.{next_count};
-ghost use Rattle.jscan.specs.Image.{is_block_size, greatest_image};
-ghost use Rattle.jreport.specs.Loaded.{IsFaultOfCheck, IsFaultOfLoad, PutsCheck, PutsFile, PutsListing, PutsPartOfCheck};
+ghost use Rattle.std.specs.Prelude.{◌≡◌, ◌↔◌, ◌||◌, nat_lt, IsFalse, IsTrue, IfErr, IsErrOf};
+ghost use Rattle.jscan.specs.Image.{is_block_size};
+ghost use Rattle.jreport.specs.Loaded.{IsFaultOfLoad, OfSomeImage, PutsCheck, PutsFile, PutsListing, ReadsWhole};
 
 use crate::faults::ProgramFault;
 use crate::files::content;
 use crate::listing::tree_lines;
+use crate::notes::noted;
 use crate::report::put_report;
 use crate::verdict::verdict_lines;
-use flashbase::{LoadFault, Sink, Source, load};
+use flashbase::{Sink, Source, load};
 use jmount::mount;
 use jnode::Order;
 use jscan::{GREATEST_IMAGE, Geometry, ScanFault};
@@ -31,26 +30,16 @@ pub fn check_lines<E: Order, S: Source, T: Sink>(
     geometry: Geometry,
     sink: &mut T,
 ) -> Result<bool, ProgramFault<'static>>
-    // The text is that of all the bytes that the source had left.
-    ensures end { OnOk result (IsAtEnd (S.rest source.new)) }
-    ensures ok { IfOk result (λ found. IfSome (S.rest source.old)
-        (λ image. PutsCheck E.order geometry.block image (T.taken sink.old) (T.taken sink.new) found)) }
-
     // The size of a block is judged before anything is read or put.
     ensures block_size { IsErrOf result (ProgramFault.Scan ScanFault.BlockSize) ↔ IsFalse (is_block_size geometry.block) }
     ensures unread { IsFalse (is_block_size geometry.block) → (source.new ≡ source.old) × (sink.new ≡ sink.old) }
 
-    // Nothing is put of an image that was not read.
+    // Then all that the source had left is read. Nothing is put of an image that was not.
+    ensures read { IsTrue (is_block_size geometry.block)
+        → ReadsWhole (S.rest source.old) (S.rest source.new) (S.failures source.old) (S.failures source.new) result }
     ensures load { IfErr result (λ fault. IsFaultOfLoad fault → sink.new ≡ sink.old) }
-    ensures device { IsErrOf result (ProgramFault.Load LoadFault.Device) → S.failures source.new ≡ next_count (S.failures source.old) }
-    ensures too_large { IsErrOf result (ProgramFault.Load LoadFault.TooLarge)
-        → IfSome (S.rest source.old) (λ bytes. greatest_image < length bytes) }
-    ensures output { IsErrOf result ProgramFault.Output → T.failures sink.new ≡ next_count (T.failures sink.old) }
-    ensures faults { IfErr result IsFaultOfCheck }
-
-    // At a fault a beginning of the text went out.
-    ensures began { IfErr result (λ _. IfSome (S.rest source.old)
-        (λ image. PutsPartOfCheck E.order geometry.block image (T.taken sink.old) (T.taken sink.new))) }
+    ensures put { OfSomeImage (S.rest source.old) (λ image. PutsCheck E.order geometry.block image
+        (T.taken sink.old) (T.taken sink.new) (T.failures sink.old) (T.failures sink.new) result) }
 {
     if !geometry.is_readable() {
         return Err(ProgramFault::Scan(ScanFault::BlockSize));
@@ -61,52 +50,43 @@ pub fn check_lines<E: Order, S: Source, T: Sink>(
     Ok(is_any(findings, bad))
 }
 
-/// Reads an image, and puts the content of the regular file that a path names there.
+/// Reads an image, and puts the content of the regular file that a path names there. Answers how many findings of damage,
+/// dirt or the other byte order the image has.
 pub fn file_bytes<E: Order, S: Source, T: Sink>(
     alloc: Global,
     source: &mut S,
     geometry: Geometry,
     path: &[u8],
     sink: &mut T,
-) -> Result<(), ProgramFault<'static>>
-    // The content is that of all the bytes that the source had left.
-    ensures end { OnOk result (IsAtEnd (S.rest source.new)) }
-    ensures put { IfSome (S.rest source.old) (λ image. PutsFile E.order geometry.block image path.now
-        (T.taken sink.old) (T.taken sink.new) (T.failures sink.old) (T.failures sink.new) result) }
-
-    // Nothing is put of an image that was not read.
+) -> Result<u64, ProgramFault<'static>>
+    // All that the source had left is read before the size of a block is judged. Nothing is put of an image that was not.
+    ensures read { ReadsWhole (S.rest source.old) (S.rest source.new) (S.failures source.old) (S.failures source.new) result }
     ensures load { IfErr result (λ fault. IsFaultOfLoad fault → sink.new ≡ sink.old) }
-    ensures device { IsErrOf result (ProgramFault.Load LoadFault.Device) → S.failures source.new ≡ next_count (S.failures source.old) }
-    ensures too_large { IsErrOf result (ProgramFault.Load LoadFault.TooLarge)
-        → IfSome (S.rest source.old) (λ bytes. greatest_image < length bytes) }
-    ensures output { IsErrOf result ProgramFault.Output → T.failures sink.new ≡ next_count (T.failures sink.old) }
+    ensures put { OfSomeImage (S.rest source.old) (λ image. PutsFile E.order geometry.block image path.now
+        (T.taken sink.old) (T.taken sink.new) (T.failures sink.old) (T.failures sink.new) result) }
 {
     let image = load(alloc, source, GREATEST_IMAGE)?;
     let mounted = mount::<E>(alloc, image.as_slice(), geometry)?;
     content(&mounted, path, sink)?;
-    Ok(())
+    Ok(noted(&mounted))
 }
 
-/// Reads an image, and puts a line for each object of its tree.
+/// Reads an image, and puts a line for each object of its tree. Answers how many findings of damage, dirt or the other byte
+/// order the image has.
 pub fn list_lines<E: Order, S: Source, T: Sink>(
     alloc: Global,
     source: &mut S,
     geometry: Geometry,
     sink: &mut T,
-) -> Result<(), ProgramFault<'static>>
-    // The lines are those of all the bytes that the source had left.
-    ensures end { OnOk result (IsAtEnd (S.rest source.new)) }
-    ensures put { IfSome (S.rest source.old) (λ image. PutsListing E.order geometry.block image
-        (T.taken sink.old) (T.taken sink.new) (T.failures sink.old) (T.failures sink.new) result) }
-
-    // Nothing is put of an image that was not read.
+) -> Result<u64, ProgramFault<'static>>
+    // All that the source had left is read before the size of a block is judged. Nothing is put of an image that was not.
+    ensures read { ReadsWhole (S.rest source.old) (S.rest source.new) (S.failures source.old) (S.failures source.new) result }
     ensures load { IfErr result (λ fault. IsFaultOfLoad fault → sink.new ≡ sink.old) }
-    ensures device { IsErrOf result (ProgramFault.Load LoadFault.Device) → S.failures source.new ≡ next_count (S.failures source.old) }
-    ensures too_large { IsErrOf result (ProgramFault.Load LoadFault.TooLarge)
-        → IfSome (S.rest source.old) (λ bytes. greatest_image < length bytes) }
-    ensures output { IsErrOf result ProgramFault.Output → T.failures sink.new ≡ next_count (T.failures sink.old) }
+    ensures put { OfSomeImage (S.rest source.old) (λ image. PutsListing E.order geometry.block image
+        (T.taken sink.old) (T.taken sink.new) (T.failures sink.old) (T.failures sink.new) result) }
 {
     let image = load(alloc, source, GREATEST_IMAGE)?;
     let mounted = mount::<E>(alloc, image.as_slice(), geometry)?;
-    tree_lines(alloc, &mounted, sink)
+    tree_lines(alloc, &mounted, sink)?;
+    Ok(noted(&mounted))
 }

@@ -4,7 +4,7 @@ ghost use Rattle.jreport.specs.declared.report_fault.ReportFault.TheVariants.{Sc
 ghost use Rattle.jscan.specs.declared.geometry.ScanFault.TheVariants.{OutOfMemory};
 ghost use Rattle.std.specs.Prelude.{◌≡◌};
 
-use flashbase::PutFault;
+use flashbase::DeviceFault;
 use jscan::ScanFault;
 use std::alloc::AllocError;
 use thiserror::Error;
@@ -20,10 +20,10 @@ pub enum ReportFault {
     Output,
 }
 
-impl From<PutFault> for ReportFault {
+impl From<DeviceFault> for ReportFault {
     ghost from_gives = { λ _ e. e ≡ Output };
 
-    fn from(_fault: PutFault) -> ReportFault {
+    fn from(_fault: DeviceFault) -> ReportFault {
         ReportFault::Output
     }
 }

@@ -4,7 +4,7 @@ ghost use Rattle.std.specs.Prelude.{◌≡◌, ◌++◌, [], ◌∷◌, codes};
 ghost use Rattle.jnode.specs.Vectors.{little_marker, entry_a, inode_2};
 ghost use Rattle.jnode.specs.declared.order.Endian.TheVariants.{Little, Big};
 ghost use Rattle.jreport.specs.Report.{scan_text};
-ghost use Rattle.jreport.specs.Words.{escaped};
+ghost use Rattle.jline.specs.Words.{escaped};
 
 /// A marker and an entry.
 pub fn entry_is_reported()

@@ -7,9 +7,8 @@ ghost use Rattle.jmount.specs.Tree as tree;
 ghost use Rattle.jmount.specs.Shown.{readable, shown};
 ghost use Rattle.jreport.specs.TreeText.{kind_letter, permissions, object_start, name_shown, path_shown, target_shown, tail_shown, object_line};
 
-use crate::escapes::put_escaped;
-use crate::line::{LineBuffer, MAX_LINE};
-use flashbase::{PutFault, Sink, put_all};
+use flashbase::{DeviceFault, Sink};
+use jline::{LineBuffer, MAX_LINE, put_escaped, put_text};
 use jmount::{Kind, Mounted, Object};
 
 /// A symlink with more bytes is shown as a long one.
@@ -80,15 +79,15 @@ fn write_object(line: &mut LineBuffer, ino: u32, object: &Object)
 }
 
 /// Puts a name of a path.
-fn put_name<T: Sink>(sink: &mut T, name: &[u8]) -> Result<(), PutFault>
+fn put_name<T: Sink>(sink: &mut T, name: &[u8]) -> Result<(), DeviceFault>
     ensures { Puts (T.taken sink.old) (T.taken sink.new) (T.failures sink.old) (T.failures sink.new)
         (name_shown name.now) result }
 {
-    put_all(sink, b"/")?;
+    put_text(sink, b"/")?;
     put_escaped(sink, name)
 }
 
-fn put_names<T: Sink>(sink: &mut T, path: &[&[u8]]) -> Result<(), PutFault>
+fn put_names<T: Sink>(sink: &mut T, path: &[&[u8]]) -> Result<(), DeviceFault>
     ensures { Puts (T.taken sink.old) (T.taken sink.new) (T.failures sink.old) (T.failures sink.new)
         (flat_map (λ name. name_shown name.now) path.now) result }
 {
@@ -99,12 +98,12 @@ fn put_names<T: Sink>(sink: &mut T, path: &[&[u8]]) -> Result<(), PutFault>
 }
 
 /// Puts a path, from its names.
-fn put_path<T: Sink>(sink: &mut T, path: &[&[u8]]) -> Result<(), PutFault>
+fn put_path<T: Sink>(sink: &mut T, path: &[&[u8]]) -> Result<(), DeviceFault>
     ensures { Puts (T.taken sink.old) (T.taken sink.new) (T.failures sink.old) (T.failures sink.new)
         (path_shown (map (λ name. name.now) path.now)) result }
 {
     if path.is_empty() {
-        return put_all(sink, b"/");
+        return put_text(sink, b"/");
     }
     put_names(sink, path)
 }
@@ -116,17 +115,17 @@ fn put_target<T: Sink>(
     ino: u32,
     size: u32,
     sink: &mut T,
-) -> Result<(), PutFault>
+) -> Result<(), DeviceFault>
     requires { length (readable mounted.now.state ino) ≡ size }
     ensures { Puts (T.taken sink.old) (T.taken sink.new) (T.failures sink.old) (T.failures sink.new)
         (target_shown (readable mounted.now.state ino)) result }
 {
     if size as usize > GREATEST_TARGET {
-        return put_all(sink, b" -> (long)");
+        return put_text(sink, b" -> (long)");
     }
     let mut target = [0u8; GREATEST_TARGET];
     let count = mounted.read_at(ino, 0, &mut target);
-    put_all(sink, b" -> ")?;
+    put_text(sink, b" -> ")?;
     put_escaped(sink, &target[..count])
 }
 
@@ -137,14 +136,14 @@ fn put_tail<T: Sink>(
     object: &Object,
     again: bool,
     sink: &mut T,
-) -> Result<(), PutFault>
+) -> Result<(), DeviceFault>
     requires { option_map shown (tree.object mounted.now.state ino) ≡ Some object.now }
     ensures { Puts (T.taken sink.old) (T.taken sink.new) (T.failures sink.old) (T.failures sink.new)
         (tail_shown (readable mounted.now.state ino) object.now.kind again) result }
 {
     match object.kind {
         Kind::Symlink => put_target(mounted, ino, object.size, sink),
-        _ if again => put_all(sink, b" (again)"),
+        _ if again => put_text(sink, b" (again)"),
         _ => Ok(()),
     }
 }
@@ -158,15 +157,15 @@ pub fn put_object<T: Sink>(
     object: &Object,
     again: bool,
     sink: &mut T,
-) -> Result<(), PutFault>
+) -> Result<(), DeviceFault>
     requires { option_map shown (tree.object mounted.now.state ino) ≡ Some object.now }
     ensures { Puts (T.taken sink.old) (T.taken sink.new) (T.failures sink.old) (T.failures sink.new)
         (object_line mounted.now.state (map (λ name. name.now) path.now) ino object.now again) result }
 {
     let mut line = LineBuffer::new();
     write_object(&mut line, ino, object);
-    put_all(sink, line.as_slice())?;
+    put_text(sink, line.as_slice())?;
     put_path(sink, path)?;
     put_tail(mounted, ino, object, again, sink)?;
-    put_all(sink, b"\n")
+    put_text(sink, b"\n")
 }

@@ -6,10 +6,9 @@ ghost use Rattle.flashbase.specs.Device.{Puts};
 ghost use Rattle.jreport.specs.Faults.{mount_text};
 ghost use Rattle.jreport.specs.Verdict.{dangling_line, dangling_start, ok_line, refused_line, PutsMounted, PutsVerdict};
 
-use crate::escapes::put_escaped;
 use crate::faults::{ProgramFault, push_mount};
-use crate::line::LineBuffer;
-use flashbase::{PutFault, Sink, put_all};
+use flashbase::{DeviceFault, Sink};
+use jline::{LineBuffer, put_escaped, put_text};
 use jmount::{MountFault, Mounted, mount};
 use jnode::Order;
 use jscan::Geometry;
@@ -29,27 +28,27 @@ fn write_start(line: &mut LineBuffer, pino: u32, ino: u32)
 }
 
 /// Puts the line of a dangling entry.
-fn put_dangling<T: Sink>(sink: &mut T, pino: u32, name: &[u8], ino: u32) -> Result<(), PutFault>
+fn put_dangling<T: Sink>(sink: &mut T, pino: u32, name: &[u8], ino: u32) -> Result<(), DeviceFault>
     ensures { Puts (T.taken sink.old) (T.taken sink.new) (T.failures sink.old) (T.failures sink.new)
         (dangling_line (pino, name.now, ino)) result }
 {
     let mut line = LineBuffer::new();
     write_start(&mut line, pino, ino);
-    put_all(sink, line.as_slice())?;
+    put_text(sink, line.as_slice())?;
     put_escaped(sink, name)?;
-    put_all(sink, b"\n")
+    put_text(sink, b"\n")
 }
 
 /// Puts the line of a mount that went well.
 #[tactic(auto, unfolding(crate::specs::Verdict::ok_line))]
-fn put_ok<T: Sink>(sink: &mut T, read_only: bool) -> Result<(), PutFault>
+fn put_ok<T: Sink>(sink: &mut T, read_only: bool) -> Result<(), DeviceFault>
     ensures { Puts (T.taken sink.old) (T.taken sink.new) (T.failures sink.old) (T.failures sink.new)
         (ok_line read_only) result }
 {
     if read_only {
-        put_all(sink, b"mount ok read-only\n")
+        put_text(sink, b"mount ok read-only\n")
     } else {
-        put_all(sink, b"mount ok\n")
+        put_text(sink, b"mount ok\n")
     }
 }
 
@@ -63,18 +62,18 @@ fn write_fault(line: &mut LineBuffer, fault: MountFault)
 }
 
 /// Puts the line of a mount that was refused.
-fn put_refused<T: Sink>(sink: &mut T, fault: MountFault) -> Result<(), PutFault>
+fn put_refused<T: Sink>(sink: &mut T, fault: MountFault) -> Result<(), DeviceFault>
     ensures { Puts (T.taken sink.old) (T.taken sink.new) (T.failures sink.old) (T.failures sink.new)
         (refused_line fault) result }
 {
     let mut line = LineBuffer::new();
     write_fault(&mut line, fault);
-    put_all(sink, b"mount refused ")?;
-    put_all(sink, line.as_slice())
+    put_text(sink, b"mount refused ")?;
+    put_text(sink, line.as_slice())
 }
 
 /// Puts the lines of these dangling entries.
-fn put_all_dangling<T: Sink>(sink: &mut T, entries: &[(u32, &[u8], u32)]) -> Result<(), PutFault>
+fn put_all_dangling<T: Sink>(sink: &mut T, entries: &[(u32, &[u8], u32)]) -> Result<(), DeviceFault>
     ensures { Puts (T.taken sink.old) (T.taken sink.new) (T.failures sink.old) (T.failures sink.new)
         (flat_map (λ x. dangling_line (x.0, x.1.now, x.2)) entries.now) result }
 {

@@ -1,5 +1,5 @@
 -- What is counted while a source is read block by block.
-use Rattle.std.proofs.Common.{◌≡◌, ℕ, suc, ◌+◌, ◌*◌, ◌%◌, ◌≤◌, Bool, true, List, [], ◌∷◌, ◌++◌, length, Option, None, Some, IfSome, sym, ap, subst, ◌∙◌, arith, append-nil}
+use Rattle.std.proofs.Common.{◌≡◌, ℕ, suc, ◌+◌, ◌-◌, ◌*◌, ◌%◌, ◌≤◌, Bool, true, false, List, [], ◌∷◌, ◌++◌, length, drop, Option, None, Some, IfSome, IfNone, sym, ap, subst, ◌∙◌, arith, append-nil}
 use Rattle.std.specs.Prelude.{◌==◌, ◌&&◌, flat_map, nat_le}
 use Rattle.std.proofs.lemmas.Bool.{and_parts, eqb-true, leb-true}
 use Rattle.std.proofs.lemmas.Grind.{flat_map-append}
@@ -9,10 +9,14 @@ use Rattle.flashbase.specs.declared.source.Source.{Ghosts as OfSource}
 use Rattle.jnode.specs.declared.order.Endian.{Endian}
 use Rattle.jscan.specs.Counts.{is_entry_tile, is_inode_tile, is_found, one_if, number_in, stretches_of_block, stretches_below, counts_of, block_counted}
 use Rattle.jscan.specs.Image.{block_of, block_count, is_block_size, greatest_image}
-use Rattle.jscan.specs.Stream.{IsNextBlock, GivesBlock, GivesNone, size_of, start_of, rest_of, failures_of, fault_of}
+use Rattle.flashbase.specs.Device.{next_count}
+use Rattle.jscan.specs.Filling.{Breaks, StopsWithin}
+use Rattle.jscan.specs.Stream.{IsNextBlock, GivesBlock, GivesNone, GivesFault, size_of, start_of, source_of, rest_of, failures_of, fault_of, has_ended}
 use Rattle.jscan.specs.Stretches.{stretches}
 use Rattle.jscan.specs.declared.counts.Counts.{Counts}
 use Rattle.jscan.specs.declared.stream.BlockReader.{BlockReader}
+use Rattle.jscan.specs.declared.stream.StreamFault.{StreamFault}
+use Rattle.jscan.specs.declared.stream.StreamFault.TheVariants.{Device}
 use Rattle.jscan.specs.declared.stretch.Look.{Look}
 use Rattle.jscan.specs.declared.stretch.Stretch.{Stretch}
 use Rattle.jscan.proofs.CountLemmas.{number_fits}
@@ -135,3 +139,25 @@ pub all_within : (size : ℕ) (n : ℕ) (told : Option (List ℕ)) → IfSome to
     → IfSome told (λ image. length image ≤ greatest_image)
 all_within size n None whole = tt
 all_within size n (Some image) whole = whole.within
+
+-- ---- a fault
+
+-- where the device failed, less than a block is gone of what follows the blocks counted
+pub scanning_torn : {S : Type 0} {o : OfSource S} (e : Endian) (source : S) (size start : ℕ) (counts : Counts) (old new : BlockReader S o) (fault : StreamFault)
+    → Scanning e source size start counts old → GivesFault old new fault → fault ≡ Device
+    → (left : S) × (o.failures left ≡ next_count (o.failures source))
+    × IfSome (o.rest source) (λ image. StopsWithin (Some (drop (counts.blocks * size) image)) (o.rest left) size)
+scanning_torn {S} {o} e source size start counts old new fault before gives is =
+    let first : (has_ended old ≡ false) × Breaks (rest_of old) (failures_of old) (failures_of new) (size_of old) (greatest_image - start_of old) fault =
+    subst (λ (f : Option StreamFault). IfNone f ((has_ended old ≡ false)
+    × Breaks (rest_of old) (failures_of old) (failures_of new) (size_of old) (greatest_image - start_of old) fault)) before.well gives.first in
+    let breaks : Breaks (rest_of old) (failures_of old) (failures_of new) (size_of old) (greatest_image - start_of old) Device =
+    subst (Breaks (rest_of old) (failures_of old) (failures_of new) (size_of old) (greatest_image - start_of old)) is first.1 in
+    let torn : StopsWithin (rest_of old) (rest_of new) size = subst (StopsWithin (rest_of old) (rest_of new)) before.blocks_of (gives.torn is before.well) in
+    (source_of new, breaks ∙ ap next_count before.none_failed, known (o.rest source) before.known torn)
+  where
+    known : (told : Option (List ℕ)) → IfSome told (λ image. IsCounted e size start counts image (rest_of old)) → StopsWithin (rest_of old) (rest_of new) size
+        → IfSome told (λ image. StopsWithin (Some (drop (counts.blocks * size) image)) (rest_of new) size)
+    known None so_far torn = tt
+    known (Some image) so_far torn =
+        subst (λ (r : Option (List ℕ)). StopsWithin r (rest_of new) size) (so_far.place.left ∙ ap (λ (k : ℕ). Some (drop k image)) (sym before.blocks)) torn

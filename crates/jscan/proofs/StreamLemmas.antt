@@ -9,6 +9,7 @@ use Rattle.std.proofs.lemmas.Slice.{take-put_mid}
 use Rattle.std.specs.Io.KnownBytes.{Consumes, IsAtEnd}
 use borrow.Rule.Slice.PartMut.{put_mid}
 use Rattle.jscan.specs.Image.{block_of, block_count, greatest_image}
+use Rattle.jscan.specs.Filling.{StopsPast}
 use Rattle.jscan.specs.Stream.{IsNextBlock}
 
 -- the first bytes of a block, and then those that were put behind them
@@ -65,6 +66,13 @@ next_block (Some bytes) (Some ys) size start n block long some few fits is end f
     let all : take n block ≡ block = take_all n block (omega arith) in
     full_block size start bytes ys block long (omega arith) (omega arith) (is ∙ ap (λ l. l ++ ys) all))
     (cases_lt n size)
+
+-- what was taken of a block that holds more bytes than there is room for
+pub stops_past : (rest left : Option (List ℕ)) (bs : List ℕ) (room size : ℕ) → Consumes rest left bs → room < length bs → length bs ≤ size → StopsPast rest left room size
+stops_past None left bs room size taken past few = tt
+stops_past (Some xs) None bs room size taken past few = absurd taken
+stops_past (Some xs) (Some ys) bs room size taken past few =
+    (length bs, past, few, ap Some (sym (ap (drop (length bs)) taken ∙ drop_at bs ys (length bs) refl)))
 
 -- ---- block after block
 

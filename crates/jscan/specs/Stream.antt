@@ -3,8 +3,9 @@ use Rattle.std.specs.Prelude.{◌≡◌, ℕ, ◌+◌, ◌-◌, ◌<◌, ◌≤�
 use Rattle.std.specs.Io.KnownBytes.{IsAtEnd}
 use Rattle.flashbase.specs.declared.source.Source.{Ghosts as OfSource}
 use Rattle.jscan.specs.Image.{block_of, greatest_image}
-use Rattle.jscan.specs.Filling.{Breaks}
+use Rattle.jscan.specs.Filling.{Breaks, StopsWithin, StopsPast}
 use Rattle.jscan.specs.declared.stream.StreamFault.{StreamFault}
+use Rattle.jscan.specs.declared.stream.StreamFault.TheVariants.{Device, TooLarge}
 use Rattle.jscan.specs.declared.stream.BlockReader.{BlockReader}
 use denote.Ref.{Bor}
 
@@ -67,6 +68,8 @@ module _ {S : Type 0} {o : OfSource S} where
     pub same_size : size_of new ≡ size_of old
     pub stays : start_of new ≡ start_of old
     pub failed : fault_of new ≡ Some fault
+    pub torn : fault ≡ Device → fault_of old ≡ None → StopsWithin (rest_of old) (rest_of new) (size_of old)
+    pub passed : fault ≡ TooLarge → fault_of old ≡ None → StopsPast (rest_of old) (rest_of new) (greatest_image - start_of old) (size_of old)
     pub again : IfSome (fault_of old) (λ f. (fault ≡ f) × (new ≡ old))
     pub first : IfNone (fault_of old) ((has_ended old ≡ false)
         × Breaks (rest_of old) (failures_of old) (failures_of new) (size_of old) (greatest_image - start_of old) fault)

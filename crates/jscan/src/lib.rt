@@ -41,10 +41,3 @@ pub use crate::stream::{BlockReader, StreamFault, scan_stream};
 pub use crate::stretch::{Look, Stretch};
 pub use crate::stretches::Stretches;
 pub use crate::tiles::{Tile, TileKind, Tiles};
-
-#[cfg(test)]
-mod scan_tests;
-#[cfg(test)]
-mod stream_tests;
-#[cfg(test)]
-mod tests;

@@ -1,12 +1,12 @@
 // The blocks of a source, one after the other, through a buffer of one block.
 
-ghost use Rattle.std.specs.Prelude.{◌≡◌, ◌↔◌, ◌+◌, ◌-◌, ◌*◌, ◌<◌, ◌≤◌, ◌++◌, Err, IfOk, IfErr, IfSome, OnOk, false, true, length, min, replicate, take, vec_len};
+ghost use Rattle.std.specs.Prelude.{◌≡◌, ◌↔◌, ◌+◌, ◌-◌, ◌*◌, ◌<◌, ◌≤◌, ◌++◌, Some, drop, Err, IfOk, IfErr, IfSome, OnOk, false, true, length, min, replicate, take, vec_len};
 ghost use Rattle.std.specs.Option.{ForSome};
 ghost use Rattle.std.specs.Io.KnownBytes.{Consumes, IsAtEnd};
 ghost use Rattle.jscan.specs.Image.{block_count, is_block_size, greatest_image};
 ghost use Rattle.flashbase.specs.Device.{next_count};
 ghost use Rattle.jscan.specs.Counts.{counts_of, no_counts};
-ghost use Rattle.jscan.specs.Filling.{Breaks};
+ghost use Rattle.jscan.specs.Filling.{Breaks, StopsWithin, StopsPast};
 ghost use Rattle.jscan.specs.declared.stream.StreamFault.TheVariants as fault;
 
 use crate::counts::Counts;
@@ -155,6 +155,8 @@ fn fill_block<S: Source>(
     ensures end { IfOk result (λ n. n < length block.new → IsAtEnd (S.rest source.new)) }
     ensures filled { IfOk result (λ n. block.new ≡ take n block.new ++ replicate (length block.new - n) 0xFF) }
     ensures none_failed { OnOk result (S.failures source.new ≡ S.failures source.old) }
+    ensures torn { result ≡ Err StreamFault.Device → StopsWithin (S.rest source.old) (S.rest source.new) (length block.old) }
+    ensures passed { result ≡ Err StreamFault.TooLarge → StopsPast (S.rest source.old) (S.rest source.new) room (length block.old) }
     ensures fault { IfErr result (λ e. Breaks (S.rest source.old) (S.failures source.old) (S.failures source.new) (length block.old) room e) }
 {
     let mut filled = 0;
@@ -191,8 +193,12 @@ pub fn scan_stream<E: Order, S: Source>(
     ensures too_large { result ≡ Err StreamFault.TooLarge
         → IfSome (S.rest source) (λ image. greatest_image < min (length image) ((counts.new.blocks + 1) * geometry.block)) }
 
+    ensures before_the_end { result ≡ Err StreamFault.TooLarge → counts.new.blocks * geometry.block ≤ greatest_image }
+
     // Only where the source failed, once.
-    ensures device { result ≡ Err StreamFault.Device → (left : S) × (S.failures left ≡ next_count (S.failures source)) }
+    // Then the counts are those of the blocks in front of the one in which it failed.
+    ensures device { result ≡ Err StreamFault.Device → (left : S) × (S.failures left ≡ next_count (S.failures source))
+        × IfSome (S.rest source) (λ image. StopsWithin (Some (drop (counts.new.blocks * geometry.block) image)) (S.rest left) geometry.block) }
 {
     *counts = Counts {
         blocks: 0,

@@ -9,18 +9,19 @@ use Rattle.jscan.specs.StretchesLeft.{stretches_left}
 use Rattle.jscan.specs.declared.stretch.Stretch.{Stretch}
 use Rattle.jscan.specs.Counts.{block_counted, counted}
 use Rattle.jscan.specs.declared.counts.Counts.{Counts}
-use Rattle.jreport.specs.Report.{block_line, stretch_line, lines_of}
+use Rattle.jline.specs.Forms.{block_line, stretch_line}
+use Rattle.jreport.specs.Report.{lines_of}
 use Rattle.jreport.proofs.StretchLemmas.{short_stretches, length_stretches}
 use Rattle.jreport.proofs.PutLemmas.{turn, all_given, puts_err, lines_more, part_of_lines, split_behind, block_counted_more, counted_has_room}
 use Rattle.jreport.proofs.blocks.put_block.Goals as goal
 
-pub returns-in_err-put_all-clause-puts : goal.returns-in_err-put_all-clause-puts
-returns-in_err-put_all-clause-puts g c =
-    let put = c.in_err-put_all.ensures.puts in
+pub returns-in_err-put_text-clause-puts : goal.returns-in_err-put_text-clause-puts
+returns-in_err-put_text-clause-puts g c =
+    let put = c.in_err-put_text.ensures.puts in
     let line = c.as_slice.ensures ∙ c.write_block.ensures in
     let ss = stretches g.E.Order.order c.args.start c.args.block.now in
     puts_err _ _ _ _ _ _ c.from_residual.ensures.0
-    (part_before _ _ (block_line c.args.counts.now.blocks) (flat_map stretch_line ss) (subst (λ (l : List ℕ). PutsPart (g.T.Sink.taken c.args.sink.now) (g.T.Sink.taken c.put_all.new.sink) l) line put.0)) put.1
+    (part_before _ _ (block_line c.args.counts.now.blocks) (flat_map stretch_line ss) (subst (λ (l : List ℕ). PutsPart (g.T.Sink.taken c.args.sink.now) (g.T.Sink.taken c.put_text.new.sink) l) line put.0)) put.1
 
 pub put_stretch-requires-clause-name : goal.put_stretch-requires-clause-name
 put_stretch-requires-clause-name g c =

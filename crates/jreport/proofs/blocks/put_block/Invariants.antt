@@ -2,7 +2,7 @@ use Rattle.std.proofs.Common.{◌≡◌, ◌++◌}
 use Rattle.std.specs.List.{flat_map}
 use Rattle.std.specs.Io.KnownBytes.{Appends}
 use Rattle.jscan.specs.Counts.{block_counted}
-use Rattle.jreport.specs.Report.{block_line, stretch_line}
+use Rattle.jline.specs.Forms.{block_line, stretch_line}
 use Rattle.jreport.proofs.blocks.put_block.Given as goal
 
 abbrev pub invariant-loop-stretch : goal.invariant-loop-stretch

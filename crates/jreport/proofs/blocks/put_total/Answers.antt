@@ -5,5 +5,5 @@ use Rattle.jreport.proofs.blocks.put_total.Goals as goal
 pub returns : goal.returns
 returns g c =
     let line = c.as_slice.ensures ∙ c.write_total.ensures in
-    subst (λ (text : List ℕ). Puts (g.T.Sink.taken c.args.sink.now) (g.T.Sink.taken c.put_all.new.sink) (g.T.Sink.failures c.args.sink.now)
-    (g.T.Sink.failures c.put_all.new.sink) text c.put_all.result) line c.put_all.ensures.puts
+    subst (λ (text : List ℕ). Puts (g.T.Sink.taken c.args.sink.now) (g.T.Sink.taken c.put_text.new.sink) (g.T.Sink.failures c.args.sink.now)
+    (g.T.Sink.failures c.put_text.new.sink) text c.put_text.result) line c.put_text.ensures.puts

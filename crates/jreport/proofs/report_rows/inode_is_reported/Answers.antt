@@ -7,8 +7,9 @@ use Rattle.jnode.specs.Header.{is_good, is_good_front, has_header, header_crc_of
 use Rattle.jnode.specs.Reading.{seen_of, entry_seen, inode_seen, held_seen, plain_seen, is_entry_long, is_crc_right, is_size_right, is_entry_in_range, is_inode_long, is_inode_in_range, is_data_crc_right}
 use Rattle.jscan.specs.Tiling.{tile_at}
 use Rattle.jscan.specs.Stretches.{class_of, stretches_from}
-use Rattle.jreport.specs.Words.{hex}
-use Rattle.jreport.specs.Report.{block_line, block_lines, stretch_line, scan_text}
+use Rattle.jline.specs.Words.{hex}
+use Rattle.jline.specs.Forms.{block_line, stretch_line}
+use Rattle.jreport.specs.Report.{block_lines, scan_text}
 use Rattle.jreport.proofs.report_rows.inode_is_reported.Goals as goal
 
 pub returns : goal.returns

@@ -1,6 +1,6 @@
 use Rattle.std.proofs.Common.{ℕ, List, [], get_or, refl, Bor}
 use Rattle.jreport.specs.Verdict.{dangling_line}
-use Rattle.jreport.proofs.TurnLemmas.{item_failed}
+use Rattle.jline.proofs.TurnLemmas.{item_failed}
 use Rattle.jreport.proofs.verdict.put_all_dangling.Goals as goal
 
 pub returns-in_err-put_dangling : goal.returns-in_err-put_dangling

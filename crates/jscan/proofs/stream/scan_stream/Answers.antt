@@ -1,6 +1,7 @@
-use Rattle.std.proofs.Common.{Ok, IfSome, ap, subst, ◌∙◌}
+use Rattle.std.proofs.Common.{rules, ◌≡◌, Ok, IfSome, ap, subst, ◌∙◌}
+use Rattle.jscan.specs.declared.stream.StreamFault.TheVariants as fault
 use Rattle.jscan.specs.Stream.{Gives}
-use Rattle.jscan.proofs.StreamCounts.{scanning_next, scanning_end, all_given, all_within}
+use Rattle.jscan.proofs.StreamCounts.{scanning_next, scanning_end, scanning_torn, all_given, all_within}
 use Rattle.jscan.proofs.StreamLemmas.{IsWhole}
 use Rattle.jscan.proofs.stream.scan_stream.Goals as goal
 
@@ -20,3 +21,9 @@ returns-clause-all g c = all_given _ _ _ (whole g c)
 
 pub returns-clause-within : goal.returns-clause-within
 returns-clause-within g c = all_within _ _ _ (whole g c)
+
+pub returns-in_err-block-clause-device : goal.returns-in_err-block-clause-device
+returns-in_err-block-clause-device g c is =
+    let gives = subst (Gives c.loop-reader.reader c.next.follows.lender-at-none) c.in_err-block.was c.next.follows.holds-at-none in
+    let same : c.in_err-block.field-0.0 ≡ fault.Device = search rules in
+    scanning_torn _ _ _ _ _ _ _ _ c.loop-reader.invariant gives same

@@ -1,0 +1,15 @@
+//! Texts that go out, and a fault that says no more than that the sink failed.
+
+ghost use Rattle.flashbase.specs.Device.{Puts};
+
+use flashbase::{DeviceFault, PutFault, Sink, put_all};
+
+/// Puts a text.
+pub fn put_text<T: Sink>(sink: &mut T, text: &[u8]) -> Result<(), DeviceFault>
+    ensures puts { Puts (T.taken sink.old) (T.taken sink.new) (T.failures sink.old) (T.failures sink.new) text.now result }
+{
+    match put_all(sink, text) {
+        Ok(()) => Ok(()),
+        Err(PutFault { .. }) => Err(DeviceFault),
+    }
+}

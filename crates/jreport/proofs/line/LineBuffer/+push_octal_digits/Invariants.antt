@@ -1,4 +1,0 @@
-use Rattle.jreport.proofs.line.LineBuffer.+push_octal_digits.Given as goal
-
-abbrev pub decreases-push_octal_digits : goal.decreases-push_octal_digits
-decreases-push_octal_digits l = l.n

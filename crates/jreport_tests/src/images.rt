@@ -1,0 +1,264 @@
+//! Images that the tests read: raw bytes of nodes, and nodes that are written.
+
+use byteorder::LittleEndian;
+use jnode::{Dirent, Fill, InodeNode, Part, write_entry, write_inode};
+use jscan::Geometry;
+use std::alloc::{AllocError, Global};
+
+pub(crate) const BLOCK: usize = 4096;
+
+pub(crate) const GEOMETRY: Geometry = Geometry { block: 4096 };
+
+/// A block with room for a symlink of more than 4,096 bytes, and for a file of several pieces.
+pub(crate) const LARGE: Geometry = Geometry { block: 16384 };
+
+pub(crate) const LITTLE_MARKER: &[u8] = &[
+    0x85, 0x19, 0x03, 0x20, 0x0c, 0x00, 0x00, 0x00, 0xb1, 0xb0, 0x1e, 0xe4,
+];
+
+/// An entry of 41 bytes: parent 1, version 1, object 2, type 8, name `a`.
+pub(crate) const ENTRY_A: &[u8] = &[
+    0x85, 0x19, 0x01, 0xe0, 0x29, 0x00, 0x00, 0x00, 0x6d, 0xa6, 0x2f, 0xd7, 0x01, 0x00, 0x00, 0x00,
+    0x01, 0x00, 0x00, 0x00, 0x02, 0x00, 0x00, 0x00, 0x00, 0x00, 0x00, 0x00, 0x01, 0x08, 0x00, 0x00,
+    0x95, 0x02, 0x9b, 0x91, 0xce, 0x51, 0xb5, 0x3a, 0x61,
+];
+
+/// The same, made obsolete: the bit of its type is cleared.
+pub(crate) const OBSOLETE_A: &[u8] = &[
+    0x85, 0x19, 0x01, 0xc0, 0x29, 0x00, 0x00, 0x00, 0x6d, 0xa6, 0x2f, 0xd7, 0x01, 0x00, 0x00, 0x00,
+    0x01, 0x00, 0x00, 0x00, 0x02, 0x00, 0x00, 0x00, 0x00, 0x00, 0x00, 0x00, 0x01, 0x08, 0x00, 0x00,
+    0x95, 0x02, 0x9b, 0x91, 0xce, 0x51, 0xb5, 0x3a, 0x61,
+];
+
+/// An inode node of 68 bytes: object 2, version 1, mode 0o100644, no data.
+pub(crate) const INODE_2: &[u8] = &[
+    0x85, 0x19, 0x02, 0xe0, 0x44, 0x00, 0x00, 0x00, 0x1d, 0xfb, 0xf7, 0x98, 0x02, 0x00, 0x00, 0x00,
+    0x01, 0x00, 0x00, 0x00, 0xa4, 0x81, 0x00, 0x00, 0x00, 0x00, 0x00, 0x00, 0x00, 0x00, 0x00, 0x00,
+    0x00, 0x00, 0x00, 0x00, 0x00, 0x00, 0x00, 0x00, 0x00, 0x00, 0x00, 0x00, 0x00, 0x00, 0x00, 0x00,
+    0x00, 0x00, 0x00, 0x00, 0x00, 0x00, 0x00, 0x00, 0x00, 0x00, 0x00, 0x00, 0x00, 0x00, 0x00, 0x00,
+    0x14, 0xd0, 0xc4, 0x71,
+];
+
+/// The same with mode 0o100600.
+pub(crate) const OTHER_INODE_2: &[u8] = &[
+    0x85, 0x19, 0x02, 0xe0, 0x44, 0x00, 0x00, 0x00, 0x1d, 0xfb, 0xf7, 0x98, 0x02, 0x00, 0x00, 0x00,
+    0x01, 0x00, 0x00, 0x00, 0x80, 0x81, 0x00, 0x00, 0x00, 0x00, 0x00, 0x00, 0x00, 0x00, 0x00, 0x00,
+    0x00, 0x00, 0x00, 0x00, 0x00, 0x00, 0x00, 0x00, 0x00, 0x00, 0x00, 0x00, 0x00, 0x00, 0x00, 0x00,
+    0x00, 0x00, 0x00, 0x00, 0x00, 0x00, 0x00, 0x00, 0x00, 0x00, 0x00, 0x00, 0x00, 0x00, 0x00, 0x00,
+    0x76, 0x92, 0xfa, 0x93,
+];
+
+/// The same with another node_crc than its bytes have.
+pub(crate) const DAMAGED_INODE_2: &[u8] = &[
+    0x85, 0x19, 0x02, 0xe0, 0x44, 0x00, 0x00, 0x00, 0x1d, 0xfb, 0xf7, 0x98, 0x02, 0x00, 0x00, 0x00,
+    0x01, 0x00, 0x00, 0x00, 0xa4, 0x81, 0x00, 0x00, 0x00, 0x00, 0x00, 0x00, 0x00, 0x00, 0x00, 0x00,
+    0x00, 0x00, 0x00, 0x00, 0x00, 0x00, 0x00, 0x00, 0x00, 0x00, 0x00, 0x00, 0x00, 0x00, 0x00, 0x00,
+    0x00, 0x00, 0x00, 0x00, 0x00, 0x00, 0x00, 0x00, 0x00, 0x00, 0x00, 0x00, 0x00, 0x00, 0x00, 0x00,
+    0x14, 0xd0, 0xc4, 0x70,
+];
+
+/// The magic number in the other byte order.
+pub(crate) const OTHER_ORDER: &[u8] = &[0x19, 0x85, 0xe0, 0x01];
+
+/// A header with totlen 0.
+pub(crate) const NO_LENGTH: &[u8] = &[
+    0x85, 0x19, 0x03, 0x20, 0x00, 0x00, 0x00, 0x00, 0x09, 0x0f, 0xc8, 0xae,
+];
+
+/// A header with totlen 13.
+pub(crate) const LENGTH_13: &[u8] = &[
+    0x85, 0x19, 0x03, 0x20, 0x0d, 0x00, 0x00, 0x00, 0xd4, 0xd7, 0xa2, 0x5c,
+];
+
+/// A node of 12 bytes of the type E008.
+pub(crate) const ATTRIBUTE: &[u8] = &[
+    0x85, 0x19, 0x08, 0xe0, 0x0c, 0x00, 0x00, 0x00, 0xa9, 0xa8, 0xcc, 0x67,
+];
+
+/// A node of 12 bytes of the type E0F7.
+pub(crate) const INCOMPATIBLE: &[u8] = &[
+    0x85, 0x19, 0xf7, 0xe0, 0x0c, 0x00, 0x00, 0x00, 0x65, 0x03, 0x08, 0x83,
+];
+
+/// A node of 12 bytes of the type A0F7.
+pub(crate) const READ_ONLY: &[u8] = &[
+    0x85, 0x19, 0xf7, 0xa0, 0x0c, 0x00, 0x00, 0x00, 0x2c, 0x5b, 0xfb, 0xdb,
+];
+
+/// A node of 12 bytes of the type 2006.
+pub(crate) const SKIPPABLE: &[u8] = &[
+    0x85, 0x19, 0x06, 0x20, 0x0c, 0x00, 0x00, 0x00, 0x02, 0x21, 0xd3, 0xb4,
+];
+
+/// A node of 12 bytes of the type C0F7.
+pub(crate) const OBSOLETE: &[u8] = &[
+    0x85, 0x19, 0xf7, 0xc0, 0x0c, 0x00, 0x00, 0x00, 0x65, 0x03, 0x08, 0x83,
+];
+
+/// A sound inode node whose data are compressed by method 6.
+pub(crate) const COMPRESSED: &[u8] = &[
+    0x85, 0x19, 0x02, 0xe0, 0x48, 0x00, 0x00, 0x00, 0xa5, 0x44, 0x21, 0xd2, 0x02, 0x00, 0x00, 0x00,
+    0x03, 0x00, 0x00, 0x00, 0xa4, 0x81, 0x00, 0x00, 0x00, 0x00, 0x00, 0x00, 0x08, 0x00, 0x00, 0x00,
+    0x00, 0x00, 0x00, 0x00, 0x00, 0x00, 0x00, 0x00, 0x00, 0x00, 0x00, 0x00, 0x00, 0x00, 0x00, 0x00,
+    0x04, 0x00, 0x00, 0x00, 0x08, 0x00, 0x00, 0x00, 0x06, 0x06, 0x00, 0x00, 0xd1, 0x24, 0x78, 0x97,
+    0x20, 0x97, 0x85, 0x37, 0x01, 0x02, 0x03, 0x04,
+];
+
+/// An image of raw bytes: `start` bytes 0xFF, these nodes one after another, and 0xFF up to `end`; then the nodes of `tail`, and
+/// 0xFF up to `len`.
+#[derive(Clone, Copy)]
+pub(crate) struct Raw {
+    pub(crate) start: usize,
+    pub(crate) nodes: &'static [&'static [u8]],
+    pub(crate) end: usize,
+    pub(crate) tail: &'static [&'static [u8]],
+    pub(crate) len: usize,
+}
+
+/// A block with a marker and an entry.
+pub(crate) const ONE_BLOCK: Raw = Raw {
+    start: 0,
+    nodes: &[LITTLE_MARKER, ENTRY_A],
+    end: BLOCK,
+    tail: &[],
+    len: BLOCK,
+};
+
+/// The same, and a block with an entry.
+pub(crate) const TWO_BLOCKS: Raw = Raw {
+    start: 0,
+    nodes: &[LITTLE_MARKER, ENTRY_A],
+    end: BLOCK,
+    tail: &[ENTRY_A],
+    len: 2 * BLOCK,
+};
+
+/// Nodes one after another, and 0xFF up to `end`.
+fn append(
+    image: &mut Vec<u8>,
+    nodes: &'static [&'static [u8]],
+    end: usize,
+) -> Result<(), AllocError> {
+    for node in nodes {
+        image.extend_from_slice(node)?;
+    }
+    let end = end.max(image.len());
+    image.resize(end, 0xFF)
+}
+
+pub(crate) fn raw_image(alloc: Global, raw: Raw) -> Result<Vec<u8>, AllocError> {
+    let mut image = vec![in alloc; 0xFF; raw.start]?;
+    append(&mut image, raw.nodes, raw.end)?;
+    append(&mut image, raw.tail, raw.len)?;
+    Ok(image)
+}
+
+pub(crate) const DIRECTORY: u32 = 0o040755;
+
+pub(crate) const FILE: u32 = 0o100644;
+
+pub(crate) const SYMLINK: u32 = 0o120777;
+
+/// A node of version 1.
+#[derive(Clone, Copy)]
+pub(crate) enum Node<'a> {
+    /// Number, mode, and all the bytes.
+    Inode(u32, u32, &'a [u8]),
+    /// The same, with owner, group and time of change.
+    Owned(u32, u32, &'a [u8], u16, u16, u32),
+    /// Directory, number and name.
+    Entry(u32, u32, &'a [u8]),
+}
+
+fn inode(ino: u32, mode: u32, bytes: &[u8], uid: u16, gid: u16, mtime: u32) -> InodeNode<'_> {
+    let size = u32::try_from(bytes.len()).unwrap_or(u32::MAX);
+    InodeNode {
+        ino,
+        version: 1,
+        mode,
+        uid,
+        gid,
+        isize: size,
+        atime: 0,
+        mtime,
+        ctime: 0,
+        offset: 0,
+        dsize: size,
+        fill: Fill::Data(Part::new(bytes, 0)),
+    }
+}
+
+fn entry(pino: u32, ino: u32, name: &[u8]) -> Dirent<'_> {
+    Dirent {
+        pino,
+        version: 1,
+        ino,
+        mctime: 0,
+        kind: 8,
+        name: Part::new(name, 0),
+    }
+}
+
+/// Writes a node, and answers whether it did.
+fn is_written(image: &mut Vec<u8>, node: Node<'_>) -> bool {
+    match node {
+        Node::Inode(ino, mode, bytes) => {
+            write_inode::<LittleEndian>(image, &inode(ino, mode, bytes, 0, 0, 0)).is_ok()
+        }
+        Node::Owned(ino, mode, bytes, uid, gid, mtime) => {
+            write_inode::<LittleEndian>(image, &inode(ino, mode, bytes, uid, gid, mtime)).is_ok()
+        }
+        Node::Entry(pino, ino, name) => {
+            write_entry::<LittleEndian>(image, &entry(pino, ino, name)).is_ok()
+        }
+    }
+}
+
+/// An image of these nodes, each filled up to whole words.
+pub(crate) fn image_of(alloc: Global, nodes: &[Node<'_>]) -> Result<Vec<u8>, &'static str> {
+    let mut image = Vec::new(alloc);
+    for node in nodes {
+        if !is_written(&mut image, *node) {
+            return Err("no node");
+        }
+        let filled = image.len().next_multiple_of(4);
+        if image.resize(filled, 0xFF).is_err() {
+            return Err("no memory");
+        }
+    }
+    Ok(image)
+}
+
+/// Directory 2 in the root, with the root and itself in it.
+pub(crate) const CIRCLE: &[Node<'static>] = &[
+    Node::Inode(2, DIRECTORY, b""),
+    Node::Entry(1, 2, b"d"),
+    Node::Entry(2, 1, b"x"),
+    Node::Entry(2, 2, b"y"),
+];
+
+pub(crate) const CIRCLE_LINES: &[u8] = b"d 0755 0 0 0 0 1 /\n\
+d 0755 0 0 0 0 2 /d\n\
+d 0755 0 0 0 0 1 /d/x (again)\n\
+d 0755 0 0 0 0 2 /d/y (again)\n";
+
+/// A root, a directory with a file in it, a symlink, and a name that dangles.
+pub(crate) const TREE: &[Node<'static>] = &[
+    Node::Owned(1, DIRECTORY, b"", 7, 8, 1234567890),
+    Node::Inode(2, 0o041700, b""),
+    Node::Inode(3, FILE, b"hi"),
+    Node::Inode(4, SYMLINK, b"/d/f"),
+    Node::Entry(1, 2, b"d"),
+    Node::Entry(2, 3, b"f"),
+    Node::Entry(1, 4, b"s"),
+    Node::Entry(1, 9, b"x"),
+];
+
+/// Two unlike nodes of one number and version.
+pub(crate) const CLASH: &[Node<'static>] = &[
+    Node::Inode(2, FILE, b""),
+    Node::Inode(2, 0o100600, b""),
+];
+
+/// A root that is a regular file.
+pub(crate) const FILE_AS_ROOT: &[Node<'static>] = &[Node::Inode(1, FILE, b"")];

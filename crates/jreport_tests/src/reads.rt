@@ -1,0 +1,359 @@
+//! Images that are read as a whole: what `check`, `cat` and `ls` write of them, and what they answer.
+
+use crate::devices::{Pieces, Short};
+use crate::images::{
+    ATTRIBUTE, CLASH, DAMAGED_INODE_2, ENTRY_A, FILE, FILE_AS_ROOT, GEOMETRY, INODE_2, LARGE,
+    LITTLE_MARKER, NO_LENGTH, Node, ONE_BLOCK, OTHER_ORDER, READ_ONLY, Raw, SYMLINK, TREE,
+    image_of, raw_image,
+};
+use byteorder::LittleEndian;
+use flashbase::{FromReader, FromWriter, LoadFault, Sink, Source};
+use jline::put_escaped;
+use jmount::{FindFault, MountFault, mount};
+use jreport::{ProgramFault, check_lines, content, file_bytes, list_lines, note_line, path_word};
+use jscan::{Geometry, ScanFault};
+use std::alloc::Global;
+use std::test::Fail;
+
+/// What `cat` writes of a path in a mounted image, or its fault.
+fn read(alloc: Global, image: &[u8], path: &[u8]) -> Result<Vec<u8>, ProgramFault<'static>> {
+    let mounted = mount::<LittleEndian>(alloc, image, LARGE)?;
+    let mut sink = FromWriter::new(Vec::new(alloc));
+    content(&mounted, path, &mut sink)?;
+    Ok(sink.into_writer())
+}
+
+/// Whether a path has this content.
+fn is_read(
+    alloc: Global,
+    image: &[u8],
+    path: &[u8],
+    want: Result<&[u8], ProgramFault<'static>>,
+) -> bool {
+    match (read(alloc, image, path), want) {
+        (Ok(bytes), Ok(want)) => bytes.as_slice() == want,
+        (Err(fault), Err(want)) => fault == want,
+        _ => false,
+    }
+}
+
+#[test]
+fn contents(rt: HostRuntime) -> Result<(), Fail> {
+    let long = vec![in rt.alloc(); b'x'; 9000]?;
+    let nodes = [
+        Node::Inode(2, FILE, &long),
+        Node::Inode(3, SYMLINK, b"a"),
+        Node::Entry(1, 2, b"a"),
+        Node::Entry(1, 3, b"s"),
+    ];
+    let image = image_of(rt.alloc(), &nodes)?;
+    for (path, want) in [
+        (b"/a".as_slice(), Ok(long.as_slice())),
+        (
+            b"/b".as_slice(),
+            Err(ProgramFault::Path(FindFault::NotFound)),
+        ),
+        (b"a".as_slice(), Err(ProgramFault::Path(FindFault::BadPath))),
+        (
+            b"/a/b".as_slice(),
+            Err(ProgramFault::Path(FindFault::NotDirectory)),
+        ),
+        (b"/".as_slice(), Err(ProgramFault::NotRegular)),
+        (b"/s".as_slice(), Err(ProgramFault::NotRegular)),
+    ] {
+        assert!(rt; is_read(rt.alloc(), &image, path, want));
+    }
+    Ok(())
+}
+
+/// Words of paths, and the bytes that they stand for.
+const WORDS: [(&[u8], Option<&[u8]>); 9] = [
+    (b"/a", Some(b"/a")),
+    (b"", Some(b"")),
+    (b"/\\x00\\xfF", Some(b"/\x00\xff")),
+    (b"\\x2fa", Some(b"/a")),
+    (b"/\\", None),
+    (b"/\\x1", None),
+    (b"/\\X11", None),
+    (b"/\\xg1", None),
+    (b"/\\\\", None),
+];
+
+/// Whether a word stands for these bytes, or for none.
+fn is_word_of(alloc: Global, word: &[u8], path: Option<&[u8]>) -> bool {
+    match path_word(alloc, word) {
+        Ok(bytes) => Some(bytes.as_slice()) == path,
+        Err(fault) => fault == ProgramFault::Path(FindFault::BadPath) && path.is_none(),
+    }
+}
+
+#[test]
+fn words_of_paths(rt: HostRuntime) {
+    for (word, path) in WORDS {
+        assert!(rt; is_word_of(rt.alloc(), word, path));
+    }
+}
+
+#[test]
+fn names_that_are_long(rt: HostRuntime) -> Result<(), Fail> {
+    let name = vec![in rt.alloc(); b' '; 1000]?;
+    let mut sink = FromWriter::new(Vec::new(rt.alloc()));
+    assert!(rt; put_escaped(&mut sink, &name).is_ok());
+    let text = sink.into_writer();
+    assert_eq!(rt; text.len(), 4000);
+    assert!(rt; text.starts_with(b"\\x20\\x20"));
+    Ok(())
+}
+
+/// What is asked of an image that is read as a whole.
+#[derive(Clone, Copy)]
+enum Call {
+    Check,
+    Content(&'static [u8]),
+    Listing,
+}
+
+/// A call of each kind, the second of the file in `TREE`.
+const CALLS: [Call; 3] = [Call::Check, Call::Content(b"/d/f"), Call::Listing];
+
+/// The answer of a call: how much it found.
+fn ask<S: Source, T: Sink>(
+    alloc: Global,
+    call: Call,
+    source: &mut S,
+    geometry: Geometry,
+    sink: &mut T,
+) -> Result<u64, ProgramFault<'static>> {
+    match call {
+        Call::Check => {
+            let found = check_lines::<LittleEndian, S, T>(alloc, source, geometry, sink)?;
+            Ok(u64::from(found))
+        }
+        Call::Content(path) => {
+            file_bytes::<LittleEndian, S, T>(alloc, source, geometry, path, sink)
+        }
+        Call::Listing => list_lines::<LittleEndian, S, T>(alloc, source, geometry, sink),
+    }
+}
+
+/// The answer of a call, and what it puts.
+fn told(
+    alloc: Global,
+    call: Call,
+    image: &[u8],
+    geometry: Geometry,
+) -> (Result<u64, ProgramFault<'static>>, Vec<u8>) {
+    let mut source = FromReader::new(image);
+    let mut sink = FromWriter::new(Vec::new(alloc));
+    let answer = ask(alloc, call, &mut source, geometry, &mut sink);
+    (answer, sink.into_writer())
+}
+
+const TREE_CHECKED: &[u8] = b"block 0\n\
+00000000 inode 68 ino 1 version 1 mode 40755 size 0 offset 0 data 0 none\n\
+00000044 inode 68 ino 2 version 1 mode 41700 size 0 offset 0 data 0 none\n\
+00000088 inode 72 ino 3 version 1 mode 100644 size 2 offset 0 data 2 none\n\
+000000d0 inode 72 ino 4 version 1 mode 120777 size 4 offset 0 data 4 none\n\
+00000118 entry 44 pino 1 version 1 ino 2 type 8 name d\n\
+00000144 entry 44 pino 2 version 1 ino 3 type 8 name f\n\
+00000170 entry 44 pino 1 version 1 ino 4 type 8 name s\n\
+0000019c entry 44 pino 1 version 1 ino 9 type 8 name x\n\
+000001c8 erased 3640\n\
+total blocks 1 entries 4 inodes 4 findings 0\n\
+mount ok\n\
+dangling pino 1 ino 9 name x\n";
+
+const TREE_LISTED: &[u8] = b"d 0755 7 8 0 1234567890 1 /\n\
+d 1700 0 0 0 0 2 /d\n\
+- 0644 0 0 2 0 3 /d/f\n\
+l 0777 0 0 4 0 4 /s -> \\x2fd\\x2ff\n";
+
+/// A file with its name.
+const SOUND: &[Node<'static>] = &[Node::Inode(2, FILE, b"hi"), Node::Entry(1, 2, b"a")];
+
+/// An image, a call, its answer, and how what it puts ends.
+type Row = (
+    &'static [Node<'static>],
+    Call,
+    Result<u64, ProgramFault<'static>>,
+    &'static [u8],
+);
+
+const CLASHES: Result<u64, ProgramFault<'static>> = Err(ProgramFault::Mount(MountFault::Clash {
+    addr: 0x44,
+}));
+
+const NO_ROOT: Result<u64, ProgramFault<'static>> = Err(ProgramFault::Mount(MountFault::RootKind));
+
+/// What is put whole.
+const WHOLE: [Row; 9] = [
+    (TREE, Call::Check, Ok(1), TREE_CHECKED),
+    (TREE, Call::Content(b"/d/f"), Ok(0), b"hi"),
+    (
+        TREE,
+        Call::Content(b"/x"),
+        Err(ProgramFault::Path(FindFault::NotFound)),
+        b"",
+    ),
+    (
+        TREE,
+        Call::Content(b"/s"),
+        Err(ProgramFault::NotRegular),
+        b"",
+    ),
+    (TREE, Call::Listing, Ok(0), TREE_LISTED),
+    (CLASH, Call::Content(b"/d/f"), CLASHES, b""),
+    (CLASH, Call::Listing, CLASHES, b""),
+    (FILE_AS_ROOT, Call::Content(b"/d/f"), NO_ROOT, b""),
+    (FILE_AS_ROOT, Call::Listing, NO_ROOT, b""),
+];
+
+#[test]
+fn worked_calls(rt: HostRuntime) -> Result<(), Fail> {
+    for (nodes, call, want, text) in WHOLE {
+        let image = image_of(rt.alloc(), nodes)?;
+        let (answer, put) = told(rt.alloc(), call, &image, GEOMETRY);
+        assert_eq!(rt; answer, want);
+        assert_eq!(rt; put.as_slice(), text);
+    }
+    Ok(())
+}
+
+const ENDS: [Row; 4] = [
+    (SOUND, Call::Check, Ok(0), b"findings 0\nmount ok\n"),
+    (SOUND, Call::Listing, Ok(0), b"\n- 0644 0 0 2 0 2 /a\n"),
+    (
+        CLASH,
+        Call::Check,
+        Ok(1),
+        b"findings 0\nmount refused M5 Clash at 00000044\n",
+    ),
+    (
+        FILE_AS_ROOT,
+        Call::Check,
+        Ok(1),
+        b"findings 0\nmount refused M6 RootKind\n",
+    ),
+];
+
+#[test]
+fn worked_ends(rt: HostRuntime) -> Result<(), Fail> {
+    for (nodes, call, want, end) in ENDS {
+        let image = image_of(rt.alloc(), nodes)?;
+        let (answer, put) = told(rt.alloc(), call, &image, GEOMETRY);
+        assert_eq!(rt; answer, want);
+        assert!(rt; put.ends_with(end));
+    }
+    Ok(())
+}
+
+/// The fault of each of `CALLS` at a block size that is none.
+const REFUSALS: [(Call, ProgramFault<'static>); 3] = [
+    (Call::Check, ProgramFault::Scan(ScanFault::BlockSize)),
+    (
+        Call::Content(b"/d/f"),
+        ProgramFault::Mount(MountFault::BlockSize),
+    ),
+    (Call::Listing, ProgramFault::Mount(MountFault::BlockSize)),
+];
+
+#[test]
+fn block_sizes_that_are_refused(rt: HostRuntime) -> Result<(), Fail> {
+    let image = image_of(rt.alloc(), TREE)?;
+    for block in [0, 4092, 4097, u32::MAX] {
+        for (call, fault) in REFUSALS {
+            let (answer, put) = told(rt.alloc(), call, &image, Geometry { block });
+            assert_eq!(rt; answer, Err(fault));
+            assert!(rt; put.is_empty());
+        }
+    }
+    Ok(())
+}
+
+/// Whether a source that fails after so many bytes is told as such, and nothing is put.
+fn is_unread(alloc: Global, call: Call, image: &[u8], limit: usize) -> bool {
+    let mut source = Pieces {
+        bytes: image,
+        piece: 40,
+        limit,
+        failures: u64::MAX,
+    };
+    let mut sink = FromWriter::new(Vec::new(alloc));
+    let answer = ask(alloc, call, &mut source, GEOMETRY, &mut sink);
+    answer == Err(ProgramFault::Load(LoadFault::Device))
+        && source.failures == 0
+        && sink.into_writer().is_empty()
+}
+
+/// Blocks with an empty file of the name `a`, and how many of its findings are told of.
+const FOUND: [(&[&[u8]], u64); 5] = [
+    (&[LITTLE_MARKER, ATTRIBUTE, READ_ONLY, INODE_2, ENTRY_A], 0),
+    (&[LITTLE_MARKER, NO_LENGTH, INODE_2, ENTRY_A], 1),
+    (&[OTHER_ORDER, INODE_2, ENTRY_A], 1),
+    (&[DAMAGED_INODE_2, INODE_2, ENTRY_A], 1),
+    (
+        &[
+            DAMAGED_INODE_2,
+            ATTRIBUTE,
+            OTHER_ORDER,
+            LITTLE_MARKER,
+            NO_LENGTH,
+            INODE_2,
+            ENTRY_A,
+        ],
+        3,
+    ),
+];
+
+#[test]
+fn findings_of_mounted_images(rt: HostRuntime) -> Result<(), Fail> {
+    for (nodes, count) in FOUND {
+        let image = raw_image(rt.alloc(), Raw { nodes, ..ONE_BLOCK })?;
+        for call in [Call::Listing, Call::Content(b"/a")] {
+            let (answer, _) = told(rt.alloc(), call, &image, GEOMETRY);
+            assert_eq!(rt; answer, Ok(count));
+        }
+    }
+    Ok(())
+}
+
+#[test]
+fn a_note(rt: HostRuntime) {
+    let mut sink = FromWriter::new(Vec::new(rt.alloc()));
+    assert_eq!(rt; note_line(17, &mut sink), Ok(()));
+    assert_eq!(rt;
+        sink.into_writer().as_slice(),
+        b"jffs2_image: note: 17 findings, see check --scan; a wrong --block or --endian shows as findings too\n".as_slice()
+    );
+}
+
+#[test]
+fn a_source_that_fails(rt: HostRuntime) -> Result<(), Fail> {
+    let image = image_of(rt.alloc(), TREE)?;
+    for call in CALLS {
+        for limit in [0, 1, 40, 455] {
+            assert!(rt; is_unread(rt.alloc(), call, &image, limit));
+        }
+    }
+    Ok(())
+}
+
+/// Whether a sink that fails after so many bytes takes exactly them.
+fn is_cut(alloc: Global, call: Call, image: &[u8], text: &[u8], limit: usize) -> bool {
+    let mut source = FromReader::new(image);
+    let mut sink = Short::new(alloc, limit, u64::MAX);
+    let answer = ask(alloc, call, &mut source, GEOMETRY, &mut sink);
+    answer == Err(ProgramFault::Output) && sink.took(0, text)
+}
+
+#[test]
+fn a_sink_that_fails_at_each_byte(rt: HostRuntime) -> Result<(), Fail> {
+    let image = image_of(rt.alloc(), TREE)?;
+    for call in CALLS {
+        let (_, whole) = told(rt.alloc(), call, &image, GEOMETRY);
+        for limit in 0..whole.len() {
+            assert!(rt; is_cut(rt.alloc(), call, &image, &whole[..limit], limit));
+        }
+    }
+    Ok(())
+}

@@ -1,0 +1,114 @@
+//! Reports of sources that give their bytes in pieces, of sources that fail, and into sinks that fail.
+
+use crate::devices::{Long, Pieces, Short};
+use crate::images::{GEOMETRY, TWO_BLOCKS, raw_image};
+use crate::reports::report;
+use byteorder::{BigEndian, LittleEndian};
+use flashbase::{FromReader, FromWriter, LoadFault, Source};
+use jnode::Order;
+use jreport::{ProgramFault, stream_lines};
+use jscan::{GREATEST_BLOCK, GREATEST_IMAGE, Geometry, ScanFault};
+use std::alloc::Global;
+use std::test::Fail;
+
+/// What is answered of a source, and what goes out.
+type Answer = (Result<u64, ProgramFault<'static>>, Vec<u8>);
+
+fn told<E: Order, S: Source>(alloc: Global, source: S, geometry: Geometry) -> Answer {
+    let mut sink = FromWriter::new(Vec::new(alloc));
+    let answer = stream_lines::<E, _, _>(alloc, source, geometry, &mut sink);
+    (answer, sink.into_writer())
+}
+
+/// What is answered of the bytes up to `limit`, given in pieces.
+pub(crate) fn streamed<E: Order>(
+    alloc: Global,
+    bytes: &[u8],
+    piece: usize,
+    limit: usize,
+) -> Answer {
+    let source = Pieces {
+        bytes,
+        piece,
+        limit,
+        failures: u64::MAX,
+    };
+    told::<E, _>(alloc, source, GEOMETRY)
+}
+
+const FIRST_BLOCK: &str = "block 0\n\
+00000000 marker 12\n\
+0000000c entry 44 pino 1 version 1 ino 2 type 8 name a\n\
+00000038 erased 4040\n";
+
+#[test]
+fn a_source_that_fails(rt: HostRuntime) -> Result<(), Fail> {
+    let bytes = raw_image(rt.alloc(), TWO_BLOCKS)?;
+    for piece in [1, 3, 4095, 4096] {
+        for (limit, text) in [
+            (0, ""),
+            (1, ""),
+            (4095, ""),
+            (4096, FIRST_BLOCK),
+            (4100, FIRST_BLOCK),
+            (8191, FIRST_BLOCK),
+        ] {
+            let (answer, put) = streamed::<LittleEndian>(rt.alloc(), &bytes, piece, limit);
+            assert_eq!(rt; answer, Err(ProgramFault::Load(LoadFault::Device)));
+            assert_eq!(rt; put.as_slice(), text.as_bytes());
+        }
+    }
+    Ok(())
+}
+
+/// Whether a sink that fails after so many bytes takes exactly them.
+fn is_cut(alloc: Global, image: &[u8], text: &[u8], limit: usize) -> bool {
+    let mut sink = Short::new(alloc, limit, u64::MAX);
+    let source = FromReader::new(image);
+    let answer = stream_lines::<LittleEndian, _, _>(alloc, source, GEOMETRY, &mut sink);
+    answer == Err(ProgramFault::Output) && sink.took(0, text)
+}
+
+#[test]
+fn a_sink_that_fails_at_each_byte(rt: HostRuntime) -> Result<(), Fail> {
+    let image = raw_image(rt.alloc(), TWO_BLOCKS)?;
+    let whole = report::<LittleEndian>(rt.alloc(), &image)?.text;
+    for limit in 0..whole.len() {
+        assert!(rt; is_cut(rt.alloc(), &image, &whole[..limit], limit));
+    }
+    Ok(())
+}
+
+#[test]
+fn block_sizes_that_are_refused_unread(rt: HostRuntime) {
+    for block in [0, 4092, 4095, 4097, 4098, 4194305, 4194308, u32::MAX] {
+        let broken = Pieces {
+            bytes: &[],
+            piece: 1,
+            limit: 0,
+            failures: 0,
+        };
+        let (answer, put) = told::<BigEndian, _>(rt.alloc(), broken, Geometry { block });
+        assert_eq!(rt; answer, Err(ProgramFault::Scan(ScanFault::BlockSize)));
+        assert!(rt; put.is_empty());
+    }
+}
+
+/// What is answered of so many bytes in the greatest blocks.
+fn long(alloc: Global, len: usize) -> Answer {
+    let geometry = Geometry {
+        block: GREATEST_BLOCK,
+    };
+    told::<LittleEndian, _>(alloc, Long { left: len }, geometry)
+}
+
+#[test]
+fn the_greatest_image(rt: HostRuntime) {
+    let (answer, whole) = long(rt.alloc(), GREATEST_IMAGE);
+    assert_eq!(rt; answer, Ok(0));
+    let (answer, text) = long(rt.alloc(), GREATEST_IMAGE + 1);
+    assert_eq!(rt; answer, Err(ProgramFault::Load(LoadFault::TooLarge)));
+    assert!(rt; text.ends_with(b"block 63\n0fc00000 erased 4194304\n"));
+    let total = b"total blocks 64 entries 0 inodes 0 findings 0\n";
+    assert_eq!(rt; whole.strip_suffix(total.as_slice()), Some(text.as_slice()));
+}

@@ -1,0 +1,242 @@
+//! What blocks fall into.
+
+use crate::bytes::*;
+use byteorder::{BigEndian, LittleEndian};
+use jnode::{Damage, Endian, Order, Seen};
+use jscan::{
+    Finding, FindingKind, Geometry, Look, ScanFault, Stretch, Stretches, Tile, TileKind, Tiles,
+    laws, rows,
+};
+use std::alloc::Global;
+use std::test::Fail;
+
+/// A stretch as address, length and what it looks like.
+type Row = (u32, u32, &'static str);
+
+/// Blocks of an order, at an address, of a length, with these bytes, and their stretches.
+const BLOCKS: [(Endian, u32, usize, Pieces, &[Row]); 11] = [
+    (
+        Endian::Little,
+        8192,
+        96,
+        &[(0, &LITTLE_MARKER), (12, &ENTRY_A)],
+        &[
+            (8192, 12, "marker"),
+            (8204, 44, "entry"),
+            (8248, 40, "erased"),
+        ],
+    ),
+    // Headers that do not fit.
+    (
+        Endian::Little,
+        0,
+        64,
+        &[(0, &NO_LENGTH)],
+        &[(0, 12, "dirt"), (12, 52, "erased")],
+    ),
+    (
+        Endian::Little,
+        0,
+        64,
+        &[(52, &LENGTH_13)],
+        &[(0, 52, "erased"), (52, 12, "dirt")],
+    ),
+    (
+        Endian::Little,
+        0,
+        64,
+        &[(52, &LITTLE_MARKER)],
+        &[(0, 52, "erased"), (52, 12, "marker")],
+    ),
+    // An entry in damaged data is no node.
+    (
+        Endian::Little,
+        0,
+        128,
+        &[(0, &HIDING), (68, &ENTRY_A)],
+        &[(0, 112, "data-crc"), (112, 16, "erased")],
+    ),
+    (
+        Endian::Big,
+        0,
+        84,
+        &[(0, &ENTRY_A)],
+        &[(0, 4, "other-order"), (4, 40, "dirt"), (44, 40, "erased")],
+    ),
+    // The last bytes of a block.
+    (Endian::Little, 0, 8, &[], &[(0, 8, "erased")]),
+    (Endian::Little, 0, 8, &[(4, &[0])], &[(0, 8, "dirt")]),
+    (
+        Endian::Little,
+        0,
+        20,
+        &[(16, &[0])],
+        &[(0, 12, "erased"), (12, 8, "dirt")],
+    ),
+    (Endian::Little, 0, 0, &[], &[]),
+    (Endian::Big, 4096, 4096, &[], &[(4096, 4096, "erased")]),
+];
+
+pub(crate) fn shown(look: &Look<'_>) -> &'static str {
+    match look {
+        Look::Tiled(Seen::Marker) => "marker",
+        Look::Tiled(Seen::Entry(_)) => "entry",
+        Look::Tiled(
+            Seen::Damaged {
+                which: Damage::DataCrc,
+            },
+        ) => "data-crc",
+        Look::Tiled(_) => "other node",
+        Look::Erased => "erased",
+        Look::OtherOrder => "other-order",
+        Look::Dirt => "dirt",
+    }
+}
+
+fn row(stretch: Stretch<'_>) -> Row {
+    (stretch.addr, stretch.len, shown(&stretch.look))
+}
+
+/// The stretches of a flash's bytes, as far as they are whole words.
+fn stretch_rows<E: Order>(alloc: Global, start: u32, block: &[u8]) -> Result<Vec<Row>, Fail> {
+    let words = block.len().min(0xffff) / 4 * 4;
+    Ok(
+        Stretches::<E>::new(start % 0x10000, &block[..words])
+            .map(row)
+            .collect(alloc)?,
+    )
+}
+
+#[test]
+fn stretches_of_blocks(rt: HostRuntime) -> Result<(), Fail> {
+    let alloc = rt.alloc();
+    for (order, start, len, pieces, want) in BLOCKS {
+        let block = flash(alloc, len, pieces)?;
+        let rows = match order {
+            Endian::Little => stretch_rows::<LittleEndian>(alloc, start, &block)?,
+            Endian::Big => stretch_rows::<BigEndian>(alloc, start, &block)?,
+        };
+        assert_eq!(rt; rows.as_slice(), want, "{len} bytes at {start}");
+    }
+    Ok(())
+}
+
+/// A node's type, and for other tiles their least length.
+fn tile_row(tile: Tile<'_, LittleEndian>) -> (usize, usize, u16) {
+    let kind = match tile.kind {
+        TileKind::Node(header) => header.nodetype,
+        TileKind::Word => 4,
+        TileKind::Rest => 1,
+    };
+    (tile.place, tile.bytes.len(), kind)
+}
+
+#[test]
+fn tiles_in_order(rt: HostRuntime) -> Result<(), Fail> {
+    let mut block = [0xff; 72];
+    block[..12].copy_from_slice(&LITTLE_MARKER);
+    block[12..53].copy_from_slice(&ENTRY_A);
+    let rows: Vec<(usize, usize, u16)> = Tiles::<LittleEndian>::new(&block)
+        .map(tile_row)
+        .collect(rt.alloc())?;
+    let want = [
+        (0, 12, 0x2003),
+        (12, 44, 0xe001),
+        (56, 4, 4),
+        (60, 4, 4),
+        (64, 8, 1),
+    ];
+    assert_eq!(rt; rows.as_slice(), want.as_slice());
+    Ok(())
+}
+
+const MIXED: Pieces = &[
+    (4, &ATTRIBUTE),
+    (16, &READ_ONLY),
+    (28, &INCOMPATIBLE),
+    (40, &COMPRESSED),
+    (112, &HIDING),
+    (180, &ENTRY_A),
+    (240, &[0x19, 0x85]),
+    (244, &[0]),
+];
+
+fn findings_of(alloc: Global, block: &[u8]) -> Result<(Vec<Finding>, Vec<ScanFault>), Fail> {
+    let mut findings = Vec::new(alloc);
+    let mut refusals = Vec::new(alloc);
+    let words = block.len().min(256) / 4 * 4;
+    for stretch in Stretches::<LittleEndian>::new(4096, &block[..words]) {
+        findings.extend(stretch.finding())?;
+        refusals.extend(stretch.refusal())?;
+    }
+    Ok((findings, refusals))
+}
+
+#[test]
+fn findings_and_refusals(rt: HostRuntime) -> Result<(), Fail> {
+    let block = flash(rt.alloc(), 256, MIXED)?;
+    let (findings, refusals) = findings_of(rt.alloc(), &block)?;
+    let want = [
+        (4100, FindingKind::Attribute),
+        (4112, FindingKind::ReadOnly(0xa0f7)),
+        (4208, FindingKind::Damaged(Damage::DataCrc)),
+        (4336, FindingKind::OtherOrder),
+        (4340, FindingKind::Dirt),
+    ]
+    .map(|(addr, kind)| Finding { addr, kind });
+    assert_eq!(rt; findings.as_slice(), want.as_slice());
+    let want = [
+        ScanFault::Incompatible {
+            addr: 4124,
+            nodetype: 0xe0f7,
+        },
+        ScanFault::Compressed {
+            addr: 4136,
+            compr: 7,
+        },
+    ];
+    assert_eq!(rt; refusals.as_slice(), want.as_slice());
+    Ok(())
+}
+
+#[test]
+fn block_sizes(rt: HostRuntime) {
+    for (block, readable) in [
+        (4096, true),
+        (4092, false),
+        (4098, false),
+        (4_194_304, true),
+        (4_194_308, false),
+        (0, false),
+    ] {
+        assert_eq!(rt; Geometry { block }.is_readable(), readable, "at {block}");
+    }
+}
+
+#[test]
+fn laws_can_be_called(_rt: HostRuntime) {
+    laws::one_tiling();
+    laws::tile_then_rest();
+    laws::runs_are_longest();
+    laws::stretches_make_up();
+    laws::stretches_are_few();
+    laws::nodes_are_seen();
+    laws::sightings_are_stretches();
+    laws::quiet_has_no_nodes();
+    laws::nodes_are_of_blocks();
+    laws::blank_from_is_least();
+    laws::addresses_ascend();
+    laws::addresses_are_within();
+    laws::refusal_is_first();
+    laws::nodes_fit();
+    rows::no_length_is_dirt();
+    rows::past_the_end_is_dirt();
+    rows::last_marker_is_seen();
+    rows::entry_is_seen();
+    rows::other_order_is_known();
+    rows::rest_is_judged_whole();
+    rows::full_block();
+    rows::hidden_entry_is_not_seen();
+    rows::nodes_of_a_cut_image();
+    rows::blank_tail();
+}

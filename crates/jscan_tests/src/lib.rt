@@ -1,0 +1,13 @@
+//! Tests of `jscan`: its calls on worked bytes, with values from outside, and on sources that fail.
+#![tactic(auto)]
+
+#[cfg(test)]
+mod block_tests;
+#[cfg(test)]
+mod bytes;
+#[cfg(test)]
+mod fault_tests;
+#[cfg(test)]
+mod scan_tests;
+#[cfg(test)]
+mod stream_tests;

@@ -1,0 +1,191 @@
+//! Blocks and counts of worked sources, cut in several ways, and of sources that fail.
+
+use crate::bytes::*;
+use byteorder::{BigEndian, LittleEndian};
+use flashbase::{DeviceFault, FromReader, Source};
+use jscan::{BlockReader, Counts, GREATEST_BLOCK, Geometry, StreamFault, scan_stream};
+use std::alloc::Global;
+use std::test::Fail;
+
+const SMALL: Geometry = Geometry { block: 4096 };
+
+/// How many bytes the sources of these tests give a call.
+const CUTS: [usize; 4] = [1, 3, 4095, usize::MAX];
+
+/// A block with the clean marker and the entry node, and the entry node again behind it.
+const TWO_ENTRIES: Pieces = &[(0, &LITTLE_MARKER), (12, &ENTRY_A), (4096, &ENTRY_A)];
+
+/// Sources of a length, with these bytes, and how many blocks, entries, inode nodes and findings are counted.
+const SOURCES: [(usize, Pieces, [u64; 4]); 5] = [
+    (4137, TWO_ENTRIES, [2, 2, 0, 0]),
+    (4140, TWO_ENTRIES, [2, 2, 0, 0]),
+    (8192, &[(4056, &ENTRY_A)], [2, 0, 0, 2]),
+    (80, &[(0, &LITTLE_MARKER), (12, &INODE)], [1, 0, 1, 0]),
+    (0, &[], [0, 0, 0, 0]),
+];
+
+/// Gives its bytes in pieces, and fails once, after so many bytes.
+#[derive(Drop)]
+struct CutSource<'a> {
+    bytes: &'a [u8],
+    piece: usize,
+    until_failure: usize,
+    failures: u64,
+}
+
+impl Source for CutSource<'_> {
+    ghost use Rattle.std.specs.Prelude.{None};
+
+    ghost rest = { λ _. None };
+
+    ghost failures = { λ s. s.failures };
+
+    fn fill(&mut self, buf: &mut [u8]) -> Result<usize, DeviceFault> {
+        if self.until_failure == 0 {
+            self.until_failure = usize::MAX;
+            self.failures = self.failures.wrapping_add(1);
+            return Err(DeviceFault);
+        }
+        let n = self
+            .piece
+            .min(self.bytes.len())
+            .min(buf.len())
+            .min(self.until_failure);
+        let (front, others) = self.bytes.split_at(n);
+        buf[..n].copy_from_slice(front);
+        self.bytes = others;
+        self.until_failure -= n;
+        Ok(n)
+    }
+}
+
+/// Gives as many bytes as it has left, whatever stands in them.
+#[derive(Drop)]
+struct Long {
+    left: usize,
+}
+
+impl Source for Long {
+    ghost use Rattle.std.specs.Prelude.{None};
+
+    ghost rest = { λ _. None };
+
+    ghost failures = { λ _. 0 };
+
+    fn fill(&mut self, buf: &mut [u8]) -> Result<usize, DeviceFault> {
+        let n = self.left.min(buf.len());
+        self.left -= n;
+        Ok(n)
+    }
+}
+
+fn cut(bytes: &[u8], piece: usize, until_failure: usize) -> CutSource<'_> {
+    CutSource {
+        bytes,
+        piece,
+        until_failure,
+        failures: 0,
+    }
+}
+
+fn counts(counted: [u64; 4]) -> Counts {
+    let [blocks, entries, inodes, findings] = counted;
+    Counts {
+        blocks,
+        entries,
+        inodes,
+        findings,
+    }
+}
+
+/// What is answered of a source, and what is counted.
+fn streamed(
+    alloc: Global,
+    source: CutSource<'_>,
+    geometry: Geometry,
+) -> (Result<(), StreamFault>, Counts) {
+    let mut counted = counts([9, 9, 9, 9]);
+    let result = scan_stream::<LittleEndian, _>(alloc, source, geometry, &mut counted);
+    (result, counted)
+}
+
+#[test]
+fn counts_do_not_depend_on_the_cut(rt: HostRuntime) -> Result<(), Fail> {
+    for (len, pieces, want) in SOURCES {
+        let image = flash(rt.alloc(), len, pieces)?;
+        for piece in CUTS {
+            let answer = streamed(rt.alloc(), cut(&image, piece, usize::MAX), SMALL);
+            assert_eq!(rt; answer, (Ok(()), counts(want)), "in pieces of {piece}");
+        }
+    }
+    Ok(())
+}
+
+#[test]
+fn runs_count_once_each(rt: HostRuntime) {
+    let mut counted = counts([0, 0, 0, 0]);
+    let source = FromReader::new(ENTRY_A.as_slice());
+    let result = scan_stream::<BigEndian, _>(rt.alloc(), source, SMALL, &mut counted);
+    assert_eq!(rt; (result, counted), (Ok(()), counts([1, 0, 0, 2])));
+}
+
+#[test]
+fn blocks_are_those_of_the_bytes(rt: HostRuntime) -> Result<(), Fail> {
+    let image = flash(rt.alloc(), 4137, TWO_ENTRIES)?;
+    let filled = flash(rt.alloc(), 8192, TWO_ENTRIES)?;
+    for piece in CUTS {
+        let source = cut(&image, piece, usize::MAX);
+        let mut reader = BlockReader::new(rt.alloc(), source, SMALL)?;
+        for want in [filled.get(..4096), filled.get(4096..), None, None] {
+            assert!(rt; reader.next()? == want, "in pieces of {piece}");
+        }
+        assert!(rt; reader.into_source().bytes.is_empty());
+    }
+    Ok(())
+}
+
+#[test]
+fn a_device_fails_in_the_second_block(rt: HostRuntime) -> Result<(), Fail> {
+    let image = flash(rt.alloc(), 4137, TWO_ENTRIES)?;
+    let device = Err(StreamFault::Device);
+    for piece in CUTS {
+        let mut reader = BlockReader::new(rt.alloc(), cut(&image, piece, 4100), SMALL)?;
+        for want in [Ok(image.get(..4096)), device, device] {
+            assert!(rt; reader.next() == want, "in pieces of {piece}");
+        }
+        let left = reader.into_source();
+        assert_eq!(rt; (left.failures, left.bytes.len()), (1, 37));
+        let answer = streamed(rt.alloc(), cut(&image, piece, 4100), SMALL);
+        assert_eq!(rt; answer, (Err(StreamFault::Device), counts([1, 1, 0, 0])));
+    }
+    Ok(())
+}
+
+#[test]
+fn a_source_is_too_large(rt: HostRuntime) -> Result<(), Fail> {
+    let (end, too_large) = (Ok(None), Err(StreamFault::TooLarge));
+    for (block, left, blocks, want) in [
+        (GREATEST_BLOCK, 268_435_456, 64u32, end),
+        (GREATEST_BLOCK - 4, 268_435_456, 65, end),
+        (GREATEST_BLOCK, 268_435_457, 64, too_large),
+        (GREATEST_BLOCK - 4, 268_435_457, 64, too_large),
+    ] {
+        let mut reader = BlockReader::new(rt.alloc(), Long { left }, Geometry { block })?;
+        for _ in 0..blocks {
+            assert!(rt; reader.next()?.is_some());
+        }
+        for _ in 0..2 {
+            assert!(rt; reader.next() == want, "at {left}");
+        }
+    }
+    Ok(())
+}
+
+#[test]
+fn block_sizes_that_are_not_read(rt: HostRuntime) {
+    for block in [0, 4092, 4098, GREATEST_BLOCK + 4] {
+        let source = cut(&ENTRY_A, 1, usize::MAX);
+        let answer = streamed(rt.alloc(), source, Geometry { block });
+        assert_eq!(rt; answer, (Err(StreamFault::BlockSize), counts([0, 0, 0, 0])));
+    }
+}
