@@ -1,10 +1,10 @@
 -- What a command line asks for, by clap's matches of its words.
-use Rattle.std.specs.Prelude.{◌≡◌, ◌≢◌, ◌+◌, ◌-◌, ◌*◌, ◌^◌, ◌&&◌, ℕ, Bool, false, List, [], ◌∷◌, Option, Some, None, if◌then◌else◌, nat_lt, codes, option_and_then}
+use Rattle.std.specs.Prelude.{◌≡◌, ◌≢◌, ◌⊎◌, ◌+◌, ◌-◌, ◌*◌, ◌^◌, ◌&&◌, ℕ, Bool, false, List, [], ◌∷◌, Option, Some, None, if◌then◌else◌, nat_lt, codes, option_and_then}
 use Rattle.std.specs.Char.{is_ascii_digit}
 use Rattle.std.specs.Str.{bytes_eq}
 use Rattle.clap.specs.Words.{Row, Text, IsAmong, fault_of, first_of, subcommand_of, takes}
 use Rattle.clap.specs.declared.error.ErrorKind.{ErrorKind}
-use Rattle.clap.specs.declared.error.ErrorKind.TheVariants.{DisplayHelp}
+use Rattle.clap.specs.declared.error.ErrorKind.TheVariants.{DisplayHelp, DisplayVersion}
 use Rattle.jnode.specs.declared.order.Endian.{Endian}
 use Rattle.jnode.specs.declared.order.Endian.TheVariants.{Little, Big}
 use Rattle.jcommand.specs.Commands.{program}
@@ -102,13 +102,21 @@ asked_for words = asked_by (subcommand_of program words)
 unfoldable pub is_taken : List Text → Bool
 is_taken words = takes program words
 
--- clap answers the words by help
+-- clap has nothing against the words, and does not answer them by help
+unfoldable pub IsFaultless : List Text → Type 0
+IsFaultless words = fault_of program words ≡ []
+
+-- clap answers by what it knows of the program
+abbrev pub IsHelpKind : ErrorKind → Type 0
+IsHelpKind kind = (kind ≡ DisplayHelp) ⊎ (kind ≡ DisplayVersion)
+
+-- clap answers the words by help, or by the version
 unfoldable pub IsHelpAsked : List Text → Type 0
-IsHelpAsked words = IsAmong DisplayHelp (fault_of program words)
+IsHelpAsked words = (kind : ErrorKind) × IsHelpKind kind × IsAmong kind (fault_of program words)
 
 -- clap refuses the words for another reason
 unfoldable pub IsRefused : List Text → Type 0
-IsRefused words = (kind : ErrorKind) × (kind ≢ DisplayHelp) × IsAmong kind (fault_of program words)
+IsRefused words = (kind : ErrorKind) × (kind ≢ DisplayHelp) × (kind ≢ DisplayVersion) × IsAmong kind (fault_of program words)
 
 -- clap has nothing against the words, but a value can't be read
 unfoldable pub IsUnreadable : List Text → Type 0

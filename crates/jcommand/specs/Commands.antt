@@ -35,9 +35,9 @@ ls_app = with_rule (plain (codes "ls")) (word (codes "IMAGE"))
 abbrev pub cat_app : App
 cat_app = with_rule (with_rule (plain (codes "cat")) (word (codes "IMAGE"))) (word (codes "PATH"))
 
--- the program without its subcommands, of which one has to be named
+-- the program without its subcommands, of which one has to be named; it tells its version
 abbrev pub bare : App
-bare = let app = new_app (codes "jffs2_image") in record app { top = record app.top { subcommand_required = true } }
+bare = let app = new_app (codes "jffs2_image") in record app { top = record app.top { has_version = true; subcommand_required = true } }
 
 unfoldable pub program : App
 program = with_subcommand (with_subcommand (with_subcommand bare check_app.top) ls_app.top) cat_app.top

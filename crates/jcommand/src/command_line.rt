@@ -2,7 +2,7 @@
 ghost use Rattle.std.specs.Prelude.{◌≡◌, ◌≢◌, ◌⊎◌, [], true, map, IfOk, IfErr, IsSome, OnOk, Some, option_map};
 ghost use Rattle.clap.specs.Words.{HasKind, fault_of, kind_of, subcommand_of, subcommand_rows_of, takes};
 ghost use Rattle.jcommand.specs.Commands.{program};
-ghost use Rattle.jcommand.specs.Asked.{view, asked_by, asked_for, is_taken, IsHelpAsked, IsRefused, IsUnreadable};
+ghost use Rattle.jcommand.specs.Asked.{view, asked_by, asked_for, is_taken, IsFaultless, IsHelpAsked, IsHelpKind, IsRefused, IsUnreadable};
 ghost use Rattle.jcommand.specs.Refused.{IsHelp, IsUsage};
 ghost use Rattle.jcommand.specs.declared.command_line.RequestFault.TheVariants.{OutOfMemory};
 
@@ -15,7 +15,7 @@ use std::alloc::{AllocError, Global};
 /// Why a command line makes no request. Each text ends with one line feed.
 #[derive(Drop)]
 pub enum RequestFault {
-    /// It asks for help.
+    /// It asks for help, or for the version.
     Help { text: String },
     /// It is wrong.
     Usage { text: String },
@@ -43,15 +43,16 @@ fn usage(text: Result<String, AllocError>) -> RequestFault
 /// The fault that clap's error is.
 fn fault_of_error(alloc: Global, error: &Error) -> RequestFault
     ensures memory { kind_of error.now ≡ ErrorKind.OutOfMemory → result ≡ RequestFault.OutOfMemory }
-    ensures help { IsHelp result → kind_of error.now ≡ ErrorKind.DisplayHelp }
-    ensures usage { IsUsage result → (kind_of error.now ≢ ErrorKind.DisplayHelp) × (kind_of error.now ≢ ErrorKind.OutOfMemory) }
+    ensures help { IsHelp result → IsHelpKind (kind_of error.now) }
+    ensures usage { IsUsage result → (kind_of error.now ≢ ErrorKind.DisplayHelp) × (kind_of error.now ≢ ErrorKind.DisplayVersion)
+        × (kind_of error.now ≢ ErrorKind.OutOfMemory) }
 {
     let text = match error.kind() {
         ErrorKind::OutOfMemory => return RequestFault::OutOfMemory,
         _ => format!(in alloc; "{error}"),
     };
     match error.kind() {
-        ErrorKind::DisplayHelp => match text {
+        ErrorKind::DisplayHelp | ErrorKind::DisplayVersion => match text {
             Ok(text) => RequestFault::Help { text },
             Err(AllocError) => RequestFault::OutOfMemory,
         },
@@ -103,16 +104,19 @@ fn unreadable(alloc: Global, matches: &ArgMatches<'_>) -> Result<String, AllocEr
 }
 
 /// What the words of a command line ask for. The first word is the program's own name.
-#[tactic(auto, unfolding(crate::specs::Asked::asked_for, crate::specs::Asked::is_taken, crate::specs::Asked::IsUnreadable))]
+#[tactic(auto, unfolding(crate::specs::Asked::asked_for, crate::specs::Asked::is_taken, crate::specs::Asked::IsFaultless, crate::specs::Asked::IsUnreadable))]
 pub fn request<'a>(alloc: Global, words: &'a [&'a str]) -> Result<Request<'a>, RequestFault>
     // The subcommand and its values are clap's own function of the words.
     ensures ok { IfOk result (λ r. asked_for (map (λ w. w.now) words.entry.now) ≡ Some (view r)) }
+
+    // Words that clap refuses, or answers by help, ask for nothing.
+    ensures faultless { OnOk result (IsFaultless (map (λ w. w.now) words.entry.now)) }
 
     // Where clap takes the words and every value can be read, only memory can be wanting.
     ensures only { is_taken (map (λ w. w.now) words.entry.now) ≡ true → IsSome (asked_for (map (λ w. w.now) words.entry.now))
         → IfErr result (λ e. e ≡ RequestFault.OutOfMemory) }
 
-    // Help comes only where clap answers the words by help.
+    // Help comes only where clap answers the words by help, or by the version.
     ensures help { IfErr result (λ e. IsHelp e → IsHelpAsked (map (λ w. w.now) words.entry.now)) }
 
     // A command line is wrong only where clap refuses the words, or takes them and a value can't be read.

@@ -6,6 +6,8 @@ ghost use Rattle.jcommand.specs.Commands.{IsApp, IsRule, MakesApp, word, option_
 use clap::{Arg, ArgAction, Command};
 use std::alloc::{AllocError, Global};
 
+const VERSION: &str = "0.1.0";
+
 const PROGRAM: &str = "\
 Looks into flash images of JFFS2, a file system that is a log of nodes";
 
@@ -35,7 +37,15 @@ Exit status:
   0  done, and nothing was found
   1  a fault, which standard error names
   2  the command line is wrong
-  3  check found something";
+  3  check found something
+
+A fault is one line, as 'jffs2_image: M6 RootKind'. Its letter says what gave up: C the
+report, L reading the image, M the mount, P the program. The manual page jffs2_image.1
+tells what each fault may mean and what to do.
+
+The image does not tell its block size or byte order. With a wrong --block, a wrong
+--endian or a damaged image, ls and cat may show less than the flash holds, or zeros; a
+note on standard error then counts what check --scan finds.";
 
 const CHECK_EPILOGUE: &str = "\
 For each block it prints 'block' and its number, and then a line for each node and for
@@ -205,7 +215,9 @@ fn make_cat<'a>(alloc: Global) -> Made<'a>
 fn make_bare<'a>(alloc: Global) -> Command<'a>
     ensures { IsApp result bare }
 {
-    make_named(alloc, "jffs2_image", PROGRAM, EPILOGUE).subcommand_required(true)
+    make_named(alloc, "jffs2_image", PROGRAM, EPILOGUE)
+        .version(VERSION)
+        .subcommand_required(true)
 }
 
 /// The program's command line.

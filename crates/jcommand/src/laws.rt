@@ -1,7 +1,7 @@
 //! Worked rows of the definitions that the contracts cite.
 ghost use Rattle.std.specs.Prelude.{◌≡◌, [], ◌∷◌, Some, None, codes};
 ghost use Rattle.clap.specs.Words.{fault_of};
-ghost use Rattle.clap.specs.declared.error.ErrorKind.TheVariants.{DisplayHelp, MissingSubcommand, MissingRequiredArgument, UnknownArgument};
+ghost use Rattle.clap.specs.declared.error.ErrorKind.TheVariants.{DisplayHelp, DisplayVersion, MissingSubcommand, MissingRequiredArgument, UnknownArgument};
 ghost use Rattle.jnode.specs.declared.order.Endian.TheVariants.{Little, Big};
 ghost use Rattle.jcommand.specs.Asked.{ScanAsked, CheckAsked, TreeAsked, ContentAsked, asked_for, endian_of, number_of};
 ghost use Rattle.jcommand.specs.Commands.{program};
@@ -34,6 +34,7 @@ pub fn known_requests()
 /// Words that ask for nothing.
 pub fn known_refusals()
     ensures help { fault_of program (codes "jffs2_image" ∷ codes "check" ∷ codes "--help" ∷ []) ≡ DisplayHelp ∷ [] }
+    ensures version { fault_of program (codes "jffs2_image" ∷ codes "--version" ∷ []) ≡ DisplayVersion ∷ [] }
     ensures no_words { fault_of program [] ≡ MissingSubcommand ∷ [] }
     ensures no_image { fault_of program (codes "jffs2_image" ∷ codes "ls" ∷ []) ≡ MissingRequiredArgument ∷ [] }
     ensures not_of_ls { fault_of program (codes "jffs2_image" ∷ codes "ls" ∷ codes "--scan" ∷ codes "a" ∷ []) ≡ UnknownArgument ∷ [] }

@@ -109,6 +109,7 @@ fn words_that_are_wrong(rt: HostRuntime) -> Result<(), Fail> {
         ("t check --scan", "<IMAGE>"),
         ("t check --scan a b", "'b'"),
         ("t check --scan --scan a", "--scan"),
+        ("t check --version a", "--version"),
         ("t check --scan --blocks 2 a", "--blocks"),
         ("t check --scan a --block", "--block <N>"),
         ("t check --scan --block= a", "'' for '--block <N>'"),
@@ -166,6 +167,8 @@ fn words_that_ask_for_help(rt: HostRuntime) -> Result<(), Fail> {
         ("t --help", "Usage: t <COMMAND>"),
         ("t -h", "Usage: t <COMMAND>"),
         ("t help", "Usage: t <COMMAND>"),
+        ("t --help", "-V, --version"),
+        ("t --help", "The manual page jffs2_image.1"),
         ("t check --help", "Usage: t check [OPTIONS] <IMAGE>"),
         ("t check -h", "Usage: t check [OPTIONS] <IMAGE>"),
         ("t help check", "Usage: t check [OPTIONS] <IMAGE>"),
@@ -179,6 +182,15 @@ fn words_that_ask_for_help(rt: HostRuntime) -> Result<(), Fail> {
             is_text(answer.as_str(), "help ", [part, "Exit status:"]),
             "{line}"
         );
+    }
+    Ok(())
+}
+
+#[test]
+fn words_that_ask_for_the_version(rt: HostRuntime) -> Result<(), Fail> {
+    for line in ["t --version", "t -V", "t --version ls"] {
+        let answer = answer_to(rt.alloc(), line)?;
+        assert_eq!(rt; answer.as_str(), "help jffs2_image 0.1.0\n", "{line}");
     }
     Ok(())
 }

@@ -3,9 +3,9 @@ use Rattle.clap.specs.Words.{App, HasKind, IsAmong, Kinds, fault_of, is_simple, 
 use Rattle.clap.specs.Faults.{is_simple_and_free}
 use Rattle.clap.specs.declared.error.Error.{Error}
 use Rattle.clap.specs.declared.error.ErrorKind.{ErrorKind}
-use Rattle.clap.specs.declared.error.ErrorKind.TheVariants.{DisplayHelp, OutOfMemory}
+use Rattle.clap.specs.declared.error.ErrorKind.TheVariants.{OutOfMemory}
 use Rattle.clap.proofs.OnLiterals.{clap_on_literals}
-use Rattle.jcommand.specs.Asked.{IsHelpAsked, IsRefused}
+use Rattle.jcommand.specs.Asked.{IsHelpAsked, IsHelpKind, IsRefused}
 use Rattle.jcommand.specs.Commands.{program}
 use Rattle.jcommand.proofs.command_line.matched.Goals as goal
 
@@ -22,8 +22,9 @@ kind_among : (kinds : Kinds) (e : Error) → HasKind kinds e → kind_of e ≢ O
 kind_among kinds e (inl memory) other = absurd (other memory)
 kind_among kinds e (inr among) other = among
 
-help_among : (kinds : Kinds) (e : Error) → HasKind kinds e → kind_of e ≡ DisplayHelp → IsAmong DisplayHelp kinds
-help_among kinds e has is = subst (λ (k : ErrorKind). IsAmong k kinds) is (kind_among kinds e has (λ memory. cc))
+help_is_no_memory : {kind : ErrorKind} → IsHelpKind kind → kind ≢ OutOfMemory
+help_is_no_memory (inl is) = λ memory. cc
+help_is_no_memory (inr is) = λ memory. cc
 
 pub returns-in-Ok-clause-ok : goal.returns-in-Ok-clause-ok
 returns-in-Ok-clause-ok c =
@@ -48,8 +49,12 @@ returns-in-Err-clause-help c = λ help.
     let app = c.in_ok-command.ensures.app in
     let kinds = c.in-Err.ensures.kinds (ap is_simple_and_free app ∙ is_free_program) in
     let words = map (λ w. w.now) c.args.words.now in
-    subst (λ (a : App). IsAmong DisplayHelp (fault_of a words)) app
-    (help_among _ c.in-Err.error kinds (c.fault_of_error.ensures.help help))
+    let is = c.fault_of_error.ensures.help help in (
+      kind_of c.in-Err.error,
+      is,
+      subst (λ (a : App). IsAmong (kind_of c.in-Err.error) (fault_of a words)) app
+          (kind_among _ c.in-Err.error kinds (help_is_no_memory is)),
+    )
 
 pub returns-in-Err-clause-usage : goal.returns-in-Err-clause-usage
 unfolding IsRefused
@@ -60,6 +65,7 @@ returns-in-Err-clause-usage c = λ usage.
     let other = c.fault_of_error.ensures.usage usage in (
       kind_of c.in-Err.error,
       other.0,
+      other.1,
       subst (λ (a : App). IsAmong (kind_of c.in-Err.error) (fault_of a words)) app
-          (kind_among _ c.in-Err.error kinds other.1),
+          (kind_among _ c.in-Err.error kinds other.2),
     )

@@ -8,6 +8,10 @@ pub returns-clause-help : goal.returns-clause-help
 unfolding clap_on_literals program asked asked_for
 returns-clause-help c = refl
 
+pub returns-clause-version : goal.returns-clause-version
+unfolding clap_on_literals program asked asked_for
+returns-clause-version c = refl
+
 pub returns-clause-no_words : goal.returns-clause-no_words
 unfolding clap_on_literals program asked asked_for
 returns-clause-no_words c = refl
