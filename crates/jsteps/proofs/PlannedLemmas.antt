@@ -219,11 +219,6 @@ symlink_made page x time path link uid gid =
 pub given_as : (r : Result (Vec Step Global) OpFault) (p q : Result (List Step) OpFault) → Gives r p → q ≡ p → Gives r q
 given_as r p q g e = subst (Gives r) (sym e) g
 
-pub made_at : (x : Indexed) (time kind mode uid gid : ℕ) (path path_2 target target_2 : List ℕ) (link link_2 : Bool) → path ≡ path_2 → target ≡ target_2 → link ≡ link_2
-    → made_plan x time path kind mode uid gid target link ≡ made_plan x time path_2 kind mode uid gid target_2 link_2
-made_at x time kind mode uid gid path path_2 target target_2 link link_2 e f g =
-    ap (λ p. made_plan x time p kind mode uid gid target link) e ∙ ap (λ t. made_plan x time path_2 kind mode uid gid t link) f ∙ ap (λ b. made_plan x time path_2 kind mode uid gid target_2 b) g
-
 -- ---- another name
 
 next_of : (b : Bool) (o : Option ℕ) (t : ℕ) → (b ≡ true → t ≡ unwrap_or o 0) → nat_lt 0xFFFFFFFF (unwrap_or (cond b (Some (t + 1)) o) 0 + 1) ≡ nat_lt 0xFFFFFFFF (unwrap_or o 0 + cond b 2 1)

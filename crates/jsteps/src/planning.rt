@@ -1,4 +1,4 @@
-// The steps of an operation.
+//! The steps of an operation.
 
 ghost use Rattle.std.specs.Prelude.{◌≡◌, ◌==◌, ◌||◌, ◌&&◌, ◌≤◌, ◌+◌, ℕ, nat_lt, length, [], ◌∷◌, IfOk, IfErr, Ok, Err, ◌≢◌};
 ghost use Rattle.std.specs.List.{list_any};
@@ -300,8 +300,69 @@ fn is_full(index: &Index, directory: u32) -> bool
     next > u32::MAX as u64 || u64::from(directory) != next && is_spent(index, directory, 1)
 }
 
-/// The steps of an operation, page by page of this length.
-pub(crate) fn plan_paged<'a>(
+/// A new directory.
+fn mkdir<'a>(
+    alloc: Global,
+    index: &Index,
+    time: u32,
+    path: &'a [u8],
+    mode: u32,
+    uid: u16,
+    gid: u16,
+) -> Result<Vec<Step<'a>>, OpFault>
+    ensures { (page : ℕ) → Gives result (planned_by page index.now (op.Mkdir time path.now mode uid gid)) }
+{
+    let target = b"".as_slice();
+    make(
+        alloc, index, time, path, 0o040000, mode, uid, gid, target, false,
+    )
+}
+
+/// A new file.
+fn create<'a>(
+    alloc: Global,
+    index: &Index,
+    time: u32,
+    path: &'a [u8],
+    mode: u32,
+    uid: u16,
+    gid: u16,
+) -> Result<Vec<Step<'a>>, OpFault>
+    ensures { (page : ℕ) → Gives result (planned_by page index.now (op.Create time path.now mode uid gid)) }
+{
+    let target = b"".as_slice();
+    make(
+        alloc, index, time, path, 0o100000, mode, uid, gid, target, false,
+    )
+}
+
+/// Whether a symlink may not have this target.
+fn is_bad_target(target: &[u8]) -> bool
+    ensures { result ≡ ((length target.now == 0) || nat_lt 4095 (length target.now) || list_any (λ b. b == 0) target.now) }
+{
+    target.is_empty() || target.len() > 4095 || target.contains(&0)
+}
+
+/// A new symlink.
+fn symlink<'a>(
+    alloc: Global,
+    index: &Index,
+    time: u32,
+    path: &'a [u8],
+    target: &'a [u8],
+    uid: u16,
+    gid: u16,
+) -> Result<Vec<Step<'a>>, OpFault>
+    ensures { (page : ℕ) → Gives result (planned_by page index.now (op.Symlink time path.now target.now uid gid)) }
+{
+    let is_bad = is_bad_target(target);
+    make(
+        alloc, index, time, path, 0o120000, 0o777, uid, gid, target, is_bad,
+    )
+}
+
+/// The steps of an operation, or why it is refused, page by page of this length.
+fn plan_paged<'a>(
     alloc: Global,
     page: u32,
     index: &Index,
@@ -317,57 +378,29 @@ pub(crate) fn plan_paged<'a>(
             mode,
             uid,
             gid,
-        } => make(
-            alloc,
-            index,
-            *time,
-            path.as_slice(),
-            0o040000,
-            *mode,
-            *uid,
-            *gid,
-            b"".as_slice(),
-            false,
-        ),
+        } => mkdir(alloc, index, *time, path.as_slice(), *mode, *uid, *gid),
         Op::Create {
             time,
             path,
             mode,
             uid,
             gid,
-        } => make(
-            alloc,
-            index,
-            *time,
-            path.as_slice(),
-            0o100000,
-            *mode,
-            *uid,
-            *gid,
-            b"".as_slice(),
-            false,
-        ),
+        } => create(alloc, index, *time, path.as_slice(), *mode, *uid, *gid),
         Op::Symlink {
             time,
             path,
             target,
             uid,
             gid,
-        } => {
-            let target = target.as_slice();
-            make(
-                alloc,
-                index,
-                *time,
-                path.as_slice(),
-                0o120000,
-                0o777,
-                *uid,
-                *gid,
-                target,
-                is_bad_target(target),
-            )
-        }
+        } => symlink(
+            alloc,
+            index,
+            *time,
+            path.as_slice(),
+            target.as_slice(),
+            *uid,
+            *gid,
+        ),
         Op::Write {
             time,
             path,
@@ -389,13 +422,6 @@ pub(crate) fn plan_paged<'a>(
             rename(alloc, index, *time, old.as_slice(), new.as_slice())
         }
     }
-}
-
-/// Whether a symlink may not have this target.
-fn is_bad_target(target: &[u8]) -> bool
-    ensures { result ≡ ((length target.now == 0) || nat_lt 4095 (length target.now) || list_any (λ b. b == 0) target.now) }
-{
-    target.is_empty() || target.len() > 4095 || target.contains(&0)
 }
 
 /// The steps of an operation, or why it is refused. Each step is to be written as one node; bytes are cut where a page of
