@@ -11,4 +11,6 @@ mod lines;
 #[cfg(test)]
 mod plan_tests;
 #[cfg(test)]
+mod taking;
+#[cfg(test)]
 mod trees;

@@ -17,7 +17,7 @@ fn words(line: &str) -> (&str, &str, &str, &str) {
 }
 
 /// The operation of a line, at time 7 and for owners 5 and 6. A write has a count of bytes.
-fn op_of(line: &str) -> Option<Op<'_>> {
+pub fn op_of(line: &str) -> Option<Op<'_>> {
     let (verb, path, second, third) = words(line);
     let path = Text::lent(path.as_bytes());
     let text = Text::lent(second.as_bytes());
