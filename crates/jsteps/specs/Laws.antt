@@ -110,7 +110,7 @@ OpFits (op.Link time old new) = IsWord time
 OpFits (op.Remove time path) = IsWord time
 OpFits (op.Rename time old new) = IsWord time
 
--- steps of which each is ready and has room when its turn comes, and an index behind them that is consistent again
+-- steps of which each is ready and has room when its turn comes, and an index after them that is consistent again
 pub record AreReady (x : Indexed) (steps : List Step) : Type 0 where
   pub ready : AllReady x steps
   pub room : AllRoom x steps

@@ -207,7 +207,7 @@ fn link<'a>(
     Ok(one(alloc, set_name(time, directory, to.last, ino))?)
 }
 
-/// Whether no version is left for the new name, or behind it for the old one.
+/// Whether no version is left for the new name, or after it for the old one.
 fn are_spent(index: &Index, directory: u32, left: u32) -> bool
     ensures { result ≡ spent_by index.now directory left }
 {
