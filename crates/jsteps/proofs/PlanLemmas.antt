@@ -1,0 +1,234 @@
+-- The steps of a plan are ready one after the other, and their nodes can be written.
+use Rattle.std.proofs.Common.{◌≡◌, ℕ, ◌+◌, ◌<◌, ◌≤◌, Bool, true, false, cond, List, [], ◌∷◌, length, Option, Some, Result, Ok, Err, refl, ap, ◌∙◌, subst, arith}
+use Rattle.std.specs.Prelude.{◌&&◌, ◌||◌, is_some, is_ok, unwrap_or, option_map, nat_lt, ◌==◌}
+use Rattle.std.specs.List.{list_any, AllByRecursion}
+use Rattle.std.specs.Ordering.{eq_by_cmp, nat_cmp}
+use Rattle.std.specs.Cmp.{nat_cmp_total}
+use Rattle.std.specs.FinMap.{get, get-insert}
+use Rattle.std.proofs.lemmas.Bool.{or_parts, ltb-false, lt-ltb, true≢false, false≢true}
+use Rattle.flashbase.specs.Ranges.{IsHalf, IsWord}
+use Rattle.jmount.specs.Tree.{ObjectOf, object, directory_bits}
+use Rattle.jsteps.specs.Nodes.{Indexed, advanced}
+use Rattle.jsteps.specs.Planning.{IsPage, size_named, make_steps, steps_of}
+use Rattle.jsteps.specs.Refusals.{paths, is_bad, is_long, is_not_found, meets_nothing, meets_other, is_wrong_kind, is_too_large, is_bad_mode, is_bad_target, greatest_size, is_exhausted, refusals, unless_refused, planned_by}
+use Rattle.jsteps.specs.Where.{last_name, above, parent, ends_in_directory, number_of, object_named, is_missing, is_unnamed}
+use Rattle.jsteps.specs.Laws as law
+use Rattle.jsteps.specs.Laws.{IsConsistent, OpFits}
+use Rattle.jsteps.specs.declared.fault.OpFault.{OpFault}
+use Rattle.jsteps.specs.declared.op.Op.{Op}
+use Rattle.jsteps.specs.declared.op.Op.TheVariants as op
+use Rattle.jsteps.specs.declared.step.Step.{Step}
+use Rattle.jsteps.specs.declared.step.Step.TheVariants as step
+use Rattle.jsteps.proofs.IndexLemmas.{with_some}
+use Rattle.jsteps.proofs.ConsistentLemmas.{StepFits, root_below}
+use Rattle.jsteps.proofs.WhereLemmas.{HasLength, IsParent, IsTarget, last_name_length, bits_there, parent_is, target_is, not_missing}
+use Rattle.jsteps.proofs.TakenLemmas.{IsFine, Shaped, AllFine, AllTaken, AllFine-one, AllFine-two, all_taken, taken_ready, taken_room, taken_written, taken_keeps_all}
+use Rattle.jsteps.proofs.PutsLemmas.{HasSize, resize_fine, write_fine}
+
+-- ---- what is not refused
+
+one_not : {X : Type 0} (b : Bool) (f : OpFault) (rest : Result X OpFault) (steps : X) → cond b (Err f) rest ≡ Ok steps → (b ≡ false) × (rest ≡ Ok steps)
+one_not true f rest steps e = absurd (false≢true (ap is_ok e))
+one_not false f rest steps e = (refl, e)
+
+same_ok : {X : Type 0} (a b : X) → ◌≡◌ {A = Result X OpFault} (Ok a) (Ok b) → a ≡ b
+same_ok a b e = cc
+
+none_applies : {X : Type 0} (rs : List (Bool × OpFault)) (answer steps : X) → unless_refused rs answer ≡ Ok steps → AllByRecursion (λ r. r.0 ≡ false) rs × (answer ≡ steps)
+none_applies [] answer steps e = (tt, same_ok answer steps e)
+none_applies (r ∷ rs) answer steps e =
+    let here = one_not r.0 r.1 (unless_refused rs answer) steps e in
+    let rest = none_applies rs answer steps here.1 in
+    ((here.0, rest.0), rest.1)
+
+-- what is known of an operation that is planned
+pub record IsAccepted (page : ℕ) (x : Indexed) (o : Op) (steps : List Step) : Type 0 where
+  bad : list_any is_bad (paths o) ≡ false
+  long : list_any is_long (paths o) ≡ false
+  found : is_not_found x.tree o ≡ false
+  directory : list_any (λ path. meets_other x.tree (above x.tree path)) (paths o) ≡ false
+  kind : is_wrong_kind x.tree o ≡ false
+  pub large : is_too_large o ≡ false
+  mode : is_bad_mode o ≡ false
+  link : is_bad_target o ≡ false
+  room : is_exhausted page x o ≡ false
+  pub steps_are : steps_of page x.tree o ≡ steps
+
+pub accepted : (page : ℕ) (x : Indexed) (o : Op) (steps : List Step) → planned_by page x o ≡ Ok steps → IsAccepted page x o steps
+unfolding planned_by
+accepted page x o steps e =
+    let all = none_applies (refusals page x o) (steps_of page x.tree o) steps e in
+    let f = all.0 in
+    record {
+      bad = f.0;
+      long = f.1.0;
+      found = f.1.1.0;
+      directory = f.1.1.1.0;
+      kind = f.1.1.1.1.1.0;
+      large = f.1.1.1.1.1.1.1.1.0;
+      mode = f.1.1.1.1.1.1.1.1.1.0;
+      link = f.1.1.1.1.1.1.1.1.1.1.0;
+      room = f.1.1.1.1.1.1.1.1.1.1.1.0;
+      steps_are = all.1;
+    }
+
+one_false : (b : Bool) → (b || false) ≡ false → b ≡ false
+one_false b h = (or_parts b false h).0
+
+two_false : (a b : Bool) → (a || (b || false)) ≡ false → (a ≡ false) × (b ≡ false)
+two_false a b h = let parts = or_parts a (b || false) h in (parts.0, one_false b parts.1)
+
+three_false : (a b c : Bool) → (a || b || c) ≡ false → (a ≡ false) × (b ≡ false) × (c ≡ false)
+three_false true b c h = absurd (true≢false h)
+three_false false true c h = absurd (true≢false h)
+three_false false false c h = (refl, refl, h)
+
+-- ---- paths that lead somewhere
+
+record IsLed (x : Indexed) (path : List ℕ) : Type 0 where
+  name : HasLength (last_name path)
+  parent_there : IsParent x.tree (parent x.tree path)
+  ends : ends_in_directory x.tree (above x.tree path) ≡ true
+
+led : (x : Indexed) (path : List ℕ) → IsConsistent x → is_bad path ≡ false → is_long path ≡ false → meets_nothing (above x.tree path) ≡ false → meets_other x.tree (above x.tree path) ≡ false
+    → IsLed x path
+led x path same bad long found directory =
+    let above_it = parent_is x path same found directory in
+    record { name = last_name_length path bad long; parent_there = above_it.0; ends = above_it.1 }
+
+targeted : (x : Indexed) (path : List ℕ) → IsConsistent x → IsLed x path → is_missing x.tree path ≡ false → IsTarget x path
+targeted x path same is_led there = target_is x path same (not_missing x.tree path is_led.ends there)
+
+-- the size of what is named
+sized_target : (x : Indexed) (path : List ℕ) → IsTarget x path → HasSize x (number_of x.tree path) (size_named x.tree path) (size_named x.tree path)
+sized_target x path is =
+    with_some (object_named x.tree path) is.there
+    (λ o e.
+    let size : size_named x.tree path ≡ o.body = ap (λ ob. unwrap_or (option_map (λ (o : ObjectOf ℕ). o.body) ob) 0) e in
+    record { o = o; is = is.same ∙ e; least = omega arith; most = omega arith })
+
+size_is_word : (x : Indexed) (path : List ℕ) → IsConsistent x → IsTarget x path → size_named x.tree path ≤ 0xFFFFFFFF
+size_is_word x path same is =
+    let h = sized_target x path is in
+    let least : size_named x.tree path ≤ h.o.body = h.least in
+    let word : IsWord h.o.body = (same.fits (number_of x.tree path) h.o h.is).size in
+    omega arith
+
+-- ---- the steps of each operation
+
+set_fine : (page : ℕ) (x : Indexed) (time directory : ℕ) (name : List ℕ) (ino : ℕ) → IsWord time → 0 < directory → HasLength name → is_some (object x.tree directory) ≡ true → 0 < ino → ino < x.tree.next
+    → IsFine page x (step.SetName time directory name ino)
+unfolding Shaped StepFits
+set_fine page x time directory name ino now positive long there some below =
+    record { ready = record { defined = there; number = (some, below) }; fits = now; shaped = (positive, long); size = omega arith }
+
+clear_fine : (page : ℕ) (x : Indexed) (time directory : ℕ) (name : List ℕ) → IsWord time → 0 < directory → HasLength name → is_some (object x.tree directory) ≡ true
+    → IsFine page x (step.ClearName time directory name)
+unfolding Shaped StepFits
+clear_fine page x time directory name now positive long there =
+    record { ready = record { defined = there; number = tt }; fits = now; shaped = (positive, long); size = omega arith }
+
+still_some : {X : Type 0} (b : Bool) (v : X) (o : Option X) → is_some o ≡ true → is_some (cond b (Some v) o) ≡ true
+still_some true v o h = refl
+still_some false v o h = h
+
+make_fine : (page : ℕ) (x : Indexed) (time : ℕ) (path : List ℕ) (mode uid gid : ℕ) (bytes : List ℕ) → IsConsistent x → IsLed x path → IsWord time → IsWord mode → IsHalf uid → IsHalf gid → length bytes ≤ 4095
+    → AllFine page x (make_steps x.tree time path mode uid gid bytes)
+unfolding Shaped StepFits
+make_fine page x time path mode uid gid bytes same is_led now mode_fits uid_fits gid_fits short =
+    let make = step.MakeObject time mode uid gid bytes in
+    let o : ObjectOf ℕ = record { mode = mode; uid = uid; gid = gid; atime = time; mtime = time; ctime = time; body = length bytes } in
+    let root : 1 < x.tree.next = root_below x same in
+    let there : is_some (object x.tree (parent x.tree path)) ≡ true = bits_there directory_bits (object x.tree (parent x.tree path)) is_led.parent_there.there in
+    AllFine-two page x make (step.SetName time (parent x.tree path) (last_name path) x.tree.next)
+    (record { ready = record { defined = tt; number = tt }; fits = (now, mode_fits, uid_fits, gid_fits); shaped = short; size = omega arith })
+    (set_fine page (advanced x make) time (parent x.tree path) (last_name path) x.tree.next now is_led.parent_there.positive is_led.name
+    (ap is_some (get-insert nat_cmp_total x.tree.objects x.tree.next o (parent x.tree path))
+    ∙ still_some (eq_by_cmp nat_cmp (parent x.tree path) x.tree.next) o (get x.tree.objects (parent x.tree path)) there)
+    (omega arith) (omega arith))
+
+parent_some : (x : Indexed) (path : List ℕ) → IsLed x path → is_some (object x.tree (parent x.tree path)) ≡ true
+parent_some x path is_led = bits_there directory_bits (object x.tree (parent x.tree path)) is_led.parent_there.there
+
+all_fine : (page : ℕ) (x : Indexed) (o : Op) (steps : List Step) → IsPage page → IsConsistent x → OpFits o → IsAccepted page x o steps → AllFine page x (steps_of page x.tree o)
+all_fine page x (op.Mkdir time path mode uid gid) steps is_page same fits is =
+    let found = three_false (meets_nothing (above x.tree path) || false) false false is.found in
+    let is_led = led x path same (one_false (is_bad path) is.bad) (one_false (is_long path) is.long) (one_false (meets_nothing (above x.tree path)) found.0)
+    (one_false (meets_other x.tree (above x.tree path)) is.directory) in
+    let bits : mode ≤ 0o7777 = ltb-false 0o7777 mode is.mode in
+    make_fine page x time path (0o040000 + mode) uid gid [] same is_led fits.0 (omega arith) fits.1 fits.2 (omega arith)
+all_fine page x (op.Create time path mode uid gid) steps is_page same fits is =
+    let found = three_false (meets_nothing (above x.tree path) || false) false false is.found in
+    let is_led = led x path same (one_false (is_bad path) is.bad) (one_false (is_long path) is.long) (one_false (meets_nothing (above x.tree path)) found.0)
+    (one_false (meets_other x.tree (above x.tree path)) is.directory) in
+    let bits : mode ≤ 0o7777 = ltb-false 0o7777 mode is.mode in
+    make_fine page x time path (0o100000 + mode) uid gid [] same is_led fits.0 (omega arith) fits.1 fits.2 (omega arith)
+all_fine page x (op.Symlink time path link uid gid) steps is_page same fits is =
+    let found = three_false (meets_nothing (above x.tree path) || false) false false is.found in
+    let is_led = led x path same (one_false (is_bad path) is.bad) (one_false (is_long path) is.long) (one_false (meets_nothing (above x.tree path)) found.0)
+    (one_false (meets_other x.tree (above x.tree path)) is.directory) in
+    let parts = three_false (length link == 0) (nat_lt 4095 (length link)) (list_any (λ b. b == 0) link) is.link in
+    let short : length link ≤ 4095 = ltb-false 4095 (length link) parts.1 in
+    make_fine page x time path 0o120777 uid gid link same is_led fits.0 (omega arith) fits.1 fits.2 short
+all_fine page x (op.Write time path offset bytes) steps is_page same fits is =
+    let found = three_false (meets_nothing (above x.tree path) || false) (is_missing x.tree path || false) false is.found in
+    let is_led = led x path same (one_false (is_bad path) is.bad) (one_false (is_long path) is.long) (one_false (meets_nothing (above x.tree path)) found.0)
+    (one_false (meets_other x.tree (above x.tree path)) is.directory) in
+    let is_target = targeted x path same is_led (one_false (is_missing x.tree path) found.1) in
+    write_fine page x time (number_of x.tree path) (size_named x.tree path) offset bytes is_page fits is_target.positive (sized_target x path is_target) (size_is_word x path same is_target)
+    (λ some. ends_within (nat_lt 0 (length bytes)) (offset + length bytes) (lt-ltb 0 (length bytes) some) is.large)
+  where
+    ends_within : (b : Bool) (n : ℕ) → b ≡ true → (b && nat_lt greatest_size n) ≡ false → n ≤ 0xFFFFFFFF
+    ends_within true n e h = let least : n ≤ 2147483647 = ltb-false greatest_size n h in omega arith
+    ends_within false n e h = absurd (false≢true e)
+all_fine page x (op.Truncate time path size) steps is_page same fits is =
+    let found = three_false (meets_nothing (above x.tree path) || false) (is_missing x.tree path || false) false is.found in
+    let is_led = led x path same (one_false (is_bad path) is.bad) (one_false (is_long path) is.long) (one_false (meets_nothing (above x.tree path)) found.0)
+    (one_false (meets_other x.tree (above x.tree path)) is.directory) in
+    let is_target = targeted x path same is_led (one_false (is_missing x.tree path) found.1) in
+    let least : size ≤ 2147483647 = ltb-false greatest_size size is.large in
+    resize_fine page x time (number_of x.tree path) (size_named x.tree path) size fits is_target.positive (sized_target x path is_target) (size_is_word x path same is_target) (omega arith)
+all_fine page x (op.Link time old new) steps is_page same fits is =
+    let found = three_false (meets_nothing (above x.tree old) || (meets_nothing (above x.tree new) || false)) (is_missing x.tree old || false) false is.found in
+    let bad = two_false (is_bad old) (is_bad new) is.bad in
+    let long = two_false (is_long old) (is_long new) is.long in
+    let nothing = two_false (meets_nothing (above x.tree old)) (meets_nothing (above x.tree new)) found.0 in
+    let other = two_false (meets_other x.tree (above x.tree old)) (meets_other x.tree (above x.tree new)) is.directory in
+    let led_old = led x old same bad.0 long.0 nothing.0 other.0 in
+    let led_new = led x new same bad.1 long.1 nothing.1 other.1 in
+    let is_target = targeted x old same led_old (one_false (is_missing x.tree old) found.1) in
+    AllFine-one page x (step.SetName time (parent x.tree new) (last_name new) (number_of x.tree old))
+    (set_fine page x time (parent x.tree new) (last_name new) (number_of x.tree old) fits led_new.parent_there.positive led_new.name (parent_some x new led_new) is_target.positive is_target.below)
+all_fine page x (op.Remove time path) steps is_page same fits is =
+    let found = three_false (meets_nothing (above x.tree path) || false) false (is_unnamed x.tree path || false) is.found in
+    let is_led = led x path same (one_false (is_bad path) is.bad) (one_false (is_long path) is.long) (one_false (meets_nothing (above x.tree path)) found.0)
+    (one_false (meets_other x.tree (above x.tree path)) is.directory) in
+    AllFine-one page x (step.ClearName time (parent x.tree path) (last_name path))
+    (clear_fine page x time (parent x.tree path) (last_name path) fits is_led.parent_there.positive is_led.name (parent_some x path is_led))
+all_fine page x (op.Rename time old new) steps is_page same fits is =
+    let found = three_false (meets_nothing (above x.tree old) || (meets_nothing (above x.tree new) || false)) (is_missing x.tree old || false) false is.found in
+    let bad = two_false (is_bad old) (is_bad new) is.bad in
+    let long = two_false (is_long old) (is_long new) is.long in
+    let nothing = two_false (meets_nothing (above x.tree old)) (meets_nothing (above x.tree new)) found.0 in
+    let other = two_false (meets_other x.tree (above x.tree old)) (meets_other x.tree (above x.tree new)) is.directory in
+    let led_old = led x old same bad.0 long.0 nothing.0 other.0 in
+    let led_new = led x new same bad.1 long.1 nothing.1 other.1 in
+    let is_target = targeted x old same led_old (one_false (is_missing x.tree old) found.1) in
+    let set = step.SetName time (parent x.tree new) (last_name new) (number_of x.tree old) in
+    AllFine-two page x set (step.ClearName time (parent x.tree old) (last_name old))
+    (set_fine page x time (parent x.tree new) (last_name new) (number_of x.tree old) fits led_new.parent_there.positive led_new.name (parent_some x new led_new) is_target.positive is_target.below)
+    (clear_fine page (advanced x set) time (parent x.tree old) (last_name old) fits led_old.parent_there.positive led_old.name (parent_some x old led_old))
+
+pub planned_taken : (page : ℕ) (x : Indexed) (o : Op) (steps : List Step) → IsPage page → IsConsistent x → OpFits o → planned_by page x o ≡ Ok steps → AllTaken page x steps
+planned_taken page x o steps is_page same fits e =
+    let is = accepted page x o steps e in
+    subst (λ steps. AllTaken page x steps) is.steps_are
+    (all_taken page x (steps_of page x.tree o) is_page same (all_fine page x o steps is_page same fits is) is.room)
+
+pub planned_is_ready : law.PlannedIsReady
+planned_is_ready page x o steps is_page same fits e =
+    let taken = planned_taken page x o steps is_page same fits e in
+    record { ready = taken_ready page x steps taken; room = taken_room page x steps taken; consistent = taken_keeps_all page x steps same taken }
+
+pub planned_is_writable : law.PlannedIsWritable
+planned_is_writable page e x o steps is_page same fits is = taken_written page e x steps (planned_taken page x o steps is_page same fits is)

@@ -1,0 +1,13 @@
+pub mod Text
+pub mod Steps
+pub mod Nodes
+pub mod Ready
+pub mod Where
+pub mod Planning
+pub mod Refusals
+pub mod Codes
+pub mod Held
+pub mod Laws
+pub mod Rows
+pub mod Site
+pub mod Tests

@@ -1,0 +1,79 @@
+-- The steps of an operation that is not refused.
+use Rattle.std.specs.Prelude.{ℕ, ◌+◌, ◌-◌, ◌*◌, ◌/◌, ◌==◌, ◌≤◌, max, min, nat_lt, List, [], ◌∷◌, ◌++◌, length, take, drop, slice_range, flat_map, option_map, unwrap_or, if◌then◌else◌}
+use Rattle.flashbase.specs.Lists.{below}
+use Rattle.jmount.specs.Tree.{Outline}
+use Rattle.jsteps.specs.Where.{parent, last_name, number_of, object_named}
+use Rattle.jsteps.specs.declared.op.Op.{Op}
+use Rattle.jsteps.specs.declared.op.Op.TheVariants as op
+use Rattle.jsteps.specs.declared.step.Step.{Step}
+use Rattle.jsteps.specs.declared.step.Step.TheVariants as step
+
+-- the page of a plain plan: the bytes of one Put lie in one page of the file
+abbrev pub plain_page : ℕ
+plain_page = 4096
+
+-- the pages that plans may have
+pub record IsPage (page : ℕ) : Type 0 where
+  pub least : 4096 ≤ page
+  pub most : page ≤ 16384
+
+-- the length of a piece whose node is 0x1985 bytes long, so that its length spells the magic of a header
+abbrev pub spelling_len : ℕ
+spelling_len = 0x1985 - 68
+
+-- The Puts of a piece that lies in one page: one, but two for a piece of that length.
+abbrev pub piece_puts : ℕ → ℕ → ℕ → List ℕ → List Step
+piece_puts time ino start piece =
+    if length piece == spelling_len
+    then step.Put time ino start (take plain_page piece) ∷ step.Put time ino (start + plain_page) (drop plain_page piece) ∷ []
+    else step.Put time ino start piece ∷ []
+
+-- those of the bytes of a write that lie in the n-th page of the file
+abbrev pub page_puts : ℕ → ℕ → ℕ → ℕ → List ℕ → ℕ → List Step
+page_puts page time ino offset bytes n =
+    let start = max offset (n * page) in
+    piece_puts time ino start (slice_range bytes (start - offset) (min (offset + length bytes) ((n + 1) * page) - offset))
+
+-- and of each page that the bytes meet, in order
+abbrev pub puts : ℕ → ℕ → ℕ → ℕ → List ℕ → List Step
+puts page time ino offset bytes =
+    let first = offset / page in
+    flat_map (λ n. page_puts page time ino offset bytes (first + n)) (below ((offset + length bytes + page - 1) / page - first))
+
+-- zeros up to a size that is past the end
+abbrev pub zeros_to : ℕ → ℕ → ℕ → ℕ → List Step
+zeros_to time ino old new = if nat_lt old new then step.Zero time ino (new - old) ∷ [] else []
+
+-- bytes at an offset of a file of this size: none of no bytes
+abbrev pub write_steps : ℕ → ℕ → ℕ → ℕ → ℕ → List ℕ → List Step
+write_steps page time ino size offset [] = []
+write_steps page time ino size offset (b ∷ bytes) = zeros_to time ino size offset ++ puts page time ino offset (b ∷ bytes)
+
+-- another size of a file of this size
+abbrev pub resize_steps : ℕ → ℕ → ℕ → ℕ → List Step
+resize_steps time ino old new = if nat_lt new old then step.Cut time ino new ∷ [] else zeros_to time ino old new
+
+-- the size of what a path names
+abbrev pub size_named : Outline → List ℕ → ℕ
+size_named t path = unwrap_or (option_map (λ o. o.body) (object_named t path)) 0
+
+-- a new object and its name
+abbrev pub make_steps : Outline → ℕ → List ℕ → ℕ → ℕ → ℕ → List ℕ → List Step
+make_steps t time path mode uid gid bytes =
+    step.MakeObject time mode uid gid bytes ∷ step.SetName time (parent t path) (last_name path) t.next ∷ []
+
+-- the steps of an operation under a page
+abbrev pub steps_of : ℕ → Outline → Op → List Step
+steps_of page t (op.Mkdir time path mode uid gid) = make_steps t time path (0o040000 + mode) uid gid []
+steps_of page t (op.Create time path mode uid gid) = make_steps t time path (0o100000 + mode) uid gid []
+steps_of page t (op.Symlink time path link uid gid) = make_steps t time path 0o120777 uid gid link
+steps_of page t (op.Write time path offset bytes) = write_steps page time (number_of t path) (size_named t path) offset bytes
+steps_of page t (op.Truncate time path size) = resize_steps time (number_of t path) (size_named t path) size
+steps_of page t (op.Link time old new) = step.SetName time (parent t new) (last_name new) (number_of t old) ∷ []
+steps_of page t (op.Remove time path) = step.ClearName time (parent t path) (last_name path) ∷ []
+steps_of page t (op.Rename time old new) =
+    step.SetName time (parent t new) (last_name new) (number_of t old) ∷ step.ClearName time (parent t old) (last_name old) ∷ []
+
+-- No plan has more: two for each 4,096 bytes up to the greatest size of a file, and zeros.
+abbrev pub most_steps : ℕ
+most_steps = 1048577

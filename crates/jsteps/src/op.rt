@@ -1,0 +1,99 @@
+//! What may be done to a file system.
+
+ghost use Rattle.jsteps.specs.Laws.{OpFits};
+
+use crate::text::Text;
+
+/// An operation, with its time in seconds. Paths are bytes that begin with a slash and name what they lead to from the root
+/// on; `mode` has the permission bits alone, at most 0o7777; `uid` and `gid` own the new object.
+#[derive(Drop)]
+pub enum Op<'a> {
+    /// A new directory.
+    Mkdir {
+        time: u32,
+        path: Text<'a>,
+        mode: u32,
+        uid: u16,
+        gid: u16,
+    },
+    /// A new regular file without bytes.
+    Create {
+        time: u32,
+        path: Text<'a>,
+        mode: u32,
+        uid: u16,
+        gid: u16,
+    },
+    /// A new symlink to a target of 1 to 4,095 bytes, none of them zero.
+    Symlink {
+        time: u32,
+        path: Text<'a>,
+        target: Text<'a>,
+        uid: u16,
+        gid: u16,
+    },
+    /// Bytes of a regular file, from `offset` on; zeros fill what lies between its end and there. No bytes change nothing.
+    Write {
+        time: u32,
+        path: Text<'a>,
+        offset: u32,
+        bytes: Text<'a>,
+    },
+    /// A regular file gets this size: cut, or continued by zeros.
+    Truncate {
+        time: u32,
+        path: Text<'a>,
+        size: u32,
+    },
+    /// A further name for what `old` names, which is no directory.
+    Link {
+        time: u32,
+        old: Text<'a>,
+        new: Text<'a>,
+    },
+    /// A name is taken away, that of a directory only where it has no names. The object stays, whatever else names it.
+    Remove {
+        time: u32,
+        path: Text<'a>,
+    },
+    /// The new name, then without the old one. It never replaces what is there.
+    Rename {
+        time: u32,
+        old: Text<'a>,
+        new: Text<'a>,
+    },
+}
+
+impl Op<'_> {
+    /// The time and the owners have the widths of their types, which a caller's contract may want to know.
+    pub fn known(&self)
+        ensures { OpFits self.now }
+    {
+        match self {
+            Op::Mkdir { time, uid, gid, .. } => {
+                let _known = (*time, *uid, *gid);
+            }
+            Op::Create { time, uid, gid, .. } => {
+                let _known = (*time, *uid, *gid);
+            }
+            Op::Symlink { time, uid, gid, .. } => {
+                let _known = (*time, *uid, *gid);
+            }
+            Op::Write { time, .. } => {
+                let _known = *time;
+            }
+            Op::Truncate { time, .. } => {
+                let _known = *time;
+            }
+            Op::Link { time, .. } => {
+                let _known = *time;
+            }
+            Op::Remove { time, .. } => {
+                let _known = *time;
+            }
+            Op::Rename { time, .. } => {
+                let _known = *time;
+            }
+        }
+    }
+}

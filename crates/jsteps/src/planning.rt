@@ -1,0 +1,438 @@
+//! The steps of an operation.
+
+ghost use Rattle.std.specs.Prelude.{◌≡◌, ◌==◌, ◌||◌, ◌&&◌, ◌≤◌, ◌+◌, ℕ, nat_lt, length, [], ◌∷◌, IfOk, IfErr, Ok, Err, ◌≢◌};
+ghost use Rattle.std.specs.List.{list_any};
+ghost use Rattle.jmount.specs.Shown.{top_at};
+ghost use Rattle.jsteps.specs.Planning.{IsPage, most_steps};
+ghost use Rattle.jsteps.specs.Refusals.{planned, planned_by, greatest_size};
+ghost use Rattle.jsteps.specs.Tests.{Gives, made_plan, full_by, spent_by, into_itself_at};
+ghost use Rattle.jsteps.specs.declared.fault.OpFault.TheVariants as refused;
+ghost use Rattle.jsteps.specs.declared.op.Op.TheVariants as op;
+ghost use Rattle.jsteps.specs.declared.step.Step.TheVariants as step;
+
+use crate::fault::OpFault;
+use crate::held::DIRECTORY;
+use crate::index::Index;
+use crate::op::Op;
+use crate::puts::{PLAIN_PAGE, push_resize, push_write};
+use crate::refusal::{tests_of_file, tests_of_name, tests_of_new, tests_of_removed};
+use crate::site::{end_of, look_up, meets_above};
+use crate::step::Step;
+use flashbase::Part;
+use std::alloc::{AllocError, Global};
+
+/// The greatest size of a file.
+const GREATEST: u32 = 2147483647;
+
+/// All permission bits.
+const PERMISSIONS: u32 = 0o7777;
+
+/// Whether a number has fewer versions left than these.
+fn is_spent(index: &Index, ino: u32, count: usize) -> bool
+    ensures { result ≡ nat_lt 0xFFFFFFFF (top_at index.now.tops ino + count) }
+{
+    is_past(index.top(ino), count)
+}
+
+/// Whether so many versions more are more than 32 bits hold.
+fn is_past(highest: u32, count: usize) -> bool
+    ensures { result ≡ nat_lt 0xFFFFFFFF (highest + count) }
+{
+    count > (u32::MAX - highest) as usize
+}
+
+fn set_name<'a>(time: u32, directory: u32, name: &'a [u8], ino: u32) -> Step<'a>
+    ensures { result ≡ step.SetName time directory name.now ino }
+{
+    Step::SetName {
+        time,
+        directory,
+        name: Part::new(name, 0),
+        ino,
+    }
+}
+
+fn clear_name<'a>(time: u32, directory: u32, name: &'a [u8]) -> Step<'a>
+    ensures { result ≡ step.ClearName time directory name.now }
+{
+    Step::ClearName {
+        time,
+        directory,
+        name: Part::new(name, 0),
+    }
+}
+
+fn make_object<'a>(time: u32, mode: u32, uid: u16, gid: u16, target: &'a [u8]) -> Step<'a>
+    ensures { result ≡ step.MakeObject time mode uid gid target.now }
+{
+    Step::MakeObject {
+        time,
+        mode,
+        uid,
+        gid,
+        target: Part::new(target, 0),
+    }
+}
+
+/// A step alone.
+fn one<'a>(alloc: Global, alone: Step<'a>) -> Result<Vec<Step<'a>>, AllocError>
+    ensures { IfOk result (λ steps. steps.items ≡ alone.entry ∷ []) }
+{
+    let mut steps = Vec::with_capacity(alloc, 1)?;
+    steps.push(alone)?;
+    Ok(steps)
+}
+
+/// Two steps.
+fn two<'a>(alloc: Global, first: Step<'a>, then: Step<'a>) -> Result<Vec<Step<'a>>, AllocError>
+    ensures { IfOk result (λ steps. steps.items ≡ first.entry ∷ then.entry ∷ []) }
+{
+    let mut steps = Vec::with_capacity(alloc, 2)?;
+    steps.push(first)?;
+    steps.push(then)?;
+    Ok(steps)
+}
+
+/// A name is removed.
+fn remove<'a>(
+    alloc: Global,
+    index: &Index,
+    time: u32,
+    path: &'a [u8],
+) -> Result<Vec<Step<'a>>, OpFault>
+    ensures { (page : ℕ) → Gives result (planned_by page index.now (op.Remove time path.now)) }
+{
+    let Some(site) = look_up(alloc, index, path)? else {
+        return Err(OpFault::BadPath);
+    };
+    let directory = end_of(site.above);
+    if let Some(fault) = tests_of_removed(index, &site).first() {
+        return Err(fault);
+    }
+    if is_spent(index, directory, 1) {
+        return Err(OpFault::Exhausted);
+    }
+    Ok(one(alloc, clear_name(time, directory, site.last))?)
+}
+
+/// A regular file gets another size.
+fn truncate<'a>(
+    alloc: Global,
+    index: &Index,
+    time: u32,
+    path: &'a [u8],
+    size: u32,
+) -> Result<Vec<Step<'a>>, OpFault>
+    ensures { (page : ℕ) → Gives result (planned_by page index.now (op.Truncate time path.now size)) }
+{
+    let Some(site) = look_up(alloc, index, path)? else {
+        return Err(OpFault::BadPath);
+    };
+    let ino = site.number.unwrap_or(0);
+    let old = index.size(site.number);
+    let highest = index.top(ino);
+    if let Some(fault) = tests_of_file(index, &site, size > GREATEST).first() {
+        return Err(fault);
+    }
+    let mut steps = Vec::new(alloc);
+    push_resize(&mut steps, time, ino, old, size)?;
+    if is_past(highest, steps.len()) {
+        return Err(OpFault::Exhausted);
+    }
+    Ok(steps)
+}
+
+/// Whether bytes would end past the greatest size.
+fn is_too_large(offset: u32, bytes: &[u8]) -> bool
+    ensures { result ≡ (nat_lt 0 (length bytes.now) && nat_lt greatest_size (offset + length bytes.now)) }
+{
+    !bytes.is_empty() && offset as usize + bytes.len() > GREATEST as usize
+}
+
+/// Bytes of a regular file.
+fn write<'a>(
+    alloc: Global,
+    page: u32,
+    index: &Index,
+    time: u32,
+    path: &'a [u8],
+    offset: u32,
+    bytes: &'a [u8],
+) -> Result<Vec<Step<'a>>, OpFault>
+    requires { IsPage page }
+    ensures { Gives result (planned_by page index.now (op.Write time path.now offset bytes.now)) }
+{
+    let Some(site) = look_up(alloc, index, path)? else {
+        return Err(OpFault::BadPath);
+    };
+    let ino = site.number.unwrap_or(0);
+    let old = index.size(site.number);
+    let highest = index.top(ino);
+    if let Some(fault) = tests_of_file(index, &site, is_too_large(offset, bytes)).first() {
+        return Err(fault);
+    }
+    let mut steps = Vec::new(alloc);
+    push_write(&mut steps, page, time, ino, old, offset, bytes)?;
+    if is_past(highest, steps.len()) {
+        return Err(OpFault::Exhausted);
+    }
+    Ok(steps)
+}
+
+/// A further name.
+fn link<'a>(
+    alloc: Global,
+    index: &Index,
+    time: u32,
+    old: &'a [u8],
+    new: &'a [u8],
+) -> Result<Vec<Step<'a>>, OpFault>
+    ensures { (page : ℕ) → Gives result (planned_by page index.now (op.Link time old.now new.now)) }
+{
+    let Some(from) = look_up(alloc, index, old)? else {
+        return Err(OpFault::BadPath);
+    };
+    let Some(to) = look_up(alloc, index, new)? else {
+        return Err(OpFault::BadPath);
+    };
+    let is_directory = index.has_bits(from.number, DIRECTORY);
+    let ino = from.number.unwrap_or(0);
+    let directory = end_of(to.above);
+    if let Some(fault) = tests_of_name(index, &from, &to, is_directory, false).first() {
+        return Err(fault);
+    }
+    if is_spent(index, directory, 1) {
+        return Err(OpFault::Exhausted);
+    }
+    Ok(one(alloc, set_name(time, directory, to.last, ino))?)
+}
+
+/// Whether no version is left for the new name, or after it for the old one.
+fn are_spent(index: &Index, directory: u32, left: u32) -> bool
+    ensures { result ≡ spent_by index.now directory left }
+{
+    let count = if left == directory { 2 } else { 1 };
+    is_spent(index, directory, 1) || is_spent(index, left, count)
+}
+
+/// Whether a directory of this number would go into itself.
+fn is_into_itself(
+    alloc: Global,
+    index: &Index,
+    number: Option<u32>,
+    new: &[u8],
+) -> Result<bool, AllocError>
+    ensures { IfOk result (λ is_into. is_into ≡ into_itself_at index.now.tree number new.now) }
+{
+    if index.has_bits(number, DIRECTORY) {
+        return meets_above(alloc, index, new, number.unwrap_or(0));
+    }
+    Ok(false)
+}
+
+/// Another name.
+fn rename<'a>(
+    alloc: Global,
+    index: &Index,
+    time: u32,
+    old: &'a [u8],
+    new: &'a [u8],
+) -> Result<Vec<Step<'a>>, OpFault>
+    ensures { (page : ℕ) → Gives result (planned_by page index.now (op.Rename time old.now new.now)) }
+{
+    let Some(from) = look_up(alloc, index, old)? else {
+        return Err(OpFault::BadPath);
+    };
+    let Some(to) = look_up(alloc, index, new)? else {
+        return Err(OpFault::BadPath);
+    };
+    let ino = from.number.unwrap_or(0);
+    let is_into_itself = is_into_itself(alloc, index, from.number, new)?;
+    let left = end_of(from.above);
+    let directory = end_of(to.above);
+    if let Some(fault) = tests_of_name(index, &from, &to, false, is_into_itself).first() {
+        return Err(fault);
+    }
+    if are_spent(index, directory, left) {
+        return Err(OpFault::Exhausted);
+    }
+    let set = set_name(time, directory, to.last, ino);
+    let clear = clear_name(time, left, from.last);
+    Ok(two(alloc, set, clear)?)
+}
+
+/// A new object.
+fn make<'a>(
+    alloc: Global,
+    index: &Index,
+    time: u32,
+    path: &'a [u8],
+    kind: u32,
+    mode: u32,
+    uid: u16,
+    gid: u16,
+    target: &'a [u8],
+    is_bad_target: bool,
+) -> Result<Vec<Step<'a>>, OpFault>
+    requires { kind ≤ 0o170000 }
+    ensures { Gives result (made_plan index.now time path.now kind mode uid gid target.now is_bad_target) }
+{
+    let Some(site) = look_up(alloc, index, path)? else {
+        return Err(OpFault::BadPath);
+    };
+    let directory = end_of(site.above);
+    if let Some(fault) = tests_of_new(index, &site, mode > PERMISSIONS, is_bad_target).first() {
+        return Err(fault);
+    }
+    if is_full(index, directory) {
+        return Err(OpFault::Exhausted);
+    }
+    let made = make_object(time, kind + mode, uid, gid, target);
+    let set = set_name(time, directory, site.last, index.next() as u32);
+    Ok(two(alloc, made, set)?)
+}
+
+/// Whether there is no number for a new object, or no version for its name. The object's own next version is 2.
+fn is_full(index: &Index, directory: u32) -> bool
+    ensures { result ≡ full_by index.now directory }
+{
+    let next = index.next();
+    next > u32::MAX as u64 || u64::from(directory) != next && is_spent(index, directory, 1)
+}
+
+/// A new directory.
+fn mkdir<'a>(
+    alloc: Global,
+    index: &Index,
+    time: u32,
+    path: &'a [u8],
+    mode: u32,
+    uid: u16,
+    gid: u16,
+) -> Result<Vec<Step<'a>>, OpFault>
+    ensures { (page : ℕ) → Gives result (planned_by page index.now (op.Mkdir time path.now mode uid gid)) }
+{
+    let target = b"".as_slice();
+    make(
+        alloc, index, time, path, 0o040000, mode, uid, gid, target, false,
+    )
+}
+
+/// A new file.
+fn create<'a>(
+    alloc: Global,
+    index: &Index,
+    time: u32,
+    path: &'a [u8],
+    mode: u32,
+    uid: u16,
+    gid: u16,
+) -> Result<Vec<Step<'a>>, OpFault>
+    ensures { (page : ℕ) → Gives result (planned_by page index.now (op.Create time path.now mode uid gid)) }
+{
+    let target = b"".as_slice();
+    make(
+        alloc, index, time, path, 0o100000, mode, uid, gid, target, false,
+    )
+}
+
+/// Whether a symlink may not have this target.
+fn is_bad_target(target: &[u8]) -> bool
+    ensures { result ≡ ((length target.now == 0) || nat_lt 4095 (length target.now) || list_any (λ b. b == 0) target.now) }
+{
+    target.is_empty() || target.len() > 4095 || target.contains(&0)
+}
+
+/// A new symlink.
+fn symlink<'a>(
+    alloc: Global,
+    index: &Index,
+    time: u32,
+    path: &'a [u8],
+    target: &'a [u8],
+    uid: u16,
+    gid: u16,
+) -> Result<Vec<Step<'a>>, OpFault>
+    ensures { (page : ℕ) → Gives result (planned_by page index.now (op.Symlink time path.now target.now uid gid)) }
+{
+    let is_bad = is_bad_target(target);
+    make(
+        alloc, index, time, path, 0o120000, 0o777, uid, gid, target, is_bad,
+    )
+}
+
+/// The steps of an operation, or why it is refused, page by page of this length.
+fn plan_paged<'a>(
+    alloc: Global,
+    page: u32,
+    index: &Index,
+    op: &'a Op<'_>,
+) -> Result<Vec<Step<'a>>, OpFault>
+    requires { IsPage page }
+    ensures { Gives result (planned_by page index.now op.now) }
+{
+    match op {
+        Op::Mkdir {
+            time,
+            path,
+            mode,
+            uid,
+            gid,
+        } => mkdir(alloc, index, *time, path.as_slice(), *mode, *uid, *gid),
+        Op::Create {
+            time,
+            path,
+            mode,
+            uid,
+            gid,
+        } => create(alloc, index, *time, path.as_slice(), *mode, *uid, *gid),
+        Op::Symlink {
+            time,
+            path,
+            target,
+            uid,
+            gid,
+        } => symlink(
+            alloc,
+            index,
+            *time,
+            path.as_slice(),
+            target.as_slice(),
+            *uid,
+            *gid,
+        ),
+        Op::Write {
+            time,
+            path,
+            offset,
+            bytes,
+        } => write(
+            alloc,
+            page,
+            index,
+            *time,
+            path.as_slice(),
+            *offset,
+            bytes.as_slice(),
+        ),
+        Op::Truncate { time, path, size } => truncate(alloc, index, *time, path.as_slice(), *size),
+        Op::Link { time, old, new } => link(alloc, index, *time, old.as_slice(), new.as_slice()),
+        Op::Remove { time, path } => remove(alloc, index, *time, path.as_slice()),
+        Op::Rename { time, old, new } => {
+            rename(alloc, index, *time, old.as_slice(), new.as_slice())
+        }
+    }
+}
+
+/// The steps of an operation, or why it is refused. Each step is to be written as one node; bytes are cut where a page of
+/// 4,096 bytes of the file ends, and borrowed.
+///
+/// # Errors
+/// The first fault that applies, in the order of [`OpFault`], or out of memory in its place.
+pub fn plan<'a>(alloc: Global, index: &Index, op: &'a Op<'_>) -> Result<Vec<Step<'a>>, OpFault>
+    ensures ok { IfOk result (λ steps. planned index.now op.now ≡ Ok steps.items) }
+    ensures few { IfOk result (λ steps. length steps.items ≤ most_steps) }
+    ensures err { IfErr result (λ fault. fault ≢ refused.OutOfMemory → planned index.now op.now ≡ Err fault) }
+{
+    plan_paged(alloc, PLAIN_PAGE, index, op)
+}

@@ -1,0 +1,62 @@
+//! What an index shows, of a tree and after steps.
+
+use crate::taking::take;
+use crate::trees::{SMALL, index_of};
+use jmount::Kind;
+use std::test::Fail;
+
+#[test]
+fn what_an_index_shows(rt: HostRuntime) -> Result<(), Fail> {
+    let index = index_of(rt.alloc(), SMALL)?;
+    let shown = [
+        (1, Some((Kind::Directory, 0o040755, 0)), 7),
+        (2, Some((Kind::Regular, 0o100644, 10)), 1),
+        (6, Some((Kind::Directory, 0o040755, 0)), 1),
+        (7, Some((Kind::Symlink, 0o120777, 3)), 1),
+        (9, Some((Kind::Directory, 0o040755, 0)), 1),
+        (57, None, 0),
+    ];
+    for (ino, object, top) in shown {
+        let found = index.object(ino).map(|o| (o.kind, o.mode, o.size));
+        assert_eq!(rt; found, object, "object {ino}");
+        assert_eq!(rt; index.top(ino), top, "top of {ino}");
+    }
+    assert_eq!(rt; index.next(), 58);
+    Ok(())
+}
+
+#[test]
+fn what_steps_leave(rt: HostRuntime) -> Result<(), Fail> {
+    let alloc = rt.alloc();
+    let mut index = index_of(alloc, SMALL)?;
+    let rows = [
+        ("write /a 4000 200", 3, 2, Some((0o100644, 3, 4, 4200)), 4),
+        ("truncate /a 9", 1, 2, Some((0o100644, 3, 4, 9)), 5),
+        ("truncate /a 12", 1, 2, Some((0o100644, 3, 4, 12)), 6),
+        ("write /a 4 3", 1, 2, Some((0o100644, 3, 4, 12)), 7),
+        ("create /new 600", 2, 58, Some((0o100600, 5, 6, 0)), 1),
+        ("symlink /d/l ../new", 2, 59, Some((0o120777, 5, 6, 6)), 1),
+        ("link /new /d/new", 1, 58, Some((0o100600, 5, 6, 0)), 1),
+        ("rename /d /n/d", 2, 10, Some((0o040755, 3, 4, 0)), 2),
+        ("remove /n/d/new", 1, 3, Some((0o040755, 3, 4, 0)), 5),
+        (
+            "mkdir /n/d/e/g/deep 755",
+            2,
+            60,
+            Some((0o040755, 5, 6, 0)),
+            1,
+        ),
+        ("remove /q", 1, 57, None, 0),
+    ];
+    for (line, count, ino, object, top) in rows {
+        assert_eq!(rt; take(alloc, &mut index, line)?, count, "at {line}");
+        let found = index.object(ino).map(|o| (o.mode, o.uid, o.gid, o.size));
+        assert_eq!(rt; found, object, "at {line}");
+        assert_eq!(rt; index.top(ino), top, "at {line}");
+    }
+    assert_eq!(rt; index.next(), 61);
+    assert_eq!(rt; index.top(1), 10);
+    let times = index.object(2).map(|o| (o.atime, o.mtime, o.ctime));
+    assert_eq!(rt; times, Some((1, 7, 7)));
+    Ok(())
+}

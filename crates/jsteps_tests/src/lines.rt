@@ -1,0 +1,133 @@
+//! Operations and their answers as lines of text.
+
+use jnode::Part;
+use jsteps::{Index, Op, Step, Text, plan};
+use std::alloc::Global;
+use std::test::Fail;
+
+/// What is written.
+const BYTES: [u8; 12_288] = [0x5A; 12_288];
+
+/// So many first words of a line, and the rest of it.
+fn words(line: &str) -> (&str, &str, &str, &str) {
+    let (verb, rest) = line.split_once(' ').unwrap_or((line, ""));
+    let (path, rest) = rest.split_once(' ').unwrap_or((rest, ""));
+    let (second, third) = rest.split_once(' ').unwrap_or((rest, ""));
+    (verb, path, second, third)
+}
+
+/// The operation of a line, at time 7 and for owners 5 and 6. A write has a count of bytes.
+pub fn op_of(line: &str) -> Option<Op<'_>> {
+    let (verb, path, second, third) = words(line);
+    let path = Text::lent(path.as_bytes());
+    let text = Text::lent(second.as_bytes());
+    let mode = u32::from_str_radix(second, 8).unwrap_or(0);
+    let number = second.parse::<u32>().unwrap_or(0);
+    let count = third.parse::<usize>().unwrap_or(0).min(BYTES.len());
+    let time = 7;
+    let (uid, gid) = (5, 6);
+    Some(match verb {
+        "mkdir" => Op::Mkdir {
+            time,
+            path,
+            mode,
+            uid,
+            gid,
+        },
+        "create" => Op::Create {
+            time,
+            path,
+            mode,
+            uid,
+            gid,
+        },
+        "symlink" => Op::Symlink {
+            time,
+            path,
+            target: text,
+            uid,
+            gid,
+        },
+        "write" => Op::Write {
+            time,
+            path,
+            offset: number,
+            bytes: Text::lent(&BYTES[..count]),
+        },
+        "truncate" => Op::Truncate {
+            time,
+            path,
+            size: number,
+        },
+        "link" => Op::Link {
+            time,
+            old: path,
+            new: text,
+        },
+        "rename" => Op::Rename {
+            time,
+            old: path,
+            new: text,
+        },
+        "remove" => Op::Remove { time, path },
+        _ => return None,
+    })
+}
+
+fn text_of<'a>(part: &Part<'a>) -> &'a str {
+    str::from_utf8(part.held()).unwrap_or("?")
+}
+
+/// Appends a step.
+fn put_step(text: &mut String, step: &Step<'_>) -> Result<(), Fail> {
+    match step {
+        Step::MakeObject {
+            mode,
+            uid,
+            gid,
+            target,
+            ..
+        } => write!(text, "make {mode:o} {uid} {gid} [{}]", text_of(target))?,
+        Step::SetName {
+            directory,
+            name,
+            ino,
+            ..
+        } => write!(text, "set {directory} {} {ino}", text_of(name))?,
+        Step::ClearName {
+            directory,
+            name,
+            ..
+        } => write!(text, "clear {directory} {}", text_of(name))?,
+        Step::Put {
+            ino,
+            offset,
+            bytes,
+            ..
+        } => write!(text, "put {ino} {offset} {}", bytes.len())?,
+        Step::Zero { ino, count, .. } => write!(text, "zero {ino} {count}")?,
+        Step::Cut { ino, size, .. } => write!(text, "cut {ino} {size}")?,
+    }
+    Ok(())
+}
+
+/// Steps between commas.
+fn text_of_steps(alloc: Global, steps: &[Step<'_>]) -> Result<String, Fail> {
+    let mut text = String::new(alloc);
+    for step in steps {
+        if !text.is_empty() {
+            text.push_str(", ")?;
+        }
+        put_step(&mut text, step)?;
+    }
+    Ok(text)
+}
+
+/// The steps of the operation of a line, or why it is refused.
+pub fn answer(alloc: Global, index: &Index, line: &str) -> Result<String, Fail> {
+    let op = op_of(line).ok_or("no operation")?;
+    match plan(alloc, index, &op) {
+        Ok(steps) => text_of_steps(alloc, &steps),
+        Err(fault) => Ok(format!(in alloc; "{fault}")?),
+    }
+}

@@ -1,0 +1,328 @@
+//! Tables of operations, each with its steps or its refusal.
+
+use crate::lines::answer;
+use crate::trees::{ALMOST_SPENT, DANGLING, LOOP, ONE_NUMBER_LEFT, SMALL, SPENT, Tree, index_of};
+use std::alloc::Global;
+use std::process::Abort;
+use std::test::Fail;
+
+/// Each line's operation has this answer in a tree.
+fn agree(rt: &impl Abort, alloc: Global, tree: Tree, rows: &[(&str, &str)]) -> Result<(), Fail> {
+    let index = index_of(alloc, tree)?;
+    for (line, wanted) in rows {
+        let found = answer(alloc, &index, line)?;
+        assert_eq!(rt; found.as_str(), *wanted, "at {line}");
+    }
+    Ok(())
+}
+
+const BYTES: [(&str, &str); 23] = [
+    (
+        "write /a 4000 200",
+        "zero 2 3990, put 2 4000 96, put 2 4096 104",
+    ),
+    ("write /a 0 4096", "put 2 0 4096"),
+    ("write /a 1 4096", "put 2 1 4095, put 2 4096 1"),
+    (
+        "write /a 0 12288",
+        "put 2 0 4096, put 2 4096 4096, put 2 8192 4096",
+    ),
+    ("write /a 4 3", "put 2 4 3"),
+    ("write /a 9 2", "put 2 9 2"),
+    ("write /a 10 1", "put 2 10 1"),
+    ("write /a 11 1", "zero 2 1, put 2 11 1"),
+    ("write /d/f 1 1", "zero 5 1, put 5 1 1"),
+    (
+        "write /a 2147483646 1",
+        "zero 2 2147483636, put 2 2147483646 1",
+    ),
+    ("write /a 2147483647 1", "O9 TooLarge"),
+    ("write /a 4294967295 1", "O9 TooLarge"),
+    ("write / 2147483646 1", "O1 BadPath"),
+    ("write /a 100 0", ""),
+    ("write /a 4294967295 0", ""),
+    ("truncate /a 10", ""),
+    ("truncate /a 9", "cut 2 9"),
+    ("truncate /a 0", "cut 2 0"),
+    ("truncate /a 11", "zero 2 1"),
+    ("truncate /a 2147483647", "zero 2 2147483637"),
+    ("truncate /a 2147483648", "O9 TooLarge"),
+    ("truncate /a 4294967295", "O9 TooLarge"),
+    ("truncate /d/f 0", ""),
+];
+
+const NAMES: [(&str, &str); 18] = [
+    ("mkdir /x 755", "make 40755 5 6 [], set 1 x 58"),
+    ("mkdir /d/e/x 0", "make 40000 5 6 [], set 4 x 58"),
+    ("create /d/x 7777", "make 107777 5 6 [], set 3 x 58"),
+    ("symlink /n/l ../f", "make 120777 5 6 [../f], set 10 l 58"),
+    ("link /a /d/b", "set 3 b 2"),
+    ("link /s /l", "set 1 l 7"),
+    ("link /c /d/e/c", "set 4 c 8"),
+    ("remove /a", "clear 1 a"),
+    ("remove /n", "clear 1 n"),
+    ("remove /q", "clear 1 q"),
+    ("remove /h/x", "clear 9 x"),
+    ("remove /d/e/g/i", "clear 6 i"),
+    ("rename /a /b", "set 1 b 2, clear 1 a"),
+    ("rename /d /n/d", "set 10 d 3, clear 1 d"),
+    ("rename /d/e /e", "set 1 e 4, clear 3 e"),
+    ("rename /d/e /d/x", "set 3 x 4, clear 3 e"),
+    ("rename /d/f /d/e/g/i/f", "set 11 f 5, clear 3 f"),
+    ("rename /s /t", "set 1 t 7, clear 1 s"),
+];
+
+const ALONE: [(&str, &str); 45] = [
+    ("mkdir x 755", "O1 BadPath"),
+    ("create  644", "O1 BadPath"),
+    ("remove /a/", "O1 BadPath"),
+    ("write //a 0 1", "O1 BadPath"),
+    ("truncate /./a 0", "O1 BadPath"),
+    ("rename /d/../a /x", "O1 BadPath"),
+    ("link /a /..", "O1 BadPath"),
+    ("create /x\0 644", "O1 BadPath"),
+    ("create /none/x 644", "O3 NotFound"),
+    ("mkdir /q/x 755", "O3 NotFound"),
+    ("write /none 0 1", "O3 NotFound"),
+    ("write /none 0 0", "O3 NotFound"),
+    ("truncate /none 0", "O3 NotFound"),
+    ("link /none /x", "O3 NotFound"),
+    ("remove /none", "O3 NotFound"),
+    ("rename /none /x", "O3 NotFound"),
+    ("create /a/b 644", "O4 NotDirectory"),
+    ("create /a/b/c 644", "O4 NotDirectory"),
+    ("remove /s/x", "O4 NotDirectory"),
+    ("rename /c/x /y", "O4 NotDirectory"),
+    ("rename /a /s/y", "O4 NotDirectory"),
+    ("mkdir /d 755", "O5 Exists"),
+    ("create /a 644", "O5 Exists"),
+    ("symlink /s t", "O5 Exists"),
+    ("link /a /d/f", "O5 Exists"),
+    ("rename /a /a", "O5 Exists"),
+    ("rename /a /d/e", "O5 Exists"),
+    ("write /d 0 1", "O6 WrongKind"),
+    ("write /s 0 0", "O6 WrongKind"),
+    ("truncate /s 0", "O6 WrongKind"),
+    ("truncate /c 0", "O6 WrongKind"),
+    ("link /d /x", "O6 WrongKind"),
+    ("remove /d", "O7 NotEmpty"),
+    ("remove /h", "O7 NotEmpty"),
+    ("rename /d /d/x", "O8 IntoItself"),
+    ("rename /d /d/e/x", "O8 IntoItself"),
+    ("rename /d /d/e/g/i/x", "O8 IntoItself"),
+    ("rename /d/e /d/e/g/x", "O8 IntoItself"),
+    ("truncate /d/f 2147483648", "O9 TooLarge"),
+    ("mkdir /x 10000", "O10 BadMode"),
+    ("create /x 100644", "O10 BadMode"),
+    ("symlink /x ", "O11 BadTarget"),
+    ("symlink /x a\0b", "O11 BadTarget"),
+    ("rename / /x", "O1 BadPath"),
+    ("remove /", "O1 BadPath"),
+];
+
+const ROOT: [(&str, &str); 8] = [
+    ("mkdir / 755", "O1 BadPath"),
+    ("create / 644", "O1 BadPath"),
+    ("symlink / t", "O1 BadPath"),
+    ("write / 0 1", "O1 BadPath"),
+    ("truncate / 0", "O1 BadPath"),
+    ("link / /x", "O1 BadPath"),
+    ("link /a /", "O1 BadPath"),
+    ("rename /a /", "O1 BadPath"),
+];
+
+const PAIRS: [(&str, &str); 37] = [
+    ("rename x /none/y", "O1 BadPath"),
+    ("rename /none/y x", "O1 BadPath"),
+    ("link / /a/b", "O1 BadPath"),
+    ("link /a/b /", "O1 BadPath"),
+    ("rename x /a", "O1 BadPath"),
+    ("link /d x", "O1 BadPath"),
+    ("truncate x 2147483648", "O1 BadPath"),
+    ("mkdir x 10000", "O1 BadPath"),
+    ("symlink x ", "O1 BadPath"),
+    ("rename /none/x /a/b", "O3 NotFound"),
+    ("rename /a/b /none/x", "O3 NotFound"),
+    ("link /none/x /a/b", "O3 NotFound"),
+    ("link /a/b /none/x", "O3 NotFound"),
+    ("link /none /a/b", "O3 NotFound"),
+    ("rename /none /a", "O3 NotFound"),
+    ("link /q /a", "O3 NotFound"),
+    ("link /d /none/x", "O3 NotFound"),
+    ("rename /d /d/none/x", "O3 NotFound"),
+    ("truncate /none 2147483648", "O3 NotFound"),
+    ("write /q 2147483647 1", "O3 NotFound"),
+    ("mkdir /none/x 10000", "O3 NotFound"),
+    ("symlink /none/x ", "O3 NotFound"),
+    ("rename /a/b /d", "O4 NotDirectory"),
+    ("link /d /a/x", "O4 NotDirectory"),
+    ("rename /d /d/f/x", "O4 NotDirectory"),
+    ("truncate /a/b 2147483648", "O4 NotDirectory"),
+    ("write /a/b 2147483647 1", "O4 NotDirectory"),
+    ("create /a/b 10000", "O4 NotDirectory"),
+    ("symlink /a/b ", "O4 NotDirectory"),
+    ("link /d /a", "O5 Exists"),
+    ("rename /d /d/f", "O5 Exists"),
+    ("rename /d /d", "O5 Exists"),
+    ("mkdir /a 10000", "O5 Exists"),
+    ("create /q 10000", "O5 Exists"),
+    ("symlink /a ", "O5 Exists"),
+    ("truncate /d 2147483648", "O6 WrongKind"),
+    ("write /s 2147483647 1", "O6 WrongKind"),
+];
+
+const MISSING: [(&str, &str); 20] = [
+    ("mkdir /q 755", "O5 Exists"),
+    ("create /q 644", "O5 Exists"),
+    ("symlink /q t", "O5 Exists"),
+    ("write /q 0 1", "O3 NotFound"),
+    ("truncate /q 0", "O3 NotFound"),
+    ("link /q /x", "O3 NotFound"),
+    ("link /a /q", "O5 Exists"),
+    ("remove /q", "clear 1 q"),
+    ("rename /q /x", "O3 NotFound"),
+    ("rename /a /q", "O5 Exists"),
+    ("create /q/x 644", "O3 NotFound"),
+    ("symlink /q/x t", "O3 NotFound"),
+    ("write /q/x 0 1", "O3 NotFound"),
+    ("truncate /q/x 0", "O3 NotFound"),
+    ("link /q/x /y", "O3 NotFound"),
+    ("link /a /q/x", "O3 NotFound"),
+    ("remove /q/x", "O3 NotFound"),
+    ("rename /q/x /y", "O3 NotFound"),
+    ("rename /a /q/x", "O3 NotFound"),
+    ("rename /h/x /y", "O3 NotFound"),
+];
+
+/// No version is left for names of the root and for its file, and no number for a new object.
+const NONE_LEFT: [(&str, &str); 20] = [
+    ("create x 644", "O1 BadPath"),
+    ("create /none/x 644", "O3 NotFound"),
+    ("create /a/b 644", "O4 NotDirectory"),
+    ("create /a 644", "O5 Exists"),
+    ("link /d /y", "O6 WrongKind"),
+    ("remove /d", "O7 NotEmpty"),
+    ("rename /d /d/y", "O8 IntoItself"),
+    ("write /a 2147483647 1", "O9 TooLarge"),
+    ("mkdir /y 10000", "O10 BadMode"),
+    ("symlink /y ", "O11 BadTarget"),
+    ("mkdir /d/y 755", "O12 Exhausted"),
+    ("create /d/y 644", "O12 Exhausted"),
+    ("symlink /d/y t", "O12 Exhausted"),
+    ("write /a 10 1", "O12 Exhausted"),
+    ("truncate /a 9", "O12 Exhausted"),
+    ("remove /z", "O12 Exhausted"),
+    ("rename /a /d/y", "O12 Exhausted"),
+    ("link /a /d/y", "set 3 y 2"),
+    ("truncate /a 10", ""),
+    ("write /a 100 0", ""),
+];
+
+/// One version is left for names of the root and for `/a`, two for `/b` and for names of `/e`.
+const FEW_LEFT: [(&str, &str); 15] = [
+    ("write /a 9 1", "put 2 9 1"),
+    ("write /a 10 1", "put 2 10 1"),
+    ("write /a 11 1", "O12 Exhausted"),
+    ("write /a 4095 2", "O12 Exhausted"),
+    ("truncate /a 4", "cut 2 4"),
+    ("write /b 11 1", "zero 3 1, put 3 11 1"),
+    ("write /b 0 8192", "put 3 0 4096, put 3 4096 4096"),
+    ("write /b 0 8193", "O12 Exhausted"),
+    ("write /b 4095 2", "O12 Exhausted"),
+    ("remove /a", "clear 1 a"),
+    ("create /y 644", "make 100644 5 6 [], set 1 y 6"),
+    ("link /a /y", "set 1 y 2"),
+    ("rename /a /y", "O12 Exhausted"),
+    ("rename /a /d/y", "set 4 y 2, clear 1 a"),
+    ("rename /e/m /e/n", "set 5 n 2, clear 5 m"),
+];
+
+#[test]
+fn plans(rt: HostRuntime) -> Result<(), Fail> {
+    let alloc = rt.alloc();
+    agree(&rt, alloc, SMALL, &BYTES)?;
+    agree(&rt, alloc, SMALL, &NAMES)?;
+    agree(&rt, alloc, SMALL, &ALONE)?;
+    agree(&rt, alloc, SMALL, &ROOT)?;
+    agree(&rt, alloc, SMALL, &PAIRS)?;
+    agree(&rt, alloc, SMALL, &MISSING)
+}
+
+#[test]
+fn versions_and_numbers_run_out(rt: HostRuntime) -> Result<(), Fail> {
+    let alloc = rt.alloc();
+    let last = [("create /y 644", "make 100644 5 6 [], set 1 y 4294967295")];
+    agree(&rt, alloc, SPENT, &NONE_LEFT)?;
+    agree(&rt, alloc, ALMOST_SPENT, &FEW_LEFT)?;
+    agree(&rt, alloc, ONE_NUMBER_LEFT, &last)
+}
+
+#[test]
+fn names_without_objects_count(rt: HostRuntime) -> Result<(), Fail> {
+    let rows = [
+        ("create /r 644", "make 100644 5 6 [], set 1 r 58"),
+        ("create /q 644", "O5 Exists"),
+        ("remove /q", "clear 1 q"),
+    ];
+    agree(&rt, rt.alloc(), DANGLING, &rows)
+}
+
+#[test]
+fn the_root_by_another_name(rt: HostRuntime) -> Result<(), Fail> {
+    let rows = [
+        ("rename /d/r /x", "O8 IntoItself"),
+        ("rename /d/r /d/r/d/x", "O8 IntoItself"),
+        ("rename /d /d/r/x", "O8 IntoItself"),
+        ("link /d/r /x", "O6 WrongKind"),
+        ("remove /d/r", "O7 NotEmpty"),
+        ("mkdir /d/r/x 755", "make 40755 5 6 [], set 1 x 3"),
+    ];
+    agree(&rt, rt.alloc(), LOOP, &rows)
+}
+
+/// A line, and in place of its `*` so many letters.
+fn lengthened(alloc: Global, line: &str, count: usize) -> Result<String, Fail> {
+    let mut text = String::new(alloc);
+    let Some((front, back)) = line.split_once('*') else {
+        text.push_str(line)?;
+        return Ok(text);
+    };
+    text.push_str(front)?;
+    for _ in 0..count {
+        text.push('x')?;
+    }
+    text.push_str(back)?;
+    Ok(text)
+}
+
+const LONG: [(&str, usize, &str); 17] = [
+    ("create /* 644", 254, "make 100644 5 6 [], set 1 * 58"),
+    ("create /* 644", 255, "O2 NameTooLong"),
+    ("create /d/* 644", 255, "O2 NameTooLong"),
+    ("link /a /*", 255, "O2 NameTooLong"),
+    ("rename /a /*", 254, "set 1 * 2, clear 1 a"),
+    ("rename x /*", 255, "O1 BadPath"),
+    ("rename /* /a", 255, "O2 NameTooLong"),
+    ("create /*/x 644", 255, "O2 NameTooLong"),
+    ("create /a/* 644", 255, "O2 NameTooLong"),
+    ("link /d /*", 255, "O2 NameTooLong"),
+    ("rename /d /d/*", 255, "O2 NameTooLong"),
+    ("truncate /* 2147483648", 255, "O2 NameTooLong"),
+    ("mkdir /* 10000", 255, "O2 NameTooLong"),
+    ("symlink /* ", 255, "O2 NameTooLong"),
+    ("symlink /x *", 4095, "make 120777 5 6 [*], set 1 x 58"),
+    ("symlink /x *", 4096, "O11 BadTarget"),
+    ("symlink /a *", 4096, "O5 Exists"),
+];
+
+#[test]
+fn long_names_and_targets(rt: HostRuntime) -> Result<(), Fail> {
+    let alloc = rt.alloc();
+    for (line, count, wanted) in LONG {
+        let line = lengthened(alloc, line, count)?;
+        let wanted = lengthened(alloc, wanted, count)?;
+        agree(&rt, alloc, SMALL, &[(line.as_str(), wanted.as_str())])?;
+    }
+    let line = lengthened(alloc, "create /* 644", 255)?;
+    agree(&rt, alloc, SPENT, &[(line.as_str(), "O2 NameTooLong")])
+}
