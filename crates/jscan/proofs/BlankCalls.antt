@@ -1,8 +1,8 @@
 -- What the search for the blank tail of a flash meets.
-use Rattle.std.proofs.Common.{◌≡◌, ◌↔◌, ◌≤◌, ◌<◌, ◌+◌, ◌-◌, ◌*◌, ◌&&◌, ◌||◌, ◌==◌, ℕ, zero, suc, Bool, true, false, IsTrue, List, [], ◌∷◌, ◌++◌, length, take, drop, slice_index, refl, sym, ap, ap₂, ◌∙◌, arith, inl, inr, append_assoc, length-drop}
+use Rattle.std.proofs.Common.{◌≡◌, ◌↔◌, ◌≤◌, ◌<◌, ◌+◌, ◌-◌, ◌*◌, ◌||◌, ℕ, zero, suc, Bool, true, false, List, [], ◌∷◌, ◌++◌, length, take, drop, slice_index, refl, sym, ap, ap₂, ◌∙◌, arith, inl, inr}
 use Rattle.std.specs.Prelude.{bytes_eq}
 use Rattle.std.specs.List.{list_any}
-use Rattle.std.proofs.lemmas.Bool.{cases_lt, cases_Bool, both_ways, eqb-true, eq-eqb, or_left, or_right}
+use Rattle.std.proofs.lemmas.Bool.{cases_lt, cases_Bool, both_ways, or_left, or_right}
 use Rattle.std.proofs.lemmas.List.{length-take-le, length-append, length-replicate, take-append-drop, get_or-replicate, get_or_append_left, get_or-take, replicate-append-replicate, drop_at}
 use Rattle.std.proofs.lemmas.List.Folds.{list_any-append}
 use Rattle.std.proofs.Math.Seq.{take-append_seam}
@@ -11,7 +11,7 @@ use Rattle.std.proofs.lemmas.Grind.{div_ceil_times}
 use Rattle.flashbase.specs.Bytes.{erased, IsErasedRun}
 use Rattle.flashbase.specs.Lists.{below}
 use Rattle.jnode.specs.declared.order.Endian.{Endian}
-use Rattle.jscan.specs.Image.{block_of, block_count, is_block_size}
+use Rattle.jscan.specs.Image.{block_of, block_count}
 use Rattle.jscan.specs.Blank.{marked, is_blank, AreBlankFrom, IsBlankFrom}
 use Rattle.jscan.proofs.BlockLemmas.{block_past, past_count, count_within}
 

@@ -1,5 +1,5 @@
 -- The nodes of an image are what the node tiles of its blocks read as.
-use Rattle.std.proofs.Common.{◌≡◌, ◌↔◌, ℕ, ◌+◌, ◌*◌, ◌%◌, ◌<◌, List, ◌∷◌, ◌++◌, length, take, drop, refl, sym, ap, subst, ◌∙◌, arith, length-drop, Option, None, Some}
+use Rattle.std.proofs.Common.{◌≡◌, ◌↔◌, ℕ, ◌+◌, ◌*◌, ◌%◌, ◌<◌, List, ◌++◌, length, take, drop, refl, sym, ap, subst, ◌∙◌, arith, length-drop, Option, None, Some}
 use Rattle.std.specs.Prelude.{Contains, option_map}
 use Rattle.std.proofs.Math.Seq.{take-append_seam}
 use Rattle.flashbase.specs.Bytes.{pad4_of}

@@ -5,7 +5,8 @@
 //! block: its nodes' tiles, each with what it is seen as, and the longest runs of words of one look.
 //! `Sightings` goes over the nodes' tiles of a whole image. None of them takes memory, and all take time
 //! linear in their bytes. `scan` collects the nodes and findings of an image, or answers its first refusal;
-//! `survey` gives the nodes in front of that refusal too.
+//! `survey` gives the nodes in front of that refusal too. `BlockReader` and `scan_stream` read a source block by
+//! block. `blank_from` finds the block from which on a flash is blank, where writing may go on.
 //!
 //! It stands on `flashbase` (padding, erased runs, parts) and `jnode` (headers, and what a node is seen as).
 //! Its promise to the crates above: the tiles given are the block's one tiling, the stretches are those

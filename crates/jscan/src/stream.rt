@@ -189,14 +189,12 @@ pub fn scan_stream<E: Order, S: Source>(
     ensures unread { result ≡ Err StreamFault.BlockSize → counts.new ≡ no_counts }
     ensures memory { result ≡ Err StreamFault.OutOfMemory → counts.new ≡ no_counts }
 
-    // Only where the next block holds a byte past the greatest image.
+    // Only where the next block holds a byte past the greatest image, within which those counted end.
     ensures too_large { result ≡ Err StreamFault.TooLarge
         → IfSome (S.rest source) (λ image. greatest_image < min (length image) ((counts.new.blocks + 1) * geometry.block)) }
-
     ensures before_the_end { result ≡ Err StreamFault.TooLarge → counts.new.blocks * geometry.block ≤ greatest_image }
 
-    // Only where the source failed, once.
-    // Then the counts are those of the blocks in front of the one in which it failed.
+    // Only where the source failed, once, in the block behind those counted.
     ensures device { result ≡ Err StreamFault.Device → (left : S) × (S.failures left ≡ next_count (S.failures source))
         × IfSome (S.rest source) (λ image. StopsWithin (Some (drop (counts.new.blocks * geometry.block) image)) (S.rest left) geometry.block) }
 {

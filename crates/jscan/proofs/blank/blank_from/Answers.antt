@@ -1,4 +1,4 @@
-use Rattle.std.proofs.Common.{◌≡◌, ◌≤◌, ◌<◌, ℕ, sym, subst, ◌∙◌, arith}
+use Rattle.std.proofs.Common.{◌≡◌, ℕ, sym, subst, arith}
 use Rattle.jscan.specs.Blank.{AreBlankFrom}
 use Rattle.jscan.specs.Image.{block_count}
 use Rattle.jscan.proofs.BlankCalls.{blank_past}
