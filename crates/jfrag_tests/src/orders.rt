@@ -1,4 +1,6 @@
 //! What stands after pieces in any order of arrival.
+ghost use Rattle.std.specs.Prelude.{◌<◌, ◌^◌};
+ghost use Rattle.jfrag.specs.Pieces.{end_of};
 
 use crate::pieces::{byte_at, bytes_at, first_bytes, worked_bytes, worked_piece, zeros_at};
 use flashbase::Part;
@@ -125,7 +127,9 @@ const ORDERS_OF_FOUR: [[usize; 4]; 24] = [
 ];
 
 /// An old piece over 0 to 99, or one of three newer ones within it.
-fn piece_in_the_way(index: usize) -> Piece<'static> {
+fn piece_in_the_way(index: usize) -> Piece<'static>
+    ensures { end_of result < 2 ^ 32 }
+{
     match index {
         0 => zeros_at(1, 0, 100),
         1 => zeros_at(2, 10, 10),
