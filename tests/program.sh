@@ -9,21 +9,41 @@ format=$(realpath "$(dirname "$0")/../docs/FORMAT.md")
 folder=$(mktemp -d)
 trap 'rm -rf "$folder"' EXIT
 cd "$folder" || exit 1
+# erased N: N bytes of erased flash
+erased() {
+    head -c "$1" /dev/zero | tr '\0' '\377'
+}
 : > empty
-head -c 4096 /dev/zero | tr '\0' '\377' > block
-head -c 4097 /dev/zero | tr '\0' '\377' > longer
+erased 4096 > block
+erased 4097 > longer
 mkdir folder
 # The examples of docs/FORMAT.md: an entry of the root that names inode 2 `a`, and the node of inode 2, an empty file.
 bytes() {
     for byte in "$@"; do printf %b "\\x$byte"; done
 }
-{
+entry() {
     bytes 85 19 01 e0 29 00 00 00 6d a6 2f d7 01 00 00 00 01 00 00 00 02 00 00 00
     bytes 00 00 00 00 01 08 00 00 95 02 9b 91 ce 51 b5 3a 61 ff ff ff
+}
+{
+    entry
     bytes 85 19 02 e0 44 00 00 00 1d fb f7 98 02 00 00 00 01 00 00 00 a4 81 00 00
     bytes 00 00 00 00 00 00 00 00 00 00 00 00 00 00 00 00 00 00 00 00 00 00 00 00
     bytes 00 00 00 00 00 00 00 00 00 00 00 00 00 00 00 00 14 d0 c4 71
 } > file
+# The same entry, and inode 2 in two nodes: `hello`, of which the first byte is given, and ` flash` behind it.
+hello_flash() {
+    bytes 85 19 02 e0 49 00 00 00 c0 23 9d 6a 02 00 00 00 01 00 00 00 a4 81 00 00
+    bytes 00 00 00 00 05 00 00 00 00 00 00 00 00 00 00 00 00 00 00 00 00 00 00 00
+    bytes 05 00 00 00 05 00 00 00 00 00 00 00 9b 51 32 f0 e0 b6 d7 21 "$1" 65 6c 6c 6f ff ff ff
+    bytes 85 19 02 e0 4a 00 00 00 2e 8c 28 78 02 00 00 00 02 00 00 00 a4 81 00 00
+    bytes 00 00 00 00 0b 00 00 00 00 00 00 00 00 00 00 00 00 00 00 00 05 00 00 00
+    bytes 06 00 00 00 06 00 00 00 00 00 00 00 28 ad 40 6e 28 d5 bc 76 20 66 6c 61 73 68 ff ff
+}
+{ entry; hello_flash 68; } > sound
+{ entry; hello_flash 69; } > flipped
+# The first of the two nodes lies over the end of the first 4096 bytes.
+{ erased 4012; entry; hello_flash 68; } > crossing
 passed=0
 failed=0
 
@@ -89,7 +109,12 @@ run check --scan $'\xff'; want 2 "" "error: the command line is not UTF-8"
 # Help
 for words in --help -h help; do
     run $words; want 0 "$help" ""
+    run $words; want 0 "*-V, --version*jffs2_image.1*" ""
 done
+for words in --version -V; do
+    run $words; want 0 "jffs2_image 0.1.0" ""
+done
+run check --version block; want 2 "" "error: unexpected argument '--version' found*Usage: *"
 for words in "check --help" "check -h" "help check"; do
     run $words; want 0 "*Usage: jffs2_image check *<IMAGE>*--block <N>*65536*--endian <ORDER>*little*--scan*Exit status:*" ""
 done
@@ -112,6 +137,8 @@ done
 run check --scan none; want 1 "" "jffs2_image: P1 File none"
 run check --scan ""; want 1 "" "jffs2_image: P1 File "
 run check --scan "two words"; want 1 "" "jffs2_image: P1 File two words"
+run check --scan $'two\nlines\x7f\t'; want 1 "" 'jffs2_image: P1 File two\\x0alines\\x7f\\x09'
+run cat $'\e[2J' /a; want 1 "" 'jffs2_image: P1 File \\x1b[[]2J'
 run check --scan folder; want 1 "" "jffs2_image: L1 Device"
 run check --scan --block 4096 longer
 want 0 $'block 0\n00000000 erased 4096\nblock 1\n00001000 erased 4096\ntotal blocks 2 entries 0 inodes 0 findings 0' ""
@@ -179,7 +206,19 @@ run cat --block 8192 "$tree" '/var/log/boot\x20log'; want 0 "two words" ""
 run cat --block 8192 "$tree" '/var/log/boot log'; want 0 "two words" ""
 run cat --block 8192 "$tree" /var/name; want 1 "" "jffs2_image: P4 NotRegular"
 run cat --block 8192 "$tree" /etc/passwd/a; want 1 "" "jffs2_image: P3 Path NotDirectory"
-run ls --block 8192 --endian big "$tree"; want 0 "d 0755 0 0 0 0 1 /" ""
+
+# Notes of what was passed over
+# noted N: what standard error says
+noted() {
+    echo "jffs2_image: note: $1 findings, see check --scan; a wrong --block or --endian shows as findings too"
+}
+# whole FILE: the bytes of the last run's output
+whole() {
+    cmp -s out "$1"
+    local differs=$?
+    count $differs
+    [[ $differs == 0 ]] || echo "FAILED: the bytes of $line"
+}
 
 # Trees
 root="d 0755 0 0 0 0 1 /"
@@ -188,9 +227,28 @@ run ls empty; want 0 "$root" ""
 run ls --endian big empty; want 0 "$root" ""
 run ls --block 4096 longer; want 0 "$root" ""
 run ls --block 4096 "$sample"; want 0 "$root" ""
-run ls --block 4096 --endian big "$sample"; want 0 "$root" ""
+run ls --block 4096 --endian big "$sample"; want 0 "$root" "$(noted 4)"
 run ls file; want 0 "$root"$'\n- 0644 0 0 0 0 2 /a' ""
-run ls --endian big file; want 0 "$root" ""
+run ls --endian big file; want 0 "$root" "$(noted "[1-9]*")"
+run ls --block 8192 --endian big "$tree"; want 0 "$root" "$(noted "[1-9]*")"
+printf 'hello flash' > content
+printf '\0\0\0\0\0 flash' > zeros
+run ls sound; want 0 "$root"$'\n- 0644 0 0 11 0 2 /a' ""
+run cat sound /a; want 0 "hello flash" ""; whole content
+run ls flipped; want 0 "$root"$'\n- 0644 0 0 11 0 2 /a' "$(noted 1)"
+run cat flipped /a; whole zeros
+line="the note of $line"
+[[ $got == 0 && $(cat err) == "$(noted 1)" ]]; count $?
+run ls crossing; want 0 "$root"$'\n- 0644 0 0 11 0 2 /a' ""
+run cat crossing /a; want 0 "hello flash" ""; whole content
+run ls --block 4096 crossing; want 0 "$root"$'\n- 0644 0 0 11 0 2 /a' "$(noted 2)"
+run cat --block 4096 crossing /a; whole zeros
+[[ $got == 0 && $(cat err) == "$(noted 2)" ]]; count $?
+run cat --block 4096 crossing /b; want 1 "" "jffs2_image: P3 Path NotFound"
+run check --scan --block 4096 crossing; want 3 "*findings 2" ""
+run cat block /; want 1 "" "jffs2_image: P4 NotRegular"
+yes 'no JFFS2' | head -c 4096 > other
+run ls other; want 0 "$root" "$(noted 1)"
 run ls --block 4096 "$tree"; want 0 "$(sed 's/\\/\\\\/g' "$samples/../stdout")" ""
 run cat --block 4096 "$tree" '/var/log/boot\x20log'; want 0 "*" ""
 line="the 10 bytes of $line"
@@ -220,7 +278,7 @@ for words in --help "check --help" "ls --help" "cat --help"; do
         told "$word" "^\.It Cm $word$"
     done
     for word in $(sed -n '/^Options:/,/^$/p' out | grep -oE -- '--[a-z]+'); do
-        told "$word" "^\.It Fl (h , Fl )?${word#-}( |$)"
+        told "$word" "^\.It Fl (. , Fl )?${word#-}( |$)"
     done
 done
 while read -r fault; do
@@ -239,6 +297,7 @@ done
 line="standard error is closed"
 "$program" check --scan none > out 2>&-; got=$?; : > err; want 1 "" ""
 "$program" > out 2>&-; got=$?; : > err; want 2 "" ""
+"$program" ls --endian big file > out 2>&-; got=$?; : > err; want 0 "$root" ""
 line="standard error is /dev/full"
 "$program" check --scan none > out 2> /dev/full; got=$?; : > err; want 1 "" ""
 

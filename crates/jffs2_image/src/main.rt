@@ -4,11 +4,13 @@
 //! the process's words and streams.
 #![tactic(auto)]
 
+pub mod output;
 pub mod program;
 
 use flashbase::FromWriter;
 use jcommand::{Outcome, status};
 use jreport::ProgramFault;
+use output::BufferedOutput;
 use program::{refuse, tell};
 use std::alloc::{AllocError, Global};
 use std::io::ErrorKind;
@@ -40,10 +42,13 @@ fn run(rt: &HostRuntime) -> Outcome {
             };
         }
     };
-    match texts_of(rt.alloc(), words.as_slice()) {
-        Ok(texts) => program::run(rt, texts.as_slice(), rt.stdout(), &mut errors),
-        Err(AllocError) => tell(&ProgramFault::OutOfMemory, &mut errors),
-    }
+    let Ok(texts) = texts_of(rt.alloc(), words.as_slice()) else {
+        return tell(&ProgramFault::OutOfMemory, &mut errors);
+    };
+    let Ok(mut output) = BufferedOutput::new(rt.alloc(), rt.stdout()) else {
+        return tell(&ProgramFault::OutOfMemory, &mut errors);
+    };
+    program::run(rt, texts.as_slice(), &mut output, &mut errors)
 }
 
 fn main(rt: HostRuntime) -> ExitCode {

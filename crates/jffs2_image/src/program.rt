@@ -1,41 +1,100 @@
-//! The program on its words: it opens files, buffers output and prints.
-ghost use Rattle.std.specs.Prelude.{◌≡◌, ◌⊎◌};
+//! The program on its words: it opens the image, lets `jreport` do the work, and says how that ended.
+ghost use Rattle.std.specs.Prelude.{◌≡◌, IfErr, OnOk, Some, map};
 ghost use Rattle.std.specs.Io.KnownBytes.{Appends};
-ghost use Rattle.jreport.specs.Faults.{TellsFault, fault_line_of};
+ghost use Rattle.jcommand.specs.Asked.{Asked, ScanAsked, CheckAsked, TreeAsked, ContentAsked, options_of, view};
+ghost use Rattle.jreport.specs.Faults.{fault_line_of};
+ghost use Rattle.jffs2_image.specs.Runs.{HasFailed, Meets, MeetsCommand, MeetsWhole, Runs, Says, note_after, success_of};
 
+use crate::output::Output;
 use byteorder::{BigEndian, LittleEndian};
-use flashbase::{FromReader, FromWriter, Sink, put_all};
-use jcommand::{Outcome, Request, RequestFault, request};
+use flashbase::{FromReader, Sink, put_all};
+use jcommand::{Options, Outcome, Request, RequestFault, request};
 use jnode::{Endian, Order};
 use jreport::{
-    ProgramFault, check_lines, fault_line, file_bytes, list_lines, path_word, stream_lines,
+    ProgramFault, check_lines, fault_line, file_bytes, list_lines, note_line, path_word,
+    stream_lines,
 };
 use std::fs;
-use std::io::{BufWriter, Write};
 use std::rt::Files;
 
-/// Output goes out in pieces of this many bytes.
-const OUTPUT_BUFFER: usize = 65536;
+/// What a run comes to that went well.
+pub enum Success {
+    /// `check` found so much.
+    Found(u64),
+    /// What was asked for was shown, of an image with so many findings to note.
+    Shown(u64),
+}
 
 /// Why a run ends early.
 #[derive(Drop)]
-enum Stop<'a> {
+pub enum Stop<'a> {
     /// The command line is wrong.
     Usage { text: String },
     Fault(ProgramFault<'a>),
 }
 
-impl<'a> From<ProgramFault<'a>> for Stop<'a> {
-    fn from(fault: ProgramFault<'a>) -> Self {
-        Stop::Fault(fault)
-    }
-}
-
-fn open<'a, R: Files>(rt: &R, image: &'a str) -> Result<FromReader<R::File>, ProgramFault<'a>> {
+fn open<'a, R: Files>(rt: &R, image: &'a str) -> Result<FromReader<R::File>, ProgramFault<'a>>
+    ensures { IfErr result (λ fault. fault ≡ ProgramFault.File image.entry) }
+{
     match fs::open(rt, image) {
         Ok(file) => Ok(FromReader::new(file)),
         Err(_) => Err(ProgramFault::File(image)),
     }
+}
+
+/// `check --scan`: answers how much was found.
+fn scan<'a, E: Order, R: Files + AllocGlobal, T: Sink>(
+    rt: &R,
+    options: Options,
+    image: &'a str,
+    sink: &mut T,
+) -> Result<u64, ProgramFault<'a>>
+    ensures { Meets E.order (ScanAsked options image.now) (T.taken sink.old) (T.taken sink.new) (T.failures sink.old) (T.failures sink.new) result }
+{
+    let source = open(rt, image)?;
+    stream_lines::<E, _, _>(rt.alloc(), source, options.geometry, sink)
+}
+
+/// `check`: answers whether anything was found, as a number.
+fn check<'a, E: Order, R: Files + AllocGlobal, T: Sink>(
+    rt: &R,
+    options: Options,
+    image: &'a str,
+    sink: &mut T,
+) -> Result<u64, ProgramFault<'a>>
+    ensures { Meets E.order (CheckAsked options image.now) (T.taken sink.old) (T.taken sink.new) (T.failures sink.old) (T.failures sink.new) result }
+{
+    let mut source = open(rt, image)?;
+    let found = check_lines::<E, _, _>(rt.alloc(), &mut source, options.geometry, sink)?;
+    Ok(u64::from(found))
+}
+
+/// `ls`: answers how many findings to note.
+fn list<'a, E: Order, R: Files + AllocGlobal, T: Sink>(
+    rt: &R,
+    options: Options,
+    image: &'a str,
+    sink: &mut T,
+) -> Result<u64, ProgramFault<'a>>
+    ensures { Meets E.order (TreeAsked options image.now) (T.taken sink.old) (T.taken sink.new) (T.failures sink.old) (T.failures sink.new) result }
+{
+    let mut source = open(rt, image)?;
+    list_lines::<E, _, _>(rt.alloc(), &mut source, options.geometry, sink)
+}
+
+/// `cat`: answers how many findings to note. The word of the path is judged before the image is opened.
+fn cat<'a, E: Order, R: Files + AllocGlobal, T: Sink>(
+    rt: &R,
+    options: Options,
+    image: &'a str,
+    path: &str,
+    sink: &mut T,
+) -> Result<u64, ProgramFault<'a>>
+    ensures { Meets E.order (ContentAsked options image.now path.now) (T.taken sink.old) (T.taken sink.new) (T.failures sink.old) (T.failures sink.new) result }
+{
+    let path = path_word(rt.alloc(), path.as_bytes())?;
+    let mut source = open(rt, image)?;
+    file_bytes::<E, _, _>(rt.alloc(), &mut source, options.geometry, &path, sink)
 }
 
 /// Meets the request in the byte order `E`, and answers how much was found.
@@ -43,75 +102,92 @@ fn meet_in<'a, E: Order, R: Files + AllocGlobal, T: Sink>(
     rt: &R,
     request: Request<'a>,
     sink: &mut T,
-) -> Result<u64, ProgramFault<'a>> {
-    let alloc = rt.alloc();
-    let geometry = request.options().geometry;
+) -> Result<u64, ProgramFault<'a>>
+    ensures { Meets E.order (view request.entry) (T.taken sink.old) (T.taken sink.new) (T.failures sink.old) (T.failures sink.new) result }
+{
     match request {
-        Request::Scan { image, .. } => {
-            stream_lines::<E, _, _>(alloc, open(rt, image)?, geometry, sink)
-        }
-        Request::Check { image, .. } => {
-            let found = check_lines::<E, _, _>(alloc, &mut open(rt, image)?, geometry, sink)?;
-            Ok(u64::from(found))
-        }
-        Request::Tree { image, .. } => {
-            list_lines::<E, _, _>(alloc, &mut open(rt, image)?, geometry, sink)?;
-            Ok(0)
-        }
-        Request::Content { image, path, .. } => {
-            // The word of the path is judged before the image is opened.
-            let path = path_word(alloc, path.as_bytes())?;
-            file_bytes::<E, _, _>(alloc, &mut open(rt, image)?, geometry, &path, sink)?;
-            Ok(0)
-        }
+        Request::Scan { options, image } => scan::<E, _, _>(rt, options, image, sink),
+        Request::Check { options, image } => check::<E, _, _>(rt, options, image, sink),
+        Request::Tree { options, image } => list::<E, _, _>(rt, options, image, sink),
+        Request::Content {
+            options,
+            image,
+            path,
+        } => cat::<E, _, _>(rt, options, image, path, sink),
     }
 }
 
-/// Meets the request, and answers how much was found.
+/// Meets the request in the byte order that it names, and answers how much was found.
 fn meet<'a, R: Files + AllocGlobal, T: Sink>(
     rt: &R,
     request: Request<'a>,
     sink: &mut T,
-) -> Result<u64, ProgramFault<'a>> {
+) -> Result<u64, ProgramFault<'a>>
+    ensures { Meets (options_of request.entry).endian (view request.entry) (T.taken sink.old) (T.taken sink.new) (T.failures sink.old) (T.failures sink.new) result }
+{
     match request.options().endian {
         Endian::Little => meet_in::<LittleEndian, _, _>(rt, request, sink),
         Endian::Big => meet_in::<BigEndian, _, _>(rt, request, sink),
     }
 }
 
-/// Meets the request through a buffer. What was put before a fault goes out too.
-fn meet_buffered<'a, R: Files + AllocGlobal, W: Write + Drop>(
+/// Meets the request. What was put goes out, also before a fault.
+fn meet_whole<'a, R: Files + AllocGlobal, T: Output>(
     rt: &R,
     request: Request<'a>,
-    output: W,
-) -> Result<u64, ProgramFault<'a>> {
-    let Ok(buffered) = BufWriter::with_capacity(rt.alloc(), OUTPUT_BUFFER, output) else {
-        return Err(ProgramFault::OutOfMemory);
-    };
-    let mut sink = FromWriter::new(buffered);
-    let answer = meet(rt, request, &mut sink);
-    let flushed = sink.into_writer().flush();
+    output: &mut T,
+) -> Result<u64, ProgramFault<'a>>
+    ensures { MeetsWhole (view request.entry) (T.taken output.old) (T.given output.new) (T.failures output.old) (T.failures output.new) result }
+{
+    let answer = meet(rt, request, output);
+    let finished = output.finish();
     let findings = answer?;
-    match flushed {
+    match finished {
         Ok(()) => Ok(findings),
         Err(_) => Err(ProgramFault::Output),
     }
 }
 
-/// Meets what the words ask for, and answers the number of findings.
-fn meet_words<'a, R: Files + AllocGlobal, W: Write + Drop>(
+/// Puts a text that answers the command line.
+fn put_help<T: Output>(text: &str, output: &mut T) -> Result<(), ProgramFault<'static>>
+    ensures ok { OnOk result (Appends (T.taken output.old) (T.given output.new) text.now × (T.failures output.new ≡ T.failures output.old)) }
+    ensures failed { IfErr result (λ fault. (fault ≡ ProgramFault.Output) × HasFailed (T.failures output.old) (T.failures output.new)) }
+{
+    let put = put_all(output, text.as_bytes());
+    let finished = output.finish();
+    match (put, finished) {
+        (Ok(()), Ok(())) => Ok(()),
+        _ => Err(ProgramFault::Output),
+    }
+}
+
+/// What it comes to that the work of a request found so much.
+fn as_success(request: &Request<'_>, findings: u64) -> Success
+    ensures { result ≡ success_of (view request.now) findings }
+{
+    match request {
+        Request::Scan { .. } | Request::Check { .. } => Success::Found(findings),
+        Request::Tree { .. } | Request::Content { .. } => Success::Shown(findings),
+    }
+}
+
+/// Answers a command line.
+fn meet_command<'a, R: Files + AllocGlobal, T: Output>(
     rt: &R,
-    words: &'a [&'a str],
-    output: W,
-) -> Result<u64, Stop<'a>> {
-    match request(rt.alloc(), words) {
-        Ok(request) => Ok(meet_buffered(rt, request, output)?),
-        Err(RequestFault::Help { text }) => {
-            match put_all(&mut FromWriter::new(output), text.as_bytes()) {
-                Ok(()) => Ok(0),
-                Err(_) => Err(Stop::Fault(ProgramFault::Output)),
-            }
-        }
+    command: Result<Request<'a>, RequestFault>,
+    output: &mut T,
+) -> Result<Success, Stop<'a>>
+    ensures { MeetsCommand command.entry (T.taken output.old) (T.given output.new) (T.failures output.old) (T.failures output.new) result }
+{
+    match command {
+        Ok(request) => match meet_whole(rt, request, output) {
+            Ok(findings) => Ok(as_success(&request, findings)),
+            Err(fault) => Err(Stop::Fault(fault)),
+        },
+        Err(RequestFault::Help { text }) => match put_help(text.as_str(), output) {
+            Ok(()) => Ok(Success::Shown(0)),
+            Err(fault) => Err(Stop::Fault(fault)),
+        },
         Err(RequestFault::Usage { text }) => Err(Stop::Usage { text }),
         Err(RequestFault::OutOfMemory) => Err(Stop::Fault(ProgramFault::OutOfMemory)),
     }
@@ -137,21 +213,32 @@ pub fn refuse<E: Sink>(text: &str, errors: &mut E) -> Outcome
     Outcome::Usage
 }
 
+/// Notes that an image that was shown has findings.
+fn note<E: Sink>(findings: u64, errors: &mut E) -> Outcome
+    ensures done { result ≡ Outcome.Done }
+    ensures noted { Says (errors.new ≡ errors.old) (E.taken errors.old) (E.taken errors.new) (E.failures errors.old) (E.failures errors.new) (note_after findings) }
+{
+    if findings > 0 {
+        let _ = note_line(findings, errors);
+    }
+    Outcome::Done
+}
+
 /// Runs the program on its words, of which the first is its own name.
-pub fn run<R: Files + AllocGlobal, W: Write + Drop, E: Sink>(
+pub fn run<R: Files + AllocGlobal, T: Output, E: Sink>(
     rt: &R,
     words: &[&str],
-    output: W,
+    output: &mut T,
     errors: &mut E,
 ) -> Outcome
-    ensures quiet { (result ≡ Outcome.Done) ⊎ (result ≡ Outcome.Found) → errors.new ≡ errors.old }
-
-    // A fault is told in one line, unless the sink of errors fails too.
-    ensures told { result ≡ Outcome.Fault → E.failures errors.new ≡ E.failures errors.old
-        → TellsFault (E.taken errors.old) (E.taken errors.new) }
+    // The words make a request, whose answer goes out, or are answered by a text. A fault is one that is due, and is told
+    // in one line; `ls` and `cat` note what they passed over.
+    ensures { Runs (map (λ w. w.now) words.now) (T.taken output.old) (T.given output.new) (T.failures output.old) (T.failures output.new)
+        (Says (errors.new ≡ errors.old) (E.taken errors.old) (E.taken errors.new) (E.failures errors.old) (E.failures errors.new)) result }
 {
-    match meet_words(rt, words, output) {
-        Ok(findings) => Outcome::of(findings),
+    match meet_command(rt, request(rt.alloc(), words), output) {
+        Ok(Success::Found(findings)) => Outcome::of(findings),
+        Ok(Success::Shown(findings)) => note(findings, errors),
         Err(Stop::Usage { text }) => refuse(text.as_str(), errors),
         Err(Stop::Fault(fault)) => tell(&fault, errors),
     }

@@ -1,5 +1,5 @@
 -- How numbers, names and lines are spelled in what the program prints.
-use Rattle.std.specs.Prelude.{ℕ, zero, suc, ◌/◌, ◌%◌, ◌==◌, ◌&&◌, not, Bool, false, nat_lt, nat_le, ◌+◌, List, [], ◌∷◌, ◌++◌, if◌then◌else◌}
+use Rattle.std.specs.Prelude.{ℕ, zero, suc, ◌/◌, ◌%◌, ◌==◌, ◌&&◌, ◌||◌, not, Bool, false, nat_lt, nat_le, ◌+◌, List, [], ◌∷◌, ◌++◌, if◌then◌else◌}
 use Rattle.std.specs.List.{flat_map}
 use Rattle.std.specs.Fmt.{radix_digits}
 
@@ -26,3 +26,15 @@ escaped_byte b = if is_plain b then b ∷ [] else 92 ∷ 120 ∷ hex_digit (b / 
 
 abbrev pub escaped : List ℕ → List ℕ
 escaped bytes = flat_map escaped_byte bytes
+
+-- a byte that would end the line that it is in, or hide in it
+abbrev pub is_control : ℕ → Bool
+is_control b = nat_lt b 0x20 || b == 0x7F
+
+-- in a line it is `\x` and its two hexadecimal digits, and any other byte stands for itself
+abbrev pub in_line_byte : ℕ → List ℕ
+in_line_byte b = if is_control b then 92 ∷ 120 ∷ hex_digit (b / 16) ∷ hex_digit (b % 16) ∷ [] else b ∷ []
+
+-- a text within a line
+abbrev pub in_line : List ℕ → List ℕ
+in_line bytes = flat_map in_line_byte bytes

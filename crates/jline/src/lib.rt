@@ -11,7 +11,7 @@ mod forms;
 mod line;
 mod texts;
 
-pub use crate::escapes::put_escaped;
+pub use crate::escapes::{put_escaped, put_in_line};
 pub use crate::forms::{write_block, write_stretch, write_total};
 pub use crate::line::{LineBuffer, MAX_LINE};
 pub use crate::texts::put_text;

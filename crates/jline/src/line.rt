@@ -1,7 +1,7 @@
 //! One line of what the program prints, in a buffer of fixed size that takes no memory.
 
 ghost use Rattle.std.specs.Prelude.{◌≡◌, ◌+◌, ◌*◌, ◌^◌, ◌<◌, ◌≤◌, ◌++◌, ◌∷◌, [], length, decimal};
-ghost use Rattle.jline.specs.Words.{hex, hex_digit, octal, escaped, escaped_byte};
+ghost use Rattle.jline.specs.Words.{hex, hex_digit, octal, escaped, escaped_byte, in_line, in_line_byte};
 
 use arrayvec::ArrayVec;
 use itoa::Buffer;
@@ -137,6 +137,29 @@ impl LineBuffer {
     {
         for byte in name.iter() {
             self.push_escaped_byte(byte);
+        }
+    }
+
+    fn push_in_line_byte(&mut self, byte: u8)
+        requires { length self.old + 4 ≤ MAX_LINE }
+        ensures text { self.new ≡ self.old ++ in_line_byte byte }
+        ensures grows { length self.new ≤ length self.old + 4 }
+    {
+        if byte < 0x20 || byte == 0x7F {
+            self.push_text(&[b'\\', b'x', digit(byte / 16), digit(byte % 16)]);
+        } else {
+            self.push(byte);
+        }
+    }
+
+    /// A text within a line, each control byte as `\x` and two hexadecimal digits.
+    pub fn push_in_line(&mut self, text: &Part<'_>)
+        requires { length self.old + 4 * length text.now ≤ MAX_LINE }
+        ensures text { self.new ≡ self.old ++ in_line text.now }
+        ensures grows { length self.new ≤ length self.old + 4 * length text.now }
+    {
+        for byte in text.iter() {
+            self.push_in_line_byte(byte);
         }
     }
 }

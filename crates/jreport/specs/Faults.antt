@@ -11,7 +11,7 @@ use Rattle.jmount.specs.declared.fault.FindFault.{FindFault}
 use Rattle.jmount.specs.declared.fault.FindFault.TheVariants as find
 use Rattle.jscan.specs.declared.stream.StreamFault.{StreamFault}
 use Rattle.jscan.specs.declared.stream.StreamFault.TheVariants as stream
-use Rattle.jline.specs.Words.{hex}
+use Rattle.jline.specs.Words.{hex, in_line}
 use Rattle.jreport.specs.declared.report_fault.ReportFault.{ReportFault}
 use Rattle.jreport.specs.declared.report_fault.ReportFault.TheVariants as report
 use Rattle.jreport.specs.declared.faults.ProgramFault.{ProgramFault}
@@ -59,7 +59,7 @@ fault_text_of program.OutOfMemory = codes "P6 OutOfMemory"
 
 -- the line on standard error
 unfoldable pub fault_line_of : ProgramFault → List ℕ
-fault_line_of fault = codes "jffs2_image: " ++ (fault_text_of fault ++ 10 ∷ [])
+fault_line_of fault = codes "jffs2_image: " ++ (in_line (fault_text_of fault) ++ 10 ∷ [])
 
 -- the program's fault that a report's fault is
 abbrev pub fault_of_report : ReportFault → ProgramFault

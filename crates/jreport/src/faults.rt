@@ -2,11 +2,12 @@
 ghost use Rattle.std.specs.Prelude.{◌≡◌, ◌<◌, ◌≤◌, ◌++◌, [], length, take, OnOk, IfErr};
 ghost use Rattle.std.specs.Io.KnownBytes.{Appends};
 ghost use Rattle.flashbase.specs.Device.{Puts, PutsPart, next_count};
+ghost use Rattle.jline.specs.Words.{in_line};
 ghost use Rattle.jreport.specs.Faults.{fault_line_of, fault_text_of, find_text, load_text, mount_text, scan_fault_text};
 
 use crate::report_fault::ReportFault;
 use flashbase::{DeviceFault, LoadFault, PutFault, Sink, put_all};
-use jline::{LineBuffer, put_text};
+use jline::{LineBuffer, put_in_line, put_text};
 use jmount::{FindFault, MountFault};
 use jscan::{ScanFault, StreamFault};
 use std::alloc::{AllocError, AllocFailed};
@@ -264,17 +265,17 @@ pub fn fault_text<T: Sink>(fault: &ProgramFault<'_>, sink: &mut T) -> Result<(),
     put_both(sink, line.as_slice(), name.as_bytes())
 }
 
-/// Puts the text of a fault, and says no more of a fault of the sink than that it failed.
+/// Puts the text of a fault within a line.
 fn put_fault<T: Sink>(fault: &ProgramFault<'_>, sink: &mut T) -> Result<(), DeviceFault>
-    ensures { Puts (T.taken sink.old) (T.taken sink.new) (T.failures sink.old) (T.failures sink.new) (fault_text_of fault.now) result }
+    ensures { Puts (T.taken sink.old) (T.taken sink.new) (T.failures sink.old) (T.failures sink.new) (in_line (fault_text_of fault.now)) result }
 {
-    match fault_text(fault, sink) {
-        Ok(()) => Ok(()),
-        Err(PutFault { .. }) => Err(DeviceFault),
-    }
+    let mut line = LineBuffer::new();
+    let name = push_fault(&mut line, fault);
+    put_in_line(sink, line.as_slice())?;
+    put_in_line(sink, name.as_bytes())
 }
 
-/// Puts the line of a fault, as it stands on standard error.
+/// Puts the line of a fault, as it stands on standard error. It is one line: a control byte of a file's name goes out escaped.
 pub fn fault_line<T: Sink>(fault: &ProgramFault<'_>, sink: &mut T) -> Result<(), DeviceFault>
     ensures ok { OnOk result (Appends (T.taken sink.old) (T.taken sink.new) (fault_line_of fault.now)) }
     ensures failed { IfErr result (λ _. T.failures sink.new ≡ next_count (T.failures sink.old)) }

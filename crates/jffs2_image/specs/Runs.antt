@@ -1,0 +1,155 @@
+-- What a run of the program does: to standard output, to standard error, and in its outcome.
+use Rattle.std.specs.Prelude.{◌≡◌, ◌⊎◌, ◌==◌, ℕ, Bool, true, false, IsFalse, List, Option, Some, None, Result, Ok, Err, IsErrOf, if◌then◌else◌, string_bytes}
+use Rattle.std.specs.Io.KnownBytes.{Appends, Keeps}
+use Rattle.flashbase.specs.Device.{next_count}
+use Rattle.jnode.specs.declared.order.Endian.{Endian}
+use Rattle.jscan.specs.Image.{is_block_size}
+use Rattle.jscan.specs.declared.geometry.ScanFault.TheVariants as scan
+use Rattle.jmount.specs.declared.fault.FindFault.TheVariants as find
+use Rattle.jreport.specs.Faults.{fault_line_of}
+use Rattle.jreport.specs.Loaded.{PutsCheck, PutsFile, PutsListing}
+use Rattle.jreport.specs.Notes.{note_line_of}
+use Rattle.jreport.specs.Stream.{PutsStream}
+use Rattle.jreport.specs.Paths.{path_of}
+use Rattle.jreport.specs.declared.faults.ProgramFault.{ProgramFault}
+use Rattle.jreport.specs.declared.faults.ProgramFault.TheVariants as program
+use Rattle.jcommand.specs.Asked.{Asked, ScanAsked, CheckAsked, TreeAsked, ContentAsked, IsFaultless, IsHelpAsked, IsRefused, IsUnreadable, asked_for, view}
+use Rattle.jcommand.specs.declared.asked.Options.{Options}
+use Rattle.jcommand.specs.declared.asked.Request.{Request}
+use Rattle.jcommand.specs.declared.command_line.RequestFault.{RequestFault}
+use Rattle.jcommand.specs.declared.command_line.RequestFault.TheVariants as refused
+use Rattle.jcommand.specs.Status.{outcome_of}
+use Rattle.jcommand.specs.declared.outcome.Outcome.{Outcome}
+use Rattle.jcommand.specs.declared.outcome.Outcome.TheVariants as outcome
+use Rattle.jffs2_image.specs.declared.program.Success.{Success}
+use Rattle.jffs2_image.specs.declared.program.Success.TheVariants as success
+use Rattle.jffs2_image.specs.declared.program.Stop.{Stop}
+use Rattle.jffs2_image.specs.declared.program.Stop.TheVariants as stop
+
+-- ---- one request
+
+abbrev pub options_asked : Asked → Options
+options_asked (ScanAsked options image) = options
+options_asked (CheckAsked options image) = options
+options_asked (TreeAsked options image) = options
+options_asked (ContentAsked options image path) = options
+
+abbrev pub image_asked : Asked → List ℕ
+image_asked (ScanAsked options image) = image
+image_asked (CheckAsked options image) = image
+image_asked (TreeAsked options image) = image
+image_asked (ContentAsked options image path) = image
+
+-- whether `check` found anything, as a number
+abbrev pub number_found : Bool → ℕ
+number_found found = if found then 1 else 0
+
+-- `check`, with that number
+abbrev pub PutsJudged : Endian → ℕ → List ℕ → Option (List ℕ) → Option (List ℕ) → ℕ → ℕ → Result ℕ ProgramFault → Type 0
+PutsJudged e size image old new before now (Ok n) = (found : Bool) × (n ≡ number_found found) × PutsCheck e size image old new before now (Ok found)
+PutsJudged e size image old new before now (Err fault) = PutsCheck e size image old new before now (Err fault)
+
+-- what is put of an image, or why no more of it is
+abbrev pub PutsAnswer : Endian → Asked → List ℕ → Option (List ℕ) → Option (List ℕ) → ℕ → ℕ → Result ℕ ProgramFault → Type 0
+PutsAnswer e (ScanAsked options name) = PutsStream e options.geometry.block
+PutsAnswer e (CheckAsked options name) = PutsJudged e options.geometry.block
+PutsAnswer e (TreeAsked options name) = PutsListing e options.geometry.block
+PutsAnswer e (ContentAsked options name word) = λ image old new before now answer.
+    (path : List ℕ) × (path_of word ≡ Some path) × PutsFile e options.geometry.block image path old new before now answer
+
+-- why no image is read: its file can't be opened, or the word of the path can't be read
+abbrev pub IsEarlyFault : Asked → ProgramFault → Type 0
+IsEarlyFault asked (program.File name) = name.now ≡ image_asked asked
+IsEarlyFault (ContentAsked options image word) (program.Path find.BadPath) = path_of word ≡ None
+IsEarlyFault (ContentAsked options image word) program.OutOfMemory = Unit {0}
+IsEarlyFault _ _ = ⊥
+
+-- A request is met in the byte order e: there is an image of which the answer is put, or a fault comes before any is read.
+pub record Meets (e : Endian) (asked : Asked) (old new : Option (List ℕ)) (before now : ℕ) (answer : Result ℕ ProgramFault) : Type 0 where
+  pub block_size : IsErrOf answer (program.Scan scan.BlockSize) → IsFalse (is_block_size (options_asked asked).geometry.block)
+  pub put : ((image : List ℕ) × PutsAnswer e asked image old new before now answer)
+      ⊎ ((fault : ProgramFault) × (answer ≡ Err fault) × IsEarlyFault asked fault × (new ≡ old) × (now ≡ before))
+
+-- the output gave on what it took, or failed once more
+abbrev pub Finishes : Option (List ℕ) → Option (List ℕ) → ℕ → ℕ → Bool → Type 0
+Finishes taken given before now true = Keeps taken given × (now ≡ before)
+Finishes taken given before now false = now ≡ next_count before
+
+-- the answer of a request whose output was finished
+abbrev pub answer_finished : Result ℕ ProgramFault → Bool → Result ℕ ProgramFault
+answer_finished (Ok n) true = Ok n
+answer_finished (Ok n) false = Err program.Output
+answer_finished (Err fault) finished = Err fault
+
+-- A request is met in the order that it names, and all that was put is given on.
+pub record MeetsWhole (asked : Asked) (old given : Option (List ℕ)) (before now : ℕ) (result : Result ℕ ProgramFault) : Type 0 where
+  pub taken : Option (List ℕ)
+  pub count : ℕ
+  pub answer : Result ℕ ProgramFault
+  pub finished : Bool
+  pub meets : Meets (options_asked asked).endian asked old taken before count answer
+  pub finishes : Finishes taken given count now finished
+  pub comes_to : result ≡ answer_finished answer finished
+
+-- ---- a run
+
+-- what it comes to that the work found so much
+abbrev pub success_of : Asked → ℕ → Success
+success_of (ScanAsked options image) n = success.Found n
+success_of (CheckAsked options image) n = success.Found n
+success_of (TreeAsked options image) n = success.Shown n
+success_of (ContentAsked options image path) n = success.Shown n
+
+-- the output failed, once or twice
+abbrev pub HasFailed : ℕ → ℕ → Type 0
+HasFailed before now = (now ≡ next_count before) ⊎ (now ≡ next_count (next_count before))
+
+-- What a command line is answered: the request is met; help goes out; a refusal and want of memory stay what they are.
+abbrev pub MeetsCommand : Result Request RequestFault → Option (List ℕ) → Option (List ℕ) → ℕ → ℕ → Result Success Stop → Type 0
+MeetsCommand (Ok request) old given before now (Ok ended) =
+    (n : ℕ) × (ended ≡ success_of (view request) n) × MeetsWhole (view request) old given before now (Ok n)
+MeetsCommand (Ok request) old given before now (Err (stop.Fault fault)) = MeetsWhole (view request) old given before now (Err fault)
+MeetsCommand (Err (refused.Help text)) old given before now (Ok ended) =
+    (ended ≡ success.Shown 0) × Appends old given (string_bytes text) × (now ≡ before)
+MeetsCommand (Err (refused.Help text)) old given before now (Err (stop.Fault fault)) = (fault ≡ program.Output) × HasFailed before now
+MeetsCommand (Err (refused.Usage text)) old given before now (Err (stop.Usage said)) = said ≡ text
+MeetsCommand (Err refused.OutOfMemory) old given before now (Err (stop.Fault fault)) = fault ≡ program.OutOfMemory
+MeetsCommand _ old given before now _ = ⊥
+
+-- what the words make of a command line
+abbrev pub IsCommand : List (List ℕ) → Result Request RequestFault → Type 0
+IsCommand words (Ok request) = (asked_for words ≡ Some (view request)) × IsFaultless words
+IsCommand words (Err (refused.Help text)) = IsHelpAsked words
+IsCommand words (Err (refused.Usage text)) = IsRefused words ⊎ IsUnreadable words
+IsCommand words (Err refused.OutOfMemory) = Unit {0}
+
+abbrev pub outcome_after : Result Success Stop → Outcome
+outcome_after (Ok (success.Found n)) = outcome_of n
+outcome_after (Ok (success.Shown n)) = outcome.Done
+outcome_after (Err (stop.Usage text)) = outcome.Usage
+outcome_after (Err (stop.Fault fault)) = outcome.Fault
+
+-- the note on so many findings
+abbrev pub note_after : ℕ → Option (List ℕ)
+note_after n = if n == 0 then None else Some (note_line_of n)
+
+-- what is said on standard error
+abbrev pub said_after : Result Success Stop → Option (List ℕ)
+said_after (Ok (success.Found n)) = None
+said_after (Ok (success.Shown n)) = note_after n
+said_after (Err (stop.Usage text)) = Some (string_bytes text)
+said_after (Err (stop.Fault fault)) = Some (fault_line_of fault)
+
+-- standard error is left alone where nothing is said; else it took the text, unless it failed
+abbrev pub Says : Type 0 → Option (List ℕ) → Option (List ℕ) → ℕ → ℕ → Option (List ℕ) → Type 0
+Says untouched old new before now None = untouched
+Says untouched old new before now (Some text) = now ≡ before → Appends old new text
+
+-- A run on these words: what they make of a command line, what that is answered, and how it ends.
+pub record Runs (words : List (List ℕ)) (old given : Option (List ℕ)) (before now : ℕ) (says : Option (List ℕ) → Type 0) (result : Outcome) : Type 0 where
+  pub command : Result Request RequestFault
+  pub answer : Result Success Stop
+  pub is : IsCommand words command
+  pub meets : MeetsCommand command old given before now answer
+  pub ends : result ≡ outcome_after answer
+  pub said : says (said_after answer)

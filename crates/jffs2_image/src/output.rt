@@ -1,0 +1,76 @@
+//! Standard output, through a buffer that is emptied before a run ends.
+ghost use Rattle.std.specs.Prelude.{◌≡◌, ℕ, List, Option, IfOk, OnOk};
+ghost use Rattle.std.specs.Io.KnownBytes.{Keeps};
+ghost use Rattle.std.specs.Io.Buffered.{writer_contents, writer_inner};
+ghost use Rattle.flashbase.specs.Device.{CountsErr};
+
+use flashbase::{DeviceFault, Sink};
+use std::alloc::Global;
+use std::io;
+use std::io::{BufWriter, Write};
+
+/// Output goes out in pieces of this many bytes.
+const BUFFER: usize = 65536;
+
+/// A sink that may keep back what it took.
+pub trait Output: Sink {
+    /// The bytes that it gave on, where they are told.
+    ghost given: { Self → Option (List ℕ) };
+
+    /// Gives on all that it took. A failure counts as one of the sink.
+    fn finish(&mut self) -> Result<(), DeviceFault>
+        ensures given { OnOk result (Keeps (Self.taken self.old) (given self.new)) }
+        ensures count { CountsErr (Self.failures self.old) (Self.failures self.new) result };
+}
+
+/// A writer behind a buffer. A call that was interrupted, or that takes nothing of a nonempty slice, is a failure.
+#[derive(Drop)]
+pub struct BufferedOutput<W: Write + Drop> {
+    writer: BufWriter<W>,
+    failures: u64,
+}
+
+impl<W: Write + Drop> BufferedOutput<W> {
+    pub fn new(alloc: Global, writer: W) -> io::Result<Self> {
+        let writer = BufWriter::with_capacity(alloc, BUFFER, writer)?;
+        Ok(BufferedOutput {
+            writer,
+            failures: 0,
+        })
+    }
+}
+
+impl<W: Write + Drop> Sink for BufferedOutput<W> {
+    ghost taken = { λ s. writer_contents W.contents s.writer };
+
+    ghost failures = { λ s. s.failures };
+
+    fn put(&mut self, bytes: &[u8]) -> Result<usize, DeviceFault> {
+        match self.writer.write(bytes) {
+            Ok(n) => {
+                if n == 0 && !bytes.is_empty() {
+                    self.failures = self.failures.wrapping_add(1);
+                }
+                Ok(n)
+            }
+            Err(_) => {
+                self.failures = self.failures.wrapping_add(1);
+                Err(DeviceFault)
+            }
+        }
+    }
+}
+
+impl<W: Write + Drop> Output for BufferedOutput<W> {
+    ghost given = { λ s. W.contents (writer_inner s.writer) };
+
+    fn finish(&mut self) -> Result<(), DeviceFault> {
+        match self.writer.flush() {
+            Ok(()) => Ok(()),
+            Err(_) => {
+                self.failures = self.failures.wrapping_add(1);
+                Err(DeviceFault)
+            }
+        }
+    }
+}
