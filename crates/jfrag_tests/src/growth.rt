@@ -7,7 +7,12 @@ use std::process::Abort;
 use std::test::Fail;
 
 /// Lays one piece. Where that is refused, what stood still stands, and it can be laid then.
-fn is_added_or_stays<'a, O: Overlay<'a>>(rt: &impl Abort, laid: &mut O, version: u32, offset: u32) -> Result<(), Fail> {
+fn is_added_or_stays<'a, O: Overlay<'a>>(
+    rt: &impl Abort,
+    laid: &mut O,
+    version: u32,
+    offset: u32,
+) -> Result<(), Fail> {
     let offset = offset % 50;
     let before = first_bytes(laid);
     let held = laid.pieces();

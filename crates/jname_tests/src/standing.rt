@@ -109,11 +109,7 @@ fn names_stand_in_byte_order(rt: HostRuntime) {
 #[test]
 fn directories_stand_in_order(rt: HostRuntime) {
     let mut names = directory_9(&rt, rt.alloc());
-    for (pino, ino, name) in [
-        (10, 11, b"a"),
-        (0xFFFF_FFFF, 13, b"a"),
-        (2, 12, b"z"),
-    ] {
+    for (pino, ino, name) in [(10, 11, b"a"), (0xFFFF_FFFF, 13, b"a"), (2, 12, b"z")] {
         add(&rt, &mut names, &entry(pino, 1, ino, name));
     }
     let mut all = names.all();

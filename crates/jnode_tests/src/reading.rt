@@ -44,7 +44,10 @@ fn is_seen(rt: &impl Abort, bytes: &[u8], seen: (&'static str, u32)) {
 #[test]
 fn types_are_seen(rt: HostRuntime) {
     is_seen(&rt, &little_marker(), ("marker", 0));
-    assert_eq!(rt; brief(&look::<BigEndian>(&rt, &big_marker())), ("marker", 0));
+    assert_eq!(rt;
+        brief(&look::<BigEndian>(&rt, &big_marker())),
+        ("marker", 0)
+    );
     is_seen(&rt, &padding_16(), ("padding", 0));
     is_seen(&rt, &attribute(), ("attribute", 0));
     is_seen(&rt, &incompatible(), ("incompatible", 0xE0F7));

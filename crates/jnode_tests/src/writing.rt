@@ -4,8 +4,8 @@ use crate::nodes::{entry_of, new_file, start_of, write_of, zeros_of_96};
 use crate::vectors::*;
 use byteorder::{BigEndian, LittleEndian};
 use jnode::{
-    InodeNode, Order, WriteFault, header_at, read_node, write_entry, write_inode, write_marker,
-    write_padding, Seen,
+    InodeNode, Order, Seen, WriteFault, header_at, read_node, write_entry, write_inode,
+    write_marker, write_padding,
 };
 use std::alloc::Global;
 use std::process::Abort;
