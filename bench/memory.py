@@ -12,6 +12,7 @@ programs are those that `rt run` built in CRATES (here, where it is not given).
   children     directories: an inode node, and one entry
 """
 import os
+import subprocess
 import sys
 
 from images import BLOCK, blocks, entry, inode
@@ -52,8 +53,8 @@ THINGS = (numbers, data, versions, directories, children)
 def measured(words, folder):
     """Runs a command, and answers its seconds of processor time and its greatest memory in KiB."""
     told = os.path.join(folder, "memory")
-    child = os.spawnvp(os.P_NOWAIT, "/usr/bin/time", ["time", "-q", "-o", told, "-f", "%M", *words])
-    _, status, used = os.wait4(child, 0)
+    child = subprocess.Popen(["/usr/bin/time", "-q", "-o", told, "-f", "%M", *words], stdout=subprocess.DEVNULL)
+    _, status, used = os.wait4(child.pid, 0)
     if status != 0:
         sys.exit(f"{words} failed")
     with open(told) as file:
