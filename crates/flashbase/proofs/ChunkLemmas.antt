@@ -16,13 +16,13 @@ chunk_at n (suc count) (suc k) xs h =
     chunk_at n count k (drop n xs) (omega arith) ∙ ap (take n) (drop-drop (k * n) n xs ∙ ap (λ (i : ℕ). drop i xs) moved)
 
 -- one more chunk taken in
-pub crc_after-chunk : (start k count sum : ℕ) (bytes : List ℕ) → k < count → sum ≡ crc_after start (take (k * 8) bytes)
-    → crc_after sum (get_or (first_chunks 8 count bytes) k []) ≡ crc_after start (take ((k + 1) * 8) bytes)
-crc_after-chunk start k count sum bytes within so_far =
-    let more : k * 8 + 8 ≡ (k + 1) * 8 = omega arith in
-    rw (chunk_at 8 count k bytes within, so_far)
-    (crc_goes_on start (take (k * 8) bytes) (take 8 (drop (k * 8) bytes))
-    ∙ ap (crc_after start) (sym (take-add (k * 8) 8 bytes) ∙ ap (λ (n : ℕ). take n bytes) more))
+pub crc_after-chunk : (n start k count sum : ℕ) (bytes : List ℕ) → k < count → sum ≡ crc_after start (take (k * n) bytes)
+    → crc_after sum (get_or (first_chunks n count bytes) k []) ≡ crc_after start (take ((k + 1) * n) bytes)
+crc_after-chunk n start k count sum bytes within so_far =
+    let more : k * n + n ≡ (k + 1) * n = grind arith in
+    rw (chunk_at n count k bytes within, so_far)
+    (crc_goes_on start (take (k * n) bytes) (take n (drop (k * n) bytes))
+    ∙ ap (crc_after start) (sym (take-add (k * n) n bytes) ∙ ap (λ (m : ℕ). take m bytes) more))
 
 -- the bytes behind the chunks
 pub crc_after-rest : (start n sum : ℕ) (bytes : List ℕ) → sum ≡ crc_after start (take n bytes) → crc_after sum (drop n bytes) ≡ crc_after start bytes

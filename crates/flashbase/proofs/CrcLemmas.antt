@@ -131,7 +131,7 @@ places_on-places_on (suc m) n x =
 
 -- ---- bytes 0 only move the remainder on
 
-crc_after-zeros : (k x : ℕ) → crc_after x (replicate k 0) ≡ places_on (8 * k) x
+pub crc_after-zeros : (k x : ℕ) → crc_after x (replicate k 0) ≡ places_on (8 * k) x
 unfolding crc_after push_byte places_on
 crc_after-zeros zero x = refl
 crc_after-zeros (suc k) x =
@@ -167,14 +167,18 @@ crc_after-word c (b ∷ bytes) h =
     ∙ ap (places_on (8 + n)) (sym (xor_assoc (w * 2 ^ 8) c b) ∙ ap (λ (x : ℕ). bit_xor x b) (xor_comm (w * 2 ^ 8) c) ∙ xor_assoc c (w * 2 ^ 8) b ∙ ap (bit_xor c) (sym whole))
     ∙ ap (λ (k : ℕ). places_on k (bit_xor c (b + 256 * w))) (sym longer)
 
+-- what stood before goes on over as many bytes 0, and the bytes have a checksum of their own
+pub crc_after-split : (x : ℕ) (bytes : List ℕ) → AreBytes bytes → crc_after x bytes ≡ bit_xor (crc_after x (replicate (length bytes) 0)) (crc_of bytes)
+crc_after-split x bytes h =
+    let n : ℕ = 8 * length bytes in
+    crc_after-word x bytes h ∙ places_on-xor n x (word bytes)
+    ∙ ap (λ (y : ℕ). bit_xor y (places_on n (word bytes))) (sym (crc_after-zeros (length bytes) x))
+    ∙ ap (bit_xor (crc_after x (replicate (length bytes) 0))) (ap (places_on n) (sym (xor_zero_l (word bytes))) ∙ sym (crc_after-word 0 bytes h))
+
 -- a byte's share of the checksum, with bytes 0 in place of those behind it
 crc_of-split : (b : ℕ) (bytes : List ℕ) → AreBytes bytes → crc_of (b ∷ bytes) ≡ bit_xor (crc_of (b ∷ replicate (length bytes) 0)) (crc_of bytes)
 unfolding crc_after
-crc_of-split b bytes h =
-    let n : ℕ = 8 * length bytes in
-    crc_after-word (push_byte 0 b) bytes h ∙ places_on-xor n (push_byte 0 b) (word bytes)
-    ∙ ap (λ (x : ℕ). bit_xor x (places_on n (word bytes))) (sym (crc_after-zeros (length bytes) (push_byte 0 b)))
-    ∙ ap (bit_xor (crc_of (b ∷ replicate (length bytes) 0))) (ap (places_on n) (sym (xor_zero_l (word bytes))) ∙ sym (crc_after-word 0 bytes h))
+crc_of-split b bytes h = crc_after-split (push_byte 0 b) bytes h
 
 -- the bytes' shares together
 abbrev pub shares : List ℕ → ℕ

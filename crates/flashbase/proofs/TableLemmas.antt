@@ -71,5 +71,5 @@ first_at b small =
     let same : 0 + b ≡ b = omega arith in
     entry_at 0 b (get_or TABLES 0 []) are_entries-TABLES small ∙ ap (λ (n : ℕ). crc_of (n ∷ [])) same ∙ crc_of-one b small
 
-pub table_at : (k b : ℕ) → k < 8 → b < 256 → slice_index (get_or TABLES k []) b ≡ crc_of (b ∷ replicate k 0)
+pub table_at : (k b : ℕ) → k < 16 → b < 256 → slice_index (get_or TABLES k []) b ≡ crc_of (b ∷ replicate k 0)
 table_at k b within small = chain_at TABLES 8 are_tables-TABLES first_at k b within small ∙ sym (crc_of-before_zeros k b small)

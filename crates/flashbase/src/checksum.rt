@@ -1,6 +1,7 @@
 //! The checksum of JFFS2: `crc32(0, ..)` of the Linux kernel, as include/uapi/linux/jffs2.h uses it.
 
-ghost use Rattle.std.specs.Prelude.{◌≡◌, length};
+ghost use Rattle.std.specs.Prelude.{◌≡◌, ◌≤◌, ◌++◌, length, replicate};
+ghost use Rattle.std.specs.Int.{w64, to_le_bytes};
 ghost use Rattle.flashbase.specs.Crc.{crc_after, crc_of, push_byte};
 
 use crate::tables::table_entry;
@@ -17,6 +18,27 @@ pub fn crc(bytes: &[u8]) -> u32
 pub fn crc_from(start: u32, bytes: &[u8]) -> u32
     ensures { result ≡ crc_after start bytes.now }
 {
+    let (whole, rest) = bytes.as_chunks::<16>();
+    let mut remainder = start;
+    for chunk in whole {
+        remainder = push_sixteen(remainder, chunk);
+    }
+    push_short(remainder, rest)
+}
+
+/// Sixteen bytes more.
+fn push_sixteen(remainder: u32, bytes: &[u8; 16]) -> u32
+    ensures { result ≡ crc_after remainder bytes.now }
+{
+    let (halves, _) = bytes.as_chunks::<8>();
+    let first = u64::from(remainder) ^ u64::from_le_bytes(halves[0]);
+    share_of_eight(u64::from_le_bytes(halves[1]), 0) ^ share_of_eight(first, 8)
+}
+
+/// The bytes by eight, and those that are left one by one.
+fn push_short(start: u32, bytes: &[u8]) -> u32
+    ensures { result ≡ crc_after start bytes.now }
+{
     let (whole, rest) = bytes.as_chunks::<8>();
     let mut remainder = start;
     for chunk in whole {
@@ -29,16 +51,24 @@ pub fn crc_from(start: u32, bytes: &[u8]) -> u32
 fn push_eight(remainder: u32, bytes: &[u8; 8]) -> u32
     ensures { result ≡ crc_after remainder bytes.now }
 {
-    let word = u64::from(remainder) ^ u64::from_le_bytes(*bytes);
+    share_of_eight(u64::from(remainder) ^ u64::from_le_bytes(*bytes), 0)
+}
+
+/// The checksum of the eight bytes of a word, the lowest first, and then `zeros` bytes 0. The last bytes are looked up
+/// first: the remainder goes into the first ones, and the others need not wait for it.
+fn share_of_eight(word: u64, zeros: usize) -> u32
+    requires { zeros ≤ 8 }
+    ensures { result ≡ crc_of (to_le_bytes w64 word ++ replicate zeros 0) }
+{
     let [a, b, c, d, e, f, g, h] = word.to_le_bytes();
-    table_entry(a, 7)
-        ^ table_entry(b, 6)
-        ^ table_entry(c, 5)
-        ^ table_entry(d, 4)
-        ^ table_entry(e, 3)
-        ^ table_entry(f, 2)
-        ^ table_entry(g, 1)
-        ^ table_entry(h, 0)
+    table_entry(h, zeros)
+        ^ table_entry(g, zeros + 1)
+        ^ table_entry(f, zeros + 2)
+        ^ table_entry(e, zeros + 3)
+        ^ table_entry(d, zeros + 4)
+        ^ table_entry(c, zeros + 5)
+        ^ table_entry(b, zeros + 6)
+        ^ table_entry(a, zeros + 7)
 }
 
 /// The bytes one by one.

@@ -11,6 +11,7 @@ use Rattle.jnode.specs.declared.node.Fill.{Fill}
 use Rattle.jnode.specs.declared.node.Fill.TheVariants.{Zero, Data}
 use Rattle.jnode.specs.declared.node.NodeRef.{NodeRef}
 use Rattle.jnode.specs.declared.node.NodeRef.TheVariants as node
+use Rattle.jnode.specs.declared.node.Damage.{Damage}
 use Rattle.jnode.specs.declared.node.Damage.TheVariants.{NodeCrc, NameCrc, DataCrc, Length, Range}
 use Rattle.jnode.specs.declared.node.Seen.{Seen}
 use Rattle.jnode.specs.declared.node.Seen.TheVariants.{Entry, Inode, Marker, Padding, Obsolete, Attribute, Skippable, ReadOnly, Incompatible, Compressed, Damaged}
@@ -37,6 +38,15 @@ xattr_type = 0xE008
 
 abbrev pub xref_type : ℕ
 xref_type = 0xE009
+
+-- ---- the numbers of the checks
+
+abbrev pub damage_number : Damage → ℕ
+damage_number NodeCrc = 1
+damage_number NameCrc = 2
+damage_number DataCrc = 3
+damage_number Length = 4
+damage_number Range = 5
 
 -- ---- tiles
 

@@ -59,6 +59,18 @@ pub enum Damage {
     Range,
 }
 
+impl Damage {
+    ghost use Rattle.std.specs.Prelude.{◌≡◌};
+    ghost use Rattle.jnode.specs.Reading.{damage_number};
+
+    /// The number of the check, in the order of their table.
+    pub fn number(self) -> u32
+        ensures { result ≡ damage_number self }
+    {
+        self as u32
+    }
+}
+
 /// What a node is seen as.
 #[derive(Drop)]
 pub enum Seen<'a> {

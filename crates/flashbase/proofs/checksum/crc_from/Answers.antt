@@ -9,14 +9,14 @@ loop-chunk-init c = refl
 
 pub loop-chunk-preserved : goal.loop-chunk-preserved
 loop-chunk-preserved c =
-    let within : c.loop-chunk.chunk-index < length c.args.bytes.now / 8 = omega (arith, c.as_chunks.ensures.front_len) in
-    c.push_eight-remainder.ensures
+    let within : c.loop-chunk.chunk-index < length c.args.bytes.now / 16 = omega (arith, c.as_chunks.ensures.front_len) in
+    c.push_sixteen-remainder.ensures
     ∙ ap (λ (chunks : List (List ℕ)). crc_after c.loop-chunk.remainder (get_or chunks c.loop-chunk.chunk-index [])) c.as_chunks.ensures.front
-    ∙ crc_after-chunk c.args.start c.loop-chunk.chunk-index (length c.args.bytes.now / 8) c.loop-chunk.remainder c.args.bytes.now within c.loop-chunk.invariant
+    ∙ crc_after-chunk 16 c.args.start c.loop-chunk.chunk-index (length c.args.bytes.now / 16) c.loop-chunk.remainder c.args.bytes.now within c.loop-chunk.invariant
 
 pub returns : goal.returns
 returns c =
-    let all : c.loop-chunk.chunk-index ≡ length c.args.bytes.now / 8 = omega (arith, c.as_chunks.ensures.front_len) in
-    c.push_each.ensures
-    ∙ ap (crc_after c.loop-chunk.remainder) (c.as_chunks.ensures.back ∙ ap (λ (k : ℕ). drop (k * 8) c.args.bytes.now) (sym all))
-    ∙ crc_after-rest c.args.start (c.loop-chunk.chunk-index * 8) c.loop-chunk.remainder c.args.bytes.now c.loop-chunk.invariant
+    let all : c.loop-chunk.chunk-index ≡ length c.args.bytes.now / 16 = omega (arith, c.as_chunks.ensures.front_len) in
+    c.push_short.ensures
+    ∙ ap (crc_after c.loop-chunk.remainder) (c.as_chunks.ensures.back ∙ ap (λ (k : ℕ). drop (k * 16) c.args.bytes.now) (sym all))
+    ∙ crc_after-rest c.args.start (c.loop-chunk.chunk-index * 16) c.loop-chunk.remainder c.args.bytes.now c.loop-chunk.invariant
