@@ -221,8 +221,11 @@ pub(crate) fn image_of(alloc: Global, nodes: &[Node<'_>]) -> Result<Vec<u8>, &'s
         if !is_written(&mut image, *node) {
             return Err("no node");
         }
-        let filled = image.len().next_multiple_of(4);
-        if image.resize(filled, 0xFF).is_err() {
+        let missing = (4 - image.len() % 4) % 4;
+        if image
+            .extend_from_slice(&[0xFF; 3][..missing])
+            .is_err()
+        {
             return Err("no memory");
         }
     }
