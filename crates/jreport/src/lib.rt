@@ -1,12 +1,14 @@
 //! What is told of an image: its report, the verdict on its mount, the listing of its tree, and the content of its files.
 //!
-//! It stands on `jline` (lines of text), `jscan` (the stretches of an image) and `jmount` (the file system that its nodes make).
-//! Its promise to the program: what goes to a sink is the text of the bytes that were read, and a fault says why no more of it did.
+//! It stands on `jline` (lines of text), `jscan` (the stretches of an image) and `jmount` (the file system that its nodes
+//! make). Its promise to the program: what goes to a sink is the text of the bytes that were read, and a fault says why no
+//! more of it did.
 //!
 //! `specs/Report.antt` says what the report of an image is, `specs/Verdict.antt` what is said of its mount,
-//! `specs/TreeText.antt` what the listing is, `specs/Content.antt` which bytes a path names, `specs/Faults.antt` how faults
-//! are spelled, and `specs/Loaded.antt` what the calls do that read a whole image. `report_rows` and `fault_rows` have worked
-//! examples, and `tree_laws` laws of the listing.
+//! `specs/TreeText.antt` what the listing is, `specs/Content.antt` which bytes a path names, `specs/Notes.antt` what is told of
+//! findings beside them, and `specs/Faults.antt` how faults are spelled. `specs/Puts.antt` (of an image in memory),
+//! `specs/Stream.antt` (block by block) and `specs/Loaded.antt` (read as a whole) say what the calls do. `report_rows` and
+//! `fault_rows` have worked examples, and `tree_laws` laws of the listing.
 #![tactic(auto)]
 
 mod blocks;
