@@ -222,10 +222,7 @@ pub(crate) fn image_of(alloc: Global, nodes: &[Node<'_>]) -> Result<Vec<u8>, &'s
             return Err("no node");
         }
         let missing = (4 - image.len() % 4) % 4;
-        if image
-            .extend_from_slice(&[0xFF; 3][..missing])
-            .is_err()
-        {
+        if image.extend_from_slice(&[0xFF; 3][..missing]).is_err() {
             return Err("no memory");
         }
     }
