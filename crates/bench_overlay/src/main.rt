@@ -70,59 +70,59 @@ fn pieces_of(alloc: Global, arrival: Arrival, n: u32) -> Result<Vec<Piece<'stati
     Ok(pieces)
 }
 
-fn laid_by_overlay<'a>(alloc: Global, pieces: &[Piece<'a>]) -> Result<FragOverlay<'a>, AllocError>
+fn overlaid_at_once<'a>(alloc: Global, pieces: &[Piece<'a>]) -> Result<FragOverlay<'a>, AllocError>
     requires { All (λ piece. end_of piece < 2 ^ 32) pieces.now }
 {
     overlay(alloc, pieces)
 }
 
-fn laid_one_by_one(
+fn overlaid_one_by_one(
     alloc: Global,
     arrival: Arrival,
     n: u32,
 ) -> Result<FragOverlay<'static>, AllocError> {
-    let mut laid = FragOverlay::new(alloc);
+    let mut overlaid = FragOverlay::new(alloc);
     let mut state = 12345u64;
     for i in 0..n {
         state = (state % 2_147_483_648 * 1_103_515_245 + 12_345) % 2_147_483_648;
-        laid.add(piece_of(arrival, i, n, (state / 8) as u32))?;
+        overlaid.add(piece_of(arrival, i, n, (state / 8) as u32))?;
     }
-    Ok(laid)
+    Ok(overlaid)
 }
 
-fn read_all(laid: &FragOverlay<'_>, n: u32) {
+fn read_all(overlaid: &FragOverlay<'_>, n: u32) {
     let mut out = [0u8; 4096];
     for page in 0..n / 64 {
-        laid.read_at(u64::from(page) * 4096, &mut out);
+        overlaid.read_at(u64::from(page) * 4096, &mut out);
     }
 }
 
-/// Times n and 2n pieces of each order of arrival, laid at once and one by one.
+/// Times n and 2n pieces of each order of arrival, overlaid at once and one by one.
 fn measure<R: Print + Clock + AllocGlobal>(rt: &R) -> io::Result<()> {
     for (name, arrival) in ARRIVALS {
         for n in [50_000u32, 100_000, 200_000, 400_000] {
             let pieces = pieces_of(rt.alloc(), arrival, n)?;
             let start = Instant::now(rt)?;
-            let laid = laid_by_overlay(rt.alloc(), &pieces)?;
+            let overlaid = overlaid_at_once(rt.alloc(), &pieces)?;
             let took = start.elapsed(rt)?;
             let start = Instant::now(rt)?;
-            read_all(&laid, n);
+            read_all(&overlaid, n);
             let read = start.elapsed(rt)?;
             println!(rt;
                 "{name}: n {n} overlay {} ms, {} intervals, reading {} ms",
                 took.as_millis(),
-                laid.pieces(),
+                overlaid.pieces(),
                 read.as_millis()
             )?;
         }
         for n in [5_000u32, 10_000] {
             let start = Instant::now(rt)?;
-            let laid = laid_one_by_one(rt.alloc(), arrival, n)?;
+            let overlaid = overlaid_one_by_one(rt.alloc(), arrival, n)?;
             let took = start.elapsed(rt)?;
             println!(rt;
                 "{name}: n {n} add by add {} ms, {} intervals",
                 took.as_millis(),
-                laid.pieces()
+                overlaid.pieces()
             )?;
         }
     }
@@ -136,8 +136,8 @@ fn count<R: Print + AllocGlobal>(rt: &R) -> io::Result<()> {
         ("old over new", Arrival::OldOverNew),
     ] {
         let pieces = pieces_of(rt.alloc(), arrival, 1000)?;
-        let laid = laid_by_overlay(rt.alloc(), &pieces)?;
-        println!(rt; "{name}: {} intervals", laid.pieces())?;
+        let overlaid = overlaid_at_once(rt.alloc(), &pieces)?;
+        println!(rt; "{name}: {} intervals", overlaid.pieces())?;
     }
     Ok(())
 }

@@ -1,4 +1,4 @@
--- What padding to words gives, and the longest beginning of 0xFF by its twin.
+-- What padding to words gives, and the longest beginning of 0xFF by its computable form.
 use Rattle.std.proofs.Common.{◌≡◌, ◌==◌, ℕ, ◌+◌, ◌-◌, ◌*◌, ◌%◌, ◌^◌, ◌<◌, ◌≤◌, ◌↔◌, Bool, true, false, not, cond, eqb, List, [], ◌∷◌, map, length, take, drop, get_or, replicate, slice_index, refl, sym, ap, ap₂, ◌∙◌, subst, arith, inl, inr, w8, eq-eqb, length-drop}
 use Rattle.std.proofs.lemmas.Bool.{cases_lt, eqb-true, eqb-false, ne_eqb}
 use Rattle.std.proofs.lemmas.List.{get_or-take, get_or-drop, get_or-replicate}
@@ -20,7 +20,7 @@ pub pad4_words : (n : ℕ) → pad4_of n % 4 ≡ 0
 unfolding pad4_of
 pad4_words n = omega arith
 
--- no multiple of 4 stands between
+-- no multiple of 4 is between
 pub pad4_least : (n m : ℕ) → n ≤ m → m % 4 ≡ 0 → pad4_of n ≤ m
 unfolding pad4_of
 pad4_least n m h words = omega arith
@@ -42,7 +42,7 @@ erased_run_is_longest bytes n = (
   }),
 )
 
--- behind n erased bytes the run goes on
+-- after n erased bytes the run goes on
 pub erased_run-behind : (n r : ℕ) (bytes : List ℕ) → n ≤ length bytes → take n bytes ≡ erased n → IsErasedRun (drop n bytes) r → IsErasedRun bytes (n + r)
 erased_run-behind n r bytes within front run = record {
   within = omega (arith, run.within, length-drop n bytes);

@@ -24,7 +24,7 @@ crc_after-chunk n start k count sum bytes within so_far =
     (crc_goes_on start (take (k * n) bytes) (take n (drop (k * n) bytes))
     ∙ ap (crc_after start) (sym (take-add (k * n) n bytes) ∙ ap (λ (m : ℕ). take m bytes) more))
 
--- the bytes behind the chunks
+-- the bytes after the chunks
 pub crc_after-rest : (start n sum : ℕ) (bytes : List ℕ) → sum ≡ crc_after start (take n bytes) → crc_after sum (drop n bytes) ≡ crc_after start bytes
 crc_after-rest start n sum bytes so_far =
     rw so_far (crc_goes_on start (take n bytes) (drop n bytes) ∙ ap (crc_after start) (take-append-drop n bytes))

@@ -24,7 +24,7 @@ digit n = grind arith
 pub swap : (a b p : ℕ) → bit_xor (bit_xor a p) b ≡ bit_xor (bit_xor a b) p
 swap a b p = xor_assoc a p b ∙ ap (bit_xor a) (xor_comm p b) ∙ sym (xor_assoc a b p)
 
--- the message's bits may stand in the remainder before they are reached
+-- the message's bits may be in the remainder before they are reached
 pub push_bit-bit_xor : (c b : ℕ) → bit_xor (push_bit c (b % 2)) (b / 2) ≡ push_bit (bit_xor c b) 0
 unfolding push_bit
 push_bit-bit_xor c b =
@@ -41,7 +41,7 @@ push_bit-bit_xor c b =
       ]
     ]
 
--- what stands above the bit that leaves only moves down
+-- what is above the bit that leaves only moves down
 pub push_bit-above : (x y : ℕ) → push_bit (bit_xor (x * 2) y) 0 ≡ bit_xor x (push_bit y 0)
 unfolding push_bit
 push_bit-above x y =
@@ -54,7 +54,7 @@ push_bit-above x y =
       | inr y_is ↦ rw (low, high, y_is) (xor_assoc x (y / 2) 0xEDB88320)
     ]
 
--- n bits of a message may stand in the remainder at once
+-- n bits of a message may be in the remainder at once
 pub push_bits-at_once : (n c b : ℕ) → b < 2 ^ n → push_bits n c b ≡ places_on n (bit_xor c b)
 unfolding push_bits places_on
 push_bits-at_once zero c b h = let none : b ≡ 0 = omega arith in rw none (sym (xor_zero_r c))
@@ -175,7 +175,7 @@ crc_after-split x bytes h =
     ∙ ap (λ (y : ℕ). bit_xor y (places_on n (word bytes))) (sym (crc_after-zeros (length bytes) x))
     ∙ ap (bit_xor (crc_after x (replicate (length bytes) 0))) (ap (places_on n) (sym (xor_zero_l (word bytes))) ∙ sym (crc_after-word 0 bytes h))
 
--- a byte's share of the checksum, with bytes 0 in place of those behind it
+-- a byte's share of the checksum, with bytes 0 in place of those after it
 crc_of-split : (b : ℕ) (bytes : List ℕ) → AreBytes bytes → crc_of (b ∷ bytes) ≡ bit_xor (crc_of (b ∷ replicate (length bytes) 0)) (crc_of bytes)
 unfolding crc_after
 crc_of-split b bytes h = crc_after-split (push_byte 0 b) bytes h

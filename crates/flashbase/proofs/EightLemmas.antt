@@ -72,7 +72,7 @@ shares-zeros (suc k) =
     crc_of-before_zeros (length (replicate k 0)) 0 (omega arith) ∙ places_on-zero (8 + 8 * length (replicate k 0)) in
     ap₂ bit_xor none (shares-zeros k)
 
--- the bytes' shares with so many bytes 0 behind them all
+-- the bytes' shares with so many bytes 0 after them all
 abbrev shares_before : ℕ → List ℕ → ℕ
 shares_before zeros [] = 0
 shares_before zeros (b ∷ bytes) = bit_xor (crc_of (b ∷ replicate (zeros + length bytes) 0)) (shares_before zeros bytes)
@@ -90,7 +90,7 @@ backwards a b c d e f g i =
     xor_comm _ a ∙ ap (bit_xor a) (xor_comm _ b ∙ ap (bit_xor b) (xor_comm _ c ∙ ap (bit_xor c) (xor_comm _ d ∙ ap (bit_xor d)
     (xor_comm _ e ∙ ap (bit_xor e) (xor_comm _ f ∙ ap (bit_xor f) (xor_comm i g ∙ ap (bit_xor g) (sym (xor_zero_r i))))))))
 
--- the table's entry for the byte at a place of eight, with so many bytes 0 behind the eight
+-- the table's entry for the byte at a place of eight, with so many bytes 0 after the eight
 abbrev pub entry_of : List ℕ → ℕ → ℕ → ℕ
 entry_of bytes zeros k = crc_of (slice_index bytes k ∷ replicate (zeros + (7 - k)) 0)
 

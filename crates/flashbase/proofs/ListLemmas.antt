@@ -19,7 +19,7 @@ use Rattle.flashbase.specs.Lists.{below, each_below, newest, higher_of, IsNewest
 
 -- ---- the one of highest version
 
--- x after what stood
+-- x after what was there
 abbrev pub after_last : {X : Type 0} → (X → ℕ) → Option X → X → X
 after_last version None x = x
 after_last version (Some y) x = higher_of version y (Some x)
@@ -156,7 +156,7 @@ greatest-cons x xs = let same : max 0 x ≡ max x 0 = omega arith in ap (λ m. f
 pub greatest-push : (xs : List ℕ) (x : ℕ) → greatest (xs ++ x ∷ []) ≡ max (greatest xs) x
 greatest-push xs x = fold-append max 0 xs (x ∷ [])
 
--- no version is higher than the greatest of the one that stands
+-- no version is higher than that of the newest
 abbrev pub version_there : {X : Type 0} → (X → ℕ) → Option X → ℕ
 version_there version None = 0
 version_there version (Some x) = version x
@@ -170,7 +170,7 @@ version-newest version [] = refl
 version-newest version (x ∷ xs) =
     higher_is_max version x (newest version xs) ∙ ap (max (version x)) (version-newest version xs) ∙ sym (greatest-cons (version x) (map version xs))
 
--- one of a higher version than what stood stands
+-- one of a higher version than the newest before is the newest
 pub after_last-new : {X : Type 0} (version : X → ℕ) (there : Option X) (x : X) → version_there version there < version x → after_last version there x ≡ x
 after_last-new version None x h = refl
 after_last-new version (Some y) x h = cond-true (ltb (version y) (version x)) x y (lt-ltb (version y) (version x) h)
@@ -194,13 +194,13 @@ pub list_any-map : {X Y : Type 0} (p : Y → Bool) (f : X → Y) (xs : List X) �
 list_any-map p f [] = refl
 list_any-map p f (x ∷ xs) = ap (λ b. p (f x) || b) (list_any-map p f xs)
 
-none_kept : {X : Type 0} (b c : Bool) (x : X) (xs : List X) → (b || c) ≡ false → (c ≡ false → xs ≡ []) → cond b (x ∷ xs) xs ≡ []
-none_kept true c x xs h k = absurd (true≢false h)
-none_kept false c x xs h k = k h
+none_present : {X : Type 0} (b c : Bool) (x : X) (xs : List X) → (b || c) ≡ false → (c ≡ false → xs ≡ []) → cond b (x ∷ xs) xs ≡ []
+none_present true c x xs h k = absurd (true≢false h)
+none_present false c x xs h k = k h
 
 pub filter-none : {X : Type 0} (p : X → Bool) (xs : List X) → list_any p xs ≡ false → filter p xs ≡ []
 filter-none p [] h = refl
-filter-none p (x ∷ xs) h = none_kept (p x) (list_any p xs) x (filter p xs) h (filter-none p xs)
+filter-none p (x ∷ xs) h = none_present (p x) (list_any p xs) x (filter p xs) h (filter-none p xs)
 
 -- where no key ties with q, no element passes a test that says that its key does
 pub filter-no_key : {K X : Type 0} (R : K → K → Ordering) (key : X → K) (p : X → Bool) (q : K) → ((x : X) → eq_by_cmp R q (key x) ≡ p x)

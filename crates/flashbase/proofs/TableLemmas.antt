@@ -21,7 +21,7 @@ entry_at k (suc i) (entry ∷ entries) h within =
     let moved : suc k + i ≡ k + suc i = omega arith in
     entry_at (suc k) i entries there (omega arith) ∙ ap (λ (n : ℕ). crc_of (n ∷ [])) moved
 
--- the second table's entries stand eight places on from the first's
+-- the second table's entries are eight places on from the first's
 abbrev are_next : List ℕ → List ℕ → Bool
 are_next [] [] = true
 are_next [] (y ∷ ys) = false
@@ -34,7 +34,7 @@ next_at [] (y ∷ ys) i h within = absurd (false≢true h)
 next_at (x ∷ xs) (y ∷ ys) zero h within = eqb-true y (places_on 8 x) (and_parts (y == places_on 8 x) (are_next xs ys) h).0
 next_at (x ∷ xs) (y ∷ ys) (suc i) h within = next_at xs ys i (and_parts (y == places_on 8 x) (are_next xs ys) h).1 (omega arith)
 
--- each table stands eight places on from the one before it
+-- each table is eight places on from the one before it
 abbrev are_tables : List (List ℕ) → Bool
 are_tables [] = true
 are_tables (t ∷ []) = true

@@ -1,6 +1,6 @@
 -- The checksum of JFFS2 (`crc32(0, ..)` in the Linux kernel, which include/uapi/linux/jffs2.h names): the
 -- remainder of the message, the lowest bit of each byte first, by the polynomial 0xEDB88320, whose highest
--- power stands in the lowest bit. It starts at 0, and nothing is done at the end.
+-- power is in the lowest bit. It starts at 0, and nothing is done at the end.
 use Rattle.std.specs.Prelude.{ℕ, zero, suc, ◌/◌, ◌%◌, ◌==◌, List, if◌then◌else◌, bit_xor}
 use Rattle.std.specs.List.{fold}
 

@@ -1,4 +1,4 @@
--- What a call of a device does to its bytes, where the device tells them, and to its count of failures.
+-- What a call of a device does to its bytes, where the device reports them, and to its count of failures.
 use Rattle.std.specs.Prelude.{◌≡◌, ◌+◌, ◌%◌, ◌^◌, ◌<◌, ◌≤◌, ℕ, List, take, length, Option, Result, Ok, Err}
 use Rattle.std.specs.Io.KnownBytes.{Appends, Keeps}
 use Rattle.flashbase.specs.declared.source.LoadFault.{LoadFault}

@@ -25,7 +25,7 @@ pub record IsPad4 (n padded : ℕ) : Type 0 where
 abbrev pub Pad4IsLeast : Type 0
 Pad4IsLeast = (n : ℕ) → IsPad4 n (pad4_of n)
 
--- the longest beginning of 0xFF is as long as its twin computes
+-- the longest beginning of 0xFF is as long as its computable form says
 abbrev pub ErasedRunIsLongest : Type 0
 ErasedRunIsLongest = (bytes : List ℕ) (n : ℕ) → IsErasedRun bytes n ↔ (n ≡ erased_run bytes)
 
@@ -45,13 +45,13 @@ NewestIsNewest X = (xs : List X) (version : X → ℕ) (x : X) → newest versio
 abbrev pub NewestOfNone : Type 0 → Type 0
 NewestOfNone X = (xs : List X) (version : X → ℕ) → newest version xs ≡ None → xs ≡ []
 
--- one more at the end stands only where it is higher than what stood
+-- one more at the end is the newest only where it is higher than the newest before
 abbrev pub NewestOfOneMore : Type 0 → Type 0
 NewestOfOneMore X = (xs : List X) (version : X → ℕ) (x y : X) → newest version xs ≡ Some y
     → newest version (xs ++ x ∷ []) ≡ Some (higher_of version y (Some x))
 
 -- At a key the map of keys by a function has what the function gives there, if the key is one of them, as often
--- as it may stand there.
+-- as it may be there.
 abbrev pub GetOfTabled : Type 0 → Type 0
 GetOfTabled X = (keys : List ℕ) (f : ℕ → Option X) (q : ℕ)
     → get (tabled nat_cmp keys f) q ≡ (if list_any (λ k. q == k) keys then f q else None)

@@ -64,7 +64,7 @@ pub fn newest_is_newest<X>()
     ensures none { NewestOfNone X }
 {}
 
-/// One more at the end stands only where it is higher.
+/// One more at the end is the newest only where its version is higher.
 pub fn newest_of_one_more<X>()
     ensures { NewestOfOneMore X }
 {}

@@ -10,26 +10,26 @@ use std::marker::Model;
 /// Bytes of a block, as one list: those that the image has, and then missing ones, which count as 0xFF.
 #[derive(Drop)]
 pub struct Part<'a> {
-    held: &'a [u8],
+    present: &'a [u8],
     missing: usize,
 }
 
 impl<'a> Model for Part<'a> {
     ghost Value = { List ℕ };
 
-    ghost view = { λ p. p.held.now ++ erased p.missing };
+    ghost view = { λ p. p.present.now ++ erased p.missing };
 
-    ghost invariant = { λ p. length p.held.now + p.missing < 2 ^ 64 };
+    ghost invariant = { λ p. length p.present.now + p.missing < 2 ^ 64 };
 }
 
 impl<'a> Part<'a> {
-    /// These bytes, and behind them `missing` ones that the image lacks.
+    /// These bytes, and after them `missing` ones that the image lacks.
     pub fn new(bytes: &'a [u8], missing: usize) -> Part<'a>
         requires { length bytes.now + missing < 2 ^ 64 }
         ensures { result ≡ bytes.now ++ erased missing }
     {
         Part {
-            held: bytes,
+            present: bytes,
             missing,
         }
     }
@@ -37,7 +37,7 @@ impl<'a> Part<'a> {
     pub fn len(&self) -> usize
         ensures { result ≡ length self.now }
     {
-        self.held.len() + self.missing
+        self.present.len() + self.missing
     }
 
     pub fn is_empty(&self) -> bool
@@ -46,21 +46,21 @@ impl<'a> Part<'a> {
         self.len() == 0
     }
 
-    /// Those of the bytes that the image has: a beginning, behind which all bytes are 0xFF.
-    pub fn held(&self) -> &'a [u8]
+    /// Those of the bytes that the image has: a beginning, after which all bytes are 0xFF.
+    pub fn present(&self) -> &'a [u8]
         ensures { self.now ≡ result.now ++ erased (length self.now - length result.now) }
     {
-        let Part { held, .. } = self;
-        held
+        let Part { present, .. } = self;
+        present
     }
 
     /// The byte at a place.
     pub fn get(&self, i: usize) -> Option<u8>
         ensures { result ≡ slice_get self.now i }
     {
-        if i < self.held.len() {
-            Some(self.held[i])
-        } else if i - self.held.len() < self.missing {
+        if i < self.present.len() {
+            Some(self.present[i])
+        } else if i - self.present.len() < self.missing {
             Some(0xFF)
         } else {
             None
@@ -71,7 +71,7 @@ impl<'a> Part<'a> {
     pub fn copied(&self) -> Part<'a>
         ensures { result ≡ self.now }
     {
-        Part::new(self.held, self.missing)
+        Part::new(self.present, self.missing)
     }
 
     /// The `len` bytes from a place on.
@@ -79,10 +79,10 @@ impl<'a> Part<'a> {
         requires { from + len ≤ length self.now }
         ensures { result ≡ take len (drop from self.now) }
     {
-        let held = cut(self.held, from, len);
+        let present = cut(self.present, from, len);
         Part {
-            held,
-            missing: len - held.len(),
+            present,
+            missing: len - present.len(),
         }
     }
 
@@ -90,7 +90,7 @@ impl<'a> Part<'a> {
     pub fn crc(&self) -> u32
         ensures { result ≡ crc_of self.now }
     {
-        padded_crc(self.held, self.missing)
+        padded_crc(self.present, self.missing)
     }
 
     /// Writes all the bytes over a slice of as many.
@@ -98,8 +98,8 @@ impl<'a> Part<'a> {
         requires { length out.old ≡ length self.now }
         ensures { out.new ≡ self.now }
     {
-        let (head, tail) = out.split_at_mut(self.held.len());
-        head.copy_from_slice(self.held);
+        let (head, tail) = out.split_at_mut(self.present.len());
+        head.copy_from_slice(self.present);
         tail.fill(0xFF);
     }
 
@@ -107,7 +107,7 @@ impl<'a> Part<'a> {
         ensures { result ≡ self.now }
     {
         PartBytes {
-            held: self.held,
+            present: self.present,
             missing: self.missing,
         }
     }
@@ -119,21 +119,21 @@ impl<'a> Part<'a> {
         ensures len { vec_len out.new ≡ vec_len out.old + length self.now }
         ensures capacity { vec_capacity out.old ≤ vec_capacity out.new }
     {
-        put_padded(out, self.held, self.missing);
+        put_padded(out, self.present, self.missing);
     }
 }
 
 /// The bytes of a `Part`, one by one.
 #[derive(Drop)]
 pub struct PartBytes<'a> {
-    held: &'a [u8],
+    present: &'a [u8],
     missing: usize,
 }
 
 impl<'a> Model for PartBytes<'a> {
     ghost Value = { List ℕ };
 
-    ghost view = { λ p. p.held.now ++ erased p.missing };
+    ghost view = { λ p. p.present.now ++ erased p.missing };
 }
 
 impl<'a> Iterator for PartBytes<'a> {
@@ -146,8 +146,8 @@ impl<'a> Iterator for PartBytes<'a> {
     ghost remaining = { item_count (λ rest. rest) };
 
     fn next(&mut self) -> Option<u8> {
-        if let Some((first, others)) = self.held.split_first() {
-            self.held = others;
+        if let Some((first, others)) = self.present.split_first() {
+            self.present = others;
             return Some(*first);
         }
         if self.missing == 0 {

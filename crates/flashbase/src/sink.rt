@@ -10,7 +10,7 @@ use thiserror::Error;
 
 /// A device that takes bytes, in pieces of its own size.
 pub trait Sink: Drop {
-    /// The bytes that it took, where it tells them.
+    /// The bytes that it took, where it reports them.
     ghost taken: { Self → Option (List ℕ) };
 
     /// How often it failed, modulo 2^64.

@@ -12,14 +12,14 @@ use thiserror::Error;
 /// How many bytes `load` asks a source for at once.
 const PIECE: usize = 65_536;
 
-/// A device failed. What it says of the failure is not kept.
+/// A device failed. What it says of the failure is not stored.
 #[derive(Clone, Copy, Debug, PartialEq, Eq, Error)]
 #[error("the device failed")]
 pub struct DeviceFault;
 
 /// A device that gives bytes, in pieces of its own size.
 pub trait Source: Drop {
-    /// The bytes that are left, where the device tells them.
+    /// The bytes that are left, where the device reports them.
     ghost rest: { Self → Option (List ℕ) };
 
     /// How often it failed, modulo 2^64.
@@ -50,7 +50,7 @@ impl<R: Read + Drop> FromReader<R> {
         }
     }
 
-    /// The reader, behind what was read.
+    /// The reader, after what was read.
     pub fn into_reader(self) -> R
         ensures { R.remaining result ≡ ⟦<FromReader<R> as Source>⟧.rest self }
     {

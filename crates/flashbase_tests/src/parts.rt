@@ -42,7 +42,7 @@ fn a_part_is_one_list(rt: HostRuntime) -> Result<(), Fail> {
 #[test]
 fn bytes_of_a_part(rt: HostRuntime) {
     let part = Part::new(&[1, 2, 3], 2);
-    assert_eq!(rt; part.held(), [1, 2, 3].as_slice());
+    assert_eq!(rt; part.present(), [1, 2, 3].as_slice());
     for (i, byte) in [(2, Some(3)), (4, Some(0xFF)), (5, None)] {
         assert_eq!(rt; part.get(i), byte, "at {i}");
     }

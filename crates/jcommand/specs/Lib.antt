@@ -1,4 +1,4 @@
-pub mod Asked
+pub mod Parsed
 pub mod Commands
 pub mod Refused
 pub mod Status

@@ -2,12 +2,12 @@
 ghost use Rattle.std.specs.Prelude.{◌≡◌, ◌≢◌, ◌⊎◌, [], true, map, IfOk, IfErr, IsSome, OnOk, Some, option_map};
 ghost use Rattle.clap.specs.Words.{HasKind, fault_of, kind_of, subcommand_of, subcommand_rows_of, takes};
 ghost use Rattle.jcommand.specs.Commands.{program};
-ghost use Rattle.jcommand.specs.Asked.{view, asked_by, asked_for, is_taken, IsFaultless, IsHelpAsked, IsHelpKind, IsRefused, IsUnreadable};
+ghost use Rattle.jcommand.specs.Parsed.{view, parsed_by, parsed_from, is_taken, IsFaultless, IsHelpRequested, IsHelpKind, IsRefusedByClap, IsUnreadable};
 ghost use Rattle.jcommand.specs.Refused.{IsHelp, IsUsage};
 ghost use Rattle.jcommand.specs.declared.command_line.RequestFault.TheVariants.{OutOfMemory};
 
-use crate::asked::{Request, asked_of, endian, number, text_at};
 use crate::commands::make_program;
+use crate::parsed::{Request, endian, number, parsed_of, text_at};
 use clap::error::ErrorKind;
 use clap::{ArgMatches, Error};
 use std::alloc::{AllocError, Global};
@@ -61,25 +61,25 @@ fn fault_of_error(alloc: Global, error: &Error) -> RequestFault
 }
 
 /// Clap's matches of the words.
-fn matched<'a>(alloc: Global, words: &'a [&'a str]) -> Result<ArgMatches<'a>, RequestFault>
-    ensures ok { IfOk result (λ m. subcommand_rows_of m ≡ subcommand_of program (map (λ w. w.now) words.entry.now)) }
-    ensures not_refused { OnOk result (fault_of program (map (λ w. w.now) words.entry.now) ≡ []) }
-    ensures taken { IfErr result (λ e. takes program (map (λ w. w.now) words.entry.now) ≡ true → e ≡ RequestFault.OutOfMemory) }
-    ensures help { IfErr result (λ e. IsHelp e → IsHelpAsked (map (λ w. w.now) words.entry.now)) }
-    ensures usage { IfErr result (λ e. IsUsage e → IsRefused (map (λ w. w.now) words.entry.now)) }
+fn matched<'a>(alloc: Global, args: &'a [&'a str]) -> Result<ArgMatches<'a>, RequestFault>
+    ensures ok { IfOk result (λ m. subcommand_rows_of m ≡ subcommand_of program (map (λ w. w.now) args.entry.now)) }
+    ensures not_refused { OnOk result (fault_of program (map (λ w. w.now) args.entry.now) ≡ []) }
+    ensures taken { IfErr result (λ e. takes program (map (λ w. w.now) args.entry.now) ≡ true → e ≡ RequestFault.OutOfMemory) }
+    ensures help { IfErr result (λ e. IsHelp e → IsHelpRequested (map (λ w. w.now) args.entry.now)) }
+    ensures usage { IfErr result (λ e. IsUsage e → IsRefusedByClap (map (λ w. w.now) args.entry.now)) }
 {
     let command = make_program(alloc)?;
-    match command.try_get_matches_from(words) {
+    match command.try_get_matches_from(args) {
         Ok(matches) => Ok(matches),
         Err(error) => Err(fault_of_error(alloc, &error)),
     }
 }
 
-fn asked_in<'a>(matches: &ArgMatches<'a>) -> Option<Request<'a>>
-    ensures { option_map view result ≡ asked_by (subcommand_rows_of matches.now) }
+fn parsed_in<'a>(matches: &ArgMatches<'a>) -> Option<Request<'a>>
+    ensures { option_map view result ≡ parsed_by (subcommand_rows_of matches.now) }
 {
     let (name, found) = matches.subcommand()?;
-    asked_of(name, found)
+    parsed_of(name, found)
 }
 
 /// The text about the value that can't be read.
@@ -104,27 +104,27 @@ fn unreadable(alloc: Global, matches: &ArgMatches<'_>) -> Result<String, AllocEr
 }
 
 /// What the words of a command line ask for. The first word is the program's own name.
-#[tactic(auto, unfolding(crate::specs::Asked::asked_for, crate::specs::Asked::is_taken, crate::specs::Asked::IsFaultless, crate::specs::Asked::IsUnreadable))]
-pub fn request<'a>(alloc: Global, words: &'a [&'a str]) -> Result<Request<'a>, RequestFault>
+#[tactic(auto, unfolding(crate::specs::Parsed::parsed_from, crate::specs::Parsed::is_taken, crate::specs::Parsed::IsFaultless, crate::specs::Parsed::IsUnreadable))]
+pub fn request<'a>(alloc: Global, args: &'a [&'a str]) -> Result<Request<'a>, RequestFault>
     // The subcommand and its values are clap's own function of the words.
-    ensures ok { IfOk result (λ r. asked_for (map (λ w. w.now) words.entry.now) ≡ Some (view r)) }
+    ensures ok { IfOk result (λ r. parsed_from (map (λ w. w.now) args.entry.now) ≡ Some (view r)) }
 
     // Words that clap refuses, or answers by help, ask for nothing.
-    ensures faultless { OnOk result (IsFaultless (map (λ w. w.now) words.entry.now)) }
+    ensures faultless { OnOk result (IsFaultless (map (λ w. w.now) args.entry.now)) }
 
-    // Where clap takes the words and every value can be read, only memory can be wanting.
-    ensures only { is_taken (map (λ w. w.now) words.entry.now) ≡ true → IsSome (asked_for (map (λ w. w.now) words.entry.now))
+    // Where clap takes the words and every value can be read, it can only run out of memory.
+    ensures only { is_taken (map (λ w. w.now) args.entry.now) ≡ true → IsSome (parsed_from (map (λ w. w.now) args.entry.now))
         → IfErr result (λ e. e ≡ RequestFault.OutOfMemory) }
 
     // Help comes only where clap answers the words by help, or by the version.
-    ensures help { IfErr result (λ e. IsHelp e → IsHelpAsked (map (λ w. w.now) words.entry.now)) }
+    ensures help { IfErr result (λ e. IsHelp e → IsHelpRequested (map (λ w. w.now) args.entry.now)) }
 
     // A command line is wrong only where clap refuses the words, or takes them and a value can't be read.
-    ensures usage { IfErr result (λ e. IsUsage e → IsRefused (map (λ w. w.now) words.entry.now)
-        ⊎ IsUnreadable (map (λ w. w.now) words.entry.now)) }
+    ensures usage { IfErr result (λ e. IsUsage e → IsRefusedByClap (map (λ w. w.now) args.entry.now)
+        ⊎ IsUnreadable (map (λ w. w.now) args.entry.now)) }
 {
-    let matches = matched(alloc, words)?;
-    match asked_in(&matches) {
+    let matches = matched(alloc, args)?;
+    match parsed_in(&matches) {
         Some(request) => Ok(request),
         None => Err(usage(unreadable(alloc, &matches))),
     }

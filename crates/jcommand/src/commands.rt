@@ -22,7 +22,7 @@ const IMAGE: &str = "File with the bytes of the flash";
 const PATH: &str =
     "Path of the file from the root, as /a/b; \\x and two hexadecimal digits are one byte";
 
-/// What stands at the end of the program's help.
+/// What is at the end of the program's help.
 const EPILOGUE: &str = "\
 Each command takes --block, the size of an erase block, and --endian, the byte order.
 The image is only read. 'jffs2_image help check' tells what check prints, and so for the

@@ -1,9 +1,9 @@
-//! Worked rows of the definitions that the contracts cite.
+//! Worked examples of the definitions that the contracts cite.
 ghost use Rattle.std.specs.Prelude.{◌≡◌, [], ◌∷◌, Some, None, codes};
 ghost use Rattle.clap.specs.Words.{fault_of};
 ghost use Rattle.clap.specs.declared.error.ErrorKind.TheVariants.{DisplayHelp, DisplayVersion, MissingSubcommand, MissingRequiredArgument, UnknownArgument};
 ghost use Rattle.jnode.specs.declared.order.Endian.TheVariants.{Little, Big};
-ghost use Rattle.jcommand.specs.Asked.{ScanAsked, CheckAsked, TreeAsked, ContentAsked, asked_for, endian_of, number_of};
+ghost use Rattle.jcommand.specs.Parsed.{ScanParsed, CheckParsed, ListParsed, CatParsed, parsed_from, endian_of, number_of};
 ghost use Rattle.jcommand.specs.Commands.{program};
 
 /// The values of options.
@@ -20,24 +20,24 @@ pub fn known_values()
 
 /// What words ask for.
 pub fn known_requests()
-    ensures defaults { asked_for (codes "jffs2_image" ∷ codes "check" ∷ codes "--scan" ∷ codes "a" ∷ [])
-        ≡ Some (ScanAsked (record { geometry = record { block = 65536 }; endian = Little }) (codes "a")) }
-    ensures given { asked_for (codes "jffs2_image" ∷ codes "check" ∷ codes "--block" ∷ codes "4096" ∷ codes "--endian=big"
+    ensures defaults { parsed_from (codes "jffs2_image" ∷ codes "check" ∷ codes "--scan" ∷ codes "a" ∷ [])
+        ≡ Some (ScanParsed (record { geometry = record { block = 65536 }; endian = Little }) (codes "a")) }
+    ensures given { parsed_from (codes "jffs2_image" ∷ codes "check" ∷ codes "--block" ∷ codes "4096" ∷ codes "--endian=big"
         ∷ codes "a" ∷ [])
-        ≡ Some (CheckAsked (record { geometry = record { block = 4096 }; endian = Big }) (codes "a")) }
-    ensures tree { asked_for (codes "jffs2_image" ∷ codes "ls" ∷ codes "a" ∷ codes "--block=8192" ∷ [])
-        ≡ Some (TreeAsked (record { geometry = record { block = 8192 }; endian = Little }) (codes "a")) }
-    ensures content { asked_for (codes "jffs2_image" ∷ codes "cat" ∷ codes "a" ∷ codes "/b" ∷ [])
-        ≡ Some (ContentAsked (record { geometry = record { block = 65536 }; endian = Little }) (codes "a") (codes "/b")) }
+        ≡ Some (CheckParsed (record { geometry = record { block = 4096 }; endian = Big }) (codes "a")) }
+    ensures tree { parsed_from (codes "jffs2_image" ∷ codes "ls" ∷ codes "a" ∷ codes "--block=8192" ∷ [])
+        ≡ Some (ListParsed (record { geometry = record { block = 8192 }; endian = Little }) (codes "a")) }
+    ensures content { parsed_from (codes "jffs2_image" ∷ codes "cat" ∷ codes "a" ∷ codes "/b" ∷ [])
+        ≡ Some (CatParsed (record { geometry = record { block = 65536 }; endian = Little }) (codes "a") (codes "/b")) }
 {}
 
 /// Words that ask for nothing.
 pub fn known_refusals()
     ensures help { fault_of program (codes "jffs2_image" ∷ codes "check" ∷ codes "--help" ∷ []) ≡ DisplayHelp ∷ [] }
     ensures version { fault_of program (codes "jffs2_image" ∷ codes "--version" ∷ []) ≡ DisplayVersion ∷ [] }
-    ensures no_words { fault_of program [] ≡ MissingSubcommand ∷ [] }
+    ensures no_args { fault_of program [] ≡ MissingSubcommand ∷ [] }
     ensures no_image { fault_of program (codes "jffs2_image" ∷ codes "ls" ∷ []) ≡ MissingRequiredArgument ∷ [] }
     ensures not_of_ls { fault_of program (codes "jffs2_image" ∷ codes "ls" ∷ codes "--scan" ∷ codes "a" ∷ []) ≡ UnknownArgument ∷ [] }
     ensures no_path { fault_of program (codes "jffs2_image" ∷ codes "cat" ∷ codes "a" ∷ []) ≡ MissingRequiredArgument ∷ [] }
-    ensures unreadable { asked_for (codes "jffs2_image" ∷ codes "check" ∷ codes "--block=x" ∷ codes "--scan" ∷ codes "a" ∷ []) ≡ None }
+    ensures unreadable { parsed_from (codes "jffs2_image" ∷ codes "check" ∷ codes "--block=x" ∷ codes "--scan" ∷ codes "a" ∷ []) ≡ None }
 {}

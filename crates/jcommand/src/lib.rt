@@ -1,23 +1,24 @@
 //! The command line of `jffs2_image`: the words that it takes, what they ask for, and how a run ends.
 //!
-//! It stands on clap, whose matches are a function of the command and the words, on `jnode` for the byte order of an image
-//! and on `jscan` for its geometry. Its promise to the program: what a request asks for is that function of the words, and
-//! each refusal is due.
+//! It is built on clap, whose matches are a function of the command and the words, on `jnode` for the byte order of an
+//! image and on `jscan` for its geometry. Its promise to the program: what a request asks for is that function of the
+//! words, and each refusal is due.
 //!
-//! - `commands`: the program, its subcommands, and the words that each one takes; `specs/Commands.antt` has the same as clap
-//!   sees it.
-//! - `asked`: what clap's matches ask for, `specs/Asked.antt`.
-//! - `command_line`: `request`, which takes the words to a `Request` or to the text that answers them; `specs/Refused.antt`.
+//! - `commands`: the program, its subcommands, and the words that each one takes; `specs/Commands.antt` has the same as
+//!   clap sees it.
+//! - `parsed`: what clap's matches ask for, `specs/Parsed.antt`.
+//! - `command_line`: `request`, which takes the words to a `Request` or to the text that answers them;
+//!   `specs/Refused.antt`.
 //! - `outcome`: how the program ends, and its exit status; `specs/Status.antt`.
 //! - `laws`: worked command lines.
 #![tactic(auto)]
 
-mod asked;
 mod command_line;
 mod commands;
 pub mod laws;
 mod outcome;
+mod parsed;
 
-pub use crate::asked::{Options, Request};
 pub use crate::command_line::{RequestFault, request};
 pub use crate::outcome::{Outcome, status};
+pub use crate::parsed::{Options, Request};

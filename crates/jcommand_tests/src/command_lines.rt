@@ -1,4 +1,4 @@
-//! Command lines with what they ask for or are answered. The words of a line stand between spaces, and the first is the
+//! Command lines with what they ask for or are answered. The words of a line are between spaces, and the first is the
 //! program's own name.
 
 use jcommand::{Options, Outcome, Request, RequestFault, request, status};
@@ -16,15 +16,15 @@ fn shown(alloc: Global, request: Request<'_>) -> Result<String, AllocError> {
     let (kind, image, path) = match request {
         Request::Scan { image, .. } => ("scan", image, "-"),
         Request::Check { image, .. } => ("check", image, "-"),
-        Request::Tree { image, .. } => ("ls", image, "-"),
-        Request::Content { image, path, .. } => ("cat", image, path),
+        Request::List { image, .. } => ("ls", image, "-"),
+        Request::Cat { image, path, .. } => ("cat", image, path),
     };
     format!(in alloc; "{kind} {} {order} {image} {path}", geometry.block)
 }
 
 /// The request that the words make, or `help` or `wrong` and the text that answers them.
-fn answer(alloc: Global, words: &[&str]) -> Result<String, AllocError> {
-    match request(alloc, words) {
+fn answer(alloc: Global, args: &[&str]) -> Result<String, AllocError> {
+    match request(alloc, args) {
         Ok(request) => shown(alloc, request),
         Err(RequestFault::Help { text }) => format!(in alloc; "help {text}"),
         Err(RequestFault::Usage { text }) => format!(in alloc; "wrong {text}"),
@@ -33,8 +33,8 @@ fn answer(alloc: Global, words: &[&str]) -> Result<String, AllocError> {
 }
 
 fn answer_to(alloc: Global, line: &str) -> Result<String, AllocError> {
-    let words: Vec<&str> = line.split_whitespace().collect(alloc)?;
-    answer(alloc, words.as_slice())
+    let args: Vec<&str> = line.split_whitespace().collect(alloc)?;
+    answer(alloc, args.as_slice())
 }
 
 /// The text begins and goes on so, and one line feed ends it, and only one.
@@ -47,8 +47,8 @@ fn is_text(text: &str, start: &str, parts: [&str; 2]) -> bool {
 }
 
 #[test]
-fn words_that_ask_for_something(rt: HostRuntime) -> Result<(), Fail> {
-    let rows = [
+fn args_that_ask_for_something(rt: HostRuntime) -> Result<(), Fail> {
+    let examples = [
         ("t check --scan a.img", "scan 65536 little a.img -"),
         ("t check a.img --scan", "scan 65536 little a.img -"),
         (
@@ -83,7 +83,7 @@ fn words_that_ask_for_something(rt: HostRuntime) -> Result<(), Fail> {
             "cat 4096 big a.img /b",
         ),
     ];
-    for (line, wanted) in rows {
+    for (line, wanted) in examples {
         let answer = answer_to(rt.alloc(), line)?;
         assert_eq!(rt; answer.as_str(), wanted, "{line}");
     }
@@ -91,8 +91,8 @@ fn words_that_ask_for_something(rt: HostRuntime) -> Result<(), Fail> {
 }
 
 #[test]
-fn words_that_are_wrong(rt: HostRuntime) -> Result<(), Fail> {
-    let rows = [
+fn args_that_are_wrong(rt: HostRuntime) -> Result<(), Fail> {
+    let examples = [
         ("", "requires a subcommand"),
         ("t", "requires a subcommand"),
         ("t paint", "unrecognized subcommand 'paint'"),
@@ -143,7 +143,7 @@ fn words_that_are_wrong(rt: HostRuntime) -> Result<(), Fail> {
             "'bigger' for '--endian <ORDER>'",
         ),
     ];
-    for (line, part) in rows {
+    for (line, part) in examples {
         let answer = answer_to(rt.alloc(), line)?;
         assert!(rt;
             is_text(answer.as_str(), "wrong error: ", [part, "--help"]),
@@ -162,8 +162,8 @@ fn words_that_are_wrong(rt: HostRuntime) -> Result<(), Fail> {
 }
 
 #[test]
-fn words_that_ask_for_help(rt: HostRuntime) -> Result<(), Fail> {
-    let rows = [
+fn args_that_ask_for_help(rt: HostRuntime) -> Result<(), Fail> {
+    let examples = [
         ("t --help", "Usage: t <COMMAND>"),
         ("t -h", "Usage: t <COMMAND>"),
         ("t help", "Usage: t <COMMAND>"),
@@ -176,7 +176,7 @@ fn words_that_ask_for_help(rt: HostRuntime) -> Result<(), Fail> {
         ("t help ls", "KIND MODE UID GID SIZE MTIME INO PATH"),
         ("t cat --help", "Usage: t cat [OPTIONS] <IMAGE> <PATH>"),
     ];
-    for (line, part) in rows {
+    for (line, part) in examples {
         let answer = answer_to(rt.alloc(), line)?;
         assert!(rt;
             is_text(answer.as_str(), "help ", [part, "Exit status:"]),
@@ -187,7 +187,7 @@ fn words_that_ask_for_help(rt: HostRuntime) -> Result<(), Fail> {
 }
 
 #[test]
-fn words_that_ask_for_the_version(rt: HostRuntime) -> Result<(), Fail> {
+fn args_that_ask_for_the_version(rt: HostRuntime) -> Result<(), Fail> {
     for line in ["t --version", "t -V", "t --version ls"] {
         let answer = answer_to(rt.alloc(), line)?;
         assert_eq!(rt; answer.as_str(), "help jffs2_image 0.1.0\n", "{line}");

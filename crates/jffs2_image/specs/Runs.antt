@@ -7,15 +7,15 @@ use Rattle.jscan.specs.Image.{is_block_size}
 use Rattle.jscan.specs.declared.geometry.ScanFault.TheVariants as scan
 use Rattle.jmount.specs.declared.fault.FindFault.TheVariants as find
 use Rattle.jreport.specs.Faults.{fault_line_of}
-use Rattle.jreport.specs.Loaded.{PutsCheck, PutsFile, PutsListing}
+use Rattle.jreport.specs.WholeImage.{PutsCheck, PutsFile, PutsListing}
 use Rattle.jreport.specs.Notes.{note_line_of}
 use Rattle.jreport.specs.Stream.{PutsStream}
 use Rattle.jreport.specs.Paths.{path_of}
 use Rattle.jreport.specs.declared.faults.ProgramFault.{ProgramFault}
 use Rattle.jreport.specs.declared.faults.ProgramFault.TheVariants as program
-use Rattle.jcommand.specs.Asked.{Asked, ScanAsked, CheckAsked, TreeAsked, ContentAsked, IsFaultless, IsHelpAsked, IsRefused, IsUnreadable, asked_for, view}
-use Rattle.jcommand.specs.declared.asked.Options.{Options}
-use Rattle.jcommand.specs.declared.asked.Request.{Request}
+use Rattle.jcommand.specs.Parsed.{Parsed, ScanParsed, CheckParsed, ListParsed, CatParsed, IsFaultless, IsHelpRequested, IsRefusedByClap, IsUnreadable, parsed_from, view}
+use Rattle.jcommand.specs.declared.parsed.Options.{Options}
+use Rattle.jcommand.specs.declared.parsed.Request.{Request}
 use Rattle.jcommand.specs.declared.command_line.RequestFault.{RequestFault}
 use Rattle.jcommand.specs.declared.command_line.RequestFault.TheVariants as refused
 use Rattle.jcommand.specs.Status.{outcome_of}
@@ -28,17 +28,17 @@ use Rattle.jffs2_image.specs.declared.program.Stop.TheVariants as stop
 
 -- ---- one request
 
-abbrev pub options_asked : Asked → Options
-options_asked (ScanAsked options image) = options
-options_asked (CheckAsked options image) = options
-options_asked (TreeAsked options image) = options
-options_asked (ContentAsked options image path) = options
+abbrev pub options_parsed : Parsed → Options
+options_parsed (ScanParsed options image) = options
+options_parsed (CheckParsed options image) = options
+options_parsed (ListParsed options image) = options
+options_parsed (CatParsed options image path) = options
 
-abbrev pub image_asked : Asked → List ℕ
-image_asked (ScanAsked options image) = image
-image_asked (CheckAsked options image) = image
-image_asked (TreeAsked options image) = image
-image_asked (ContentAsked options image path) = image
+abbrev pub image_parsed : Parsed → List ℕ
+image_parsed (ScanParsed options image) = image
+image_parsed (CheckParsed options image) = image
+image_parsed (ListParsed options image) = image
+image_parsed (CatParsed options image path) = image
 
 -- whether `check` found anything, as a number
 abbrev pub number_found : Bool → ℕ
@@ -50,25 +50,25 @@ PutsJudged e size image old new before now (Ok n) = (found : Bool) × (n ≡ num
 PutsJudged e size image old new before now (Err fault) = PutsCheck e size image old new before now (Err fault)
 
 -- what is put of an image, or why no more of it is
-abbrev pub PutsAnswer : Endian → Asked → List ℕ → Option (List ℕ) → Option (List ℕ) → ℕ → ℕ → Result ℕ ProgramFault → Type 0
-PutsAnswer e (ScanAsked options name) = PutsStream e options.geometry.block
-PutsAnswer e (CheckAsked options name) = PutsJudged e options.geometry.block
-PutsAnswer e (TreeAsked options name) = PutsListing e options.geometry.block
-PutsAnswer e (ContentAsked options name word) = λ image old new before now answer.
+abbrev pub PutsAnswer : Endian → Parsed → List ℕ → Option (List ℕ) → Option (List ℕ) → ℕ → ℕ → Result ℕ ProgramFault → Type 0
+PutsAnswer e (ScanParsed options name) = PutsStream e options.geometry.block
+PutsAnswer e (CheckParsed options name) = PutsJudged e options.geometry.block
+PutsAnswer e (ListParsed options name) = PutsListing e options.geometry.block
+PutsAnswer e (CatParsed options name word) = λ image old new before now answer.
     (path : List ℕ) × (path_of word ≡ Some path) × PutsFile e options.geometry.block image path old new before now answer
 
 -- why no image is read: its file can't be opened, or the word of the path can't be read
-abbrev pub IsEarlyFault : Asked → ProgramFault → Type 0
-IsEarlyFault asked (program.File name) = name.now ≡ image_asked asked
-IsEarlyFault (ContentAsked options image word) (program.Path find.BadPath) = path_of word ≡ None
-IsEarlyFault (ContentAsked options image word) program.OutOfMemory = Unit {0}
+abbrev pub IsEarlyFault : Parsed → ProgramFault → Type 0
+IsEarlyFault parsed (program.File name) = name.now ≡ image_parsed parsed
+IsEarlyFault (CatParsed options image word) (program.Path find.BadPath) = path_of word ≡ None
+IsEarlyFault (CatParsed options image word) program.OutOfMemory = Unit {0}
 IsEarlyFault _ _ = ⊥
 
 -- A request is met in the byte order e: there is an image of which the answer is put, or a fault comes before any is read.
-pub record Meets (e : Endian) (asked : Asked) (old new : Option (List ℕ)) (before now : ℕ) (answer : Result ℕ ProgramFault) : Type 0 where
-  pub block_size : IsErrOf answer (program.Scan scan.BlockSize) → IsFalse (is_block_size (options_asked asked).geometry.block)
-  pub put : ((image : List ℕ) × PutsAnswer e asked image old new before now answer)
-      ⊎ ((fault : ProgramFault) × (answer ≡ Err fault) × IsEarlyFault asked fault × (new ≡ old) × (now ≡ before))
+pub record Meets (e : Endian) (parsed : Parsed) (old new : Option (List ℕ)) (before now : ℕ) (answer : Result ℕ ProgramFault) : Type 0 where
+  pub block_size : IsErrOf answer (program.Scan scan.BlockSize) → IsFalse (is_block_size (options_parsed parsed).geometry.block)
+  pub put : ((image : List ℕ) × PutsAnswer e parsed image old new before now answer)
+      ⊎ ((fault : ProgramFault) × (answer ≡ Err fault) × IsEarlyFault parsed fault × (new ≡ old) × (now ≡ before))
 
 -- the output gave on what it took, or failed once more
 abbrev pub Finishes : Option (List ℕ) → Option (List ℕ) → ℕ → ℕ → Bool → Type 0
@@ -82,29 +82,29 @@ answer_finished (Ok n) false = Err program.Output
 answer_finished (Err fault) finished = Err fault
 
 -- A request is met in the order that it names, and all that was put is given on.
-pub record MeetsWhole (asked : Asked) (old given : Option (List ℕ)) (before now : ℕ) (result : Result ℕ ProgramFault) : Type 0 where
+pub record MeetsWhole (parsed : Parsed) (old given : Option (List ℕ)) (before now : ℕ) (result : Result ℕ ProgramFault) : Type 0 where
   pub taken : Option (List ℕ)
   pub count : ℕ
   pub answer : Result ℕ ProgramFault
   pub finished : Bool
-  pub meets : Meets (options_asked asked).endian asked old taken before count answer
+  pub meets : Meets (options_parsed parsed).endian parsed old taken before count answer
   pub finishes : Finishes taken given count now finished
   pub comes_to : result ≡ answer_finished answer finished
 
 -- ---- a run
 
 -- what it comes to that the work found so much
-abbrev pub success_of : Asked → ℕ → Success
-success_of (ScanAsked options image) n = success.Found n
-success_of (CheckAsked options image) n = success.Found n
-success_of (TreeAsked options image) n = success.Shown n
-success_of (ContentAsked options image path) n = success.Shown n
+abbrev pub success_of : Parsed → ℕ → Success
+success_of (ScanParsed options image) n = success.Found n
+success_of (CheckParsed options image) n = success.Found n
+success_of (ListParsed options image) n = success.Shown n
+success_of (CatParsed options image path) n = success.Shown n
 
 -- the output failed, once or twice
 abbrev pub HasFailed : ℕ → ℕ → Type 0
 HasFailed before now = (now ≡ next_count before) ⊎ (now ≡ next_count (next_count before))
 
--- What a command line is answered: the request is met; help goes out; a refusal and want of memory stay what they are.
+-- What a command line is answered: the request is met; help goes out; a refusal and out of memory stay what they are.
 abbrev pub MeetsCommand : Result Request RequestFault → Option (List ℕ) → Option (List ℕ) → ℕ → ℕ → Result Success Stop → Type 0
 MeetsCommand (Ok request) old given before now (Ok ended) =
     (n : ℕ) × (ended ≡ success_of (view request) n) × MeetsWhole (view request) old given before now (Ok n)
@@ -118,10 +118,10 @@ MeetsCommand _ old given before now _ = ⊥
 
 -- what the words make of a command line
 abbrev pub IsCommand : List (List ℕ) → Result Request RequestFault → Type 0
-IsCommand words (Ok request) = (asked_for words ≡ Some (view request)) × IsFaultless words
-IsCommand words (Err (refused.Help text)) = IsHelpAsked words
-IsCommand words (Err (refused.Usage text)) = IsRefused words ⊎ IsUnreadable words
-IsCommand words (Err refused.OutOfMemory) = Unit {0}
+IsCommand args (Ok request) = (parsed_from args ≡ Some (view request)) × IsFaultless args
+IsCommand args (Err (refused.Help text)) = IsHelpRequested args
+IsCommand args (Err (refused.Usage text)) = IsRefusedByClap args ⊎ IsUnreadable args
+IsCommand args (Err refused.OutOfMemory) = Unit {0}
 
 abbrev pub outcome_after : Result Success Stop → Outcome
 outcome_after (Ok (success.Found n)) = outcome_of n
@@ -146,10 +146,10 @@ Says untouched old new before now None = untouched
 Says untouched old new before now (Some text) = now ≡ before → Appends old new text
 
 -- A run on these words: what they make of a command line, what that is answered, and how it ends.
-pub record Runs (words : List (List ℕ)) (old given : Option (List ℕ)) (before now : ℕ) (says : Option (List ℕ) → Type 0) (result : Outcome) : Type 0 where
+pub record Runs (args : List (List ℕ)) (old given : Option (List ℕ)) (before now : ℕ) (says : Option (List ℕ) → Type 0) (result : Outcome) : Type 0 where
   pub command : Result Request RequestFault
   pub answer : Result Success Stop
-  pub is : IsCommand words command
+  pub is : IsCommand args command
   pub meets : MeetsCommand command old given before now answer
   pub ends : result ≡ outcome_after answer
   pub said : says (said_after answer)

@@ -1,7 +1,7 @@
 //! Reads flash images of JFFS2: the program `jffs2_image`.
 //!
-//! `jcommand` reads the command line, and `program` opens files and lets `jreport` do the work over them. `main` hands over
-//! the process's words and streams.
+//! `jcommand` reads the command line, and `program` opens files and lets `jreport` do the work over them. `main` hands
+//! over the process's arguments and streams.
 #![tactic(auto)]
 
 pub mod output;
@@ -11,42 +11,42 @@ use flashbase::FromWriter;
 use jcommand::{Outcome, status};
 use jreport::ProgramFault;
 use output::BufferedOutput;
-use program::{refuse, tell};
+use program::{report_fault, report_usage};
 use std::alloc::{AllocError, Global};
 use std::io::ErrorKind;
 use std::process::ExitCode;
 use std::rt::Env;
 use std::{env, io};
 
-/// The words of the command line. Those that are not UTF-8 are `InvalidData`.
-fn words_of<R: Env + AllocGlobal>(rt: &R) -> io::Result<Vec<String>> {
-    let words: Vec<String> = env::args(rt)?.collect(rt.alloc())?;
-    Ok(words)
+/// The arguments of the command line. Those that are not UTF-8 are `InvalidData`.
+fn args_of<R: Env + AllocGlobal>(rt: &R) -> io::Result<Vec<String>> {
+    let args: Vec<String> = env::args(rt)?.collect(rt.alloc())?;
+    Ok(args)
 }
 
-fn texts_of(alloc: Global, words: &[String]) -> Result<Vec<&str>, AllocError> {
-    words.iter().map(|word| word.as_str()).collect(alloc)
+fn texts_of(alloc: Global, args: &[String]) -> Result<Vec<&str>, AllocError> {
+    args.iter().map(|word| word.as_str()).collect(alloc)
 }
 
 fn run(rt: &HostRuntime) -> Outcome {
     let mut errors = FromWriter::new(rt.stderr());
-    let words = match words_of(rt) {
-        Ok(words) => words,
+    let args = match args_of(rt) {
+        Ok(args) => args,
         Err(error) => {
             return match error.kind() {
-                ErrorKind::InvalidData => refuse(
+                ErrorKind::InvalidData => report_usage(
                     "error: the command line is not UTF-8\n",
                     &mut errors,
                 ),
-                _ => tell(&ProgramFault::OutOfMemory, &mut errors),
+                _ => report_fault(&ProgramFault::OutOfMemory, &mut errors),
             };
         }
     };
-    let Ok(texts) = texts_of(rt.alloc(), words.as_slice()) else {
-        return tell(&ProgramFault::OutOfMemory, &mut errors);
+    let Ok(texts) = texts_of(rt.alloc(), args.as_slice()) else {
+        return report_fault(&ProgramFault::OutOfMemory, &mut errors);
     };
     let Ok(mut output) = BufferedOutput::new(rt.alloc(), rt.stdout()) else {
-        return tell(&ProgramFault::OutOfMemory, &mut errors);
+        return report_fault(&ProgramFault::OutOfMemory, &mut errors);
     };
     program::run(rt, texts.as_slice(), &mut output, &mut errors)
 }

@@ -1,7 +1,7 @@
-//! The program on its words: it opens the image, lets `jreport` do the work, and says how that ended.
+//! The program on its arguments: it opens the image, lets `jreport` do the work, and says how that ended.
 ghost use Rattle.std.specs.Prelude.{◌≡◌, IfErr, OnOk, Some, map};
 ghost use Rattle.std.specs.Io.KnownBytes.{Appends};
-ghost use Rattle.jcommand.specs.Asked.{Asked, ScanAsked, CheckAsked, TreeAsked, ContentAsked, options_of, view};
+ghost use Rattle.jcommand.specs.Parsed.{Parsed, ScanParsed, CheckParsed, ListParsed, CatParsed, options_of, view};
 ghost use Rattle.jreport.specs.Faults.{fault_line_of};
 ghost use Rattle.jffs2_image.specs.Runs.{HasFailed, Meets, MeetsCommand, MeetsWhole, Runs, Says, note_after, success_of};
 
@@ -49,7 +49,7 @@ fn scan<'a, E: Order, R: Files + AllocGlobal, T: Sink>(
     image: &'a str,
     sink: &mut T,
 ) -> Result<u64, ProgramFault<'a>>
-    ensures { Meets E.order (ScanAsked options image.now) (T.taken sink.old) (T.taken sink.new) (T.failures sink.old) (T.failures sink.new) result }
+    ensures { Meets E.order (ScanParsed options image.now) (T.taken sink.old) (T.taken sink.new) (T.failures sink.old) (T.failures sink.new) result }
 {
     let source = open(rt, image)?;
     stream_lines::<E, _, _>(rt.alloc(), source, options.geometry, sink)
@@ -62,7 +62,7 @@ fn check<'a, E: Order, R: Files + AllocGlobal, T: Sink>(
     image: &'a str,
     sink: &mut T,
 ) -> Result<u64, ProgramFault<'a>>
-    ensures { Meets E.order (CheckAsked options image.now) (T.taken sink.old) (T.taken sink.new) (T.failures sink.old) (T.failures sink.new) result }
+    ensures { Meets E.order (CheckParsed options image.now) (T.taken sink.old) (T.taken sink.new) (T.failures sink.old) (T.failures sink.new) result }
 {
     let mut source = open(rt, image)?;
     let found = check_lines::<E, _, _>(rt.alloc(), &mut source, options.geometry, sink)?;
@@ -76,7 +76,7 @@ fn list<'a, E: Order, R: Files + AllocGlobal, T: Sink>(
     image: &'a str,
     sink: &mut T,
 ) -> Result<u64, ProgramFault<'a>>
-    ensures { Meets E.order (TreeAsked options image.now) (T.taken sink.old) (T.taken sink.new) (T.failures sink.old) (T.failures sink.new) result }
+    ensures { Meets E.order (ListParsed options image.now) (T.taken sink.old) (T.taken sink.new) (T.failures sink.old) (T.failures sink.new) result }
 {
     let mut source = open(rt, image)?;
     list_lines::<E, _, _>(rt.alloc(), &mut source, options.geometry, sink)
@@ -90,15 +90,15 @@ fn cat<'a, E: Order, R: Files + AllocGlobal, T: Sink>(
     path: &str,
     sink: &mut T,
 ) -> Result<u64, ProgramFault<'a>>
-    ensures { Meets E.order (ContentAsked options image.now path.now) (T.taken sink.old) (T.taken sink.new) (T.failures sink.old) (T.failures sink.new) result }
+    ensures { Meets E.order (CatParsed options image.now path.now) (T.taken sink.old) (T.taken sink.new) (T.failures sink.old) (T.failures sink.new) result }
 {
     let path = path_word(rt.alloc(), path.as_bytes())?;
     let mut source = open(rt, image)?;
     file_bytes::<E, _, _>(rt.alloc(), &mut source, options.geometry, &path, sink)
 }
 
-/// Meets the request in the byte order `E`, and answers how much was found.
-fn meet_in<'a, E: Order, R: Files + AllocGlobal, T: Sink>(
+/// Runs the request in the byte order `E`, and answers how much was found.
+fn run_in_order<'a, E: Order, R: Files + AllocGlobal, T: Sink>(
     rt: &R,
     request: Request<'a>,
     sink: &mut T,
@@ -108,8 +108,8 @@ fn meet_in<'a, E: Order, R: Files + AllocGlobal, T: Sink>(
     match request {
         Request::Scan { options, image } => scan::<E, _, _>(rt, options, image, sink),
         Request::Check { options, image } => check::<E, _, _>(rt, options, image, sink),
-        Request::Tree { options, image } => list::<E, _, _>(rt, options, image, sink),
-        Request::Content {
+        Request::List { options, image } => list::<E, _, _>(rt, options, image, sink),
+        Request::Cat {
             options,
             image,
             path,
@@ -117,8 +117,8 @@ fn meet_in<'a, E: Order, R: Files + AllocGlobal, T: Sink>(
     }
 }
 
-/// Meets the request in the byte order that it names, and answers how much was found.
-fn meet<'a, R: Files + AllocGlobal, T: Sink>(
+/// Runs the request in the byte order that it names, and answers how much was found.
+fn run_request<'a, R: Files + AllocGlobal, T: Sink>(
     rt: &R,
     request: Request<'a>,
     sink: &mut T,
@@ -126,20 +126,20 @@ fn meet<'a, R: Files + AllocGlobal, T: Sink>(
     ensures { Meets (options_of request.entry).endian (view request.entry) (T.taken sink.old) (T.taken sink.new) (T.failures sink.old) (T.failures sink.new) result }
 {
     match request.options().endian {
-        Endian::Little => meet_in::<LittleEndian, _, _>(rt, request, sink),
-        Endian::Big => meet_in::<BigEndian, _, _>(rt, request, sink),
+        Endian::Little => run_in_order::<LittleEndian, _, _>(rt, request, sink),
+        Endian::Big => run_in_order::<BigEndian, _, _>(rt, request, sink),
     }
 }
 
-/// Meets the request. What was put goes out, also before a fault.
-fn meet_whole<'a, R: Files + AllocGlobal, T: Output>(
+/// Runs the request. What was put goes out, also before a fault.
+fn run_whole<'a, R: Files + AllocGlobal, T: Output>(
     rt: &R,
     request: Request<'a>,
     output: &mut T,
 ) -> Result<u64, ProgramFault<'a>>
     ensures { MeetsWhole (view request.entry) (T.taken output.old) (T.given output.new) (T.failures output.old) (T.failures output.new) result }
 {
-    let answer = meet(rt, request, output);
+    let answer = run_request(rt, request, output);
     let finished = output.finish();
     let findings = answer?;
     match finished {
@@ -167,12 +167,12 @@ fn as_success(request: &Request<'_>, findings: u64) -> Success
 {
     match request {
         Request::Scan { .. } | Request::Check { .. } => Success::Found(findings),
-        Request::Tree { .. } | Request::Content { .. } => Success::Shown(findings),
+        Request::List { .. } | Request::Cat { .. } => Success::Shown(findings),
     }
 }
 
 /// Answers a command line.
-fn meet_command<'a, R: Files + AllocGlobal, T: Output>(
+fn run_command<'a, R: Files + AllocGlobal, T: Output>(
     rt: &R,
     command: Result<Request<'a>, RequestFault>,
     output: &mut T,
@@ -180,7 +180,7 @@ fn meet_command<'a, R: Files + AllocGlobal, T: Output>(
     ensures { MeetsCommand command.entry (T.taken output.old) (T.given output.new) (T.failures output.old) (T.failures output.new) result }
 {
     match command {
-        Ok(request) => match meet_whole(rt, request, output) {
+        Ok(request) => match run_whole(rt, request, output) {
             Ok(findings) => Ok(as_success(&request, findings)),
             Err(fault) => Err(Stop::Fault(fault)),
         },
@@ -193,20 +193,20 @@ fn meet_command<'a, R: Files + AllocGlobal, T: Output>(
     }
 }
 
-/// Tells a fault in one line.
-pub fn tell<E: Sink>(fault: &ProgramFault<'_>, errors: &mut E) -> Outcome
+/// Reports a fault in one line.
+pub fn report_fault<E: Sink>(fault: &ProgramFault<'_>, errors: &mut E) -> Outcome
     ensures fault { result ≡ Outcome.Fault }
-    ensures told { E.failures errors.new ≡ E.failures errors.old
+    ensures reported { E.failures errors.new ≡ E.failures errors.old
         → Appends (E.taken errors.old) (E.taken errors.new) (fault_line_of fault.now) }
 {
     let _ = fault_line(fault, errors);
     Outcome::Fault
 }
 
-/// Tells what is wrong with the command line.
-pub fn refuse<E: Sink>(text: &str, errors: &mut E) -> Outcome
+/// Reports what is wrong with the command line.
+pub fn report_usage<E: Sink>(text: &str, errors: &mut E) -> Outcome
     ensures usage { result ≡ Outcome.Usage }
-    ensures told { E.failures errors.new ≡ E.failures errors.old
+    ensures reported { E.failures errors.new ≡ E.failures errors.old
         → Appends (E.taken errors.old) (E.taken errors.new) text.now }
 {
     let _ = put_all(errors, text.as_bytes());
@@ -224,22 +224,22 @@ fn note<E: Sink>(findings: u64, errors: &mut E) -> Outcome
     Outcome::Done
 }
 
-/// Runs the program on its words, of which the first is its own name.
+/// Runs the program on its arguments, of which the first is its own name.
 pub fn run<R: Files + AllocGlobal, T: Output, E: Sink>(
     rt: &R,
-    words: &[&str],
+    args: &[&str],
     output: &mut T,
     errors: &mut E,
 ) -> Outcome
     // The words make a request, whose answer goes out, or are answered by a text. A fault is one that is due, and is told
     // in one line; `ls` and `cat` note what they passed over.
-    ensures { Runs (map (λ w. w.now) words.now) (T.taken output.old) (T.given output.new) (T.failures output.old) (T.failures output.new)
+    ensures { Runs (map (λ w. w.now) args.now) (T.taken output.old) (T.given output.new) (T.failures output.old) (T.failures output.new)
         (Says (errors.new ≡ errors.old) (E.taken errors.old) (E.taken errors.new) (E.failures errors.old) (E.failures errors.new)) result }
 {
-    match meet_command(rt, request(rt.alloc(), words), output) {
+    match run_command(rt, request(rt.alloc(), args), output) {
         Ok(Success::Found(findings)) => Outcome::of(findings),
         Ok(Success::Shown(findings)) => note(findings, errors),
-        Err(Stop::Usage { text }) => refuse(text.as_str(), errors),
-        Err(Stop::Fault(fault)) => tell(&fault, errors),
+        Err(Stop::Usage { text }) => report_usage(text.as_str(), errors),
+        Err(Stop::Fault(fault)) => report_fault(&fault, errors),
     }
 }

@@ -1,8 +1,8 @@
 pub mod Edges
 pub mod OverlaysLemmas
-pub mod Painting
+pub mod Overwriting
 pub mod Reading
-pub mod RunLemmas
-pub mod RunMaps
+pub mod IntervalMapLemmas
+pub mod IntervalMapChanges
 pub mod IntervalsLemmas
 pub mod Walk

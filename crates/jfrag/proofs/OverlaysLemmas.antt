@@ -1,4 +1,4 @@
--- What stands at a place, over a list of pieces, one piece more at a time.
+-- What is visible at a place, over a list of pieces, one piece more at a time.
 use Rattle.std.proofs.Common.{Result, Ok, Err, IfOk, ◌≡◌, ◌≢◌, ℕ, ◌+◌, ◌^◌, ◌<◌, ◌≤◌, Bool, true, false, ◌&&◌, cond, List, [], ◌∷◌, ◌++◌, length, get_or, take, refl, sym, ap, subst, arith, Option, Some, None, suc, zero, min, ◌∙◌, length-append}
 use Rattle.std.specs.Prelude.{nat_lt, nat_le, option_map, filter, Contains}
 use Rattle.std.specs.List.Sorted.{IsPermutation}
@@ -13,7 +13,7 @@ use Rattle.flashbase.specs.Lists.{newest, each_below}
 use Rattle.flashbase.proofs.ListLemmas.{after_last, newest-filter-push, length-each_below, get_or-each_below}
 use Rattle.jfrag.specs.declared.piece.Piece.{Piece}
 use Rattle.jfrag.specs.Pieces.{covers, byte_of, end_of}
-use Rattle.jfrag.specs.Overlays.{Standing, byte_at, Gives, IsHighestAt, standing, outranks, laid}
+use Rattle.jfrag.specs.Overlays.{Visible, byte_at, GivesAt, IsHighestAt, visible, outranks, overlaid}
 use Rattle.jfrag.specs.Laws as law
 
 pub case_on : {P : Type 0} (b : Bool) → (b ≡ true → P) → (b ≡ false → P) → P
@@ -35,23 +35,23 @@ some_cond : {X Y : Type 0} (f : X → Y) (x y : X) (c : Bool) → Some (f (cond 
 some_cond f x y true = refl
 some_cond f x y false = refl
 
-laid_any : (i : ℕ) (piece : Piece) (b : Bool) (there : Option Piece) → covers i piece ≡ b
-    → option_map (sight i) (cond b (Some (after_last version there piece)) there) ≡ laid i piece (option_map (sight i) there)
-laid_any i piece true None e = rw e refl
-laid_any i piece false None e = rw e refl
-laid_any i piece true (Some y) e = rw e (some_cond (sight i) piece y (nat_lt y.version piece.version))
-laid_any i piece false (Some y) e = rw e refl
+overlaid_any : (i : ℕ) (piece : Piece) (b : Bool) (there : Option Piece) → covers i piece ≡ b
+    → option_map (sight i) (cond b (Some (after_last version there piece)) there) ≡ overlaid i piece (option_map (sight i) there)
+overlaid_any i piece true None e = rw e refl
+overlaid_any i piece false None e = rw e refl
+overlaid_any i piece true (Some y) e = rw e (some_cond (sight i) piece y (nat_lt y.version piece.version))
+overlaid_any i piece false (Some y) e = rw e refl
 
 pub one_more_piece : law.OneMorePiece
 one_more_piece pieces piece i =
-    ap (option_map (sight i)) (newest-filter-push version (covers i) pieces piece) ∙ laid_any i piece (covers i piece) (newest version (filter (covers i) pieces)) refl
+    ap (option_map (sight i)) (newest-filter-push version (covers i) pieces piece) ∙ overlaid_any i piece (covers i piece) (newest version (filter (covers i) pieces)) refl
 
 -- one more of a list that is gone through
-pub standing_more : (ps : List Piece) (k i : ℕ) (d : Piece) → k < length ps → standing (take (k + 1) ps) i ≡ laid i (get_or ps k d) (standing (take k ps) i)
-standing_more ps k i d l = ap (λ (qs : List Piece). standing qs i) (take_more ps k d l) ∙ one_more_piece (take k ps) (get_or ps k d) i
+pub visible_more : (ps : List Piece) (k i : ℕ) (d : Piece) → k < length ps → visible (take (k + 1) ps) i ≡ overlaid i (get_or ps k d) (visible (take k ps) i)
+visible_more ps k i d l = ap (λ (qs : List Piece). visible qs i) (take_more ps k d l) ∙ one_more_piece (take k ps) (get_or ps k d) i
 
-pub content_stands : law.ContentStands
-content_stands pieces n i h = (length-each_below n (λ i. byte_at (standing pieces i)), get_or-each_below n i (λ i. byte_at (standing pieces i)) 0 h)
+pub content_is_visible : law.ContentIsVisible
+content_is_visible pieces n i h = (length-each_below n (λ i. byte_at (visible pieces i)), get_or-each_below n i (λ i. byte_at (visible pieces i)) 0 h)
 
 -- ---- the highest version
 
@@ -61,42 +61,42 @@ Any-left P xs ys (k, x, l, e, p) = (k, x, omega (arith, length-append xs ys), ge
 pub highest_none : (i : ℕ) → IsHighestAt [] i None
 highest_none i = λ k d l. absurd (omega arith)
 
-pub highest_push : (ps : List Piece) (p : Piece) (i : ℕ) (s : Standing) → IsHighestAt ps i s → IsHighestAt (ps ++ p ∷ []) i (laid i p s)
+pub highest_push : (ps : List Piece) (p : Piece) (i : ℕ) (s : Visible) → IsHighestAt ps i s → IsHighestAt (ps ++ p ∷ []) i (overlaid i p s)
 highest_push ps p i None h =
     case_on (covers i p)
-    (λ e. rw e (Any-push (Gives i (p.version, byte_of i p)) ps p (e, refl, refl), All-push (λ q. covers i q ≡ true → q.version ≤ p.version) ps p (λ k d l c. absurd (h k d l c)) (λ _. omega arith)))
+    (λ e. rw e (Any-push (GivesAt i (p.version, byte_of i p)) ps p (e, refl, refl), All-push (λ q. covers i q ≡ true → q.version ≤ p.version) ps p (λ k d l c. absurd (h k d l c)) (λ _. omega arith)))
     (λ e. rw e (All-push (λ q. covers i q ≢ true) ps p h (λ c. not_both (covers i p) c e)))
 highest_push ps p i (Some t) h =
     case_on (covers i p)
     (λ e. case_on (nat_lt t.0 p.version)
-    (λ f. rw (e, f) (Any-push (Gives i (p.version, byte_of i p)) ps p (e, refl, refl), All-push (λ q. covers i q ≡ true → q.version ≤ p.version) ps p (λ k d l c. let u : (get_or ps k d).version ≤ t.0 = h.1 k d l c in omega (arith, ltb-true t.0 p.version f)) (λ _. omega arith)))
-    (λ f. rw (e, f) (Any-left (Gives i t) ps (p ∷ []) h.0, All-push (λ q. covers i q ≡ true → q.version ≤ t.0) ps p h.1 (λ _. omega (arith, ltb-false t.0 p.version f)))))
-    (λ e. rw e (Any-left (Gives i t) ps (p ∷ []) h.0, All-push (λ q. covers i q ≡ true → q.version ≤ t.0) ps p h.1 (λ c. not_both (covers i p) c e)))
+    (λ f. rw (e, f) (Any-push (GivesAt i (p.version, byte_of i p)) ps p (e, refl, refl), All-push (λ q. covers i q ≡ true → q.version ≤ p.version) ps p (λ k d l c. let u : (get_or ps k d).version ≤ t.0 = h.1 k d l c in omega (arith, ltb-true t.0 p.version f)) (λ _. omega arith)))
+    (λ f. rw (e, f) (Any-left (GivesAt i t) ps (p ∷ []) h.0, All-push (λ q. covers i q ≡ true → q.version ≤ t.0) ps p h.1 (λ _. omega (arith, ltb-false t.0 p.version f)))))
+    (λ e. rw e (Any-left (GivesAt i t) ps (p ∷ []) h.0, All-push (λ q. covers i q ≡ true → q.version ≤ t.0) ps p h.1 (λ c. not_both (covers i p) c e)))
 
 -- one piece more of a list
-pub highest_more : (ps : List Piece) (j i : ℕ) (p d : Piece) (s t : Standing) → j < length ps → p ≡ get_or ps j d → t ≡ laid i p s → IsHighestAt (take j ps) i s → IsHighestAt (take (j + 1) ps) i t
+pub highest_more : (ps : List Piece) (j i : ℕ) (p d : Piece) (s t : Visible) → j < length ps → p ≡ get_or ps j d → t ≡ overlaid i p s → IsHighestAt (take j ps) i s → IsHighestAt (take (j + 1) ps) i t
 highest_more ps j i p d s t l e f h =
-    let pushed : IsHighestAt (take j ps ++ p ∷ []) i (laid i p s) = highest_push (take j ps) p i s h in
+    let pushed : IsHighestAt (take j ps ++ p ∷ []) i (overlaid i p s) = highest_push (take j ps) p i s h in
     let list : take j ps ++ p ∷ [] ≡ take (j + 1) ps = ap (λ (q : Piece). take j ps ++ q ∷ []) e ∙ sym (take_more ps j d l) in
-    let moved : IsHighestAt (take (j + 1) ps) i (laid i p s) = subst (λ (qs : List Piece). IsHighestAt qs i (laid i p s)) list pushed in
+    let moved : IsHighestAt (take (j + 1) ps) i (overlaid i p s) = subst (λ (qs : List Piece). IsHighestAt qs i (overlaid i p s)) list pushed in
     subst (IsHighestAt (take (j + 1) ps) i) (sym f) moved
 
-pub highest_all : (ps : List Piece) (j i : ℕ) (s : Standing) → length ps ≤ j → IsHighestAt (take j ps) i s → IsHighestAt ps i s
+pub highest_all : (ps : List Piece) (j i : ℕ) (s : Visible) → length ps ≤ j → IsHighestAt (take j ps) i s → IsHighestAt ps i s
 highest_all ps j i s l h = subst (λ (qs : List Piece). IsHighestAt qs i s) (take_all j ps l) h
 
 -- the function's answer, by the pieces from the last to the first
-snoc_highest : (n : ℕ) (ps : List Piece) (i : ℕ) → length ps ≡ n → IsHighestAt ps i (standing ps i)
+snoc_highest : (n : ℕ) (ps : List Piece) (i : ℕ) → length ps ≡ n → IsHighestAt ps i (visible ps i)
 snoc_highest zero [] i e = highest_none i
 snoc_highest zero (p ∷ ps) i e = absurd (omega arith)
 snoc_highest (suc n) [] i e = absurd (omega arith)
 snoc_highest (suc n) (p ∷ ps) i e =
     let l : n < length (p ∷ ps) = omega arith in
-    let before : IsHighestAt (take n (p ∷ ps)) i (standing (take n (p ∷ ps)) i) = snoc_highest n (take n (p ∷ ps)) i (length-take n (p ∷ ps) ∙ omega arith) in
-    let after : IsHighestAt (take (n + 1) (p ∷ ps)) i (standing (take (n + 1) (p ∷ ps)) i) = highest_more (p ∷ ps) n i (get_or (p ∷ ps) n p) p (standing (take n (p ∷ ps)) i) (standing (take (n + 1) (p ∷ ps)) i) l refl (standing_more (p ∷ ps) n i p l) before in
-    subst (λ (qs : List Piece). IsHighestAt qs i (standing qs i)) (take_all (n + 1) (p ∷ ps) (omega arith)) after
+    let before : IsHighestAt (take n (p ∷ ps)) i (visible (take n (p ∷ ps)) i) = snoc_highest n (take n (p ∷ ps)) i (length-take n (p ∷ ps) ∙ omega arith) in
+    let after : IsHighestAt (take (n + 1) (p ∷ ps)) i (visible (take (n + 1) (p ∷ ps)) i) = highest_more (p ∷ ps) n i (get_or (p ∷ ps) n p) p (visible (take n (p ∷ ps)) i) (visible (take (n + 1) (p ∷ ps)) i) l refl (visible_more (p ∷ ps) n i p l) before in
+    subst (λ (qs : List Piece). IsHighestAt qs i (visible qs i)) (take_all (n + 1) (p ∷ ps) (omega arith)) after
 
-pub standing_is_highest : law.StandingIsHighest
-standing_is_highest ps i = snoc_highest (length ps) ps i refl
+pub visible_is_highest : law.VisibleIsHighest
+visible_is_highest ps i = snoc_highest (length ps) ps i refl
 
 -- ---- one answer is the highest
 
@@ -105,7 +105,7 @@ same_at : (ps : List Piece) (k : ℕ) (p d : Piece) → k < length ps → get_or
 same_at ps k p d l e = get_or_default ps k d p l ∙ e
 
 -- what gives the byte, and what gives another of the same version, give one byte
-one_byte : (ps : List Piece) (i : ℕ) (s t : ℕ × ℕ) → law.AgreeAt ps i → s.0 ≡ t.0 → Any (Gives i s) ps → Any (Gives i t) ps → s.1 ≡ t.1
+one_byte : (ps : List Piece) (i : ℕ) (s t : ℕ × ℕ) → law.AgreeAt ps i → s.0 ≡ t.0 → Any (GivesAt i s) ps → Any (GivesAt i t) ps → s.1 ≡ t.1
 one_byte ps i s t agree same (k, p, k_in, at_k, (p_covers, p_version, p_byte)) (j, q, j_in, at_j, (q_covers, q_version, q_byte)) =
     let versions : p.version ≡ q.version = p_version ∙ same ∙ sym q_version in
     let here : get_or ps k p ≡ p = at_k in
@@ -124,19 +124,19 @@ one_byte ps i s t agree same (k, p, k_in, at_k, (p_covers, p_version, p_byte)) (
     sym p_byte ∙ bytes ∙ q_byte
 
 -- a version that is given is at most the highest
-at_most : (ps : List Piece) (i m : ℕ) (t : ℕ × ℕ) → Any (Gives i t) ps → All (λ p. covers i p ≡ true → p.version ≤ m) ps → t.0 ≤ m
+at_most : (ps : List Piece) (i m : ℕ) (t : ℕ × ℕ) → Any (GivesAt i t) ps → All (λ p. covers i p ≡ true → p.version ≤ m) ps → t.0 ≤ m
 at_most ps i m t (k, p, k_in, at_k, (p_covers, p_version, p_byte)) all =
     let h : (get_or ps k p).version ≤ m = all k p k_in (ap (covers i) at_k ∙ p_covers) in
     let e : (get_or ps k p).version ≡ p.version = ap version at_k in
     omega arith
 
-none_gives : {P : Type 0} (ps : List Piece) (i : ℕ) (t : ℕ × ℕ) → Any (Gives i t) ps → All (λ p. covers i p ≢ true) ps → P
+none_gives : {P : Type 0} (ps : List Piece) (i : ℕ) (t : ℕ × ℕ) → Any (GivesAt i t) ps → All (λ p. covers i p ≢ true) ps → P
 none_gives ps i t (k, p, k_in, at_k, (p_covers, p_version, p_byte)) none = absurd (none k p k_in (ap (covers i) at_k ∙ p_covers))
 
 same_pair : (s t : ℕ × ℕ) → s.0 ≡ t.0 → s.1 ≡ t.1 → Some s ≡ Some t
 same_pair (v, b) (w, c) e f = cc
 
-one_highest : (ps : List Piece) (i : ℕ) (s t : Standing) → law.AgreeAt ps i → IsHighestAt ps i s → IsHighestAt ps i t → s ≡ t
+one_highest : (ps : List Piece) (i : ℕ) (s t : Visible) → law.AgreeAt ps i → IsHighestAt ps i s → IsHighestAt ps i t → s ≡ t
 one_highest ps i None None agree h g = refl
 one_highest ps i None (Some t) agree h g = none_gives ps i t g.0 h
 one_highest ps i (Some s) None agree h g = none_gives ps i s h.0 g
@@ -147,11 +147,11 @@ one_highest ps i (Some s) (Some t) agree h g =
     same_pair s t versions (one_byte ps i s t agree versions h.0 g.0)
 
 pub only_one_is_highest : law.OnlyOneIsHighest
-only_one_is_highest ps i s agree h = one_highest ps i s (standing ps i) agree h (standing_is_highest ps i)
+only_one_is_highest ps i s agree h = one_highest ps i s (visible ps i) agree h (visible_is_highest ps i)
 
 -- ---- where a piece wins, and where it does not
 
-stays : (i : ℕ) (p : Piece) (s : Standing) → (covers i p && outranks p.version s) ≡ false → laid i p s ≡ s
+stays : (i : ℕ) (p : Piece) (s : Visible) → (covers i p && outranks p.version s) ≡ false → overlaid i p s ≡ s
 stays i p s e = rw e refl
 
 left_no : (a b : Bool) → a ≡ false → (a && b) ≡ false
@@ -191,20 +191,20 @@ empty_changes_nothing p i s e =
 
 -- ---- past every piece
 
-standing_past : (ps : List Piece) (i : ℕ) (s : Standing) → All (λ p. end_of p < 2 ^ 32) ps → 4294967295 ≤ i → IsHighestAt ps i s → s ≡ None
-standing_past ps i None h l at_i = refl
-standing_past ps i (Some t) h l ((k, p, k_in, at_k, (p_covers, p_version, p_byte)), all) =
+visible_past : (ps : List Piece) (i : ℕ) (s : Visible) → All (λ p. end_of p < 2 ^ 32) ps → 4294967295 ≤ i → IsHighestAt ps i s → s ≡ None
+visible_past ps i None h l at_i = refl
+visible_past ps i (Some t) h l ((k, p, k_in, at_k, (p_covers, p_version, p_byte)), all) =
     let fits : end_of (get_or ps k p) < 2 ^ 32 = h k p k_in in
     let same : end_of (get_or ps k p) ≡ end_of p = ap end_of at_k in
     not_both (covers i p) p_covers (past_end i p (omega arith))
 
--- nothing stands from 2 ^ 32 - 1 on, so a place past every piece may be taken for another such place
-pub byte_capped : (ps : List Piece) (i j : ℕ) → All (λ p. end_of p < 2 ^ 32) ps → j ≡ min i 18446744073709551615 → byte_at (standing ps j) ≡ byte_at (standing ps i)
+-- nothing is visible from 2 ^ 32 - 1 on, so a place past every piece may be taken for another such place
+pub byte_capped : (ps : List Piece) (i j : ℕ) → All (λ p. end_of p < 2 ^ 32) ps → j ≡ min i 18446744073709551615 → byte_at (visible ps j) ≡ byte_at (visible ps i)
 byte_capped ps i j h e =
     case_on (nat_lt i 18446744073709551615)
-    (λ f. let l : i < 18446744073709551615 = ltb-true i 18446744073709551615 f in let same : j ≡ i = omega arith in ap (λ k. byte_at (standing ps k)) same)
+    (λ f. let l : i < 18446744073709551615 = ltb-true i 18446744073709551615 f in let same : j ≡ i = omega arith in ap (λ k. byte_at (visible ps k)) same)
     (λ f. let l : 18446744073709551615 ≤ i = ltb-false i 18446744073709551615 f in
-    ap byte_at (standing_past ps j (standing ps j) h (omega arith) (standing_is_highest ps j)) ∙ sym (ap byte_at (standing_past ps i (standing ps i) h (omega arith) (standing_is_highest ps i))))
+    ap byte_at (visible_past ps j (visible ps j) h (omega arith) (visible_is_highest ps j)) ∙ sym (ap byte_at (visible_past ps i (visible ps i) h (omega arith) (visible_is_highest ps i))))
 
 -- ---- a slice that was filled
 
@@ -220,11 +220,11 @@ any_permuted P xs ys moved (k, x, k_in, at_k, here) =
     let there : Contains ys x = Contains-permutation xs ys x moved (k, k_in, at_k) in
     (there.0, x, there.1, there.2, here)
 
-pub highest_permuted : (ps qs : List Piece) → IsPermutation ps qs → (i : ℕ) (s : Standing) → IsHighestAt qs i s → IsHighestAt ps i s
+pub highest_permuted : (ps qs : List Piece) → IsPermutation ps qs → (i : ℕ) (s : Visible) → IsHighestAt qs i s → IsHighestAt ps i s
 highest_permuted ps qs moved i None h = All-permutation (λ p. covers i p ≢ true) qs ps (IsPermutation-sym ps qs moved) h
 highest_permuted ps qs moved i (Some t) h =
     let back : IsPermutation qs ps = IsPermutation-sym ps qs moved in
-    (any_permuted (Gives i t) qs ps back h.0, All-permutation (λ p. covers i p ≡ true → p.version ≤ t.0) qs ps back h.1)
+    (any_permuted (GivesAt i t) qs ps back h.0, All-permutation (λ p. covers i p ≡ true → p.version ≤ t.0) qs ps back h.1)
 
 pub if_ok : {T E : Type 0} (r : Result T E) (P Q : T → Type 0) → ((x : T) → P x → Q x) → IfOk r P → IfOk r Q
 if_ok (Ok x) P Q f h = f x h

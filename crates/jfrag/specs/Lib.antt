@@ -1,7 +1,7 @@
 pub mod Pieces
 pub mod Overlays
-pub mod Runs
+pub mod IntervalMap
 pub mod Laws
 pub mod Intervals
 pub mod Plain
-pub mod Rows
+pub mod Examples

@@ -7,8 +7,8 @@ use super::overlays::Overlay;
 use super::piece::Piece;
 use std::alloc::{AllocError, Global};
 
-/// All of the pieces laid over one another: at each place stands the highest version that covers it.
-/// Pieces are laid in the order of their versions, so that n of them take n log n steps in any order
+/// All of the pieces overlaid on one another: at each place the highest version that covers it is visible.
+/// Pieces are overlaid in the order of their versions, so that n of them take O(n log n) in any order
 /// of arrival, if those of one version are equal or lie apart. (Else each takes a step more for each
 /// interval of its own version in its range.)
 ///
@@ -16,12 +16,12 @@ use std::alloc::{AllocError, Global};
 /// Out of memory.
 pub fn overlay<'a, O: Overlay<'a>>(alloc: Global, pieces: &[Piece<'a>]) -> Result<O, AllocError>
     requires { All (λ piece. end_of piece < 2 ^ 32) pieces.now }
-    ensures highest { IfOk result (λ o. (place : ℕ) → IsHighestAt pieces.now place (O.stands o place)) }
+    ensures highest { IfOk result (λ o. (place : ℕ) → IsHighestAt pieces.now place (O.visible_at o place)) }
     ensures ends { IfOk result (λ o. O.ends o ≤ 2 * length pieces.now) }
 {
     let mut by_version = copies(alloc, pieces)?;
     by_version.sort_unstable_by_key(|piece| piece.version);
-    lay_in_turn(alloc, &by_version)
+    overlay_in_turn(alloc, &by_version)
 }
 
 fn copies<'a>(alloc: Global, pieces: &[Piece<'a>]) -> Result<Vec<Piece<'a>>, AllocError>
@@ -34,15 +34,15 @@ fn copies<'a>(alloc: Global, pieces: &[Piece<'a>]) -> Result<Vec<Piece<'a>>, All
     Ok(copies)
 }
 
-// The pieces laid over one another in the order of the list.
-fn lay_in_turn<'a, O: Overlay<'a>>(alloc: Global, pieces: &[Piece<'a>]) -> Result<O, AllocError>
+// The pieces overlaid on one another in the order of the list.
+fn overlay_in_turn<'a, O: Overlay<'a>>(alloc: Global, pieces: &[Piece<'a>]) -> Result<O, AllocError>
     requires { All (λ piece. end_of piece < 2 ^ 32) pieces.now }
-    ensures highest { IfOk result (λ o. (place : ℕ) → IsHighestAt pieces.now place (O.stands o place)) }
+    ensures highest { IfOk result (λ o. (place : ℕ) → IsHighestAt pieces.now place (O.visible_at o place)) }
     ensures ends { IfOk result (λ o. O.ends o ≤ 2 * length pieces.now) }
 {
-    let mut laid = O::new(alloc);
+    let mut overlaid = O::new(alloc);
     for piece in pieces {
-        laid.add(piece.copied())?;
+        overlaid.add(piece.copied())?;
     }
-    Ok(laid)
+    Ok(overlaid)
 }

@@ -1,64 +1,64 @@
-// An overlay in ordered runs.
+// An overlay in ordered intervals.
 ghost use Rattle.std.specs.Prelude.{◌≡◌, ℕ, ◌+◌, ◌*◌, ◌<◌, ◌≤◌};
 ghost use Rattle.std.specs.BTreeMap.{btree_map_len};
-ghost use Rattle.jfrag.specs.Runs.{run_at, seen, IsCovered, IsSettled, IsTight};
+ghost use Rattle.jfrag.specs.IntervalMap.{interval_at, seen, IsCovered, IsSettled, IsTight};
 
+use super::interval_map::{self, Intervals};
 use super::overlays::Overlay;
 use super::piece::Piece;
-use super::runs::{self, Runs};
 use std::alloc::{AllocError, Global};
 use std::collections::BTreeMap;
 
-/// Intervals in the order of their places, in each of which one piece stands: no two overlap, and no
-/// two that touch show one piece. At each key of the map begins what stands up to the next key.
+/// Intervals in the order of their places, in each of which one piece is visible: no two overlap, and no
+/// two that touch show one piece. At each key of the map begins what is visible up to the next key.
 #[derive(Drop)]
 pub struct FragOverlay<'a> {
-    runs: BTreeMap<u32, Option<Piece<'a>>>,
-    ghost covered: { IsCovered runs.entries },
-    ghost settled: { IsSettled runs.entries },
-    ghost tight: { IsTight runs },
+    intervals: BTreeMap<u32, Option<Piece<'a>>>,
+    ghost covered: { IsCovered intervals.entries },
+    ghost settled: { IsSettled intervals.entries },
+    ghost tight: { IsTight intervals },
 }
 
 impl<'a> Overlay<'a> for FragOverlay<'a> {
     ghost use Rattle.std.specs.Prelude.{OnOk, OnErr, ◌^◌};
     ghost use Rattle.jfrag.specs.Pieces.{end_of};
-    ghost use Rattle.jfrag.specs.Overlays.{laid};
-    ghost use Rattle.jfrag.specs.Runs.{painted};
+    ghost use Rattle.jfrag.specs.Overlays.{overlaid};
+    ghost use Rattle.jfrag.specs.IntervalMap.{overwritten};
     ghost use Rattle.jfrag.specs.Intervals.{IsIntervalCount, piece_at, end_count};
 
-    ghost stands = { λ s place. seen (piece_at s place) place };
+    ghost visible_at = { λ s place. seen (piece_at s place) place };
 
     ghost ends = { λ s. end_count s };
 
     fn new(alloc: Global) -> Self {
         FragOverlay {
-            runs: BTreeMap::new(alloc),
+            intervals: BTreeMap::new(alloc),
         }
     }
 
-    /// In the order of versions n pieces take n log n steps in all. A piece that is older than k
+    /// In the order of versions n pieces take O(n log n) in all. A piece that is older than k
     /// intervals in its range takes k steps more: `overlay` sorts first.
     fn add(&mut self, piece: Piece<'a>) -> Result<(), AllocError>
         requires { end_of piece < 2 ^ 32 }
-        ensures taken { OnOk result ((place : ℕ) → piece_at self.new place ≡ painted piece.entry place (piece_at self.old place)) }
-        ensures laid { OnOk result ((place : ℕ) → seen (piece_at self.new place) place ≡ laid place piece.entry (seen (piece_at self.old place) place)) }
+        ensures taken { OnOk result ((place : ℕ) → piece_at self.new place ≡ overwritten piece.entry place (piece_at self.old place)) }
+        ensures overlaid { OnOk result ((place : ℕ) → seen (piece_at self.new place) place ≡ overlaid place piece.entry (seen (piece_at self.old place) place)) }
         ensures two_ends { OnOk result (end_count self.new ≤ end_count self.old + 2) }
-        ensures kept { OnErr result ((place : ℕ) → piece_at self.new place ≡ piece_at self.old place) }
+        ensures unchanged { OnErr result ((place : ℕ) → piece_at self.new place ≡ piece_at self.old place) }
         ensures same { OnErr result ((place : ℕ) → seen (piece_at self.new place) place ≡ seen (piece_at self.old place) place) }
         ensures same_ends { OnErr result (end_count self.new ≡ end_count self.old) }
     {
-        runs::lay(&mut self.runs, &piece)
+        interval_map::overlay_piece(&mut self.intervals, &piece)
     }
 
     fn read_at(&self, place: u64, out: &mut [u8]) {
-        runs::read(&self.runs, place, out);
+        interval_map::read(&self.intervals, place, out);
     }
 
-    /// How many intervals there are, in each of which one piece stands.
+    /// How many intervals there are, in each of which one piece is visible.
     fn pieces(&self) -> usize
         ensures exact { IsIntervalCount (piece_at self.now) result }
         ensures bound { result ≤ end_count self.now }
     {
-        runs::count(&self.runs)
+        interval_map::count(&self.intervals)
     }
 }

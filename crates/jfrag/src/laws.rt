@@ -1,18 +1,18 @@
 //! Laws of overlays: each clause is a fact on the definitions alone, and each body is empty.
 ghost use Rattle.std.specs.Prelude.{◌≡◌, ◌++◌, ◌∷◌, [], Some, None, replicate};
 ghost use Rattle.jfrag.specs.Laws as law;
-ghost use Rattle.jfrag.specs.Overlays.{standing, content};
-ghost use Rattle.jfrag.specs.Rows.{three_pieces};
+ghost use Rattle.jfrag.specs.Overlays.{visible, content};
+ghost use Rattle.jfrag.specs.Examples.{three_pieces};
 
-/// What stands is computed as a maximum by version; where pieces of one version agree, it is the
+/// What is visible is computed as a maximum by version; where pieces of one version agree, it is the
 /// only answer that is of the highest version.
-pub fn standing_laws()
-    ensures highest { law.StandingIsHighest }
+pub fn visibility_laws()
+    ensures highest { law.VisibleIsHighest }
     ensures only { law.OnlyOneIsHighest }
-    ensures content { law.ContentStands }
+    ensures content { law.ContentIsVisible }
 {}
 
-/// What one more piece does to what stands.
+/// What one more piece does to what is visible.
 pub fn piece_laws()
     ensures one_more { law.OneMorePiece }
     ensures again { law.AgainChangesNothing }
@@ -22,10 +22,10 @@ pub fn piece_laws()
 
 /// The worked example: version 3 over places 0 to 9, version 2 over 50 to 59, version 1 over 0 to 99.
 pub fn worked_example()
-    ensures newest { standing three_pieces 9 ≡ Some (3, 33) }
-    ensures oldest { standing three_pieces 10 ≡ Some (1, 11) }
-    ensures middle { standing three_pieces 50 ≡ Some (2, 22) }
-    ensures after { standing three_pieces 60 ≡ Some (1, 11) }
-    ensures past { standing three_pieces 100 ≡ None }
+    ensures newest { visible three_pieces 9 ≡ Some (3, 33) }
+    ensures oldest { visible three_pieces 10 ≡ Some (1, 11) }
+    ensures middle { visible three_pieces 50 ≡ Some (2, 22) }
+    ensures after { visible three_pieces 60 ≡ Some (1, 11) }
+    ensures past { visible three_pieces 100 ≡ None }
     ensures all { content three_pieces 101 ≡ replicate 10 33 ++ replicate 40 11 ++ replicate 10 22 ++ replicate 40 11 ++ 0 ∷ [] }
 {}

@@ -1,6 +1,6 @@
 // Pieces of a file.
 ghost use Rattle.std.specs.Prelude.{◌≡◌, ℕ, ◌+◌, ◌≤◌, ◌<◌, ◌^◌, length, slice_index, EachIndex};
-ghost use Rattle.jfrag.specs.Overlays.{laid, outranks};
+ghost use Rattle.jfrag.specs.Overlays.{overlaid, outranks};
 
 use flashbase::Part;
 
@@ -74,9 +74,9 @@ impl<'a> Piece<'a> {
         self.body.byte(place.saturating_sub(u64::from(self.offset)))
     }
 
-    /// What stands at the place after the piece is laid over what stood there.
-    pub(crate) fn laid_over(&self, there: Option<(u32, u8)>, place: u64) -> Option<(u32, u8)>
-        ensures { result ≡ laid place self.now there }
+    /// What is visible at the place after the piece is overlaid on what was visible there.
+    pub(crate) fn overlaid_on(&self, there: Option<(u32, u8)>, place: u64) -> Option<(u32, u8)>
+        ensures { result ≡ overlaid place self.now there }
     {
         if !self.covers(place) {
             there
@@ -114,12 +114,12 @@ impl<'a> Piece<'a> {
     }
 }
 
-// Whether a version is above the one that stands, or nothing stands.
+// Whether a version is above the one that is visible, or nothing is visible.
 fn outranks(version: u32, there: Option<(u32, u8)>) -> bool
     ensures { result ≡ outranks version there }
 {
     match there {
         None => true,
-        Some((standing, _)) => standing < version,
+        Some((visible, _)) => visible < version,
     }
 }

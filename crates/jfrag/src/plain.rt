@@ -1,7 +1,7 @@
 // An overlay that is the list of its pieces.
 ghost use Rattle.std.specs.Prelude.{◌≡◌, ℕ, ◌+◌, ◌*◌, ◌<◌, ◌≤◌, ◌^◌, length, slice_index, EachIndex, vec_len, All};
 ghost use Rattle.jfrag.specs.Pieces.{end_of};
-ghost use Rattle.jfrag.specs.Overlays.{standing, byte_at};
+ghost use Rattle.jfrag.specs.Overlays.{visible, byte_at};
 
 use super::overlays::Overlay;
 use super::piece::Piece;
@@ -17,10 +17,10 @@ pub struct PlainOverlay<'a> {
 
 impl<'a> Overlay<'a> for PlainOverlay<'a> {
     ghost use Rattle.std.specs.Prelude.{OnOk, OnErr, ◌++◌, ◌∷◌, []};
-    ghost use Rattle.jfrag.specs.Overlays.{laid};
+    ghost use Rattle.jfrag.specs.Overlays.{overlaid};
     ghost use Rattle.jfrag.specs.Plain.{pieces_of};
 
-    ghost stands = { λ s place. standing (pieces_of s) place };
+    ghost visible_at = { λ s place. visible (pieces_of s) place };
 
     ghost ends = { λ s. 2 * length (pieces_of s) };
 
@@ -33,10 +33,10 @@ impl<'a> Overlay<'a> for PlainOverlay<'a> {
     fn add(&mut self, piece: Piece<'a>) -> Result<(), AllocError>
         requires { end_of piece < 2 ^ 32 }
         ensures added { OnOk result (pieces_of self.new ≡ pieces_of self.old ++ piece.entry ∷ []) }
-        ensures laid { OnOk result ((place : ℕ) → standing (pieces_of self.new) place ≡ laid place piece.entry (standing (pieces_of self.old) place)) }
+        ensures overlaid { OnOk result ((place : ℕ) → visible (pieces_of self.new) place ≡ overlaid place piece.entry (visible (pieces_of self.old) place)) }
         ensures two_ends { OnOk result (2 * length (pieces_of self.new) ≤ 2 * length (pieces_of self.old) + 2) }
-        ensures kept { OnErr result (pieces_of self.new ≡ pieces_of self.old) }
-        ensures same { OnErr result ((place : ℕ) → standing (pieces_of self.new) place ≡ standing (pieces_of self.old) place) }
+        ensures unchanged { OnErr result (pieces_of self.new ≡ pieces_of self.old) }
+        ensures same { OnErr result ((place : ℕ) → visible (pieces_of self.new) place ≡ visible (pieces_of self.old) place) }
         ensures same_ends { OnErr result (2 * length (pieces_of self.new) ≡ 2 * length (pieces_of self.old)) }
     {
         self.pieces.push(piece)?;
@@ -56,13 +56,13 @@ impl<'a> Overlay<'a> for PlainOverlay<'a> {
     }
 }
 
-// Fills the slice with the bytes that stand from a place on. No piece reaches 2 ^ 32.
+// Fills the slice with the bytes that are visible from a place on. No piece reaches 2 ^ 32.
 fn fill(pieces: &[Piece<'_>], place: u64, out: &mut [u8])
     requires { All (λ piece. end_of piece < 2 ^ 32) pieces.now }
-    ensures { EachIndex out.new (λ k. slice_index out.new k ≡ byte_at (standing pieces.now (place + k))) }
+    ensures { EachIndex out.new (λ k. slice_index out.new k ≡ byte_at (visible pieces.now (place + k))) }
 {
     for k in 0..out.len() {
-        let there = standing_at(pieces, place.saturating_add(k as u64));
+        let there = visible_in(pieces, place.saturating_add(k as u64));
         out[k] = byte_at(there);
     }
 }
@@ -74,13 +74,13 @@ fn byte_at(there: Option<(u32, u8)>) -> u8
     there.map_or(0, |(_, byte)| byte)
 }
 
-// What stands at the place: the byte of the highest version that covers it.
-fn standing_at(pieces: &[Piece<'_>], place: u64) -> Option<(u32, u8)>
-    ensures { result ≡ standing pieces.now place }
+// What is visible at the place: the byte of the highest version that covers it.
+fn visible_in(pieces: &[Piece<'_>], place: u64) -> Option<(u32, u8)>
+    ensures { result ≡ visible pieces.now place }
 {
     let mut top = None;
     for piece in pieces {
-        top = piece.laid_over(top, place);
+        top = piece.overlaid_on(top, place);
     }
     top
 }

@@ -1,4 +1,4 @@
-//! A growth that is refused leaves what stood.
+//! A growth that is refused changes nothing.
 
 use crate::pieces::{fifty_ones, first_bytes};
 use jfrag::{FragOverlay, Overlay, PlainOverlay};
@@ -6,22 +6,22 @@ use std::alloc::Global;
 use std::process::Abort;
 use std::test::Fail;
 
-/// Lays one piece. Where that is refused, what stood still stands, and it can be laid then.
+/// Lays one piece. Where that is refused, what was visible still is visible, and it can be laid then.
 fn is_added_or_stays<'a, O: Overlay<'a>>(
     rt: &impl Abort,
-    laid: &mut O,
+    overlaid: &mut O,
     version: u32,
     offset: u32,
 ) -> Result<(), Fail> {
     let offset = offset % 50;
-    let before = first_bytes(laid);
-    let held = laid.pieces();
-    if laid.add(fifty_ones(version, offset)).is_err() {
-        assert_eq!(rt; first_bytes(laid), before);
-        assert_eq!(rt; laid.pieces(), held);
-        laid.add(fifty_ones(version, offset))?;
+    let before = first_bytes(overlaid);
+    let stored = overlaid.pieces();
+    if overlaid.add(fifty_ones(version, offset)).is_err() {
+        assert_eq!(rt; first_bytes(overlaid), before);
+        assert_eq!(rt; overlaid.pieces(), stored);
+        overlaid.add(fifty_ones(version, offset))?;
     }
-    let after = first_bytes(laid);
+    let after = first_bytes(overlaid);
     let start = offset as usize;
     assert_eq!(rt; (after[start], after[start + 49]), (11, 11));
     Ok(())
@@ -29,19 +29,19 @@ fn is_added_or_stays<'a, O: Overlay<'a>>(
 
 /// Forty pieces of seven versions. One `add` is refused under `rt try --test --fail-alloc N`.
 fn grows_or_stays<'a, O: Overlay<'a>>(rt: &impl Abort, alloc: Global) -> Result<(), Fail> {
-    let mut laid = O::new(alloc);
+    let mut overlaid = O::new(alloc);
     for round in 0..40u32 {
-        is_added_or_stays(rt, &mut laid, round % 7, round * 37)?;
+        is_added_or_stays(rt, &mut overlaid, round % 7, round * 37)?;
     }
     Ok(())
 }
 
 #[test]
-fn a_refused_frag_add_leaves_what_stood(rt: HostRuntime) -> Result<(), Fail> {
+fn a_refused_frag_add_changes_nothing(rt: HostRuntime) -> Result<(), Fail> {
     grows_or_stays::<FragOverlay>(&rt, rt.alloc())
 }
 
 #[test]
-fn a_refused_plain_add_leaves_what_stood(rt: HostRuntime) -> Result<(), Fail> {
+fn a_refused_plain_add_changes_nothing(rt: HostRuntime) -> Result<(), Fail> {
     grows_or_stays::<PlainOverlay>(&rt, rt.alloc())
 }

@@ -1,4 +1,4 @@
-//! What stands after pieces in any order of arrival.
+//! What is visible after pieces in any order of arrival.
 ghost use Rattle.std.specs.Prelude.{◌<◌, ◌^◌};
 ghost use Rattle.jfrag.specs.Pieces.{end_of};
 
@@ -19,28 +19,28 @@ const ORDERS_OF_THREE: [[u32; 3]; 6] = [
 ];
 
 /// The worked example, one `add` after another.
-fn laid_in<'a, O: Overlay<'a>>(alloc: Global, order: [u32; 3]) -> Result<O, Fail> {
-    let mut laid = O::new(alloc);
+fn overlaid_in<'a, O: Overlay<'a>>(alloc: Global, order: [u32; 3]) -> Result<O, Fail> {
+    let mut overlaid = O::new(alloc);
     for version in order {
-        laid.add(worked_piece(version))?;
+        overlaid.add(worked_piece(version))?;
     }
-    Ok(laid)
+    Ok(overlaid)
 }
 
 /// Whether an overlay shows the worked example, kept in so many pieces.
-fn is_worked_example<'a, O: Overlay<'a>>(rt: &impl Abort, laid: &O, pieces: usize) {
-    assert_eq!(rt; first_bytes(laid), worked_bytes());
-    assert_eq!(rt; laid.pieces(), pieces);
-    assert_eq!(rt; byte_at(laid, 59), 22);
-    assert_eq!(rt; byte_at(laid, u64::MAX), 0);
+fn is_worked_example<'a, O: Overlay<'a>>(rt: &impl Abort, overlaid: &O, pieces: usize) {
+    assert_eq!(rt; first_bytes(overlaid), worked_bytes());
+    assert_eq!(rt; overlaid.pieces(), pieces);
+    assert_eq!(rt; byte_at(overlaid, 59), 22);
+    assert_eq!(rt; byte_at(overlaid, u64::MAX), 0);
 }
 
 #[test]
 fn three_pieces_in_any_order(rt: HostRuntime) -> Result<(), Fail> {
     for order in ORDERS_OF_THREE {
-        let plain: PlainOverlay = laid_in(rt.alloc(), order)?;
+        let plain: PlainOverlay = overlaid_in(rt.alloc(), order)?;
         is_worked_example(&rt, &plain, 3);
-        let frag: FragOverlay = laid_in(rt.alloc(), order)?;
+        let frag: FragOverlay = overlaid_in(rt.alloc(), order)?;
         is_worked_example(&rt, &frag, 4);
     }
     Ok(())
@@ -50,7 +50,7 @@ fn three_pieces_in_any_order(rt: HostRuntime) -> Result<(), Fail> {
 #[test]
 fn idle_pieces(rt: HostRuntime) -> Result<(), Fail> {
     for order in ORDERS_OF_THREE {
-        let mut frag: FragOverlay = laid_in(rt.alloc(), order)?;
+        let mut frag: FragOverlay = overlaid_in(rt.alloc(), order)?;
         frag.add(worked_piece(1))?;
         frag.add(zeros_at(9, 20, 0))?;
         is_worked_example(&rt, &frag, 4);

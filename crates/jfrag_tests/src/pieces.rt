@@ -61,14 +61,14 @@ pub(crate) fn worked_bytes() -> [u8; 101] {
     bytes
 }
 
-pub(crate) fn first_bytes<'a, O: Overlay<'a>>(laid: &O) -> [u8; 101] {
+pub(crate) fn first_bytes<'a, O: Overlay<'a>>(overlaid: &O) -> [u8; 101] {
     let mut bytes = [9u8; 101];
-    laid.read_at(0, &mut bytes);
+    overlaid.read_at(0, &mut bytes);
     bytes
 }
 
-pub(crate) fn byte_at<'a, O: Overlay<'a>>(laid: &O, place: u64) -> u8 {
+pub(crate) fn byte_at<'a, O: Overlay<'a>>(overlaid: &O, place: u64) -> u8 {
     let mut byte = [9u8; 1];
-    laid.read_at(place, &mut byte);
+    overlaid.read_at(place, &mut byte);
     byte[0]
 }

@@ -88,7 +88,7 @@ bytes_failed xs i n a b c before mid now r err put same part failed =
     (ap (λ (l : List ℕ). l ++ drop (i + n) xs) (sym (take-add i n xs)) ∙ take-append-drop (i + n) xs)
     (first_failed a c before now (take i xs ++ take n (drop i xs)) (drop (i + n) xs) r err (part_behind a b c _ _ put part) (failed ∙ ap next_count same))
 
--- what a piece holds behind a reading of n bytes from a place on
+-- what a piece holds after a reading of n bytes from a place on
 pub piece_read : (bytes old new : List ℕ) (i n room : ℕ) → n ≡ min room (length bytes - i) → new ≡ take n (drop i bytes) ++ drop n old
     → take n new ≡ take n (drop i bytes)
 piece_read bytes old new i n room count is =

@@ -8,9 +8,9 @@ use Rattle.jnode.specs.declared.node.Fill.TheVariants as fill
 use Rattle.jnode.specs.declared.node.InodeNode.{InodeNode}
 use Rattle.jnode.specs.declared.node.Seen.{Seen}
 use Rattle.jnode.specs.declared.node.Seen.TheVariants as seen
-use Rattle.jscan.specs.declared.stretch.Look.{Look}
-use Rattle.jscan.specs.declared.stretch.Look.TheVariants.{Tiled, Erased, OtherOrder, Dirt}
-use Rattle.jscan.specs.declared.stretch.Stretch.{Stretch}
+use Rattle.jscan.specs.declared.extent.ExtentKind.{ExtentKind}
+use Rattle.jscan.specs.declared.extent.ExtentKind.TheVariants.{Tiled, Erased, OtherOrder, Dirt}
+use Rattle.jscan.specs.declared.extent.Extent.{Extent}
 use Rattle.jline.specs.Words.{hex, octal, escaped}
 
 -- ---- the line forms
@@ -19,7 +19,7 @@ use Rattle.jline.specs.Words.{hex, octal, escaped}
 unfoldable pub block_line : ℕ → List ℕ
 block_line k = codes "block " ++ decimal k ++ codes "\n"
 
--- Each other line begins with an address, what stands there, and how many bytes it has. Then come its fields.
+-- Each other line begins with an address, what is there, and how many bytes it has. Then come its fields.
 abbrev pub line_start : ℕ → List ℕ → ℕ → List ℕ
 line_start addr what n = hex 8 addr ++ codes " " ++ what ++ codes " " ++ decimal n
 
@@ -38,7 +38,7 @@ abbrev pub fill_name : Fill → List ℕ
 fill_name fill.Zero = codes "zero"
 fill_name (fill.Data bytes) = codes "none"
 
--- The mode is the whole one, in octal. What is told of the data is how many bytes they stand for.
+-- The mode is the whole one, in octal. What is reported of the data is how many bytes they stand for.
 abbrev pub inode_line : ℕ → ℕ → InodeNode → List ℕ
 inode_line addr n i = line_start addr (codes "inode") n ++ codes " ino " ++ decimal i.ino
     ++ codes " version " ++ decimal i.version ++ codes " mode " ++ octal i.mode ++ codes " size " ++ decimal i.isize
@@ -62,7 +62,7 @@ abbrev pub total_line : ℕ → ℕ → ℕ → ℕ → List ℕ
 total_line blocks entries inodes findings = codes "total blocks " ++ decimal blocks ++ codes " entries " ++ decimal entries
     ++ codes " inodes " ++ decimal inodes ++ codes " findings " ++ decimal findings ++ codes "\n"
 
--- ---- the line of each stretch: a node's tile, or a run
+-- ---- the line of each extent: a node's tile, or a run
 
 abbrev pub seen_line : ℕ → ℕ → Seen → List ℕ
 seen_line addr n (seen.Entry d) = entry_line addr n d
@@ -77,18 +77,18 @@ seen_line addr n (seen.Incompatible nodetype) = typed_line addr (codes "incompat
 seen_line addr n (seen.Compressed compr) = compressed_line addr n compr
 seen_line addr n (seen.Damaged which) = damaged_line addr n which
 
-abbrev pub look_line : ℕ → ℕ → Look → List ℕ
-look_line addr n (Tiled tile) = seen_line addr n tile
-look_line addr n Erased = plain_line addr (codes "erased") n
-look_line addr n OtherOrder = plain_line addr (codes "other-order") n
-look_line addr n Dirt = plain_line addr (codes "dirt") n
+abbrev pub kind_line : ℕ → ℕ → ExtentKind → List ℕ
+kind_line addr n (Tiled tile) = seen_line addr n tile
+kind_line addr n Erased = plain_line addr (codes "erased") n
+kind_line addr n OtherOrder = plain_line addr (codes "other-order") n
+kind_line addr n Dirt = plain_line addr (codes "dirt") n
 
-unfoldable pub stretch_line : Stretch → List ℕ
-stretch_line s = look_line s.addr s.len s.look
+unfoldable pub extent_line : Extent → List ℕ
+extent_line s = kind_line s.addr s.len s.kind
 
 -- ---- what a line holds
 
--- the name that a stretch's line shows, if it shows one
-abbrev pub shown_name : Look → List ℕ
+-- the name that an extent's line shows, if it shows one
+abbrev pub shown_name : ExtentKind → List ℕ
 shown_name (Tiled (seen.Entry d)) = d.name
 shown_name _ = []

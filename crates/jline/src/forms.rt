@@ -1,11 +1,11 @@
-//! The line forms of `check --scan`, written into a line buffer. Each takes the place of what the buffer held.
+//! The line forms of `check --scan`, written into a line buffer. Each takes the place of what the buffer had.
 
 ghost use Rattle.std.specs.Prelude.{◌≡◌, ◌≤◌, length};
-ghost use Rattle.jline.specs.Forms.{block_line, line_start, plain_line, typed_line, entry_line, fill_name, inode_line, compressed_line, damage_name, damaged_line, total_line, seen_line, look_line, stretch_line, shown_name};
+ghost use Rattle.jline.specs.Forms.{block_line, line_start, plain_line, typed_line, entry_line, fill_name, inode_line, compressed_line, damage_name, damaged_line, total_line, seen_line, kind_line, extent_line, shown_name};
 
 use crate::line::LineBuffer;
 use jnode::{Damage, Dirent, Fill, InodeNode, Seen};
-use jscan::{Look, Stretch};
+use jscan::{Extent, ExtentKind};
 
 /// The line before those of block `k`.
 #[tactic(auto, unfolding(crate::specs::Forms::block_line))]
@@ -18,7 +18,7 @@ pub fn write_block(line: &mut LineBuffer, k: u64)
     line.push_text(b"\n");
 }
 
-/// The address, what stands there, and how many bytes it has.
+/// The address, what is there, and how many bytes it has.
 fn write_start(line: &mut LineBuffer, addr: u32, what: &[u8], len: u32)
     requires { length what.now ≤ 12 }
     ensures text { line.new ≡ line_start addr what.now len }
@@ -71,7 +71,7 @@ fn write_entry(line: &mut LineBuffer, addr: u32, len: u32, entry: &Dirent<'_>)
     line.push_text(b"\n");
 }
 
-/// How an inode node's data are kept.
+/// How an inode node's data are stored.
 fn fill_name(fill: &Fill<'_>) -> &'static [u8]
     ensures name { result.now ≡ fill_name fill.now }
     ensures short { length result.now ≤ 8 }
@@ -140,7 +140,7 @@ fn write_damaged(line: &mut LineBuffer, addr: u32, len: u32, which: Damage)
 
 /// The line of a node's tile.
 fn write_seen(line: &mut LineBuffer, addr: u32, len: u32, seen: &Seen<'_>)
-    requires { length (shown_name (Look.Tiled seen.now)) ≤ 255 }
+    requires { length (shown_name (ExtentKind.Tiled seen.now)) ≤ 255 }
     ensures { line.new ≡ seen_line addr len seen.now }
 {
     match seen {
@@ -158,18 +158,18 @@ fn write_seen(line: &mut LineBuffer, addr: u32, len: u32, seen: &Seen<'_>)
     }
 }
 
-/// The line of a stretch.
-#[tactic(auto, unfolding(crate::specs::Forms::stretch_line))]
-pub fn write_stretch(line: &mut LineBuffer, stretch: &Stretch<'_>)
-    requires { length (shown_name stretch.now.look) ≤ 255 }
-    ensures { line.new ≡ stretch_line stretch.now }
+/// The line of an extent.
+#[tactic(auto, unfolding(crate::specs::Forms::extent_line))]
+pub fn write_extent(line: &mut LineBuffer, extent: &Extent<'_>)
+    requires { length (shown_name extent.now.kind) ≤ 255 }
+    ensures { line.new ≡ extent_line extent.now }
 {
-    let (addr, len) = (stretch.addr, stretch.len);
-    match &stretch.look {
-        Look::Tiled(seen) => write_seen(line, addr, len, seen),
-        Look::Erased => write_plain(line, addr, b"erased", len),
-        Look::OtherOrder => write_plain(line, addr, b"other-order", len),
-        Look::Dirt => write_plain(line, addr, b"dirt", len),
+    let (addr, len) = (extent.addr, extent.len);
+    match &extent.kind {
+        ExtentKind::Tiled(seen) => write_seen(line, addr, len, seen),
+        ExtentKind::Erased => write_plain(line, addr, b"erased", len),
+        ExtentKind::OtherOrder => write_plain(line, addr, b"other-order", len),
+        ExtentKind::Dirt => write_plain(line, addr, b"dirt", len),
     }
 }
 

@@ -1,7 +1,8 @@
-//! Lines of text: a buffer that takes no memory, how numbers and names are spelled, and the lines that `check --scan` prints.
+//! Lines of text: a buffer that takes no memory, how numbers and names are spelled, and the lines that `check --scan`
+//! prints.
 //!
-//! It stands on `jscan` (what a stretch of an image is). Its promise to the layer above: what a call leaves in a line is that
-//! line's definition, and a name goes out escaped, or a beginning of it and a fault of the sink.
+//! It is built on `jscan` (what an extent of an image is). Its promise to the layer above: what a call leaves in a line
+//! is that line's definition, and a name goes out escaped, or a beginning of it and a fault of the sink.
 //!
 //! `specs/Words.antt` says how numbers and names are spelled, and `specs/Forms.antt` what the lines are.
 #![tactic(auto)]
@@ -12,6 +13,6 @@ mod line;
 mod texts;
 
 pub use crate::escapes::{put_escaped, put_in_line};
-pub use crate::forms::{write_block, write_stretch, write_total};
+pub use crate::forms::{write_block, write_extent, write_total};
 pub use crate::line::{LineBuffer, MAX_LINE};
 pub use crate::texts::put_text;

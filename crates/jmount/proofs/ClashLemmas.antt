@@ -9,8 +9,8 @@ use Rattle.jnode.specs.declared.node.NodeRef.TheVariants.{Entry, Inode}
 use Rattle.jname.specs.Clash as names
 use Rattle.jname.proofs.MemberLemmas.{Contains-map, Contains-map_from}
 use Rattle.jname.proofs.SortedLemmas.{Contains-filter_map, Contains-filter_map_from}
-use Rattle.jmount.specs.Clash.{Clashes, SomeClashes, NoClashes, IsClashAt}
-use Rattle.jmount.specs.Gathered.{plain, HasNoClash, ClashesIn}
+use Rattle.jmount.specs.Clash.{NodesClash, SomeInodeClashesWith, NoInodesClash, IsClashAt}
+use Rattle.jmount.specs.Collected.{without_addresses, HasNoClash, ClashesIn}
 use Rattle.jmount.specs.StateOf.{inode_in, entry_in, inodes, entries}
 
 -- a clash of these nodes is one of those, if its two nodes are
@@ -19,7 +19,7 @@ clash_among ns ms at moves c =
     let lt : c.1 < at = c.5 in
     (c.0, c.1, c.2, moves (at, c.0) c.3 (omega arith), moves (c.1, c.2) c.4 (omega arith), c.5, c.6)
 
-pub clashes_sym : (a b : NodeRef) → Clashes a b → Clashes b a
+pub clashes_sym : (a b : NodeRef) → NodesClash a b → NodesClash b a
 clashes_sym (Entry a) (Entry b) c = record { directory = sym c.directory; name = sym c.name; version = sym c.version; contents = λ (e : b ≡ a). c.contents (sym e) }
 clashes_sym (Inode a) (Inode b) c = record { ino = sym c.ino; version = sym c.version; contents = λ (e : b ≡ a). c.contents (sym e) }
 clashes_sym (Entry a) (Inode b) c = c
@@ -52,18 +52,18 @@ from_inodes ns inode h =
     subst (λ (node : NodeRef). Contains ns node) (inode_is found.0 inode found.2) found.1
 
 -- where no entries clash and no inode nodes, no nodes do
-plain_apart : (ns : List NodeRef) → names.NoClashes (entries ns) → NoClashes (inodes ns) → (a b : NodeRef) → Contains ns a → Contains ns b → Clashes a b → ⊥
+plain_apart : (ns : List NodeRef) → names.NoEntriesClash (entries ns) → NoInodesClash (inodes ns) → (a b : NodeRef) → Contains ns a → Contains ns b → NodesClash a b → ⊥
 plain_apart ns of_entries of_inodes (Entry a) (Entry b) h g c = of_entries b (in_entries ns b g) a (in_entries ns a h) c
 plain_apart ns of_entries of_inodes (Inode a) (Inode b) h g c = of_inodes b (in_inodes ns b g) a (in_inodes ns a h) c
 plain_apart ns of_entries of_inodes (Entry a) (Inode b) h g c = c
 plain_apart ns of_entries of_inodes (Inode a) (Entry b) h g c = c
 
-pub tables_have_no_clash : (ns : List (ℕ × NodeRef)) → names.NoClashes (entries (map (λ n. n.1) ns)) → NoClashes (inodes (map (λ n. n.1) ns)) → HasNoClash ns
+pub tables_have_no_clash : (ns : List (ℕ × NodeRef)) → names.NoEntriesClash (entries (map (λ n. n.1) ns)) → NoInodesClash (inodes (map (λ n. n.1) ns)) → HasNoClash ns
 tables_have_no_clash ns of_entries of_inodes at c =
-    plain_apart (plain ns) of_entries of_inodes c.0 c.2
+    plain_apart (without_addresses ns) of_entries of_inodes c.0 c.2
     (Contains-map (λ (n : ℕ × NodeRef). n.1) ns (at, c.0) c.3) (Contains-map (λ (n : ℕ × NodeRef). n.1) ns (c.1, c.2) c.4) c.6
 
-with_address : (ns : List (ℕ × NodeRef)) (node other : NodeRef) → Contains (plain ns) other → Clashes other node → ClashesIn ns node
+with_address : (ns : List (ℕ × NodeRef)) (node other : NodeRef) → Contains (without_addresses ns) other → NodesClash other node → ClashesIn ns node
 with_address ns node other h c =
     let found = Contains-map_from (λ (n : ℕ × NodeRef). n.1) ns other h in (
       found.0.0,
@@ -72,8 +72,8 @@ with_address ns node other h c =
       clashes_sym other node c,
     )
 
-pub entry_clashes_in : (ns : List (ℕ × NodeRef)) (entry : Dirent) → names.SomeClashes (entries (map (λ n. n.1) ns)) entry → ClashesIn ns (Entry entry)
-entry_clashes_in ns entry some = with_address ns (Entry entry) (Entry some.0) (from_entries (plain ns) some.0 some.1) some.2
+pub entry_clashes_in : (ns : List (ℕ × NodeRef)) (entry : Dirent) → names.SomeEntryClashesWith (entries (map (λ n. n.1) ns)) entry → ClashesIn ns (Entry entry)
+entry_clashes_in ns entry some = with_address ns (Entry entry) (Entry some.0) (from_entries (without_addresses ns) some.0 some.1) some.2
 
-pub inode_clashes_in : (ns : List (ℕ × NodeRef)) (inode : InodeNode) → SomeClashes (inodes (map (λ n. n.1) ns)) inode → ClashesIn ns (Inode inode)
-inode_clashes_in ns inode some = with_address ns (Inode inode) (Inode some.0) (from_inodes (plain ns) some.0 some.1) some.2
+pub inode_clashes_in : (ns : List (ℕ × NodeRef)) (inode : InodeNode) → SomeInodeClashesWith (inodes (map (λ n. n.1) ns)) inode → ClashesIn ns (Inode inode)
+inode_clashes_in ns inode some = with_address ns (Inode inode) (Inode some.0) (from_inodes (without_addresses ns) some.0 some.1) some.2

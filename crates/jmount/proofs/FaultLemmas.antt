@@ -1,4 +1,4 @@
--- Of the nodes that stand in front of the refusal: which fault of an image is the one of least address.
+-- Of the nodes that are in front of the refusal: which fault of an image is the one of least address.
 use Rattle.std.proofs.Common.{◌≡◌, ℕ, zero, suc, ◌<◌, ◌≤◌, List, [], ◌∷◌, ◌++◌, Option, None, Some, refl, sym, ap, ◌∙◌, subst, ⊎_elim, append_assoc, arith, get_or}
 use Rattle.std.specs.Prelude.{Contains, AllPairs, filter_map, option_map, ⊤, Err}
 use Rattle.std.specs.List.{cons_option}
@@ -17,17 +17,17 @@ use Rattle.jscan.specs.Scans.{IsScannable, IsNoNode, refusal_by, refusal_among, 
 use Rattle.jscan.specs.Findings.{refused_node}
 use Rattle.jscan.specs.declared.geometry.ScanFault.{ScanFault}
 use Rattle.jscan.specs.declared.geometry.ScanFault.TheVariants as scan
-use Rattle.jscan.proofs.SurveyLemmas.{before_open, before_shut, before_none, refusal_open, refusal_shut}
-use Rattle.jmount.specs.Clash.{Clashes, IsClashAt}
-use Rattle.jmount.specs.Mounts.{StandsAt, IsFirstAt, IsSound, Answers}
+use Rattle.jscan.proofs.PartialScanLemmas.{before_open, before_shut, before_none, refusal_open, refusal_shut}
+use Rattle.jmount.specs.Clash.{NodesClash, IsClashAt}
+use Rattle.jmount.specs.Mounts.{IsFaultAt, IsFirstAt, IsSound, Answers}
 use Rattle.jmount.specs.declared.fault.MountFault.{MountFault}
 use Rattle.jmount.specs.declared.fault.MountFault.TheVariants as fault
-use Rattle.jmount.specs.Gathered.{HasNoClash, FirstClash, refusal_fault}
+use Rattle.jmount.specs.Collected.{HasNoClash, FirstClash, refusal_fault}
 use Rattle.jmount.proofs.ClashLemmas.{clash_among}
 
 -- ---- addresses that ascend
 
--- each stands below all behind it
+-- each is below all after it
 abbrev pub Ascends : {X : Type 0} → List (ℕ × X) → Type 0
 Ascends {X} xs = AllPairs (λ (a b : ℕ × X). a.0 < b.0) xs
 
@@ -62,7 +62,7 @@ ascends_by (x ∷ xs) up (suc i) (suc j) d lt within = ascends_by xs up.1 i j d 
 pub ascends_from_splits : {X : Type 0} (xs : List (ℕ × X)) → ((before after : List (ℕ × X)) (s t : ℕ × X) → xs ≡ before ++ s ∷ after → Contains after t → s.0 < t.0) → Ascends xs
 ascends_from_splits xs up = ascends_by xs (rises_from xs [] xs up refl)
 
--- what stands in front of one of them is below it
+-- what is in front of one of them is below it
 rises_front : {X : Type 0} (pre post : List (ℕ × X)) (z x : ℕ × X) → Rises (pre ++ z ∷ post) → Contains pre x → x.0 < z.0
 rises_front [] post z x up h = absurd (Contains-none x h)
 rises_front {X} (p ∷ pre) post z x up h =
@@ -71,7 +71,7 @@ rises_front {X} (p ∷ pre) post z x up h =
     (λ later. rises_front pre post z x up.1 later)
     (Contains-cases p pre x h)
 
--- and what is below it stands in front of it
+-- and what is below it is in front of it
 rises_split : {X : Type 0} (pre post : List (ℕ × X)) (z x : ℕ × X) → Rises (pre ++ z ∷ post) → Contains (pre ++ z ∷ post) x → x.0 < z.0 → Contains pre x
 rises_split {X} [] post z x up h lt =
     ⊎_elim
@@ -84,7 +84,7 @@ rises_split {X} (p ∷ pre) post z x up h lt =
     (λ later. Contains-there p pre x (rises_split pre post z x up.1 later lt))
     (Contains-cases p (pre ++ z ∷ post) x h)
 
--- ---- what stands in front of the refusal
+-- ---- what is in front of the refusal
 
 from_before : (ss : List (ℕ × Seen)) (s : ℕ × Seen) → Contains (before_refusal ss) s → Contains ss s × (refusal_by s ≡ None)
 from_before [] s h = absurd (Contains-none s h)
@@ -98,7 +98,7 @@ from_before (x ∷ xs) s h = by_refusal (from_before xs s) (refusal_by x) refl
         (Contains-cases x (before_refusal xs) s (subst (λ (l : List (ℕ × Seen)). Contains l s) (before_open x xs is) h))
     by_refusal next (Some why) is = absurd (Contains-none s (subst (λ (l : List (ℕ × Seen)). Contains l s) (before_shut x xs why is) h))
 
--- with one that stands there, all that are not above it do
+-- with one that is there, all that are not above it do
 in_before : (ss : List (ℕ × Seen)) (s t : ℕ × Seen) → Rises ss → Contains ss s → Contains (before_refusal ss) t → s.0 ≤ t.0 → Contains (before_refusal ss) s
 in_before [] s t up h g le = absurd (Contains-none s h)
 in_before (x ∷ xs) s t up h g le = by_refusal (in_before xs s t up.1) (refusal_by x) refl
@@ -194,7 +194,7 @@ all_of_before ss n h =
     let found = sighted_from (before_refusal ss) n h in
     Contains-filter_map node_sighted ss found.0 n ((from_before ss found.0 found.1).0) found.2
 
--- with one that stands in front of the refusal, all nodes that are not above it do
+-- with one that is in front of the refusal, all nodes that are not above it do
 nodes_in_before : (ss : List (ℕ × Seen)) (n m : ℕ × NodeRef) → Rises ss → Contains (seen_nodes ss) n → Contains (seen_nodes (before_refusal ss)) m → n.0 ≤ m.0
     → Contains (seen_nodes (before_refusal ss)) n
 nodes_in_before ss n m up h g le =
@@ -205,7 +205,7 @@ nodes_in_before ss n m up h g le =
 
 -- ---- the fault of least address
 
--- what is refused stands above all in front of the refusal
+-- what is refused is above all in front of the refusal
 above_before : (ss : List (ℕ × Seen)) (s t : ℕ × Seen) (why : ScanFault) → Rises ss → refusal_by s ≡ Some why → Contains ss s → Contains (before_refusal ss) t → t.0 < s.0
 above_before ss s t why up some h g =
     ⊎_elim
@@ -227,13 +227,13 @@ module _ (e : Endian) (size : ℕ) (image : List ℕ) (pre post : List (ℕ × N
   rises_here : Rises (pre ++ here ∷ post)
   rises_here = subst (λ (l : List (ℕ × NodeRef)). Rises l) is (rises_nodes (before_refusal (sightings e size image)) (rises_before (sightings e size image) up))
 
-  -- all nodes below it stand before it
+  -- all nodes below it are before it
   below_here : (n : ℕ × NodeRef) → Contains (nodes e size image) n → n.0 < addr → Contains pre n
   below_here n h lt =
       let front = nodes_in_before (sightings e size image) n here up h at_here (omega arith) in
       rises_split pre post here n rises_here (subst (λ (l : List (ℕ × NodeRef)). Contains l n) is front) lt
 
-  clash_here : (below : ℕ) (other : NodeRef) → Contains pre (below, other) → Clashes node other → IsClashAt (nodes e size image) addr
+  clash_here : (below : ℕ) (other : NodeRef) → Contains pre (below, other) → NodesClash node other → IsClashAt (nodes e size image) addr
   clash_here below other h clash = (
     node,
     below,
@@ -258,7 +258,7 @@ module _ (e : Endian) (size : ℕ) (image : List ℕ) (pre post : List (ℕ × N
       (λ le. le)
       (cases_lt at addr)
 
-  least_clash : HasNoClash pre → (at : ℕ) (other : MountFault) → StandsAt e size image at other → addr ≤ at
+  least_clash : HasNoClash pre → (at : ℕ) (other : MountFault) → IsFaultAt e size image at other → addr ≤ at
   least_clash none at (fault.Incompatible a nodetype) h =
       let above : addr ≤ a = refused_above (a, seen.Incompatible nodetype) (scan.Incompatible a nodetype) refl h.1 in omega (arith, h.0)
   least_clash none at (fault.Compressed a compr) h =
@@ -272,7 +272,7 @@ module _ (e : Endian) (size : ℕ) (image : List ℕ) (pre post : List (ℕ × N
 -- the first node that clashes with one before it is the fault of an image
 pub clash_is_first : (e : Endian) (size : ℕ) (image : List ℕ) (pre post : List (ℕ × NodeRef)) (addr : ℕ) (node : NodeRef) (below : ℕ) (other : NodeRef)
     → IsScannable size image → Ascends (sightings e size image) → nodes_before_refusal e size image ≡ pre ++ (addr, node) ∷ post
-    → HasNoClash pre → Contains pre (below, other) → Clashes node other → IsFirstAt e size image addr (fault.Clash addr)
+    → HasNoClash pre → Contains pre (below, other) → NodesClash node other → IsFirstAt e size image addr (fault.Clash addr)
 clash_is_first e size image pre post addr node below other scannable ascends is none h clash =
     let up = rises (sightings e size image) ascends in
     (scannable, (refl, clash_here e size image pre post addr node up is below other h clash), least_clash e size image pre post addr node up is none)
@@ -308,7 +308,7 @@ refusal_is_of at (seen.ReadOnly nodetype) why some = absurd (none-some why some)
 refusal_is_of at (seen.Damaged which) why some = absurd (none-some why some)
 
 module _ (e : Endian) (size : ℕ) (image : List ℕ) (up : Rises (sightings e size image)) (none : HasNoClash (nodes_before_refusal e size image)) where
-  -- what is refused stands nowhere below the first
+  -- what is refused is nowhere below the first
   refused_below : (addr : ℕ) → ((t : ℕ × Seen) → Contains (sightings e size image) t → t.0 < addr → Contains (before_refusal (sightings e size image)) t)
       → (s : ℕ × Seen) (why : ScanFault) → refusal_by s ≡ Some why → Contains (sightings e size image) s → addr ≤ s.0
   refused_below addr front s why some h =
@@ -333,7 +333,7 @@ module _ (e : Endian) (size : ℕ) (image : List ℕ) (up : Rises (sightings e s
       (cases_lt at addr)
 
   least_refusal : (addr : ℕ) → ((t : ℕ × Seen) → Contains (sightings e size image) t → t.0 < addr → Contains (before_refusal (sightings e size image)) t)
-      → (at : ℕ) (other : MountFault) → StandsAt e size image at other → addr ≤ at
+      → (at : ℕ) (other : MountFault) → IsFaultAt e size image at other → addr ≤ at
   least_refusal addr front at (fault.Incompatible a nodetype) h =
       let above : addr ≤ a = refused_below addr front (a, seen.Incompatible nodetype) (scan.Incompatible a nodetype) refl h.1 in omega (arith, h.0)
   least_refusal addr front at (fault.Compressed a compr) h =
@@ -414,14 +414,14 @@ module _ (e : Endian) (size : ℕ) (image : List ℕ) (unrefused : first_refused
       let is : refusal_by s ≡ None = (from_before (sightings e size image) s front).1 in
       none-some why (sym is ∙ some)
 
-  none_stands : (at : ℕ) (f : MountFault) → StandsAt e size image at f → ⊥
-  none_stands at (fault.Incompatible a nodetype) h = none_refused (a, seen.Incompatible nodetype) (scan.Incompatible a nodetype) refl h.1
-  none_stands at (fault.Compressed a compr) h = none_refused (a, seen.Compressed compr) (scan.Compressed a compr) refl h.1
-  none_stands at (fault.Clash a) h = none a h.1
-  none_stands at fault.BlockSize h = h
-  none_stands at fault.TooLarge h = h
-  none_stands at fault.RootKind h = h
-  none_stands at fault.OutOfMemory h = h
+  none_is_at : (at : ℕ) (f : MountFault) → IsFaultAt e size image at f → ⊥
+  none_is_at at (fault.Incompatible a nodetype) h = none_refused (a, seen.Incompatible nodetype) (scan.Incompatible a nodetype) refl h.1
+  none_is_at at (fault.Compressed a compr) h = none_refused (a, seen.Compressed compr) (scan.Compressed a compr) refl h.1
+  none_is_at at (fault.Clash a) h = none a h.1
+  none_is_at at fault.BlockSize h = h
+  none_is_at at fault.TooLarge h = h
+  none_is_at at fault.RootKind h = h
+  none_is_at at fault.OutOfMemory h = h
 
 pub none_is_sound : (e : Endian) (size : ℕ) (image : List ℕ) → IsScannable size image → first_refused e size image ≡ None → HasNoClash (nodes e size image) → IsSound e size image
-none_is_sound e size image scannable unrefused none = (scannable, none_stands e size image unrefused none)
+none_is_sound e size image scannable unrefused none = (scannable, none_is_at e size image unrefused none)

@@ -1,4 +1,4 @@
--- The list of nodes that are kept, and what one more changes.
+-- The list of nodes that are stored, and what one more changes.
 use Rattle.std.proofs.Common.{◌≡◌, ℕ, Bool, true, false, ◌&&◌, List, [], map, Option, Some, None, refl, ap, sym, ◌∙◌, subst, ⊎_elim, inl, inr}
 use Rattle.std.specs.Prelude.{◌⊎◌, Contains, if◌then◌else◌, ◌==◌}
 use Rattle.std.specs.List.{flat_map}
@@ -14,8 +14,8 @@ use Rattle.jnode.specs.declared.node.InodeNode.{InodeNode}
 use Rattle.jname.proofs.EntriesLemmas.{nat_found}
 use Rattle.jname.proofs.MemberLemmas.{Contains-map, Contains-map_from, Contains-flat_map, Contains-flat_map_from}
 use Rattle.jmount.specs.declared.versions.Versions.{Versions}
-use Rattle.jmount.specs.Clash.{SomeClashes, NoneClashes}
-use Rattle.jmount.specs.Inodes.{Gains, Agrees, Differs, versions_in, version_at, ByNumber, held, IsKeyed, nodes_in, nodes_of}
+use Rattle.jmount.specs.Clash.{SomeInodeClashesWith, NoInodeClashesWith}
+use Rattle.jmount.specs.Inodes.{Gains, Agrees, Differs, versions_in, version_at, NodesByNumber, inode_at, IsKeyed, nodes_in, nodes_of_numbers}
 use Rattle.jmount.proofs.NewestLemmas.{version_found}
 
 -- ---- the list
@@ -29,48 +29,48 @@ pub and_then_from : {A B : Type 0} (f : A → Option B) (o : Option A) (b : B) �
 and_then_from f None b h = let no : None ≡ Some b = h in cc
 and_then_from f (Some a) b h = (a, refl, h)
 
-pub nodes_of-none : (numbers : ByNumber) → numbers.entries ≡ [] → nodes_of numbers ≡ []
-unfolding nodes_of
-nodes_of-none numbers e = ap (λ (es : List (ℕ × Versions)). flat_map nodes_at es) e
+pub nodes_of_numbers-none : (numbers : NodesByNumber) → numbers.entries ≡ [] → nodes_of_numbers numbers ≡ []
+unfolding nodes_of_numbers
+nodes_of_numbers-none numbers e = ap (λ (es : List (ℕ × Versions)). flat_map nodes_at es) e
 
-pub nodes_of-same : (old new : ByNumber) → map nodes_at new.entries ≡ map nodes_at old.entries → nodes_of new ≡ nodes_of old
-unfolding nodes_of
-nodes_of-same old new same =
+pub nodes_of_numbers-same : (old new : NodesByNumber) → map nodes_at new.entries ≡ map nodes_at old.entries → nodes_of_numbers new ≡ nodes_of_numbers old
+unfolding nodes_of_numbers
+nodes_of_numbers-same old new same =
     sym (flat_map-map (λ (ns : List InodeNode). ns) nodes_at new.entries)
     ∙ ap (λ (ss : List (List InodeNode)). flat_map (λ (ns : List InodeNode). ns) ss) same
     ∙ flat_map-map (λ (ns : List InodeNode). ns) nodes_at old.entries
 
-pub nodes_of-unchanged : (old new : ByNumber) → new.entries ≡ old.entries → nodes_of new ≡ nodes_of old
-nodes_of-unchanged old new same = nodes_of-same old new (ap (λ (es : List (ℕ × Versions)). map nodes_at es) same)
+pub nodes_of_numbers-unchanged : (old new : NodesByNumber) → new.entries ≡ old.entries → nodes_of_numbers new ≡ nodes_of_numbers old
+nodes_of_numbers-unchanged old new same = nodes_of_numbers-same old new (ap (λ (es : List (ℕ × Versions)). map nodes_at es) same)
 
--- a node that is held is in the list
-pub Contains-from_held : (numbers : ByNumber) (i v : ℕ) (node : InodeNode) → held numbers i v ≡ Some node → Contains (nodes_of numbers) node
-unfolding nodes_of
-Contains-from_held numbers i v node h =
+-- a node that is stored is in the list
+pub Contains-from_inode_at : (numbers : NodesByNumber) (i v : ℕ) (node : InodeNode) → inode_at numbers i v ≡ Some node → Contains (nodes_of_numbers numbers) node
+unfolding nodes_of_numbers
+Contains-from_inode_at numbers i v node h =
     let vs = and_then_from (λ (vs : Versions). version_at vs v) (get nat_cmp numbers i) node h in
     let at_number : Contains numbers.entries (i, vs.0) = Contains-from_lookup (tells_apart exact_unsigned) i vs.0 numbers.entries vs.1 in
     let at_version : Contains (versions_in vs.0) (v, node) = Contains-from_lookup (tells_apart exact_unsigned) v node (versions_in vs.0) vs.2 in
     Contains-flat_map nodes_at numbers.entries (i, vs.0) node at_number
     (Contains-map (λ (e : ℕ × InodeNode). e.1) (versions_in vs.0) (v, node) at_version)
 
--- and a node of the list is held, for its own number and version
-pub held-from_Contains : (numbers : ByNumber) → IsOrdered nat_cmp numbers → IsKeyed numbers → (node : InodeNode) → Contains (nodes_of numbers) node → held numbers node.ino node.version ≡ Some node
-unfolding nodes_of
-held-from_Contains numbers ordered keyed node h =
+-- and a node of the list is stored, for its own number and version
+pub inode_at-from_Contains : (numbers : NodesByNumber) → IsOrdered nat_cmp numbers → IsKeyed numbers → (node : InodeNode) → Contains (nodes_of_numbers numbers) node → inode_at numbers node.ino node.version ≡ Some node
+unfolding nodes_of_numbers
+inode_at-from_Contains numbers ordered keyed node h =
     let a = Contains-flat_map_from nodes_at numbers.entries node h in
     let b = Contains-map_from (λ (e : ℕ × InodeNode). e.1) (versions_in a.0.1) node a.2 in
     let number : get nat_cmp numbers a.0.0 ≡ Some a.0.1 = nat_found numbers.entries a.0.0 a.0.1 ordered a.1 in
     let version : version_at a.0.1 b.0.0 ≡ Some b.0.1 = version_found a.0.1 b.0.0 b.0.1 b.1 in
-    let there : held numbers a.0.0 b.0.0 ≡ Some node =
+    let there : inode_at numbers a.0.0 b.0.0 ≡ Some node =
     ap (λ (o : Option Versions). option_and_then (λ vs. version_at vs b.0.0) o) number ∙ version ∙ ap Some b.2 in
     let key = keyed a.0.0 b.0.0 node there in
-    (λ i. held numbers (key.0 i) (key.1 i)) ∙ there
+    (λ i. inode_at numbers (key.0 i) (key.1 i)) ∙ there
 
 -- ---- one node more
 
--- one node more is held
-abbrev pub HoldsOneMore : ByNumber → ByNumber → InodeNode → Type 0
-HoldsOneMore old new node = (i v : ℕ) → held new i v ≡ (if node.ino == i && node.version == v then Some node else held old i v)
+-- one node more is stored
+abbrev pub HoldsOneMore : NodesByNumber → NodesByNumber → InodeNode → Type 0
+HoldsOneMore old new node = (i v : ℕ) → inode_at new i v ≡ (if node.ino == i && node.version == v then Some node else inode_at old i v)
 
 both_true : (b c : Bool) → (b && c) ≡ true → (b ≡ true) × (c ≡ true)
 both_true true c e = (refl, e)
@@ -84,65 +84,65 @@ same_key node i v e =
 own_key : (node : InodeNode) → (node.ino == node.ino && node.version == node.version) ≡ true
 own_key node = ap (λ (b : Bool). b && node.version == node.version) (eq-eqb node.ino node.ino refl) ∙ eq-eqb node.version node.version refl
 
-held_at : (numbers : ByNumber) (a b c d : ℕ) → a ≡ b → c ≡ d → held numbers a c ≡ held numbers b d
-held_at numbers a b c d p q = λ i. held numbers (p i) (q i)
+inode_at_same : (numbers : NodesByNumber) (a b c d : ℕ) → a ≡ b → c ≡ d → inode_at numbers a c ≡ inode_at numbers b d
+inode_at_same numbers a b c d p q = λ i. inode_at numbers (p i) (q i)
 
 -- the node or what was there
 one_of : (old : Option InodeNode) (node x : InodeNode) (b : Bool) → (if b then Some node else old) ≡ Some x → ((b ≡ true) × (node ≡ x)) ⊎ (old ≡ Some x)
 one_of old node x true h = inl (refl, same_Some node x h)
 one_of old node x false h = inr h
 
-pub keyed_with_one_more : (old new : ByNumber) (node : InodeNode) → HoldsOneMore old new node → IsKeyed old → IsKeyed new
+pub keyed_with_one_more : (old new : NodesByNumber) (node : InodeNode) → HoldsOneMore old new node → IsKeyed old → IsKeyed new
 keyed_with_one_more old new node more keyed i v x h =
     ⊎_elim
     (λ (here : ((node.ino == i && node.version == v) ≡ true) × (node ≡ x)).
     let key = same_key node i v here.0 in (ap (λ (y : InodeNode). y.ino) (sym here.1) ∙ key.0, ap (λ (y : InodeNode). y.version) (sym here.1) ∙ key.1))
-    (λ (before : held old i v ≡ Some x). keyed i v x before)
-    (one_of (held old i v) node x (node.ino == i && node.version == v) (sym (more i v) ∙ h))
+    (λ (before : inode_at old i v ≡ Some x). keyed i v x before)
+    (one_of (inode_at old i v) node x (node.ino == i && node.version == v) (sym (more i v) ∙ h))
 
-pub keyed_the_same : (old new : ByNumber) → ((i v : ℕ) → held new i v ≡ held old i v) → IsKeyed old → IsKeyed new
+pub keyed_the_same : (old new : NodesByNumber) → ((i v : ℕ) → inode_at new i v ≡ inode_at old i v) → IsKeyed old → IsKeyed new
 keyed_the_same old new same keyed i v x h = keyed i v x (sym (same i v) ∙ h)
 
--- no other node is held: what is held is this one
+-- no other node is stored: what is stored is this one
 agreed : (o : Option InodeNode) (there node : InodeNode) → Agrees o node → o ≡ Some there → there ≡ node
 agreed None there node h e = let no : None ≡ Some there = e in cc
 agreed (Some x) there node h e = sym (same_Some x there e) ∙ h
 
-kept : (old : ByNumber) (node x : InodeNode) (b : Bool) → (node.ino == x.ino && node.version == x.version) ≡ b → Agrees (held old node.ino node.version) node → held old x.ino x.version ≡ Some x
-    → (if b then Some node else held old x.ino x.version) ≡ Some x
-kept old node x true e agrees h =
+still_there : (old : NodesByNumber) (node x : InodeNode) (b : Bool) → (node.ino == x.ino && node.version == x.version) ≡ b → Agrees (inode_at old node.ino node.version) node → inode_at old x.ino x.version ≡ Some x
+    → (if b then Some node else inode_at old x.ino x.version) ≡ Some x
+still_there old node x true e agrees h =
     let key = same_key node x.ino x.version e in
-    ap Some (sym (agreed (held old node.ino node.version) x node agrees (held_at old node.ino x.ino node.version x.version key.0 key.1 ∙ h)))
-kept old node x false e agrees h = h
+    ap Some (sym (agreed (inode_at old node.ino node.version) x node agrees (inode_at_same old node.ino x.ino node.version x.version key.0 key.1 ∙ h)))
+still_there old node x false e agrees h = h
 
-pub gains_one : (old new : ByNumber) → IsOrdered nat_cmp old → IsOrdered nat_cmp new → IsKeyed old → (node : InodeNode) → HoldsOneMore old new node
-    → Agrees (held old node.ino node.version) node → Gains (nodes_of old) (nodes_of new) node
+pub gains_one : (old new : NodesByNumber) → IsOrdered nat_cmp old → IsOrdered nat_cmp new → IsKeyed old → (node : InodeNode) → HoldsOneMore old new node
+    → Agrees (inode_at old node.ino node.version) node → Gains (nodes_of_numbers old) (nodes_of_numbers new) node
 gains_one old new old_ordered new_ordered keyed node more agrees x = (
   λ h.
       ⊎_elim
       (λ (here : ((node.ino == x.ino && node.version == x.version) ≡ true) × (node ≡ x)). inr (sym here.1))
-      (λ (before : held old x.ino x.version ≡ Some x). inl (Contains-from_held old x.ino x.version x before))
-      (one_of (held old x.ino x.version) node x (node.ino == x.ino && node.version == x.version)
-      (sym (more x.ino x.version) ∙ held-from_Contains new new_ordered (keyed_with_one_more old new node more keyed) x h)),
-  λ h. Contains-from_held new x.ino x.version x (more x.ino x.version ∙ ⊎_elim
-      (λ before. kept old node x (node.ino == x.ino && node.version == x.version) refl agrees (held-from_Contains old old_ordered keyed x before))
-      (λ (is : x ≡ node). subst (λ (y : InodeNode). (if node.ino == y.ino && node.version == y.version then Some node else held old y.ino y.version) ≡ Some y) (sym is)
-      (ap (λ (b : Bool). if b then Some node else held old node.ino node.version) (own_key node)))
+      (λ (before : inode_at old x.ino x.version ≡ Some x). inl (Contains-from_inode_at old x.ino x.version x before))
+      (one_of (inode_at old x.ino x.version) node x (node.ino == x.ino && node.version == x.version)
+      (sym (more x.ino x.version) ∙ inode_at-from_Contains new new_ordered (keyed_with_one_more old new node more keyed) x h)),
+  λ h. Contains-from_inode_at new x.ino x.version x (more x.ino x.version ∙ ⊎_elim
+      (λ before. still_there old node x (node.ino == x.ino && node.version == x.version) refl agrees (inode_at-from_Contains old old_ordered keyed x before))
+      (λ (is : x ≡ node). subst (λ (y : InodeNode). (if node.ino == y.ino && node.version == y.version then Some node else inode_at old y.ino y.version) ≡ Some y) (sym is)
+      (ap (λ (b : Bool). if b then Some node else inode_at old node.ino node.version) (own_key node)))
       h),
 )
 
 -- ---- clashes
 
-pub none_clashes : (old : ByNumber) → IsOrdered nat_cmp old → IsKeyed old → (node : InodeNode) → Agrees (held old node.ino node.version) node → NoneClashes (nodes_of old) node
+pub none_clashes : (old : NodesByNumber) → IsOrdered nat_cmp old → IsKeyed old → (node : InodeNode) → Agrees (inode_at old node.ino node.version) node → NoInodeClashesWith (nodes_of_numbers old) node
 none_clashes old ordered keyed node agrees other there clash =
-    clash.contents (agreed (held old node.ino node.version) other node agrees
-    (held_at old node.ino other.ino node.version other.version (sym clash.ino) (sym clash.version) ∙ held-from_Contains old ordered keyed other there))
+    clash.contents (agreed (inode_at old node.ino node.version) other node agrees
+    (inode_at_same old node.ino other.ino node.version other.version (sym clash.ino) (sym clash.version) ∙ inode_at-from_Contains old ordered keyed other there))
 
-differing : (old : ByNumber) → IsKeyed old → (node : InodeNode) (o : Option InodeNode) → held old node.ino node.version ≡ o → Differs o node → SomeClashes (nodes_of old) node
+differing : (old : NodesByNumber) → IsKeyed old → (node : InodeNode) (o : Option InodeNode) → inode_at old node.ino node.version ≡ o → Differs o node → SomeInodeClashesWith (nodes_of_numbers old) node
 differing old keyed node None e h = absurd h
 differing old keyed node (Some other) e h =
     let key = keyed node.ino node.version other e in
-    (other, Contains-from_held old node.ino node.version other e, record { ino = key.0; version = key.1; contents = h })
+    (other, Contains-from_inode_at old node.ino node.version other e, record { ino = key.0; version = key.1; contents = h })
 
-pub some_clashes : (old : ByNumber) → IsKeyed old → (node : InodeNode) → Differs (held old node.ino node.version) node → SomeClashes (nodes_of old) node
-some_clashes old keyed node h = differing old keyed node (held old node.ino node.version) refl h
+pub some_clashes : (old : NodesByNumber) → IsKeyed old → (node : InodeNode) → Differs (inode_at old node.ino node.version) node → SomeInodeClashesWith (nodes_of_numbers old) node
+some_clashes old keyed node h = differing old keyed node (inode_at old node.ino node.version) refl h

@@ -12,7 +12,7 @@ pub mod SameLemmas
 pub mod StateLemmas
 pub mod ClashLemmas
 pub mod FaultLemmas
-pub mod GatheredLemmas
+pub mod CollectedLemmas
 pub mod StoredLemmas
 pub mod StoringLemmas
 pub mod ReadLemmas
@@ -20,6 +20,6 @@ pub mod TopLemmas
 pub mod WalkLemmas
 pub mod UseLemmas
 pub mod VersionsLemmas
-pub mod GatherLemmas
-pub mod KeptLemmas
+pub mod CollectLemmas
+pub mod StoredStateLemmas
 pub mod MountLemmas

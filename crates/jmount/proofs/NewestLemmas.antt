@@ -1,4 +1,4 @@
--- The nodes of one number, of which the newest stands apart.
+-- The nodes of one number, of which the newest is apart.
 use Rattle.std.proofs.Common.{◌≡◌, ℕ, Bool, true, false, ◌<◌, ◌≤◌, Option, Some, None, refl, ap, sym, subst, ◌∙◌, ⊎_elim, arith}
 use Rattle.std.specs.Prelude.{if◌then◌else◌, ◌==◌, IsSome, Contains}
 use Rattle.std.specs.Ordering.{nat_cmp, eq_by_cmp}
@@ -9,7 +9,7 @@ use Rattle.jmount.specs.declared.versions.Versions.{Versions}
 use Rattle.jmount.specs.Inodes.{versions_in, version_at}
 use Rattle.std.specs.Cmp.{unsigned_tied}
 use Rattle.jname.proofs.EntriesLemmas.{nat_found}
-use Rattle.jname.proofs.HeldLemmas.{by_test}
+use Rattle.jname.proofs.ContentsByNameLemmas.{by_test}
 use Rattle.jname.proofs.MemberLemmas.{Contains-cases}
 
 choose : Bool → InodeNode → Option InodeNode → Option InodeNode
@@ -75,7 +75,7 @@ greater_more versions older version node above more v =
     ∙ ap (choose (version == v) node)
     (more v ∙ ap (λ (b : Bool). choose b versions.newest (get nat_cmp versions.older v)) (same_test versions.newest.version v) ∙ sym (version_at-is versions v))
 
--- a node of the list is held at its version
+-- a node of the list is stored at its version
 pub version_found : (versions : Versions) (v : ℕ) (node : InodeNode) → Contains (versions_in versions) (v, node) → version_at versions v ≡ Some node
 version_found versions v node h =
     ⊎_elim

@@ -12,8 +12,8 @@ use Rattle.jnode.specs.declared.node.Fill.TheVariants as fill
 use Rattle.jnode.specs.declared.node.InodeNode.{InodeNode}
 use Rattle.jfrag.specs.declared.piece.Piece.{Piece}
 use Rattle.jfrag.specs.Pieces.{body_len, covers, byte_of}
-use Rattle.jfrag.specs.Overlays.{Standing, Gives, IsHighestAt, standing, byte_at}
-use Rattle.jfrag.proofs.OverlaysLemmas.{standing_is_highest, content_stands}
+use Rattle.jfrag.specs.Overlays.{Visible, GivesAt, IsHighestAt, visible, byte_at}
+use Rattle.jfrag.proofs.OverlaysLemmas.{visible_is_highest, content_is_visible}
 use Rattle.jname.proofs.MemberLemmas.{Contains-none, Contains-map, Contains-map_from, Contains-filter, Contains-filter_from}
 use Rattle.jmount.specs.Tree.{ObjectOf}
 use Rattle.jmount.specs.StateOf.{versions_of, latest, body_of, piece_of, default_root, or_root, object_by}
@@ -53,7 +53,7 @@ is_latest nodes i node e =
 attributes : (versions : List InodeNode) (node : InodeNode) (o : ObjectOf (List ℕ)) → object_by versions node ≡ o → HasAttributes node o
 attributes versions node o e =
     subst (HasAttributes node) e
-    (record { mode = refl; uid = refl; gid = refl; atime = refl; mtime = refl; ctime = refl; size = length-each_below node.isize (λ place. byte_at (standing (map piece_of versions) place)) })
+    (record { mode = refl; uid = refl; gid = refl; atime = refl; mtime = refl; ctime = refl; size = length-each_below node.isize (λ place. byte_at (visible (map piece_of versions) place)) })
 
 -- where no node makes an object, only the root has one
 root_alone : (i : ℕ) (b : Bool) (o : ObjectOf (List ℕ)) → (i == 1) ≡ b → cond b (Some default_root) None ≡ Some o → (i ≡ 1) × (o ≡ default_root)
@@ -87,18 +87,18 @@ no_object_without_nodes nodes i e = without_nodes nodes i (latest (versions_of n
 
 -- ---- bytes
 
-stands_by : (nodes : List InodeNode) (i place byte : ℕ) (s : Standing) → IsHighestAt (map piece_of (versions_of nodes i)) place s → byte ≡ byte_at s
+visible_by : (nodes : List InodeNode) (i place byte : ℕ) (s : Visible) → IsHighestAt (map piece_of (versions_of nodes i)) place s → byte ≡ byte_at s
     → ((node : InodeNode) × IsHighestOver nodes i place byte node) ⊎ (NoneCovers nodes i place × (byte ≡ 0))
-stands_by nodes i place byte None h e =
+visible_by nodes i place byte None h e =
     inr (
       λ node there same.
           false_from_ne_true (covers place (piece_of node))
           (All-contains (λ p. covers place p ≢ true) (map piece_of (versions_of nodes i)) (piece_of node) h (Contains-map piece_of (versions_of nodes i) node (in_versions nodes i node there same))),
       e,
     )
-stands_by nodes i place byte (Some there) h e = inl (by_piece h.0)
+visible_by nodes i place byte (Some there) h e = inl (by_piece h.0)
   where
-    by_piece : Any (Gives place there) (map piece_of (versions_of nodes i)) → (node : InodeNode) × IsHighestOver nodes i place byte node
+    by_piece : Any (GivesAt place there) (map piece_of (versions_of nodes i)) → (node : InodeNode) × IsHighestOver nodes i place byte node
     by_piece (k, p, k_in, at_k, (p_covers, p_version, p_byte)) =
         let found = Contains-map_from piece_of (versions_of nodes i) p (k, k_in, at_k) in
         let node = found.0 in
@@ -118,8 +118,8 @@ stands_by nodes i place byte (Some there) h e = inl (by_piece h.0)
         )
 
 byte_of_object : (nodes : List InodeNode) (i place : ℕ) (node : InodeNode) → place < node.isize
-    → slice_index (object_by (versions_of nodes i) node).body place ≡ byte_at (standing (map piece_of (versions_of nodes i)) place)
-byte_of_object nodes i place node within = (content_stands (map piece_of (versions_of nodes i)) node.isize place within).1
+    → slice_index (object_by (versions_of nodes i) node).body place ≡ byte_at (visible (map piece_of (versions_of nodes i)) place)
+byte_of_object nodes i place node within = (content_is_visible (map piece_of (versions_of nodes i)) node.isize place within).1
 
 pub byte_is_of_highest : law.ByteIsOfHighest
 byte_is_of_highest nodes i place o e within =
@@ -127,8 +127,8 @@ byte_is_of_highest nodes i place o e within =
     (λ (found : (node : InodeNode) × IsLatest nodes i node × (object_by (versions_of nodes i) node ≡ o)).
     let node = found.0 in
     let size : length o.body ≡ node.isize = (attributes (versions_of nodes i) node o found.2).size in
-    let byte : slice_index o.body place ≡ byte_at (standing (map piece_of (versions_of nodes i)) place) =
+    let byte : slice_index o.body place ≡ byte_at (visible (map piece_of (versions_of nodes i)) place) =
     ap (λ (x : ObjectOf (List ℕ)). slice_index x.body place) (sym found.2) ∙ byte_of_object nodes i place node (omega arith) in
-    stands_by nodes i place (slice_index o.body place) (standing (map piece_of (versions_of nodes i)) place) (standing_is_highest (map piece_of (versions_of nodes i)) place) byte)
+    visible_by nodes i place (slice_index o.body place) (visible (map piece_of (versions_of nodes i)) place) (visible_is_highest (map piece_of (versions_of nodes i)) place) byte)
     (λ (root : HasNone nodes i × (i ≡ 1) × (o ≡ default_root)). let none : length o.body ≡ 0 = ap (λ (x : ObjectOf (List ℕ)). length x.body) root.2 in absurd (omega arith))
     (by_latest nodes i o (latest (versions_of nodes i)) refl e)

@@ -14,8 +14,8 @@ use Rattle.jnode.specs.declared.node.NodeRef.{NodeRef}
 use Rattle.jnode.specs.declared.node.NodeRef.TheVariants.{Entry, Inode}
 use Rattle.jfrag.specs.declared.piece.Piece.{Piece}
 use Rattle.jfrag.specs.Pieces.{covers, byte_of}
-use Rattle.jfrag.specs.Overlays.{Standing, Gives, IsHighestAt, standing, byte_at, outranks}
-use Rattle.jfrag.proofs.OverlaysLemmas.{one_more_piece, standing_is_highest, content_stands}
+use Rattle.jfrag.specs.Overlays.{Visible, GivesAt, IsHighestAt, visible, byte_at, outranks}
+use Rattle.jfrag.proofs.OverlaysLemmas.{one_more_piece, visible_is_highest, content_is_visible}
 use Rattle.jname.specs.Live.{is_at, ino_if_any, live, live_names}
 use Rattle.jmount.specs.StateOf.{inode_in, entry_in, inodes, entries, versions_of, latest, piece_of, object_by, object_from, objects_of, or_root, numbers_in, owner, version_of, top}
 use Rattle.jmount.specs.Laws as law
@@ -92,8 +92,8 @@ new_one : {X Y : Type 0} (v : X → ℕ) (g : X → Option Y) (b : Bool) (there 
 new_one v g true there x h = ap g (h refl)
 new_one v g false there x h = refl
 
-pub new_entry_stands : law.NewEntryStands
-new_entry_stands ns entry key newer =
+pub new_entry_is_visible : law.NewEntryIsVisible
+new_entry_is_visible ns entry key newer =
     let v : Dirent → ℕ = λ entry. entry.version in
     let there = newest v (filter (is_at key) (entries ns)) in
     ap (λ es. live es key) (entries-push_entry ns entry)
@@ -129,8 +129,8 @@ one_object : (i : ℕ) (b : Bool) (olds : List InodeNode) (node : InodeNode) →
 one_object i true olds node h = ap (λ o. or_root i (option_map (object_by (olds ++ node ∷ [])) o)) (h refl)
 one_object i false olds node h = refl
 
-pub new_inode_stands : law.NewInodeStands
-new_inode_stands ns node i newer =
+pub new_inode_is_visible : law.NewInodeIsVisible
+new_inode_is_visible ns node i newer =
     let olds = versions_of (inodes ns) i in
     object-state_of (ns ++ Inode node ∷ []) i
     ∙ ap (object_from i) (versions-push ns node i)
@@ -143,33 +143,33 @@ versions_of_pieces : (nodes : List InodeNode) → map (λ piece. piece.version) 
 versions_of_pieces [] = refl
 versions_of_pieces (node ∷ nodes) = ap (λ vs. node.version ∷ vs) (versions_of_pieces nodes)
 
-outranks_all : (ps : List Piece) (place v : ℕ) (s : Standing) → IsHighestAt ps place s → greatest (map (λ piece. piece.version) ps) < v → outranks v s ≡ true
+outranks_all : (ps : List Piece) (place v : ℕ) (s : Visible) → IsHighestAt ps place s → greatest (map (λ piece. piece.version) ps) < v → outranks v s ≡ true
 outranks_all ps place v None h newer = refl
 outranks_all ps place v (Some there) h newer = by_piece h.0
   where
-    by_piece : Any (Gives place there) ps → outranks v (Some there) ≡ true
+    by_piece : Any (GivesAt place there) ps → outranks v (Some there) ≡ true
     by_piece (k, p, k_in, at_k, (p_covers, p_version, p_byte)) =
         let below : p.version ≤ greatest (map (λ piece. piece.version) ps) = contained_below (λ piece. piece.version) ps k p k_in at_k in
         lt-ltb there.0 v (omega arith)
 
-laid_over : (c : Bool) (there : ℕ × ℕ) (s : Standing) → byte_at (cond (c && true) (Some there) s) ≡ cond c there.1 (byte_at s)
-laid_over true there s = refl
-laid_over false there s = refl
+overlaid_on : (c : Bool) (there : ℕ × ℕ) (s : Visible) → byte_at (cond (c && true) (Some there) s) ≡ cond c there.1 (byte_at s)
+overlaid_on true there s = refl
+overlaid_on false there s = refl
 
 pub byte-new : (ps : List Piece) (piece : Piece) (place : ℕ) → greatest (map (λ p. p.version) ps) < piece.version
-    → byte_at (standing (ps ++ piece ∷ []) place) ≡ cond (covers place piece) (byte_of place piece) (byte_at (standing ps place))
+    → byte_at (visible (ps ++ piece ∷ []) place) ≡ cond (covers place piece) (byte_of place piece) (byte_at (visible ps place))
 byte-new ps piece place newer =
     let there : ℕ × ℕ = (piece.version, byte_of place piece) in
     ap byte_at (one_more_piece ps piece place)
-    ∙ ap (λ (b : Bool). byte_at (cond (covers place piece && b) (Some there) (standing ps place)))
-    (outranks_all ps place piece.version (standing ps place) (standing_is_highest ps place) newer)
-    ∙ laid_over (covers place piece) there (standing ps place)
+    ∙ ap (λ (b : Bool). byte_at (cond (covers place piece && b) (Some there) (visible ps place)))
+    (outranks_all ps place piece.version (visible ps place) (visible_is_highest ps place) newer)
+    ∙ overlaid_on (covers place piece) there (visible ps place)
 
-pub new_bytes_stand : law.NewBytesStand
-new_bytes_stand ns node size place newer within =
+pub new_bytes_are_visible : law.NewBytesAreVisible
+new_bytes_are_visible ns node size place newer within =
     let olds = versions_of (inodes ns) node.ino in
     let below : inode_top ns node.ino ≤ top ns node.ino = inodes_below_top ns node.ino in
     let same : greatest (map (λ piece. piece.version) (map piece_of olds)) ≡ inode_top ns node.ino = ap greatest (versions_of_pieces olds) in
-    (content_stands (map piece_of (olds ++ node ∷ [])) size place within).1
-    ∙ ap (λ ps. byte_at (standing ps place)) (map-append piece_of olds (node ∷ []))
+    (content_is_visible (map piece_of (olds ++ node ∷ [])) size place within).1
+    ∙ ap (λ ps. byte_at (visible ps place)) (map-append piece_of olds (node ∷ []))
     ∙ byte-new (map piece_of olds) (piece_of node) place (omega arith)

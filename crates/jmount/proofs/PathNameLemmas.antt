@@ -1,4 +1,4 @@
--- The names of a path are what stands between its slashes.
+-- The names of a path are what is between its slashes.
 use Rattle.std.proofs.Common.{◌≡◌, ℕ, Bool, true, false, not, ◌&&◌, cond, List, [], ◌∷◌, ◌++◌, length, drop, Some, None, refl, ap, sym, ◌∙◌, subst, arith}
 use Rattle.std.specs.Prelude.{◌==◌, nat_lt, bytes_eq, is_some}
 use Rattle.std.specs.List.{list_all, flat_map}
@@ -16,7 +16,7 @@ abbrev is_nil : List ℕ → Bool
 is_nil [] = true
 is_nil (b ∷ bytes) = false
 
--- ---- what stands between the slashes of a text makes it up
+-- ---- what is between the slashes of a text makes it up
 
 slashed_first : (b : ℕ) (ps : List (List ℕ)) (rest : List ℕ) → slashed ps ≡ 47 ∷ rest → slashed (to_first b ps) ≡ 47 ∷ b ∷ rest
 slashed_first b [] rest e = absurd (true≢false (ap is_nil e))

@@ -23,5 +23,5 @@ part-of_each size offset count f fits =
     get_or-take count (drop offset all) k d within ∙ get_or-drop offset all k d ∙ get_or-each_below size (offset + k) f d there
     ∙ sym (get_or-each_below count k (λ j. f (offset + j)) d within))
 
-pub bytes-held : (o : ObjectOf (List ℕ)) → ((type_bits o.mode == regular_bits) || (type_bits o.mode == symlink_bits)) ≡ true → bytes_if (Some o) ≡ o.body
-bytes-held o has = ap (λ b. cond b o.body []) has
+pub bytes-stored : (o : ObjectOf (List ℕ)) → ((type_bits o.mode == regular_bits) || (type_bits o.mode == symlink_bits)) ≡ true → bytes_if (Some o) ≡ o.body
+bytes-stored o has = ap (λ b. cond b o.body []) has

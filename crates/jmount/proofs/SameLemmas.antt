@@ -10,14 +10,14 @@ use Rattle.std.proofs.lemmas.List.Elements.{All-contains, Contains-get_or}
 use Rattle.std.proofs.lemmas.Map.Views.{tells_apart, list_any-from_Contains, Contains-from_any}
 use Rattle.flashbase.specs.Lists.{newest, tabled, greatest, each_below}
 use Rattle.flashbase.proofs.ListLemmas.{newest_is_newest, newest_of_none, greatest_is_greatest, get-tabled}
-use Rattle.jname.proofs.HeldLemmas.{by_test}
+use Rattle.jname.proofs.ContentsByNameLemmas.{by_test}
 use Rattle.jname.proofs.MemberLemmas.{Contains-none, Contains-here, Contains-there, Contains-cases, Contains-map, Contains-map_from, Contains-flat_map, Contains-flat_map_from, Contains-filter, Contains-filter_from}
 use Rattle.jname.proofs.SortedLemmas.{Contains-filter_map, Contains-filter_map_from}
 use Rattle.jfrag.specs.declared.piece.Piece.{Piece}
 use Rattle.jfrag.specs.Pieces.{covers}
-use Rattle.jfrag.specs.Overlays.{Standing, IsHighestAt, Gives, standing, byte_at, content}
+use Rattle.jfrag.specs.Overlays.{Visible, IsHighestAt, GivesAt, visible, byte_at, content}
 use Rattle.jfrag.specs.Laws as overlay
-use Rattle.jfrag.proofs.OverlaysLemmas.{standing_is_highest, only_one_is_highest}
+use Rattle.jfrag.proofs.OverlaysLemmas.{visible_is_highest, only_one_is_highest}
 use Rattle.jmount.specs.Laws.{SameElements}
 
 -- ---- numbers that cannot be told apart are the same
@@ -134,7 +134,7 @@ newest_version version a b same y z e f =
     let high : version z ≤ version y = ya.1 z ((same z).1 zb.0) in
     omega arith
 
--- ---- what stands at a place
+-- ---- what is at a place
 
 all_within : {X : Type 0} (P : X → Type 0) (a b : List X) → IsWithin a b → All P b → All P a
 all_within P a b h all k d l = All-contains P b (get_or a k d) all (h (get_or a k d) (Contains-get_or a k d l))
@@ -142,15 +142,15 @@ all_within P a b h all k d l = All-contains P b (get_or a k d) all (h (get_or a 
 any_elsewhere : {X : Type 0} (P : X → Type 0) (a b : List X) → IsWithin a b → Any P a → Any P b
 any_elsewhere P a b h (k, x, k_in, at_k, here) = let there = h x (k, k_in, at_k) in (there.0, x, there.1, there.2, here)
 
-highest-same : (ps qs : List Piece) (place : ℕ) (s : Standing) → SameElements ps qs → IsHighestAt ps place s → IsHighestAt qs place s
+highest-same : (ps qs : List Piece) (place : ℕ) (s : Visible) → SameElements ps qs → IsHighestAt ps place s → IsHighestAt qs place s
 highest-same ps qs place None same h = all_within (λ p. covers place p ≢ true) qs ps (same_within qs ps (same_sym ps qs same)) h
 highest-same ps qs place (Some there) same h = (
-  any_elsewhere (Gives place there) ps qs (same_within ps qs same) h.0,
+  any_elsewhere (GivesAt place there) ps qs (same_within ps qs same) h.0,
   all_within (λ p. covers place p ≡ true → p.version ≤ there.0) qs ps (same_within qs ps (same_sym ps qs same)) h.1,
 )
 
-pub standing-same : (ps qs : List Piece) (place : ℕ) → SameElements ps qs → overlay.AgreeAt qs place → standing ps place ≡ standing qs place
-standing-same ps qs place same agree = only_one_is_highest qs place (standing ps place) agree (highest-same ps qs place (standing ps place) same (standing_is_highest ps place))
+pub visible-same : (ps qs : List Piece) (place : ℕ) → SameElements ps qs → overlay.AgreeAt qs place → visible ps place ≡ visible qs place
+visible-same ps qs place same agree = only_one_is_highest qs place (visible ps place) agree (highest-same ps qs place (visible ps place) same (visible_is_highest ps place))
 
 pub content-same : (ps qs : List Piece) (size : ℕ) → SameElements ps qs → ((place : ℕ) → overlay.AgreeAt qs place) → content ps size ≡ content qs size
-content-same ps qs size same agree = λ i. each_below size (λ place. byte_at (standing-same ps qs place same (agree place) i))
+content-same ps qs size same agree = λ i. each_below size (λ place. byte_at (visible-same ps qs place same (agree place) i))

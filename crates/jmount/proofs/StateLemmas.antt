@@ -12,7 +12,7 @@ use Rattle.jfrag.specs.Laws as overlay
 use Rattle.jname.specs.Live.{live_names}
 use Rattle.jname.proofs.LawLemmas.{live_names-same}
 use Rattle.jname.proofs.MemberLemmas.{Contains-map_from, Contains-filter_from}
-use Rattle.jmount.specs.Clash.{NoClashes}
+use Rattle.jmount.specs.Clash.{NoInodesClash}
 use Rattle.jmount.specs.StateOf.{inodes, entries, inode_in, entry_in, versions_of, latest, piece_of, contents, object_by, object_of, objects_of, or_root, numbers_in, next_of, owner, version_of, top}
 use Rattle.jmount.specs.Laws as law
 use Rattle.jmount.specs.Laws.{SameElements}
@@ -23,9 +23,9 @@ use Rattle.jmount.proofs.SameLemmas.{number_stable, same_sym, same_within, IsWit
 -- all are nodes of one number, and no two clash
 pub record AreVersions (i : ℕ) (versions : List InodeNode) : Type 0 where
   pub of_number : (node : InodeNode) → Contains versions node → node.ino ≡ i
-  pub apart : NoClashes versions
+  pub apart : NoInodesClash versions
 
-pub versions-AreVersions : (nodes : List InodeNode) (i : ℕ) → NoClashes nodes → AreVersions i (versions_of nodes i)
+pub versions-AreVersions : (nodes : List InodeNode) (i : ℕ) → NoInodesClash nodes → AreVersions i (versions_of nodes i)
 versions-AreVersions nodes i apart = record {
   of_number = λ node c. sym (eqb-true i node.ino (Contains-filter_from (λ n. i == n.ino) nodes node c).1);
   apart = λ node c other d clash. apart node (Contains-filter_from (λ n. i == n.ino) nodes node c).0 other (Contains-filter_from (λ n. i == n.ino) nodes other d).0 clash;
@@ -76,7 +76,7 @@ from_newest i a b same are others (Some y) (Some z) e f =
     ap Some (one_object i a b same are others y z in_y in_z (newest_version (λ node. node.version) a b same y z e f))
 
 -- no nodes clash in a list of nodes of another
-apart_within : (a b : List InodeNode) → IsWithin b a → NoClashes a → NoClashes b
+apart_within : (a b : List InodeNode) → IsWithin b a → NoInodesClash a → NoInodesClash b
 apart_within a b within apart node c other d clash = apart node (within node c) other (within other d) clash
 
 pub object-same : law.ObjectDependsOnNodes

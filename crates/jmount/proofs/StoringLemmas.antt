@@ -1,4 +1,4 @@
--- The objects that nodes make, as they are kept.
+-- The objects that nodes make, as they are stored.
 use Rattle.std.proofs.Common.{◌≡◌, ℕ, ◌≤◌, Bool, false, List, [], ◌∷◌, map, get_or, Option, Some, None, refl, ap, sym, ◌∙◌, subst, arith}
 use Rattle.std.specs.Prelude.{All, Contains, IsSome, option_map, if◌then◌else◌, ◌==◌}
 use Rattle.std.specs.Cmp.{unsigned_tied}
@@ -18,17 +18,17 @@ use Rattle.flashbase.proofs.ListLemmas.{newest_is_newest, newest_of_none}
 use Rattle.jnode.specs.declared.node.InodeNode.{InodeNode}
 use Rattle.jfrag.specs.declared.piece.Piece.{Piece}
 use Rattle.jfrag.specs.Pieces.{byte_of}
-use Rattle.jfrag.specs.Overlays.{Standing, byte_at, IsHighestAt, content}
+use Rattle.jfrag.specs.Overlays.{Visible, byte_at, IsHighestAt, content}
 use Rattle.jfrag.specs.Laws as overlay
 use Rattle.jfrag.proofs.OverlaysLemmas.{only_one_is_highest}
 use Rattle.jname.proofs.EntriesLemmas.{nat_found}
-use Rattle.jname.proofs.HeldLemmas.{by_test}
+use Rattle.jname.proofs.ContentsByNameLemmas.{by_test}
 use Rattle.jname.proofs.MemberLemmas.{Contains-none, Contains-here, Contains-map, Contains-map_from, Contains-flat_map}
 use Rattle.jmount.specs.declared.versions.Versions.{Versions}
 use Rattle.jmount.specs.declared.stored.Stored.{Stored}
-use Rattle.jmount.specs.Inodes.{versions_in, version_at, IsByVersion, IsKeyed, ByNumber, nodes_in, nodes_of}
+use Rattle.jmount.specs.Inodes.{versions_in, version_at, IsByVersion, IsKeyed, NodesByNumber, nodes_in, nodes_of_numbers}
 use Rattle.jmount.specs.StateOf.{latest, piece_of}
-use Rattle.jmount.specs.Storing.{Made, shown, made_by, made_at}
+use Rattle.jmount.specs.Storing.{Made, as_made, made_by, made_at}
 use Rattle.jmount.proofs.NumbersLemmas.{eqb_symm}
 use Rattle.jmount.proofs.NewestLemmas.{version_found, at_most_newest}
 
@@ -59,11 +59,11 @@ pieces_agree_by_version versions keyed place j k d below l same covers_first cov
     let version : first.0.version ≡ second.0.version = ap (λ (p : Piece). p.version) first.2 ∙ same ∙ sym (ap (λ (p : Piece). p.version) second.2) in
     ap (byte_of place) (sym first.2) ∙ ap (λ node. byte_of place (piece_of node)) (one_of_version versions keyed first.0 second.0 first.1 second.1 version) ∙ ap (byte_of place) second.2
 
--- so what stands is the content
-pub content-stands : (versions : Versions) → IsByVersion versions → (stands : ℕ → Standing) → ((place : ℕ) → IsHighestAt (map piece_of (nodes_in versions)) place (stands place))
-    → (size : ℕ) → each_below size (λ place. byte_at (stands place)) ≡ content (map piece_of (nodes_in versions)) size
-content-stands versions keyed stands highest size =
-    λ i. each_below size (λ place. byte_at (only_one_is_highest (map piece_of (nodes_in versions)) place (stands place) (pieces_agree_by_version versions keyed place) (highest place) i))
+-- so what is visible is the content
+pub content-visible : (versions : Versions) → IsByVersion versions → (visible_at : ℕ → Visible) → ((place : ℕ) → IsHighestAt (map piece_of (nodes_in versions)) place (visible_at place))
+    → (size : ℕ) → each_below size (λ place. byte_at (visible_at place)) ≡ content (map piece_of (nodes_in versions)) size
+content-visible versions keyed visible_at highest size =
+    λ i. each_below size (λ place. byte_at (only_one_is_highest (map piece_of (nodes_in versions)) place (visible_at place) (pieces_agree_by_version versions keyed place) (highest place) i))
 
 -- ---- the latest
 
@@ -100,48 +100,48 @@ made_of : Option Versions → Option Made
 made_of o = option_and_then (λ versions. made_by (nodes_in versions)) o
 
 -- the objects of all numbers but those that are left
-abbrev pub AreDone : ByNumber → List (ℕ × Versions) → Objects → Type 0
-AreDone numbers rest objects = (i : ℕ) → lookup (eq_by_cmp nat_cmp i) rest ≡ None → option_map shown (get nat_cmp objects i) ≡ made_at numbers i
+abbrev pub AreDone : NodesByNumber → List (ℕ × Versions) → Objects → Type 0
+AreDone numbers rest objects = (i : ℕ) → lookup (eq_by_cmp nat_cmp i) rest ≡ None → option_map as_made (get nat_cmp objects i) ≡ made_at numbers i
 
-one_object_done : (numbers : ByNumber) (old new : Objects) (k : ℕ) (versions : Versions) (rest : List (ℕ × Versions)) (stored : Stored)
-    → get nat_cmp numbers k ≡ Some versions → Some (shown stored) ≡ made_by (nodes_in versions) → Updates nat_cmp old new k (Some stored)
+one_object_done : (numbers : NodesByNumber) (old new : Objects) (k : ℕ) (versions : Versions) (rest : List (ℕ × Versions)) (stored : Stored)
+    → get nat_cmp numbers k ≡ Some versions → Some (as_made stored) ≡ made_by (nodes_in versions) → Updates nat_cmp old new k (Some stored)
     → AreDone numbers ((k, versions) ∷ rest) old → AreDone numbers rest new
 unfolding made_of
 one_object_done numbers old new k versions rest stored there made u before i none =
     by_test (k == i)
-    (λ e. ap (option_map shown) (replaced_at old new k stored u i ∙ ap (λ (b : Bool). if b then Some stored else get nat_cmp old i) e)
+    (λ e. ap (option_map as_made) (replaced_at old new k stored u i ∙ ap (λ (b : Bool). if b then Some stored else get nat_cmp old i) e)
     ∙ made ∙ sym (ap made_of there) ∙ ap (made_at numbers) (eqb-true k i e))
-    (λ e. ap (option_map shown) (replaced_at old new k stored u i ∙ ap (λ (b : Bool). if b then Some stored else get nat_cmp old i) e)
+    (λ e. ap (option_map as_made) (replaced_at old new k stored u i ∙ ap (λ (b : Bool). if b then Some stored else get nat_cmp old i) e)
     ∙ before i (ap (λ (b : Bool). if b then Some versions else lookup (eq_by_cmp nat_cmp i) rest) (unsigned_tied i k ∙ eqb_symm i k ∙ e) ∙ none))
 
 -- each of those that are left has its versions
-abbrev pub AreLeft : ByNumber → List (ℕ × Versions) → Type 0
+abbrev pub AreLeft : NodesByNumber → List (ℕ × Versions) → Type 0
 AreLeft numbers rest = All (λ e. get nat_cmp numbers e.0 ≡ Some e.1) rest
 
-pub first_left : (numbers : ByNumber) (all rest : List (ℕ × Versions)) (k : ℕ) (versions : Versions) → all ≡ (k, versions) ∷ rest → AreLeft numbers all → get nat_cmp numbers k ≡ Some versions
+pub first_left : (numbers : NodesByNumber) (all rest : List (ℕ × Versions)) (k : ℕ) (versions : Versions) → all ≡ (k, versions) ∷ rest → AreLeft numbers all → get nat_cmp numbers k ≡ Some versions
 first_left numbers all rest k versions is left =
     All-head (λ (e : ℕ × Versions). get nat_cmp numbers e.0 ≡ Some e.1) (k, versions) rest (subst (AreLeft numbers) is left)
 
-pub others_left : (numbers : ByNumber) (all rest : List (ℕ × Versions)) (k : ℕ) (versions : Versions) → all ≡ (k, versions) ∷ rest → AreLeft numbers all → AreLeft numbers rest
+pub others_left : (numbers : NodesByNumber) (all rest : List (ℕ × Versions)) (k : ℕ) (versions : Versions) → all ≡ (k, versions) ∷ rest → AreLeft numbers all → AreLeft numbers rest
 others_left numbers all rest k versions is left =
     All-tail (λ (e : ℕ × Versions). get nat_cmp numbers e.0 ≡ Some e.1) (k, versions) rest (subst (AreLeft numbers) is left)
 
-pub first_done : (numbers : ByNumber) (old new : Objects) (all rest : List (ℕ × Versions)) (k : ℕ) (versions : Versions) (stored : Stored) → all ≡ (k, versions) ∷ rest
-    → AreLeft numbers all → AreDone numbers all old → Some (shown stored) ≡ made_by (nodes_in versions) → Updates nat_cmp old new k (Some stored) → AreDone numbers rest new
+pub first_done : (numbers : NodesByNumber) (old new : Objects) (all rest : List (ℕ × Versions)) (k : ℕ) (versions : Versions) (stored : Stored) → all ≡ (k, versions) ∷ rest
+    → AreLeft numbers all → AreDone numbers all old → Some (as_made stored) ≡ made_by (nodes_in versions) → Updates nat_cmp old new k (Some stored) → AreDone numbers rest new
 first_done numbers old new all rest k versions stored is left done made u =
     one_object_done numbers old new k versions rest stored (first_left numbers all rest k versions is left) made u (subst (λ es. AreDone numbers es old) is done)
 
-pub none_done : (numbers : ByNumber) (objects : Objects) → objects.entries ≡ [] → AreDone numbers numbers.entries objects
+pub none_done : (numbers : NodesByNumber) (objects : Objects) → objects.entries ≡ [] → AreDone numbers numbers.entries objects
 unfolding made_of
 none_done numbers objects empty i none =
-    ap (λ (es : List (ℕ × Stored)). option_map shown (lookup (eq_by_cmp nat_cmp i) es)) empty ∙ sym (ap made_of none)
+    ap (λ (es : List (ℕ × Stored)). option_map as_made (lookup (eq_by_cmp nat_cmp i) es)) empty ∙ sym (ap made_of none)
 
-pub by_version-of : (numbers : ByNumber) → IsKeyed numbers → (k : ℕ) (versions : Versions) → get nat_cmp numbers k ≡ Some versions → IsByVersion versions
+pub by_version-of : (numbers : NodesByNumber) → IsKeyed numbers → (k : ℕ) (versions : Versions) → get nat_cmp numbers k ≡ Some versions → IsByVersion versions
 by_version-of numbers keyed k versions there v node h =
     (keyed k v node (ap (λ (o : Option Versions). option_and_then (λ vs. version_at vs v) o) there ∙ h)).1
 
-pub All-of_number : (P : InodeNode → Type 0) (numbers : ByNumber) (k : ℕ) (versions : Versions) → get nat_cmp numbers k ≡ Some versions → All P (nodes_of numbers) → All P (nodes_in versions)
-unfolding nodes_of
+pub All-of_number : (P : InodeNode → Type 0) (numbers : NodesByNumber) (k : ℕ) (versions : Versions) → get nat_cmp numbers k ≡ Some versions → All P (nodes_of_numbers numbers) → All P (nodes_in versions)
+unfolding nodes_of_numbers
 All-of_number P numbers k versions there all j d l =
     All-contains P (flat_map (λ (e : ℕ × Versions). nodes_in e.1) numbers.entries) (get_or (nodes_in versions) j d) all
     (Contains-flat_map (λ (e : ℕ × Versions). nodes_in e.1) numbers.entries (k, versions) (get_or (nodes_in versions) j d)

@@ -1,4 +1,4 @@
--- The greatest versions that are kept.
+-- The greatest versions that are stored.
 use Rattle.std.proofs.Common.{◌≡◌, ℕ, Bool, true, false, ◌==◌, ◌||◌, List, [], ◌∷◌, ◌++◌, map, cond, Option, Some, None, max, refl, ap, sym, ◌∙◌}
 use Rattle.std.specs.Prelude.{option_map, unwrap_or}
 use Rattle.std.specs.List.{list_any}
@@ -11,7 +11,7 @@ use Rattle.flashbase.proofs.ListLemmas.{get-tabled, filter-no_key}
 use Rattle.jnode.specs.declared.node.Dirent.{Dirent}
 use Rattle.jname.specs.Live.{highest}
 use Rattle.jmount.specs.declared.stored.Stored.{Stored}
-use Rattle.jmount.specs.Stored.{ByNumber, stored_top, stored_tops}
+use Rattle.jmount.specs.Stored.{ObjectsByNumber, stored_top, stored_tops}
 use Rattle.jmount.specs.Shown.{top_at}
 use Rattle.jmount.proofs.StoredLemmas.{lookup-no_key}
 
@@ -37,7 +37,7 @@ or_zero : (b : Bool) (n : ℕ) → (b ≡ false → n ≡ 0) → unwrap_or (cond
 or_zero true n h = refl
 or_zero false n h = sym (h refl)
 
-pub top_at-stored : (objects : ByNumber) (names : List Dirent) (i : ℕ) → top_at (stored_tops objects names) i ≡ stored_top objects names i
+pub top_at-stored : (objects : ObjectsByNumber) (names : List Dirent) (i : ℕ) → top_at (stored_tops objects names) i ≡ stored_top objects names i
 top_at-stored objects names i =
     let numbers = map (λ e. e.0) objects.entries in
     let owners = map (λ (entry : Dirent). entry.pino) names in

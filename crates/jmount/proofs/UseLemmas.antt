@@ -11,7 +11,7 @@ use Rattle.jnode.specs.declared.node.NodeRef.{NodeRef}
 use Rattle.jnode.specs.declared.node.NodeRef.TheVariants.{Entry, Inode}
 use Rattle.jname.proofs.MemberLemmas.{Contains-here, Contains-there}
 use Rattle.jname.proofs.SortedLemmas.{Contains-filter_map_from}
-use Rattle.jmount.specs.Clash.{Clashes}
+use Rattle.jmount.specs.Clash.{NodesClash}
 use Rattle.jmount.specs.Tree.{ObjectOf, object, named}
 use Rattle.jmount.specs.StateOf.{inode_in, entry_in, inodes, entries, default_root, numbers_in, next_of, owner, version_of, top, state_of}
 use Rattle.jmount.specs.Laws as law
@@ -98,7 +98,7 @@ fresh_number_is_free ns i fresh = (
 
 -- ---- a new node
 
-of_one_version : (a b : NodeRef) → Clashes a b → (owner a ≡ owner b) × (version_of a ≡ version_of b)
+of_one_version : (a b : NodeRef) → NodesClash a b → (owner a ≡ owner b) × (version_of a ≡ version_of b)
 of_one_version (Entry a) (Entry b) clash = (clash.directory, clash.version)
 of_one_version (Inode a) (Inode b) clash = (clash.ino, clash.version)
 of_one_version (Entry a) (Inode b) clash = absurd clash

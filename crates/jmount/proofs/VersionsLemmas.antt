@@ -1,4 +1,4 @@
--- The nodes of a number, among all that are kept.
+-- The nodes of a number, among all that are stored.
 use Rattle.std.proofs.Common.{◌≡◌, ℕ, Bool, true, false, cond, List, [], ◌∷◌, ◌++◌, map, Option, Some, None, refl, ap, sym, ◌∙◌}
 use Rattle.std.specs.Prelude.{Contains, filter, ◌==◌}
 use Rattle.std.specs.declared.cmp.Ordering.TheVariants.{Less}
@@ -14,10 +14,10 @@ use Rattle.std.proofs.lemmas.List.{append-nil}
 use Rattle.std.proofs.lemmas.List.Elements.{filter-append}
 use Rattle.jnode.specs.declared.node.InodeNode.{InodeNode}
 use Rattle.jname.proofs.EntriesLemmas.{nat_found}
-use Rattle.jname.proofs.HeldLemmas.{by_test}
+use Rattle.jname.proofs.ContentsByNameLemmas.{by_test}
 use Rattle.jname.proofs.MemberLemmas.{Contains-here, Contains-there, Contains-map_from}
 use Rattle.jmount.specs.declared.versions.Versions.{Versions}
-use Rattle.jmount.specs.Inodes.{ByNumber, IsKeyed, held, versions_in, version_at, nodes_in, nodes_of}
+use Rattle.jmount.specs.Inodes.{NodesByNumber, IsKeyed, inode_at, versions_in, version_at, nodes_in, nodes_of_numbers}
 use Rattle.jmount.specs.StateOf.{versions_of}
 use Rattle.jmount.specs.Storing.{made_at, made_by}
 use Rattle.jmount.proofs.NewestLemmas.{version_found}
@@ -69,16 +69,16 @@ versions_listed (e ∷ es) i sorted own =
     ∙ later
     ∙ ap (λ b. nodes_found (cond b (Some e.1) (lookup (eq_by_cmp nat_cmp i) es))) (sym (test ∙ f)))
 
-own-of : (numbers : ByNumber) → IsOrdered nat_cmp numbers → IsKeyed numbers → AreOwn numbers.entries
+own-of : (numbers : NodesByNumber) → IsOrdered nat_cmp numbers → IsKeyed numbers → AreOwn numbers.entries
 own-of numbers ordered keyed e c node h =
     let at_version = Contains-map_from (λ (f : ℕ × InodeNode). f.1) (versions_in e.1) node h in
     let number : get nat_cmp numbers e.0 ≡ Some e.1 = nat_found numbers.entries e.0 e.1 ordered c in
     let version : version_at e.1 at_version.0.0 ≡ Some at_version.0.1 = version_found e.1 at_version.0.0 at_version.0.1 at_version.1 in
-    let there : held numbers e.0 at_version.0.0 ≡ Some node = ap (λ (o : Option Versions). option_and_then (λ vs. version_at vs at_version.0.0) o) number ∙ version ∙ ap Some at_version.2 in
+    let there : inode_at numbers e.0 at_version.0.0 ≡ Some node = ap (λ (o : Option Versions). option_and_then (λ vs. version_at vs at_version.0.0) o) number ∙ version ∙ ap Some at_version.2 in
     (keyed e.0 at_version.0.0 node there).0
 
-versions_of-nodes : (numbers : ByNumber) → IsOrdered nat_cmp numbers → IsKeyed numbers → (i : ℕ) → versions_of (nodes_of numbers) i ≡ nodes_found (get nat_cmp numbers i)
-unfolding nodes_of nodes_listed
+versions_of-nodes : (numbers : NodesByNumber) → IsOrdered nat_cmp numbers → IsKeyed numbers → (i : ℕ) → versions_of (nodes_of_numbers numbers) i ≡ nodes_found (get nat_cmp numbers i)
+unfolding nodes_of_numbers nodes_listed
 versions_of-nodes numbers ordered keyed i = versions_listed numbers.entries i ordered (own-of numbers ordered keyed)
 
 made_found : (o : Option Versions) → option_and_then (λ versions. made_by (nodes_in versions)) o ≡ made_by (nodes_found o)
@@ -86,5 +86,5 @@ unfolding nodes_found
 made_found None = refl
 made_found (Some versions) = refl
 
-pub made_at-is : (numbers : ByNumber) → IsOrdered nat_cmp numbers → IsKeyed numbers → (i : ℕ) → made_at numbers i ≡ made_by (versions_of (nodes_of numbers) i)
+pub made_at-is : (numbers : NodesByNumber) → IsOrdered nat_cmp numbers → IsKeyed numbers → (i : ℕ) → made_at numbers i ≡ made_by (versions_of (nodes_of_numbers numbers) i)
 made_at-is numbers ordered keyed i = made_found (get nat_cmp numbers i) ∙ ap made_by (sym (versions_of-nodes numbers ordered keyed i))

@@ -13,26 +13,26 @@ pub record InodesClash (a b : InodeNode) : Type 0 where
   pub version : a.version ≡ b.version
   pub contents : a ≢ b
 
-abbrev pub Clashes : NodeRef → NodeRef → Type 0
-Clashes (Entry a) (Entry b) = names.Clashes a b
-Clashes (Inode a) (Inode b) = InodesClash a b
-Clashes (Entry a) (Inode b) = ⊥
-Clashes (Inode a) (Entry b) = ⊥
+abbrev pub NodesClash : NodeRef → NodeRef → Type 0
+NodesClash (Entry a) (Entry b) = names.EntriesClash a b
+NodesClash (Inode a) (Inode b) = InodesClash a b
+NodesClash (Entry a) (Inode b) = ⊥
+NodesClash (Inode a) (Entry b) = ⊥
 
 -- an inode node clashes with one of these
-abbrev pub SomeClashes : List InodeNode → InodeNode → Type 0
-SomeClashes inodes node = (other : InodeNode) × Contains inodes other × InodesClash other node
+abbrev pub SomeInodeClashesWith : List InodeNode → InodeNode → Type 0
+SomeInodeClashesWith inodes node = (other : InodeNode) × Contains inodes other × InodesClash other node
 
 -- an inode node clashes with none of these
-abbrev pub NoneClashes : List InodeNode → InodeNode → Type 0
-NoneClashes inodes node = (other : InodeNode) → Contains inodes other → InodesClash other node → ⊥
+abbrev pub NoInodeClashesWith : List InodeNode → InodeNode → Type 0
+NoInodeClashesWith inodes node = (other : InodeNode) → Contains inodes other → InodesClash other node → ⊥
 
 -- no two of these clash
-abbrev pub NoClashes : List InodeNode → Type 0
-NoClashes inodes = (node : InodeNode) → Contains inodes node → NoneClashes inodes node
+abbrev pub NoInodesClash : List InodeNode → Type 0
+NoInodesClash inodes = (node : InodeNode) → Contains inodes node → NoInodeClashesWith inodes node
 
 -- a node at the address clashes with one below it
 abbrev pub IsClashAt : List (ℕ × NodeRef) → ℕ → Type 0
 IsClashAt ns addr =
     (node : NodeRef) × (below : ℕ) × (other : NodeRef)
-    × Contains ns (addr, node) × Contains ns (below, other) × (below < addr) × Clashes node other
+    × Contains ns (addr, node) × Contains ns (below, other) × (below < addr) × NodesClash node other

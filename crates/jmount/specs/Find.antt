@@ -20,7 +20,7 @@ path_text (name ∷ names) = flat_map (λ n. 47 ∷ n) (name ∷ names)
 abbrev pub IsPath : List ℕ → List (List ℕ) → Type 0
 IsPath text names = (text ≡ path_text names) × All (λ name. IsTrue (is_name name)) names
 
--- ---- the same as a function: what stands between slashes
+-- ---- the same as a function: what is between slashes
 
 abbrev pub to_first : ℕ → List (List ℕ) → List (List ℕ)
 to_first b [] = (b ∷ []) ∷ []

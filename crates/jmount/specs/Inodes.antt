@@ -1,4 +1,4 @@
--- The inode nodes that a mount gathers, by number and version.
+-- The inode nodes that a mount collects, by number and version.
 use Rattle.std.specs.Prelude.{◌≡◌, ◌≢◌, ◌⊎◌, ◌↔◌, ℕ, List, ◌∷◌, map, Contains, Option, Some, None, ⊤}
 use Rattle.std.specs.List.{flat_map}
 use Rattle.std.specs.Option.{option_and_then}
@@ -12,12 +12,12 @@ use Rattle.jmount.specs.declared.versions.Versions.{Versions}
 abbrev pub Gains : List InodeNode → List InodeNode → InodeNode → Type 0
 Gains old new node = (x : InodeNode) → Contains new x ↔ (Contains old x ⊎ (x ≡ node))
 
--- another node is held
+-- another node is stored
 abbrev pub Differs : Option InodeNode → InodeNode → Type 0
 Differs None node = ⊥
 Differs (Some there) node = there ≢ node
 
--- no other node is held
+-- no other node is stored
 abbrev pub Agrees : Option InodeNode → InodeNode → Type 0
 Agrees None node = ⊤
 Agrees (Some there) node = there ≡ node
@@ -26,22 +26,22 @@ Agrees (Some there) node = there ≡ node
 abbrev pub versions_in : Versions → List (ℕ × InodeNode)
 versions_in versions = (versions.newest.version, versions.newest) ∷ versions.older.entries
 
--- the node that is held at a version
+-- the node that is stored at a version
 abbrev pub version_at : Versions → ℕ → Option InodeNode
 version_at versions v = lookup (eq_by_cmp nat_cmp v) (versions_in versions)
 
-abbrev pub ByNumber : Type 0
-ByNumber = BTreeMap ℕ Versions
+abbrev pub NodesByNumber : Type 0
+NodesByNumber = BTreeMap ℕ Versions
 
--- the node that is held for a number and a version
-abbrev pub held : ByNumber → ℕ → ℕ → Option InodeNode
-held numbers i v = option_and_then (λ versions. version_at versions v) (get nat_cmp numbers i)
+-- the node that is stored for a number and a version
+abbrev pub inode_at : NodesByNumber → ℕ → ℕ → Option InodeNode
+inode_at numbers i v = option_and_then (λ versions. version_at versions v) (get nat_cmp numbers i)
 
--- each node is held for its own number and version
-abbrev pub IsKeyed : ByNumber → Type 0
-IsKeyed numbers = (i v : ℕ) (node : InodeNode) → held numbers i v ≡ Some node → (node.ino ≡ i) × (node.version ≡ v)
+-- each node is stored for its own number and version
+abbrev pub IsKeyed : NodesByNumber → Type 0
+IsKeyed numbers = (i v : ℕ) (node : InodeNode) → inode_at numbers i v ≡ Some node → (node.ino ≡ i) × (node.version ≡ v)
 
--- each node of a number is held at its own version
+-- each node of a number is stored at its own version
 abbrev pub IsByVersion : Versions → Type 0
 IsByVersion versions = (v : ℕ) (node : InodeNode) → version_at versions v ≡ Some node → node.version ≡ v
 
@@ -49,5 +49,5 @@ abbrev pub nodes_in : Versions → List InodeNode
 nodes_in versions = map (λ e. e.1) (versions_in versions)
 
 -- all nodes, in order of number
-unfoldable pub nodes_of : ByNumber → List InodeNode
-nodes_of numbers = flat_map (λ e. nodes_in e.1) numbers.entries
+unfoldable pub nodes_of_numbers : NodesByNumber → List InodeNode
+nodes_of_numbers numbers = flat_map (λ e. nodes_in e.1) numbers.entries

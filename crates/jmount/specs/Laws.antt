@@ -3,7 +3,7 @@ use Rattle.std.specs.Prelude.{◌≡◌, ◌≢◌, ◌↔◌, ◌⊎◌, ◌+�
 use Rattle.std.specs.FinMap.{get}
 use Rattle.flashbase.specs.Lists.{greatest}
 use Rattle.jfrag.specs.Pieces.{end_of, covers, byte_of}
-use Rattle.jfrag.specs.Overlays.{standing, byte_at}
+use Rattle.jfrag.specs.Overlays.{visible, byte_at}
 use Rattle.jname.specs.Live.{Key, is_at, ino_if_any, live, highest}
 use Rattle.jname.specs.Clash as names
 use Rattle.jnode.specs.declared.node.InodeNode.{InodeNode}
@@ -12,7 +12,7 @@ use Rattle.flashbase.specs.Ranges.{IsHalf, IsWord}
 use Rattle.jnode.specs.declared.node.Dirent.{Dirent}
 use Rattle.jnode.specs.declared.node.NodeRef.{NodeRef}
 use Rattle.jnode.specs.declared.node.NodeRef.TheVariants.{Entry, Inode}
-use Rattle.jmount.specs.Clash.{Clashes, NoClashes}
+use Rattle.jmount.specs.Clash.{NodesClash, NoInodesClash}
 use Rattle.jmount.specs.Tree.{ObjectOf, State, sized, outline, object, named}
 use Rattle.jmount.specs.StateOf.{inodes, entries, versions_of, piece_of, contents, default_root, object_by, object_of, objects_of, numbers_in, next_of, owner, version_of, top, tops_of, state_of}
 use Rattle.jmount.specs.Shown.{top_at}
@@ -26,10 +26,10 @@ SameElements {X} a b = (x : X) → Contains a x ↔ Contains b x
 
 -- the object of a number
 abbrev pub ObjectDependsOnNodes : Type 0
-ObjectDependsOnNodes = (a b : List InodeNode) (i : ℕ) → SameElements a b → NoClashes a → object_of a i ≡ object_of b i
+ObjectDependsOnNodes = (a b : List InodeNode) (i : ℕ) → SameElements a b → NoInodesClash a → object_of a i ≡ object_of b i
 
 abbrev pub ObjectsDependOnNodes : Type 0
-ObjectsDependOnNodes = (a b : List InodeNode) → SameElements a b → NoClashes a → objects_of a ≡ objects_of b
+ObjectsDependOnNodes = (a b : List InodeNode) → SameElements a b → NoInodesClash a → objects_of a ≡ objects_of b
 
 -- the next number that is free
 abbrev pub NextDependsOnNodes : Type 0
@@ -44,7 +44,7 @@ TopsDependOnNodes = (a b : List NodeRef) → SameElements a b → tops_of a ≡ 
 
 -- the file system
 abbrev pub StateDependsOnNodes : Type 0
-StateDependsOnNodes = (a b : List NodeRef) → SameElements a b → NoClashes (inodes a) → names.NoClashes (entries a) → state_of a ≡ state_of b
+StateDependsOnNodes = (a b : List NodeRef) → SameElements a b → NoInodesClash (inodes a) → names.NoEntriesClash (entries a) → state_of a ≡ state_of b
 
 -- ---- what the maps have at each number and name
 
@@ -86,22 +86,22 @@ abbrev pub NextOfOneMore : Type 0
 NextOfOneMore = (ns : List NodeRef) (node : NodeRef)
     → (state_of (ns ++ node ∷ [])).next ≡ max (state_of ns).next (1 + greatest (numbers_in node))
 
--- an entry of a new version is the one that stands
-abbrev pub NewEntryStands : Type 0
-NewEntryStands = (ns : List NodeRef) (entry : Dirent) (key : Key) → top ns entry.pino < entry.version
+-- an entry of a new version is the visible one
+abbrev pub NewEntryIsVisible : Type 0
+NewEntryIsVisible = (ns : List NodeRef) (entry : Dirent) (key : Key) → top ns entry.pino < entry.version
     → live (entries (ns ++ Entry entry ∷ [])) key ≡ (if is_at key entry then ino_if_any entry else live (entries ns) key)
 
 -- an inode node of a new version gives its object's attributes and size, and changes no other object
-abbrev pub NewInodeStands : Type 0
-NewInodeStands = (ns : List NodeRef) (node : InodeNode) (i : ℕ) → top ns node.ino < node.version
+abbrev pub NewInodeIsVisible : Type 0
+NewInodeIsVisible = (ns : List NodeRef) (node : InodeNode) (i : ℕ) → top ns node.ino < node.version
     → object (state_of (ns ++ Inode node ∷ [])) i
     ≡ (if i == node.ino then Some (object_by (versions_of (inodes ns) i ++ node ∷ []) node) else object (state_of ns) i)
 
 -- and it gives the bytes that it covers, and changes no other byte
-abbrev pub NewBytesStand : Type 0
-NewBytesStand = (ns : List NodeRef) (node : InodeNode) (size place : ℕ) → top ns node.ino < node.version → place < size
+abbrev pub NewBytesAreVisible : Type 0
+NewBytesAreVisible = (ns : List NodeRef) (node : InodeNode) (size place : ℕ) → top ns node.ino < node.version → place < size
     → slice_index (contents (versions_of (inodes ns) node.ino ++ node ∷ []) size) place
-    ≡ (if covers place (piece_of node) then byte_of place (piece_of node) else byte_at (standing (map piece_of (versions_of (inodes ns) node.ino)) place))
+    ≡ (if covers place (piece_of node) then byte_of place (piece_of node) else byte_at (visible (map piece_of (versions_of (inodes ns) node.ino)) place))
 
 -- an entry changes no object, and an inode node no name
 abbrev pub EntryKeepsObjects : Type 0
@@ -142,7 +142,7 @@ pub record HasAttributes (node : InodeNode) (o : ObjectOf (List ℕ)) : Type 0 w
 abbrev pub HasNone : List InodeNode → ℕ → Type 0
 HasNone nodes i = (node : InodeNode) → Contains nodes node → node.ino ≢ i
 
--- attributes and size are those of the highest version, whatever bytes that node gives; the root stands without nodes
+-- attributes and size are those of the highest version, whatever bytes that node gives; the root is there without nodes
 abbrev pub ObjectIsOfLatest : Type 0
 ObjectIsOfLatest = (nodes : List InodeNode) (i : ℕ) (o : ObjectOf (List ℕ)) → object_of nodes i ≡ Some o
     → ((node : InodeNode) × IsLatest nodes i node × HasAttributes node o) ⊎ (HasNone nodes i × (i ≡ 1) × (o ≡ default_root))
@@ -222,7 +222,7 @@ FreshNumberIsFree = (ns : List NodeRef) (i : ℕ) → (state_of ns).next ≤ i
 
 -- a node of a version above its number's clashes with none
 abbrev pub NewNodeDoesNotClash : Type 0
-NewNodeDoesNotClash = (ns : List NodeRef) (node other : NodeRef) → top ns (owner node) < version_of node → Contains ns other → Clashes other node → ⊥
+NewNodeDoesNotClash = (ns : List NodeRef) (node other : NodeRef) → top ns (owner node) < version_of node → Contains ns other → NodesClash other node → ⊥
 
 -- ---- widths
 

@@ -9,8 +9,8 @@ pub mod Shown
 pub mod Stored
 pub mod Inodes
 pub mod Laws
-pub mod Rows
+pub mod Examples
 pub mod Paths
 pub mod Walk
 pub mod Storing
-pub mod Gathered
+pub mod Collected

@@ -20,25 +20,25 @@ plain_nodes e size image = map (λ n. n.1) (nodes e size image)
 abbrev pub state : Endian → ℕ → List ℕ → State
 state e size image = state_of (plain_nodes e size image)
 
--- the fault stands at the address
-abbrev pub StandsAt : Endian → ℕ → List ℕ → ℕ → MountFault → Type 0
-StandsAt e size image at (fault.Incompatible addr nodetype) = (at ≡ addr) × Contains (sightings e size image) (addr, seen.Incompatible nodetype)
-StandsAt e size image at (fault.Compressed addr compr) = (at ≡ addr) × Contains (sightings e size image) (addr, seen.Compressed compr)
-StandsAt e size image at (fault.Clash addr) = (at ≡ addr) × IsClashAt (nodes e size image) addr
-StandsAt e size image at fault.BlockSize = ⊥
-StandsAt e size image at fault.TooLarge = ⊥
-StandsAt e size image at fault.RootKind = ⊥
-StandsAt e size image at fault.OutOfMemory = ⊥
+-- the fault is at the address
+abbrev pub IsFaultAt : Endian → ℕ → List ℕ → ℕ → MountFault → Type 0
+IsFaultAt e size image at (fault.Incompatible addr nodetype) = (at ≡ addr) × Contains (sightings e size image) (addr, seen.Incompatible nodetype)
+IsFaultAt e size image at (fault.Compressed addr compr) = (at ≡ addr) × Contains (sightings e size image) (addr, seen.Compressed compr)
+IsFaultAt e size image at (fault.Clash addr) = (at ≡ addr) × IsClashAt (nodes e size image) addr
+IsFaultAt e size image at fault.BlockSize = ⊥
+IsFaultAt e size image at fault.TooLarge = ⊥
+IsFaultAt e size image at fault.RootKind = ⊥
+IsFaultAt e size image at fault.OutOfMemory = ⊥
 
 -- and it is the one of least address
 abbrev pub IsFirstAt : Endian → ℕ → List ℕ → ℕ → MountFault → Type 0
 IsFirstAt e size image addr f =
-    IsScannable size image × StandsAt e size image addr f
-    × ((at : ℕ) (other : MountFault) → StandsAt e size image at other → addr ≤ at)
+    IsScannable size image × IsFaultAt e size image addr f
+    × ((at : ℕ) (other : MountFault) → IsFaultAt e size image at other → addr ≤ at)
 
 -- an image with no such fault
 abbrev pub IsSound : Endian → ℕ → List ℕ → Type 0
-IsSound e size image = IsScannable size image × ((at : ℕ) (f : MountFault) → StandsAt e size image at f → ⊥)
+IsSound e size image = IsScannable size image × ((at : ℕ) (f : MountFault) → IsFaultAt e size image at f → ⊥)
 
 -- the image mounts, as this file system
 pub record MountsAs (e : Endian) (size : ℕ) (image : List ℕ) (s : State) : Type 0 where

@@ -5,7 +5,7 @@ use Rattle.std.specs.FinMap.{FinMap, get, keys, entries}
 use Rattle.flashbase.specs.Lists.{tabled}
 use Rattle.jname.specs.Live.{key_cmp}
 
--- an object, with what stands for its bytes: the bytes, or in an outline their number
+-- an object, with what represents its bytes: the bytes, or in an outline their number
 pub record ObjectOf (B : Type 0) : Type 0 where
   pub mode : ℕ
   pub uid : ℕ

@@ -1,4 +1,4 @@
--- The objects that are kept, one by one.
+-- The objects that are stored, one by one.
 use Rattle.std.specs.Prelude.{ℕ, List, map}
 use Rattle.jmount.specs.declared.stored.Stored.{Stored}
 use Rattle.jmount.specs.declared.object.Object.{Object}

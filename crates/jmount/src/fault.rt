@@ -2,7 +2,7 @@
 
 ghost use Rattle.std.specs.Prelude.{◌≡◌};
 ghost use Rattle.jmount.specs.declared.fault.MountFault.TheVariants.{OutOfMemory};
-ghost use Rattle.jmount.specs.Gathered.{refusal_fault};
+ghost use Rattle.jmount.specs.Collected.{refusal_fault};
 
 use jscan::ScanFault;
 use std::alloc::AllocError;

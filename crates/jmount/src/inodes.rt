@@ -3,7 +3,7 @@
 ghost use Rattle.std.specs.Prelude.{◌≡◌, ◌==◌, ◌&&◌, ℕ, Some, Err, OnOk, OnErr, if◌then◌else◌};
 ghost use Rattle.std.specs.Ordering.{nat_cmp};
 ghost use Rattle.std.specs.BTreeMap.{IsOrdered};
-ghost use Rattle.jmount.specs.Inodes.{Agrees, Differs, held, nodes_of};
+ghost use Rattle.jmount.specs.Inodes.{Agrees, Differs, inode_at, nodes_of_numbers};
 
 use crate::stored::Stored;
 use crate::storing::objects_with_root;
@@ -13,12 +13,12 @@ use std::alloc::{AllocError, Global};
 use std::collections::BTreeMap;
 use std::marker::Model;
 
-pub type ByNumber<'a> = BTreeMap<u32, Versions<'a>>;
+pub type NodesByNumber<'a> = BTreeMap<u32, Versions<'a>>;
 
 /// The inode nodes of an image. Contracts see the list of them; its order says nothing.
 #[derive(Drop)]
 pub struct Inodes<'a> {
-    numbers: ByNumber<'a>,
+    numbers: NodesByNumber<'a>,
     alloc: Global,
 }
 
@@ -27,11 +27,11 @@ impl<'a> Model for Inodes<'a> {
     ghost use Rattle.std.specs.Ordering.{nat_cmp};
     ghost use Rattle.std.specs.BTreeMap.{IsOrdered};
     ghost use Rattle.jnode.specs.declared.node.InodeNode.{InodeNode};
-    ghost use Rattle.jmount.specs.Inodes.{IsKeyed, nodes_of};
+    ghost use Rattle.jmount.specs.Inodes.{IsKeyed, nodes_of_numbers};
 
     ghost Value = { List InodeNode };
 
-    ghost view = { λ inodes. nodes_of inodes.numbers };
+    ghost view = { λ inodes. nodes_of_numbers inodes.numbers };
 
     ghost invariant = { λ inodes. IsOrdered nat_cmp inodes.numbers × IsKeyed inodes.numbers };
 }
@@ -41,8 +41,8 @@ impl<'a> Inodes<'a> {
     ghost use Rattle.std.specs.BTreeMap.{get};
     ghost use Rattle.jfrag.specs.Pieces.{end_of};
     ghost use Rattle.jmount.specs.StateOf.{piece_of};
-    ghost use Rattle.jmount.specs.Storing.{made_of, shown};
-    ghost use Rattle.jmount.specs.Clash.{NoneClashes, SomeClashes};
+    ghost use Rattle.jmount.specs.Storing.{made_of, as_made};
+    ghost use Rattle.jmount.specs.Clash.{NoInodeClashesWith, SomeInodeClashesWith};
     ghost use Rattle.jmount.specs.Inodes.{Gains};
 
     /// No nodes.
@@ -55,24 +55,24 @@ impl<'a> Inodes<'a> {
         }
     }
 
-    /// Adds a node. One that was added already changes nothing. In log n steps for n nodes.
+    /// Adds a node. One that was added already changes nothing. O(log n) for n nodes.
     ///
     /// `Clash`: a node of the same number and version, with other contents, was added before. After a fault the nodes
     /// are those from before.
     pub fn add(&mut self, node: InodeNode<'a>) -> Result<(), InodeFault>
         ensures ok { OnOk result (Gains self.old self.new node.entry) }
-        ensures alone { OnOk result (NoneClashes self.old node.entry) }
-        ensures clash { result ≡ Err InodeFault.Clash → SomeClashes self.old node.entry }
+        ensures alone { OnOk result (NoInodeClashesWith self.old node.entry) }
+        ensures clash { result ≡ Err InodeFault.Clash → SomeInodeClashesWith self.old node.entry }
         ensures err { OnErr result (self.new ≡ self.old) }
     {
         add_node(self.alloc, &mut self.numbers, node)
     }
 
-    /// The objects that the nodes make, by their numbers, and the root, which every image has. In n log n steps for n
+    /// The objects that the nodes make, by their numbers, and the root, which every image has. O(n log n) for n
     /// nodes of which no two clash.
     pub fn objects(&self) -> Result<BTreeMap<u32, Stored<'a>>, AllocError>
         requires ends { All (λ node. end_of (piece_of node) < 2 ^ 32) self.now }
-        ensures each { IfOk result (λ objects. (i : ℕ) → option_map shown (get nat_cmp objects i) ≡ made_of self.now i) }
+        ensures each { IfOk result (λ objects. (i : ℕ) → option_map as_made (get nat_cmp objects i) ≡ made_of self.now i) }
         ensures ordered { IfOk result (IsOrdered nat_cmp) }
     {
         objects_with_root(self.alloc, &self.numbers)
@@ -82,14 +82,14 @@ impl<'a> Inodes<'a> {
 /// Adds a node to those of its number.
 fn add_node<'a>(
     alloc: Global,
-    numbers: &mut ByNumber<'a>,
+    numbers: &mut NodesByNumber<'a>,
     node: InodeNode<'a>,
 ) -> Result<(), InodeFault>
-    ensures clash { result ≡ Err InodeFault.Clash → Differs (held numbers.old node.entry.ino node.entry.version) node.entry }
-    ensures alone { OnOk result (Agrees (held numbers.old node.entry.ino node.entry.version) node.entry) }
-    ensures ok { OnOk result ((i v : ℕ) → held numbers.new i v ≡ (if node.entry.ino == i && node.entry.version == v then Some node.entry else held numbers.old i v)) }
-    ensures err { OnErr result (nodes_of numbers.new ≡ nodes_of numbers.old) }
-    ensures held { OnErr result ((i v : ℕ) → held numbers.new i v ≡ held numbers.old i v) }
+    ensures clash { result ≡ Err InodeFault.Clash → Differs (inode_at numbers.old node.entry.ino node.entry.version) node.entry }
+    ensures alone { OnOk result (Agrees (inode_at numbers.old node.entry.ino node.entry.version) node.entry) }
+    ensures ok { OnOk result ((i v : ℕ) → inode_at numbers.new i v ≡ (if node.entry.ino == i && node.entry.version == v then Some node.entry else inode_at numbers.old i v)) }
+    ensures err { OnErr result (nodes_of_numbers numbers.new ≡ nodes_of_numbers numbers.old) }
+    ensures same { OnErr result ((i v : ℕ) → inode_at numbers.new i v ≡ inode_at numbers.old i v) }
     ensures ordered { IsOrdered nat_cmp numbers.new }
 {
     if let Some(versions) = numbers.get_mut(&node.ino) {

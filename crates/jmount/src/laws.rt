@@ -2,7 +2,7 @@
 
 ghost use Rattle.jmount.specs.Laws as law;
 
-/// An object depends on which inode nodes there are, and not on their order or how often each stands.
+/// An object depends on which inode nodes there are, and not on their order or how often each is there.
 pub fn objects_depend_on_nodes()
     ensures one { law.ObjectDependsOnNodes }
     ensures all { law.ObjectsDependOnNodes }
@@ -62,9 +62,9 @@ pub fn numbers_are_of_both_kinds()
 pub fn one_more_node()
     ensures top { law.TopOfOneMore }
     ensures next { law.NextOfOneMore }
-    ensures entry { law.NewEntryStands }
-    ensures inode { law.NewInodeStands }
-    ensures bytes { law.NewBytesStand }
+    ensures entry { law.NewEntryIsVisible }
+    ensures inode { law.NewInodeIsVisible }
+    ensures bytes { law.NewBytesAreVisible }
     ensures objects { law.EntryKeepsObjects }
     ensures names { law.InodeKeepsNames }
 {}

@@ -106,11 +106,11 @@ impl<'a> Mounted<'a> {
 
     /// The number of the object that a path names: `/` the root, else `/` before each name.
     ///
-    /// The whole text is judged first. Symlinks are not followed. Takes log n steps a name and no memory.
+    /// The whole text is judged first. Symlinks are not followed. Takes O(log n) a name and no memory.
     ///
     /// # Errors
     /// `BadPath`: the text is no path: it does not begin with `/`, or a name in it is empty, `.` or `..`, or has a zero
-    /// byte. Else the fault of the first name that has one. `NotDirectory`: what stands before the name is no directory.
+    /// byte. Else the fault of the first name that has one. `NotDirectory`: what is before the name is no directory.
     /// `NotFound`: the name stands for nothing there, or for an object that is missing.
     pub fn find(&self, text: &[u8]) -> Result<u32, FindFault>
         ensures { result ≡ walk.find self.now.state text.now }

@@ -2,15 +2,15 @@
 
 ghost use Rattle.jmount.specs.Mounts.{Answers};
 
+use crate::collecting::collect;
 use crate::fault::MountFault;
-use crate::gathering::gather;
 use crate::mounted::{Mounted, ROOT};
 use jnode::Order;
-use jscan::{Geometry, Survey, survey};
+use jscan::{Geometry, PartialScan, scan_to_refusal};
 use std::alloc::Global;
 
 /// Mounts an image: the file system that its nodes make. The missing tail of the last block counts as erased. Each byte
-/// of the nodes' data is checked once and none is copied; n nodes take n log n steps.
+/// of the nodes' data is checked once and none is copied; n nodes take O(n log n).
 ///
 /// # Errors
 /// `BlockSize` or `TooLarge`, before any byte is read. Else of the nodes that no image may have, as `Incompatible`,
@@ -22,15 +22,15 @@ pub fn mount<'a, E: Order>(
 ) -> Result<Mounted<'a>, MountFault>
     ensures { Answers E.order geometry.block image.now result }
 {
-    let Survey {
+    let PartialScan {
         nodes,
         findings,
         read_only,
         refused,
-    } = survey::<E>(alloc, image, geometry)?;
-    // The survey stops at the first node that is refused: all nodes that it gives lie below that one, so a clash of
+    } = scan_to_refusal::<E>(alloc, image, geometry)?;
+    // The partial scan stops at the first node that is refused: all nodes that it gives lie below that one, so a clash of
     // theirs is the fault of least address, and is looked for first.
-    let tables = gather(alloc, nodes)?;
+    let tables = collect(alloc, nodes)?;
     if let Some(refusal) = refused {
         return Err(MountFault::from(refusal));
     }

@@ -10,7 +10,7 @@ use crate::versions::InodeFault;
 use jnode::{Fill, InodeNode};
 use std::collections::BTreeMap;
 
-/// Whether a node may come where this one is held.
+/// Whether a node may come where this one is stored.
 pub fn agree(there: &InodeNode<'_>, node: &InodeNode<'_>) -> Result<(), InodeFault>
     ensures clash { result ≡ Err InodeFault.Clash → there.now ≢ node.now }
     ensures alone { OnOk result (there.now ≡ node.now) }

@@ -39,8 +39,8 @@ fn is_same_part(a: &Part<'_>, b: &Part<'_>) -> bool
     if a.len() != b.len() {
         return false;
     }
-    let here = a.held();
-    let there = b.held();
+    let here = a.present();
+    let there = b.present();
     if here.len() == there.len() {
         return here == there;
     }

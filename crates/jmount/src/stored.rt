@@ -1,8 +1,8 @@
-// How an object of a mounted image is kept.
+// How an object of a mounted image is stored.
 
 use jfrag::FragOverlay;
 
-/// An object: the attributes and the size that its node of highest version gives, and what its nodes lay over one
+/// An object: the attributes and the size that its node of highest version gives, and what its nodes overlay on one
 /// another.
 #[derive(Drop)]
 pub struct Stored<'a> {

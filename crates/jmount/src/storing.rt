@@ -4,11 +4,11 @@ ghost use Rattle.std.specs.Prelude.{◌≡◌, ◌<◌, ◌^◌, ℕ, Some, IfOk
 ghost use Rattle.std.specs.Ordering.{nat_cmp};
 ghost use Rattle.std.specs.BTreeMap.{IsOrdered, get};
 ghost use Rattle.jfrag.specs.Pieces.{end_of};
-ghost use Rattle.jmount.specs.Inodes.{IsByVersion, IsKeyed, nodes_in, nodes_of};
+ghost use Rattle.jmount.specs.Inodes.{IsByVersion, IsKeyed, nodes_in, nodes_of_numbers};
 ghost use Rattle.jmount.specs.StateOf.{body_of, piece_of};
-ghost use Rattle.jmount.specs.Storing.{made_at, made_by, made_root, or_made_root, shown};
+ghost use Rattle.jmount.specs.Storing.{made_at, made_by, made_root, or_made_root, as_made};
 
-use crate::inodes::ByNumber;
+use crate::inodes::NodesByNumber;
 use crate::mounted::ROOT;
 use crate::stored::Stored;
 use crate::versions::Versions;
@@ -20,11 +20,11 @@ use std::collections::BTreeMap;
 /// The objects of these numbers, and the root.
 pub fn objects_with_root<'a>(
     alloc: Global,
-    numbers: &ByNumber<'a>,
+    numbers: &NodesByNumber<'a>,
 ) -> Result<BTreeMap<u32, Stored<'a>>, AllocError>
     requires keyed { IsKeyed numbers.now }
-    requires ends { All (λ node. end_of (piece_of node) < 2 ^ 32) (nodes_of numbers.now) }
-    ensures each { IfOk result (λ objects. (i : ℕ) → option_map shown (get nat_cmp objects i) ≡ or_made_root i (made_at numbers.now i)) }
+    requires ends { All (λ node. end_of (piece_of node) < 2 ^ 32) (nodes_of_numbers numbers.now) }
+    ensures each { IfOk result (λ objects. (i : ℕ) → option_map as_made (get nat_cmp objects i) ≡ or_made_root i (made_at numbers.now i)) }
     ensures ordered { IfOk result (IsOrdered nat_cmp) }
 {
     let mut objects = objects_of(alloc, numbers)?;
@@ -36,7 +36,7 @@ pub fn objects_with_root<'a>(
 
 /// The root of an image that has no inode node for it.
 fn default_root<'a>(alloc: Global) -> Stored<'a>
-    ensures { shown result ≡ made_root }
+    ensures { as_made result ≡ made_root }
 {
     Stored {
         version: 0,
@@ -54,11 +54,11 @@ fn default_root<'a>(alloc: Global) -> Stored<'a>
 /// The objects of these numbers.
 fn objects_of<'a>(
     alloc: Global,
-    numbers: &ByNumber<'a>,
+    numbers: &NodesByNumber<'a>,
 ) -> Result<BTreeMap<u32, Stored<'a>>, AllocError>
     requires keyed { IsKeyed numbers.now }
-    requires ends { All (λ node. end_of (piece_of node) < 2 ^ 32) (nodes_of numbers.now) }
-    ensures each { IfOk result (λ objects. (i : ℕ) → option_map shown (get nat_cmp objects i) ≡ made_at numbers.now i) }
+    requires ends { All (λ node. end_of (piece_of node) < 2 ^ 32) (nodes_of_numbers numbers.now) }
+    ensures each { IfOk result (λ objects. (i : ℕ) → option_map as_made (get nat_cmp objects i) ≡ made_at numbers.now i) }
     ensures ordered { IfOk result (IsOrdered nat_cmp) }
 {
     let mut objects = BTreeMap::new(alloc);
@@ -72,7 +72,7 @@ fn objects_of<'a>(
 fn object_of<'a>(alloc: Global, versions: &Versions<'a>) -> Result<Stored<'a>, AllocError>
     requires by_version { IsByVersion versions.now }
     requires ends { All (λ node. end_of (piece_of node) < 2 ^ 32) (nodes_in versions.now) }
-    ensures { IfOk result (λ stored. Some (shown stored) ≡ made_by (nodes_in versions.now)) }
+    ensures { IfOk result (λ stored. Some (as_made stored) ≡ made_by (nodes_in versions.now)) }
 {
     let pieces = pieces_of(alloc, versions)?;
     let bytes = overlay(alloc, &pieces)?;

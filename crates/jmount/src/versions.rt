@@ -38,7 +38,7 @@ impl<T: Drop> From<AllocFailed<T>> for InodeFault {
     }
 }
 
-/// The nodes of one number, by version. That of the greatest stands apart, since most numbers have no other: a map takes
+/// The nodes of one number, by version. That of the greatest is apart, since most numbers have no other: a map takes
 /// memory only from the second one on.
 #[derive(Drop)]
 pub struct Versions<'a> {

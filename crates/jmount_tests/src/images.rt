@@ -15,7 +15,7 @@ pub const DIRECTORY: u32 = 0o040755;
 #[derive(Clone, Copy)]
 pub struct Version(pub u32, pub u32, pub u32, pub u32);
 
-/// What an image has, one item behind the other, each filled up to whole words.
+/// What an image has, one item after the other, each filled up to whole words.
 #[derive(Clone, Copy)]
 pub enum Item {
     /// The clean marker of an erased block.

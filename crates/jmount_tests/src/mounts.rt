@@ -69,7 +69,7 @@ const IMAGES: [(&[Item], &[Fact]); 7] = [
             Fact::ReadOnly(false),
         ],
     ),
-    // Written, cut, and written behind the end: what was cut does not come back.
+    // Written, cut, and written after the end: what was cut does not come back.
     (
         &[
             Item::Marker,

@@ -25,7 +25,7 @@ const MADE: Item = Item::Data(Version(2, 1, FILE, 0), 0, b"");
 /// Contradicts it.
 const MADE_ELSE: Item = Item::Data(Version(2, 1, 0o100600, 0), 0, b"");
 
-/// Images behind a clean marker, with their block sizes.
+/// Images after a clean marker, with their block sizes.
 const IMAGES: [(u32, &[Item], Option<MountFault>); 9] = [
     // Nodes of one version clash where they differ: in the mode, in the data, in the number that a name stands for.
     (

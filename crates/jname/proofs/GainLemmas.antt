@@ -13,44 +13,44 @@ use Rattle.jnode.specs.declared.node.Dirent.{Dirent}
 use Rattle.jname.specs.declared.versions.Content.{Content}
 use Rattle.jname.specs.declared.directory.Directory.{Directory}
 use Rattle.jname.specs.Versions.{Agrees, Differs}
-use Rattle.jname.specs.Directories.{ByNumber, held, held_under}
-use Rattle.jname.specs.Entries.{content_of, entry_of, entries_of}
-use Rattle.jname.specs.Clash.{SomeClashes, NoneClashes}
+use Rattle.jname.specs.Directories.{DirectoriesByNumber, content_at, content_under}
+use Rattle.jname.specs.Entries.{content_of_entry, entry_of, entries_of}
+use Rattle.jname.specs.Clash.{SomeEntryClashesWith, NoEntryClashesWith}
 use Rattle.jname.specs.Live.{Gains}
-use Rattle.jname.proofs.EntriesLemmas.{held-from_Contains, Contains-from_held}
+use Rattle.jname.proofs.EntriesLemmas.{content_at-from_Contains, Contains-from_content_at}
 use Rattle.jname.proofs.LiveLemmas.{both_true}
 
 -- ---- one directory is replaced
 
 at_place : (name : List ℕ) (v : ℕ) → Option Directory → Option Content
-at_place name v o = option_and_then (λ (d : Directory). held_under d name v) o
+at_place name v o = option_and_then (λ (d : Directory). content_under d name v) o
 
--- one content more is held
-abbrev pub HoldsOneMore : ByNumber → ByNumber → ℕ → List ℕ → ℕ → Content → Type 0
-HoldsOneMore old new pino name version content = (p : ℕ) (n : List ℕ) (v : ℕ) → held new p n v ≡ (if pino == p && (bytes_eq name n && version == v) then Some content else held old p n v)
+-- one content more is stored
+abbrev pub HoldsOneMore : DirectoriesByNumber → DirectoriesByNumber → ℕ → List ℕ → ℕ → Content → Type 0
+HoldsOneMore old new pino name version content = (p : ℕ) (n : List ℕ) (v : ℕ) → content_at new p n v ≡ (if pino == p && (bytes_eq name n && version == v) then Some content else content_at old p n v)
 
-replaced_at : (old new : ByNumber) (pino : ℕ) (directory : Directory) → Updates nat_cmp old new pino (Some directory) → (p : ℕ) → get nat_cmp new p ≡ (if pino == p then Some directory else get nat_cmp old p)
+replaced_at : (old new : DirectoriesByNumber) (pino : ℕ) (directory : Directory) → Updates nat_cmp old new pino (Some directory) → (p : ℕ) → get nat_cmp new p ≡ (if pino == p then Some directory else get nat_cmp old p)
 replaced_at old new pino directory u p = u.0 p ∙ ap (λ (b : Bool). if b then Some directory else get nat_cmp old p) (unsigned_tied pino p)
 
-held_by_test : (b : Bool) (directory : Directory) (before : Option Directory) (name n : List ℕ) (version v : ℕ) (content : Content) (was : Option Content)
-    → (b ≡ true → held_under directory n v ≡ (if bytes_eq name n && version == v then Some content else was)) → at_place n v before ≡ was
+content_by_test : (b : Bool) (directory : Directory) (before : Option Directory) (name n : List ℕ) (version v : ℕ) (content : Content) (was : Option Content)
+    → (b ≡ true → content_under directory n v ≡ (if bytes_eq name n && version == v then Some content else was)) → at_place n v before ≡ was
     → at_place n v (if b then Some directory else before) ≡ (if b && (bytes_eq name n && version == v) then Some content else was)
 unfolding at_place
-held_by_test true directory before name n version v content was h same = h refl
-held_by_test false directory before name n version v content was h same = same
+content_by_test true directory before name n version v content was h same = h refl
+content_by_test false directory before name n version v content was h same = same
 
-pub held-replaced : (old new : ByNumber) (pino : ℕ) (directory : Directory) (name : List ℕ) (version : ℕ) (content : Content) → Updates nat_cmp old new pino (Some directory)
-    → ((n : List ℕ) (v : ℕ) → held_under directory n v ≡ (if bytes_eq name n && version == v then Some content else held old pino n v))
+pub content_at-replaced : (old new : DirectoriesByNumber) (pino : ℕ) (directory : Directory) (name : List ℕ) (version : ℕ) (content : Content) → Updates nat_cmp old new pino (Some directory)
+    → ((n : List ℕ) (v : ℕ) → content_under directory n v ≡ (if bytes_eq name n && version == v then Some content else content_at old pino n v))
     → HoldsOneMore old new pino name version content
 unfolding at_place
-held-replaced old new pino directory name version content u h p n v =
+content_at-replaced old new pino directory name version content u h p n v =
     ap (at_place n v) (replaced_at old new pino directory u p)
-    ∙ held_by_test (pino == p) directory (get nat_cmp old p) name n version v content (held old p n v)
-    (λ e. h n v ∙ ap (λ (q : ℕ). if bytes_eq name n && version == v then Some content else held old q n v) (eqb-true pino p e)) refl
+    ∙ content_by_test (pino == p) directory (get nat_cmp old p) name n version v content (content_at old p n v)
+    (λ e. h n v ∙ ap (λ (q : ℕ). if bytes_eq name n && version == v then Some content else content_at old q n v) (eqb-true pino p e)) refl
 
 -- ---- entries by their place and content
 
-pub same_entry : (x y : Dirent) → x.pino ≡ y.pino → x.name ≡ y.name → x.version ≡ y.version → content_of x ≡ content_of y → x ≡ y
+pub same_entry : (x y : Dirent) → x.pino ≡ y.pino → x.name ≡ y.name → x.version ≡ y.version → content_of_entry x ≡ content_of_entry y → x ≡ y
 same_entry x y p n v c = λ i. record { pino = p i; version = v i; ino = (c i).ino; mctime = (c i).mctime; kind = (c i).kind; name = n i }
 
 abbrev is_there : Dirent → Dirent → Bool
@@ -68,57 +68,57 @@ there-itself entry =
     ∙ ap (λ (b : Bool). b && entry.version == entry.version) ((bytes_eq-Decides entry.name entry.name).1 refl)
     ∙ eq-eqb entry.version entry.version refl
 
-held_place : ByNumber → Dirent → Option Content
-held_place directories x = held directories x.pino x.name x.version
+content_at_place : DirectoriesByNumber → Dirent → Option Content
+content_at_place directories x = content_at directories x.pino x.name x.version
 
-held_place-same : (directories : ByNumber) (x y : Dirent) → x.pino ≡ y.pino → x.name ≡ y.name → x.version ≡ y.version → held directories x.pino x.name x.version ≡ held directories y.pino y.name y.version
-held_place-same directories x y p n v = λ i. held directories (p i) (n i) (v i)
+content_at_place-same : (directories : DirectoriesByNumber) (x y : Dirent) → x.pino ≡ y.pino → x.name ≡ y.name → x.version ≡ y.version → content_at directories x.pino x.name x.version ≡ content_at directories y.pino y.name y.version
+content_at_place-same directories x y p n v = λ i. content_at directories (p i) (n i) (v i)
 
--- nothing else is held: what is held is this
+-- nothing else is stored: what is stored is this
 agreed : (o : Option Content) (there content : Content) → Agrees o content → o ≡ Some there → there ≡ content
 agreed None there content h e = let no : None ≡ Some there = e in cc
 agreed (Some x) there content h e = sym (same_Some x there e) ∙ h
 
 -- ---- the list gains the entry
 
-gained : (old : ByNumber) (entry x : Dirent) (b : Bool) → is_there entry x ≡ b → (if b then Some (content_of entry) else held old x.pino x.name x.version) ≡ Some (content_of x) → Contains (entries_of old) x ⊎ (x ≡ entry)
+gained : (old : DirectoriesByNumber) (entry x : Dirent) (b : Bool) → is_there entry x ≡ b → (if b then Some (content_of_entry entry) else content_at old x.pino x.name x.version) ≡ Some (content_of_entry x) → Contains (entries_of old) x ⊎ (x ≡ entry)
 gained old entry x true e h =
     let same = there-from entry x e in
-    inr (same_entry x entry (sym same.0) (sym same.1) (sym same.2) (sym (same_Some (content_of entry) (content_of x) h)))
-gained old entry x false e h = inl (Contains-from_held old x h)
+    inr (same_entry x entry (sym same.0) (sym same.1) (sym same.2) (sym (same_Some (content_of_entry entry) (content_of_entry x) h)))
+gained old entry x false e h = inl (Contains-from_content_at old x h)
 
-kept : (old : ByNumber) (entry x : Dirent) (b : Bool) → is_there entry x ≡ b → Agrees (held old entry.pino entry.name entry.version) (content_of entry) → held old x.pino x.name x.version ≡ Some (content_of x)
-    → (if b then Some (content_of entry) else held old x.pino x.name x.version) ≡ Some (content_of x)
-kept old entry x true e agrees h =
+still_there : (old : DirectoriesByNumber) (entry x : Dirent) (b : Bool) → is_there entry x ≡ b → Agrees (content_at old entry.pino entry.name entry.version) (content_of_entry entry) → content_at old x.pino x.name x.version ≡ Some (content_of_entry x)
+    → (if b then Some (content_of_entry entry) else content_at old x.pino x.name x.version) ≡ Some (content_of_entry x)
+still_there old entry x true e agrees h =
     let same = there-from entry x e in
-    ap Some (sym (agreed (held old entry.pino entry.name entry.version) (content_of x) (content_of entry) agrees (held_place-same old entry x same.0 same.1 same.2 ∙ h)))
-kept old entry x false e agrees h = h
+    ap Some (sym (agreed (content_at old entry.pino entry.name entry.version) (content_of_entry x) (content_of_entry entry) agrees (content_at_place-same old entry x same.0 same.1 same.2 ∙ h)))
+still_there old entry x false e agrees h = h
 
-pub gains_one : (old new : ByNumber) → IsOrdered nat_cmp old → IsOrdered nat_cmp new → (entry : Dirent) → HoldsOneMore old new entry.pino entry.name entry.version (content_of entry)
-    → Agrees (held old entry.pino entry.name entry.version) (content_of entry) → Gains (entries_of old) (entries_of new) entry
+pub gains_one : (old new : DirectoriesByNumber) → IsOrdered nat_cmp old → IsOrdered nat_cmp new → (entry : Dirent) → HoldsOneMore old new entry.pino entry.name entry.version (content_of_entry entry)
+    → Agrees (content_at old entry.pino entry.name entry.version) (content_of_entry entry) → Gains (entries_of old) (entries_of new) entry
 gains_one old new old_ordered new_ordered entry more agrees x = (
-  λ h. gained old entry x (is_there entry x) refl (sym (more x.pino x.name x.version) ∙ held-from_Contains new new_ordered x h),
-  λ h. Contains-from_held new x (more x.pino x.name x.version ∙ ⊎_elim
-      (λ before. kept old entry x (is_there entry x) refl agrees (held-from_Contains old old_ordered x before))
-      (λ (is : x ≡ entry). subst (λ (y : Dirent). (if is_there entry y then Some (content_of entry) else held old y.pino y.name y.version) ≡ Some (content_of y)) (sym is)
-      (ap (λ (b : Bool). if b then Some (content_of entry) else held old entry.pino entry.name entry.version) (there-itself entry)))
+  λ h. gained old entry x (is_there entry x) refl (sym (more x.pino x.name x.version) ∙ content_at-from_Contains new new_ordered x h),
+  λ h. Contains-from_content_at new x (more x.pino x.name x.version ∙ ⊎_elim
+      (λ before. still_there old entry x (is_there entry x) refl agrees (content_at-from_Contains old old_ordered x before))
+      (λ (is : x ≡ entry). subst (λ (y : Dirent). (if is_there entry y then Some (content_of_entry entry) else content_at old y.pino y.name y.version) ≡ Some (content_of_entry y)) (sym is)
+      (ap (λ (b : Bool). if b then Some (content_of_entry entry) else content_at old entry.pino entry.name entry.version) (there-itself entry)))
       h),
 )
 
 -- ---- clashes
 
-pub none_clashes : (old : ByNumber) → IsOrdered nat_cmp old → (entry : Dirent) → Agrees (held old entry.pino entry.name entry.version) (content_of entry) → NoneClashes (entries_of old) entry
+pub none_clashes : (old : DirectoriesByNumber) → IsOrdered nat_cmp old → (entry : Dirent) → Agrees (content_at old entry.pino entry.name entry.version) (content_of_entry entry) → NoEntryClashesWith (entries_of old) entry
 none_clashes old ordered entry agrees other there clash =
-    let content : content_of other ≡ content_of entry =
-    agreed (held old entry.pino entry.name entry.version) (content_of other) (content_of entry) agrees
-    (held_place-same old entry other (sym clash.directory) (sym clash.name) (sym clash.version) ∙ held-from_Contains old ordered other there) in
+    let content : content_of_entry other ≡ content_of_entry entry =
+    agreed (content_at old entry.pino entry.name entry.version) (content_of_entry other) (content_of_entry entry) agrees
+    (content_at_place-same old entry other (sym clash.directory) (sym clash.name) (sym clash.version) ∙ content_at-from_Contains old ordered other there) in
     clash.contents (same_entry other entry clash.directory clash.name clash.version content)
 
-differing : (old : ByNumber) (entry : Dirent) (o : Option Content) → held old entry.pino entry.name entry.version ≡ o → Differs o (content_of entry) → SomeClashes (entries_of old) entry
+differing : (old : DirectoriesByNumber) (entry : Dirent) (o : Option Content) → content_at old entry.pino entry.name entry.version ≡ o → Differs o (content_of_entry entry) → SomeEntryClashesWith (entries_of old) entry
 differing old entry None e h = absurd h
 differing old entry (Some there) e h =
     let other : Dirent = entry_of entry.pino entry.name (entry.version, there) in
-    (other, Contains-from_held old other e, record { directory = refl; name = refl; version = refl; contents = λ (same : other ≡ entry). h (ap content_of same) })
+    (other, Contains-from_content_at old other e, record { directory = refl; name = refl; version = refl; contents = λ (same : other ≡ entry). h (ap content_of_entry same) })
 
-pub some_clashes : (old : ByNumber) (entry : Dirent) → Differs (held old entry.pino entry.name entry.version) (content_of entry) → SomeClashes (entries_of old) entry
-some_clashes old entry h = differing old entry (held old entry.pino entry.name entry.version) refl h
+pub some_clashes : (old : DirectoriesByNumber) (entry : Dirent) → Differs (content_at old entry.pino entry.name entry.version) (content_of_entry entry) → SomeEntryClashesWith (entries_of old) entry
+some_clashes old entry h = differing old entry (content_at old entry.pino entry.name entry.version) refl h

@@ -8,10 +8,10 @@ use Rattle.flashbase.specs.Lists.{newest}
 use Rattle.flashbase.proofs.ListLemmas.{newest_is_newest, newest_of_none}
 use Rattle.jnode.specs.declared.node.Dirent.{Dirent}
 use Rattle.jname.specs.declared.versions.Content.{Content}
-use Rattle.jname.specs.Entries.{content_of}
-use Rattle.jname.specs.Clash.{Clashes, NoClashes}
+use Rattle.jname.specs.Entries.{content_of_entry}
+use Rattle.jname.specs.Clash.{EntriesClash, NoEntriesClash}
 use Rattle.jname.specs.Live.{Key, is_at, ino_if_any, live, live_names, highest, SameEntries}
-use Rattle.jname.proofs.HeldLemmas.{by_test}
+use Rattle.jname.proofs.ContentsByNameLemmas.{by_test}
 use Rattle.jname.proofs.MemberLemmas.{Contains-none, Contains-filter, Contains-filter_from}
 use Rattle.jname.proofs.LiveLemmas.{key_at}
 use Rattle.jname.proofs.GainLemmas.{same_entry}
@@ -66,11 +66,11 @@ content_stable a b h =
     λ i. record { ino = ino i; mctime = mctime i; kind = kind i }
 
 -- entries of one place that do not clash are the same
-one_entry : (a b : Dirent) → (Clashes a b → ⊥) → a.pino ≡ b.pino → a.name ≡ b.name → a.version ≡ b.version → a ≡ b
+one_entry : (a b : Dirent) → (EntriesClash a b → ⊥) → a.pino ≡ b.pino → a.name ≡ b.name → a.version ≡ b.version → a ≡ b
 one_entry a b apart p n v =
-    same_entry a b p n v (content_stable (content_of a) (content_of b) (λ no. apart (record { directory = p; name = n; version = v; contents = λ (e : a ≡ b). no (ap content_of e) })))
+    same_entry a b p n v (content_stable (content_of_entry a) (content_of_entry b) (λ no. apart (record { directory = p; name = n; version = v; contents = λ (e : a ≡ b). no (ap content_of_entry e) })))
 
-same_newest : (a b : List Dirent) (key : Key) → SameEntries a b → NoClashes a → (o p : Option Dirent) → newest version_of (filter (is_at key) a) ≡ o → newest version_of (filter (is_at key) b) ≡ p → o ≡ p
+same_newest : (a b : List Dirent) (key : Key) → SameEntries a b → NoEntriesClash a → (o p : Option Dirent) → newest version_of (filter (is_at key) a) ≡ o → newest version_of (filter (is_at key) b) ≡ p → o ≡ p
 same_newest a b key same apart None None e f = refl
 same_newest a b key same apart None (Some z) e f = absurd (none_newest (filter (is_at key) a) (filter (is_at key) b) (same_filter (is_at key) a b same) e z f)
 same_newest a b key same apart (Some y) None e f = absurd (none_newest (filter (is_at key) b) (filter (is_at key) a) (λ x. ((same_filter (is_at key) a b same x).1, (same_filter (is_at key) a b same x).0)) f y e)
@@ -82,11 +82,11 @@ same_newest a b key same apart (Some y) (Some z) e f =
     let version : y.version ≡ z.version = newest_version (filter (is_at key) a) (filter (is_at key) b) (same_filter (is_at key) a b same) y z e f in
     ap Some (one_entry y z (apart z ((same z).1 zb.0) y ya.0) (yk.0 ∙ sym zk.0) (yk.1 ∙ sym zk.1) version)
 
-pub live-same : (a b : List Dirent) (key : Key) → SameEntries a b → NoClashes a → live a key ≡ live b key
+pub live-same : (a b : List Dirent) (key : Key) → SameEntries a b → NoEntriesClash a → live a key ≡ live b key
 live-same a b key same apart =
     ap (λ (o : Option Dirent). option_and_then ino_if_any o)
     (same_newest a b key same apart (newest version_of (filter (is_at key) a)) (newest version_of (filter (is_at key) b)) refl refl)
 
-pub live_names-same : (a b : List Dirent) → SameEntries a b → NoClashes a → live_names a ≡ live_names b
+pub live_names-same : (a b : List Dirent) → SameEntries a b → NoEntriesClash a → live_names a ≡ live_names b
 live_names-same a b same apart =
     same_map key_cmp_total key_cmp-IsAntisymmetric (live_names a) (live_names b) (λ q. get-live_names a q ∙ live-same a b q same apart ∙ sym (get-live_names b q))

@@ -1,6 +1,6 @@
 pub mod EntriesLemmas
 pub mod GainLemmas
-pub mod HeldLemmas
+pub mod ContentsByNameLemmas
 pub mod LawLemmas
 pub mod LiveLemmas
 pub mod MemberLemmas

@@ -1,4 +1,4 @@
--- What is live, and the greatest version, of the list of entries, by what is held.
+-- What is live, and the greatest version, of the list of entries, by what is stored.
 use Rattle.std.proofs.Common.{◌≡◌, ◌≢◌, ℕ, ◌≤◌, ◌<◌, Bool, true, false, ◌&&◌, List, [], Option, Some, None, refl, ap, sym, ◌∙◌, subst, ⊎_elim, arith}
 use Rattle.std.specs.Prelude.{Contains, IsSome, filter, if◌then◌else◌, ◌==◌}
 use Rattle.std.specs.Option.{option_and_then, option_map}
@@ -14,13 +14,13 @@ use Rattle.jnode.specs.declared.node.Dirent.{Dirent}
 use Rattle.jname.specs.declared.versions.Content.{Content}
 use Rattle.jname.specs.declared.directory.Directory.{Directory}
 use Rattle.jname.specs.Versions.{IsTop, IsLiveIn}
-use Rattle.jname.specs.Held.{held_in}
+use Rattle.jname.specs.ContentsByName.{content_in}
 use Rattle.jname.specs.NameMaps.{names_in}
-use Rattle.jname.specs.Directories.{ByNumber, held, held_under, highest_at}
-use Rattle.jname.specs.Entries.{content_of, entry_of, entries_of}
+use Rattle.jname.specs.Directories.{DirectoriesByNumber, content_at, content_under, highest_at}
+use Rattle.jname.specs.Entries.{content_of_entry, entry_of, entries_of}
 use Rattle.jname.specs.Live.{Key, is_at, ino_if_any, live, highest}
 use Rattle.jname.proofs.MemberLemmas.{Contains-none, Contains-filter, Contains-filter_from}
-use Rattle.jname.proofs.EntriesLemmas.{held-from_Contains, Contains-from_held}
+use Rattle.jname.proofs.EntriesLemmas.{content_at-from_Contains, Contains-from_content_at}
 
 pub both_true : (b c : Bool) → (b && c) ≡ true → (b ≡ true) × (c ≡ true)
 both_true true c e = (refl, e)
@@ -41,27 +41,27 @@ key_at key x e =
     let parts = both_true (x.pino == key.0) (bytes_eq x.name key.1) e in
     (eqb-true x.pino key.0 parts.0, (bytes_eq-Decides x.name key.1).0 parts.1)
 
-abbrev at_of : ByNumber → Key → ℕ → Option Content
-at_of directories key v = held directories key.0 key.1 v
+abbrev at_of : DirectoriesByNumber → Key → ℕ → Option Content
+at_of directories key v = content_at directories key.0 key.1 v
 
-abbrev of_key : ByNumber → Key → List Dirent
+abbrev of_key : DirectoriesByNumber → Key → List Dirent
 of_key directories key = filter (is_at key) (entries_of directories)
 
-in_key : (directories : ByNumber) (key : Key) (v : ℕ) (content : Content) → at_of directories key v ≡ Some content → Contains (of_key directories key) (entry_of key.0 key.1 (v, content))
+in_key : (directories : DirectoriesByNumber) (key : Key) (v : ℕ) (content : Content) → at_of directories key v ≡ Some content → Contains (of_key directories key) (entry_of key.0 key.1 (v, content))
 in_key directories key v content h =
     Contains-filter (is_at key) (entries_of directories) (entry_of key.0 key.1 (v, content)) (at_key key (entry_of key.0 key.1 (v, content)) refl refl)
-    (Contains-from_held directories (entry_of key.0 key.1 (v, content)) h)
+    (Contains-from_content_at directories (entry_of key.0 key.1 (v, content)) h)
 
-from_key : (directories : ByNumber) → IsOrdered nat_cmp directories → (key : Key) (x : Dirent) → Contains (of_key directories key) x → at_of directories key x.version ≡ Some (content_of x)
+from_key : (directories : DirectoriesByNumber) → IsOrdered nat_cmp directories → (key : Key) (x : Dirent) → Contains (of_key directories key) x → at_of directories key x.version ≡ Some (content_of_entry x)
 from_key directories ordered key x h =
     let found = Contains-filter_from (is_at key) (entries_of directories) x h in
     let same = key_at key x found.1 in
-    let there : held directories x.pino x.name x.version ≡ Some (content_of x) = held-from_Contains directories ordered x found.0 in
-    subst (λ (p : ℕ). held directories p key.1 x.version ≡ Some (content_of x)) same.0
-    (subst (λ (n : List ℕ). held directories x.pino n x.version ≡ Some (content_of x)) same.1 there)
+    let there : content_at directories x.pino x.name x.version ≡ Some (content_of_entry x) = content_at-from_Contains directories ordered x found.0 in
+    subst (λ (p : ℕ). content_at directories p key.1 x.version ≡ Some (content_of_entry x)) same.0
+    (subst (λ (n : List ℕ). content_at directories x.pino n x.version ≡ Some (content_of_entry x)) same.1 there)
 
 -- the newest entry of a key is its top
-top_of_newest : (directories : ByNumber) → IsOrdered nat_cmp directories → (key : Key) (z : Dirent) → newest (λ entry. entry.version) (of_key directories key) ≡ Some z → IsTop (at_of directories key) z.version (content_of z)
+top_of_newest : (directories : DirectoriesByNumber) → IsOrdered nat_cmp directories → (key : Key) (z : Dirent) → newest (λ entry. entry.version) (of_key directories key) ≡ Some z → IsTop (at_of directories key) z.version (content_of_entry z)
 top_of_newest directories ordered key z e =
     let is = newest_is_newest (of_key directories key) (λ entry. entry.version) z e in (
       from_key directories ordered key z is.0,
@@ -82,68 +82,68 @@ there_if : (n m : ℕ) (b : Bool) → (n == 0) ≡ b → n ≡ m → m ≢ 0 →
 there_if n m true e same not = absurd (not (sym same ∙ eqb-true n 0 e))
 there_if n m false e same not = ap Some same
 
-by_newest : (directories : ByNumber) → IsOrdered nat_cmp directories → (key : Key) (r : Option ℕ) → IsLiveIn (at_of directories key) r → (o : Option Dirent) → newest (λ entry. entry.version) (of_key directories key) ≡ o → r ≡ option_and_then ino_if_any o
+by_newest : (directories : DirectoriesByNumber) → IsOrdered nat_cmp directories → (key : Key) (r : Option ℕ) → IsLiveIn (at_of directories key) r → (o : Option Dirent) → newest (λ entry. entry.version) (of_key directories key) ≡ o → r ≡ option_and_then ino_if_any o
 by_newest directories ordered key None h None e = refl
-by_newest directories ordered key None h (Some z) e = sym (gone z (h z.version (content_of z) (top_of_newest directories ordered key z e)))
+by_newest directories ordered key None h (Some z) e = sym (gone z (h z.version (content_of_entry z) (top_of_newest directories ordered key z e)))
 by_newest directories ordered key (Some ino) h None e =
     let none : of_key directories key ≡ [] = newest_of_none (of_key directories key) (λ entry. entry.version) e in
     absurd (Contains-none (entry_of key.0 key.1 (h.1.0, h.1.1)) (subst (λ (xs : List Dirent). Contains xs (entry_of key.0 key.1 (h.1.0, h.1.1))) none (in_key directories key h.1.0 h.1.1 h.1.2.0)))
 by_newest directories ordered key (Some ino) h (Some z) e =
-    let same : content_of z ≡ h.1.1 = same_top (at_of directories key) z.version h.1.0 (content_of z) h.1.1 (top_of_newest directories ordered key z e) h.1.2 in
+    let same : content_of_entry z ≡ h.1.1 = same_top (at_of directories key) z.version h.1.0 (content_of_entry z) h.1.1 (top_of_newest directories ordered key z e) h.1.2 in
     sym (there_if z.ino ino (z.ino == 0) refl (ap (λ (c : Content). c.ino) same ∙ h.1.3) h.0)
 
-pub live-is : (directories : ByNumber) → IsOrdered nat_cmp directories → (key : Key) (r : Option ℕ) → IsLiveIn (at_of directories key) r → r ≡ live (entries_of directories) key
+pub live-is : (directories : DirectoriesByNumber) → IsOrdered nat_cmp directories → (key : Key) (r : Option ℕ) → IsLiveIn (at_of directories key) r → r ≡ live (entries_of directories) key
 live-is directories ordered key r h = by_newest directories ordered key r h (newest (λ entry. entry.version) (of_key directories key)) refl
 
 -- ---- the greatest version of a directory
 
-abbrev of_directory : ByNumber → ℕ → List Dirent
+abbrev of_directory : DirectoriesByNumber → ℕ → List Dirent
 of_directory directories pino = filter (λ entry. entry.pino == pino) (entries_of directories)
 
-in_number : (directories : ByNumber) (pino : ℕ) (name : List ℕ) (v : ℕ) (content : Content) → held directories pino name v ≡ Some content → Contains (of_directory directories pino) (entry_of pino name (v, content))
+in_number : (directories : DirectoriesByNumber) (pino : ℕ) (name : List ℕ) (v : ℕ) (content : Content) → content_at directories pino name v ≡ Some content → Contains (of_directory directories pino) (entry_of pino name (v, content))
 in_number directories pino name v content h =
     Contains-filter (λ entry. entry.pino == pino) (entries_of directories) (entry_of pino name (v, content)) (eq-eqb pino pino refl)
-    (Contains-from_held directories (entry_of pino name (v, content)) h)
+    (Contains-from_content_at directories (entry_of pino name (v, content)) h)
 
-from_number : (directories : ByNumber) → IsOrdered nat_cmp directories → (pino : ℕ) (x : Dirent) → Contains (of_directory directories pino) x → held directories pino x.name x.version ≡ Some (content_of x)
+from_number : (directories : DirectoriesByNumber) → IsOrdered nat_cmp directories → (pino : ℕ) (x : Dirent) → Contains (of_directory directories pino) x → content_at directories pino x.name x.version ≡ Some (content_of_entry x)
 from_number directories ordered pino x h =
     let found = Contains-filter_from (λ entry. entry.pino == pino) (entries_of directories) x h in
-    subst (λ (p : ℕ). held directories p x.name x.version ≡ Some (content_of x)) (eqb-true x.pino pino found.1) (held-from_Contains directories ordered x found.0)
+    subst (λ (p : ℕ). content_at directories p x.name x.version ≡ Some (content_of_entry x)) (eqb-true x.pino pino found.1) (content_at-from_Contains directories ordered x found.0)
 
 at_directory : (name : List ℕ) (v : ℕ) → Option Directory → Option Content
-at_directory name v o = option_and_then (λ (d : Directory). held_under d name v) o
+at_directory name v o = option_and_then (λ (d : Directory). content_under d name v) o
 
-held-directory : (directories : ByNumber) (pino : ℕ) (o : Option Directory) → get nat_cmp directories pino ≡ o → (name : List ℕ) (v : ℕ) → held directories pino name v ≡ at_directory name v o
+content_at-directory : (directories : DirectoriesByNumber) (pino : ℕ) (o : Option Directory) → get nat_cmp directories pino ≡ o → (name : List ℕ) (v : ℕ) → content_at directories pino name v ≡ at_directory name v o
 unfolding at_directory
-held-directory directories pino o e name v = ap (at_directory name v) e
+content_at-directory directories pino o e name v = ap (at_directory name v) e
 
 is_none : (o : Option Content) → ((content : Content) → o ≡ Some content → ⊥) → o ≡ None
 is_none None h = refl
 is_none (Some content) h = absurd (h content refl)
 
-by_highest : (directories : ByNumber) → IsOrdered nat_cmp directories → (pino : ℕ) (o : Option Directory) → get nat_cmp directories pino ≡ o → (z : Option Dirent) → newest (λ entry. entry.version) (of_directory directories pino) ≡ z
+by_highest : (directories : DirectoriesByNumber) → IsOrdered nat_cmp directories → (pino : ℕ) (o : Option Directory) → get nat_cmp directories pino ≡ o → (z : Option Dirent) → newest (λ entry. entry.version) (of_directory directories pino) ≡ z
     → option_map (λ (d : Directory). d.highest) o ≡ option_map (λ (entry : Dirent). entry.version) z
 unfolding at_directory
 by_highest directories ordered pino None there None e = refl
 by_highest directories ordered pino None there (Some z) e =
     let is = newest_is_newest (of_directory directories pino) (λ entry. entry.version) z e in
-    let no : None ≡ Some (content_of z) = sym (held-directory directories pino None there z.name z.version) ∙ from_number directories ordered pino z is.0 in
+    let no : None ≡ Some (content_of_entry z) = sym (content_at-directory directories pino None there z.name z.version) ∙ from_number directories ordered pino z is.0 in
     cc
 by_highest directories ordered pino (Some d) there None e =
     let none : of_directory directories pino ≡ [] = newest_of_none (of_directory directories pino) (λ entry. entry.version) e in
-    absurd (d.reached (λ name. is_none (held_in (names_in d.names) name d.highest) (λ content h.
+    absurd (d.reached (λ name. is_none (content_in (names_in d.names) name d.highest) (λ content h.
     Contains-none (entry_of pino name (d.highest, content)) (subst (λ (xs : List Dirent). Contains xs (entry_of pino name (d.highest, content))) none
-    (in_number directories pino name d.highest content (held-directory directories pino (Some d) there name d.highest ∙ h))))))
+    (in_number directories pino name d.highest content (content_at-directory directories pino (Some d) there name d.highest ∙ h))))))
 by_highest directories ordered pino (Some d) there (Some z) e =
     let is = newest_is_newest (of_directory directories pino) (λ entry. entry.version) z e in
-    let held_z : held_in (names_in d.names) z.name z.version ≡ Some (content_of z) = sym (held-directory directories pino (Some d) there z.name z.version) ∙ from_number directories ordered pino z is.0 in
-    let low : z.version ≤ d.highest = d.bounds z.name z.version (subst (λ (o : Option Content). IsSome o) (sym held_z) refl) in
+    let content_z : content_in (names_in d.names) z.name z.version ≡ Some (content_of_entry z) = sym (content_at-directory directories pino (Some d) there z.name z.version) ∙ from_number directories ordered pino z is.0 in
+    let low : z.version ≤ d.highest = d.bounds z.name z.version (subst (λ (o : Option Content). IsSome o) (sym content_z) refl) in
     ⊎_elim
-    (λ (lt : z.version < d.highest). absurd (d.reached (λ name. is_none (held_in (names_in d.names) name d.highest) (λ content h.
-    let most : d.highest ≤ z.version = is.1 (entry_of pino name (d.highest, content)) (in_number directories pino name d.highest content (held-directory directories pino (Some d) there name d.highest ∙ h)) in
+    (λ (lt : z.version < d.highest). absurd (d.reached (λ name. is_none (content_in (names_in d.names) name d.highest) (λ content h.
+    let most : d.highest ≤ z.version = is.1 (entry_of pino name (d.highest, content)) (in_number directories pino name d.highest content (content_at-directory directories pino (Some d) there name d.highest ∙ h)) in
     absurd (omega arith)))))
     (λ (ge : d.highest ≤ z.version). let same : d.highest ≡ z.version = omega arith in ap Some same)
     (cases_lt z.version d.highest)
 
-pub highest-is : (directories : ByNumber) → IsOrdered nat_cmp directories → (pino : ℕ) → highest_at directories pino ≡ highest (entries_of directories) pino
+pub highest-is : (directories : DirectoriesByNumber) → IsOrdered nat_cmp directories → (pino : ℕ) → highest_at directories pino ≡ highest (entries_of directories) pino
 highest-is directories ordered pino = by_highest directories ordered pino (get nat_cmp directories pino) refl (newest (λ entry. entry.version) (of_directory directories pino)) refl

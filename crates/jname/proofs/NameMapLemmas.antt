@@ -1,4 +1,4 @@
--- The names of a directory, of which an only one stands apart.
+-- The names of a directory, of which an only one is apart.
 use Rattle.std.proofs.Common.{◌≡◌, ℕ, Bool, true, false, ◌&&◌, cond, List, [], ◌∷◌, map, Option, Some, None, refl, ap, sym, ◌∙◌, subst, arith}
 use Rattle.std.specs.Prelude.{IsSome, if◌then◌else◌, ◌==◌}
 use Rattle.std.specs.List.{cons_option}
@@ -14,9 +14,9 @@ use Rattle.jname.specs.declared.versions.Content.{Content}
 use Rattle.jname.specs.declared.versions.Versions.{Versions}
 use Rattle.jname.specs.declared.name_map.NameMap.{NameMap}
 use Rattle.jname.specs.Versions.{version_at}
-use Rattle.jname.specs.Held.{Name, name_cmp, versions_of, held_in}
+use Rattle.jname.specs.ContentsByName.{Name, name_cmp, versions_of_name, content_in}
 use Rattle.jname.specs.NameMaps.{names_in}
-use Rattle.jname.proofs.HeldLemmas.{by_test, HasOneMore, IsBound, bound_of_one_more}
+use Rattle.jname.proofs.ContentsByNameLemmas.{by_test, HasOneMore, IsBound, bound_of_one_more}
 
 -- ---- in order
 
@@ -42,28 +42,28 @@ one_name names e is =
 same_test : (n m : List ℕ) → bytes_eq n m ≡ bytes_eq m n
 same_test n m = nat_list_eq_equiv.symm n m
 
-of_one : (e : Name × Versions) (name : List ℕ) → versions_of (e ∷ []) name ≡ cond (bytes_eq (cow_slice_items e.0) name) (Some e.1) None
+of_one : (e : Name × Versions) (name : List ℕ) → versions_of_name (e ∷ []) name ≡ cond (bytes_eq (cow_slice_items e.0) name) (Some e.1) None
 of_one e name = ap (λ (b : Bool). cond b (Some e.1) None) (is_eq-slice_cmp name (cow_slice_items e.0) ∙ same_test name (cow_slice_items e.0))
 
-pub only_found : (names : NameMap) (e : Name × Versions) (name : List ℕ) → names.only ≡ Some e → bytes_eq (cow_slice_items e.0) name ≡ true → Some e.1 ≡ versions_of (names_in names) name
+pub only_found : (names : NameMap) (e : Name × Versions) (name : List ℕ) → names.only ≡ Some e → bytes_eq (cow_slice_items e.0) name ≡ true → Some e.1 ≡ versions_of_name (names_in names) name
 only_found names e name is same =
-    sym (ap (λ (es : List (Name × Versions)). versions_of es name) (one_name names e is) ∙ of_one e name ∙ ap (λ (b : Bool). cond b (Some e.1) None) same)
+    sym (ap (λ (es : List (Name × Versions)). versions_of_name es name) (one_name names e is) ∙ of_one e name ∙ ap (λ (b : Bool). cond b (Some e.1) None) same)
 
-pub other_not_found : (names : NameMap) (e : Name × Versions) (name : List ℕ) → names.only ≡ Some e → bytes_eq (cow_slice_items e.0) name ≡ false → None ≡ versions_of (names_in names) name
+pub other_not_found : (names : NameMap) (e : Name × Versions) (name : List ℕ) → names.only ≡ Some e → bytes_eq (cow_slice_items e.0) name ≡ false → None ≡ versions_of_name (names_in names) name
 other_not_found names e name is other =
-    sym (ap (λ (es : List (Name × Versions)). versions_of es name) (one_name names e is) ∙ of_one e name ∙ ap (λ (b : Bool). cond b (Some e.1) None) other)
+    sym (ap (λ (es : List (Name × Versions)). versions_of_name es name) (one_name names e is) ∙ of_one e name ∙ ap (λ (b : Bool). cond b (Some e.1) None) other)
 
 at_version : ℕ → Option Versions → Option Content
 at_version v o = option_and_then (λ (x : Versions). version_at x v) o
 
-held_one : (e : Name × Versions) (n : List ℕ) (v : ℕ) → held_in (e ∷ []) n v ≡ at_version v (cond (bytes_eq (cow_slice_items e.0) n) (Some e.1) None)
+content_one : (e : Name × Versions) (n : List ℕ) (v : ℕ) → content_in (e ∷ []) n v ≡ at_version v (cond (bytes_eq (cow_slice_items e.0) n) (Some e.1) None)
 unfolding at_version
-held_one e n v = ap (at_version v) (of_one e n)
+content_one e n v = ap (at_version v) (of_one e n)
 
-pub held_only : (names : NameMap) (e : Name × Versions) (v : ℕ) → names.only ≡ Some e → held_in (names_in names) (cow_slice_items e.0) v ≡ version_at e.1 v
+pub content_only : (names : NameMap) (e : Name × Versions) (v : ℕ) → names.only ≡ Some e → content_in (names_in names) (cow_slice_items e.0) v ≡ version_at e.1 v
 unfolding at_version
-held_only names e v is =
-    ap (λ (es : List (Name × Versions)). held_in es (cow_slice_items e.0) v) (one_name names e is) ∙ held_one e (cow_slice_items e.0) v
+content_only names e v is =
+    ap (λ (es : List (Name × Versions)). content_in es (cow_slice_items e.0) v) (one_name names e is) ∙ content_one e (cow_slice_items e.0) v
     ∙ ap (λ (b : Bool). at_version v (cond b (Some e.1) None)) ((bytes_eq-Decides (cow_slice_items e.0) (cow_slice_items e.0)).1 refl)
 
 one_more : (k : Name) (old new : Versions) (version : ℕ) (content : Content) → ((v : ℕ) → version_at new v ≡ (if version == v then Some content else version_at old v))
@@ -71,12 +71,12 @@ one_more : (k : Name) (old new : Versions) (version : ℕ) (content : Content) �
 unfolding at_version
 one_more k old new version content more n v =
     by_test (bytes_eq (cow_slice_items k) n)
-    (λ e. held_one (k, new) n v ∙ ap (λ (b : Bool). at_version v (cond b (Some new) None)) e ∙ more v
-    ∙ ap (λ (o : Option Content). if version == v then Some content else o) (sym (held_one (k, old) n v ∙ ap (λ (b : Bool). at_version v (cond b (Some old) None)) e))
-    ∙ ap (λ (b : Bool). if b && version == v then Some content else held_in ((k, old) ∷ []) n v) (sym e))
-    (λ e. held_one (k, new) n v ∙ ap (λ (b : Bool). at_version v (cond b (Some new) None)) e
-    ∙ sym (held_one (k, old) n v ∙ ap (λ (b : Bool). at_version v (cond b (Some old) None)) e)
-    ∙ ap (λ (b : Bool). if b && version == v then Some content else held_in ((k, old) ∷ []) n v) (sym e))
+    (λ e. content_one (k, new) n v ∙ ap (λ (b : Bool). at_version v (cond b (Some new) None)) e ∙ more v
+    ∙ ap (λ (o : Option Content). if version == v then Some content else o) (sym (content_one (k, old) n v ∙ ap (λ (b : Bool). at_version v (cond b (Some old) None)) e))
+    ∙ ap (λ (b : Bool). if b && version == v then Some content else content_in ((k, old) ∷ []) n v) (sym e))
+    (λ e. content_one (k, new) n v ∙ ap (λ (b : Bool). at_version v (cond b (Some new) None)) e
+    ∙ sym (content_one (k, old) n v ∙ ap (λ (b : Bool). at_version v (cond b (Some old) None)) e)
+    ∙ ap (λ (b : Bool). if b && version == v then Some content else content_in ((k, old) ∷ []) n v) (sym e))
 
 -- one content more of an only name
 pub only_more : (old : NameMap) (k : Name) (was is : Versions) (name : List ℕ) (version : ℕ) (content : Content) → old.only ≡ Some (k, was) → cow_slice_items k ≡ name
@@ -94,9 +94,9 @@ unfolding at_version
 first_more names k versions version content is more =
     subst (λ (es : List (Name × Versions)). HasOneMore [] es (cow_slice_items k) version content) (sym is)
     (λ n v. by_test (bytes_eq (cow_slice_items k) n)
-    (λ e. held_one (k, versions) n v ∙ ap (λ (b : Bool). at_version v (cond b (Some versions) None)) e ∙ more v
+    (λ e. content_one (k, versions) n v ∙ ap (λ (b : Bool). at_version v (cond b (Some versions) None)) e ∙ more v
     ∙ ap (λ (b : Bool). if b && version == v then Some content else None) (sym e))
-    (λ e. held_one (k, versions) n v ∙ ap (λ (b : Bool). at_version v (cond b (Some versions) None)) e
+    (λ e. content_one (k, versions) n v ∙ ap (λ (b : Bool). at_version v (cond b (Some versions) None)) e
     ∙ ap (λ (b : Bool). if b && version == v then Some content else None) (sym e)))
 
 pub bound_of_first : (names : List (Name × Versions)) (name : List ℕ) (version : ℕ) (content : Content) → HasOneMore [] names name version content → IsBound names version

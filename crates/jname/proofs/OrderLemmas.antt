@@ -24,9 +24,9 @@ use Rattle.std.proofs.lemmas.Map.Views.{All-after_first, Contains-from_lookup, t
 use Rattle.jname.specs.declared.versions.Versions.{Versions}
 use Rattle.jname.specs.declared.directory.Directory.{Directory}
 use Rattle.jname.specs.Versions.{IsLiveIn, version_at}
-use Rattle.jname.specs.Held.{Name, name_cmp, versions_of}
+use Rattle.jname.specs.ContentsByName.{Name, name_cmp, versions_of_name}
 use Rattle.jname.specs.NameMaps.{names_in}
-use Rattle.jname.specs.Directories.{ByNumber, held_under}
+use Rattle.jname.specs.Directories.{DirectoriesByNumber, content_under}
 use Rattle.jname.specs.Entries.{entries_of}
 use Rattle.jname.specs.Live.{Key, key_cmp, live, live_names, names_of, all_names}
 use Rattle.jname.specs.Walk.{live_ino, live_name, names_under, placed, names_within}
@@ -38,29 +38,29 @@ use Rattle.jname.proofs.WalkLemmas.{live_ino-IsLiveIn}
 use Rattle.jname.proofs.SortedLemmas.{T_both, T_first, T_second, below_all-from, below_all-at, is_sorted-append, is_sorted-cons_option, same_members, Contains-filter_map, Contains-filter_map_from}
 use Rattle.jname.proofs.NamingLemmas.{key_cmp_total, key_cmp-IsAntisymmetric, live-from_Contains, Contains-from_live}
 
--- ---- what a name stands for, by what is held
+-- ---- what a name stands for, by what is stored
 
-pub live-at_name : (directories : ByNumber) → IsOrdered nat_cmp directories → (pino : ℕ) (d : Directory) (name : List ℕ) (versions : Versions) → get nat_cmp directories pino ≡ Some d → versions_of (names_in d.names) name ≡ Some versions
+pub live-at_name : (directories : DirectoriesByNumber) → IsOrdered nat_cmp directories → (pino : ℕ) (d : Directory) (name : List ℕ) (versions : Versions) → get nat_cmp directories pino ≡ Some d → versions_of_name (names_in d.names) name ≡ Some versions
     → live_ino versions ≡ live (entries_of directories) (pino, name)
 live-at_name directories ordered pino d name versions directory found =
     live-is directories ordered (pino, name) (live_ino versions)
-    (subst (λ (o : Option Directory). IsLiveIn (λ v. option_and_then (λ (e : Directory). held_under e name v) o) (live_ino versions)) (sym directory)
+    (subst (λ (o : Option Directory). IsLiveIn (λ v. option_and_then (λ (e : Directory). content_under e name v) o) (live_ino versions)) (sym directory)
     (subst (λ (o : Option Versions). IsLiveIn (λ v. option_and_then (λ (m : Versions). version_at m v) o) (live_ino versions)) (sym found) (live_ino-IsLiveIn versions)))
 
 nothing : IsLiveIn (λ v. None) None
 nothing v content top = let no : None ≡ Some content = top.0 in cc
 
-pub live-no_name : (directories : ByNumber) → IsOrdered nat_cmp directories → (pino : ℕ) (d : Directory) (name : List ℕ) → get nat_cmp directories pino ≡ Some d → versions_of (names_in d.names) name ≡ None
+pub live-no_name : (directories : DirectoriesByNumber) → IsOrdered nat_cmp directories → (pino : ℕ) (d : Directory) (name : List ℕ) → get nat_cmp directories pino ≡ Some d → versions_of_name (names_in d.names) name ≡ None
     → None ≡ live (entries_of directories) (pino, name)
 live-no_name directories ordered pino d name directory none =
     live-is directories ordered (pino, name) None
-    (subst (λ (o : Option Directory). IsLiveIn (λ v. option_and_then (λ (e : Directory). held_under e name v) o) None) (sym directory)
+    (subst (λ (o : Option Directory). IsLiveIn (λ v. option_and_then (λ (e : Directory). content_under e name v) o) None) (sym directory)
     (subst (λ (o : Option Versions). IsLiveIn (λ v. option_and_then (λ (m : Versions). version_at m v) o) None) (sym none) nothing))
 
-pub live-no_directory : (directories : ByNumber) → IsOrdered nat_cmp directories → (pino : ℕ) (name : List ℕ) → get nat_cmp directories pino ≡ None → None ≡ live (entries_of directories) (pino, name)
+pub live-no_directory : (directories : DirectoriesByNumber) → IsOrdered nat_cmp directories → (pino : ℕ) (name : List ℕ) → get nat_cmp directories pino ≡ None → None ≡ live (entries_of directories) (pino, name)
 live-no_directory directories ordered pino name none =
     live-is directories ordered (pino, name) None
-    (subst (λ (o : Option Directory). IsLiveIn (λ v. option_and_then (λ (e : Directory). held_under e name v) o) None) (sym none) nothing)
+    (subst (λ (o : Option Directory). IsLiveIn (λ v. option_and_then (λ (e : Directory). content_under e name v) o) None) (sym none) nothing)
 
 -- ---- the names of one directory
 
@@ -74,15 +74,15 @@ live_name-from : (e : Name × Versions) (x : List ℕ × ℕ) → live_name e �
 live_name-from e x h = named_from e x (live_ino e.1) refl h
 
 -- a name that the walk gives is live
-pub live-from_names_under : (directories : ByNumber) → IsOrdered nat_cmp directories → (pino : ℕ) (d : Directory) → get nat_cmp directories pino ≡ Some d → (x : List ℕ × ℕ) → Contains (names_under (names_in d.names)) x
+pub live-from_names_under : (directories : DirectoriesByNumber) → IsOrdered nat_cmp directories → (pino : ℕ) (d : Directory) → get nat_cmp directories pino ≡ Some d → (x : List ℕ × ℕ) → Contains (names_under (names_in d.names)) x
     → live (entries_of directories) (pino, x.0) ≡ Some x.1
 live-from_names_under directories ordered pino d directory x h =
     let k = Contains-filter_map_from live_name (names_in d.names) x h in
     let is = live_name-from k.0 x k.2 in
-    let found : versions_of (names_in d.names) x.0 ≡ Some k.0.1 = subst (λ (n : List ℕ). versions_of (names_in d.names) n ≡ Some k.0.1) is.0 (name_found d.names k.0.0 k.0.1 k.1) in
+    let found : versions_of_name (names_in d.names) x.0 ≡ Some k.0.1 = subst (λ (n : List ℕ). versions_of_name (names_in d.names) n ≡ Some k.0.1) is.0 (name_found d.names k.0.0 k.0.1 k.1) in
     sym (live-at_name directories ordered pino d x.0 k.0.1 directory found) ∙ is.1
 
-given_name : (directories : ByNumber) → IsOrdered nat_cmp directories → (pino : ℕ) (d : Directory) → get nat_cmp directories pino ≡ Some d → (x : List ℕ × ℕ) (o : Option Versions) → versions_of (names_in d.names) x.0 ≡ o
+given_name : (directories : DirectoriesByNumber) → IsOrdered nat_cmp directories → (pino : ℕ) (d : Directory) → get nat_cmp directories pino ≡ Some d → (x : List ℕ × ℕ) (o : Option Versions) → versions_of_name (names_in d.names) x.0 ≡ o
     → live (entries_of directories) (pino, x.0) ≡ Some x.1 → Contains (names_under (names_in d.names)) x
 given_name directories ordered pino d directory x None none h =
     let no : None ≡ Some x.1 = live-no_name directories ordered pino d x.0 directory none ∙ h in cc
@@ -94,9 +94,9 @@ given_name directories ordered pino d directory x (Some versions) found h =
     (ap (λ (o : Option ℕ). option_map (λ n. (cow_slice_items k.0, n)) o) ino ∙ ap (λ (n : List ℕ). Some (n, x.1)) (sym same))
 
 -- a name that is live is given
-pub names_under-from_live : (directories : ByNumber) → IsOrdered nat_cmp directories → (pino : ℕ) (d : Directory) → get nat_cmp directories pino ≡ Some d → (x : List ℕ × ℕ)
+pub names_under-from_live : (directories : DirectoriesByNumber) → IsOrdered nat_cmp directories → (pino : ℕ) (d : Directory) → get nat_cmp directories pino ≡ Some d → (x : List ℕ × ℕ)
     → live (entries_of directories) (pino, x.0) ≡ Some x.1 → Contains (names_under (names_in d.names)) x
-names_under-from_live directories ordered pino d directory x h = given_name directories ordered pino d directory x (versions_of (names_in d.names) x.0) refl h
+names_under-from_live directories ordered pino d directory x h = given_name directories ordered pino d directory x (versions_of_name (names_in d.names) x.0) refl h
 
 -- names rise
 pub is_sorted-names_under : (es : List (Name × Versions)) → IsStrictlySortedBy name_cmp (map (λ e. e.0) es) → T (is_sorted (slice_cmp nat_cmp) (names_under es))
@@ -146,14 +146,14 @@ is_sorted-keyed_within (e ∷ es) h =
     let less : nat_cmp e.0 d.0.0 ≡ Less = All-contains (λ (q : ℕ). nat_cmp e.0 q ≡ Less) (map (λ (p : ℕ × Directory). p.0) es) d.0.0 (All-after_first nat_cmp e.0 (map (λ (p : ℕ × Directory). p.0) es) h) (Contains-map (λ (p : ℕ × Directory). p.0) es d.0 d.1) in
     subst (λ (w : Key × ℕ). key_cmp w.0 y.0 ≡ Less) a.2 (subst (λ (z : Key × ℕ). key_cmp (e.0, a.0.0) z.0 ≡ Less) b.2 (number_less e.0 d.0.0 a.0.0 b.0.0 less)))
 
-live-from_keyed : (directories : ByNumber) → IsOrdered nat_cmp directories → (x : Key × ℕ) → Contains (keyed_within directories.entries) x → live (entries_of directories) x.0 ≡ Some x.1
+live-from_keyed : (directories : DirectoriesByNumber) → IsOrdered nat_cmp directories → (x : Key × ℕ) → Contains (keyed_within directories.entries) x → live (entries_of directories) x.0 ≡ Some x.1
 live-from_keyed directories ordered x h =
     let d = Contains-flat_map_from (λ (f : ℕ × Directory). map (keyed f.0) (names_under (names_in f.1.names))) directories.entries x h in
     let y = Contains-map_from (keyed d.0.0) (names_under (names_in d.0.1.names)) x d.2 in
     subst (λ (z : Key × ℕ). live (entries_of directories) z.0 ≡ Some z.1) y.2
     (live-from_names_under directories ordered d.0.0 d.0.1 (nat_found directories.entries d.0.0 d.0.1 ordered d.1) y.0 y.1)
 
-given_key : (directories : ByNumber) → IsOrdered nat_cmp directories → (x : Key × ℕ) (o : Option Directory) → get nat_cmp directories x.0.0 ≡ o → live (entries_of directories) x.0 ≡ Some x.1 → Contains (keyed_within directories.entries) x
+given_key : (directories : DirectoriesByNumber) → IsOrdered nat_cmp directories → (x : Key × ℕ) (o : Option Directory) → get nat_cmp directories x.0.0 ≡ o → live (entries_of directories) x.0 ≡ Some x.1 → Contains (keyed_within directories.entries) x
 given_key directories ordered x None none h =
     let no : None ≡ Some x.1 = live-no_directory directories ordered x.0.0 x.0.1 none ∙ h in cc
 given_key directories ordered x (Some d) there h =
@@ -162,7 +162,7 @@ given_key directories ordered x (Some d) there h =
     (Contains-map (keyed x.0.0) (names_under (names_in d.names)) (x.0.1, x.1) (names_under-from_live directories ordered x.0.0 d there (x.0.1, x.1) h))
 
 -- the walk over all directories is the map of live names
-pub entries-live_names : (directories : ByNumber) → IsOrdered nat_cmp directories → keyed_within directories.entries ≡ entries (live_names (entries_of directories))
+pub entries-live_names : (directories : DirectoriesByNumber) → IsOrdered nat_cmp directories → keyed_within directories.entries ≡ entries (live_names (entries_of directories))
 entries-live_names directories ordered =
     same_members key_cmp key_cmp_total key_cmp-IsAntisymmetric (keyed_within directories.entries) (entries (live_names (entries_of directories)))
     (is_sorted-keyed_within directories.entries ordered) (entries_sorted (live_names (entries_of directories)))
@@ -185,7 +185,7 @@ map-spread (e ∷ es) =
     ∙ ap (λ (xs : List (ℕ × List ℕ × ℕ)). xs ++ map spread (keyed_within es)) (map-spread_keyed e.0 (names_under (names_in e.1.names)))
     ∙ ap (λ (ys : List (ℕ × List ℕ × ℕ)). map (placed e.0) (names_under (names_in e.1.names)) ++ ys) (map-spread es)
 
-pub names_within-is : (directories : ByNumber) → IsOrdered nat_cmp directories → names_within directories.entries ≡ all_names (entries_of directories)
+pub names_within-is : (directories : DirectoriesByNumber) → IsOrdered nat_cmp directories → names_within directories.entries ≡ all_names (entries_of directories)
 names_within-is directories ordered = sym (map-spread directories.entries) ∙ ap (λ (es : List (Key × ℕ)). map spread es) (entries-live_names directories ordered)
 
 -- ---- one directory's part of the map
@@ -193,20 +193,20 @@ names_within-is directories ordered = sym (map-spread directories.entries) ∙ a
 abbrev in_number : ℕ → Key × ℕ → Bool
 in_number pino e = e.0.0 == pino
 
-abbrev part_of : ByNumber → ℕ → List (Key × ℕ)
+abbrev part_of : DirectoriesByNumber → ℕ → List (Key × ℕ)
 part_of directories pino = filter (in_number pino) (entries (live_names (entries_of directories)))
 
-live-from_part : (directories : ByNumber) (pino : ℕ) (x : Key × ℕ) → Contains (part_of directories pino) x → (x.0.0 ≡ pino) × (live (entries_of directories) (pino, x.0.1) ≡ Some x.1)
+live-from_part : (directories : DirectoriesByNumber) (pino : ℕ) (x : Key × ℕ) → Contains (part_of directories pino) x → (x.0.0 ≡ pino) × (live (entries_of directories) (pino, x.0.1) ≡ Some x.1)
 live-from_part directories pino x h =
     let found = Contains-filter_from (in_number pino) (entries (live_names (entries_of directories))) x h in
     let number : x.0.0 ≡ pino = eqb-true x.0.0 pino found.1 in
     (number, subst (λ (p : ℕ). live (entries_of directories) (p, x.0.1) ≡ Some x.1) number (live-from_Contains (entries_of directories) x.0 x.1 found.0))
 
-part-from_live : (directories : ByNumber) (pino : ℕ) (x : List ℕ × ℕ) → live (entries_of directories) (pino, x.0) ≡ Some x.1 → Contains (part_of directories pino) (keyed pino x)
+part-from_live : (directories : DirectoriesByNumber) (pino : ℕ) (x : List ℕ × ℕ) → live (entries_of directories) (pino, x.0) ≡ Some x.1 → Contains (part_of directories pino) (keyed pino x)
 part-from_live directories pino x h =
     Contains-filter (in_number pino) (entries (live_names (entries_of directories))) (keyed pino x) (eq-eqb pino pino refl) (Contains-from_live (entries_of directories) (pino, x.0) x.1 h)
 
-keyed-part : (directories : ByNumber) → IsOrdered nat_cmp directories → (pino : ℕ) (d : Directory) → get nat_cmp directories pino ≡ Some d → map (keyed pino) (names_under (names_in d.names)) ≡ part_of directories pino
+keyed-part : (directories : DirectoriesByNumber) → IsOrdered nat_cmp directories → (pino : ℕ) (d : Directory) → get nat_cmp directories pino ≡ Some d → map (keyed pino) (names_under (names_in d.names)) ≡ part_of directories pino
 keyed-part directories ordered pino d directory =
     same_members key_cmp key_cmp_total key_cmp-IsAntisymmetric (map (keyed pino) (names_under (names_in d.names))) (part_of directories pino)
     (is_sorted-keyed pino (names_under (names_in d.names)) (is_sorted-names_under (names_in d.names) (names_ordered d.names)))
@@ -228,7 +228,7 @@ map-unkeyed : (pino : ℕ) (xs : List (List ℕ × ℕ)) → map unkeyed (map (k
 map-unkeyed pino [] = refl
 map-unkeyed pino (x ∷ xs) = ap (λ (ys : List (List ℕ × ℕ)). x ∷ ys) (map-unkeyed pino xs)
 
-pub names_under-is : (directories : ByNumber) → IsOrdered nat_cmp directories → (pino : ℕ) (d : Directory) → get nat_cmp directories pino ≡ Some d → names_under (names_in d.names) ≡ names_of (entries_of directories) pino
+pub names_under-is : (directories : DirectoriesByNumber) → IsOrdered nat_cmp directories → (pino : ℕ) (d : Directory) → get nat_cmp directories pino ≡ Some d → names_under (names_in d.names) ≡ names_of (entries_of directories) pino
 names_under-is directories ordered pino d directory =
     sym (map-unkeyed pino (names_under (names_in d.names))) ∙ ap (λ (es : List (Key × ℕ)). map unkeyed es) (keyed-part directories ordered pino d directory)
 
@@ -236,7 +236,7 @@ empty_of_none : {X : Type 0} (xs : List X) → ((x : X) → Contains xs x → �
 empty_of_none [] h = refl
 empty_of_none (x ∷ xs) h = absurd (h x (Contains-here x xs))
 
-pub names_of-none : (directories : ByNumber) → IsOrdered nat_cmp directories → (pino : ℕ) → get nat_cmp directories pino ≡ None → [] ≡ names_of (entries_of directories) pino
+pub names_of-none : (directories : DirectoriesByNumber) → IsOrdered nat_cmp directories → (pino : ℕ) → get nat_cmp directories pino ≡ None → [] ≡ names_of (entries_of directories) pino
 names_of-none directories ordered pino none =
     let part : part_of directories pino ≡ [] = empty_of_none (part_of directories pino) (λ x h. let no : None ≡ Some x.1 = live-no_directory directories ordered pino x.0.1 none ∙ (live-from_part directories pino x h).1 in cc) in
     ap (λ (es : List (Key × ℕ)). map unkeyed es) (sym part)

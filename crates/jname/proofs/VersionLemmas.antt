@@ -1,4 +1,4 @@
--- What is held of one name, by version.
+-- What is stored of one name, by version.
 use Rattle.std.proofs.Common.{◌≡◌, ℕ, Bool, true, false, ◌<◌, ◌≤◌, Option, Some, None, refl, ap, sym, subst, ◌∙◌, arith}
 use Rattle.std.specs.Prelude.{if◌then◌else◌, ◌==◌, IsSome}
 use Rattle.std.specs.Ordering.{nat_cmp, eq_by_cmp}
@@ -8,7 +8,7 @@ use Rattle.jname.specs.declared.versions.Content.{Content}
 use Rattle.jname.specs.declared.versions.Versions.{Versions}
 use Rattle.jname.specs.Versions.{version_at}
 use Rattle.std.specs.Cmp.{unsigned_tied}
-use Rattle.jname.proofs.HeldLemmas.{by_test}
+use Rattle.jname.proofs.ContentsByNameLemmas.{by_test}
 
 choose : Bool → Content → Option Content → Option Content
 choose b content rest = if b then Some content else rest

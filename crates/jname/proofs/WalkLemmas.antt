@@ -1,4 +1,4 @@
--- The live names among what is held, one by one.
+-- The live names among what is stored, one by one.
 use Rattle.std.proofs.Common.{◌≡◌, ℕ, Bool, true, false, List, ◌∷◌, Option, Some, None, refl, ap, sym, ◌∙◌}
 use Rattle.std.specs.Prelude.{if◌then◌else◌, ◌==◌}
 use Rattle.std.specs.List.{cons_option}
@@ -8,7 +8,7 @@ use Rattle.std.proofs.lemmas.Bool.{eq-eqb, eqb-true}
 use Rattle.jname.specs.declared.versions.Content.{Content}
 use Rattle.jname.specs.declared.versions.Versions.{Versions}
 use Rattle.jname.specs.Versions.{IsTop, IsLiveIn, version_at}
-use Rattle.jname.specs.Held.{Name}
+use Rattle.jname.specs.ContentsByName.{Name}
 use Rattle.jname.specs.Walk.{live_ino, names_under}
 use Rattle.jname.proofs.LiveLemmas.{same_top}
 use Rattle.jname.proofs.VersionLemmas.{at_most_greatest, newest_at}

@@ -5,20 +5,20 @@ use Rattle.std.specs.Prelude.{◌≡◌, ◌≢◌, List, Contains}
 use Rattle.jnode.specs.declared.node.Dirent.{Dirent}
 
 -- two entries of one directory, name and version whose contents (ino, mctime or kind) differ
-pub record Clashes (a b : Dirent) : Type 0 where
+pub record EntriesClash (a b : Dirent) : Type 0 where
   pub directory : a.pino ≡ b.pino
   pub name : a.name ≡ b.name
   pub version : a.version ≡ b.version
   pub contents : a ≢ b
 
 -- an entry clashes with one of these
-abbrev pub SomeClashes : List Dirent → Dirent → Type 0
-SomeClashes entries entry = (other : Dirent) × Contains entries other × Clashes other entry
+abbrev pub SomeEntryClashesWith : List Dirent → Dirent → Type 0
+SomeEntryClashesWith entries entry = (other : Dirent) × Contains entries other × EntriesClash other entry
 
 -- an entry clashes with none of these
-abbrev pub NoneClashes : List Dirent → Dirent → Type 0
-NoneClashes entries entry = (other : Dirent) → Contains entries other → Clashes other entry → ⊥
+abbrev pub NoEntryClashesWith : List Dirent → Dirent → Type 0
+NoEntryClashesWith entries entry = (other : Dirent) → Contains entries other → EntriesClash other entry → ⊥
 
 -- no two of these clash
-abbrev pub NoClashes : List Dirent → Type 0
-NoClashes entries = (entry : Dirent) → Contains entries entry → NoneClashes entries entry
+abbrev pub NoEntriesClash : List Dirent → Type 0
+NoEntriesClash entries = (entry : Dirent) → Contains entries entry → NoEntryClashesWith entries entry

@@ -1,24 +1,24 @@
--- What is held in a directory.
+-- What is stored in a directory.
 use Rattle.std.specs.Prelude.{ℕ, List, Option}
 use Rattle.std.specs.Option.{option_and_then, option_map}
 use Rattle.std.specs.Ordering.{nat_cmp}
 use Rattle.std.specs.BTreeMap.{BTreeMap, get}
 use Rattle.jname.specs.declared.versions.Content.{Content}
 use Rattle.jname.specs.declared.directory.Directory.{Directory}
-use Rattle.jname.specs.Held.{held_in}
+use Rattle.jname.specs.ContentsByName.{content_in}
 use Rattle.jname.specs.NameMaps.{names_in}
 
--- the content that is held in a directory under a name at a version
-abbrev pub held_under : Directory → List ℕ → ℕ → Option Content
-held_under directory name v = held_in (names_in directory.names) name v
+-- the content that is stored in a directory under a name at a version
+abbrev pub content_under : Directory → List ℕ → ℕ → Option Content
+content_under directory name v = content_in (names_in directory.names) name v
 
-abbrev pub ByNumber : Type 0
-ByNumber = BTreeMap ℕ Directory
+abbrev pub DirectoriesByNumber : Type 0
+DirectoriesByNumber = BTreeMap ℕ Directory
 
--- the content that is held for a parent, a name and a version
-abbrev pub held : ByNumber → ℕ → List ℕ → ℕ → Option Content
-held directories pino name v = option_and_then (λ directory. held_under directory name v) (get nat_cmp directories pino)
+-- the content that is stored for a parent, a name and a version
+abbrev pub content_at : DirectoriesByNumber → ℕ → List ℕ → ℕ → Option Content
+content_at directories pino name v = option_and_then (λ directory. content_under directory name v) (get nat_cmp directories pino)
 
 -- the greatest version of a directory
-abbrev pub highest_at : ByNumber → ℕ → Option ℕ
+abbrev pub highest_at : DirectoriesByNumber → ℕ → Option ℕ
 highest_at directories pino = option_map (λ directory. directory.highest) (get nat_cmp directories pino)

@@ -7,12 +7,12 @@ use Rattle.jname.specs.declared.versions.Content.{Content}
 use Rattle.jname.specs.declared.versions.Versions.{Versions}
 use Rattle.jname.specs.declared.directory.Directory.{Directory}
 use Rattle.jname.specs.Versions.{contents_of}
-use Rattle.jname.specs.Held.{Name}
+use Rattle.jname.specs.ContentsByName.{Name}
 use Rattle.jname.specs.NameMaps.{names_in}
-use Rattle.jname.specs.Directories.{ByNumber}
+use Rattle.jname.specs.Directories.{DirectoriesByNumber}
 
-abbrev pub content_of : Dirent → Content
-content_of entry = record { ino = entry.ino; mctime = entry.mctime; kind = entry.kind }
+abbrev pub content_of_entry : Dirent → Content
+content_of_entry entry = record { ino = entry.ino; mctime = entry.mctime; kind = entry.kind }
 
 abbrev pub entry_of : ℕ → List ℕ → ℕ × Content → Dirent
 entry_of pino name e = record { pino = pino; version = e.0; ino = e.1.ino; mctime = e.1.mctime; kind = e.1.kind; name = name }
@@ -20,8 +20,8 @@ entry_of pino name e = record { pino = pino; version = e.0; ino = e.1.ino; mctim
 abbrev pub entries_under : ℕ → Name × Versions → List Dirent
 entries_under pino e = map (entry_of pino (cow_slice_items e.0)) (contents_of e.1)
 
-abbrev pub entries_in : ℕ × Directory → List Dirent
-entries_in e = flat_map (entries_under e.0) (names_in e.1.names)
+abbrev pub entries_in_directory : ℕ × Directory → List Dirent
+entries_in_directory e = flat_map (entries_under e.0) (names_in e.1.names)
 
-unfoldable pub entries_of : ByNumber → List Dirent
-entries_of directories = flat_map entries_in directories.entries
+unfoldable pub entries_of : DirectoriesByNumber → List Dirent
+entries_of directories = flat_map entries_in_directory directories.entries

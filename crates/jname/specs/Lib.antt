@@ -1,7 +1,7 @@
 pub mod Clash
 pub mod Directories
 pub mod Entries
-pub mod Held
+pub mod ContentsByName
 pub mod NameMaps
 pub mod Live
 pub mod Versions

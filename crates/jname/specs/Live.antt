@@ -1,4 +1,4 @@
--- The names that stand (Woodhouse 2001, "Directory entries": of the entries of a name the one of highest version counts,
+-- The live names (Woodhouse 2001, "Directory entries": of the entries of a name the one of highest version counts,
 -- and an entry whose inode number is 0 says that the name is gone).
 use Rattle.std.specs.Prelude.{◌≡◌, ℕ, ◌==◌, ◌&&◌, ◌⊎◌, ◌↔◌, Bool, bytes_eq, List, map, filter, Contains, Option, Some, None, option_map, option_and_then, if◌then◌else◌}
 use Rattle.std.specs.declared.cmp.Ordering.{Ordering}
@@ -29,15 +29,15 @@ ino_if_any entry = if entry.ino == 0 then None else Some entry.ino
 abbrev pub live : List Dirent → Key → Option ℕ
 live given key = option_and_then ino_if_any (newest (λ entry. entry.version) (filter (is_at key) given))
 
--- all names that stand, each with its inode number
+-- all live names, each with its inode number
 abbrev pub live_names : List Dirent → FinMap key_cmp ℕ
 live_names given = tabled key_cmp (map key_of given) (live given)
 
--- the names of a directory that stand, each with its inode number, in byte order
+-- The live names of a directory, each with its inode number, in byte order
 abbrev pub names_of : List Dirent → ℕ → List (List ℕ × ℕ)
 names_of given pino = map (λ e. (e.0.1, e.1)) (filter (λ e. e.0.0 == pino) (entries (live_names given)))
 
--- all names that stand, each with its directory's number and its inode number, in order
+-- all live names, each with its directory's number and its inode number, in order
 abbrev pub all_names : List Dirent → List (ℕ × List ℕ × ℕ)
 all_names given = map (λ e. (e.0.0, e.0.1, e.1)) (entries (live_names given))
 

@@ -5,7 +5,7 @@ use Rattle.std.specs.Option.{option_map}
 use Rattle.jname.specs.declared.versions.Versions.{Versions}
 use Rattle.jname.specs.declared.name_map.NameMap.{NameMap}
 use Rattle.jname.specs.declared.name_map.NameIter.{NameIter}
-use Rattle.jname.specs.Held.{Name}
+use Rattle.jname.specs.ContentsByName.{Name}
 
 -- the names with their versions, in order
 abbrev pub names_in : NameMap → List (Name × Versions)

@@ -1,29 +1,29 @@
--- What is held of one name.
+-- What is stored of one name.
 use Rattle.std.specs.Prelude.{◌≡◌, ◌≢◌, ℕ, ◌≤◌, List, ◌∷◌, Option, Some, None, IsSome, MatchOption, ⊤}
 use Rattle.std.specs.Map.{lookup}
 use Rattle.std.specs.Ordering.{nat_cmp, eq_by_cmp}
 use Rattle.jname.specs.declared.versions.Content.{Content}
 use Rattle.jname.specs.declared.versions.Versions.{Versions}
 
--- the contents that are held, each with its version: that of the greatest, and the older ones in order
+-- the contents that are stored, each with its version: that of the greatest, and the older ones in order
 abbrev pub contents_of : Versions → List (ℕ × Content)
 contents_of versions = (versions.greatest, versions.newest) ∷ versions.older.entries
 
--- the content that is held at a version
+-- the content that is stored at a version
 abbrev pub version_at : Versions → ℕ → Option Content
 version_at versions v = lookup (eq_by_cmp nat_cmp v) (contents_of versions)
 
--- something else is held
+-- something else is stored
 abbrev pub Differs : Option Content → Content → Type 0
 Differs None content = ⊥
 Differs (Some there) content = there ≢ content
 
--- nothing else is held
+-- nothing else is stored
 abbrev pub Agrees : Option Content → Content → Type 0
 Agrees None content = ⊤
 Agrees (Some there) content = there ≡ content
 
--- of what is held at each version: this content is held at this version, and none at a higher one
+-- of what is stored at each version: this content is stored at this version, and none at a higher one
 abbrev pub IsTop : (ℕ → Option Content) → ℕ → Content → Type 0
 IsTop at v content = (at v ≡ Some content) × ((w : ℕ) → IsSome (at w) → w ≤ v)
 

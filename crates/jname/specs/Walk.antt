@@ -1,11 +1,11 @@
--- The live names among what is held, in order.
+-- The live names among what is stored, in order.
 use Rattle.std.specs.Prelude.{ℕ, ◌==◌, List, map, Option, Some, None, if◌then◌else◌, filter_map}
 use Rattle.std.specs.List.{flat_map}
 use Rattle.std.specs.Option.{option_map}
 use Rattle.std.specs.Cow.{cow_slice_items}
 use Rattle.jname.specs.declared.versions.Versions.{Versions}
 use Rattle.jname.specs.declared.directory.Directory.{Directory}
-use Rattle.jname.specs.Held.{Name}
+use Rattle.jname.specs.ContentsByName.{Name}
 use Rattle.jname.specs.NameMaps.{names_in}
 
 -- the inode number at the highest version, where it is not 0

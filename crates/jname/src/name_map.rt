@@ -6,7 +6,7 @@ ghost use Rattle.std.specs.Cow.{cow_slice_items};
 ghost use Rattle.std.specs.BTreeMap.{IsOrdered};
 ghost use Rattle.std.proofs.Props.{props};
 ghost use Rattle.jname.specs.Versions.{Agrees, Differs};
-ghost use Rattle.jname.specs.Held.{held_in, name_cmp, versions_of, IsSameHeld};
+ghost use Rattle.jname.specs.ContentsByName.{content_in, name_cmp, versions_of_name, HasSameContents};
 
 use crate::NameFault;
 use crate::versions::{Content, Versions};
@@ -18,7 +18,7 @@ use std::collections::btree_map::Iter;
 /// Names in byte order. One that lies whole in its image is borrowed.
 pub type ByName<'a> = BTreeMap<CowSlice<'a, u8>, Versions>;
 
-/// The names of a directory, each with its versions. An only name stands apart, since many directories have no other: a
+/// The names of a directory, each with its versions. An only name is apart, since many directories have no other: a
 /// map takes memory only from the second one on.
 #[derive(Drop)]
 pub struct NameMap<'a> {
@@ -31,7 +31,7 @@ pub struct NameMap<'a> {
 impl<'a> NameMap<'a> {
     ghost use Rattle.std.specs.Prelude.{true};
     ghost use Rattle.jname.specs.declared.versions.Versions.{Versions};
-    ghost use Rattle.jname.specs.Held.{Name};
+    ghost use Rattle.jname.specs.ContentsByName.{Name};
     ghost use Rattle.jname.specs.NameMaps.{names_in, names_left};
 
     /// One name. Takes no memory.
@@ -60,7 +60,7 @@ impl<'a> NameMap<'a> {
 
     /// The versions of a name.
     pub fn get(&self, name: &[u8]) -> Option<&Versions>
-        ensures { option_map (λ versions. versions.now) result ≡ versions_of (names_in self.now) name.now }
+        ensures { option_map (λ versions. versions.now) result ≡ versions_of_name (names_in self.now) name.now }
     {
         match &self.only {
             None => self.map.get(name),
@@ -77,10 +77,10 @@ impl<'a> NameMap<'a> {
         version: u32,
         content: Content,
     ) -> Result<(), NameFault>
-        ensures clash { result ≡ Err NameFault.Clash → Differs (held_in (names_in self.old) (cow_slice_items name.entry) version) content }
-        ensures alone { OnOk result (Agrees (held_in (names_in self.old) (cow_slice_items name.entry) version) content) }
-        ensures ok { OnOk result ((n : List ℕ) (v : ℕ) → held_in (names_in self.new) n v ≡ (if bytes_eq (cow_slice_items name.entry) n && version == v then Some content else held_in (names_in self.old) n v)) }
-        ensures err { OnErr result (IsSameHeld (names_in self.old) (names_in self.new)) }
+        ensures clash { result ≡ Err NameFault.Clash → Differs (content_in (names_in self.old) (cow_slice_items name.entry) version) content }
+        ensures alone { OnOk result (Agrees (content_in (names_in self.old) (cow_slice_items name.entry) version) content) }
+        ensures ok { OnOk result ((n : List ℕ) (v : ℕ) → content_in (names_in self.new) n v ≡ (if bytes_eq (cow_slice_items name.entry) n && version == v then Some content else content_in (names_in self.old) n v)) }
+        ensures err { OnErr result (HasSameContents (names_in self.old) (names_in self.new)) }
     {
         if self.is_only(name.as_slice()) {
             if let Some((_, versions)) = &mut self.only {
@@ -168,10 +168,10 @@ fn add_name<'a>(
     version: u32,
     content: Content,
 ) -> Result<(), NameFault>
-    ensures clash { result ≡ Err NameFault.Clash → Differs (held_in names.old.entries (cow_slice_items name.entry) version) content }
-    ensures alone { OnOk result (Agrees (held_in names.old.entries (cow_slice_items name.entry) version) content) }
-    ensures ok { OnOk result ((n : List ℕ) (v : ℕ) → held_in names.new.entries n v ≡ (if bytes_eq (cow_slice_items name.entry) n && version == v then Some content else held_in names.old.entries n v)) }
-    ensures unchanged { OnErr result (IsSameHeld names.old.entries names.new.entries) }
+    ensures clash { result ≡ Err NameFault.Clash → Differs (content_in names.old.entries (cow_slice_items name.entry) version) content }
+    ensures alone { OnOk result (Agrees (content_in names.old.entries (cow_slice_items name.entry) version) content) }
+    ensures ok { OnOk result ((n : List ℕ) (v : ℕ) → content_in names.new.entries n v ≡ (if bytes_eq (cow_slice_items name.entry) n && version == v then Some content else content_in names.old.entries n v)) }
+    ensures unchanged { OnErr result (HasSameContents names.old.entries names.new.entries) }
     ensures ordered { IsOrdered name_cmp names.new }
 {
     if let Some(versions) = names.get_mut(name.as_slice()) {

@@ -5,7 +5,7 @@ ghost use Rattle.std.specs.Ordering.{nat_cmp};
 ghost use Rattle.std.specs.Cow.{cow_slice_items};
 ghost use Rattle.std.specs.BTreeMap.{IsOrdered};
 ghost use Rattle.jname.specs.Versions.{Agrees, Differs, IsLiveIn};
-ghost use Rattle.jname.specs.Directories.{held, highest_at};
+ghost use Rattle.jname.specs.Directories.{content_at, highest_at};
 ghost use Rattle.jname.specs.Entries.{entries_of};
 
 use crate::NameFault;
@@ -20,15 +20,15 @@ use std::borrow::CowSlice;
 use std::collections::BTreeMap;
 use std::marker::Model;
 
-type ByNumber<'a> = BTreeMap<u32, Directory<'a>>;
+type DirectoriesByNumber<'a> = BTreeMap<u32, Directory<'a>>;
 
 /// The entries of the directories of an image, by directory, name and version.
 ///
-/// Every entry that was added is held, with inode number 0 or not, since a clash is judged against all of them.
+/// Every entry that was added is stored, with inode number 0 or not, since a clash is judged against all of them.
 /// Contracts see the list of these entries; its order says nothing.
 #[derive(Drop)]
 pub struct Names<'a> {
-    directories: ByNumber<'a>,
+    directories: DirectoriesByNumber<'a>,
     // Always empty: the names of a directory that has no entries.
     none: ByName<'a>,
     alloc: Global,
@@ -50,7 +50,7 @@ impl<'a> Model for Names<'a> {
 
 impl<'a> Names<'a> {
     ghost use Rattle.std.specs.Prelude.{◌≡◌, [], IsErrOf, OnOk, OnErr};
-    ghost use Rattle.jname.specs.Clash.{NoneClashes, SomeClashes};
+    ghost use Rattle.jname.specs.Clash.{NoEntryClashesWith, SomeEntryClashesWith};
     ghost use Rattle.jname.specs.Live.{live, all_names, highest, names_of, Gains};
 
     /// No entries.
@@ -64,14 +64,14 @@ impl<'a> Names<'a> {
         }
     }
 
-    /// Adds an entry. One that was added already changes nothing. In log n steps for n entries.
+    /// Adds an entry. One that was added already changes nothing. O(log n) for n entries.
     ///
     /// `Clash`: an entry of the same directory, name and version, with other contents, was added before. After a fault
     /// the entries are those from before.
     pub fn add(&mut self, entry: &Dirent<'a>) -> Result<(), NameFault>
         ensures ok { OnOk result (Gains self.old self.new entry.now) }
-        ensures alone { OnOk result (NoneClashes self.old entry.now) }
-        ensures clash { result ≡ Err NameFault.Clash → SomeClashes self.old entry.now }
+        ensures alone { OnOk result (NoEntryClashesWith self.old entry.now) }
+        ensures clash { result ≡ Err NameFault.Clash → SomeEntryClashesWith self.old entry.now }
         ensures err { OnErr result (self.new ≡ self.old) }
     {
         let name = name_of(self.alloc, &entry.name)?;
@@ -90,14 +90,14 @@ impl<'a> Names<'a> {
         )
     }
 
-    /// The inode number that a name of a directory stands for. Takes log n steps and no memory.
+    /// The inode number that a name of a directory stands for. Takes O(log n) and no memory.
     pub fn get(&self, dir: u32, name: &[u8]) -> Option<u32>
         ensures { result ≡ live self.now (dir, name.now) }
     {
         live_of(&self.directories, dir, name)
     }
 
-    /// The names of a directory that stand, each with its inode number, in byte order.
+    /// The live names of a directory, each with its inode number, in byte order.
     pub fn of(&self, dir: u32) -> Of<'_, 'a>
         ensures { result ≡ names_of self.now dir }
     {
@@ -107,7 +107,7 @@ impl<'a> Names<'a> {
         }
     }
 
-    /// All names that stand, each with its directory and inode number, in order of the directory's number and then in
+    /// All live names, each with its directory and inode number, in order of the directory's number and then in
     /// byte order.
     pub fn all(&self) -> All<'_, 'a>
         ensures { result ≡ all_names self.now }
@@ -127,9 +127,9 @@ impl<'a> Names<'a> {
 fn name_of<'a>(alloc: Global, name: &Part<'a>) -> Result<CowSlice<'a, u8>, AllocError>
     ensures { IfOk result (λ bytes. cow_slice_items bytes ≡ name.now) }
 {
-    let held = name.held();
-    if held.len() == name.len() {
-        return Ok(CowSlice::Borrowed(held));
+    let present = name.present();
+    if present.len() == name.len() {
+        return Ok(CowSlice::Borrowed(present));
     }
     let mut copy = Vec::with_capacity(alloc, name.len())?;
     name.put_onto(&mut copy);
@@ -139,15 +139,15 @@ fn name_of<'a>(alloc: Global, name: &Part<'a>) -> Result<CowSlice<'a, u8>, Alloc
 /// Holds a content in a directory, under a name, at a version.
 fn add_entry<'a>(
     alloc: Global,
-    directories: &mut ByNumber<'a>,
+    directories: &mut DirectoriesByNumber<'a>,
     pino: u32,
     name: CowSlice<'a, u8>,
     version: u32,
     content: Content,
 ) -> Result<(), NameFault>
-    ensures clash { result ≡ Err NameFault.Clash → Differs (held directories.old pino (cow_slice_items name.entry) version) content }
-    ensures alone { OnOk result (Agrees (held directories.old pino (cow_slice_items name.entry) version) content) }
-    ensures ok { OnOk result ((p : ℕ) (n : List ℕ) (v : ℕ) → held directories.new p n v ≡ (if pino == p && (bytes_eq (cow_slice_items name.entry) n && version == v) then Some content else held directories.old p n v)) }
+    ensures clash { result ≡ Err NameFault.Clash → Differs (content_at directories.old pino (cow_slice_items name.entry) version) content }
+    ensures alone { OnOk result (Agrees (content_at directories.old pino (cow_slice_items name.entry) version) content) }
+    ensures ok { OnOk result ((p : ℕ) (n : List ℕ) (v : ℕ) → content_at directories.new p n v ≡ (if pino == p && (bytes_eq (cow_slice_items name.entry) n && version == v) then Some content else content_at directories.old p n v)) }
     ensures err { OnErr result (entries_of directories.new ≡ entries_of directories.old) }
     ensures ordered { IsOrdered nat_cmp directories.new }
 {
@@ -159,14 +159,14 @@ fn add_entry<'a>(
 }
 
 /// The inode number at the highest version of a name.
-fn live_of(directories: &ByNumber<'_>, dir: u32, name: &[u8]) -> Option<u32>
-    ensures { IsLiveIn (λ v. held directories.now dir name.now v) result }
+fn live_of(directories: &DirectoriesByNumber<'_>, dir: u32, name: &[u8]) -> Option<u32>
+    ensures { IsLiveIn (λ v. content_at directories.now dir name.now v) result }
 {
     directories.get(&dir)?.names.get(name)?.live()
 }
 
 /// The greatest version of a directory.
-fn highest_of(directories: &ByNumber<'_>, dir: u32) -> Option<u32>
+fn highest_of(directories: &DirectoriesByNumber<'_>, dir: u32) -> Option<u32>
     ensures { result ≡ highest_at directories.now dir }
 {
     Some(directories.get(&dir)?.highest)

@@ -1,4 +1,4 @@
-// What may be held beside what is held.
+// What may be stored beside what is stored.
 
 ghost use Rattle.std.specs.Prelude.{◌≡◌, ◌≢◌, ◌==◌, ℕ, Some, OnOk, OnErr, if◌then◌else◌};
 ghost use Rattle.std.specs.Ordering.{nat_cmp};
@@ -9,7 +9,7 @@ use crate::NameFault;
 use crate::versions::Content;
 use std::collections::BTreeMap;
 
-/// Whether a content may stand where this one is held.
+/// Whether a content may be stored where this one is stored.
 pub fn agree(there: Content, content: Content) -> Result<(), NameFault>
     ensures clash { result ≡ Err NameFault.Clash → there ≢ content }
     ensures alone { OnOk result (there ≡ content) }

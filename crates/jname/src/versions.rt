@@ -1,4 +1,4 @@
-// What is held of one name: the contents of its entries, by version.
+// What is stored of one name: the contents of its entries, by version.
 
 ghost use Rattle.std.specs.Prelude.{◌≡◌, ◌<◌, ◌==◌, ℕ, Some, None, IsSome, OnOk, OnErr, if◌then◌else◌};
 ghost use Rattle.std.specs.Ordering.{nat_cmp};
@@ -18,7 +18,7 @@ pub struct Content {
     pub kind: u8,
 }
 
-/// The contents of the entries of one name, by version. That of the greatest stands apart, since most names have no other:
+/// The contents of the entries of one name, by version. That of the greatest is apart, since most names have no other:
 /// a map takes memory only from the second one on.
 #[derive(Drop)]
 pub struct Versions {

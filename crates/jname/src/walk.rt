@@ -1,4 +1,4 @@
-//! Walks over the names that stand.
+//! Walks over the live names.
 
 ghost use Rattle.std.specs.Prelude.{◌≡◌, ℕ, List};
 
@@ -8,7 +8,7 @@ use std::collections::BTreeMap;
 use std::collections::btree_map::Iter;
 use std::marker::Model;
 
-/// The names of a directory that stand, each with its inode number, in byte order.
+/// The live names of a directory, each with its inode number, in byte order.
 #[derive(Drop)]
 pub struct Of<'n, 'a> {
     left: NameIter<'n, 'a>,
@@ -65,7 +65,7 @@ impl<'n, 'a> Iterator for Of<'n, 'a> {
     }
 }
 
-/// The names of all directories that stand, each with its directory and inode number, in order of the directory's
+/// The live names of all directories, each with its directory and inode number, in order of the directory's
 /// number and then in byte order.
 #[derive(Drop)]
 pub struct All<'n, 'a> {

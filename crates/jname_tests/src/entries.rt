@@ -1,4 +1,4 @@
-//! Entries that are added, and all names that stand then.
+//! Entries that are added, and all live names then.
 
 ghost use Rattle.std.specs.Prelude.{◌<◌, ◌^◌, length};
 
@@ -18,12 +18,18 @@ pub(crate) fn entry(pino: u32, version: u32, ino: u32, name: &[u8]) -> Dirent<'_
     }
 }
 
-/// An entry whose name is `held` and then bytes that the image lacks.
-pub(crate) fn cut_entry(pino: u32, version: u32, ino: u32, held: &[u8], missing: u8) -> Dirent<'_>
-    requires { length held.now < 2 ^ 32 }
+/// An entry whose name is `content_at` and then bytes that the image lacks.
+pub(crate) fn cut_entry(
+    pino: u32,
+    version: u32,
+    ino: u32,
+    present: &[u8],
+    missing: u8,
+) -> Dirent<'_>
+    requires { length present.now < 2 ^ 32 }
 {
     Dirent {
-        name: Part::new(held, usize::from(missing)),
+        name: Part::new(present, usize::from(missing)),
         ..entry(pino, version, ino, b"")
     }
 }
@@ -33,7 +39,7 @@ pub(crate) fn add<'a>(rt: &impl Abort, names: &mut Names<'a>, entry: &Dirent<'a>
     assert_eq!(rt; names.add(entry), Ok(()));
 }
 
-/// Whether these are all names that stand, in this order.
+/// Whether these are all live names, in this order.
 pub(crate) fn are_all(names: &Names<'_>, wanted: &[(u32, &[u8], u32)]) -> bool {
     let mut all = names.all();
     for &name in wanted {

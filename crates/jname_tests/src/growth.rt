@@ -4,7 +4,7 @@ use crate::entries::{are_all, cut_entry, entry};
 use jname::{NameFault, Names};
 use jnode::Dirent;
 
-/// Adds an entry. Where a growth is refused, what stood still stands, and the entry can be added then.
+/// Adds an entry. Where a growth is refused, nothing changes, and the entry can be added then.
 fn add_again(
     names: &mut Names<'static>,
     added: &Dirent<'static>,
@@ -22,9 +22,9 @@ fn add_again(
     }
 }
 
-/// What is added in turn, and what stands before each and after the last.
+/// What is added in turn, and what is before each and after the last.
 #[test]
-fn refused_growth_leaves_what_stood(rt: HostRuntime) {
+fn refused_growth_changes_nothing(rt: HostRuntime) {
     let mut names = Names::new(rt.alloc());
     let a_2: (u32, &[u8], u32) = (1, b"a", 2);
     let a_4: (u32, &[u8], u32) = (1, b"a", 4);

@@ -9,4 +9,4 @@ mod entries;
 #[cfg(test)]
 mod growth;
 #[cfg(test)]
-mod standing;
+mod live;

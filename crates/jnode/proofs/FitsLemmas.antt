@@ -5,7 +5,7 @@ use Rattle.byteorder.specs.Numbers.{little_from-lt, big_from-lt}
 use Rattle.flashbase.specs.Ranges.{AreBytes}
 use Rattle.jnode.specs.Order.{number_in}
 use Rattle.jnode.specs.Header.{IsGood, nodetype_of, is_accurate}
-use Rattle.jnode.specs.Reading.{dirent_type, inode_type, dirent_of, inode_of, data_of, compr_of, csize_of, nsize_of, name_of, tile_of, node_in, Reads, seen_of, entry_seen, inode_seen, held_seen, plain_seen, is_entry_long, is_crc_right, is_size_right, is_entry_in_range, is_inode_long, is_inode_in_range, is_data_crc_right}
+use Rattle.jnode.specs.Reading.{dirent_type, inode_type, dirent_of, inode_of, data_of, compr_of, csize_of, nsize_of, name_of, tile_of, node_in, Reads, seen_of, entry_seen, inode_seen, passed_seen, plain_seen, is_entry_long, is_crc_right, is_size_right, is_entry_in_range, is_inode_long, is_inode_in_range, is_data_crc_right}
 use Rattle.jnode.specs.Writing.{FitsEntry, FitsInode, Fits, HoldsBytes}
 use Rattle.jnode.specs.declared.order.Endian.{Endian}
 use Rattle.jnode.specs.declared.order.Endian.TheVariants.{Little, Big}
@@ -74,25 +74,25 @@ entry_sees e tile are =
     _ _ _ _ _ (Entry (dirent_of e tile)) SeesFitting (λ q. nothing (Damaged q) refl)
     (sees (Entry (dirent_of e tile)) (node.Entry (dirent_of e tile)) refl (entry_fits e tile are) (bytes-take (nsize_of tile) (drop 40 tile) (bytes-drop 40 tile are)))
 
-none_held : AreBytes []
-none_held i = omega arith
+none_stored : AreBytes []
+none_stored i = omega arith
 
-held_sees : (e : Endian) (tile : List ℕ) → AreBytes tile → SeesFitting (held_seen e tile)
-unfolding held_seen
-held_sees e tile are =
+passed_sees : (e : Endian) (tile : List ℕ) → AreBytes tile → SeesFitting (passed_seen e tile)
+unfolding passed_seen
+passed_sees e tile are =
     let data_fill : Fill = Data (data_of e tile) in
     cond_both (compr_of tile == 0) _ _ SeesFitting
     (λ _. sees (Inode (inode_of e tile data_fill)) (node.Inode (inode_of e tile data_fill)) refl (inode_fits e tile data_fill are)
     (bytes-take (csize_of e tile) (drop 68 tile) (bytes-drop 68 tile are)))
     (λ _. cond_both (compr_of tile == 1) _ _ SeesFitting
-    (λ _. sees (Inode (inode_of e tile Zero)) (node.Inode (inode_of e tile Zero)) refl (inode_fits e tile Zero are) none_held)
+    (λ _. sees (Inode (inode_of e tile Zero)) (node.Inode (inode_of e tile Zero)) refl (inode_fits e tile Zero are) none_stored)
     (λ _. nothing (Compressed (compr_of tile)) refl))
 
 inode_sees : (e : Endian) (tile : List ℕ) → AreBytes tile → SeesFitting (inode_seen e tile)
 unfolding inode_seen
 inode_sees e tile are =
     five_both (is_inode_long e tile) (is_crc_right e tile 64 (take 60 tile)) (is_size_right e tile (68 + csize_of e tile)) (is_inode_in_range e tile) (is_data_crc_right e tile)
-    _ _ _ _ _ (held_seen e tile) SeesFitting (λ q. nothing (Damaged q) refl) (held_sees e tile are)
+    _ _ _ _ _ (passed_seen e tile) SeesFitting (λ q. nothing (Damaged q) refl) (passed_sees e tile are)
 
 plain_sees : (t : ℕ) → SeesFitting (plain_seen t)
 plain_sees t =

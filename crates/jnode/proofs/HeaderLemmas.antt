@@ -85,7 +85,7 @@ unfolding is_good is_good_front
 good_from e rest header room least within =
     and_from _ _ (le-leb _ _ room) (and_from _ _ (and_from _ _ header (le-leb _ _ least)) (le-leb _ _ within))
 
--- ---- where no good header stands
+-- ---- where there is no good header
 
 -- without the magic there is none
 pub no_magic : (e : Endian) (rest : List ℕ) → (magic_of e rest == magic) ≡ false → is_good e rest ≡ false

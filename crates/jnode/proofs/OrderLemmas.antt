@@ -1,4 +1,4 @@
--- Numbers, and the bytes that they stand in.
+-- Numbers, and the bytes that hold them.
 use Rattle.std.proofs.Common.{◌≡◌, ℕ, zero, suc, ◌+◌, ◌-◌, ◌^◌, ◌<◌, ◌≤◌, List, [], ◌∷◌, ◌++◌, length, take, drop, replicate, slice_index, refl, sym, ap, ap₂, ◌∙◌, arith, add-one, inl, inr}
 use Rattle.std.proofs.lemmas.Bool.{cases_lt}
 use Rattle.std.proofs.lemmas.Nat.{le_bytes_2, be_bytes_2, le_bytes_4, be_bytes_4}
@@ -14,7 +14,7 @@ use Rattle.jnode.specs.declared.order.Endian.TheVariants.{Little, Big}
 pub append_none : (bytes : List ℕ) → bytes ++ replicate 0 255 ≡ bytes
 append_none bytes = append-nil bytes
 
--- a number stands in its bytes alone
+-- a number is in its bytes alone
 pub number_in-take : (e : Endian) (n m : ℕ) (xs : List ℕ) → n ≤ m → number_in e n (take m xs) ≡ number_in e n xs
 unfolding number_in
 number_in-take Little n m xs h = little_from-take 0 n m xs (omega arith)
@@ -43,7 +43,7 @@ four_bytes : (xs : List ℕ) → length xs ≡ 4 → slice_index xs 0 ∷ slice_
 four_bytes (a ∷ b ∷ c ∷ d ∷ []) h = refl
 four_bytes _ h = absurd (omega arith)
 
--- a number by the bytes that it stands in, one by one
+-- a number by the bytes that hold it, one by one
 pub number_of_two : (e : Endian) (place : ℕ) (xs two : List ℕ) → place + 2 ≤ length xs → two ≡ take 2 (drop place xs)
     → number_at e 2 0 (slice_index two 0 ∷ slice_index two 1 ∷ []) ≡ number_at e 2 place xs
 number_of_two e place xs two h same =

@@ -5,7 +5,7 @@ use Rattle.flashbase.specs.Crc.{crc_of}
 use Rattle.jnode.specs.Order.{number_at}
 use Rattle.jnode.specs.declared.order.Endian.{Endian}
 use Rattle.jnode.specs.Header.{nodetype_of, is_accurate}
-use Rattle.jnode.specs.Reading.{dirent_type, inode_type, entry_len, inode_len, IsSoundInode, ReadsCompressed, IsTile, ReadsEntry, ReadsInode, ReadsFill, dirent_of, inode_of, nsize_of, name_of, csize_of, compr_of, data_of, entry_seen, inode_seen, held_seen, plain_seen, other_seen, seen_of, is_entry_long, is_crc_right, is_size_right, is_entry_in_range, is_inode_long, is_inode_in_range, is_data_crc_right}
+use Rattle.jnode.specs.Reading.{dirent_type, inode_type, entry_len, inode_len, IsSoundInode, ReadsCompressed, IsTile, ReadsEntry, ReadsInode, ReadsFill, dirent_of, inode_of, nsize_of, name_of, csize_of, compr_of, data_of, entry_seen, inode_seen, passed_seen, plain_seen, other_seen, seen_of, is_entry_long, is_crc_right, is_size_right, is_entry_in_range, is_inode_long, is_inode_in_range, is_data_crc_right}
 use Rattle.jnode.specs.declared.node.Dirent.{Dirent}
 use Rattle.jnode.specs.declared.node.InodeNode.{InodeNode}
 use Rattle.jnode.specs.declared.node.Fill.{Fill}
@@ -83,11 +83,11 @@ pub chosen : (b : Bool) (x y s : Seen) → cond b x y ≡ s → ((b ≡ true) ×
 chosen true x y s h = inl (refl, h)
 chosen false x y s h = inr (refl, h)
 
-held_found : (e : Endian) (tile : List ℕ) (node : InodeNode)
+passed_found : (e : Endian) (tile : List ℕ) (node : InodeNode)
     → (not (compr_of tile == 0) || (csize_of e tile == number_at e 4 52 tile)) ≡ true
-    → held_seen e tile ≡ Inode node → ReadsFill e tile node.fill × (node ≡ inode_of e tile node.fill)
-unfolding held_seen
-held_found e tile node range h =
+    → passed_seen e tile ≡ Inode node → ReadsFill e tile node.fill × (node ≡ inode_of e tile node.fill)
+unfolding passed_seen
+passed_found e tile node range h =
     let P : InodeNode → Type 0 = λ n. ReadsFill e tile n.fill × (n ≡ inode_of e tile n.fill) in
     elim (chosen (compr_of tile == 0) _ _ (Inode node) h) [
       | inl none ↦
@@ -97,7 +97,7 @@ held_found e tile node range h =
             | inr equal ↦ eqb-true _ _ equal
           ] in
           subst P same ((eqb-true _ _ none.0, sizes, refl), refl)
-      | inr held ↦ elim (chosen (compr_of tile == 1) _ _ (Inode node) held.1) [
+      | inr stored ↦ elim (chosen (compr_of tile == 1) _ _ (Inode node) stored.1) [
         | inl zeros ↦
             let same : inode_of e tile Zero ≡ node = let found = zeros.1 in cc in
             subst P same (eqb-true _ _ zeros.0, refl)
@@ -105,25 +105,25 @@ held_found e tile node range h =
       ]
     ]
 
-other_held : (e : Endian) (tile : List ℕ) (compr : ℕ) → held_seen e tile ≡ Compressed compr
+other_passed : (e : Endian) (tile : List ℕ) (compr : ℕ) → passed_seen e tile ≡ Compressed compr
     → ((compr_of tile ≡ 0) → ⊥) × ((compr_of tile ≡ 1) → ⊥) × (compr ≡ compr_of tile)
-unfolding held_seen
-other_held e tile compr h = elim (chosen (compr_of tile == 0) _ _ (Compressed compr) h) [
+unfolding passed_seen
+other_passed e tile compr h = elim (chosen (compr_of tile == 0) _ _ (Compressed compr) h) [
   | inl none ↦ let it = none.1 in absurd (cc)
-  | inr held ↦ elim (chosen (compr_of tile == 1) _ _ (Compressed compr) held.1) [
+  | inr stored ↦ elim (chosen (compr_of tile == 1) _ _ (Compressed compr) stored.1) [
     | inl zeros ↦ let it = zeros.1 in absurd (cc)
     | inr other ↦ (
-      λ none. both_ways _ held.0 (eq-eqb _ _ none),
+      λ none. both_ways _ stored.0 (eq-eqb _ _ none),
       λ zeros. both_ways _ other.0 (eq-eqb _ _ zeros),
       let same : Compressed (compr_of tile) ≡ Compressed compr = other.1 in cc,
     )
   ]
 ]
 
-held_again : (e : Endian) (tile : List ℕ) (fill : Fill) → ReadsFill e tile fill → held_seen e tile ≡ Inode (inode_of e tile fill)
-unfolding held_seen
-held_again e tile Zero h = rw h refl
-held_again e tile (Data bytes) h = rw h.0 (ap (λ (b : List ℕ). Inode (inode_of e tile (Data b))) (sym h.2))
+passed_again : (e : Endian) (tile : List ℕ) (fill : Fill) → ReadsFill e tile fill → passed_seen e tile ≡ Inode (inode_of e tile fill)
+unfolding passed_seen
+passed_again e tile Zero h = rw h refl
+passed_again e tile (Data bytes) h = rw h.0 (ap (λ (b : List ℕ). Inode (inode_of e tile (Data b))) (sym h.2))
 
 fill_range : (e : Endian) (tile : List ℕ) (fill : Fill) → ReadsFill e tile fill
     → (not (compr_of tile == 0) || (csize_of e tile == number_at e 4 52 tile)) ≡ true
@@ -157,11 +157,11 @@ unfolding inode_seen is_inode_in_range
 inode_found e tile node is_tile kind h =
     let parts = five_passed _ _ _ _ _ _ _ _ _ _ _ (Inode node) (damaged_no_inode node) h in
     let range = and_parts _ _ parts.3 in
-    let held = held_found e tile node range.1 parts.5 in
+    let stored = passed_found e tile node range.1 parts.5 in
     record {
       sound = inode_sound e tile is_tile kind parts.0 parts.1 parts.2 parts.3 parts.4;
-      gives = held.0;
-      fields = held.1;
+      gives = stored.0;
+      fields = stored.1;
     }
 
 compressed_found : (e : Endian) (tile : List ℕ) (compr : ℕ) → IsTile e tile → nodetype_of e tile ≡ inode_type
@@ -169,7 +169,7 @@ compressed_found : (e : Endian) (tile : List ℕ) (compr : ℕ) → IsTile e til
 unfolding inode_seen
 compressed_found e tile compr is_tile kind h =
     let parts = five_passed _ _ _ _ _ _ _ _ _ _ _ (Compressed compr) (damaged_no_compressed compr) h in
-    let other = other_held e tile compr parts.5 in
+    let other = other_passed e tile compr parts.5 in
     record {
       sound = inode_sound e tile is_tile kind parts.0 parts.1 parts.2 parts.3 parts.4;
       compression = other.2;
@@ -179,7 +179,7 @@ compressed_found e tile compr is_tile kind h =
 
 -- the five checks of a sound inode node pass
 inode_passes : (e : Endian) (tile : List ℕ) → IsSoundInode e tile
-    → (not (compr_of tile == 0) || (csize_of e tile == number_at e 4 52 tile)) ≡ true → inode_seen e tile ≡ held_seen e tile
+    → (not (compr_of tile == 0) || (csize_of e tile == number_at e 4 52 tile)) ≡ true → inode_seen e tile ≡ passed_seen e tile
 unfolding inode_seen is_inode_long is_crc_right is_size_right is_inode_in_range is_data_crc_right
 inode_passes e tile r range =
     let object : 0 < number_at e 4 12 tile = let ne = r.object in omega arith in
@@ -188,7 +188,7 @@ inode_passes e tile r range =
       | inl none ↦ or_left _ _ (eq-eqb _ _ none)
       | inr some ↦ or_right _ _ (eq-eqb _ _ (r.data_crc some))
     ] in
-    five_pass _ _ _ _ _ _ _ _ _ _ (held_seen e tile)
+    five_pass _ _ _ _ _ _ _ _ _ _ (passed_seen e tile)
     (le-leb _ _ r.least) (eq-eqb _ _ r.node_crc) (eq-eqb _ _ r.sizes)
     (and_from _ _ (and_from _ _ (lt-ltb _ _ object) (le-leb _ _ r.end)) range)
     data_crc
@@ -196,10 +196,10 @@ inode_passes e tile r range =
 inode_again : (e : Endian) (tile : List ℕ) (node : InodeNode) → ReadsInode e tile node → inode_seen e tile ≡ Inode node
 inode_again e tile node r =
     inode_passes e tile r.sound (fill_range e tile node.fill r.gives)
-    ∙ held_again e tile node.fill r.gives ∙ ap Inode (sym r.fields)
+    ∙ passed_again e tile node.fill r.gives ∙ ap Inode (sym r.fields)
 
 compressed_again : (e : Endian) (tile : List ℕ) (compr : ℕ) → ReadsCompressed e tile compr → inode_seen e tile ≡ Compressed compr
-unfolding held_seen
+unfolding passed_seen
 compressed_again e tile compr r =
     let not_none : (compr_of tile == 0) ≡ false = ne_eqb _ _ (λ none. r.not_none (r.compression ∙ none)) in
     let not_zero : (compr_of tile == 1) ≡ false = ne_eqb _ _ (λ zeros. r.not_zero (r.compression ∙ zeros)) in
@@ -249,9 +249,9 @@ five_both true true false d f v w x y z r P damaged last = damaged x
 five_both true false c d f v w x y z r P damaged last = damaged w
 five_both false b c d f v w x y z r P damaged last = damaged v
 
-held_no_entry : (e : Endian) (tile : List ℕ) → is_entry (held_seen e tile) ≡ false
-unfolding held_seen
-held_no_entry e tile =
+passed_no_entry : (e : Endian) (tile : List ℕ) → is_entry (passed_seen e tile) ≡ false
+unfolding passed_seen
+passed_no_entry e tile =
     cond_both (compr_of tile == 0) _ _ (λ s. is_entry s ≡ false) (λ _. refl) (λ _.
     cond_both (compr_of tile == 1) _ _ (λ s. is_entry s ≡ false) (λ _. refl) (λ _. refl))
 
@@ -259,7 +259,7 @@ inode_no_entry : (e : Endian) (tile : List ℕ) → is_entry (inode_seen e tile)
 unfolding inode_seen
 inode_no_entry e tile =
     five_both (is_inode_long e tile) (is_crc_right e tile 64 (take 60 tile)) (is_size_right e tile (inode_len + csize_of e tile)) (is_inode_in_range e tile) (is_data_crc_right e tile)
-    _ _ _ _ _ (held_seen e tile) (λ s. is_entry s ≡ false) (λ _. refl) (held_no_entry e tile)
+    _ _ _ _ _ (passed_seen e tile) (λ s. is_entry s ≡ false) (λ _. refl) (passed_no_entry e tile)
 
 entry_no_inode : (e : Endian) (tile : List ℕ) → is_inode (entry_seen e tile) ≡ false
 unfolding entry_seen

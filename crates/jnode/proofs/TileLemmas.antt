@@ -36,6 +36,6 @@ tile_headed e bytes good words =
 pub tile_whole : (e : Endian) (bytes : List ℕ) → IsGood e bytes → length bytes % 4 ≡ 0 → IsWhole e (tile_of e bytes)
 tile_whole e bytes good words = (tile_headed e bytes good words).whole
 
--- a size that takes a whole tile stands in it
+-- a size that takes a whole tile is in it
 pub size_fits : (size totlen : ℕ) (tile : List ℕ) → length tile ≡ pad4_of totlen → pad4_of size ≡ pad4_of totlen → size ≤ length tile
 size_fits size totlen tile whole same = omega (arith, le_pad4 size)

@@ -9,7 +9,7 @@ use Rattle.flashbase.specs.Bytes.{erased, pad4_of}
 use Rattle.flashbase.proofs.BytesLemmas.{le_pad4}
 use Rattle.jnode.specs.Order.{number_in, bytes_in}
 use Rattle.jnode.specs.Header.{magic_of, nodetype_of, totlen_of, has_header, is_good, is_good_front}
-use Rattle.jnode.specs.Reading.{dirent_of, compr_of, csize_of, nsize_of, name_of, seen_of, entry_seen, inode_seen, held_seen, is_entry_long, is_crc_right, is_size_right, is_entry_in_range, is_inode_long, is_inode_in_range, is_data_crc_right}
+use Rattle.jnode.specs.Reading.{dirent_of, compr_of, csize_of, nsize_of, name_of, seen_of, entry_seen, inode_seen, passed_seen, is_entry_long, is_crc_right, is_size_right, is_entry_in_range, is_inode_long, is_inode_in_range, is_data_crc_right}
 use Rattle.jnode.specs.Writing.{canonical, canonical_entry, canonical_inode, entry_front, inode_front, object_bytes, time_bytes, range_bytes, header_bytes, filled}
 use Rattle.jnode.specs.Weak.{torn, is_sound, is_weak, has_bounded_header}
 use Rattle.jnode.specs.Laws.{IsPlain, IsTornTile}
@@ -41,8 +41,8 @@ behind p n k past =
     let at : length p + (k - length p) ≡ k = omega arith in
     ap (λ (i : ℕ). drop i (p ++ erased n)) (sym at) ∙ drop-append-add p (erased n) (k - length p) ∙ drop-replicate (k - length p) n 0xFF
 
-kept : (xs : List ℕ) (j n i : ℕ) → i < j → j ≤ length xs → slice_index (take j xs ++ erased n) i ≡ slice_index xs i
-kept xs j n i before within =
+intact : (xs : List ℕ) (j n i : ℕ) → i < j → j ≤ length xs → slice_index (take j xs ++ erased n) i ≡ slice_index xs i
+intact xs j n i before within =
     let len : length (take j xs) ≡ j = length-take-le j xs within in
     get_or_append_left (take j xs) (erased n) 0 i (omega arith) ∙ get_or-take j xs i 0 before
 
@@ -64,7 +64,7 @@ canonical_has_no_magic Little (Inode n) plain = (λ same. plain.1 (omega (arith,
 canonical_has_no_magic Big (Entry d) plain = (omega (arith, plain.0), omega arith)
 canonical_has_no_magic Big (Inode n) plain = (omega (arith, plain.0), omega arith)
 
--- ---- the header where the node stood
+-- ---- the header where the node was
 
 -- a good header is that of a node that is not too long
 bounded : (e : Endian) (rest : List ℕ) → length rest ≤ 4194304 → is_good e rest ≡ true → has_bounded_header e rest ≡ true
@@ -82,7 +82,7 @@ bounded_front e a b same =
     let words = header_is_twelve_bytes e a b same in
     ap₂ (λ (has : Bool) (h : Header). has && nat_le 12 h.totlen && nat_le h.totlen 4194304) words.0 words.1
 
--- where a cut changed the header and is not weak, no header of such a node stands
+-- where a cut changed the header and is not weak, there is no header of such a node
 shown : (e : Endian) (xs : List ℕ) (j : ℕ) → take 12 (torn xs j) ≢ take 12 xs → is_weak e xs j ≡ false → has_bounded_header e (torn xs j) ≡ false
 unfolding is_weak
 shown e xs j differs weak =
@@ -119,10 +119,10 @@ no_half : (e : Endian) (xs : List ℕ) (j n : ℕ) → HasNoMagic e xs → 4 < j
     → magic_of e (drop 4 (take j xs ++ erased n)) ≢ 6533
 no_half Little xs j n plain past within long same =
     let half = half_little (take j xs ++ erased n) in
-    let first = kept xs j n 4 past within in
+    let first = intact xs j n 4 past within in
     elim (cases_lt 5 j) [
       | inl both ↦
-          let second = kept xs j n 5 both within in
+          let second = intact xs j n 5 both within in
           plain.0 (omega (arith, half, first, second, same))
       | inr one ↦
           let second = lost xs j n 5 one within long in
@@ -130,10 +130,10 @@ no_half Little xs j n plain past within long same =
     ]
 no_half Big xs j n plain past within long same =
     let half = half_big (take j xs ++ erased n) in
-    let first = kept xs j n 4 past within in
+    let first = intact xs j n 4 past within in
     elim (cases_lt 5 j) [
       | inl both ↦
-          let second = kept xs j n 5 both within in
+          let second = intact xs j n 5 both within in
           omega (arith, half, first, second, same, plain.0, plain.1)
       | inr one ↦
           let second = lost xs j n 5 one within long in
@@ -179,7 +179,7 @@ at_later e p n word inside room =
     let len : length (drop k (p ++ erased n)) ≡ length p + n - k = length-drop k (p ++ erased n) ∙ ap (λ (m : ℕ). m - k) (length_of p n) in
     erased_totlen e (drop k (p ++ erased n)) (n - (k + 4 - length p)) (drop-drop 4 k (p ++ erased n) ∙ behind p n (k + 4) (omega arith)) (omega arith)
 
--- no good header stands at any word of a torn header that is changed and not weak
+-- there is no good header at any word of a torn header that is changed and not weak
 pub torn_header_is_none : (e : Endian) (node : NodeRef) (j n word : ℕ) → IsPlain (length (canonical e node)) → j < 12 → j + n ≤ 4194304
     → take 12 (torn (canonical e node) j) ≢ take 12 (canonical e node) → is_weak e (canonical e node) j ≡ false
     → is_good e (drop (4 * word) (take j (canonical e node) ++ erased n)) ≡ false
@@ -193,7 +193,7 @@ torn_header_is_none e node j n (suc (suc word)) plain inside room differs weak =
     let cut : length (take j (canonical e node)) ≡ j = length-take-le j (canonical e node) (omega arith) in
     at_later e (take j (canonical e node)) n word (omega arith) (omega arith)
 
--- ---- a node that was cut behind its header
+-- ---- a node that was cut after its header
 
 IsDamaged : Seen → Type 0
 IsDamaged s = is_sound s ≡ false → (which : Damage) × (s ≡ seen.Damaged which)
@@ -206,9 +206,9 @@ sound_is : (s : Seen) → is_sound s ≡ true → IsDamaged s
 unfolding IsDamaged
 sound_is s is not = absurd (both_ways _ not is)
 
-held_is_sound : (e : Endian) (tile : List ℕ) → is_sound (held_seen e tile) ≡ true
-unfolding held_seen
-held_is_sound e tile =
+passed_is_sound : (e : Endian) (tile : List ℕ) → is_sound (passed_seen e tile) ≡ true
+unfolding passed_seen
+passed_is_sound e tile =
     cond_both (compr_of tile == 0) _ _ (λ s. is_sound s ≡ true) (λ _. refl) (λ _.
     cond_both (compr_of tile == 1) _ _ (λ s. is_sound s ≡ true) (λ _. refl) (λ _. refl))
 
@@ -222,7 +222,7 @@ inode_damaged : (e : Endian) (tile : List ℕ) → IsDamaged (inode_seen e tile)
 unfolding inode_seen
 inode_damaged e tile =
     five_both (is_inode_long e tile) (is_crc_right e tile 64 (take 60 tile)) (is_size_right e tile (68 + csize_of e tile)) (is_inode_in_range e tile) (is_data_crc_right e tile)
-    _ _ _ _ _ (held_seen e tile) IsDamaged damaged_is (sound_is (held_seen e tile) (held_is_sound e tile))
+    _ _ _ _ _ (passed_seen e tile) IsDamaged damaged_is (sound_is (passed_seen e tile) (passed_is_sound e tile))
 
 seen_of_type : (e : Endian) (node : NodeRef) (tile : List ℕ) → nodetype_of e tile ≡ nodetype_to node → IsDamaged (seen_of e tile)
 unfolding seen_of nodetype_to

@@ -1,4 +1,4 @@
--- What is written is read back: each field stands at its place.
+-- What is written is read back: each field is at its place.
 use Rattle.std.proofs.Common.{◌≡◌, ◌≢◌, ◌↔◌, ℕ, ◌+◌, ◌-◌, ◌^◌, ◌<◌, ◌≤◌, true, IsTrue, List, [], ◌++◌, length, take, drop, slice_index, bit_or, refl, sym, ap, ap₂, subst, ◌∙◌, arith}
 use Rattle.std.proofs.lemmas.Bool.{leb-true, le-leb, eqb-true, eq-eqb, and_parts, and_from}
 use Rattle.std.proofs.lemmas.List.{append_assoc, append-nil, length-append, length-replicate}
@@ -10,7 +10,7 @@ use Rattle.flashbase.proofs.BytesLemmas.{le_pad4}
 use Rattle.jnode.specs.Order.{number_in, number_at, bytes_in}
 use Rattle.jnode.specs.Header.{magic, accurate_bit, is_accurate, magic_of, nodetype_of, totlen_of, hdr_crc_of, header_crc_of}
 use Rattle.jnode.specs.Reading.{dirent_type, inode_type, marker_type, padding_type, seen_of, plain_seen, entry_len, inode_len, IsTile, ReadsEntry, ReadsInode, ReadsFill, Reads, dirent_of, inode_of, name_of, csize_of, compr_of, data_of}
-use Rattle.jnode.specs.Writing.{header_bytes, clean_marker, padding_node, entry_front, canonical_entry, object_bytes, time_bytes, range_bytes, inode_front, canonical_inode, canonical, filled, held_bytes, held_compr, HoldsRange, holds_range, is_writable, FitsEntry, FitsInode, Fits, IsWritableEntry, IsWritableInode, IsWritable}
+use Rattle.jnode.specs.Writing.{header_bytes, clean_marker, padding_node, entry_front, canonical_entry, object_bytes, time_bytes, range_bytes, inode_front, canonical_inode, canonical, filled, stored_bytes, stored_compr, HoldsRange, holds_range, is_writable, FitsEntry, FitsInode, Fits, IsWritableEntry, IsWritableInode, IsWritable}
 use Rattle.jnode.specs.declared.order.Endian.{Endian}
 use Rattle.jnode.specs.declared.order.Endian.TheVariants.{Little, Big}
 use Rattle.jnode.specs.declared.node.Dirent.{Dirent}
@@ -46,7 +46,7 @@ unfolding header_bytes bytes_in
 header_bytes_are Little nodetype totlen rest = record { magic_is = refl; type_is = refl; totlen_is = refl; crc_is = refl }
 header_bytes_are Big nodetype totlen rest = record { magic_is = refl; type_is = refl; totlen_is = refl; crc_is = refl }
 
--- what stands in a header
+-- what is in a header
 pub record HasHeader (e : Endian) (nodetype totlen : ℕ) (tile : List ℕ) : Type 0 where
   pub right_magic : magic_of e tile ≡ magic
   pub nodetype_is : nodetype_of e tile ≡ nodetype
@@ -172,7 +172,7 @@ length-filled bytes =
 
 -- the bytes of an inode node, field by field
 record InodeBytes (e : Endian) (n : InodeNode) (rest tile : List ℕ) : Type 0 where
-  pub header : HeaderBytes e inode_type (inode_len + length (held_bytes n.fill)) tile
+  pub header : HeaderBytes e inode_type (inode_len + length (stored_bytes n.fill)) tile
   pub ino : take 4 (drop 12 tile) ≡ bytes_in e 4 n.ino
   pub version : take 4 (drop 16 tile) ≡ bytes_in e 4 n.version
   pub mode : take 4 (drop 20 tile) ≡ bytes_in e 4 n.mode
@@ -183,13 +183,13 @@ record InodeBytes (e : Endian) (n : InodeNode) (rest tile : List ℕ) : Type 0 w
   pub mtime : take 4 (drop 36 tile) ≡ bytes_in e 4 n.mtime
   pub ctime : take 4 (drop 40 tile) ≡ bytes_in e 4 n.ctime
   pub offset : take 4 (drop 44 tile) ≡ bytes_in e 4 n.offset
-  pub csize : take 4 (drop 48 tile) ≡ bytes_in e 4 (length (held_bytes n.fill))
+  pub csize : take 4 (drop 48 tile) ≡ bytes_in e 4 (length (stored_bytes n.fill))
   pub dsize : take 4 (drop 52 tile) ≡ bytes_in e 4 n.dsize
-  pub compr : slice_index tile 56 ≡ held_compr n.fill
+  pub compr : slice_index tile 56 ≡ stored_compr n.fill
   pub front : take 60 tile ≡ inode_front e n
-  pub data_crc : take 4 (drop 60 tile) ≡ bytes_in e 4 (crc_of (held_bytes n.fill))
+  pub data_crc : take 4 (drop 60 tile) ≡ bytes_in e 4 (crc_of (stored_bytes n.fill))
   pub node_crc : take 4 (drop 64 tile) ≡ bytes_in e 4 (crc_of (inode_front e n))
-  pub behind : drop 68 tile ≡ held_bytes n.fill ++ rest
+  pub behind : drop 68 tile ≡ stored_bytes n.fill ++ rest
 
 inode_bytes_are : (e : Endian) (n : InodeNode) (rest : List ℕ) → InodeBytes e n rest (canonical_inode e n ++ rest)
 unfolding canonical_inode inode_front object_bytes time_bytes range_bytes header_bytes bytes_in
@@ -242,16 +242,16 @@ inode_from : (e : Endian) (tile : List ℕ) (node : InodeNode)
 inode_from e tile node ino version mode uid gid isize atime mtime ctime offset dsize =
     rw (ino, version, mode, uid, gid, isize, atime, mtime, ctime, offset, dsize) refl
 
-fill_from : (e : Endian) (tile : List ℕ) (fill : Fill) (dsize : ℕ) → HoldsRange fill dsize → compr_of tile ≡ held_compr fill
-    → csize_of e tile ≡ length (held_bytes fill) → number_at e 4 52 tile ≡ dsize → data_of e tile ≡ held_bytes fill → ReadsFill e tile fill
-fill_from e tile Zero dsize held compr csize range bytes = compr
-fill_from e tile (Data b) dsize held compr csize range bytes = (compr, csize ∙ held ∙ sym range, sym bytes)
+fill_from : (e : Endian) (tile : List ℕ) (fill : Fill) (dsize : ℕ) → HoldsRange fill dsize → compr_of tile ≡ stored_compr fill
+    → csize_of e tile ≡ length (stored_bytes fill) → number_at e 4 52 tile ≡ dsize → data_of e tile ≡ stored_bytes fill → ReadsFill e tile fill
+fill_from e tile Zero dsize stored compr csize range bytes = compr
+fill_from e tile (Data b) dsize stored compr csize range bytes = (compr, csize ∙ stored ∙ sym range, sym bytes)
 
 inode_reads : (e : Endian) (n : InodeNode) (rest tile : List ℕ) → InodeBytes e n rest tile → FitsInode n → IsWritableInode n
-    → length tile ≡ pad4_of (inode_len + length (held_bytes n.fill)) → ReadsInode e tile n
+    → length tile ≡ pad4_of (inode_len + length (stored_bytes n.fill)) → ReadsInode e tile n
 inode_reads e n rest tile b fits writable long =
-    let held : List ℕ = held_bytes n.fill in
-    let size : ℕ = length held in
+    let stored : List ℕ = stored_bytes n.fill in
+    let size : ℕ = length stored in
     let most : inode_len + size ≤ 4194304 = writable.long in
     let object : 1 ≤ n.ino = writable.object in
     let end : n.offset + n.dsize ≤ 0xFFFF_FFFF = writable.end in
@@ -261,7 +261,7 @@ inode_reads e n rest tile b fits writable long =
     let offset : number_at e 4 44 tile ≡ n.offset = number_is e 4 n.offset (drop 44 tile) b.offset fits.offset in
     let csize : csize_of e tile ≡ size = number_is e 4 size (drop 48 tile) b.csize (omega arith) in
     let dsize : number_at e 4 52 tile ≡ n.dsize = number_is e 4 n.dsize (drop 52 tile) b.dsize fits.dsize in
-    let bytes : data_of e tile ≡ held = ap₂ (λ (k : ℕ) (xs : List ℕ). take k xs) csize b.behind ∙ take-append_seam held rest in
+    let bytes : data_of e tile ≡ stored = ap₂ (λ (k : ℕ) (xs : List ℕ). take k xs) csize b.behind ∙ take-append_seam stored rest in
     record {
       sound = record {
         is_tile = tile_from e inode_type (inode_len + size) tile h long refl;
@@ -271,9 +271,9 @@ inode_reads e n rest tile b fits writable long =
         object = λ none. absurd (omega (arith, none, ino));
         end = omega arith;
         node_crc = number_is e 4 (crc_of (inode_front e n)) (drop 64 tile) b.node_crc (crc_of-lt (inode_front e n)) ∙ ap crc_of (sym b.front);
-        data_crc = λ _. number_is e 4 (crc_of held) (drop 60 tile) b.data_crc (crc_of-lt held) ∙ ap crc_of (sym bytes);
+        data_crc = λ _. number_is e 4 (crc_of stored) (drop 60 tile) b.data_crc (crc_of-lt stored) ∙ ap crc_of (sym bytes);
       };
-      gives = fill_from e tile n.fill n.dsize writable.held b.compr csize dsize bytes;
+      gives = fill_from e tile n.fill n.dsize writable.stored b.compr csize dsize bytes;
       fields = inode_from e tile n ino
           (number_is e 4 n.version (drop 16 tile) b.version fits.version)
           (number_is e 4 n.mode (drop 20 tile) b.mode fits.mode)
@@ -286,7 +286,7 @@ inode_reads e n rest tile b fits writable long =
           offset dsize;
     }
 
-pub length-canonical_inode : (e : Endian) (n : InodeNode) → length (canonical_inode e n) ≡ inode_len + length (held_bytes n.fill)
+pub length-canonical_inode : (e : Endian) (n : InodeNode) → length (canonical_inode e n) ≡ inode_len + length (stored_bytes n.fill)
 unfolding canonical_inode inode_front object_bytes time_bytes range_bytes header_bytes bytes_in
 length-canonical_inode Little n = omega arith
 length-canonical_inode Big n = omega arith
@@ -323,13 +323,13 @@ writable_found (Inode n) h =
     let parts = and_parts _ _ h in
     let three = and_parts _ _ parts.0 in
     let two = and_parts _ _ three.0 in
-    record { object = leb-true _ _ two.0; end = leb-true _ _ two.1; held = range_found n.fill n.dsize three.1; long = leb-true _ _ parts.1 }
+    record { object = leb-true _ _ two.0; end = leb-true _ _ two.1; stored = range_found n.fill n.dsize three.1; long = leb-true _ _ parts.1 }
 
 writable_again : (node : NodeRef) → IsWritable node → is_writable node ≡ true
 unfolding is_writable
 writable_again (Entry d) w = and_from _ _ (and_from _ _ (le-leb _ _ w.name.0) (le-leb _ _ w.name.1)) (le-leb _ _ w.parent)
 writable_again (Inode n) w =
-    and_from _ _ (and_from _ _ (and_from _ _ (le-leb _ _ w.object) (le-leb _ _ w.end)) (range_again n.fill n.dsize w.held)) (le-leb _ _ w.long)
+    and_from _ _ (and_from _ _ (and_from _ _ (le-leb _ _ w.object) (le-leb _ _ w.end)) (range_again n.fill n.dsize w.stored)) (le-leb _ _ w.long)
 
 pub writable_is_computed : (node : NodeRef) → IsTrue (is_writable node) ↔ IsWritable node
 writable_is_computed node = (writable_found node, writable_again node)
@@ -359,7 +359,7 @@ a_tile e nodetype totlen bytes rest long least h =
           ∙ ap (λ (k : ℕ). take k (filled bytes ++ rest)) (sym padded) ∙ take-append_seam (filled bytes) rest;
     }
 
--- where bytes are filled up, what they begin with stands in front
+-- where bytes are filled up, what they begin with is in front
 header_of_filled : (e : Endian) (nodetype totlen : ℕ) (bytes back rest : List ℕ) → bytes ≡ header_bytes e nodetype totlen ++ back
     → HeaderBytes e nodetype totlen (filled bytes ++ rest)
 header_of_filled e nodetype totlen bytes back rest is =
@@ -368,7 +368,7 @@ header_of_filled e nodetype totlen bytes back rest is =
     sym (append_assoc (header_bytes e nodetype totlen) back (gap ++ rest)) ∙ ap (λ (xs : List ℕ). xs ++ (gap ++ rest)) (sym is) ∙ sym (append_assoc bytes gap rest) in
     subst (HeaderBytes e nodetype totlen) shape (header_bytes_are e nodetype totlen (back ++ (gap ++ rest)))
 
--- what stands behind the header
+-- what is after the header
 pub back_of : Endian → NodeRef → List ℕ
 back_of e node = drop 12 (canonical e node)
 
@@ -379,7 +379,7 @@ nodetype_to (Inode n) = inode_type
 -- the number of bytes of the written form
 unfoldable pub size_of : NodeRef → ℕ
 size_of (Entry d) = entry_len + length d.name
-size_of (Inode n) = inode_len + length (held_bytes n.fill)
+size_of (Inode n) = inode_len + length (stored_bytes n.fill)
 
 pub length-canonical : (e : Endian) (node : NodeRef) → length (canonical e node) ≡ size_of node
 unfolding size_of

@@ -37,7 +37,7 @@ header_len = 12
 unfoldable pub header_crc_of : Endian → List ℕ → ℕ
 header_crc_of e bytes = crc_of ((take 2 bytes ++ bytes_in e 2 (bit_or (nodetype_of e bytes) accurate_bit)) ++ take 4 (drop 4 bytes))
 
--- A good header stands at the start of these bytes, the rest of a block.
+-- There is a good header at the start of these bytes, the rest of a block.
 pub record IsGood (e : Endian) (rest : List ℕ) : Type 0 where
   pub room : header_len ≤ length rest
   pub right_magic : magic_of e rest ≡ magic
@@ -45,7 +45,7 @@ pub record IsGood (e : Endian) (rest : List ℕ) : Type 0 where
   pub least : header_len ≤ totlen_of e rest
   pub within : totlen_of e rest ≤ length rest
 
--- A good header stands at this place of the block.
+-- There is a good header at this place of the block.
 pub record IsGoodAt (e : Endian) (block : List ℕ) (place : ℕ) : Type 0 where
   pub aligned : place % 4 ≡ 0
   pub good : IsGood e (drop place block)

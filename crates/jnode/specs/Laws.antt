@@ -14,11 +14,11 @@ use Rattle.jnode.specs.declared.node.Seen.TheVariants.{Marker, Padding, Damaged}
 
 -- ---- numbers
 
--- a number that fits n bytes is what stands in its n bytes
+-- a number that fits n bytes is what is in its n bytes
 abbrev pub NumberReadsBack : Type 0
 NumberReadsBack = (e : Endian) (n x : ℕ) (rest : List ℕ) → x < 256 ^ n → number_in e n (bytes_in e n x ++ rest) ≡ x
 
--- and the bytes at a place are those of the number that stands there
+-- and the bytes at a place are those of the number that is there
 pub record NumberIsSpelled : Type 0 where
   pub of_2 : (e : Endian) (place : ℕ) (bytes : List ℕ) → AreBytes bytes → place + 2 ≤ length bytes
       → take 2 (drop place bytes) ≡ bytes_in e 2 (number_at e 2 place bytes)
@@ -36,7 +36,7 @@ abbrev pub HeaderIsTwelveBytes : Type 0
 HeaderIsTwelveBytes = (e : Endian) (a b : List ℕ) → take header_len a ≡ take header_len b
     → (has_header e a ≡ has_header e b) × (header_of e a ≡ header_of e b)
 
--- no good header stands in erased flash
+-- there is no good header in erased flash
 abbrev pub ErasedIsNotGood : Type 0
 ErasedIsNotGood = (e : Endian) (n : ℕ) → is_good e (erased n) ≡ false
 
@@ -101,7 +101,7 @@ PaddingIsTile = (e : Endian) (n : ℕ) (rest : List ℕ) → header_len ≤ n �
 abbrev pub IsPlain : ℕ → Type 0
 IsPlain totlen = (totlen < 65536) × (totlen ≢ 6533)
 
--- Where a cut inside the header changes it, and the checks show that, no good header stands at any word from there on:
+-- Where a cut inside the header changes it, and the checks show that, there is no good header at any word from there on:
 -- at the second word the length spells no magic, and at the third the length that would follow is 0xFFFFFFFF.
 abbrev pub TornHeaderIsNone : Type 0
 TornHeaderIsNone = (e : Endian) (node : NodeRef) (j n word : ℕ) → IsPlain (length (canonical e node)) → j < header_len → j + n ≤ totlen_most
@@ -126,10 +126,10 @@ TornIsTile = (e : Endian) (node : NodeRef) (j n : ℕ) → IsWord (length (canon
     → pad4_of (length (canonical e node)) ≤ j + n → take header_len (torn (canonical e node) j) ≡ take header_len (canonical e node)
     → IsTornTile e (canonical e node) j (take j (canonical e node) ++ erased n)
 
--- a cut behind the header keeps it
+-- a cut after the header keeps it
 abbrev pub CutBehindKeepsHeader : Type 0
 CutBehindKeepsHeader = (bytes : List ℕ) (j : ℕ) → header_len ≤ j → header_len ≤ length bytes → take header_len (torn bytes j) ≡ take header_len bytes
 
--- Nor does a good header stand at any word of a clean marker that was cut.
+-- Nor is there a good header at any word of a clean marker that was cut.
 abbrev pub TornMarkerIsNone : Type 0
 TornMarkerIsNone = (e : Endian) (j n word : ℕ) → j < header_len → is_good e (drop (4 * word) (take j (clean_marker e) ++ erased n)) ≡ false

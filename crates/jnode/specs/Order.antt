@@ -1,4 +1,4 @@
--- The two byte orders, and numbers that stand in a list of bytes.
+-- The two byte orders, and numbers in a list of bytes.
 use Rattle.std.specs.Prelude.{◌≡◌, ℕ, List, drop, refl}
 use Rattle.byteorder.specs.Endian.{big_bytes, big_number, little_bytes, little_number}
 use Rattle.jnode.specs.declared.order.Endian.{Endian}

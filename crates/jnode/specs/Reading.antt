@@ -212,8 +212,8 @@ unfoldable pub is_data_crc_right : Endian → List ℕ → Bool
 is_data_crc_right e tile = (csize_of e tile == 0) || is_crc_right e tile 60 (data_of e tile)
 
 -- what an inode node that passes its checks is seen as, by its compression
-unfoldable pub held_seen : Endian → List ℕ → Seen
-held_seen e tile =
+unfoldable pub passed_seen : Endian → List ℕ → Seen
+passed_seen e tile =
     if compr_of tile == 0 then Inode (inode_of e tile (Data (data_of e tile))) else
     if compr_of tile == 1 then Inode (inode_of e tile Zero) else
     Compressed (compr_of tile)
@@ -226,7 +226,7 @@ inode_seen e tile =
     if not (is_size_right e tile (inode_len + csize_of e tile)) then Damaged Length else
     if not (is_inode_in_range e tile) then Damaged Range else
     if not (is_data_crc_right e tile) then Damaged DataCrc else
-    held_seen e tile
+    passed_seen e tile
 
 -- ---- any node
 

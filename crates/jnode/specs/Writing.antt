@@ -44,13 +44,13 @@ unfoldable pub canonical_entry : Endian → Dirent → List ℕ
 canonical_entry e entry = sealed e (entry_front e entry) ++ bytes_in e 4 (crc_of entry.name) ++ entry.name
 
 -- the bytes that an inode node holds, and their compression
-abbrev pub held_bytes : Fill → List ℕ
-held_bytes Zero = []
-held_bytes (Data bytes) = bytes
+abbrev pub stored_bytes : Fill → List ℕ
+stored_bytes Zero = []
+stored_bytes (Data bytes) = bytes
 
-abbrev pub held_compr : Fill → ℕ
-held_compr Zero = 1
-held_compr (Data bytes) = 0
+abbrev pub stored_compr : Fill → ℕ
+stored_compr Zero = 1
+stored_compr (Data bytes) = 0
 
 -- whose version an inode node is, and its attributes
 unfoldable pub object_bytes : Endian → InodeNode → List ℕ
@@ -64,17 +64,17 @@ time_bytes e inode = bytes_in e 4 inode.isize ++ bytes_in e 4 inode.atime ++ byt
 -- its range, and how it holds the bytes of it; usercompr and flags are 0
 unfoldable pub range_bytes : Endian → InodeNode → List ℕ
 range_bytes e inode =
-    bytes_in e 4 inode.offset ++ bytes_in e 4 (length (held_bytes inode.fill)) ++ bytes_in e 4 inode.dsize
-    ++ held_compr inode.fill ∷ 0 ∷ 0 ∷ 0 ∷ []
+    bytes_in e 4 inode.offset ++ bytes_in e 4 (length (stored_bytes inode.fill)) ++ bytes_in e 4 inode.dsize
+    ++ stored_compr inode.fill ∷ 0 ∷ 0 ∷ 0 ∷ []
 
 -- the bytes of an inode node that its node_crc covers
 unfoldable pub inode_front : Endian → InodeNode → List ℕ
-inode_front e inode = header_bytes e inode_type (inode_len + length (held_bytes inode.fill)) ++ object_bytes e inode ++ time_bytes e inode ++ range_bytes e inode
+inode_front e inode = header_bytes e inode_type (inode_len + length (stored_bytes inode.fill)) ++ object_bytes e inode ++ time_bytes e inode ++ range_bytes e inode
 
 -- An inode node: those bytes, the checksum of the bytes that it holds, its node_crc, and the bytes that it holds.
 unfoldable pub canonical_inode : Endian → InodeNode → List ℕ
 canonical_inode e inode =
-    inode_front e inode ++ bytes_in e 4 (crc_of (held_bytes inode.fill)) ++ bytes_in e 4 (crc_of (inode_front e inode)) ++ held_bytes inode.fill
+    inode_front e inode ++ bytes_in e 4 (crc_of (stored_bytes inode.fill)) ++ bytes_in e 4 (crc_of (inode_front e inode)) ++ stored_bytes inode.fill
 
 -- The written form of a node.
 abbrev pub canonical : Endian → NodeRef → List ℕ
@@ -114,7 +114,7 @@ Fits (Inode inode) = FitsInode inode
 -- the bytes of the name, or of the data, are bytes
 abbrev pub HoldsBytes : NodeRef → Type 0
 HoldsBytes (Entry entry) = AreBytes entry.name
-HoldsBytes (Inode inode) = AreBytes (held_bytes inode.fill)
+HoldsBytes (Inode inode) = AreBytes (stored_bytes inode.fill)
 
 -- ---- what may be written: the rest is refused
 
@@ -138,8 +138,8 @@ HoldsRange (Data bytes) dsize = length bytes ≡ dsize
 pub record IsWritableInode (inode : InodeNode) : Type 0 where
   pub object : 1 ≤ inode.ino
   pub end : inode.offset + inode.dsize ≤ 0xFFFF_FFFF
-  pub held : HoldsRange inode.fill inode.dsize
-  pub long : inode_len + length (held_bytes inode.fill) ≤ totlen_most
+  pub stored : HoldsRange inode.fill inode.dsize
+  pub long : inode_len + length (stored_bytes inode.fill) ≤ totlen_most
 
 abbrev pub IsWritable : NodeRef → Type 0
 IsWritable (Entry entry) = IsWritableEntry entry
@@ -155,4 +155,4 @@ unfoldable pub is_writable : NodeRef → Bool
 is_writable (Entry entry) = nat_le 1 (length entry.name) && nat_le (length entry.name) 254 && nat_le 1 entry.pino
 is_writable (Inode inode) =
     nat_le 1 inode.ino && nat_le (inode.offset + inode.dsize) 0xFFFF_FFFF
-    && holds_range inode.fill inode.dsize && nat_le (inode_len + length (held_bytes inode.fill)) totlen_most
+    && holds_range inode.fill inode.dsize && nat_le (inode_len + length (stored_bytes inode.fill)) totlen_most

@@ -46,7 +46,7 @@ fn has_header<E: Order>(front: &[u8]) -> bool
         && u32_at::<E>(front, header::HDR_CRC) == header_crc::<E>(front)
 }
 
-/// Whether a good header stands in the front of `len` bytes.
+/// Whether there is a good header in the front of `len` bytes.
 #[tactic(auto, unfolding(crate::specs::Header::is_good_front))]
 fn is_good_front<E: Order>(front: &[u8], len: usize) -> bool
     requires { header_len ≤ length front.now }

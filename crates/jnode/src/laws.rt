@@ -11,12 +11,12 @@ ghost use Rattle.jnode.specs.Laws.{NumberReadsBack, NumberIsSpelled, GoodIsCompu
 use crate::node::{Damage, Seen};
 use crate::order::Endian;
 
-/// A number that fits its bytes is what stands in them.
+/// A number that fits its bytes is what they contain.
 pub fn number_reads_back()
     ensures { NumberReadsBack }
 {}
 
-/// The bytes at a place are those of the number that stands there.
+/// The bytes at a place are those of the number that is there.
 pub fn number_is_spelled()
     ensures { NumberIsSpelled }
 {}
@@ -38,7 +38,7 @@ pub fn header_is_twelve_bytes()
     ensures { HeaderIsTwelveBytes }
 {}
 
-/// No good header stands in erased flash.
+/// There is no good header in erased flash.
 #[tactic(auto, using(crate::proofs::HeaderLemmas::erased_is_not_good))]
 pub fn erased_is_not_good()
     ensures { ErasedIsNotGood }
@@ -87,27 +87,27 @@ pub fn padding_is_tile()
     ensures { PaddingIsTile }
 {}
 
-/// Where a cut changes a header and is not weak, no good header stands at any of its words.
+/// Where a cut changes a header and is not weak, there is no good header at any of its words.
 pub fn torn_header_is_none()
     ensures { TornHeaderIsNone }
 {}
 
-/// A node that a cut changed behind its header, and not weakly, is seen as damaged.
+/// A node that a cut changed after its header, and not weakly, is seen as damaged.
 pub fn torn_node_is_damaged()
     ensures { TornNodeIsDamaged }
 {}
 
-/// A node whose header a cut kept is a tile as the whole node is.
+/// A node whose header is intact after a cut is a tile as the whole node is.
 pub fn torn_is_tile()
     ensures { TornIsTile }
 {}
 
-/// A cut behind the header keeps it.
+/// A cut after the header keeps it.
 pub fn cut_behind_keeps_header()
     ensures { CutBehindKeepsHeader }
 {}
 
-/// No good header stands at any word of a torn clean marker.
+/// There is no good header at any word of a torn clean marker.
 pub fn torn_marker_is_none()
     ensures { TornMarkerIsNone }
 {}
@@ -139,7 +139,7 @@ pub fn known_headers()
 {}
 
 /// What known nodes are seen as.
-#[tactic(auto, unfolding(crate::specs::Order::number_in, crate::specs::Header::header_crc_of, crate::specs::Header::has_header, crate::specs::Header::is_good_front, crate::specs::Header::is_good, flashbase::specs::Bytes::pad4_of, crate::specs::Reading::seen_of, crate::specs::Reading::entry_seen, crate::specs::Reading::inode_seen, crate::specs::Reading::plain_seen, crate::specs::Reading::other_seen, crate::specs::Reading::held_seen, crate::specs::Reading::is_entry_long, crate::specs::Reading::is_crc_right, crate::specs::Reading::is_size_right, crate::specs::Reading::is_entry_in_range, crate::specs::Reading::is_inode_long, crate::specs::Reading::is_inode_in_range, crate::specs::Reading::is_data_crc_right, crate::specs::Order::bytes_in, flashbase::specs::Crc::crc_after, flashbase::specs::Crc::push_byte, flashbase::specs::Crc::push_bits, flashbase::specs::Crc::push_bit))]
+#[tactic(auto, unfolding(crate::specs::Order::number_in, crate::specs::Header::header_crc_of, crate::specs::Header::has_header, crate::specs::Header::is_good_front, crate::specs::Header::is_good, flashbase::specs::Bytes::pad4_of, crate::specs::Reading::seen_of, crate::specs::Reading::entry_seen, crate::specs::Reading::inode_seen, crate::specs::Reading::plain_seen, crate::specs::Reading::other_seen, crate::specs::Reading::passed_seen, crate::specs::Reading::is_entry_long, crate::specs::Reading::is_crc_right, crate::specs::Reading::is_size_right, crate::specs::Reading::is_entry_in_range, crate::specs::Reading::is_inode_long, crate::specs::Reading::is_inode_in_range, crate::specs::Reading::is_data_crc_right, crate::specs::Order::bytes_in, flashbase::specs::Crc::crc_after, flashbase::specs::Crc::push_byte, flashbase::specs::Crc::push_bits, flashbase::specs::Crc::push_bit))]
 pub fn known_nodes()
     ensures little_marker { seen_of Endian.Little little_marker ≡ Seen.Marker }
     ensures big_marker { seen_of Endian.Big big_marker ≡ Seen.Marker }
@@ -150,7 +150,7 @@ pub fn known_nodes()
 {}
 
 /// What headers alone are seen as, by their types.
-#[tactic(auto, unfolding(crate::specs::Order::bytes_in, crate::specs::Writing::header_bytes, crate::specs::Order::number_in, crate::specs::Reading::seen_of, crate::specs::Reading::entry_seen, crate::specs::Reading::inode_seen, crate::specs::Reading::plain_seen, crate::specs::Reading::other_seen, crate::specs::Reading::held_seen, crate::specs::Reading::is_entry_long, crate::specs::Reading::is_crc_right, crate::specs::Reading::is_size_right, crate::specs::Reading::is_entry_in_range, crate::specs::Reading::is_inode_long, crate::specs::Reading::is_inode_in_range, crate::specs::Reading::is_data_crc_right, flashbase::specs::Crc::crc_after, flashbase::specs::Crc::push_byte, flashbase::specs::Crc::push_bits, flashbase::specs::Crc::push_bit))]
+#[tactic(auto, unfolding(crate::specs::Order::bytes_in, crate::specs::Writing::header_bytes, crate::specs::Order::number_in, crate::specs::Reading::seen_of, crate::specs::Reading::entry_seen, crate::specs::Reading::inode_seen, crate::specs::Reading::plain_seen, crate::specs::Reading::other_seen, crate::specs::Reading::passed_seen, crate::specs::Reading::is_entry_long, crate::specs::Reading::is_crc_right, crate::specs::Reading::is_size_right, crate::specs::Reading::is_entry_in_range, crate::specs::Reading::is_inode_long, crate::specs::Reading::is_inode_in_range, crate::specs::Reading::is_data_crc_right, flashbase::specs::Crc::crc_after, flashbase::specs::Crc::push_byte, flashbase::specs::Crc::push_bits, flashbase::specs::Crc::push_bit))]
 pub fn known_types()
     ensures attribute { seen_of Endian.Little (header_bytes Endian.Little 0xE008 12) ≡ Seen.Attribute }
     ensures attribute_reference { seen_of Endian.Little (header_bytes Endian.Little 0xE009 12) ≡ Seen.Attribute }
@@ -168,7 +168,7 @@ pub fn known_types()
 {}
 
 /// Data that fail their check hide the node in them.
-#[tactic(auto, unfolding(crate::specs::Order::bytes_in, crate::specs::Writing::header_bytes, crate::specs::Writing::entry_front, crate::specs::Writing::canonical_entry, crate::specs::Writing::object_bytes, crate::specs::Writing::time_bytes, crate::specs::Writing::range_bytes, crate::specs::Writing::inode_front, crate::specs::Writing::canonical_inode, crate::specs::Order::number_in, crate::specs::Header::header_crc_of, crate::specs::Header::has_header, crate::specs::Header::is_good_front, crate::specs::Header::is_good, flashbase::specs::Bytes::pad4_of, crate::specs::Reading::seen_of, crate::specs::Reading::entry_seen, crate::specs::Reading::inode_seen, crate::specs::Reading::plain_seen, crate::specs::Reading::other_seen, crate::specs::Reading::held_seen, crate::specs::Reading::is_entry_long, crate::specs::Reading::is_crc_right, crate::specs::Reading::is_size_right, crate::specs::Reading::is_entry_in_range, crate::specs::Reading::is_inode_long, crate::specs::Reading::is_inode_in_range, crate::specs::Reading::is_data_crc_right, flashbase::specs::Crc::crc_after, flashbase::specs::Crc::push_byte, flashbase::specs::Crc::push_bits, flashbase::specs::Crc::push_bit))]
+#[tactic(auto, unfolding(crate::specs::Order::bytes_in, crate::specs::Writing::header_bytes, crate::specs::Writing::entry_front, crate::specs::Writing::canonical_entry, crate::specs::Writing::object_bytes, crate::specs::Writing::time_bytes, crate::specs::Writing::range_bytes, crate::specs::Writing::inode_front, crate::specs::Writing::canonical_inode, crate::specs::Order::number_in, crate::specs::Header::header_crc_of, crate::specs::Header::has_header, crate::specs::Header::is_good_front, crate::specs::Header::is_good, flashbase::specs::Bytes::pad4_of, crate::specs::Reading::seen_of, crate::specs::Reading::entry_seen, crate::specs::Reading::inode_seen, crate::specs::Reading::plain_seen, crate::specs::Reading::other_seen, crate::specs::Reading::passed_seen, crate::specs::Reading::is_entry_long, crate::specs::Reading::is_crc_right, crate::specs::Reading::is_size_right, crate::specs::Reading::is_entry_in_range, crate::specs::Reading::is_inode_long, crate::specs::Reading::is_inode_in_range, crate::specs::Reading::is_data_crc_right, flashbase::specs::Crc::crc_after, flashbase::specs::Crc::push_byte, flashbase::specs::Crc::push_bits, flashbase::specs::Crc::push_bit))]
 pub fn known_damage()
     ensures seen { seen_of Endian.Little (filled hidden_entry) ≡ Seen.Damaged Damage.DataCrc }
     ensures good { is_good Endian.Little (filled hidden_entry) ≡ true }
@@ -176,7 +176,7 @@ pub fn known_damage()
 {}
 
 /// A cut that no check shows: the data have the checksum of five erased bytes.
-#[tactic(auto, unfolding(crate::specs::Weak::is_weak, crate::specs::Weak::has_bounded_header, crate::specs::Order::bytes_in, crate::specs::Writing::header_bytes, crate::specs::Writing::entry_front, crate::specs::Writing::canonical_entry, crate::specs::Writing::object_bytes, crate::specs::Writing::time_bytes, crate::specs::Writing::range_bytes, crate::specs::Writing::inode_front, crate::specs::Writing::canonical_inode, crate::specs::Order::number_in, crate::specs::Header::header_crc_of, crate::specs::Header::has_header, crate::specs::Header::is_good_front, crate::specs::Header::is_good, flashbase::specs::Bytes::pad4_of, crate::specs::Reading::seen_of, crate::specs::Reading::entry_seen, crate::specs::Reading::inode_seen, crate::specs::Reading::plain_seen, crate::specs::Reading::other_seen, crate::specs::Reading::held_seen, crate::specs::Reading::is_entry_long, crate::specs::Reading::is_crc_right, crate::specs::Reading::is_size_right, crate::specs::Reading::is_entry_in_range, crate::specs::Reading::is_inode_long, crate::specs::Reading::is_inode_in_range, crate::specs::Reading::is_data_crc_right, flashbase::specs::Crc::crc_after, flashbase::specs::Crc::push_byte, flashbase::specs::Crc::push_bits, flashbase::specs::Crc::push_bit))]
+#[tactic(auto, unfolding(crate::specs::Weak::is_weak, crate::specs::Weak::has_bounded_header, crate::specs::Order::bytes_in, crate::specs::Writing::header_bytes, crate::specs::Writing::entry_front, crate::specs::Writing::canonical_entry, crate::specs::Writing::object_bytes, crate::specs::Writing::time_bytes, crate::specs::Writing::range_bytes, crate::specs::Writing::inode_front, crate::specs::Writing::canonical_inode, crate::specs::Order::number_in, crate::specs::Header::header_crc_of, crate::specs::Header::has_header, crate::specs::Header::is_good_front, crate::specs::Header::is_good, flashbase::specs::Bytes::pad4_of, crate::specs::Reading::seen_of, crate::specs::Reading::entry_seen, crate::specs::Reading::inode_seen, crate::specs::Reading::plain_seen, crate::specs::Reading::other_seen, crate::specs::Reading::passed_seen, crate::specs::Reading::is_entry_long, crate::specs::Reading::is_crc_right, crate::specs::Reading::is_size_right, crate::specs::Reading::is_entry_in_range, crate::specs::Reading::is_inode_long, crate::specs::Reading::is_inode_in_range, crate::specs::Reading::is_data_crc_right, flashbase::specs::Crc::crc_after, flashbase::specs::Crc::push_byte, flashbase::specs::Crc::push_bits, flashbase::specs::Crc::push_bit))]
 pub fn known_cuts()
     ensures before { is_weak Endian.Little (canonical_inode Endian.Little weak_write) 67 ≡ false }
     ensures at { is_weak Endian.Little (canonical_inode Endian.Little weak_write) 68 ≡ true }

@@ -1,4 +1,4 @@
-// Where the fields of nodes stand, in bytes from the node's start, and the words of the format
+// Where the fields of nodes are, in bytes from the node's start, and the words of the format
 // (Linux, include/uapi/linux/jffs2.h).
 
 /// The magic that each node begins with.
@@ -20,7 +20,7 @@ pub(crate) mod header {
     pub(crate) const LEN: usize = 12;
 }
 
-/// The fields of an entry node, `struct jffs2_raw_dirent`; its name stands behind them.
+/// The fields of an entry node, `struct jffs2_raw_dirent`; its name is after them.
 pub(crate) mod entry {
     pub(crate) const PINO: usize = 12;
 
@@ -44,7 +44,7 @@ pub(crate) mod entry {
     pub(crate) const NAME_MOST: u8 = 254;
 }
 
-/// The fields of an inode node, `struct jffs2_raw_inode`; its data stand behind them.
+/// The fields of an inode node, `struct jffs2_raw_inode`; its data are after them.
 pub(crate) mod inode {
     pub(crate) const INO: usize = 12;
 

@@ -1,6 +1,6 @@
 //! The nodes of a JFFS2 image, read from bytes and written as bytes, in either byte order.
 //!
-//! The layer stands on `flashbase`: checksums, padding and parts of a block. It promises the next one that an entry
+//! The layer is built on `flashbase`: checksums, padding and parts of a block. It promises the next one that an entry
 //! or inode node is answered exactly for a tile that reads as that node, and that what is written reads back.
 //!
 //! - `header_at` and `header_in` find the good header at the start of the rest of a block, which is a slice or a
@@ -10,7 +10,7 @@
 //! - `Order` names the byte order, and `Endian` is that order as a value, which the definitions take.
 //! - `laws` has what holds of the definitions themselves: round trips, torn nodes, worked examples.
 //!
-//! Where a field stands is said once for the code, in `layout.rt`, and once for the definitions, in
+//! The place of a field is said once for the code, in `layout.rt`, and once for the definitions, in
 //! `specs/Header.antt` and `specs/Reading.antt`.
 #![tactic(auto)]
 

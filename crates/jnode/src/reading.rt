@@ -3,7 +3,7 @@
 ghost use Rattle.std.specs.Prelude.{◌≡◌, ◌≤◌, ◌↔◌, ◌<◌, ◌^◌, ◌+◌, ◌%◌, ℕ, IsTrue, length, take, drop};
 ghost use Rattle.flashbase.specs.Bytes.{pad4_of};
 ghost use Rattle.jnode.specs.Header.{IsGood};
-ghost use Rattle.jnode.specs.Reading.{data_of, ReadsEntry, ReadsInode, ReadsCompressed, csize_of, inode_of, inode_seen, is_inode_long, is_inode_in_range, is_data_crc_right, held_seen, other_seen, plain_seen, dirent_of, is_entry_long, is_crc_right, is_size_right, is_entry_in_range, nsize_of, entry_seen, seen_of, tile_of, entry_len, inode_len, IsWhole};
+ghost use Rattle.jnode.specs.Reading.{data_of, ReadsEntry, ReadsInode, ReadsCompressed, csize_of, inode_of, inode_seen, is_inode_long, is_inode_in_range, is_data_crc_right, passed_seen, other_seen, plain_seen, dirent_of, is_entry_long, is_crc_right, is_size_right, is_entry_in_range, nsize_of, entry_seen, seen_of, tile_of, entry_len, inode_len, IsWhole};
 ghost use Rattle.jnode.specs.declared.node.Dirent.{Dirent};
 ghost use Rattle.jnode.specs.declared.node.InodeNode.{InodeNode};
 
@@ -161,10 +161,10 @@ fn data<'a, E: Order>(tile: &Part<'a>) -> Part<'a>
     tile.slice(inode::LEN, csize)
 }
 
-#[tactic(auto, unfolding(crate::specs::Reading::held_seen))]
-fn held_seen<'a, E: Order>(tile: &Part<'a>) -> Seen<'a>
+#[tactic(auto, unfolding(crate::specs::Reading::passed_seen))]
+fn passed_seen<'a, E: Order>(tile: &Part<'a>) -> Seen<'a>
     requires { inode_len + csize_of E.order tile.now ≤ length tile.now }
-    ensures { result ≡ held_seen E.order tile.now }
+    ensures { result ≡ passed_seen E.order tile.now }
 {
     let compr = byte_in(tile, inode::COMPR);
     if compr == compr::NONE {
@@ -199,7 +199,7 @@ fn inode_seen<'a, E: Order>(tile: &Part<'a>) -> Seen<'a>
     if !is_data_crc_right::<E>(tile) {
         return damaged(Damage::DataCrc);
     }
-    held_seen::<E>(tile)
+    passed_seen::<E>(tile)
 }
 
 #[tactic(auto, unfolding(crate::specs::Reading::other_seen))]

@@ -6,7 +6,7 @@ ghost use Rattle.flashbase.specs.Ranges.{IsHalf, IsWord};
 ghost use Rattle.jnode.specs.Order.{bytes_in};
 ghost use Rattle.jnode.specs.Header.{header_len};
 ghost use Rattle.jnode.specs.Reading.{entry_len, inode_len};
-ghost use Rattle.jnode.specs.Writing.{header_bytes, entry_front, canonical_entry, object_bytes, time_bytes, range_bytes, inode_front, canonical_inode, clean_marker, padding_node, held_bytes, held_compr, totlen_most, FitsEntry, FitsInode, HasNameLength, HoldsRange, IsWritableEntry, IsWritableInode};
+ghost use Rattle.jnode.specs.Writing.{header_bytes, entry_front, canonical_entry, object_bytes, time_bytes, range_bytes, inode_front, canonical_inode, clean_marker, padding_node, stored_bytes, stored_compr, totlen_most, FitsEntry, FitsInode, HasNameLength, HoldsRange, IsWritableEntry, IsWritableInode};
 
 use crate::layout::{MAGIC, TOTLEN_MOST, compr, entry, header, inode, nodetype};
 use crate::node::{Dirent, Fill, InodeNode};
@@ -141,8 +141,8 @@ pub fn write_entry<E: Order>(out: &mut Vec<u8>, node: &Dirent<'_>) -> Result<(),
     Ok(())
 }
 
-fn held_len(fill: &Fill<'_>) -> usize
-    ensures { result ≡ length (held_bytes fill.now) }
+fn stored_len(fill: &Fill<'_>) -> usize
+    ensures { result ≡ length (stored_bytes fill.now) }
 {
     match fill {
         Fill::Zero => 0,
@@ -150,8 +150,8 @@ fn held_len(fill: &Fill<'_>) -> usize
     }
 }
 
-fn held_crc(fill: &Fill<'_>) -> u32
-    ensures { result ≡ crc_of (held_bytes fill.now) }
+fn stored_crc(fill: &Fill<'_>) -> u32
+    ensures { result ≡ crc_of (stored_bytes fill.now) }
 {
     match fill {
         Fill::Zero => crc(&[]),
@@ -159,8 +159,8 @@ fn held_crc(fill: &Fill<'_>) -> u32
     }
 }
 
-fn held_compr(fill: &Fill<'_>) -> u8
-    ensures { result ≡ held_compr fill.now }
+fn stored_compr(fill: &Fill<'_>) -> u8
+    ensures { result ≡ stored_compr fill.now }
 {
     match fill {
         Fill::Zero => compr::ZERO,
@@ -168,9 +168,9 @@ fn held_compr(fill: &Fill<'_>) -> u8
     }
 }
 
-fn put_held(out: &mut Vec<u8>, fill: &Fill<'_>)
-    requires { vec_len out.old + length (held_bytes fill.now) ≤ vec_capacity out.old }
-    ensures { out.new.items ≡ out.old.items ++ held_bytes fill.now }
+fn put_stored(out: &mut Vec<u8>, fill: &Fill<'_>)
+    requires { vec_len out.old + length (stored_bytes fill.now) ≤ vec_capacity out.old }
+    ensures { out.new.items ≡ out.old.items ++ stored_bytes fill.now }
 {
     match fill {
         Fill::Zero => {}
@@ -221,7 +221,7 @@ fn put_times<E: Order>(out: &mut Vec<u8>, node: &InodeNode<'_>)
 #[tactic(auto, unfolding(crate::specs::Writing::range_bytes))]
 fn put_range<E: Order>(out: &mut Vec<u8>, node: &InodeNode<'_>)
     requires room { vec_len out.old + 16 ≤ vec_capacity out.old }
-    requires long { inode_len + length (held_bytes node.now.fill) ≤ totlen_most }
+    requires long { inode_len + length (stored_bytes node.now.fill) ≤ totlen_most }
     ensures items { out.new.items ≡ out.old.items ++ range_bytes E.order node.now }
     ensures len { vec_len out.new ≡ vec_len out.old + 16 }
     ensures capacity { vec_capacity out.old ≤ vec_capacity out.new }
@@ -230,23 +230,23 @@ fn put_range<E: Order>(out: &mut Vec<u8>, node: &InodeNode<'_>)
     ensures offset { IsWord node.now.offset }
     ensures dsize { IsWord node.now.dsize }
 {
-    let csize = held_len(&node.fill) as u32;
+    let csize = stored_len(&node.fill) as u32;
     put_u32::<E>(out, node.offset);
     put_u32::<E>(out, csize);
     put_u32::<E>(out, node.dsize);
-    put(out, &[held_compr(&node.fill), 0, 0, 0]);
+    put(out, &[stored_compr(&node.fill), 0, 0, 0]);
 }
 
 #[tactic(auto, unfolding(crate::specs::Writing::inode_front))]
 fn put_inode_front<E: Order>(out: &mut Vec<u8>, node: &InodeNode<'_>)
     requires room { vec_len out.old + 60 ≤ vec_capacity out.old }
-    requires long { inode_len + length (held_bytes node.now.fill) ≤ totlen_most }
+    requires long { inode_len + length (stored_bytes node.now.fill) ≤ totlen_most }
     ensures items { out.new.items ≡ out.old.items ++ inode_front E.order node.now }
     ensures len { vec_len out.new ≡ vec_len out.old + 60 }
     ensures capacity { vec_capacity out.old ≤ vec_capacity out.new }
     ensures fits { FitsInode node.now }
 {
-    let csize = held_len(&node.fill) as u32;
+    let csize = stored_len(&node.fill) as u32;
     put_header::<E>(out, nodetype::INODE, inode::LEN as u32 + csize);
     put_object::<E>(out, node);
     put_times::<E>(out, node);
@@ -263,17 +263,17 @@ fn crc_since(out: &Vec<u8>, start: usize) -> u32
 
 #[tactic(auto, unfolding(crate::specs::Writing::canonical_inode))]
 fn put_inode<E: Order>(out: &mut Vec<u8>, node: &InodeNode<'_>)
-    requires room { vec_len out.old + (inode_len + length (held_bytes node.now.fill)) ≤ vec_capacity out.old }
-    requires long { inode_len + length (held_bytes node.now.fill) ≤ totlen_most }
+    requires room { vec_len out.old + (inode_len + length (stored_bytes node.now.fill)) ≤ vec_capacity out.old }
+    requires long { inode_len + length (stored_bytes node.now.fill) ≤ totlen_most }
     ensures items { out.new.items ≡ out.old.items ++ canonical_inode E.order node.now }
     ensures fits { FitsInode node.now }
 {
     let start = out.len();
     put_inode_front::<E>(out, node);
     let node_crc = crc_since(out, start);
-    put_u32::<E>(out, held_crc(&node.fill));
+    put_u32::<E>(out, stored_crc(&node.fill));
     put_u32::<E>(out, node_crc);
-    put_held(out, &node.fill);
+    put_stored(out, &node.fill);
 }
 
 fn holds_range(fill: &Fill<'_>, dsize: u32) -> bool
@@ -291,7 +291,7 @@ fn is_writable_inode(node: &InodeNode<'_>) -> bool
     node.ino != 0
         && u64::from(node.offset) + u64::from(node.dsize) <= 0xFFFF_FFFF
         && holds_range(&node.fill, node.dsize)
-        && held_len(&node.fill) <= TOTLEN_MOST - inode::LEN
+        && stored_len(&node.fill) <= TOTLEN_MOST - inode::LEN
 }
 
 /// Appends the written form of an inode node. A refusal leaves `out` as it was.
@@ -305,12 +305,12 @@ pub fn write_inode<E: Order>(out: &mut Vec<u8>, node: &InodeNode<'_>) -> Result<
     ensures name { result ≢ Err WriteFault.Name }
     ensures data { (result ≡ Err WriteFault.Data) ↔ (¬ IsWritableInode node.now) }
     // Memory was wanting only where the room was.
-    ensures memory { result ≡ Err WriteFault.OutOfMemory → vec_capacity out.old < vec_len out.old + (inode_len + length (held_bytes node.now.fill)) }
+    ensures memory { result ≡ Err WriteFault.OutOfMemory → vec_capacity out.old < vec_len out.old + (inode_len + length (stored_bytes node.now.fill)) }
 {
     if !is_writable_inode(node) {
         return Err(WriteFault::Data);
     }
-    let size = inode::LEN + held_len(&node.fill);
+    let size = inode::LEN + stored_len(&node.fill);
     out.reserve(size).map_err(|_| WriteFault::OutOfMemory)?;
     put_inode::<E>(out, node);
     Ok(())

@@ -49,7 +49,7 @@ pub(crate) fn write_of(data: &[u8], dsize: u32) -> InodeNode<'_> {
     }
 }
 
-/// The range of zeros behind that write.
+/// The range of zeros after that write.
 pub(crate) fn zeros_of_96<'a>() -> InodeNode<'a> {
     InodeNode {
         version: 3,
@@ -73,6 +73,6 @@ pub(crate) fn start_of(bytes: &[u8], n: usize) -> &[u8] {
 
 /// What an image holds of these bytes where it ends after n of them.
 pub(crate) fn cut_after(bytes: &[u8], n: usize) -> Part<'_> {
-    let held = n.min(bytes.len());
-    Part::new(&bytes[..held], bytes.len() - held)
+    let present = n.min(bytes.len());
+    Part::new(&bytes[..present], bytes.len() - present)
 }

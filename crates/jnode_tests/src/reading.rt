@@ -25,27 +25,27 @@ fn brief(seen: &Seen<'_>) -> (&'static str, u32) {
     }
 }
 
-fn look<'a, E: Order>(rt: &impl Abort, bytes: &'a [u8]) -> Seen<'a> {
+fn seen_as<'a, E: Order>(rt: &impl Abort, bytes: &'a [u8]) -> Seen<'a> {
     assert!(rt; header_at::<E>(bytes).is_some());
     assert!(rt; bytes.len() % 4 == 0);
     read_node::<E>(bytes)
 }
 
-fn look_in<'a, E: Order>(rt: &impl Abort, part: &Part<'a>) -> Seen<'a> {
+fn seen_in<'a, E: Order>(rt: &impl Abort, part: &Part<'a>) -> Seen<'a> {
     assert!(rt; header_in::<E>(part).is_some());
     assert!(rt; part.len() % 4 == 0);
     read_part::<E>(part)
 }
 
 fn is_seen(rt: &impl Abort, bytes: &[u8], seen: (&'static str, u32)) {
-    assert_eq!(rt; brief(&look::<LittleEndian>(rt, bytes)), seen);
+    assert_eq!(rt; brief(&seen_as::<LittleEndian>(rt, bytes)), seen);
 }
 
 #[test]
 fn types_are_seen(rt: HostRuntime) {
     is_seen(&rt, &little_marker(), ("marker", 0));
     assert_eq!(rt;
-        brief(&look::<BigEndian>(&rt, &big_marker())),
+        brief(&seen_as::<BigEndian>(&rt, &big_marker())),
         ("marker", 0)
     );
     is_seen(&rt, &padding_16(), ("padding", 0));
@@ -95,8 +95,8 @@ fn is_entry_a(rt: &impl Abort, alloc: Global, seen: Seen<'_>) -> Result<(), Fail
 }
 
 fn is_part(rt: &impl Abort, alloc: Global, part: &Part<'_>, bytes: &[u8]) -> Result<(), Fail> {
-    let held: Vec<u8> = part.iter().collect(alloc)?;
-    assert_eq!(rt; held.as_slice(), bytes);
+    let present: Vec<u8> = part.iter().collect(alloc)?;
+    assert_eq!(rt; present.as_slice(), bytes);
     Ok(())
 }
 
@@ -107,9 +107,9 @@ fn entries_are_read(rt: HostRuntime) -> Result<(), Fail> {
     let big = entry_a_big();
     let cut = cut_after(&little, 41);
     for seen in [
-        look::<LittleEndian>(&rt, &little),
-        look::<BigEndian>(&rt, &big),
-        look_in::<LittleEndian>(&rt, &cut),
+        seen_as::<LittleEndian>(&rt, &little),
+        seen_as::<BigEndian>(&rt, &big),
+        seen_in::<LittleEndian>(&rt, &cut),
     ] {
         is_entry_a(&rt, rt.alloc(), seen)?;
     }
@@ -136,9 +136,9 @@ fn inodes_are_read(rt: HostRuntime) -> Result<(), Fail> {
     let big = write_4_big();
     let cut = cut_after(&little, 71);
     for seen in [
-        look::<LittleEndian>(&rt, &little),
-        look::<BigEndian>(&rt, &big),
-        look_in::<LittleEndian>(&rt, &cut),
+        seen_as::<LittleEndian>(&rt, &little),
+        seen_as::<BigEndian>(&rt, &big),
+        seen_in::<LittleEndian>(&rt, &cut),
     ] {
         is_write_4(&rt, rt.alloc(), seen)?;
     }
@@ -148,7 +148,7 @@ fn inodes_are_read(rt: HostRuntime) -> Result<(), Fail> {
 #[test]
 fn zeros_are_read(rt: HostRuntime) {
     let node = zero_96();
-    let Seen::Inode(zeros) = look::<LittleEndian>(&rt, &node) else {
+    let Seen::Inode(zeros) = seen_as::<LittleEndian>(&rt, &node) else {
         panic!(rt; "no inode node");
     };
     assert_eq!(rt; (zeros.offset, zeros.dsize), (104, 96));
@@ -162,7 +162,7 @@ fn is_damaged(rt: &impl Abort, node: &[u8], totlen: u32, which: u32) {
     is_seen(rt, node, ("damaged", which));
 }
 
-/// The data of a node with a wrong data_crc hide what stands in them.
+/// The data of a node with a wrong data_crc hide what they contain.
 #[test]
 fn a_hidden_entry(rt: HostRuntime) -> Result<(), Fail> {
     let mut node = Vec::new(rt.alloc());

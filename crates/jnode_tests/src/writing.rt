@@ -12,7 +12,7 @@ use std::process::Abort;
 use std::test::Fail;
 
 /// A fault's text, and nothing for none.
-fn told(alloc: Global, written: Result<(), WriteFault>) -> Result<String, Fail> {
+fn message(alloc: Global, written: Result<(), WriteFault>) -> Result<String, Fail> {
     match written {
         Ok(()) => Ok(String::new(alloc)),
         Err(fault) => Ok(format!(in alloc; "{fault}")?),
@@ -54,7 +54,7 @@ fn entries_are_refused(rt: HostRuntime) -> Result<(), Fail> {
         (1, [0u8; 255].as_slice(), "N1 Name"),
     ] {
         let refused = write_entry::<LittleEndian>(&mut out, &entry_of(pino, name));
-        assert_eq!(rt; told(rt.alloc(), refused)?.as_str(), fault);
+        assert_eq!(rt; message(rt.alloc(), refused)?.as_str(), fault);
         assert_eq!(rt; out.as_slice(), start_of(&entry_a(), 41));
     }
     Ok(())
@@ -97,7 +97,7 @@ fn inodes_are_refused(rt: HostRuntime) -> Result<(), Fail> {
     };
     for node in [nameless, past_the_end, write_of(b"abc", 4)] {
         let refused = write_inode::<LittleEndian>(&mut out, &node);
-        assert_eq!(rt; told(rt.alloc(), refused)?.as_str(), "N2 Data");
+        assert_eq!(rt; message(rt.alloc(), refused)?.as_str(), "N2 Data");
         assert_eq!(rt; out.as_slice(), inode_2().as_slice());
     }
     Ok(())
@@ -115,7 +115,7 @@ fn a_node_past_the_greatest(rt: HostRuntime) -> Result<(), Fail> {
     let data = some_bytes(rt.alloc(), 4_194_237)?;
     let mut out = Vec::new(rt.alloc());
     let refused = write_inode::<LittleEndian>(&mut out, &write_of(&data, 4_194_237));
-    assert_eq!(rt; told(rt.alloc(), refused)?.as_str(), "N2 Data");
+    assert_eq!(rt; message(rt.alloc(), refused)?.as_str(), "N2 Data");
     assert!(rt; out.is_empty());
     Ok(())
 }
@@ -138,7 +138,7 @@ fn padding_is_refused(rt: HostRuntime) -> Result<(), Fail> {
     let mut out = Vec::new(rt.alloc());
     for totlen in [0, 11, 4_194_305, u32::MAX] {
         let refused = write_padding::<LittleEndian>(&mut out, totlen);
-        assert_eq!(rt; told(rt.alloc(), refused)?.as_str(), "N2 Data");
+        assert_eq!(rt; message(rt.alloc(), refused)?.as_str(), "N2 Data");
         assert!(rt; out.is_empty());
     }
     Ok(())

@@ -11,13 +11,13 @@ use Rattle.flashbase.specs.Bytes.{erased}
 use Rattle.flashbase.specs.Lists.{below}
 use Rattle.jnode.specs.declared.order.Endian.{Endian}
 use Rattle.jscan.specs.Image.{is_block_size, greatest_image, block_of, block_count}
-use Rattle.jscan.specs.Stretches.{stretches}
-use Rattle.jscan.specs.declared.stretch.Look.{Look}
-use Rattle.jscan.specs.declared.stretch.Stretch.{Stretch}
-use Rattle.jscan.specs.Counts.{is_entry_tile, is_inode_tile, is_found, number_in, stretches_of_block, stretches_below, counts_of, block_counted}
+use Rattle.jscan.specs.Extents.{extents}
+use Rattle.jscan.specs.declared.extent.ExtentKind.{ExtentKind}
+use Rattle.jscan.specs.declared.extent.Extent.{Extent}
+use Rattle.jscan.specs.Counts.{is_entry_tile, is_inode_tile, is_found, count_in, extents_of_block, extents_below, counts_of, block_counted}
 use Rattle.jscan.specs.declared.counts.Counts.{Counts}
-use Rattle.jreport.specs.Report.{lines_of, lines_below, block_lines, HasRoom}
-use Rattle.jreport.proofs.StretchLemmas.{length_stretches, number_in-le}
+use Rattle.jreport.specs.Report.{lines_of, lines_below, block_lines, CountsHaveRoom}
+use Rattle.jreport.proofs.ExtentLemmas.{length_extents, count_in-le}
 use Rattle.jreport.proofs.PutLemmas.{count_by-append}
 
 -- ---- where a block lies
@@ -58,18 +58,18 @@ take_erased (suc n) zero within = absurd (omega arith)
 take_erased (suc n) (suc m) within = ap (λ (l : List ℕ). 0xFF ∷ l) (take_erased n m (omega arith))
 
 -- bytes that are cut at a size and filled up to it
-pub take_filled : (size : ℕ) (held : List ℕ) → length held ≤ size → take size held ++ erased (size - length held) ≡ take size (held ++ erased size)
-take_filled size held within =
-    let more : length held + (size - length held) ≡ size = omega arith in
-    ap (λ (l : List ℕ). l ++ erased (size - length held)) (take_all size held within)
-    ∙ ap (λ (l : List ℕ). held ++ l) (sym (take_erased (size - length held) size (omega arith)))
-    ∙ sym (take-append-add held (erased size) (size - length held))
-    ∙ ap (λ (n : ℕ). take n (held ++ erased size)) more
+pub take_filled : (size : ℕ) (present : List ℕ) → length present ≤ size → take size present ++ erased (size - length present) ≡ take size (present ++ erased size)
+take_filled size present within =
+    let more : length present + (size - length present) ≡ size = omega arith in
+    ap (λ (l : List ℕ). l ++ erased (size - length present)) (take_all size present within)
+    ∙ ap (λ (l : List ℕ). present ++ l) (sym (take_erased (size - length present) size (omega arith)))
+    ∙ sym (take-append-add present (erased size) (size - length present))
+    ∙ ap (λ (n : ℕ). take n (present ++ erased size)) more
 
 pub length_block_of : (size : ℕ) (image : List ℕ) (k : ℕ) → length (block_of size image k) ≡ size
 length_block_of size image k =
-    let held = drop (k * size) image in
-    omega (arith, length-take size (held ++ erased size), length-append held (erased size), length-replicate {A = ℕ} size 0xFF)
+    let present = drop (k * size) image in
+    omega (arith, length-take size (present ++ erased size), length-append present (erased size), length-replicate {A = ℕ} size 0xFF)
 
 -- ---- one block more
 
@@ -82,34 +82,34 @@ flat_map_below f k =
 pub lines_below_more : (e : Endian) (size : ℕ) (image : List ℕ) (k : ℕ) → lines_below e size image (k + 1) ≡ lines_below e size image k ++ block_lines e size image k
 lines_below_more e size image k = flat_map_below (block_lines e size image) k
 
-pub stretches_below_more : (e : Endian) (size : ℕ) (image : List ℕ) (k : ℕ)
-    → stretches_below e size image (k + 1) ≡ stretches_below e size image k ++ stretches_of_block e size image k
-stretches_below_more e size image k = flat_map_below (stretches_of_block e size image) k
+pub extents_below_more : (e : Endian) (size : ℕ) (image : List ℕ) (k : ℕ)
+    → extents_below e size image (k + 1) ≡ extents_below e size image k ++ extents_of_block e size image k
+extents_below_more e size image k = flat_map_below (extents_of_block e size image) k
 
-length_stretches_below : (e : Endian) (size : ℕ) (image : List ℕ) (k : ℕ) → length (stretches_below e size image k) ≤ k * size
-length_stretches_below e size image zero = omega arith
-length_stretches_below e size image (suc k) =
-    let here = length_stretches e (k * size) (block_of size image k) in
+length_extents_below : (e : Endian) (size : ℕ) (image : List ℕ) (k : ℕ) → length (extents_below e size image k) ≤ k * size
+length_extents_below e size image zero = omega arith
+length_extents_below e size image (suc k) =
+    let here = length_extents e (k * size) (block_of size image k) in
     let full = length_block_of size image k in
-    let before = length_stretches_below e size image k in
-    let both = ap length (stretches_below_more e size image k) ∙ length-append (stretches_below e size image k) (stretches_of_block e size image k) in
+    let before = length_extents_below e size image k in
+    let both = ap length (extents_below_more e size image k) ∙ length-append (extents_below e size image k) (extents_of_block e size image k) in
     let more = one_more k size in
-    let within : length (stretches_below e size image (k + 1)) ≤ (k + 1) * size = omega (arith, here, full, before, both, more) in
-    subst (λ (n : ℕ). length (stretches_below e size image n) ≤ n * size) {x = k + 1} {y = suc k} (omega arith) within
+    let within : length (extents_below e size image (k + 1)) ≤ (k + 1) * size = omega (arith, here, full, before, both, more) in
+    subst (λ (n : ℕ). length (extents_below e size image n) ≤ n * size) {x = k + 1} {y = suc k} (omega arith) within
 
 pub counts_of_more : (e : Endian) (size : ℕ) (image : List ℕ) (k : ℕ)
-    → block_counted (counts_of e size image k) (stretches_of_block e size image k) ≡ counts_of e size image (k + 1)
+    → block_counted (counts_of e size image k) (extents_of_block e size image k) ≡ counts_of e size image (k + 1)
 counts_of_more e size image k =
     λ i. record {
       blocks = k + 1;
-      entries = rises (λ s. is_entry_tile s.look) i;
-      inodes = rises (λ s. is_inode_tile s.look) i;
-      findings = rises (λ s. is_found s.look) i;
+      entries = rises (λ s. is_entry_tile s.kind) i;
+      inodes = rises (λ s. is_inode_tile s.kind) i;
+      findings = rises (λ s. is_found s.kind) i;
     }
   where
-    rises : (test : Stretch → Bool) → count_by test (stretches_below e size image k) + count_by test (stretches_of_block e size image k)
-        ≡ count_by test (stretches_below e size image (k + 1))
-    rises test = sym (ap (count_by test) (stretches_below_more e size image k) ∙ count_by-append test (stretches_below e size image k) (stretches_of_block e size image k))
+    rises : (test : Extent → Bool) → count_by test (extents_below e size image k) + count_by test (extents_of_block e size image k)
+        ≡ count_by test (extents_below e size image (k + 1))
+    rises test = sym (ap (count_by test) (extents_below_more e size image k) ∙ count_by-append test (extents_below e size image k) (extents_of_block e size image k))
 
 all_true : (a b c : Bool) → (a && b && c) ≡ true → (a ≡ true) × (b ≡ true) × (c ≡ true)
 all_true true true true e = (refl, refl, refl)
@@ -124,8 +124,8 @@ block_size_is size fits =
 
 -- what the blocks before count, and what this one can
 pub room_for_block : (e : Endian) (size : ℕ) (image : List ℕ) (k n : ℕ) (c : Counts) → c ≡ counts_of e size image k
-    → IsTrue (is_block_size size) → length image ≤ greatest_image → k < block_count size image → n ≤ size → HasRoom c (n + 1)
-room_for_block e size image k n c is fits small next within = subst (λ (x : Counts). HasRoom x (n + 1)) (sym is) (record {
+    → IsTrue (is_block_size size) → length image ≤ greatest_image → k < block_count size image → n ≤ size → CountsHaveRoom c (n + 1)
+room_for_block e size image k n c is fits small next within = subst (λ (x : Counts). CountsHaveRoom x (n + 1)) (sym is) (record {
   blocks = omega (arith, few, first, within, sizes.1);
   entries = room is_entry_tile;
   inodes = room is_inode_tile;
@@ -141,21 +141,21 @@ room_for_block e size image k n c is fits small next within = subst (λ (x : Cou
     first : k * 1 ≤ k * size
     first = mul-le-mul_left k (omega (arith, sizes.0))
 
-    room : (test : Look → Bool) → number_in test (stretches_below e size image k) + (n + 1) < 2 ^ 64
-    room test = omega (arith, number_in-le test (stretches_below e size image k), length_stretches_below e size image k, few, within, sizes.1)
+    room : (test : ExtentKind → Bool) → count_in test (extents_below e size image k) + (n + 1) < 2 ^ 64
+    room test = omega (arith, count_in-le test (extents_below e size image k), length_extents_below e size image k, few, within, sizes.1)
 
 -- the lines of a block, as `put_block` says them
 pub block_text : (e : Endian) (size : ℕ) (image : List ℕ) (k : ℕ) (c : Counts) (block : List ℕ) → c ≡ counts_of e size image k → block ≡ block_of size image k
-    → lines_of c.blocks (stretches e (k * size) block) ≡ block_lines e size image k
+    → lines_of c.blocks (extents e (k * size) block) ≡ block_lines e size image k
 unfolding block_lines
 block_text e size image k c block is same =
-    ap (λ (n : Counts). lines_of n.blocks (stretches e (k * size) block)) is ∙ ap (λ (l : List ℕ). lines_of k (stretches e (k * size) l)) same
+    ap (λ (n : Counts). lines_of n.blocks (extents e (k * size) block)) is ∙ ap (λ (l : List ℕ). lines_of k (extents e (k * size) l)) same
 
 pub block_counts : (e : Endian) (size : ℕ) (image : List ℕ) (k : ℕ) (c : Counts) (block : List ℕ) → c ≡ counts_of e size image k → block ≡ block_of size image k
-    → block_counted c (stretches e (k * size) block) ≡ counts_of e size image (k + 1)
+    → block_counted c (extents e (k * size) block) ≡ counts_of e size image (k + 1)
 block_counts e size image k c block is same =
-    ap (λ (n : Counts). block_counted n (stretches e (k * size) block)) is
-    ∙ ap (λ (l : List ℕ). block_counted (counts_of e size image k) (stretches e (k * size) l)) same
+    ap (λ (n : Counts). block_counted n (extents e (k * size) block)) is
+    ∙ ap (λ (l : List ℕ). block_counted (counts_of e size image k) (extents e (k * size) l)) same
     ∙ counts_of_more e size image k
 
 -- the lines of the first blocks begin those of all

@@ -33,7 +33,7 @@ memory_fault size image old before text (Ok x) is cut = absurd is
 memory_fault {T} size image old before text (Err e) is cut =
     subst (λ (x : ReportFault). PutsLines {T = T} size image old old before before text (Err x)) (sym is) (cut, (0, Appends-nil old), refl)
 
--- a fault at the lines of a block, behind those of the blocks before it
+-- a fault at the lines of a block, after those of the blocks before it
 pub later_fault : {U : Type 0} (size : ℕ) (image : List ℕ) (a b c : Option (List ℕ)) (before now : ℕ) (done line rest whole : List ℕ) (f : ReportFault) (r : Result U ReportFault)
     → IsErrAnd r (λ e. e ≡ f) → Appends a b done → PutsLines {T = Unit {0}} size image b c before now line (Err f) → whole ≡ (done ++ line) ++ rest
     → PutsLines size image a c before now whole r

@@ -11,9 +11,9 @@ use Rattle.flashbase.specs.Bytes.{erased}
 use Rattle.flashbase.specs.Device.{PutsPart}
 use Rattle.flashbase.proofs.DeviceLemmas.{part_before, part_behind}
 use Rattle.jnode.specs.declared.order.Endian.{Endian}
-use Rattle.jscan.specs.Counts.{counts_of, block_counted, stretches_below, stretches_of_block}
+use Rattle.jscan.specs.Counts.{counts_of, block_counted, extents_below, extents_of_block}
 use Rattle.jscan.specs.Image.{block_count, block_of}
-use Rattle.jscan.specs.Stretches.{stretches}
+use Rattle.jscan.specs.Extents.{extents}
 use Rattle.jscan.specs.declared.counts.Counts.{Counts}
 use Rattle.jreport.specs.Report.{block_lines, lines_below, lines_of, scan_text, totals_line}
 use Rattle.jreport.proofs.BlockLemmas.{block_counts, block_text, counts_of_more, lines_below_more, one_more}
@@ -22,14 +22,14 @@ use Rattle.jreport.proofs.BlockLemmas.{block_counts, block_text, counts_of_more,
 
 pub earlier_block : (size k : ℕ) (image more : List ℕ) → k * size + size ≤ length image → block_of size (image ++ more) k ≡ block_of size image k
 earlier_block size k image more within =
-    let held = drop (k * size) image in
-    let long : size ≤ length held = omega (arith, length-drop (k * size) image) in
-    let cut : drop (k * size) (image ++ more) ≡ held ++ more = drop-append-le (k * size) image more (omega arith) in
-    let longer : size ≤ length (held ++ more) = omega (arith, long, length-append held more) in
+    let present = drop (k * size) image in
+    let long : size ≤ length present = omega (arith, length-drop (k * size) image) in
+    let cut : drop (k * size) (image ++ more) ≡ present ++ more = drop-append-le (k * size) image more (omega arith) in
+    let longer : size ≤ length (present ++ more) = omega (arith, long, length-append present more) in
     ap (λ (l : List ℕ). take size (l ++ erased size)) cut
-    ∙ take-append-le size (held ++ more) (erased size) longer
-    ∙ take-append-le size held more long
-    ∙ sym (take-append-le size held (erased size) long)
+    ∙ take-append-le size (present ++ more) (erased size) longer
+    ∙ take-append-le size present more long
+    ∙ sym (take-append-le size present (erased size) long)
 
 pub last_block : (size n : ℕ) (image block : List ℕ) → length image ≡ n * size → length block ≡ size → block_of size (image ++ block) n ≡ block
 last_block size n image block whole long =
@@ -44,7 +44,7 @@ lines_stay e size (suc n) image more within =
     let fits : n * size + size ≤ length image = omega (arith, within, one_more n size, ap (λ (k : ℕ). k * size) here) in
     let before = lines_stay e size n image more (omega (arith, fits)) in
     let line : block_lines e size (image ++ more) n ≡ block_lines e size image n =
-    ap (λ (l : List ℕ). lines_of n (stretches e (n * size) l)) (earlier_block size n image more fits) in
+    ap (λ (l : List ℕ). lines_of n (extents e (n * size) l)) (earlier_block size n image more fits) in
     ap (lines_below e size (image ++ more)) here ∙ lines_below_more e size (image ++ more) n
     ∙ ap (λ (l : List ℕ). l ++ block_lines e size (image ++ more) n) before
     ∙ ap (λ (l : List ℕ). lines_below e size image n ++ l) line
@@ -56,10 +56,10 @@ counts_stay e size (suc n) image more within =
     let here : suc n ≡ n + 1 = omega arith in
     let fits : n * size + size ≤ length image = omega (arith, within, one_more n size, ap (λ (k : ℕ). k * size) here) in
     let before = counts_stay e size n image more (omega (arith, fits)) in
-    let same : stretches_of_block e size (image ++ more) n ≡ stretches_of_block e size image n =
-    ap (stretches e (n * size)) (earlier_block size n image more fits) in
+    let same : extents_of_block e size (image ++ more) n ≡ extents_of_block e size image n =
+    ap (extents e (n * size)) (earlier_block size n image more fits) in
     ap (counts_of e size (image ++ more)) here ∙ sym (counts_of_more e size (image ++ more) n)
-    ∙ ap (λ (c : Counts). block_counted c (stretches_of_block e size (image ++ more) n)) before
+    ∙ ap (λ (c : Counts). block_counted c (extents_of_block e size (image ++ more) n)) before
     ∙ ap (block_counted (counts_of e size image n)) same
     ∙ counts_of_more e size image n ∙ ap (counts_of e size image) (sym here)
 
@@ -79,7 +79,7 @@ record Grown (e : Endian) (size start : ℕ) (counts : Counts) (block : List ℕ
   counted : counts ≡ counts_of e size image counts.blocks
   same : block ≡ block_of size image counts.blocks
   gone : Appends old new (lines_below e size image counts.blocks)
-  line : lines_of counts.blocks (stretches e start block) ≡ block_lines e size image counts.blocks
+  line : lines_of counts.blocks (extents e start block) ≡ block_lines e size image counts.blocks
 
 grown : (e : Endian) (size start : ℕ) (counts : Counts) (block : List ℕ) (a b : Option (List ℕ)) → Untold e size counts a b → length block ≡ size
     → counts.blocks * size ≡ start → Grown e size start counts block a b
@@ -89,7 +89,7 @@ grown e size start counts block a b before long here = record {
   counted = counted;
   same = same;
   gone = subst (Appends a b) (sym (lines_stay e size n before.image block within)) before.gone;
-  line = ap (λ (s : ℕ). lines_of n (stretches e s block)) (sym here) ∙ block_text e size image n counts block counted same;
+  line = ap (λ (s : ℕ). lines_of n (extents e s block)) (sym here) ∙ block_text e size image n counts block counted same;
 }
   where
     n : ℕ
@@ -109,14 +109,14 @@ grown e size start counts block a b before long here = record {
 
 pub untold_next : (e : Endian) (size start : ℕ) (counts now : Counts) (block : List ℕ) (a b c : Option (List ℕ))
     → Untold e size counts a b → length block ≡ size → counts.blocks * size ≡ start
-    → now ≡ block_counted counts (stretches e start block) → Appends b c (lines_of counts.blocks (stretches e start block))
+    → now ≡ block_counted counts (extents e start block) → Appends b c (lines_of counts.blocks (extents e start block))
     → Untold e size now a c
 untold_next e size start counts now block a b c before long here is put =
     let n = counts.blocks in
     let more = grown e size start counts block a b before long here in
     let blocks : now.blocks ≡ n + 1 = ap (λ (x : Counts). x.blocks) is in
     let total : now ≡ counts_of e size more.image (n + 1) =
-    is ∙ ap (λ (s : ℕ). block_counted counts (stretches e s block)) (sym here) ∙ block_counts e size more.image n counts block more.counted more.same in
+    is ∙ ap (λ (s : ℕ). block_counted counts (extents e s block)) (sym here) ∙ block_counts e size more.image n counts block more.counted more.same in
     record {
       image = more.image;
       whole = more.whole ∙ ap (λ (k : ℕ). k * size) (sym blocks);
@@ -143,7 +143,7 @@ untold_count size n image some whole =
 
 -- a beginning of the next block's lines went out
 pub untold_part : (e : Endian) (size start : ℕ) (counts : Counts) (block : List ℕ) (a b c : Option (List ℕ)) → 0 < size
-    → Untold e size counts a b → length block ≡ size → counts.blocks * size ≡ start → PutsPart b c (lines_of counts.blocks (stretches e start block))
+    → Untold e size counts a b → length block ≡ size → counts.blocks * size ≡ start → PutsPart b c (lines_of counts.blocks (extents e start block))
     → (image : List ℕ) × PutsPart a c (scan_text e size image)
 unfolding scan_text
 untold_part e size start counts block a b c some before long here part =

@@ -2,11 +2,11 @@ pub mod BlockLemmas
 pub mod FaultLemmas
 pub mod GrowingLemmas
 pub mod ListingLemmas
-pub mod LoadedLemmas
+pub mod WholeImageLemmas
 pub mod PathLemmas
 pub mod PathTextLemmas
 pub mod PutLemmas
 pub mod StreamLemmas
-pub mod StretchLemmas
+pub mod ExtentLemmas
 pub mod VerdictLemmas
 pub mod WalkLemmas

@@ -1,7 +1,7 @@
 -- The word of a path, byte by byte.
 use Rattle.std.proofs.Common.{◌≡◌, ◌≢◌, ℕ, List, [], ◌∷◌, ◌++◌, ap, sym, ◌∙◌, append_assoc, Option, Some, None, option_map, arith}
 use Rattle.std.proofs.lemmas.Grind.{common_steps}
-use Rattle.jreport.specs.Paths.{path_of, byte_of, and_byte}
+use Rattle.jreport.specs.Paths.{path_of, byte_of_digits, and_byte}
 
 pub path_of_plain : (a : ℕ) (word : List ℕ) → a ≢ 92 → path_of (a ∷ word) ≡ option_map (λ (bytes : List ℕ). a ∷ bytes) (path_of word)
 path_of_plain a [] plain = grind (arith, common_steps)
@@ -9,7 +9,7 @@ path_of_plain a (b ∷ []) plain = grind (arith, common_steps)
 path_of_plain a (b ∷ c ∷ []) plain = grind (arith, common_steps)
 path_of_plain a (b ∷ c ∷ d ∷ word) plain = grind (arith, common_steps)
 
-pub path_of_escape : (high low byte : ℕ) (rest : List ℕ) → byte_of high low ≡ Some byte
+pub path_of_escape : (high low byte : ℕ) (rest : List ℕ) → byte_of_digits high low ≡ Some byte
     → path_of (92 ∷ 120 ∷ high ∷ low ∷ rest) ≡ option_map (λ (bytes : List ℕ). byte ∷ bytes) (path_of rest)
 path_of_escape high low byte rest is = ap (λ (b : Option ℕ). and_byte b (path_of rest)) is
 

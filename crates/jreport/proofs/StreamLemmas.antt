@@ -16,7 +16,7 @@ use Rattle.jscan.specs.Counts.{is_found, counts_of, block_counted, no_counts}
 use Rattle.jscan.specs.Filling.{Breaks, StopsWithin}
 use Rattle.jscan.specs.Image.{block_count, greatest_image, is_block_size}
 use Rattle.jscan.specs.Stream.{IsNextBlock, GivesBlock, GivesNone, GivesFault, size_of, start_of, source_of, rest_of, failures_of, fault_of, has_ended}
-use Rattle.jscan.specs.Stretches.{stretches}
+use Rattle.jscan.specs.Extents.{extents}
 use Rattle.jscan.specs.declared.counts.Counts.{Counts}
 use Rattle.jscan.specs.declared.stream.BlockReader.{BlockReader}
 use Rattle.jscan.specs.declared.stream.StreamFault.{StreamFault}
@@ -24,14 +24,14 @@ use Rattle.jscan.specs.declared.stream.StreamFault.TheVariants as stream
 use Rattle.jscan.proofs.StreamCounts.{Scanning, IsCounted, scanning_next, scanning_end, scanning_torn, readable_some}
 use Rattle.jscan.proofs.StreamLemmas.{IsAtBlock, IsWhole, block_here}
 use Rattle.jreport.specs.Faults.{fault_of_stream}
-use Rattle.jreport.specs.Loaded.{OfSomeImage}
-use Rattle.jreport.specs.Report.{scan_text, lines_of, lines_below, block_lines, totals_line, number_of}
+use Rattle.jreport.specs.WholeImage.{OfSomeImage}
+use Rattle.jreport.specs.Report.{scan_text, lines_of, lines_below, block_lines, totals_line, count_in_image}
 use Rattle.jreport.specs.Stream.{PutsStream}
 use Rattle.jreport.specs.declared.faults.ProgramFault.{ProgramFault}
 use Rattle.jreport.specs.declared.faults.ProgramFault.TheVariants as program
 use Rattle.jreport.proofs.BlockLemmas.{lines_below_more, lines_begin, one_more}
 use Rattle.jreport.proofs.GrowingLemmas.{Untold, untold_next, untold_count, untold_part}
-use Rattle.jreport.proofs.LoadedLemmas.{of_unread}
+use Rattle.jreport.proofs.WholeImageLemmas.{of_unread}
 
 -- the lines of the first n blocks of these bytes have gone out
 abbrev pub Gone : Endian → ℕ → ℕ → Option (List ℕ) → Option (List ℕ) → List ℕ → Type 0
@@ -54,11 +54,11 @@ pub record Ended (e : Endian) (size : ℕ) (counts : Counts) (old new : Option (
 -- ---- the next block of an image
 
 lines_here : (e : Endian) (size start n : ℕ) (image : List ℕ) (rest new : Option (List ℕ)) (block : List ℕ) → n * size ≡ start
-    → IsAtBlock size start image rest → IsNextBlock size start rest new block → lines_of n (stretches e start block) ≡ block_lines e size image n
+    → IsAtBlock size start image rest → IsNextBlock size start rest new block → lines_of n (extents e start block) ≡ block_lines e size image n
 unfolding block_lines
 lines_here e size start n image rest new block here at next =
-    ap (λ (s : ℕ). lines_of n (stretches e s block)) (sym here)
-    ∙ ap (λ (l : List ℕ). lines_of n (stretches e (n * size) l)) (block_here size start n image rest new block here at next)
+    ap (λ (s : ℕ). lines_of n (extents e s block)) (sym here)
+    ∙ ap (λ (l : List ℕ). lines_of n (extents e (n * size) l)) (block_here size start n image rest new block here at next)
 
 -- there is such a block
 inside : (size start n : ℕ) (image : List ℕ) (rest new : Option (List ℕ)) (block : List ℕ) → 0 < size → n * size ≡ start
@@ -132,24 +132,24 @@ module _ {S : Type 0} {o : OfSource S} where
       nothing : (image : List ℕ) → Gone e size counts.blocks a a image
       nothing image = subst (λ (k : ℕ). Appends a a (lines_below e size image k)) (sym no_blocks) (Appends-nil a)
 
-      known : (told : Option (List ℕ)) → rest_of reader ≡ told → IfSome told (λ image. IsCounted e size 0 counts image (rest_of reader))
+      known : (known_bytes : Option (List ℕ)) → rest_of reader ≡ known_bytes → IfSome known_bytes (λ image. IsCounted e size 0 counts image (rest_of reader))
       known None left = tt
       known (Some image) left = record {
         place = record { left = left; fits = omega arith; tight = omega (arith, readable_some size readable) };
         so_far = counted image;
       }
 
-      gone : (told : Option (List ℕ)) → IfSome told (Gone e size counts.blocks a a)
+      gone : (known_bytes : Option (List ℕ)) → IfSome known_bytes (Gone e size counts.blocks a a)
       gone None = tt
       gone (Some image) = nothing image
 
-      empty : (told : Option (List ℕ)) → IfNone told (Untold e size counts a a)
+      empty : (known_bytes : Option (List ℕ)) → IfNone known_bytes (Untold e size counts a a)
       empty None = record { image = []; whole = omega (arith, ap (λ (k : ℕ). k * size) no_blocks); counted = counted []; gone = nothing [] }
       empty (Some image) = tt
 
   pub streaming_next : (e : Endian) (source : S) (size start : ℕ) (counts now : Counts) (old new : BlockReader S o) (block : List ℕ)
       (a b c : Option (List ℕ)) (n m k : ℕ) → Streaming e source size start counts old a b n m → GivesBlock old new block
-      → now ≡ block_counted counts (stretches e start block) → Appends b c (lines_of counts.blocks (stretches e start block)) → k ≡ m
+      → now ≡ block_counted counts (extents e start block) → Appends b c (lines_of counts.blocks (extents e start block)) → k ≡ m
       → Streaming e source size (start + size) now new a c n k
   streaming_next e source size start counts now old new block a b c n m k before gives is put none =
       record {
@@ -159,13 +159,13 @@ module _ {S : Type 0} {o : OfSource S} where
         none_failed = none ∙ before.none_failed;
       }
     where
-      grown : (told : Option (List ℕ)) → IfNone told (Untold e size counts a b) → IfNone told (Untold e size now a c)
+      grown : (known_bytes : Option (List ℕ)) → IfNone known_bytes (Untold e size counts a b) → IfNone known_bytes (Untold e size now a c)
       grown None so_far =
           untold_next e size start counts now block a b c so_far (gives.whole ∙ before.scanning.blocks_of) before.scanning.blocks is put
       grown (Some image) so_far = tt
 
-      known : (told : Option (List ℕ)) → IfSome told (λ image. IsCounted e size start counts image (rest_of old)) → IfSome told (Gone e size counts.blocks a b)
-          → IfSome told (Gone e size now.blocks a c)
+      known : (known_bytes : Option (List ℕ)) → IfSome known_bytes (λ image. IsCounted e size start counts image (rest_of old)) → IfSome known_bytes (Gone e size counts.blocks a b)
+          → IfSome known_bytes (Gone e size now.blocks a c)
       known None so_far gone = tt
       known (Some image) so_far gone =
           let blocks : now.blocks ≡ counts.blocks + 1 = ap (λ (x : Counts). x.blocks) is in
@@ -178,12 +178,12 @@ module _ {S : Type 0} {o : OfSource S} where
   -- the sink failed at a block
   pub began_at_block : (e : Endian) (source : S) (size start : ℕ) (counts : Counts) (old new : BlockReader S o) (block : List ℕ)
       (a b c : Option (List ℕ)) (n m : ℕ) → Streaming e source size start counts old a b n m → GivesBlock old new block
-      → PutsPart b c (lines_of counts.blocks (stretches e start block)) → IfSome (o.rest source) (λ image. PutsPart a c (scan_text e size image))
+      → PutsPart b c (lines_of counts.blocks (extents e start block)) → IfSome (o.rest source) (λ image. PutsPart a c (scan_text e size image))
   unfolding scan_text
   began_at_block e source size start counts old new block a b c n m before gives part = known (o.rest source) before.scanning.known before.put
     where
-      known : (told : Option (List ℕ)) → IfSome told (λ image. IsCounted e size start counts image (rest_of old)) → IfSome told (Gone e size counts.blocks a b)
-          → IfSome told (λ image. PutsPart a c (scan_text e size image))
+      known : (known_bytes : Option (List ℕ)) → IfSome known_bytes (λ image. IsCounted e size start counts image (rest_of old)) → IfSome known_bytes (Gone e size counts.blocks a b)
+          → IfSome known_bytes (λ image. PutsPart a c (scan_text e size image))
       known None so_far gone = tt
       known (Some image) so_far gone =
           let k = counts.blocks in
@@ -204,8 +204,8 @@ module _ {S : Type 0} {o : OfSource S} where
       → IfSome (o.rest source) (λ image. (k : ℕ) × (k ≤ block_count size image) × Gone e size k a b image)
   gone_before e source size start counts reader a b n m before = known (o.rest source) before.scanning.known before.put
     where
-      known : (told : Option (List ℕ)) → IfSome told (λ image. IsCounted e size start counts image (rest_of reader)) → IfSome told (Gone e size counts.blocks a b)
-          → IfSome told (λ image. (k : ℕ) × (k ≤ block_count size image) × Gone e size k a b image)
+      known : (known_bytes : Option (List ℕ)) → IfSome known_bytes (λ image. IsCounted e size start counts image (rest_of reader)) → IfSome known_bytes (Gone e size counts.blocks a b)
+          → IfSome known_bytes (λ image. (k : ℕ) × (k ≤ block_count size image) × Gone e size k a b image)
       known None so_far gone = tt
       known (Some image) so_far gone =
           let some : 0 < size = omega (arith, readable_some size before.scanning.readable) in
@@ -220,9 +220,9 @@ module _ {S : Type 0} {o : OfSource S} where
       let torn = scanning_torn e source size start counts old new fault before.scanning gives is in
       (torn.0, torn.1, known torn.0 (o.rest source) before.scanning.known before.put torn.2)
     where
-      known : (left : S) (told : Option (List ℕ)) → IfSome told (λ image. IsCounted e size start counts image (rest_of old)) → IfSome told (Gone e size counts.blocks a b)
-          → IfSome told (λ image. StopsWithin (Some (drop (counts.blocks * size) image)) (o.rest left) size)
-          → IfSome told (λ image. (k : ℕ) × (k ≤ block_count size image) × StopsWithin (Some (drop (k * size) image)) (o.rest left) size × Gone e size k a b image)
+      known : (left : S) (known_bytes : Option (List ℕ)) → IfSome known_bytes (λ image. IsCounted e size start counts image (rest_of old)) → IfSome known_bytes (Gone e size counts.blocks a b)
+          → IfSome known_bytes (λ image. StopsWithin (Some (drop (counts.blocks * size) image)) (o.rest left) size)
+          → IfSome known_bytes (λ image. (k : ℕ) × (k ≤ block_count size image) × StopsWithin (Some (drop (k * size) image)) (o.rest left) size × Gone e size k a b image)
       known left None so_far gone torn = tt
       known left (Some image) so_far gone torn =
           let some : 0 < size = omega (arith, readable_some size before.scanning.readable) in
@@ -244,8 +244,8 @@ module _ {S : Type 0} {o : OfSource S} where
       past = subst (λ (k : ℕ). IfSome (rest_of old) (λ bytes. greatest_image - start < min k (length bytes))) before.scanning.blocks_of
           (subst (λ (k : ℕ). IfSome (rest_of old) (λ bytes. greatest_image - k < min (size_of old) (length bytes))) before.scanning.here breaks.0)
 
-      known : (told : Option (List ℕ)) → IfSome told (λ image. IsCounted e size start counts image (rest_of old)) → IfSome told (Gone e size counts.blocks a b)
-          → IfSome told (Gone e size (greatest_image / size) a b)
+      known : (known_bytes : Option (List ℕ)) → IfSome known_bytes (λ image. IsCounted e size start counts image (rest_of old)) → IfSome known_bytes (Gone e size counts.blocks a b)
+          → IfSome known_bytes (Gone e size (greatest_image / size) a b)
       known None so_far gone = tt
       known (Some image) so_far gone =
           let some : 0 < size = omega (arith, readable_some size before.scanning.readable) in
@@ -259,8 +259,8 @@ module _ {S : Type 0} {o : OfSource S} where
   streaming_end e source size start counts old new a b n m before gives =
       known (o.rest source) before.scanning.known before.put (scanning_end e source size start counts old new before.scanning gives)
     where
-      known : (told : Option (List ℕ)) → IfSome told (λ image. IsCounted e size start counts image (rest_of old)) → IfSome told (Gone e size counts.blocks a b)
-          → IfSome told (λ image. IsWhole size counts.blocks image) → IfSome told (Ended e size counts a b)
+      known : (known_bytes : Option (List ℕ)) → IfSome known_bytes (λ image. IsCounted e size start counts image (rest_of old)) → IfSome known_bytes (Gone e size counts.blocks a b)
+          → IfSome known_bytes (λ image. IsWhole size counts.blocks image) → IfSome known_bytes (Ended e size counts a b)
       known None so_far gone whole = tt
       known (Some image) so_far gone whole = record {
         totals = so_far.so_far ∙ ap (counts_of e size image) whole.all;
@@ -275,8 +275,8 @@ pub record Finished (e : Endian) (size : ℕ) (counts : Counts) (old new : Optio
   pub totals : counts ≡ counts_of e size image (block_count size image)
   pub gone : Gone e size (block_count size image) old new image
 
-pub finished : (e : Endian) (size : ℕ) (counts : Counts) (a b : Option (List ℕ)) (told : Option (List ℕ)) → 0 < size
-    → IfSome told (Ended e size counts a b) → IfNone told (Untold e size counts a b) → OfSomeImage told (Finished e size counts a b)
+pub finished : (e : Endian) (size : ℕ) (counts : Counts) (a b : Option (List ℕ)) (known_bytes : Option (List ℕ)) → 0 < size
+    → IfSome known_bytes (Ended e size counts a b) → IfNone known_bytes (Untold e size counts a b) → OfSomeImage known_bytes (Finished e size counts a b)
 finished e size counts a b None some ended untold =
     let count = sym (untold_count size counts.blocks untold.image some untold.whole) in (
       untold.image,
@@ -289,11 +289,11 @@ finished e size counts a b None some ended untold =
 finished e size counts a b (Some image) some ended untold = (image, refl, record { totals = ended.totals; gone = ended.gone })
 
 -- and then the last
-pub all_put : (e : Endian) (size : ℕ) (counts : Counts) (a b c : Option (List ℕ)) (before mid now : ℕ) (told : Option (List ℕ))
-    → OfSomeImage told (Finished e size counts a b) → Appends b c (totals_line counts) → mid ≡ before → now ≡ mid
-    → OfSomeImage told (λ image. PutsStream e size image a c before now (Ok counts.findings))
+pub all_put : (e : Endian) (size : ℕ) (counts : Counts) (a b c : Option (List ℕ)) (before mid now : ℕ) (known_bytes : Option (List ℕ))
+    → OfSomeImage known_bytes (Finished e size counts a b) → Appends b c (totals_line counts) → mid ≡ before → now ≡ mid
+    → OfSomeImage known_bytes (λ image. PutsStream e size image a c before now (Ok counts.findings))
 unfolding scan_text
-all_put e size counts a b c before mid now told all put stayed stays =
+all_put e size counts a b c before mid now known_bytes all put stayed stays =
     let image = all.0 in (
       image,
       all.1,
@@ -306,12 +306,12 @@ all_put e size counts a b c before mid now told all put stayed stays =
     )
 
 -- or a beginning of it
-pub total_failed : (e : Endian) (size : ℕ) (counts : Counts) (a b c : Option (List ℕ)) (before mid now : ℕ) (told : Option (List ℕ)) (r : Result ℕ ProgramFault)
-    → IsErrAnd r (λ x. x ≡ program.Output) → OfSomeImage told (Finished e size counts a b) → PutsPart b c (totals_line counts) → mid ≡ before → now ≡ next_count mid
-    → OfSomeImage told (λ image. PutsStream e size image a c before now r)
+pub total_failed : (e : Endian) (size : ℕ) (counts : Counts) (a b c : Option (List ℕ)) (before mid now : ℕ) (known_bytes : Option (List ℕ)) (r : Result ℕ ProgramFault)
+    → IsErrAnd r (λ x. x ≡ program.Output) → OfSomeImage known_bytes (Finished e size counts a b) → PutsPart b c (totals_line counts) → mid ≡ before → now ≡ next_count mid
+    → OfSomeImage known_bytes (λ image. PutsStream e size image a c before now r)
 unfolding scan_text
-total_failed e size counts a b c before mid now told (Ok x) is all part stayed failed = absurd is
-total_failed e size counts a b c before mid now told (Err x) is all part stayed failed =
+total_failed e size counts a b c before mid now known_bytes (Ok x) is all part stayed failed = absurd is
+total_failed e size counts a b c before mid now known_bytes (Err x) is all part stayed failed =
     let image = all.0 in (
       image,
       all.1,
@@ -327,7 +327,7 @@ module _ {S : Type 0} {o : OfSource S} where
   pub block_failed : (e : Endian) (source : S) (size start : ℕ) (counts : Counts) (old new : BlockReader S o) (block : List ℕ)
       (a b c : Option (List ℕ)) (before mid now : ℕ) (r : Result ℕ ProgramFault) → IsErrAnd r (λ x. x ≡ program.Output)
       → Streaming e source size start counts old a b before mid → GivesBlock old new block
-      → PutsPart b c (lines_of counts.blocks (stretches e start block)) → now ≡ next_count mid
+      → PutsPart b c (lines_of counts.blocks (extents e start block)) → now ≡ next_count mid
       → OfSomeImage (o.rest source) (λ image. PutsStream e size image a c before now r)
   block_failed e source size start counts old new block a b c before mid now (Ok x) is so_far gives part failed = absurd is
   block_failed e source size start counts old new block a b c before mid now (Err x) is so_far gives part failed =
@@ -336,8 +336,8 @@ module _ {S : Type 0} {o : OfSource S} where
       put : (image : List ℕ) → PutsPart a c (scan_text e size image) → PutsStream e size image a c before now (Err x)
       put image text = subst (λ (y : ProgramFault). PutsStream e size image a c before now (Err y)) (sym is) (text, failed ∙ ap next_count so_far.none_failed)
 
-      known : (told : Option (List ℕ)) → IfNone told (Untold e size counts a b) → IfSome told (λ image. PutsPart a c (scan_text e size image))
-          → OfSomeImage told (λ image. PutsStream e size image a c before now (Err x))
+      known : (known_bytes : Option (List ℕ)) → IfNone known_bytes (Untold e size counts a b) → IfSome known_bytes (λ image. PutsPart a c (scan_text e size image))
+          → OfSomeImage known_bytes (λ image. PutsStream e size image a c before now (Err x))
       known None untold text =
           let some : 0 < size = omega (arith, readable_some size so_far.scanning.readable) in
           let began = untold_part e size start counts block a b c some untold (gives.whole ∙ so_far.scanning.blocks_of) so_far.scanning.blocks part in
@@ -367,8 +367,8 @@ module _ {S : Type 0} {o : OfSource S} where
       put : (image : List ℕ) → (k : ℕ) × (k ≤ block_count size image) × Gone e size k a b image → PutsStream e size image a b before mid (Err x)
       put image gone = subst (λ (y : ProgramFault). PutsStream e size image a b before mid (Err y)) (sym is) (by image fault first.1 gone)
 
-      known : (told : Option (List ℕ)) → IfNone told (Untold e size counts a b) → IfSome told (λ image. (k : ℕ) × (k ≤ block_count size image) × Gone e size k a b image)
-          → OfSomeImage told (λ image. PutsStream e size image a b before mid (Err x))
+      known : (known_bytes : Option (List ℕ)) → IfNone known_bytes (Untold e size counts a b) → IfSome known_bytes (λ image. (k : ℕ) × (k ≤ block_count size image) × Gone e size k a b image)
+          → OfSomeImage known_bytes (λ image. PutsStream e size image a b before mid (Err x))
       known None untold gone =
           let some : 0 < size = omega (arith, readable_some size so_far.scanning.readable) in
           let count = untold_count size counts.blocks untold.image some untold.whole in
@@ -376,12 +376,12 @@ module _ {S : Type 0} {o : OfSource S} where
       known (Some image) untold gone = (image, refl, put image gone)
 
 -- nothing was read
-pub unread_failed : (e : Endian) (size : ℕ) (a : Option (List ℕ)) (n : ℕ) (told : Option (List ℕ)) (f : StreamFault) (r : Result ℕ ProgramFault)
+pub unread_failed : (e : Endian) (size : ℕ) (a : Option (List ℕ)) (n : ℕ) (known_bytes : Option (List ℕ)) (f : StreamFault) (r : Result ℕ ProgramFault)
     → IsErrAnd r (λ x. x ≡ fault_of_stream f) → f ≢ stream.Device → f ≢ stream.TooLarge
-    → OfSomeImage told (λ image. PutsStream e size image a a n n r)
-unread_failed e size a n told f (Ok x) is no_device no_limit = absurd is
-unread_failed e size a n told f (Err x) is no_device no_limit =
-    of_unread told (λ image. subst (λ (y : ProgramFault). PutsStream e size image a a n n (Err y)) (sym is) (by image f no_device no_limit))
+    → OfSomeImage known_bytes (λ image. PutsStream e size image a a n n r)
+unread_failed e size a n known_bytes f (Ok x) is no_device no_limit = absurd is
+unread_failed e size a n known_bytes f (Err x) is no_device no_limit =
+    of_unread known_bytes (λ image. subst (λ (y : ProgramFault). PutsStream e size image a a n n (Err y)) (sym is) (by image f no_device no_limit))
   where
     by : (image : List ℕ) (g : StreamFault) → g ≢ stream.Device → g ≢ stream.TooLarge → PutsStream e size image a a n n (Err (fault_of_stream g))
     by image stream.BlockSize no_device no_limit = (refl, refl)
@@ -390,8 +390,8 @@ unread_failed e size a n told f (Err x) is no_device no_limit =
     by image stream.TooLarge no_device no_limit = absurd (no_limit refl)
 
 -- no byte past the greatest image was read
-pub ended_within : (e : Endian) (size : ℕ) (counts : Counts) (a b : Option (List ℕ)) (told : Option (List ℕ)) → IfSome told (Ended e size counts a b)
-    → IfSome told (λ image. length image ≤ greatest_image)
+pub ended_within : (e : Endian) (size : ℕ) (counts : Counts) (a b : Option (List ℕ)) (known_bytes : Option (List ℕ)) → IfSome known_bytes (Ended e size counts a b)
+    → IfSome known_bytes (λ image. length image ≤ greatest_image)
 ended_within e size counts a b None ended = tt
 ended_within e size counts a b (Some image) ended = ended.within
 

@@ -186,7 +186,7 @@ enters s w n name i names old new before now read left above way put =
       put.3,
     )
 
--- ---- where memory is wanting, or the sink fails
+-- ---- where memory runs out, or the sink fails
 
 pub nothing_put : (s : State) (w n : Walk) (old : Option (List ℕ)) (before : ℕ) → PutsStep s w n old old before before (Err OutOfMemory)
 nothing_put s w n old before = let whole = has_text s (met_of w.met) (todo_of s w) in ((whole.0, whole.1, (0, Appends-nil old)), refl)

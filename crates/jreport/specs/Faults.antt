@@ -74,5 +74,5 @@ fault_of_stream stream.TooLarge = program.Load load.TooLarge
 fault_of_stream stream.OutOfMemory = program.Load load.OutOfMemory
 
 -- the line of a fault went out
-abbrev pub TellsFault : Option (List ℕ) → Option (List ℕ) → Type 0
-TellsFault old new = (fault : ProgramFault) × Appends old new (fault_line_of fault)
+abbrev pub ReportsFault : Option (List ℕ) → Option (List ℕ) → Type 0
+ReportsFault old new = (fault : ProgramFault) × Appends old new (fault_line_of fault)

@@ -1,6 +1,6 @@
 pub mod Content
 pub mod Faults
-pub mod Loaded
+pub mod WholeImage
 pub mod Notes
 pub mod Paths
 pub mod Puts

@@ -16,8 +16,8 @@ digit_of b =
     else None
 
 -- the byte that two hexadecimal digits are
-abbrev pub byte_of : ℕ → ℕ → Option ℕ
-byte_of high low = option_and_then (λ h. option_map (λ l. 16 * h + l) (digit_of low)) (digit_of high)
+abbrev pub byte_of_digits : ℕ → ℕ → Option ℕ
+byte_of_digits high low = option_and_then (λ h. option_map (λ l. 16 * h + l) (digit_of low)) (digit_of high)
 
 abbrev pub and_byte : Option ℕ → Option (List ℕ) → Option (List ℕ)
 and_byte byte bytes = option_and_then (λ b. option_map (λ bs. b ∷ bs) bytes) byte
@@ -26,11 +26,11 @@ and_byte byte bytes = option_and_then (λ b. option_map (λ bs. b ∷ bs) bytes)
 abbrev pub path_of : List ℕ → Option (List ℕ)
 path_of [] = Some []
 path_of (a ∷ b ∷ c ∷ d ∷ word) =
-    if a == 92 then (if b == 120 then and_byte (byte_of c d) (path_of word) else None)
+    if a == 92 then (if b == 120 then and_byte (byte_of_digits c d) (path_of word) else None)
     else and_byte (Some a) (path_of (b ∷ c ∷ d ∷ word))
 path_of (a ∷ word) = if a == 92 then None else and_byte (Some a) (path_of word)
 
--- why a word is not read: it stands for no bytes, or memory is wanting
+-- why a word is not read: it stands for no bytes, or memory runs out
 abbrev pub IsWordFault : Option (List ℕ) → ProgramFault → Type 0
 IsWordFault bytes (Path find.BadPath) = bytes ≡ None
 IsWordFault bytes OutOfMemory = Unit {0}

@@ -9,14 +9,14 @@ use Rattle.jscan.specs.declared.geometry.ScanFault.TheVariants as scan
 use Rattle.jreport.specs.declared.report_fault.ReportFault.{ReportFault}
 use Rattle.jreport.specs.declared.report_fault.ReportFault.TheVariants.{Scan, Output}
 use Rattle.jscan.specs.Counts.{is_found}
-use Rattle.jreport.specs.Report.{scan_text, number_of}
+use Rattle.jreport.specs.Report.{scan_text, count_in_image}
 
 -- an image that can be scanned at all
 abbrev pub IsScannable : ℕ → List ℕ → Type 0
 IsScannable size image = IsTrue (is_block_size size) × (length image ≤ greatest_image)
 
 -- The fault that fits the image: its block size comes first, and then its length. A report meets no other fault of
--- a scan than want of memory.
+-- a scan than out of memory.
 abbrev pub IsFaultOf : ℕ → List ℕ → ScanFault → Type 0
 IsFaultOf size image scan.BlockSize = is_block_size size ≡ false
 IsFaultOf size image scan.TooLarge = IsTrue (is_block_size size) × (greatest_image < length image)
@@ -37,7 +37,7 @@ PutsLines size image old new before now text (Err (Scan _)) = ⊥
 -- image that can't be scanned is refused before anything is put.
 abbrev pub PutsReport : Endian → ℕ → List ℕ → Option (List ℕ) → Option (List ℕ) → ℕ → ℕ → Result ℕ ReportFault → Type 0
 PutsReport e size image old new before now (Ok findings) =
-    IsScannable size image × (findings ≡ number_of is_found e size image)
+    IsScannable size image × (findings ≡ count_in_image is_found e size image)
     × Appends old new (scan_text e size image) × (now ≡ before)
 PutsReport e size image old new before now (Err Output) =
     IsScannable size image × PutsPart old new (scan_text e size image) × (now ≡ next_count before)

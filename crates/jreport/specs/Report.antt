@@ -3,17 +3,17 @@ use Rattle.std.specs.Prelude.{ℕ, ◌+◌, ◌^◌, ◌<◌, Bool, List, ◌++�
 use Rattle.std.specs.List.{flat_map}
 use Rattle.flashbase.specs.Lists.{below}
 use Rattle.jnode.specs.declared.order.Endian.{Endian}
-use Rattle.jscan.specs.Counts.{counts_of, number_in, stretches_of_block, stretches_below}
+use Rattle.jscan.specs.Counts.{counts_of, count_in, extents_of_block, extents_below}
 use Rattle.jscan.specs.Image.{block_count}
 use Rattle.jscan.specs.declared.counts.Counts.{Counts}
-use Rattle.jscan.specs.declared.stretch.Look.{Look}
-use Rattle.jscan.specs.declared.stretch.Stretch.{Stretch}
-use Rattle.jline.specs.Forms.{block_line, stretch_line, total_line}
+use Rattle.jscan.specs.declared.extent.ExtentKind.{ExtentKind}
+use Rattle.jscan.specs.declared.extent.Extent.{Extent}
+use Rattle.jline.specs.Forms.{block_line, extent_line, total_line}
 
 -- ---- what is counted
 
 -- n more of each can be counted
-pub record HasRoom (c : Counts) (n : ℕ) : Type 0 where
+pub record CountsHaveRoom (c : Counts) (n : ℕ) : Type 0 where
   pub blocks : c.blocks + n < 2 ^ 64
   pub entries : c.entries + n < 2 ^ 64
   pub inodes : c.inodes + n < 2 ^ 64
@@ -21,16 +21,16 @@ pub record HasRoom (c : Counts) (n : ℕ) : Type 0 where
 
 -- ---- an image, block by block
 
--- how many stretches of an image have a look that passes the test
-abbrev pub number_of : (Look → Bool) → Endian → ℕ → List ℕ → ℕ
-number_of test e size image = number_in test (stretches_below e size image (block_count size image))
+-- how many extents of an image have a kind that passes the test
+abbrev pub count_in_image : (ExtentKind → Bool) → Endian → ℕ → List ℕ → ℕ
+count_in_image test e size image = count_in test (extents_below e size image (block_count size image))
 
--- the lines of block k, which has these stretches
-abbrev pub lines_of : ℕ → List Stretch → List ℕ
-lines_of k ss = block_line k ++ flat_map stretch_line ss
+-- the lines of block k, which has these extents
+abbrev pub lines_of : ℕ → List Extent → List ℕ
+lines_of k ss = block_line k ++ flat_map extent_line ss
 
 unfoldable pub block_lines : Endian → ℕ → List ℕ → ℕ → List ℕ
-block_lines e size image k = lines_of k (stretches_of_block e size image k)
+block_lines e size image k = lines_of k (extents_of_block e size image k)
 
 -- the lines of the first n blocks
 abbrev pub lines_below : Endian → ℕ → List ℕ → ℕ → List ℕ

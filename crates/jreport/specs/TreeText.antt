@@ -28,12 +28,12 @@ kind_letter kind.Other = codes "?"
 abbrev pub permissions : ℕ → List ℕ
 permissions mode = (48 + mode / 512 % 8) ∷ (48 + mode / 64 % 8) ∷ (48 + mode / 8 % 8) ∷ (48 + mode % 8) ∷ []
 
--- what stands before the path: kind, permissions, owners, size, time of change, and number
+-- what is before the path: kind, permissions, owners, size, time of change, and number
 unfoldable pub object_start : ℕ → Object → List ℕ
 object_start i o = kind_letter o.kind ++ codes " " ++ permissions o.mode ++ codes " " ++ decimal o.uid ++ codes " " ++ decimal o.gid
     ++ codes " " ++ decimal o.size ++ codes " " ++ decimal o.mtime ++ codes " " ++ decimal i ++ codes " "
 
--- a name, as it stands in a path
+-- a name, as it is in a path
 abbrev pub name_shown : List ℕ → List ℕ
 name_shown name = 47 ∷ [] ++ escaped name
 
@@ -104,7 +104,7 @@ IsTreeText s text = (lines : List (List ℕ)) × AreLinesOf s none_met (([], 1) 
 abbrev pub PutsPartOfTree : State → Option (List ℕ) → Option (List ℕ) → Type 0
 PutsPartOfTree s old new = (text : List ℕ) × IsTreeText s text × PutsPart old new text
 
--- A call puts the tree's text. Where the sink fails or memory is wanting, a beginning of it went out.
+-- A call puts the tree's text. Where the sink fails or memory runs out, a beginning of it went out.
 abbrev pub PutsTree : {T : Type 0} → State → Option (List ℕ) → Option (List ℕ) → ℕ → ℕ → Result T ProgramFault → Type 0
 PutsTree s old new before now (Ok _) = (text : List ℕ) × IsTreeText s text × Appends old new text × (now ≡ before)
 PutsTree s old new before now (Err Output) = PutsPartOfTree s old new × (now ≡ next_count before)

@@ -47,7 +47,7 @@ abbrev pub is_bad : Result Mount MountFault → Bool
 is_bad (Ok m) = is_dangling m
 is_bad (Err fault) = true
 
--- the verdict on an image, and whether it says that something is wrong; want of memory is no verdict
+-- the verdict on an image, and whether it says that something is wrong; out of memory is no verdict
 pub record IsVerdict (e : Endian) (size : ℕ) (image : List ℕ) (text : List ℕ) (bad : Bool) : Type 0 where
   pub answer : Result Mount MountFault
   pub answers : Answers e size image answer
@@ -57,14 +57,14 @@ pub record IsVerdict (e : Endian) (size : ℕ) (image : List ℕ) (text : List �
 
 -- ---- what a call puts
 
--- the lines of a mounted image; want of memory is met before the first of them
+-- the lines of a mounted image; out of memory comes before the first of them
 abbrev pub PutsMounted : Mount → Option (List ℕ) → Option (List ℕ) → ℕ → ℕ → Result Bool ProgramFault → Type 0
 PutsMounted m old new before now (Ok bad) = (bad ≡ is_dangling m) × Appends old new (mounted_text m) × (now ≡ before)
 PutsMounted m old new before now (Err program.Output) = PutsPart old new (mounted_text m) × (now ≡ next_count before)
 PutsMounted m old new before now (Err program.OutOfMemory) = (new ≡ old) × (now ≡ before)
 PutsMounted m old new before now (Err _) = ⊥
 
--- The verdict on an image. Where the sink fails, a beginning of it went out; where memory is wanting, nothing did.
+-- The verdict on an image. Where the sink fails, a beginning of it went out; where memory runs out, nothing did.
 abbrev pub PutsVerdict : Endian → ℕ → List ℕ → Option (List ℕ) → Option (List ℕ) → ℕ → ℕ → Result Bool ProgramFault → Type 0
 PutsVerdict e size image old new before now (Ok bad) =
     (text : List ℕ) × IsVerdict e size image text bad × Appends old new text × (now ≡ before)

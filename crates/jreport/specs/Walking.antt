@@ -1,4 +1,4 @@
--- The walk behind `ls`: what is still to print, and what a step of it does.
+-- The walk of `ls`: what is still to print, and what a step of it does.
 use Rattle.std.specs.Prelude.{◌≡◌, ℕ, ◌+◌, ◌-◌, ◌*◌, ◌<◌, Bool, true, false, not, List, [], ◌∷◌, ◌++◌, length, map, take, reverse, sum_by, count_by, Option, Result, Ok, Err}
 use Rattle.std.specs.Ordering.{nat_cmp}
 use Rattle.std.specs.BTreeSet.{BTreeSet, contains}

@@ -3,14 +3,14 @@
 ghost use Rattle.std.specs.Prelude.{◌≡◌, ◌%◌, ◌^◌, ◌+◌, ◌<◌, ◌≤◌, length, OnOk};
 ghost use Rattle.flashbase.specs.Device.{Puts};
 ghost use Rattle.jscan.specs.Counts.{block_counted, counted, no_counts};
-ghost use Rattle.jscan.specs.Stretches.{stretches};
-ghost use Rattle.jline.specs.Forms.{stretch_line, shown_name};
-ghost use Rattle.jreport.specs.Report.{lines_of, totals_line, HasRoom};
+ghost use Rattle.jscan.specs.Extents.{extents};
+ghost use Rattle.jline.specs.Forms.{extent_line, shown_name};
+ghost use Rattle.jreport.specs.Report.{lines_of, totals_line, CountsHaveRoom};
 
 use flashbase::{DeviceFault, Sink};
-use jline::{LineBuffer, put_text, write_block, write_stretch, write_total};
+use jline::{LineBuffer, put_text, write_block, write_extent, write_total};
 use jnode::Order;
-use jscan::{Counts, Stretch, Stretches};
+use jscan::{Counts, Extent, Extents};
 
 /// The counts before the first block.
 pub fn nothing() -> Counts
@@ -24,26 +24,26 @@ pub fn nothing() -> Counts
     }
 }
 
-/// Puts the line of a stretch, and counts it.
-fn put_stretch<T: Sink>(
+/// Puts the line of an extent, and counts it.
+fn put_extent<T: Sink>(
     sink: &mut T,
     line: &mut LineBuffer,
     counts: &mut Counts,
-    stretch: &Stretch<'_>,
+    extent: &Extent<'_>,
 ) -> Result<(), DeviceFault>
-    requires name { length (shown_name stretch.now.look) ≤ 255 }
-    requires room { HasRoom counts.old 1 }
-    ensures puts { Puts (T.taken sink.old) (T.taken sink.new) (T.failures sink.old) (T.failures sink.new) (stretch_line stretch.now) result }
-    ensures counts { OnOk result (counts.new ≡ counted counts.old stretch.now.look) }
+    requires name { length (shown_name extent.now.kind) ≤ 255 }
+    requires room { CountsHaveRoom counts.old 1 }
+    ensures puts { Puts (T.taken sink.old) (T.taken sink.new) (T.failures sink.old) (T.failures sink.new) (extent_line extent.now) result }
+    ensures counts { OnOk result (counts.new ≡ counted counts.old extent.now.kind) }
 {
-    write_stretch(line, stretch);
+    write_extent(line, extent);
     put_text(sink, line.as_slice())?;
-    counts.add(&stretch.look);
+    counts.add(&extent.kind);
     Ok(())
 }
 
-/// Puts the lines of the next block, whose bytes begin at the address `start`, and counts what they tell.
-#[tactic(auto, using(crate::proofs::StretchLemmas::length_stretches))]
+/// Puts the lines of the next block, whose bytes begin at the address `start`, and counts what they report.
+#[tactic(auto, using(crate::proofs::ExtentLemmas::length_extents))]
 pub fn put_block<E: Order, T: Sink>(
     sink: &mut T,
     start: u32,
@@ -52,17 +52,17 @@ pub fn put_block<E: Order, T: Sink>(
 ) -> Result<(), DeviceFault>
     requires whole_words { length block.now % 4 ≡ 0 }
     requires addressed { start + length block.now < 2 ^ 32 }
-    requires room { HasRoom counts.old (length block.now + 1) }
+    requires room { CountsHaveRoom counts.old (length block.now + 1) }
     ensures puts { Puts (T.taken sink.old) (T.taken sink.new) (T.failures sink.old) (T.failures sink.new)
-        (lines_of counts.old.blocks (stretches E.order start block.now)) result }
-    ensures counts { OnOk result (counts.new ≡ block_counted counts.old (stretches E.order start block.now)) }
+        (lines_of counts.old.blocks (extents E.order start block.now)) result }
+    ensures counts { OnOk result (counts.new ≡ block_counted counts.old (extents E.order start block.now)) }
 {
     let mut line = LineBuffer::new();
     write_block(&mut line, counts.blocks);
     put_text(sink, line.as_slice())?;
     counts.blocks += 1;
-    for stretch in Stretches::<E>::new(start, block) {
-        put_stretch(sink, &mut line, counts, &stretch)?;
+    for extent in Extents::<E>::new(start, block) {
+        put_extent(sink, &mut line, counts, &extent)?;
     }
     Ok(())
 }

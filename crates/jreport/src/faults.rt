@@ -275,7 +275,8 @@ fn put_fault<T: Sink>(fault: &ProgramFault<'_>, sink: &mut T) -> Result<(), Devi
     put_in_line(sink, name.as_bytes())
 }
 
-/// Puts the line of a fault, as it stands on standard error. It is one line: a control byte of a file's name goes out escaped.
+/// Puts the line of a fault, as it is on standard error. It is one line: a control byte of a file's name goes out
+/// escaped.
 pub fn fault_line<T: Sink>(fault: &ProgramFault<'_>, sink: &mut T) -> Result<(), DeviceFault>
     ensures ok { OnOk result (Appends (T.taken sink.old) (T.taken sink.new) (fault_line_of fault.now)) }
     ensures failed { IfErr result (λ _. T.failures sink.new ≡ next_count (T.failures sink.old)) }

@@ -1,36 +1,36 @@
-//! What is told of an image: its report, the verdict on its mount, the listing of its tree, and the content of its files.
+//! What is reported of an image: its report, the verdict on its mount, the listing of its tree, and the content of its
+//! files.
 //!
-//! It stands on `jline` (lines of text), `jscan` (the stretches of an image) and `jmount` (the file system that its nodes
-//! make). Its promise to the program: what goes to a sink is the text of the bytes that were read, and a fault says why no
-//! more of it did.
+//! It is built on `jline` (lines of text), `jscan` (the extents of an image) and `jmount` (the file system that its nodes
+//! make). Its promise to the program: what goes to a sink is the text of the bytes that were read, and a fault says why
+//! no more of it did.
 //!
 //! `specs/Report.antt` says what the report of an image is, `specs/Verdict.antt` what is said of its mount,
-//! `specs/TreeText.antt` what the listing is, `specs/Content.antt` which bytes a path names, `specs/Notes.antt` what is told of
-//! findings beside them, and `specs/Faults.antt` how faults are spelled. `specs/Puts.antt` (of an image in memory),
-//! `specs/Stream.antt` (block by block) and `specs/Loaded.antt` (read as a whole) say what the calls do. `report_rows` and
-//! `fault_rows` have worked examples, and `tree_laws` laws of the listing.
+//! `specs/TreeText.antt` what the listing is, `specs/Content.antt` which bytes a path names, `specs/Notes.antt` what is
+//! told of findings beside them, and `specs/Faults.antt` how faults are spelled. `specs/Puts.antt` (of an image in
+//! memory), `specs/Stream.antt` (block by block) and `specs/WholeImage.antt` (read as a whole) say what the calls do.
+//! `report_examples` and `fault_examples` have worked examples, and `tree_laws` laws of the listing.
 #![tactic(auto)]
 
 mod blocks;
-pub mod fault_rows;
+pub mod fault_examples;
 mod faults;
 mod files;
 mod listing;
-mod loaded;
 mod notes;
 mod paths;
 mod report;
+pub mod report_examples;
 mod report_fault;
-pub mod report_rows;
 mod stream;
 mod tree;
 pub mod tree_laws;
 mod verdict;
+mod whole_image;
 
 pub use crate::faults::{ProgramFault, fault_line, fault_text};
 pub use crate::files::content;
 pub use crate::listing::tree_lines;
-pub use crate::loaded::{check_lines, file_bytes, list_lines};
 pub use crate::notes::note_line;
 pub use crate::paths::path_word;
 pub use crate::report::{Lines, put_report, scan_lines};
@@ -38,3 +38,4 @@ pub use crate::report_fault::ReportFault;
 pub use crate::stream::stream_lines;
 pub use crate::tree::put_object;
 pub use crate::verdict::verdict_lines;
+pub use crate::whole_image::{check_lines, file_bytes, list_lines};

@@ -1,7 +1,7 @@
 //! The word of the command line that names a path.
 
 ghost use Rattle.std.specs.Prelude.{◌≡◌, ◌<◌, ◌∷◌, Some, None, IfOk, IfErr, IfSome, length, option_map};
-ghost use Rattle.jreport.specs.Paths.{byte_of, digit_of, path_of, IsWordFault};
+ghost use Rattle.jreport.specs.Paths.{byte_of_digits, digit_of, path_of, IsWordFault};
 
 use crate::faults::ProgramFault;
 use jmount::FindFault;
@@ -20,13 +20,13 @@ fn digit(byte: u8) -> Option<u8>
 }
 
 /// The byte that two hexadecimal digits are.
-fn byte_of(high: u8, low: u8) -> Option<u8>
-    ensures { result ≡ byte_of high low }
+fn byte_of_digits(high: u8, low: u8) -> Option<u8>
+    ensures { result ≡ byte_of_digits high low }
 {
     Some(16 * digit(high)? + digit(low)?)
 }
 
-/// What stands behind a backslash: the byte that it begins, and the rest of the word.
+/// What is after a backslash: the byte that it begins, and the rest of the word.
 #[tactic(auto, using(crate::proofs::PathLemmas::path_of_escape))]
 fn escaped_byte(behind: &[u8]) -> Option<(u8, &[u8])>
     ensures some { IfSome result (λ r. path_of (92 ∷ behind.now) ≡ option_map (λ bytes. r.0 ∷ bytes) (path_of r.1.now)) }
@@ -39,7 +39,7 @@ fn escaped_byte(behind: &[u8]) -> Option<(u8, &[u8])>
     if *mark != b'x' {
         return None;
     }
-    Some((byte_of(*high, *low)?, rest))
+    Some((byte_of_digits(*high, *low)?, rest))
 }
 
 /// The first byte that a word stands for, and the rest of the word.

@@ -4,7 +4,7 @@ ghost use Rattle.std.specs.Prelude.{◌≡◌, ◌+◌, ◌<◌, ◌≤◌, ◌+
 ghost use Rattle.flashbase.specs.Bytes.{erased};
 ghost use Rattle.jscan.specs.Counts.{counts_of, is_found};
 ghost use Rattle.jscan.specs.Image.{is_block_size, greatest_image, block_count};
-ghost use Rattle.jreport.specs.Report.{scan_text, lines_below, block_lines, number_of};
+ghost use Rattle.jreport.specs.Report.{scan_text, lines_below, block_lines, count_in_image};
 ghost use Rattle.jreport.specs.Puts.{IsScannable, IsFaultOf, PutsLines, PutsReport};
 
 use crate::blocks::{nothing, put_block, put_total};
@@ -15,12 +15,12 @@ use jscan::{Counts, GREATEST_IMAGE, Geometry, ScanFault};
 use std::alloc::{AllocError, Global};
 
 /// The first bytes of a block, and 0xFF for those that are missing.
-fn filled(alloc: Global, held: &[u8], size: usize) -> Result<Vec<u8>, AllocError>
-    requires { length held.now ≤ size }
-    ensures { IfOk result (λ block. block.items ≡ take size (held.now ++ erased size)) }
+fn filled(alloc: Global, present: &[u8], size: usize) -> Result<Vec<u8>, AllocError>
+    requires { length present.now ≤ size }
+    ensures { IfOk result (λ block. block.items ≡ take size (present.now ++ erased size)) }
 {
     let mut block = Vec::with_capacity(alloc, size)?;
-    block.extend_from_slice(held)?;
+    block.extend_from_slice(present)?;
     block.resize(size, 0xFF)?;
     Ok(block)
 }
@@ -43,11 +43,11 @@ fn put_block_of<E: Order, T: Sink>(
     ensures counts { OnOk result (counts.new ≡ counts_of E.order size image.now (k + 1)) }
 {
     let start = k * size;
-    let held = &image[start..];
-    if size <= held.len() {
-        put_block::<E, T>(sink, start as u32, &held[..size], counts)?;
+    let present = &image[start..];
+    if size <= present.len() {
+        put_block::<E, T>(sink, start as u32, &present[..size], counts)?;
     } else {
-        let block = filled(alloc, held, size)?;
+        let block = filled(alloc, present, size)?;
         put_block::<E, T>(sink, start as u32, &block, counts)?;
     }
     Ok(())
@@ -111,7 +111,7 @@ pub fn scan_lines<E: Order>(
 ) -> Result<Lines, ScanFault>
     ensures limits { OnOk result (IsScannable geometry.block image.now) }
     ensures text { IfOk result (λ lines. lines.text.items ≡ scan_text E.order geometry.block image.now) }
-    ensures findings { IfOk result (λ lines. lines.findings ≡ number_of is_found E.order geometry.block image.now) }
+    ensures findings { IfOk result (λ lines. lines.findings ≡ count_in_image is_found E.order geometry.block image.now) }
     ensures fault { IfErr result (IsFaultOf geometry.block image.now) }
 {
     let mut sink = FromWriter::new(Vec::new(alloc));

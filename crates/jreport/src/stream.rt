@@ -5,7 +5,7 @@ ghost use Rattle.std.specs.Io.KnownBytes.{Appends};
 ghost use Rattle.flashbase.specs.Device.{next_count};
 ghost use Rattle.jscan.specs.Filling.{StopsWithin};
 ghost use Rattle.jscan.specs.Image.{block_count, greatest_image, is_block_size};
-ghost use Rattle.jreport.specs.Loaded.{OfSomeImage};
+ghost use Rattle.jreport.specs.WholeImage.{OfSomeImage};
 ghost use Rattle.jreport.specs.Report.{lines_below};
 ghost use Rattle.jreport.specs.Stream.{PutsStream};
 

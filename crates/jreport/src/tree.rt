@@ -63,7 +63,7 @@ fn push_number(line: &mut LineBuffer, n: u32)
     line.push_decimal(u64::from(n));
 }
 
-/// What stands before the path.
+/// What is before the path.
 #[tactic(auto, unfolding(crate::specs::TreeText::object_start), using(std::proofs::Common::append_assoc))]
 fn write_object(line: &mut LineBuffer, ino: u32, object: &Object)
     requires { line.old ≡ [] }

@@ -70,14 +70,14 @@ dangling pino 1 ino 2 name a\n",
 fn worked_texts(rt: HostRuntime) -> Result<(), Fail> {
     for (raw, text, finds) in TEXTS {
         let image = raw_image(rt.alloc(), raw)?;
-        let (told, found) = checked(rt.alloc(), &image)?;
-        assert_eq!(rt; told.as_slice(), text.as_bytes());
+        let (answer_and_text, found) = checked(rt.alloc(), &image)?;
+        assert_eq!(rt; answer_and_text.as_slice(), text.as_bytes());
         assert_eq!(rt; found, finds);
     }
     Ok(())
 }
 
-/// Nodes behind a marker, each type by itself, and one twice: how the text ends, and whether anything was found.
+/// Nodes after a marker, each type by itself, and one twice: how the text ends, and whether anything was found.
 const ENDS: [(&[&[u8]], &str, bool); 8] = [
     (
         &[LITTLE_MARKER, COMPRESSED],
@@ -136,8 +136,8 @@ const VERDICTS: [(&[Node<'static>], &str, bool); 4] = [
 fn verdicts(rt: HostRuntime) -> Result<(), Fail> {
     for (nodes, text, is_bad) in VERDICTS {
         let image = image_of(rt.alloc(), nodes)?;
-        let (told, bad) = verdict(rt.alloc(), &image)?;
-        assert_eq!(rt; told.as_slice(), text.as_bytes());
+        let (answer_and_text, bad) = verdict(rt.alloc(), &image)?;
+        assert_eq!(rt; answer_and_text.as_slice(), text.as_bytes());
         assert_eq!(rt; bad, is_bad);
     }
     Ok(())

@@ -107,7 +107,7 @@ impl Source for Pieces<'_> {
     }
 }
 
-/// Gives as many bytes as it has left, and leaves what stands in the buffer.
+/// Gives as many bytes as it has left, and leaves what is in the buffer.
 #[derive(Drop)]
 pub(crate) struct Long {
     pub(crate) left: usize,

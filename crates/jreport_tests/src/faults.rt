@@ -76,11 +76,11 @@ fn texts_of(alloc: Global, fault: &ProgramFault<'_>) -> Result<(Vec<u8>, Vec<u8>
 #[test]
 fn texts_of_faults(rt: HostRuntime) -> Result<(), Fail> {
     for (fault, text) in FAULTS {
-        let (told, line) = texts_of(rt.alloc(), &fault)?;
-        assert_eq!(rt; told.as_slice(), text.as_bytes());
+        let (answer_and_text, line) = texts_of(rt.alloc(), &fault)?;
+        assert_eq!(rt; answer_and_text.as_slice(), text.as_bytes());
         let text = line.strip_suffix(b"\n".as_slice());
         let text = text.and_then(|text| text.strip_prefix(b"jffs2_image: ".as_slice()));
-        assert_eq!(rt; text, Some(told.as_slice()));
+        assert_eq!(rt; text, Some(answer_and_text.as_slice()));
     }
     Ok(())
 }

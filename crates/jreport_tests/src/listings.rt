@@ -142,7 +142,7 @@ fn worked_trees(rt: HostRuntime) -> Result<(), Fail> {
     Ok(())
 }
 
-/// The lines of a symlink with this target, but for the root's and what stands before the target.
+/// The lines of a symlink with this target, but for the root's and what is before the target.
 fn shown_target(alloc: Global, target: &[u8], start: &str) -> Result<Vec<u8>, &'static str> {
     let nodes = [Node::Inode(2, SYMLINK, target), Node::Entry(1, 2, b"s")];
     let text = lines(alloc, &nodes)?;

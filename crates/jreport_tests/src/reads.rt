@@ -137,7 +137,7 @@ fn ask<S: Source, T: Sink>(
 }
 
 /// The answer of a call, and what it puts.
-fn told(
+fn answer_and_text(
     alloc: Global,
     call: Call,
     image: &[u8],
@@ -212,7 +212,7 @@ const WHOLE: [Row; 9] = [
 fn worked_calls(rt: HostRuntime) -> Result<(), Fail> {
     for (nodes, call, want, text) in WHOLE {
         let image = image_of(rt.alloc(), nodes)?;
-        let (answer, put) = told(rt.alloc(), call, &image, GEOMETRY);
+        let (answer, put) = answer_and_text(rt.alloc(), call, &image, GEOMETRY);
         assert_eq!(rt; answer, want);
         assert_eq!(rt; put.as_slice(), text);
     }
@@ -240,7 +240,7 @@ const ENDS: [Row; 4] = [
 fn worked_ends(rt: HostRuntime) -> Result<(), Fail> {
     for (nodes, call, want, end) in ENDS {
         let image = image_of(rt.alloc(), nodes)?;
-        let (answer, put) = told(rt.alloc(), call, &image, GEOMETRY);
+        let (answer, put) = answer_and_text(rt.alloc(), call, &image, GEOMETRY);
         assert_eq!(rt; answer, want);
         assert!(rt; put.ends_with(end));
     }
@@ -262,7 +262,7 @@ fn block_sizes_that_are_refused(rt: HostRuntime) -> Result<(), Fail> {
     let image = image_of(rt.alloc(), TREE)?;
     for block in [0, 4092, 4097, u32::MAX] {
         for (call, fault) in REFUSALS {
-            let (answer, put) = told(rt.alloc(), call, &image, Geometry { block });
+            let (answer, put) = answer_and_text(rt.alloc(), call, &image, Geometry { block });
             assert_eq!(rt; answer, Err(fault));
             assert!(rt; put.is_empty());
         }
@@ -270,7 +270,7 @@ fn block_sizes_that_are_refused(rt: HostRuntime) -> Result<(), Fail> {
     Ok(())
 }
 
-/// Whether a source that fails after so many bytes is told as such, and nothing is put.
+/// Whether a source that fails after so many bytes is reported as such, and nothing is put.
 fn is_unread(alloc: Global, call: Call, image: &[u8], limit: usize) -> bool {
     let mut source = Pieces {
         bytes: image,
@@ -310,7 +310,7 @@ fn findings_of_mounted_images(rt: HostRuntime) -> Result<(), Fail> {
     for (nodes, count) in FOUND {
         let image = raw_image(rt.alloc(), Raw { nodes, ..ONE_BLOCK })?;
         for call in [Call::Listing, Call::Content(b"/a")] {
-            let (answer, _) = told(rt.alloc(), call, &image, GEOMETRY);
+            let (answer, _) = answer_and_text(rt.alloc(), call, &image, GEOMETRY);
             assert_eq!(rt; answer, Ok(count));
         }
     }
@@ -350,7 +350,7 @@ fn is_cut(alloc: Global, call: Call, image: &[u8], text: &[u8], limit: usize) ->
 fn a_sink_that_fails_at_each_byte(rt: HostRuntime) -> Result<(), Fail> {
     let image = image_of(rt.alloc(), TREE)?;
     for call in CALLS {
-        let (_, whole) = told(rt.alloc(), call, &image, GEOMETRY);
+        let (_, whole) = answer_and_text(rt.alloc(), call, &image, GEOMETRY);
         for limit in 0..whole.len() {
             assert!(rt; is_cut(rt.alloc(), call, &image, &whole[..limit], limit));
         }

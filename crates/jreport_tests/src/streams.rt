@@ -14,7 +14,7 @@ use std::test::Fail;
 /// What is answered of a source, and what goes out.
 type Answer = (Result<u64, ProgramFault<'static>>, Vec<u8>);
 
-fn told<E: Order, S: Source>(alloc: Global, source: S, geometry: Geometry) -> Answer {
+fn answer_and_text<E: Order, S: Source>(alloc: Global, source: S, geometry: Geometry) -> Answer {
     let mut sink = FromWriter::new(Vec::new(alloc));
     let answer = stream_lines::<E, _, _>(alloc, source, geometry, &mut sink);
     (answer, sink.into_writer())
@@ -33,7 +33,7 @@ pub(crate) fn streamed<E: Order>(
         limit,
         failures: u64::MAX,
     };
-    told::<E, _>(alloc, source, GEOMETRY)
+    answer_and_text::<E, _>(alloc, source, GEOMETRY)
 }
 
 const FIRST_BLOCK: &str = "block 0\n\
@@ -88,7 +88,7 @@ fn block_sizes_that_are_refused_unread(rt: HostRuntime) {
             limit: 0,
             failures: 0,
         };
-        let (answer, put) = told::<BigEndian, _>(rt.alloc(), broken, Geometry { block });
+        let (answer, put) = answer_and_text::<BigEndian, _>(rt.alloc(), broken, Geometry { block });
         assert_eq!(rt; answer, Err(ProgramFault::Scan(ScanFault::BlockSize)));
         assert!(rt; put.is_empty());
     }
@@ -99,7 +99,7 @@ fn long(alloc: Global, len: usize) -> Answer {
     let geometry = Geometry {
         block: GREATEST_BLOCK,
     };
-    told::<LittleEndian, _>(alloc, Long { left: len }, geometry)
+    answer_and_text::<LittleEndian, _>(alloc, Long { left: len }, geometry)
 }
 
 #[test]

@@ -1,4 +1,4 @@
--- The addresses of what stands in an image ascend.
+-- The addresses of what an image contains ascend.
 use Rattle.std.proofs.Common.{◌≡◌, ℕ, zero, suc, ◌+◌, ◌-◌, ◌*◌, ◌<◌, ◌≤◌, ◌^◌, List, [], ◌∷◌, ◌++◌, length, refl, sym, ap, subst, ◌∙◌, arith, append-nil, Option, None, Some}
 use Rattle.std.specs.Prelude.{filter_map, flat_map, Contains, option_map}
 use Rattle.std.specs.List.{AllByRecursion, cons_option}
@@ -8,19 +8,19 @@ use Rattle.jnode.specs.declared.order.Endian.{Endian}
 use Rattle.jnode.specs.declared.node.NodeRef.{NodeRef}
 use Rattle.jnode.specs.declared.node.Seen.{Seen}
 use Rattle.jnode.specs.Reading.{node_in}
-use Rattle.jscan.specs.Counts.{stretches_of_block, stretches_below}
+use Rattle.jscan.specs.Counts.{extents_of_block, extents_below}
 use Rattle.jscan.specs.Findings.{found, finding_of}
 use Rattle.jscan.specs.Image.{block_of, block_count, node_sighted, sightings, nodes}
-use Rattle.jscan.specs.Scans.{IsScannable, image_stretches, findings}
-use Rattle.jscan.specs.Stretches.{sighted_by, sighted, stretches}
+use Rattle.jscan.specs.Scans.{IsScannable, image_extents, findings}
+use Rattle.jscan.specs.Extents.{sighted_by, sighted, extents}
 use Rattle.jscan.specs.declared.finding.Finding.{Finding}
 use Rattle.jscan.specs.declared.finding.FindingKind.{FindingKind}
-use Rattle.jscan.specs.declared.stretch.Look.{Look}
-use Rattle.jscan.specs.declared.stretch.Look.TheVariants.{Tiled, Erased, OtherOrder, Dirt}
-use Rattle.jscan.specs.declared.stretch.Stretch.{Stretch}
+use Rattle.jscan.specs.declared.extent.ExtentKind.{ExtentKind}
+use Rattle.jscan.specs.declared.extent.ExtentKind.TheVariants.{Tiled, Erased, OtherOrder, Dirt}
+use Rattle.jscan.specs.declared.extent.Extent.{Extent}
 use Rattle.jscan.proofs.ImageLemmas.{image_sighted, starts_small}
 use Rattle.jscan.proofs.PartLemmas.{block_length}
-use Rattle.jscan.proofs.StretchLaws.{Falls, falls_from}
+use Rattle.jscan.proofs.ExtentLaws.{Falls, falls_from}
 
 -- what holds of each holds of one of them
 pub of_each : {X : Type 0} (P : X → Type 0) (xs : List X) (x : X) → AllByRecursion P xs → Contains xs x → P x
@@ -67,7 +67,7 @@ ascends_taken {X} {Y} key other take_of keeps low high (x ∷ xs) up =
         let is : other y ≡ key x = same y refl in
         (omega (arith, up.0, is), omega (arith, up.1, is), subst (λ (n : ℕ). Ascends other (n + 1) high (filter_map take_of xs)) (sym is) next)
 
--- each is below those behind it
+-- each is below those after it
 below_later : {X : Type 0} (key : X → ℕ) (low high : ℕ) (xs before after : List X) (x y : X) → Ascends key low high xs → xs ≡ before ++ x ∷ after
     → Contains after y → key x < key y
 unfolding Ascends
@@ -83,45 +83,45 @@ below_later key low high (z ∷ zs) (b ∷ bs) after x y up is has =
     let others : zs ≡ bs ++ x ∷ after = cc in
     below_later key (key z + 1) high zs bs after x y up.2 others has
 
--- ---- the stretches of an image
+-- ---- the extents of an image
 
-falls_ascend : (addr left : ℕ) (ss : List Stretch) → Falls addr left ss → Ascends (λ (s : Stretch). s.addr) addr (addr + left) ss
+falls_ascend : (addr left : ℕ) (ss : List Extent) → Falls addr left ss → Ascends (λ (s : Extent). s.addr) addr (addr + left) ss
 unfolding Falls Ascends
 falls_ascend addr left [] falls = tt
 falls_ascend addr left (s ∷ ss) falls =
     let end : (addr + s.len) + (left - s.len) ≡ addr + left = omega (arith, falls.2) in
-    let next = subst (λ (n : ℕ). Ascends (λ (t : Stretch). t.addr) (addr + s.len) n ss) end (falls_ascend (addr + s.len) (left - s.len) ss falls.4) in (
+    let next = subst (λ (n : ℕ). Ascends (λ (t : Extent). t.addr) (addr + s.len) n ss) end (falls_ascend (addr + s.len) (left - s.len) ss falls.4) in (
       omega (arith, falls.0),
       omega (arith, falls.0, falls.1, falls.2),
-      from_lower (λ (t : Stretch). t.addr) (addr + s.len) (s.addr + 1) (addr + left) ss (omega (arith, falls.0, falls.1)) next,
+      from_lower (λ (t : Extent). t.addr) (addr + s.len) (s.addr + 1) (addr + left) ss (omega (arith, falls.0, falls.1)) next,
     )
 
-block_ascends : (e : Endian) (size : ℕ) (image : List ℕ) (k : ℕ) → Ascends (λ (s : Stretch). s.addr) (k * size) (suc k * size) (stretches_of_block e size image k)
+block_ascends : (e : Endian) (size : ℕ) (image : List ℕ) (k : ℕ) → Ascends (λ (s : Extent). s.addr) (k * size) (suc k * size) (extents_of_block e size image k)
 block_ascends e size image k =
     let block = block_of size image k in
     let start : k * size + 0 ≡ k * size = omega arith in
     let end : (k * size + 0) + length block ≡ suc k * size = omega (arith, block_length size image k) in
-    subst (λ (n : ℕ). Ascends (λ (s : Stretch). s.addr) (k * size) n (stretches e (k * size) block)) end
-    (from_lower (λ (s : Stretch). s.addr) (k * size + 0) (k * size) ((k * size + 0) + length block) (stretches e (k * size) block) (omega arith)
-    (falls_ascend (k * size + 0) (length block) (stretches e (k * size) block) (falls_from (length block) e (k * size) 0 block (omega arith))))
+    subst (λ (n : ℕ). Ascends (λ (s : Extent). s.addr) (k * size) n (extents e (k * size) block)) end
+    (from_lower (λ (s : Extent). s.addr) (k * size + 0) (k * size) ((k * size + 0) + length block) (extents e (k * size) block) (omega arith)
+    (falls_ascend (k * size + 0) (length block) (extents e (k * size) block) (falls_from (length block) e (k * size) 0 block (omega arith))))
 
-below_ascend : (e : Endian) (size : ℕ) (image : List ℕ) (n : ℕ) → Ascends (λ (s : Stretch). s.addr) 0 (n * size) (stretches_below e size image n)
+below_ascend : (e : Endian) (size : ℕ) (image : List ℕ) (n : ℕ) → Ascends (λ (s : Extent). s.addr) 0 (n * size) (extents_below e size image n)
 unfolding Ascends
 below_ascend e size image zero = tt
 below_ascend e size image (suc n) =
-    let f = λ (k : ℕ). stretches_of_block e size image k in
-    let is : stretches_below e size image n ++ stretches_of_block e size image n ≡ stretches_below e size image (suc n) =
-    sym (flat_map-append f (below n) (n ∷ []) ∙ ap (λ (l : List Stretch). flat_map f (below n) ++ l) (append-nil (f n))) in
-    subst (Ascends (λ (s : Stretch). s.addr) 0 (suc n * size)) is
-    (ascends_append (λ (s : Stretch). s.addr) 0 (n * size) (suc n * size) (stretches_below e size image n) (stretches_of_block e size image n)
+    let f = λ (k : ℕ). extents_of_block e size image k in
+    let is : extents_below e size image n ++ extents_of_block e size image n ≡ extents_below e size image (suc n) =
+    sym (flat_map-append f (below n) (n ∷ []) ∙ ap (λ (l : List Extent). flat_map f (below n) ++ l) (append-nil (f n))) in
+    subst (Ascends (λ (s : Extent). s.addr) 0 (suc n * size)) is
+    (ascends_append (λ (s : Extent). s.addr) 0 (n * size) (suc n * size) (extents_below e size image n) (extents_of_block e size image n)
     (omega arith) (omega arith) (below_ascend e size image n) (block_ascends e size image n))
 
-image_ascends : (e : Endian) (size : ℕ) (image : List ℕ) → Ascends (λ (s : Stretch). s.addr) 0 (block_count size image * size) (image_stretches e size image)
+image_ascends : (e : Endian) (size : ℕ) (image : List ℕ) → Ascends (λ (s : Extent). s.addr) 0 (block_count size image * size) (image_extents e size image)
 image_ascends e size image = below_ascend e size image (block_count size image)
 
 -- ---- sightings, nodes and findings
 
-sighted_there : (addr : ℕ) (look : Look) (t : ℕ × Seen) → sighted_by addr look ≡ Some t → t.0 ≡ addr
+sighted_there : (addr : ℕ) (kind : ExtentKind) (t : ℕ × Seen) → sighted_by addr kind ≡ Some t → t.0 ≡ addr
 sighted_there addr (Tiled what) t is = ap (λ (s : ℕ × Seen). s.0) {x = t} {y = (addr, what)} cc
 sighted_there addr Erased t is = cc
 sighted_there addr OtherOrder t is = cc
@@ -138,8 +138,8 @@ node_there addr (Some node) n is = ap (λ (m : ℕ × NodeRef). m.0) {x = n} {y 
 pub sightings_up : (e : Endian) (size : ℕ) (image : List ℕ) → Ascends (λ (s : ℕ × Seen). s.0) 0 (block_count size image * size) (sightings e size image)
 sightings_up e size image =
     subst (Ascends (λ (s : ℕ × Seen). s.0) 0 (block_count size image * size)) (image_sighted e size image)
-    (ascends_taken (λ (s : Stretch). s.addr) (λ (s : ℕ × Seen). s.0) sighted (λ s t is. sighted_there s.addr s.look t is) 0 (block_count size image * size)
-    (image_stretches e size image) (image_ascends e size image))
+    (ascends_taken (λ (s : Extent). s.addr) (λ (s : ℕ × Seen). s.0) sighted (λ s t is. sighted_there s.addr s.kind t is) 0 (block_count size image * size)
+    (image_extents e size image) (image_ascends e size image))
 
 pub sightings_ascend : (e : Endian) (size : ℕ) (image : List ℕ) (before after : List (ℕ × Seen)) (s t : ℕ × Seen)
     → sightings e size image ≡ before ++ s ∷ after → Contains after t → s.0 < t.0
@@ -160,8 +160,8 @@ pub findings_ascend : (e : Endian) (size : ℕ) (image : List ℕ) (before after
 findings_ascend e size image before after f g is has =
     let high : ℕ = block_count size image * size in
     below_later (λ (u : Finding). u.addr) 0 high (findings e size image) before after f g
-    (ascends_taken (λ (s : Stretch). s.addr) (λ (u : Finding). u.addr) finding_of (λ s u same. found_there s.addr (found s.look) u same) 0 high
-    (image_stretches e size image) (image_ascends e size image))
+    (ascends_taken (λ (s : Extent). s.addr) (λ (u : Finding). u.addr) finding_of (λ s u same. found_there s.addr (found s.kind) u same) 0 high
+    (image_extents e size image) (image_ascends e size image))
     is has
 
 pub sightings_within : (e : Endian) (size : ℕ) (image : List ℕ) (s : ℕ × Seen) → Contains (sightings e size image) s → s.0 < block_count size image * size

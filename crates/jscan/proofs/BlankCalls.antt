@@ -22,18 +22,18 @@ all_erased [] run = refl
 all_erased (x ∷ xs) run = ap₂ (λ (y : ℕ) (ys : List ℕ). y ∷ ys) (run 0 (omega arith)) (all_erased xs (λ k h. run (suc k) (omega arith)))
 
 -- a part is erased just where the run takes all that the image has of it
-pub part_erased : (part held : List ℕ) (run : ℕ) → part ≡ held ++ erased (length part - length held) → IsErasedRun held run
-    → (run ≡ length held) ↔ (part ≡ erased (length part))
-part_erased part held run is erased_run =
-    let size : length part ≡ length held + (length part - length held) =
-    ap length is ∙ length-append held (erased (length part - length held)) ∙ ap (λ (n : ℕ). length held + n) (length-replicate {A = ℕ} (length part - length held) 0xFF) in (
+pub part_erased : (part present : List ℕ) (run : ℕ) → part ≡ present ++ erased (length part - length present) → IsErasedRun present run
+    → (run ≡ length present) ↔ (part ≡ erased (length part))
+part_erased part present run is erased_run =
+    let size : length part ≡ length present + (length part - length present) =
+    ap length is ∙ length-append present (erased (length part - length present)) ∙ ap (λ (n : ℕ). length present + n) (length-replicate {A = ℕ} (length part - length present) 0xFF) in (
       λ all.
-          let same : held ≡ erased (length held) = all_erased held (λ k h. erased_run.erased k (omega arith)) in
-          is ∙ ap (λ (h : List ℕ). h ++ erased (length part - length held)) same
-          ∙ replicate-append-replicate (length held) (length part - length held) 0xFF ∙ ap erased (sym size),
-      λ same. elim (cases_lt run (length held)) [
+          let same : present ≡ erased (length present) = all_erased present (λ k h. erased_run.erased k (omega arith)) in
+          is ∙ ap (λ (h : List ℕ). h ++ erased (length part - length present)) same
+          ∙ replicate-append-replicate (length present) (length part - length present) 0xFF ∙ ap erased (sym size),
+      λ same. elim (cases_lt run (length present)) [
         | inl less ↦ absurd (erased_run.stops less
-            (sym (get_or_append_left held (erased (length part - length held)) 0 run less)
+            (sym (get_or_append_left present (erased (length part - length present)) 0 run less)
             ∙ ap (λ (l : List ℕ). slice_index l run) (sym is ∙ same) ∙ get_or-replicate (length part) run 0xFF 0 (omega arith)))
         | inr past ↦ let within = erased_run.within in omega arith
       ],

@@ -8,8 +8,8 @@ use Rattle.flashbase.specs.Bytes.{erased}
 use Rattle.flashbase.specs.Lists.{below}
 use Rattle.jnode.specs.declared.order.Endian.{Endian}
 use Rattle.jscan.specs.Image.{block_of, block_count, sightings_in, node_sighted, nodes}
-use Rattle.jscan.specs.Laws.{nodes_in}
-use Rattle.jscan.proofs.QuietLemmas.{erased_has_no_nodes}
+use Rattle.jscan.specs.Laws.{nodes_in_block}
+use Rattle.jscan.proofs.HeaderlessLemmas.{erased_has_no_nodes}
 
 pub filter_map-flat_map : {A B C : Type 0} (h : B → Option C) (g : A → List B) (xs : List A) → filter_map h (flat_map g xs) ≡ flat_map (λ x. filter_map h (g x)) xs
 filter_map-flat_map h g [] = refl
@@ -37,13 +37,13 @@ pub count_within : (size blocks : ℕ) (image : List ℕ) → 0 < size → lengt
 count_within size blocks image p h = grind (arith, div_ceil_times (length image) size p)
 
 pub nodes_are_of_blocks : (e : Endian) (size blocks : ℕ) (image : List ℕ) → 0 < size → length image ≤ blocks * size
-    → nodes e size image ≡ flat_map (λ k. nodes_in e (k * size) (block_of size image k)) (below blocks)
+    → nodes e size image ≡ flat_map (λ k. nodes_in_block e (k * size) (block_of size image k)) (below blocks)
 nodes_are_of_blocks e size blocks image p h =
     let n : ℕ = block_count size image in
     let le : n ≤ blocks = count_within size blocks image p h in
     let sum : (blocks - n) + n ≡ blocks = omega arith in
     filter_map-flat_map node_sighted (λ k. sightings_in e (k * size) (block_of size image k)) (below n)
-    ∙ (sym (flat_map-below (λ k. nodes_in e (k * size) (block_of size image k)) n (blocks - n)
-    (λ k q. ap (nodes_in e (k * size)) (block_past size image k (past_count size image k p q))
+    ∙ (sym (flat_map-below (λ k. nodes_in_block e (k * size) (block_of size image k)) n (blocks - n)
+    (λ k q. ap (nodes_in_block e (k * size)) (block_past size image k (past_count size image k p q))
     ∙ ap (filter_map node_sighted) (erased_has_no_nodes e (k * size) size)))
-    ∙ ap (λ (m : ℕ). flat_map (λ k. nodes_in e (k * size) (block_of size image k)) (below m)) sum)
+    ∙ ap (λ (m : ℕ). flat_map (λ k. nodes_in_block e (k * size) (block_of size image k)) (below m)) sum)

@@ -7,7 +7,7 @@ use Rattle.flashbase.specs.Lists.{below}
 use Rattle.flashbase.specs.Ranges.{AreBytes}
 use Rattle.jnode.specs.Header.{IsGood, totlen_of}
 use Rattle.jnode.specs.Reading.{Reads, ReadsEntry, ReadsInode, ReadsFill, seen_of, tile_of, node_in, nsize_of, csize_of, name_of, data_of}
-use Rattle.jnode.specs.Writing.{Fits, HoldsBytes, IsWritable, IsWritableEntry, IsWritableInode, HoldsRange, held_bytes}
+use Rattle.jnode.specs.Writing.{Fits, HoldsBytes, IsWritable, IsWritableEntry, IsWritableInode, HoldsRange, stored_bytes}
 use Rattle.jnode.specs.declared.order.Endian.{Endian}
 use Rattle.jnode.specs.declared.node.Dirent.{Dirent}
 use Rattle.jnode.specs.declared.node.Fill.{Fill}
@@ -25,9 +25,9 @@ use Rattle.jscan.proofs.AddressLaws.{of_each}
 use Rattle.jscan.proofs.ImageLemmas.{readable_most}
 use Rattle.jscan.proofs.PaddingLemmas.{pad4_up}
 use Rattle.jscan.proofs.PartLemmas.{block_length}
-use Rattle.jscan.proofs.QuietLemmas.{seen_among}
+use Rattle.jscan.proofs.HeaderlessLemmas.{seen_among}
 use Rattle.jscan.proofs.StreamCounts.{readable_words}
-use Rattle.jscan.proofs.StretchLaws.{tile_words, tile_within}
+use Rattle.jscan.proofs.ExtentLaws.{tile_words, tile_within}
 use Rattle.jscan.proofs.TileLemmas.{tile_cases, tile_then_rest}
 
 -- ---- where a sighting is read
@@ -113,9 +113,9 @@ named : (tile : List ℕ) (total : ℕ) → length tile ≡ pad4_of total → pa
 named tile total whole sizes =
     length-take-le (nsize_of tile) (drop 40 tile) (omega (arith, length-drop 40 tile, whole, sizes, (pad4_up (40 + nsize_of tile)).0))
 
-held : (e : Endian) (tile : List ℕ) (total : ℕ) → length tile ≡ pad4_of total → pad4_of (68 + csize_of e tile) ≡ pad4_of total
+stored : (e : Endian) (tile : List ℕ) (total : ℕ) → length tile ≡ pad4_of total → pad4_of (68 + csize_of e tile) ≡ pad4_of total
     → (length (data_of e tile) ≡ csize_of e tile) × (68 + csize_of e tile ≤ length tile)
-held e tile total whole sizes =
+stored e tile total whole sizes =
     let up = (pad4_up (68 + csize_of e tile)).0 in
     (length-take-le (csize_of e tile) (drop 68 tile) (omega (arith, length-drop 68 tile, whole, sizes, up)), omega (arith, whole, sizes, up))
 
@@ -139,20 +139,20 @@ inode_writable e tile inode Zero is reads gives most =
     record {
       object = omega (arith, ino, not_none _ reads.sound.object);
       end = omega (arith, offset, dsize, reads.sound.end);
-      held = subst (λ (f : Fill). HoldsRange f inode.dsize) is tt;
-      long = subst (λ (f : Fill). 68 + length (held_bytes f) ≤ 4194304) is (omega arith);
+      stored = subst (λ (f : Fill). HoldsRange f inode.dsize) is tt;
+      long = subst (λ (f : Fill). 68 + length (stored_bytes f) ≤ 4194304) is (omega arith);
     }
 inode_writable e tile inode (Data bytes) is reads gives most =
     let ino = ap (λ (n : InodeNode). n.ino) reads.fields in
     let offset = ap (λ (n : InodeNode). n.offset) reads.fields in
     let dsize = ap (λ (n : InodeNode). n.dsize) reads.fields in
-    let room = held e tile (totlen_of e tile) reads.sound.is_tile.whole reads.sound.sizes in
+    let room = stored e tile (totlen_of e tile) reads.sound.is_tile.whole reads.sound.sizes in
     let size : length bytes ≡ csize_of e tile = ap length gives.2 ∙ room.0 in
     record {
       object = omega (arith, ino, not_none _ reads.sound.object);
       end = omega (arith, offset, dsize, reads.sound.end);
-      held = subst (λ (f : Fill). HoldsRange f inode.dsize) is (size ∙ gives.1 ∙ sym dsize);
-      long = subst (λ (f : Fill). 68 + length (held_bytes f) ≤ 4194304) is (omega (arith, size, room.1, most));
+      stored = subst (λ (f : Fill). HoldsRange f inode.dsize) is (size ∙ gives.1 ∙ sym dsize);
+      long = subst (λ (f : Fill). 68 + length (stored_bytes f) ≤ 4194304) is (omega (arith, size, room.1, most));
     }
 
 writable : (e : Endian) (tile : List ℕ) (x : NodeRef) → Reads e tile x → length tile ≤ 4194304 → IsWritable x

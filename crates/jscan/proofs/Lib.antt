@@ -1,10 +1,10 @@
 pub mod PaddingLemmas
 pub mod TileLemmas
 pub mod FrontLemmas
-pub mod StretchLemmas
+pub mod ExtentLemmas
 pub mod TilingLaws
-pub mod StretchLaws
-pub mod QuietLemmas
+pub mod ExtentLaws
+pub mod HeaderlessLemmas
 pub mod BlankLemmas
 pub mod BlankCalls
 pub mod SightingLaws
@@ -15,7 +15,7 @@ pub mod CountLemmas
 pub mod StreamCounts
 pub mod PartLemmas
 pub mod ImageLemmas
-pub mod SurveyLemmas
+pub mod PartialScanLemmas
 pub mod AddressLaws
 pub mod RefusalLaws
 pub mod FitLaws

@@ -16,7 +16,7 @@ use Rattle.jscan.specs.Tiling.{Tile, tiling_from, tile_at}
 use Rattle.jscan.specs.declared.tiles.TileKind.TheVariants.{Node}
 use Rattle.jscan.specs.Blank.{marked}
 use Rattle.jscan.specs.Image.{sightings_in, sightings_from}
-use Rattle.jscan.proofs.QuietLemmas.{NoneGood, quiet_has_no_nodes, erased_none_good, seen_among}
+use Rattle.jscan.proofs.HeaderlessLemmas.{NoneGood, headerless_has_no_nodes, erased_none_good, seen_among}
 use Rattle.jscan.proofs.TileLemmas.{tile_good, tile_then_rest}
 
 -- the twelve bytes of a marker that was cut after j
@@ -112,7 +112,7 @@ whole_sighted e start s =
     let behind : sightings_from e start (0 + length (take 12 block)) (drop (length (take 12 block)) block) ≡ [] =
     ap (λ (n : ℕ). sightings_from e start (0 + n) (drop n block)) size
     ∙ ap (sightings_from e start (0 + 12)) (drop_at (clean_marker e) (erased s) 12 (length_marker e))
-    ∙ quiet_has_no_nodes e start (0 + 12) (erased s) (erased_none_good e s) in
+    ∙ headerless_has_no_nodes e start (0 + 12) (erased s) (erased_none_good e s) in
     ap (seen_among e start) first
     ∙ ap (λ (l : List (ℕ × Seen)). (start + 0, seen_of e (take 12 block)) ∷ l) behind
     ∙ ap (λ (n : ℕ). (n, seen_of e (take 12 block)) ∷ []) (omega arith)
@@ -128,6 +128,6 @@ marked_has_no_nodes e start size j h k =
     (λ (other : j ≡ 12 → ⊥).
     let less : j < 12 = omega arith in
     ap (sightings_in e start) (marked_is_cut e size j h k)
-    ∙ (quiet_has_no_nodes e start 0 (cut_marker e j ++ erased (size - 12)) (cut_none_good e j (size - 12) less)
+    ∙ (headerless_has_no_nodes e start 0 (cut_marker e j ++ erased (size - 12)) (cut_none_good e j (size - 12) less)
     ∙ sym (cond-false (eqb j 12) ((start, seen.Marker) ∷ []) [] (ne_eqb j 12 other))))
     (cases_eq j 12)

@@ -20,7 +20,7 @@ use Rattle.jscan.proofs.ElementLemmas.{split_around, Contains-below, Contains-be
 use Rattle.jscan.proofs.PartLemmas.{block_length}
 use Rattle.jscan.proofs.TilingLaws.{exists, only, left_behind}
 
--- a node's tile in a block is the tile of a good header that stands at its place
+-- a node's tile in a block is the tile of a good header that is at its place
 record IsTileOf (e : Endian) (rest : List ℕ) (tile : Tile) : Type 0 where
   good : IsGood e rest
   words : length rest % 4 ≡ 0
@@ -34,8 +34,8 @@ tile_in e block tile header words has kind =
     let after = found.1 in
     let p = length (bytes_of before) in
     let rest = drop p block in
-    let stands = (exists e block words).each before after tile found.2 in
-    let rule : IsByRule e block p (Node header) tile.bytes = subst (λ (k : TileKind). IsByRule e block p k tile.bytes) kind stands.rule in
+    let is_at = (exists e block words).each before after tile found.2 in
+    let rule : IsByRule e block p (Node header) tile.bytes = subst (λ (k : TileKind). IsByRule e block p k tile.bytes) kind is_at.rule in
     let split : rest ≡ tile.bytes ++ bytes_of after =
     left_behind block before after tile (ap bytes_of (sym found.2) ∙ (exists e block words).whole) in
     let size : length tile.bytes ≡ pad4_of (totlen_of e rest) = rule.2 ∙ ap (λ (h : Header). pad4_of h.totlen) rule.1 in (
@@ -125,8 +125,8 @@ to_node e size image addr node k place words few here holds =
     (Contains-filter_map (λ (t : Tile). sighting e (k * size + t.place) t.bytes t.kind) (tiling e bytes) tile (addr, seen_of e tile.bytes) among seen))
     is
 
-pub nodes_are_held : (e : Endian) (size : ℕ) (image : List ℕ) (addr : ℕ) (node : NodeRef) → size % 4 ≡ 0
+pub nodes_are_contained : (e : Endian) (size : ℕ) (image : List ℕ) (addr : ℕ) (node : NodeRef) → size % 4 ≡ 0
     → Contains (nodes e size image) (addr, node)
     ↔ ((k place : ℕ) × (k < block_count size image) × (addr ≡ k * size + place) × HoldsNode e (block_of size image k) place node)
-nodes_are_held e size image addr node words =
-    (from_node e size image addr node words, λ held. to_node e size image addr node held.0 held.1 words held.2 held.3 held.4)
+nodes_are_contained e size image addr node words =
+    (from_node e size image addr node words, λ present. to_node e size image addr node present.0 present.1 words present.2 present.3 present.4)

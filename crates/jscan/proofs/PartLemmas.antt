@@ -33,9 +33,9 @@ filled_up size len rest is =
     (cases_lt (length rest) size)
 
 -- a block of the image, by where it begins
-pub block_at : (size start len k : ℕ) (image held block : List ℕ) → k * size ≡ start → len ≡ min size (length (drop start image))
-    → held ≡ take ((start + len) - start) (drop start image) → block ≡ held ++ erased (size - len) → block ≡ block_of size image k
-block_at size start len k image held block here is takes fills =
+pub block_at : (size start len k : ℕ) (image present block : List ℕ) → k * size ≡ start → len ≡ min size (length (drop start image))
+    → present ≡ take ((start + len) - start) (drop start image) → block ≡ present ++ erased (size - len) → block ≡ block_of size image k
+block_at size start len k image present block here is takes fills =
     let count : (start + len) - start ≡ len = omega arith in
     fills ∙ ap (λ (l : List ℕ). l ++ erased (size - len)) (takes ∙ ap (λ (n : ℕ). take n (drop start image)) count) ∙ filled_up size len (drop start image) is
     ∙ ap (λ (n : ℕ). take size (drop n image ++ erased size)) (sym here)
@@ -45,19 +45,19 @@ block_length size image k =
     length-take size (drop (k * size) image ++ erased size)
     ∙ omega (arith, length-append (drop (k * size) image) (erased size), length-replicate {A = ℕ} size 0xFF)
 
--- what is missing is erased, so the bytes are if those held are
-pub erased_all : (held : List ℕ) (n : ℕ) → list_all (λ b. b == 0xFF) (held ++ erased n) ≡ list_all (λ b. b == 0xFF) held
+-- what is missing is erased, so the bytes are if those present are
+pub erased_all : (present : List ℕ) (n : ℕ) → list_all (λ b. b == 0xFF) (present ++ erased n) ≡ list_all (λ b. b == 0xFF) present
 erased_all [] zero = refl
 erased_all [] (suc n) = erased_all [] n
-erased_all (b ∷ held) n = ap (λ (t : Bool). (b == 0xFF) && t) (erased_all held n)
+erased_all (b ∷ present) n = ap (λ (t : Bool). (b == 0xFF) && t) (erased_all present n)
 
 -- the magic number is in the first two bytes
-pub magic_held : (e : Endian) (held more : List ℕ) → 2 ≤ length held → magic_of e (held ++ more) ≡ magic_of e held
+pub magic_present : (e : Endian) (present more : List ℕ) → 2 ≤ length present → magic_of e (present ++ more) ≡ magic_of e present
 unfolding number_in
-magic_held Little (a ∷ b ∷ held) more h = refl
-magic_held Big (a ∷ b ∷ held) more h = refl
-magic_held e [] more h = absurd (omega arith)
-magic_held e (a ∷ []) more h = absurd (omega arith)
+magic_present Little (a ∷ b ∷ present) more h = refl
+magic_present Big (a ∷ b ∷ present) more h = refl
+magic_present e [] more h = absurd (omega arith)
+magic_present e (a ∷ []) more h = absurd (omega arith)
 
 pub magic_front : (e : Endian) (bytes : List ℕ) → 2 ≤ length bytes → magic_of e (take 2 bytes) ≡ magic_of e bytes
 unfolding number_in

@@ -9,7 +9,7 @@ use Rattle.jscan.specs.ImageLaws.{IsRefusedAt}
 use Rattle.jscan.specs.Scans.{refusal_by, refusal_among, before_refusal, first_refused}
 use Rattle.jscan.specs.declared.geometry.ScanFault.{ScanFault}
 use Rattle.jscan.proofs.AddressLaws.{of_each}
-use Rattle.jscan.proofs.SurveyLemmas.{before_open, before_shut, before_none, refusal_open, refusal_shut}
+use Rattle.jscan.proofs.PartialScanLemmas.{before_open, before_shut, before_none, refusal_open, refusal_shut}
 
 record Found (ss : List (ℕ × Seen)) (why : ScanFault) : Type 0 where
   front : List (ℕ × Seen)
@@ -48,7 +48,7 @@ refusal_is_first e size image why is =
       it.back,
       it.at,
       record {
-        stands = it.is;
+        is_at = it.is;
         refuses = it.refuses;
         none_before = λ t has. of_each (λ u. refusal_by u ≡ None) it.front t it.none has;
         in_front = it.in_front;

@@ -7,18 +7,18 @@ use Rattle.std.proofs.lemmas.List.Sums.{sum_by-append}
 use Rattle.flashbase.specs.Lists.{below}
 use Rattle.flashbase.specs.declared.source.Source.{Ghosts as OfSource}
 use Rattle.jnode.specs.declared.order.Endian.{Endian}
-use Rattle.jscan.specs.Counts.{is_entry_tile, is_inode_tile, is_found, one_if, number_in, stretches_of_block, stretches_below, counts_of, block_counted}
+use Rattle.jscan.specs.Counts.{is_entry_tile, is_inode_tile, is_found, one_if, count_in, extents_of_block, extents_below, counts_of, block_counted}
 use Rattle.jscan.specs.Image.{block_of, block_count, is_block_size, greatest_image}
 use Rattle.flashbase.specs.Device.{next_count}
 use Rattle.jscan.specs.Filling.{Breaks, StopsWithin}
 use Rattle.jscan.specs.Stream.{IsNextBlock, GivesBlock, GivesNone, GivesFault, size_of, start_of, source_of, rest_of, failures_of, fault_of, has_ended}
-use Rattle.jscan.specs.Stretches.{stretches}
+use Rattle.jscan.specs.Extents.{extents}
 use Rattle.jscan.specs.declared.counts.Counts.{Counts}
 use Rattle.jscan.specs.declared.stream.BlockReader.{BlockReader}
 use Rattle.jscan.specs.declared.stream.StreamFault.{StreamFault}
 use Rattle.jscan.specs.declared.stream.StreamFault.TheVariants.{Device}
-use Rattle.jscan.specs.declared.stretch.Look.{Look}
-use Rattle.jscan.specs.declared.stretch.Stretch.{Stretch}
+use Rattle.jscan.specs.declared.extent.ExtentKind.{ExtentKind}
+use Rattle.jscan.specs.declared.extent.Extent.{Extent}
 use Rattle.jscan.proofs.CountLemmas.{number_fits}
 use Rattle.jscan.proofs.StreamLemmas.{IsAtBlock, IsWhole, block_here, at_next, at_last}
 
@@ -54,34 +54,34 @@ readable_some size h =
 
 -- ---- one block more
 
-number_append : (test : Look → Bool) (ss ts : List Stretch) → number_in test (ss ++ ts) ≡ number_in test ss + number_in test ts
-number_append test ss ts = sum_by-append (λ (s : Stretch). one_if (test s.look)) ss ts
+number_append : (test : ExtentKind → Bool) (ss ts : List Extent) → count_in test (ss ++ ts) ≡ count_in test ss + count_in test ts
+number_append test ss ts = sum_by-append (λ (s : Extent). one_if (test s.kind)) ss ts
 
-more_stretches : (e : Endian) (size : ℕ) (image : List ℕ) (n : ℕ)
-    → stretches_below e size image (n + 1) ≡ stretches_below e size image n ++ stretches_of_block e size image n
-more_stretches e size image n =
-    let f = λ (k : ℕ). stretches_of_block e size image k in
+more_extents : (e : Endian) (size : ℕ) (image : List ℕ) (n : ℕ)
+    → extents_below e size image (n + 1) ≡ extents_below e size image n ++ extents_of_block e size image n
+more_extents e size image n =
+    let f = λ (k : ℕ). extents_of_block e size image k in
     let step : n + 1 ≡ suc n = omega arith in
     ap (λ (m : ℕ). flat_map f (below m)) step ∙ flat_map-append f (below n) (n ∷ [])
-    ∙ ap (λ (l : List Stretch). flat_map f (below n) ++ l) (append-nil (f n))
+    ∙ ap (λ (l : List Extent). flat_map f (below n) ++ l) (append-nil (f n))
 
 counts_grow : (e : Endian) (size : ℕ) (image : List ℕ) (n : ℕ)
-    → counts_of e size image (n + 1) ≡ block_counted (counts_of e size image n) (stretches_of_block e size image n)
+    → counts_of e size image (n + 1) ≡ block_counted (counts_of e size image n) (extents_of_block e size image n)
 counts_grow e size image n =
-    let more = more_stretches e size image n in
-    let grows = λ (test : Look → Bool). ap (number_in test) more ∙ number_append test (stretches_below e size image n) (stretches_of_block e size image n) in
+    let more = more_extents e size image n in
+    let grows = λ (test : ExtentKind → Bool). ap (count_in test) more ∙ number_append test (extents_below e size image n) (extents_of_block e size image n) in
     λ i. record { blocks = n + 1; entries = grows is_entry_tile i; inodes = grows is_inode_tile i; findings = grows is_found i }
 
 known_next : (e : Endian) (size start : ℕ) (counts now : Counts) (image : List ℕ) (old new : Option (List ℕ)) (block : List ℕ)
     → counts.blocks * size ≡ start → IsCounted e size start counts image old → IsNextBlock size start old new block
-    → now ≡ block_counted counts (stretches e start block) → IsCounted e size (start + size) now image new
+    → now ≡ block_counted counts (extents e start block) → IsCounted e size (start + size) now image new
 known_next e size start counts now image old new block here before next is =
     let n = counts.blocks in
-    let same : stretches e start block ≡ stretches_of_block e size image n =
-    ap (stretches e start) (block_here size start n image old new block here before.place next)
-    ∙ ap (λ (k : ℕ). stretches e k (block_of size image n)) (sym here) in
+    let same : extents e start block ≡ extents_of_block e size image n =
+    ap (extents e start) (block_here size start n image old new block here before.place next)
+    ∙ ap (λ (k : ℕ). extents e k (block_of size image n)) (sym here) in
     let total : now ≡ counts_of e size image (n + 1) =
-    is ∙ ap (λ (c : Counts). block_counted c (stretches e start block)) before.so_far
+    is ∙ ap (λ (c : Counts). block_counted c (extents e start block)) before.so_far
     ∙ ap (block_counted (counts_of e size image n)) same ∙ sym (counts_grow e size image n) in
     record {
       place = at_next size start image old new block before.place next;
@@ -89,15 +89,15 @@ known_next e size start counts now image old new block here before next is =
     }
 
 pub scanning_next : {S : Type 0} {o : OfSource S} (e : Endian) (source : S) (size start : ℕ) (counts now : Counts) (old new : BlockReader S o) (block : List ℕ)
-    → Scanning e source size start counts old → GivesBlock old new block → now ≡ block_counted counts (stretches e start block)
+    → Scanning e source size start counts old → GivesBlock old new block → now ≡ block_counted counts (extents e start block)
     → Scanning e source size (start + size) now new
 scanning_next {S} {o} e source size start counts now old new block before gives is =
     let long : length block ≡ size = gives.whole ∙ before.blocks_of in
     let words : length block % 4 ≡ 0 = ap (λ (n : ℕ). n % 4) long ∙ readable_words size before.readable in
     let blocks : now.blocks ≡ counts.blocks + 1 = ap (λ (c : Counts). c.blocks) is in
-    let entries : now.entries ≡ counts.entries + number_in is_entry_tile (stretches e start block) = ap (λ (c : Counts). c.entries) is in
-    let inodes : now.inodes ≡ counts.inodes + number_in is_inode_tile (stretches e start block) = ap (λ (c : Counts). c.inodes) is in
-    let findings : now.findings ≡ counts.findings + number_in is_found (stretches e start block) = ap (λ (c : Counts). c.findings) is in
+    let entries : now.entries ≡ counts.entries + count_in is_entry_tile (extents e start block) = ap (λ (c : Counts). c.entries) is in
+    let inodes : now.inodes ≡ counts.inodes + count_in is_inode_tile (extents e start block) = ap (λ (c : Counts). c.inodes) is in
+    let findings : now.findings ≡ counts.findings + count_in is_found (extents e start block) = ap (λ (c : Counts). c.findings) is in
     let next : IsNextBlock size start (rest_of old) (rest_of new) block =
     subst (λ (s : ℕ). IsNextBlock s start (rest_of old) (rest_of new) block) before.blocks_of
     (subst (λ (s : ℕ). IsNextBlock (size_of old) s (rest_of old) (rest_of new) block) before.here gives.bytes) in
@@ -114,8 +114,8 @@ scanning_next {S} {o} e source size start counts now old new block before gives 
       known = known (o.rest source) before.known next;
     }
   where
-    known : (told : Option (List ℕ)) → IfSome told (λ image. IsCounted e size start counts image (rest_of old)) → IsNextBlock size start (rest_of old) (rest_of new) block
-        → IfSome told (λ image. IsCounted e size (start + size) now image (rest_of new))
+    known : (known_bytes : Option (List ℕ)) → IfSome known_bytes (λ image. IsCounted e size start counts image (rest_of old)) → IsNextBlock size start (rest_of old) (rest_of new) block
+        → IfSome known_bytes (λ image. IsCounted e size (start + size) now image (rest_of new))
     known None so_far next = tt
     known (Some image) so_far next = known_next e size start counts now image (rest_of old) (rest_of new) block before.blocks so_far next is
 
@@ -125,18 +125,18 @@ pub scanning_end : {S : Type 0} {o : OfSource S} (e : Endian) (source : S) (size
     → Scanning e source size start counts old → GivesNone old new → IfSome (o.rest source) (λ image. IsWhole size counts.blocks image)
 scanning_end {S} {o} e source size start counts old new before gives = known (o.rest source) before.known
   where
-    known : (told : Option (List ℕ)) → IfSome told (λ image. IsCounted e size start counts image (rest_of old)) → IfSome told (λ image. IsWhole size counts.blocks image)
+    known : (known_bytes : Option (List ℕ)) → IfSome known_bytes (λ image. IsCounted e size start counts image (rest_of old)) → IfSome known_bytes (λ image. IsWhole size counts.blocks image)
     known None so_far = tt
     known (Some image) so_far =
         at_last size start counts.blocks image (rest_of old) (omega (arith, readable_some size before.readable)) before.blocks so_far.place gives.at_end
 
-pub all_given : (size : ℕ) (n : ℕ) (told : Option (List ℕ)) → IfSome told (λ image. IsWhole size n image)
-    → IfSome told (λ image. n ≡ block_count size image)
+pub all_given : (size : ℕ) (n : ℕ) (known_bytes : Option (List ℕ)) → IfSome known_bytes (λ image. IsWhole size n image)
+    → IfSome known_bytes (λ image. n ≡ block_count size image)
 all_given size n None whole = tt
 all_given size n (Some image) whole = whole.all
 
-pub all_within : (size : ℕ) (n : ℕ) (told : Option (List ℕ)) → IfSome told (λ image. IsWhole size n image)
-    → IfSome told (λ image. length image ≤ greatest_image)
+pub all_within : (size : ℕ) (n : ℕ) (known_bytes : Option (List ℕ)) → IfSome known_bytes (λ image. IsWhole size n image)
+    → IfSome known_bytes (λ image. length image ≤ greatest_image)
 all_within size n None whole = tt
 all_within size n (Some image) whole = whole.within
 
@@ -156,8 +156,8 @@ scanning_torn {S} {o} e source size start counts old new fault before gives is =
     let torn : StopsWithin (rest_of old) (rest_of new) size = subst (StopsWithin (rest_of old) (rest_of new)) before.blocks_of (gives.torn is before.well) in
     (source_of new, breaks ∙ ap next_count before.none_failed, known (o.rest source) before.known torn)
   where
-    known : (told : Option (List ℕ)) → IfSome told (λ image. IsCounted e size start counts image (rest_of old)) → StopsWithin (rest_of old) (rest_of new) size
-        → IfSome told (λ image. StopsWithin (Some (drop (counts.blocks * size) image)) (rest_of new) size)
+    known : (known_bytes : Option (List ℕ)) → IfSome known_bytes (λ image. IsCounted e size start counts image (rest_of old)) → StopsWithin (rest_of old) (rest_of new) size
+        → IfSome known_bytes (λ image. StopsWithin (Some (drop (counts.blocks * size) image)) (rest_of new) size)
     known None so_far torn = tt
     known (Some image) so_far torn =
         subst (λ (r : Option (List ℕ)). StopsWithin r (rest_of new) size) (so_far.place.left ∙ ap (λ (k : ℕ). Some (drop k image)) (sym before.blocks)) torn

@@ -12,7 +12,7 @@ use Rattle.jscan.specs.Image.{block_of, block_count, greatest_image}
 use Rattle.jscan.specs.Filling.{StopsPast}
 use Rattle.jscan.specs.Stream.{IsNextBlock}
 
--- the first bytes of a block, and then those that were put behind them
+-- the first bytes of a block, and then those that were put after them
 pub take_more : (i n : ℕ) (block ys : List ℕ) → i ≤ length block → length ys ≡ length block - i → n ≤ length ys
     → take (i + n) (put_mid i (length block - i) block ys) ≡ take i block ++ take n ys
 take_more i n block ys within long few =
@@ -96,7 +96,7 @@ block_here size start n image old new block here at next =
     ∙ ap (λ (l : List ℕ). take size (l ++ replicate size 0xFF))
     (ap (λ (k : ℕ). drop k (drop start image)) (zero-mul size) ∙ ap (λ (k : ℕ). drop k image) (sym here))
 
--- and the one behind it comes next.
+-- and the one after it comes next.
 pub at_next : (size start : ℕ) (image : List ℕ) (old new : Option (List ℕ)) (block : List ℕ)
     → IsAtBlock size start image old → IsNextBlock size start old new block → IsAtBlock size (start + size) image new
 at_next size start image old new block at next =

@@ -1,4 +1,4 @@
--- The tile at the front of the rest of a block, and the tiles behind it.
+-- The tile at the front of the rest of a block, and the tiles after it.
 use Rattle.std.proofs.Common.{◌≡◌, ℕ, zero, suc, ◌+◌, ◌-◌, ◌<◌, true, false, leb, List, [], ◌∷◌, ◌++◌, length, drop, take, arith, refl, ap, sym, ◌∙◌, subst, ⊎_elim, length-take, take-append-drop}
 use Rattle.std.proofs.lemmas.Bool.{cond-true, cond-false, cases_Bool}
 use Rattle.std.proofs.lemmas.List.{take_all}
@@ -61,7 +61,7 @@ split_at k rest =
     let whole = take-append-drop k rest in
     ap (λ l. take k rest ++ l) (ap (drop (length (take k rest))) (sym whole) ∙ drop-append_seam (take k rest) (drop k rest)) ∙ whole
 
--- a tile's bytes and what is left behind it are all
+-- a tile's bytes and what is left after it are all
 pub tile_splits : (e : Endian) (place : ℕ) (rest : List ℕ)
     → (tile_at e place rest).bytes ++ drop (length (tile_at e place rest).bytes) rest ≡ rest
 tile_splits e place rest =
@@ -84,7 +84,7 @@ after_first e place (suc len) b xs h =
     ap (λ (n : ℕ). tiling_from e (place + 1) n xs) (omega arith)
     ∙ (skipped e (place + 1) len xs ∙ ap (λ (p : ℕ). tiling_from e p 0 (drop len xs)) (omega arith))
 
--- the first tile, and then those of what is left behind it
+-- the first tile, and then those of what is left after it
 pub tile_then_rest : (e : Endian) (place : ℕ) (rest : List ℕ) → 0 < length rest
     → tiling_from e place 0 rest ≡ tile_at e place rest
     ∷ tiling_from e (place + length (tile_at e place rest).bytes) 0 (drop (length (tile_at e place rest).bytes) rest)

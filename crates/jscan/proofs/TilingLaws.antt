@@ -10,7 +10,7 @@ use Rattle.jnode.specs.Header.{IsGoodAt, is_good, header_of, totlen_of}
 use Rattle.jnode.specs.Reading.{tile_of}
 use Rattle.jnode.specs.declared.header.Header.{Header}
 use Rattle.jnode.proofs.HeaderLemmas.{good_found, good_again}
-use Rattle.jscan.specs.Tiling.{Tile, bytes_of, IsByRule, StandsAt, IsTiling, tile_at, tiling_from, tiling}
+use Rattle.jscan.specs.Tiling.{Tile, bytes_of, IsByRule, IsTileAt, IsTiling, tile_at, tiling_from, tiling}
 use Rattle.jscan.specs.declared.tiles.TileKind.{TileKind}
 use Rattle.jscan.specs.declared.tiles.TileKind.TheVariants.{Node, Word, Rest}
 use Rattle.jscan.proofs.PaddingLemmas.{pad4_fits, pad4_up}
@@ -26,7 +26,7 @@ tile_ext : (kind : TileKind) (p q : ℕ) (a b : List ℕ) → p ≡ q → a ≡ 
     → (let t : Tile = record { place = p; kind = kind; bytes = a } in t) ≡ record { place = q; kind = kind; bytes = b }
 tile_ext kind p q a b e f = ap₂ (λ (n : ℕ) (l : List ℕ). let t : Tile = record { place = n; kind = kind; bytes = l } in t) e f
 
--- A tile by the rule is the one computed, and if any is left behind it that begins at a multiple of 4.
+-- A tile by the rule is the one computed, and if any is left after it that begins at a multiple of 4.
 record Agrees (e : Endian) (block : List ℕ) (p : ℕ) (tile : Tile) : Type 0 where
   same : tile ≡ tile_at e p (drop p block)
   words : p + length tile.bytes < length block → (p + length tile.bytes) % 4 ≡ 0
@@ -74,9 +74,9 @@ one_more : (before : List Tile) (tile : Tile) → length (bytes_of (before ++ ti
 one_more before tile = ap length (flat_map-append (λ (x : Tile). x.bytes) before (tile ∷ []))
     ∙ length-append (bytes_of before) (bytes_of (tile ∷ [])) ∙ ap (λ l. length (bytes_of before) + length l) (append-nil tile.bytes)
 
--- behind a first part that stands by the rule come the tiles computed
+-- after a first part that is by the rule come the tiles computed
 only_from : (e : Endian) (block : List ℕ) (before after : List Tile) → bytes_of (before ++ after) ≡ block
-    → ((b a : List Tile) (t : Tile) → before ++ after ≡ b ++ t ∷ a → StandsAt e block (length (bytes_of b)) t)
+    → ((b a : List Tile) (t : Tile) → before ++ after ≡ b ++ t ∷ a → IsTileAt e block (length (bytes_of b)) t)
     → (length (bytes_of before) < length block → length (bytes_of before) % 4 ≡ 0)
     → after ≡ tiling_from e (length (bytes_of before)) 0 (drop (length (bytes_of before)) block)
 only_from e block before [] whole each place =
@@ -86,14 +86,14 @@ only_from e block before [] whole each place =
 only_from e block before (tile ∷ tiles) whole each place =
     let p = length (bytes_of before) in
     let rest = drop p block in
-    let stands = each before tiles tile refl in
+    let is_at = each before tiles tile refl in
     let split = left_behind block before tiles tile whole in
     let total : p + (length tile.bytes + length (bytes_of tiles)) ≡ length block =
     ap (λ n. p + n) (sym (length-append tile.bytes (bytes_of tiles))) ∙ sym (length-append (bytes_of before) (bytes_of (tile ∷ tiles)))
     ∙ ap length (sym (flat_map-append (λ (x : Tile). x.bytes) before (tile ∷ tiles)) ∙ whole) in
-    let some : 0 < length rest = omega (arith, ap length split, length-append tile.bytes (bytes_of tiles), stands.nonempty) in
-    let words : p % 4 ≡ 0 = place (omega (arith, total, stands.nonempty)) in
-    let agrees = by_rule e block p tile.place tile.kind tile.bytes (bytes_of tiles) words stands.here split total stands.rule in
+    let some : 0 < length rest = omega (arith, ap length split, length-append tile.bytes (bytes_of tiles), is_at.nonempty) in
+    let words : p % 4 ≡ 0 = place (omega (arith, total, is_at.nonempty)) in
+    let agrees = by_rule e block p tile.place tile.kind tile.bytes (bytes_of tiles) words is_at.here split total is_at.rule in
     let joined : (before ++ tile ∷ []) ++ tiles ≡ before ++ tile ∷ tiles = append_assoc before (tile ∷ []) tiles in
     let far = one_more before tile in
     let next = only_from e block (before ++ tile ∷ []) tiles (ap bytes_of joined ∙ whole) (λ b a t same. each b a t (sym joined ∙ same))
@@ -151,17 +151,17 @@ some_left e place [] tile tiles same = cc
 some_left e place (b ∷ bs) tile tiles same = omega arith
 
 each_from : (e : Endian) (block : List ℕ) → length block % 4 ≡ 0 → (p : ℕ) → p % 4 ≡ 0 → (before after : List Tile) (tile : Tile)
-    → tiling_from e p 0 (drop p block) ≡ before ++ tile ∷ after → StandsAt e block (p + length (bytes_of before)) tile
+    → tiling_from e p 0 (drop p block) ≡ before ++ tile ∷ after → IsTileAt e block (p + length (bytes_of before)) tile
 each_from e block size p words [] after tile same =
     let rest = drop p block in
     let some = some_left e p rest tile after same in
     let parts = heads _ _ _ _ (sym (tile_then_rest e p rest some) ∙ same) in
-    let stands : StandsAt e block p (tile_at e p rest) = record {
+    let is_at : IsTileAt e block p (tile_at e p rest) = record {
       nonempty = tile_some e p rest some;
       here = tile_place e p rest;
       rule = (front_rule e block p size words some).0;
     } in
-    subst (λ n. StandsAt e block n tile) (omega arith) (subst (StandsAt e block p) parts.0 stands)
+    subst (λ n. IsTileAt e block n tile) (omega arith) (subst (IsTileAt e block p) parts.0 is_at)
 each_from e block size p words (b ∷ bs) after tile same =
     let rest = drop p block in
     let some = some_left e p rest b (bs ++ tile ∷ after) same in
@@ -172,11 +172,11 @@ each_from e block size p words (b ∷ bs) after tile same =
     let next = each_from e block size (p + len) (front_rule e block p size words some).1 bs after tile on in
     let far : (p + len) + length (bytes_of bs) ≡ p + length (bytes_of (b ∷ bs)) =
     omega (arith, length-append b.bytes (bytes_of bs), ap (λ (x : Tile). length x.bytes) parts.0) in
-    subst (λ n. StandsAt e block n tile) far next
+    subst (λ n. IsTileAt e block n tile) far next
 
 pub exists : (e : Endian) (block : List ℕ) → length block % 4 ≡ 0 → IsTiling e block (tiling e block)
 exists e block size = record {
   whole = whole_of (length block) e 0 block (omega arith);
   each = λ before after tile same.
-      subst (λ n. StandsAt e block n tile) (zero-add (length (bytes_of before))) (each_from e block size 0 refl before after tile same);
+      subst (λ n. IsTileAt e block n tile) (zero-add (length (bytes_of before))) (each_from e block size 0 refl before after tile same);
 }

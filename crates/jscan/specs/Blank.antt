@@ -11,7 +11,7 @@ use Rattle.jscan.specs.Image.{block_of}
 abbrev pub marked : Endian → ℕ → ℕ → List ℕ
 marked e size j = take j (clean_marker e) ++ erased (size - j)
 
--- A block is blank if it holds the clean marker's beginning, or nothing, and is erased behind it.
+-- A block is blank if it holds the clean marker's beginning, or nothing, and is erased after it.
 unfoldable pub is_blank : Endian → ℕ → List ℕ → Bool
 is_blank e size block = list_any (λ j. bytes_eq block (marked e size j)) (below 13)
 

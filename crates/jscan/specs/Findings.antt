@@ -7,9 +7,9 @@ use Rattle.jscan.specs.declared.finding.FindingKind.{FindingKind}
 use Rattle.jscan.specs.declared.finding.FindingKind.TheVariants as kind
 use Rattle.jscan.specs.declared.geometry.ScanFault.{ScanFault}
 use Rattle.jscan.specs.declared.geometry.ScanFault.TheVariants as fault
-use Rattle.jscan.specs.declared.stretch.Look.{Look}
-use Rattle.jscan.specs.declared.stretch.Look.TheVariants.{Tiled, Erased, OtherOrder, Dirt}
-use Rattle.jscan.specs.declared.stretch.Stretch.{Stretch}
+use Rattle.jscan.specs.declared.extent.ExtentKind.{ExtentKind}
+use Rattle.jscan.specs.declared.extent.ExtentKind.TheVariants.{Tiled, Erased, OtherOrder, Dirt}
+use Rattle.jscan.specs.declared.extent.Extent.{Extent}
 
 -- a node that does not read as one, or that is not of the file system itself
 abbrev pub found_node : Seen → Option FindingKind
@@ -18,15 +18,15 @@ found_node seen.Attribute = Some kind.Attribute
 found_node (seen.ReadOnly nodetype) = Some (kind.ReadOnly nodetype)
 found_node _ = None
 
-abbrev pub found : Look → Option FindingKind
+abbrev pub found : ExtentKind → Option FindingKind
 found (Tiled what) = found_node what
 found Erased = None
 found OtherOrder = Some kind.OtherOrder
 found Dirt = Some kind.Dirt
 
--- what of a stretch is a finding
-abbrev pub finding_of : Stretch → Option Finding
-finding_of s = option_map (λ what. record { addr = s.addr; kind = what }) (found s.look)
+-- what of an extent is a finding
+abbrev pub finding_of : Extent → Option Finding
+finding_of s = option_map (λ what. record { addr = s.addr; kind = what }) (found s.kind)
 
 -- a node that no image may have here: one that may not be skipped, or a sound one whose data are compressed
 abbrev pub refused_node : ℕ → Seen → Option ScanFault
@@ -34,10 +34,10 @@ refused_node addr (seen.Incompatible nodetype) = Some (fault.Incompatible addr n
 refused_node addr (seen.Compressed compr) = Some (fault.Compressed addr compr)
 refused_node addr _ = None
 
-abbrev pub refused : ℕ → Look → Option ScanFault
+abbrev pub refused : ℕ → ExtentKind → Option ScanFault
 refused addr (Tiled what) = refused_node addr what
 refused addr _ = None
 
--- why no image may have this stretch
-abbrev pub refusal_of : Stretch → Option ScanFault
-refusal_of s = refused s.addr s.look
+-- why no image may have this extent
+abbrev pub refusal_of : Extent → Option ScanFault
+refusal_of s = refused s.addr s.kind

@@ -16,7 +16,7 @@ use Rattle.jscan.specs.declared.tiles.TileKind.TheVariants.{Node}
 
 -- ---- addresses
 
--- Addresses strictly ascend: each is below those behind it,
+-- Addresses strictly ascend: each is below those after it,
 abbrev pub SightingsAscend : Type 0
 SightingsAscend = (e : Endian) (size : ℕ) (image : List ℕ) (before after : List (ℕ × Seen)) (s t : ℕ × Seen)
     → sightings e size image ≡ before ++ s ∷ after → Contains after t → s.0 < t.0
@@ -42,7 +42,7 @@ SightingsHaveAddresses = (e : Endian) (size : ℕ) (image : List ℕ) (s : ℕ �
 
 -- A node refuses, and none in front of it.
 pub record IsRefusedAt (ss before after : List (ℕ × Seen)) (s : ℕ × Seen) (why : ScanFault) : Type 0 where
-  pub stands : ss ≡ before ++ s ∷ after
+  pub is_at : ss ≡ before ++ s ∷ after
   pub refuses : refusal_by s ≡ Some why
   pub none_before : (t : ℕ × Seen) → Contains before t → refusal_by t ≡ None
   pub in_front : before_refusal ss ≡ before
@@ -60,7 +60,7 @@ NoneRefuses = (e : Endian) (size : ℕ) (image : List ℕ) → first_refused e s
 
 -- ---- nodes
 
--- Some tile of the block's one tiling is a node's, stands at this place and reads as this node.
+-- Some tile of the block's one tiling is a node's, is at this place and reads as this node.
 pub record HoldsNode (e : Endian) (block : List ℕ) (place : ℕ) (node : NodeRef) : Type 0 where
   pub tiles : List Tile
   pub tile : Tile
@@ -72,8 +72,8 @@ pub record HoldsNode (e : Endian) (block : List ℕ) (place : ℕ) (node : NodeR
   pub reads : Reads e tile.bytes node
 
 -- An entry or inode node is among an image's nodes, with its address, exactly where one of its blocks holds it.
-abbrev pub NodesAreHeld : Type 0
-NodesAreHeld = (e : Endian) (size : ℕ) (image : List ℕ) (addr : ℕ) (node : NodeRef) → size % 4 ≡ 0
+abbrev pub NodesAreContained : Type 0
+NodesAreContained = (e : Endian) (size : ℕ) (image : List ℕ) (addr : ℕ) (node : NodeRef) → size % 4 ≡ 0
     → Contains (nodes e size image) (addr, node)
     ↔ ((k place : ℕ) × (k < block_count size image) × (addr ≡ k * size + place) × HoldsNode e (block_of size image k) place node)
 

@@ -1,4 +1,4 @@
--- Laws of tilings and stretches. Each is a statement: it holds since a public function's contract names it.
+-- Laws of tilings and extents. Each is a statement: it holds since a public function's contract names it.
 use Rattle.std.specs.Prelude.{◌≡◌, ℕ, ◌+◌, ◌*◌, ◌%◌, ◌<◌, ◌≤◌, ◌==◌, false, if◌then◌else◌, List, [], ◌∷◌, ◌++◌, length, take, drop, sum_by, filter_map, flat_map, Contains}
 use Rattle.jnode.specs.declared.order.Endian.{Endian}
 use Rattle.jnode.specs.declared.node.Dirent.{Dirent}
@@ -10,11 +10,11 @@ use Rattle.jnode.specs.declared.node.Seen.TheVariants.{Entry, Marker}
 use Rattle.jnode.specs.Header.{header_len, IsGood, is_good}
 use Rattle.jnode.specs.Reading.{seen_of, tile_of}
 use Rattle.jscan.specs.Tiling.{Tile, bytes_of, IsTiling, tile_at, tiling_from, tiling}
-use Rattle.jscan.specs.Stretches.{look_of, is_one_run, stretches, sighted}
+use Rattle.jscan.specs.Extents.{extent_kind_of, is_one_run, extents, sighted}
 use Rattle.jscan.specs.Image.{block_of, sightings_from, sightings_in, node_sighted, nodes}
 use Rattle.jscan.specs.Blank.{marked, blank_from, IsBlankFrom}
-use Rattle.jscan.specs.declared.stretch.Stretch.{Stretch}
-use Rattle.jscan.specs.declared.stretch.Look.TheVariants.{Tiled, Erased}
+use Rattle.jscan.specs.declared.extent.Extent.{Extent}
+use Rattle.jscan.specs.declared.extent.ExtentKind.TheVariants.{Tiled, Erased}
 
 -- A block of whole words has a tiling, which the function computes,
 abbrev pub TilingExists : Type 0
@@ -36,66 +36,67 @@ TileThenRest = (e : Endian) (place : ℕ) (rest : List ℕ) → 0 < length rest
 
 -- Runs are longest: no two neighbours go on as one.
 abbrev pub RunsAreLongest : Type 0
-RunsAreLongest = (e : Endian) (start : ℕ) (block : List ℕ) (before after : List Stretch) (s t : Stretch)
-    → stretches e start block ≡ before ++ s ∷ t ∷ after → is_one_run s.look t.look ≡ false
+RunsAreLongest = (e : Endian) (start : ℕ) (block : List ℕ) (before after : List Extent) (s t : Extent)
+    → extents e start block ≡ before ++ s ∷ t ∷ after → is_one_run s.kind t.kind ≡ false
 
--- Stretches make up the block: none is empty, each begins where those before it end, and the last ends where the block does.
-pub record MakeUp (start : ℕ) (block : List ℕ) (ss : List Stretch) : Type 0 where
-  pub each : (before after : List Stretch) (s : Stretch) → ss ≡ before ++ s ∷ after
+-- Extents make up the block: none is empty, each begins where those before it end, and the last ends where the block
+-- does.
+pub record MakeUp (start : ℕ) (block : List ℕ) (ss : List Extent) : Type 0 where
+  pub each : (before after : List Extent) (s : Extent) → ss ≡ before ++ s ∷ after
       → (s.addr ≡ start + sum_by (λ t. t.len) before) × (0 < s.len)
   pub whole : sum_by (λ s. s.len) ss ≡ length block
 
-abbrev pub StretchesMakeUp : Type 0
-StretchesMakeUp = (e : Endian) (start : ℕ) (block : List ℕ) → MakeUp start block (stretches e start block)
+abbrev pub ExtentsMakeUp : Type 0
+ExtentsMakeUp = (e : Endian) (start : ℕ) (block : List ℕ) → MakeUp start block (extents e start block)
 
 -- Each has a word or more.
-abbrev pub StretchesAreFew : Type 0
-StretchesAreFew = (e : Endian) (start : ℕ) (block : List ℕ) → length block % 4 ≡ 0 → 4 * length (stretches e start block) ≤ length block
+abbrev pub ExtentsAreFew : Type 0
+ExtentsAreFew = (e : Endian) (start : ℕ) (block : List ℕ) → length block % 4 ≡ 0 → 4 * length (extents e start block) ≤ length block
 
--- These tiles of the block begin at a place, have the stretch's bytes, and look like it.
-pub record MakeStretch (e : Endian) (block : List ℕ) (place : ℕ) (s : Stretch) (before tiles after : List Tile) : Type 0 where
+-- These tiles of the block begin at a place, have the extent's bytes, and look like it.
+pub record MakeExtent (e : Endian) (block : List ℕ) (place : ℕ) (s : Extent) (before tiles after : List Tile) : Type 0 where
   pub stand : tiling e block ≡ before ++ (tiles ++ after)
   pub begin : length (bytes_of before) ≡ place
   pub long : length (bytes_of tiles) ≡ s.len
-  pub look : (tile : Tile) → Contains tiles tile → look_of e tile.kind tile.bytes ≡ s.look
+  pub kind : (tile : Tile) → Contains tiles tile → extent_kind_of e tile.kind tile.bytes ≡ s.kind
 
--- A stretch consists of the bytes of tiles, each of which looks like it:
-abbrev pub StretchesAreTiles : Type 0
-StretchesAreTiles = (e : Endian) (start : ℕ) (block : List ℕ) (before after : List Stretch) (s : Stretch) → stretches e start block ≡ before ++ s ∷ after
-    → (tiles_before tiles tiles_after : List Tile) × MakeStretch e block (sum_by (λ t. t.len) before) s tiles_before tiles tiles_after
+-- An extent consists of the bytes of tiles, each of which looks like it:
+abbrev pub ExtentsAreTiles : Type 0
+ExtentsAreTiles = (e : Endian) (start : ℕ) (block : List ℕ) (before after : List Extent) (s : Extent) → extents e start block ≡ before ++ s ∷ after
+    → (tiles_before tiles tiles_after : List Tile) × MakeExtent e block (sum_by (λ t. t.len) before) s tiles_before tiles tiles_after
 
 -- an erased one of bytes 0xFF alone.
 abbrev pub ErasedRunsAreErased : Type 0
-ErasedRunsAreErased = (e : Endian) (start : ℕ) (block : List ℕ) (before after : List Stretch) (s : Stretch) → stretches e start block ≡ before ++ s ∷ after
-    → s.look ≡ Erased → take s.len (drop (sum_by (λ t. t.len) before) block) ≡ erased s.len
+ErasedRunsAreErased = (e : Endian) (start : ℕ) (block : List ℕ) (before after : List Extent) (s : Extent) → extents e start block ≡ before ++ s ∷ after
+    → s.kind ≡ Erased → take s.len (drop (sum_by (λ t. t.len) before) block) ≡ erased s.len
 
--- A stretch seen as a node is the whole tile of a good header that stands there.
-pub record IsNodeAt (e : Endian) (rest : List ℕ) (s : Stretch) (what : Seen) : Type 0 where
+-- An extent seen as a node is the whole tile of a good header that is there.
+pub record IsNodeAt (e : Endian) (rest : List ℕ) (s : Extent) (what : Seen) : Type 0 where
   pub good : IsGood e rest
   pub words : length rest % 4 ≡ 0
   pub long : s.len ≡ length (tile_of e rest)
   pub seen : what ≡ seen_of e (tile_of e rest)
 
 abbrev pub NodesAreSeen : Type 0
-NodesAreSeen = (e : Endian) (start : ℕ) (block : List ℕ) (before after : List Stretch) (s : Stretch) (seen : Seen) → length block % 4 ≡ 0
-    → stretches e start block ≡ before ++ s ∷ after → s.look ≡ Tiled seen → IsNodeAt e (drop (sum_by (λ t. t.len) before) block) s seen
+NodesAreSeen = (e : Endian) (start : ℕ) (block : List ℕ) (before after : List Extent) (s : Extent) (seen : Seen) → length block % 4 ≡ 0
+    → extents e start block ≡ before ++ s ∷ after → s.kind ≡ Tiled seen → IsNodeAt e (drop (sum_by (λ t. t.len) before) block) s seen
 
 -- So the name of an entry seen has at most 254 bytes.
 abbrev pub NamesAreShort : Type 0
-NamesAreShort = (e : Endian) (start : ℕ) (block : List ℕ) (before after : List Stretch) (s : Stretch) (entry : Dirent) → length block % 4 ≡ 0
-    → stretches e start block ≡ before ++ s ∷ after → s.look ≡ Tiled (Entry entry) → length entry.name ≤ 254
+NamesAreShort = (e : Endian) (start : ℕ) (block : List ℕ) (before after : List Extent) (s : Extent) (entry : Dirent) → length block % 4 ≡ 0
+    → extents e start block ≡ before ++ s ∷ after → s.kind ≡ Tiled (Entry entry) → length entry.name ≤ 254
 
 -- ---- sightings
 
--- The sightings of a block are its stretches that are nodes' tiles.
-abbrev pub SightingsAreStretches : Type 0
-SightingsAreStretches = (e : Endian) (start : ℕ) (block : List ℕ) → sightings_in e start block ≡ filter_map sighted (stretches e start block)
+-- The sightings of a block are its extents that are nodes' tiles.
+abbrev pub SightingsAreExtents : Type 0
+SightingsAreExtents = (e : Endian) (start : ℕ) (block : List ℕ) → sightings_in e start block ≡ filter_map sighted (extents e start block)
 
 -- ---- where no node is
 
--- A part of a block has no node's tile in which no good header stands at any word,
-abbrev pub QuietHasNoNodes : Type 0
-QuietHasNoNodes = (e : Endian) (start place : ℕ) (rest : List ℕ) → ((word : ℕ) → is_good e (drop (4 * word) rest) ≡ false)
+-- A part of a block has no node's tile in which there is no good header at any word,
+abbrev pub HeaderlessHasNoNodes : Type 0
+HeaderlessHasNoNodes = (e : Endian) (start place : ℕ) (rest : List ℕ) → ((word : ℕ) → is_good e (drop (4 * word) rest) ≡ false)
     → sightings_from e start place rest ≡ []
 
 -- so erased flash has none.
@@ -110,13 +111,13 @@ MarkedHasNoNodes = (e : Endian) (start size j : ℕ) → j ≤ header_len → he
 -- ---- whole images
 
 -- the nodes of one block
-abbrev pub nodes_in : Endian → ℕ → List ℕ → List (ℕ × NodeRef)
-nodes_in e start block = filter_map node_sighted (sightings_in e start block)
+abbrev pub nodes_in_block : Endian → ℕ → List ℕ → List (ℕ × NodeRef)
+nodes_in_block e start block = filter_map node_sighted (sightings_in e start block)
 
 -- An image's nodes are those of its blocks; and as the flash past it is erased, those of the flash's blocks.
 abbrev pub NodesAreOfBlocks : Type 0
 NodesAreOfBlocks = (e : Endian) (size blocks : ℕ) (image : List ℕ) → 0 < size → length image ≤ blocks * size
-    → nodes e size image ≡ flat_map (λ k. nodes_in e (k * size) (block_of size image k)) (below blocks)
+    → nodes e size image ≡ flat_map (λ k. nodes_in_block e (k * size) (block_of size image k)) (below blocks)
 
 -- the function gives the least block from which all are blank
 abbrev pub BlankFromIsLeast : Type 0

@@ -2,9 +2,9 @@ pub mod Tiling
 pub mod Tiles
 pub mod Image
 pub mod Blank
-pub mod Stretches
+pub mod Extents
 pub mod Runs
-pub mod StretchesLeft
+pub mod ExtentsLeft
 pub mod SightingsLeft
 pub mod Findings
 pub mod Laws
@@ -12,6 +12,6 @@ pub mod Filling
 pub mod Stream
 pub mod Counts
 pub mod Scans
-pub mod Surveys
+pub mod PartialScans
 pub mod ImageLeft
 pub mod ImageLaws

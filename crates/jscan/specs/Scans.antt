@@ -7,27 +7,27 @@ use Rattle.jnode.specs.declared.node.NodeRef.{NodeRef}
 use Rattle.jnode.specs.declared.node.Seen.{Seen}
 use Rattle.jnode.specs.declared.node.Seen.TheVariants as seen
 use Rattle.jscan.specs.Image.{is_block_size, greatest_image, block_count, node_sighted, sightings, nodes}
-use Rattle.jscan.specs.Counts.{stretches_below}
+use Rattle.jscan.specs.Counts.{extents_below}
 use Rattle.jscan.specs.Findings.{finding_of, refused_node}
 use Rattle.jscan.specs.declared.answer.Scan.{Scan}
 use Rattle.jscan.specs.declared.finding.Finding.{Finding}
 use Rattle.jscan.specs.declared.geometry.ScanFault.{ScanFault}
 use Rattle.jscan.specs.declared.geometry.ScanFault.TheVariants as fault
-use Rattle.jscan.specs.declared.stretch.Stretch.{Stretch}
+use Rattle.jscan.specs.declared.extent.Extent.{Extent}
 
 -- an image that can be scanned at all
 abbrev pub IsScannable : ℕ → List ℕ → Type 0
 IsScannable size image = IsTrue (is_block_size size) × (length image ≤ greatest_image)
 
--- the stretches of all blocks of an image
-abbrev pub image_stretches : Endian → ℕ → List ℕ → List Stretch
-image_stretches e size image = stretches_below e size image (block_count size image)
+-- the extents of all blocks of an image
+abbrev pub image_extents : Endian → ℕ → List ℕ → List Extent
+image_extents e size image = extents_below e size image (block_count size image)
 
 -- the findings of an image, in the order of their addresses
 abbrev pub findings : Endian → ℕ → List ℕ → List Finding
-findings e size image = filter_map finding_of (image_stretches e size image)
+findings e size image = filter_map finding_of (image_extents e size image)
 
--- a node behind which nothing may be written
+-- a node after which nothing may be written
 abbrev pub forbids_writing : Seen → Bool
 forbids_writing (seen.ReadOnly nodetype) = true
 forbids_writing _ = false

@@ -28,7 +28,7 @@ module _ {S : Type 0} {o : OfSource S} where
   abbrev pub source_of : BlockReader S o → S
   source_of reader = reader.source
 
-  -- the source's bytes from the next block on, where it tells them
+  -- the source's bytes from the next block on, where it reports them
   abbrev pub rest_of : BlockReader S o → Option (List ℕ)
   rest_of reader = o.rest reader.source
 

@@ -8,7 +8,7 @@ use Rattle.jnode.specs.Reading.{tile_of}
 use Rattle.jscan.specs.declared.tiles.TileKind.{TileKind}
 use Rattle.jscan.specs.declared.tiles.TileKind.TheVariants.{Node, Word, Rest}
 
--- a tile of a block: where it stands, what it is, and its bytes
+-- a tile of a block: its place, what it is, and its bytes
 pub record Tile : Type 0 where
   pub place : ℕ
   pub kind : TileKind
@@ -18,25 +18,25 @@ pub record Tile : Type 0 where
 abbrev pub bytes_of : List Tile → List ℕ
 bytes_of = flat_map (λ tile. tile.bytes)
 
--- A node stands where a good header does, whatever the node's own checks say. Elsewhere a word of four bytes stands if
--- a header's length is left, and all that is left if not.
+-- There is a node where there is a good header, whatever the node's own checks say. Elsewhere there is a word of four
+-- bytes if a header's length is left, and all that is left if not.
 abbrev pub IsByRule : Endian → List ℕ → ℕ → TileKind → List ℕ → Type 0
 IsByRule e block place (Node header) bytes =
     IsGoodAt e block place × (header ≡ header_of e (drop place block)) × (length bytes ≡ pad4_of header.totlen)
 IsByRule e block place Word bytes = (¬ IsGoodAt e block place) × (place + header_len ≤ length block) × (length bytes ≡ 4)
 IsByRule e block place Rest bytes = (¬ IsGoodAt e block place) × (length block < place + header_len) × (place + length bytes ≡ length block)
 
--- The tile stands at this place of the block.
-pub record StandsAt (e : Endian) (block : List ℕ) (place : ℕ) (tile : Tile) : Type 0 where
+-- The tile is at this place of the block.
+pub record IsTileAt (e : Endian) (block : List ℕ) (place : ℕ) (tile : Tile) : Type 0 where
   pub nonempty : 0 < length tile.bytes
   pub here : tile.place ≡ place
   pub rule : IsByRule e block place tile.kind tile.bytes
 
--- Tiles whose bytes make up the block, each standing where the ones before it end.
+-- Tiles whose bytes make up the block, each at the place where the ones before it end.
 pub record IsTiling (e : Endian) (block : List ℕ) (tiles : List Tile) : Type 0 where
   pub whole : bytes_of tiles ≡ block
   pub each : (before after : List Tile) (tile : Tile) → tiles ≡ before ++ tile ∷ after
-      → StandsAt e block (length (bytes_of before)) tile
+      → IsTileAt e block (length (bytes_of before)) tile
 
 -- ---- the same computed: each tile from what the block has left
 

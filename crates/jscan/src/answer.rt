@@ -1,14 +1,14 @@
 // What a scan gives.
 
+use crate::extent::{Extent, ExtentKind};
 use crate::finding::Finding;
 use crate::geometry::ScanFault;
-use crate::stretch::{Look, Stretch};
 use jnode::{NodeRef, Seen};
 use std::alloc::AllocError;
 
-/// What stands in an image up to its first refusal, by the addresses.
+/// What an image contains up to its first refusal, by the addresses.
 #[derive(Drop)]
-pub struct Survey<'a> {
+pub struct PartialScan<'a> {
     /// The nodes in front of the refusal, or all; each with its address.
     pub nodes: Vec<(u32, NodeRef<'a>)>,
     /// The findings of an image that nothing refuses.
@@ -19,29 +19,33 @@ pub struct Survey<'a> {
     pub refused: Option<ScanFault>,
 }
 
-impl<'a> Survey<'a> {
+impl<'a> PartialScan<'a> {
     ghost use Rattle.std.specs.Prelude.{OnOk};
-    ghost use Rattle.jscan.specs.Surveys.{Adds};
+    ghost use Rattle.jscan.specs.PartialScans.{Adds};
 
-    /// Takes in a stretch that is no refusal.
-    pub(crate) fn add(&mut self, stretch: Stretch<'a>) -> Result<(), AllocError>
-        ensures { OnOk result (Adds self.old self.new stretch.entry) }
+    /// Takes in an extent that is no refusal.
+    pub(crate) fn add(&mut self, extent: Extent<'a>) -> Result<(), AllocError>
+        ensures { OnOk result (Adds self.old self.new extent.entry) }
     {
-        if let Some(finding) = stretch.finding() {
+        if let Some(finding) = extent.finding() {
             self.findings.push(finding)?;
         }
-        let Stretch { addr, look, .. } = stretch;
-        match look {
-            Look::Tiled(Seen::Entry(entry)) => self.nodes.push((addr, NodeRef::Entry(entry)))?,
-            Look::Tiled(Seen::Inode(inode)) => self.nodes.push((addr, NodeRef::Inode(inode)))?,
-            Look::Tiled(Seen::ReadOnly { .. }) => self.read_only = true,
+        let Extent { addr, kind, .. } = extent;
+        match kind {
+            ExtentKind::Tiled(Seen::Entry(entry)) => self
+                .nodes
+                .push((addr, NodeRef::Entry(entry)))?,
+            ExtentKind::Tiled(Seen::Inode(inode)) => self
+                .nodes
+                .push((addr, NodeRef::Inode(inode)))?,
+            ExtentKind::Tiled(Seen::ReadOnly { .. }) => self.read_only = true,
             _ => {}
         }
         Ok(())
     }
 }
 
-/// What stands in an image that nothing refuses, by the addresses.
+/// What an image that nothing refuses contains, by the addresses.
 #[derive(Drop)]
 pub struct Scan<'a> {
     pub nodes: Vec<(u32, NodeRef<'a>)>,

@@ -14,8 +14,8 @@ use jnode::{Order, marker_bytes};
 fn is_erased(part: &Part<'_>) -> bool
     ensures { IsTrue result ↔ (part.now ≡ erased (length part.now)) }
 {
-    let held = part.held();
-    erased_run(held) == held.len()
+    let present = part.present();
+    erased_run(present) == present.len()
 }
 
 /// Whether a block begins with these bytes.
@@ -31,7 +31,7 @@ fn begins_with(block: &Part<'_>, front: &[u8]) -> bool
     true
 }
 
-/// Whether a block holds the first `len` bytes of the marker, and is erased behind them.
+/// Whether a block holds the first `len` bytes of the marker, and is erased after them.
 fn is_marked(block: &Part<'_>, marker: &[u8], len: usize) -> bool
     requires short { len ≤ length marker.now }
     requires within { len ≤ length block.now }
@@ -40,7 +40,7 @@ fn is_marked(block: &Part<'_>, marker: &[u8], len: usize) -> bool
     begins_with(block, &marker[..len]) && is_erased(&block.slice(len, block.len() - len))
 }
 
-/// Whether a block is blank: it holds a beginning of the clean marker, or nothing, and is erased behind it.
+/// Whether a block is blank: it holds a beginning of the clean marker, or nothing, and is erased after it.
 fn is_blank<E: Order>(block: &Part<'_>) -> bool
     requires { 12 ≤ length block.now }
     ensures { result ≡ is_blank E.order (length block.now) block.now }

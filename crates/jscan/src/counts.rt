@@ -2,13 +2,13 @@
 
 ghost use Rattle.std.specs.Prelude.{◌≡◌, ◌+◌, ◌%◌, ◌<◌, ◌^◌, length};
 ghost use Rattle.jscan.specs.Counts.{is_entry_tile, is_inode_tile, is_found, counted, block_counted};
-ghost use Rattle.jscan.specs.Stretches.{stretches};
+ghost use Rattle.jscan.specs.Extents.{extents};
 
-use crate::stretch::Look;
-use crate::stretches::Stretches;
+use crate::extent::ExtentKind;
+use crate::extents::Extents;
 use jnode::{Order, Seen};
 
-/// What stands in some blocks.
+/// What some blocks contain.
 #[derive(Clone, Copy, Debug, PartialEq, Eq)]
 pub struct Counts {
     pub blocks: u64,
@@ -20,19 +20,19 @@ pub struct Counts {
     pub findings: u64,
 }
 
-impl Look<'_> {
+impl ExtentKind<'_> {
     /// Whether it is an entry node.
     pub fn is_entry(&self) -> bool
         ensures { result ≡ is_entry_tile self.now }
     {
-        matches!(self, Look::Tiled(Seen::Entry(_)))
+        matches!(self, ExtentKind::Tiled(Seen::Entry(_)))
     }
 
     /// Whether it is an inode node.
     pub fn is_inode(&self) -> bool
         ensures { result ≡ is_inode_tile self.now }
     {
-        matches!(self, Look::Tiled(Seen::Inode(_)))
+        matches!(self, ExtentKind::Tiled(Seen::Inode(_)))
     }
 
     /// Whether it counts as found: a node that is not read, or words that are not erased.
@@ -40,35 +40,35 @@ impl Look<'_> {
         ensures { result ≡ is_found self.now }
     {
         match self {
-            Look::Tiled(
+            ExtentKind::Tiled(
                 Seen::Attribute
                 | Seen::ReadOnly { .. }
                 | Seen::Incompatible { .. }
                 | Seen::Compressed { .. }
                 | Seen::Damaged { .. },
             )
-            | Look::OtherOrder
-            | Look::Dirt => true,
-            Look::Tiled(_) | Look::Erased => false,
+            | ExtentKind::OtherOrder
+            | ExtentKind::Dirt => true,
+            ExtentKind::Tiled(_) | ExtentKind::Erased => false,
         }
     }
 }
 
 impl Counts {
-    /// Counts one stretch more, of a block that is counted.
-    pub fn add(&mut self, look: &Look<'_>)
+    /// Counts one extent more, of a block that is counted.
+    pub fn add(&mut self, kind: &ExtentKind<'_>)
         requires entries { self.old.entries + 1 < 2 ^ 64 }
         requires inodes { self.old.inodes + 1 < 2 ^ 64 }
         requires findings { self.old.findings + 1 < 2 ^ 64 }
-        ensures { self.new ≡ counted self.old look.now }
+        ensures { self.new ≡ counted self.old kind.now }
     {
-        if look.is_entry() {
+        if kind.is_entry() {
             self.entries += 1;
         }
-        if look.is_inode() {
+        if kind.is_inode() {
             self.inodes += 1;
         }
-        if look.is_finding() {
+        if kind.is_finding() {
             self.findings += 1;
         }
     }
@@ -81,11 +81,11 @@ impl Counts {
         requires entries { self.old.entries + length block.now < 2 ^ 63 }
         requires inodes { self.old.inodes + length block.now < 2 ^ 63 }
         requires findings { self.old.findings + length block.now < 2 ^ 63 }
-        ensures { self.new ≡ block_counted self.old (stretches E.order start block.now) }
+        ensures { self.new ≡ block_counted self.old (extents E.order start block.now) }
     {
         self.blocks += 1;
-        for stretch in Stretches::<E>::new(start, block) {
-            self.add(&stretch.look);
+        for extent in Extents::<E>::new(start, block) {
+            self.add(&extent.kind);
         }
     }
 }

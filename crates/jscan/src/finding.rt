@@ -3,8 +3,8 @@
 ghost use Rattle.std.specs.Prelude.{◌≡◌};
 ghost use Rattle.jscan.specs.Findings.{found_node, found, finding_of, refused_node, refusal_of};
 
+use crate::extent::{Extent, ExtentKind};
 use crate::geometry::ScanFault;
-use crate::stretch::{Look, Stretch};
 use jnode::{Damage, Seen};
 
 /// Something in an image that is no node of its file system, nor erased.
@@ -22,7 +22,7 @@ pub enum FindingKind {
     Damaged(Damage),
     /// A node of extended attributes.
     Attribute,
-    /// A node of this unknown type, behind which nothing may be written.
+    /// A node of this unknown type, after which nothing may be written.
     ReadOnly(u16),
     /// Words that begin with the magic number of the other byte order.
     OtherOrder,
@@ -41,14 +41,14 @@ fn found_node(seen: &Seen<'_>) -> Option<FindingKind>
     }
 }
 
-fn found(look: &Look<'_>) -> Option<FindingKind>
-    ensures { result ≡ found look.now }
+fn found(kind: &ExtentKind<'_>) -> Option<FindingKind>
+    ensures { result ≡ found kind.now }
 {
-    match look {
-        Look::Tiled(seen) => found_node(seen),
-        Look::Erased => None,
-        Look::OtherOrder => Some(FindingKind::OtherOrder),
-        Look::Dirt => Some(FindingKind::Dirt),
+    match kind {
+        ExtentKind::Tiled(seen) => found_node(seen),
+        ExtentKind::Erased => None,
+        ExtentKind::OtherOrder => Some(FindingKind::OtherOrder),
+        ExtentKind::Dirt => Some(FindingKind::Dirt),
     }
 }
 
@@ -68,25 +68,25 @@ fn refused_node(addr: u32, seen: &Seen<'_>) -> Option<ScanFault>
     }
 }
 
-impl Stretch<'_> {
-    /// The finding that a stretch is, if it is one.
+impl Extent<'_> {
+    /// The finding that an extent is, if it is one.
     pub fn finding(&self) -> Option<Finding>
         ensures { result ≡ finding_of self.now }
     {
-        let kind = found(&self.look)?;
+        let kind = found(&self.kind)?;
         Some(Finding {
             addr: self.addr,
             kind,
         })
     }
 
-    /// Why no image may have this stretch, if that is so: a node that may not be skipped is
+    /// Why no image may have this extent, if that is so: a node that may not be skipped is
     /// `Incompatible`, and a sound one whose data are compressed is `Compressed`.
     pub fn refusal(&self) -> Option<ScanFault>
         ensures { result ≡ refusal_of self.now }
     {
-        match &self.look {
-            Look::Tiled(seen) => refused_node(self.addr, seen),
+        match &self.kind {
+            ExtentKind::Tiled(seen) => refused_node(self.addr, seen),
             _ => None,
         }
     }

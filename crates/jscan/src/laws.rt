@@ -1,7 +1,7 @@
-//! Laws of tilings and stretches. Each function's contract is a law, and its body is empty.
+//! Laws of tilings and extents. Each function's contract is a law, and its body is empty.
 
-ghost use Rattle.jscan.specs.Laws.{TilingExists, TilingIsOnly, TilesAreFew, TileThenRest, RunsAreLongest, StretchesMakeUp, StretchesAreFew, StretchesAreTiles, ErasedRunsAreErased, NodesAreSeen, NamesAreShort, SightingsAreStretches, QuietHasNoNodes, ErasedHasNoNodes, MarkedHasNoNodes, NodesAreOfBlocks, BlankFromIsLeast};
-ghost use Rattle.jscan.specs.ImageLaws.{SightingsAscend, NodesAscend, FindingsAscend, SightingsAreWithin, SightingsHaveAddresses, RefusalIsFirst, NoneRefuses, NodesAreHeld, NodesFit, NodesAreWritable};
+ghost use Rattle.jscan.specs.Laws.{TilingExists, TilingIsOnly, TilesAreFew, TileThenRest, RunsAreLongest, ExtentsMakeUp, ExtentsAreFew, ExtentsAreTiles, ErasedRunsAreErased, NodesAreSeen, NamesAreShort, SightingsAreExtents, HeaderlessHasNoNodes, ErasedHasNoNodes, MarkedHasNoNodes, NodesAreOfBlocks, BlankFromIsLeast};
+ghost use Rattle.jscan.specs.ImageLaws.{SightingsAscend, NodesAscend, FindingsAscend, SightingsAreWithin, SightingsHaveAddresses, RefusalIsFirst, NoneRefuses, NodesAreContained, NodesFit, NodesAreWritable};
 
 /// A block of whole words has exactly one tiling, and it is the one computed.
 pub fn one_tiling()
@@ -19,43 +19,43 @@ pub fn tile_then_rest()
     ensures { TileThenRest }
 {}
 
-/// No two neighbours among a block's stretches go on as one run.
+/// No two neighbours among a block's extents go on as one run.
 pub fn runs_are_longest()
     ensures { RunsAreLongest }
 {}
 
-/// A block's stretches make it up: none is empty, and each begins where the one before it ends.
-pub fn stretches_make_up()
-    ensures { StretchesMakeUp }
+/// A block's extents make it up: none is empty, and each begins where the one before it ends.
+pub fn extents_make_up()
+    ensures { ExtentsMakeUp }
 {}
 
-/// A block has at most one stretch for each of its words.
-pub fn stretches_are_few()
-    ensures { StretchesAreFew }
+/// A block has at most one extent for each of its words.
+pub fn extents_are_few()
+    ensures { ExtentsAreFew }
 {}
 
-/// A stretch consists of the bytes of tiles that look like it, an erased one of bytes 0xFF alone.
-pub fn stretches_are_tiles()
-    ensures tiles { StretchesAreTiles }
+/// An extent consists of the bytes of tiles that kind like it, an erased one of bytes 0xFF alone.
+pub fn extents_are_tiles()
+    ensures tiles { ExtentsAreTiles }
     ensures erased { ErasedRunsAreErased }
 {}
 
-/// A stretch seen as a node is the whole tile of a good header, and the name of an entry seen has
+/// An extent seen as a node is the whole tile of a good header, and the name of an entry seen has
 /// at most 254 bytes.
 pub fn nodes_are_seen()
     ensures seen { NodesAreSeen }
     ensures names { NamesAreShort }
 {}
 
-/// The sightings of a block are its stretches that are nodes' tiles.
-pub fn sightings_are_stretches()
-    ensures { SightingsAreStretches }
+/// The sightings of a block are its extents that are nodes' tiles.
+pub fn sightings_are_extents()
+    ensures { SightingsAreExtents }
 {}
 
-/// Where no good header stands at any word, no node is sighted: so in erased flash, and behind a
+/// Where there is no good header at any word, no node is sighted: so in erased flash, and after a
 /// beginning of the clean marker.
-pub fn quiet_has_no_nodes()
-    ensures quiet { QuietHasNoNodes }
+pub fn headerless_has_no_nodes()
+    ensures headerless { HeaderlessHasNoNodes }
     ensures erased { ErasedHasNoNodes }
     ensures marked { MarkedHasNoNodes }
 {}
@@ -90,8 +90,8 @@ pub fn refusal_is_first()
 {}
 
 /// An image's nodes are what the node tiles of its blocks' tilings read as.
-pub fn nodes_are_held()
-    ensures { NodesAreHeld }
+pub fn nodes_are_contained()
+    ensures { NodesAreContained }
 {}
 
 /// The nodes of an image fit their widths, and could be written.

@@ -31,9 +31,9 @@ pub(crate) fn block_at(image: &[u8], start: usize, size: usize) -> Part<'_>
 fn bytes_of<'a>(part: &Part<'a>) -> Option<&'a [u8]>
     ensures { IfSome result (λ bytes. bytes.now ≡ part.now) }
 {
-    let held = part.held();
-    if held.len() == part.len() {
-        Some(held)
+    let present = part.present();
+    if present.len() == part.len() {
+        Some(present)
     } else {
         None
     }
@@ -54,16 +54,16 @@ pub(crate) fn header_of<E: Order>(rest: &Part<'_>) -> Option<Header>
 pub(crate) fn erased_run_of(part: &Part<'_>) -> usize
     ensures erased { (k : ℕ) → k < result → slice_index part.now k ≡ 0xFF }
 {
-    let held = part.held();
-    let run = erased_run(held);
-    if run < held.len() { run } else { part.len() }
+    let present = part.present();
+    let run = erased_run(present);
+    if run < present.len() { run } else { part.len() }
 }
 
 /// Whether all bytes are 0xFF.
 pub(crate) fn is_erased(part: &Part<'_>) -> bool
     ensures { result ≡ list_all (λ b. b == 0xFF) part.now }
 {
-    are_erased(part.held())
+    are_erased(part.present())
 }
 
 fn are_erased(bytes: &[u8]) -> bool
@@ -77,9 +77,9 @@ pub(crate) fn magic_of<E: Order>(part: &Part<'_>) -> u16
     requires { 2 ≤ length part.now }
     ensures { result ≡ magic_of E.order part.now }
 {
-    let held = part.held();
-    if 2 <= held.len() {
-        return E::read_u16(held);
+    let present = part.present();
+    if 2 <= present.len() {
+        return E::read_u16(present);
     }
     let mut front = [0; 2];
     part.slice(0, 2).copy_to(&mut front);

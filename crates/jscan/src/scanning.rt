@@ -1,50 +1,50 @@
-// What stands in an image.
+// What an image contains.
 
 ghost use Rattle.std.specs.Prelude.{◌≡◌, ◌↔◌, ◌<◌, Err, None, IfOk, IfErr, OnOk, true, false, length};
 ghost use Rattle.jscan.specs.Image.{is_block_size, greatest_image, nodes};
 ghost use Rattle.jscan.specs.Scans.{IsScannable, IsNoNode, Scans, first_refused, nodes_before_refusal, findings, is_read_only};
 
-use crate::answer::{Scan, Survey};
+use crate::answer::{PartialScan, Scan};
 use crate::geometry::{Geometry, ScanFault};
-use crate::image::ImageStretches;
+use crate::image::ImageExtents;
 use jnode::Order;
 use std::alloc::Global;
 
-/// What stands in an image, in the order of the addresses, up to the first node that no image may have.
+/// What an image contains, in the order of the addresses, up to the first node that no image may have.
 /// The missing tail of the last block counts as erased.
-pub fn survey<'a, E: Order>(
+pub fn scan_to_refusal<'a, E: Order>(
     alloc: Global,
     image: &'a [u8],
     geometry: Geometry,
-) -> Result<Survey<'a>, ScanFault>
+) -> Result<PartialScan<'a>, ScanFault>
     ensures block_size { result ≡ Err ScanFault.BlockSize ↔ (is_block_size geometry.block ≡ false) }
     ensures too_large { result ≡ Err ScanFault.TooLarge ↔ (is_block_size geometry.block ≡ true) × (greatest_image < length image.now) }
     ensures memory { result ≡ Err ScanFault.OutOfMemory → IsScannable geometry.block image.now }
     ensures no_other { IfErr result IsNoNode }
     ensures scannable { OnOk result (IsScannable geometry.block image.now) }
-    ensures refused { IfOk result (λ survey. survey.refused ≡ first_refused E.order geometry.block image.now) }
-    ensures nodes { IfOk result (λ survey. survey.nodes.items ≡ nodes_before_refusal E.order geometry.block image.now) }
-    ensures all_nodes { IfOk result (λ survey. survey.refused ≡ None → survey.nodes.items ≡ nodes E.order geometry.block image.now) }
-    ensures findings { IfOk result (λ survey. survey.refused ≡ None → survey.findings.items ≡ findings E.order geometry.block image.now) }
-    ensures read_only { IfOk result (λ survey. survey.refused ≡ None → survey.read_only ≡ is_read_only E.order geometry.block image.now) }
+    ensures refused { IfOk result (λ partial. partial.refused ≡ first_refused E.order geometry.block image.now) }
+    ensures nodes { IfOk result (λ partial. partial.nodes.items ≡ nodes_before_refusal E.order geometry.block image.now) }
+    ensures all_nodes { IfOk result (λ partial. partial.refused ≡ None → partial.nodes.items ≡ nodes E.order geometry.block image.now) }
+    ensures findings { IfOk result (λ partial. partial.refused ≡ None → partial.findings.items ≡ findings E.order geometry.block image.now) }
+    ensures read_only { IfOk result (λ partial. partial.refused ≡ None → partial.read_only ≡ is_read_only E.order geometry.block image.now) }
 {
-    let mut survey = Survey {
+    let mut partial = PartialScan {
         nodes: Vec::new(alloc),
         findings: Vec::new(alloc),
         read_only: false,
         refused: None,
     };
-    for stretch in ImageStretches::<E>::new(image, geometry)? {
-        if let Some(refusal) = stretch.refusal() {
-            survey.refused = Some(refusal);
-            return Ok(survey);
+    for extent in ImageExtents::<E>::new(image, geometry)? {
+        if let Some(refusal) = extent.refusal() {
+            partial.refused = Some(refusal);
+            return Ok(partial);
         }
-        survey.add(stretch)?;
+        partial.add(extent)?;
     }
-    Ok(survey)
+    Ok(partial)
 }
 
-/// What stands in an image that nothing refuses, in the order of the addresses. A node that may not be
+/// What an image that nothing refuses contains, in the order of the addresses. A node that may not be
 /// skipped is refused as `Incompatible`, a sound one whose data are compressed as `Compressed`: of
 /// these the one of least address.
 pub fn scan<'a, E: Order>(
@@ -54,12 +54,12 @@ pub fn scan<'a, E: Order>(
 ) -> Result<Scan<'a>, ScanFault>
     ensures { Scans E.order geometry.block image.now result }
 {
-    let Survey {
+    let PartialScan {
         nodes,
         findings,
         read_only,
         refused,
-    } = survey::<E>(alloc, image, geometry)?;
+    } = scan_to_refusal::<E>(alloc, image, geometry)?;
     match refused {
         Some(refusal) => Err(refusal),
         None => Ok(Scan {

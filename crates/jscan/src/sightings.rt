@@ -1,15 +1,15 @@
 // The nodes' tiles of an image, in order.
 
+use crate::extent::{Extent, ExtentKind};
 use crate::geometry::{Geometry, ScanFault};
-use crate::image::ImageStretches;
-use crate::stretch::{Look, Stretch};
+use crate::image::ImageExtents;
 use jnode::{Order, Seen};
 
 /// The nodes' tiles of an image, in the order of their addresses: the address of each, and what it is seen
 /// as. The missing tail of the last block counts as erased. It takes no memory.
 #[derive(Drop)]
 pub struct Sightings<'a, E: Order> {
-    stretches: ImageStretches<'a, E>,
+    extents: ImageExtents<'a, E>,
 }
 
 impl<'a, E: Order> Sightings<'a, E> {
@@ -27,7 +27,7 @@ impl<'a, E: Order> Sightings<'a, E> {
         ensures sightings { IfOk result (λ left. sightings_left left ≡ sightings E.order geometry.block image.now) }
     {
         Ok(Sightings {
-            stretches: ImageStretches::new(image, geometry)?,
+            extents: ImageExtents::new(image, geometry)?,
         })
     }
 }
@@ -43,8 +43,8 @@ impl<'a, E: Order> Iterator for Sightings<'a, E> {
     ghost remaining = { item_count sightings_left };
 
     fn next(&mut self) -> Option<(u32, Seen<'a>)> {
-        while let Some(Stretch { addr, look, .. }) = self.stretches.next() {
-            if let Look::Tiled(seen) = look {
+        while let Some(Extent { addr, kind, .. }) = self.extents.next() {
+            if let ExtentKind::Tiled(seen) = kind {
                 return Some((addr, seen));
             }
         }

@@ -105,7 +105,7 @@ impl<S: Source> BlockReader<S> {
         }
     }
 
-    /// The source, behind what was read.
+    /// The source, after what was read.
     pub fn into_source(self) -> S
         ensures { result ≡ source_of self }
     {
@@ -174,7 +174,7 @@ fn fill_block<S: Source>(
     Ok(filled)
 }
 
-/// Counts what stands in the source's blocks, through one block of memory. At a fault the counts are those of
+/// Counts what the source's blocks contain, through one block of memory. At a fault the counts are those of
 /// the blocks before it.
 pub fn scan_stream<E: Order, S: Source>(
     alloc: Global,
@@ -194,7 +194,7 @@ pub fn scan_stream<E: Order, S: Source>(
         → IfSome (S.rest source) (λ image. greatest_image < min (length image) ((counts.new.blocks + 1) * geometry.block)) }
     ensures before_the_end { result ≡ Err StreamFault.TooLarge → counts.new.blocks * geometry.block ≤ greatest_image }
 
-    // Only where the source failed, once, in the block behind those counted.
+    // Only where the source failed, once, in the block after those counted.
     ensures device { result ≡ Err StreamFault.Device → (left : S) × (S.failures left ≡ next_count (S.failures source))
         × IfSome (S.rest source) (λ image. StopsWithin (Some (drop (counts.new.blocks * geometry.block) image)) (S.rest left) geometry.block) }
 {

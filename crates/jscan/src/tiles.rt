@@ -10,16 +10,16 @@ use flashbase::{Part, pad4};
 use jnode::{Header, Order};
 use std::marker::PhantomData;
 
-/// The length of a node's header: where fewer bytes are left, no node stands.
+/// The length of a node's header: where fewer bytes are left, there is no node.
 pub(crate) const HEADER_LEN: usize = 12;
 
 /// The length of a word.
 pub(crate) const WORD_LEN: usize = 4;
 
-/// What stands at a place of a block.
+/// What is at a place of a block.
 #[derive(Clone, Copy, Debug, PartialEq, Eq)]
 pub enum TileKind {
-    /// A node: a good header stands there.
+    /// A node: a good header is there.
     Node(Header),
     /// Four bytes that are no node's.
     Word,
@@ -27,7 +27,7 @@ pub enum TileKind {
     Rest,
 }
 
-/// A tile of a block: where it stands, what it is, and its bytes.
+/// A tile of a block: its place, what it is, and its bytes.
 #[derive(Drop)]
 pub struct Tile<'a, E: Order> {
     /// Bytes of the block before it.

@@ -18,7 +18,7 @@ const FLASHES: [(Endian, usize, Pieces, u32); 24] = [
     (Endian::Big, 12, &[(0, &LITTLE_MARKER)], 1),
     (Endian::Big, 0, &[], 0),
     (Endian::Little, 16384, &[], 0),
-    // One byte of a block, and what stands in front of it.
+    // One byte of a block, and what is in front of it.
     (Endian::Little, 16384, &[(0, &[0xfe])], 1),
     (Endian::Little, 16384, &[(12, &[0xfe])], 1),
     (Endian::Little, 16384, &[(4095, &[0xfe])], 1),

@@ -4,16 +4,16 @@ use crate::bytes::*;
 use byteorder::{BigEndian, LittleEndian};
 use jnode::{Damage, Endian, Order, Seen};
 use jscan::{
-    Finding, FindingKind, Geometry, Look, ScanFault, Stretch, Stretches, Tile, TileKind, Tiles,
+    Extent, ExtentKind, Extents, Finding, FindingKind, Geometry, ScanFault, Tile, TileKind, Tiles,
     laws, rows,
 };
 use std::alloc::Global;
 use std::test::Fail;
 
-/// A stretch as address, length and what it looks like.
+/// An extent as address, length and what it looks like.
 type Row = (u32, u32, &'static str);
 
-/// Blocks of an order, at an address, of a length, with these bytes, and their stretches.
+/// Blocks of an order, at an address, of a length, with these bytes, and their extents.
 const BLOCKS: [(Endian, u32, usize, Pieces, &[Row]); 11] = [
     (
         Endian::Little,
@@ -77,44 +77,44 @@ const BLOCKS: [(Endian, u32, usize, Pieces, &[Row]); 11] = [
     (Endian::Big, 4096, 4096, &[], &[(4096, 4096, "erased")]),
 ];
 
-pub(crate) fn shown(look: &Look<'_>) -> &'static str {
-    match look {
-        Look::Tiled(Seen::Marker) => "marker",
-        Look::Tiled(Seen::Entry(_)) => "entry",
-        Look::Tiled(
+pub(crate) fn shown(kind: &ExtentKind<'_>) -> &'static str {
+    match kind {
+        ExtentKind::Tiled(Seen::Marker) => "marker",
+        ExtentKind::Tiled(Seen::Entry(_)) => "entry",
+        ExtentKind::Tiled(
             Seen::Damaged {
                 which: Damage::DataCrc,
             },
         ) => "data-crc",
-        Look::Tiled(_) => "other node",
-        Look::Erased => "erased",
-        Look::OtherOrder => "other-order",
-        Look::Dirt => "dirt",
+        ExtentKind::Tiled(_) => "other node",
+        ExtentKind::Erased => "erased",
+        ExtentKind::OtherOrder => "other-order",
+        ExtentKind::Dirt => "dirt",
     }
 }
 
-fn row(stretch: Stretch<'_>) -> Row {
-    (stretch.addr, stretch.len, shown(&stretch.look))
+fn row(extent: Extent<'_>) -> Row {
+    (extent.addr, extent.len, shown(&extent.kind))
 }
 
-/// The stretches of a flash's bytes, as far as they are whole words.
-fn stretch_rows<E: Order>(alloc: Global, start: u32, block: &[u8]) -> Result<Vec<Row>, Fail> {
+/// The extents of a flash's bytes, as far as they are whole words.
+fn extent_rows<E: Order>(alloc: Global, start: u32, block: &[u8]) -> Result<Vec<Row>, Fail> {
     let words = block.len().min(0xffff) / 4 * 4;
     Ok(
-        Stretches::<E>::new(start % 0x10000, &block[..words])
+        Extents::<E>::new(start % 0x10000, &block[..words])
             .map(row)
             .collect(alloc)?,
     )
 }
 
 #[test]
-fn stretches_of_blocks(rt: HostRuntime) -> Result<(), Fail> {
+fn extents_of_blocks(rt: HostRuntime) -> Result<(), Fail> {
     let alloc = rt.alloc();
     for (order, start, len, pieces, want) in BLOCKS {
         let block = flash(alloc, len, pieces)?;
         let rows = match order {
-            Endian::Little => stretch_rows::<LittleEndian>(alloc, start, &block)?,
-            Endian::Big => stretch_rows::<BigEndian>(alloc, start, &block)?,
+            Endian::Little => extent_rows::<LittleEndian>(alloc, start, &block)?,
+            Endian::Big => extent_rows::<BigEndian>(alloc, start, &block)?,
         };
         assert_eq!(rt; rows.as_slice(), want, "{len} bytes at {start}");
     }
@@ -165,9 +165,9 @@ fn findings_of(alloc: Global, block: &[u8]) -> Result<(Vec<Finding>, Vec<ScanFau
     let mut findings = Vec::new(alloc);
     let mut refusals = Vec::new(alloc);
     let words = block.len().min(256) / 4 * 4;
-    for stretch in Stretches::<LittleEndian>::new(4096, &block[..words]) {
-        findings.extend(stretch.finding())?;
-        refusals.extend(stretch.refusal())?;
+    for extent in Extents::<LittleEndian>::new(4096, &block[..words]) {
+        findings.extend(extent.finding())?;
+        refusals.extend(extent.refusal())?;
     }
     Ok((findings, refusals))
 }
@@ -219,27 +219,27 @@ fn laws_can_be_called(_rt: HostRuntime) {
     laws::tiles_are_few();
     laws::tile_then_rest();
     laws::runs_are_longest();
-    laws::stretches_make_up();
-    laws::stretches_are_few();
-    laws::stretches_are_tiles();
+    laws::extents_make_up();
+    laws::extents_are_few();
+    laws::extents_are_tiles();
     laws::nodes_are_seen();
-    laws::sightings_are_stretches();
-    laws::quiet_has_no_nodes();
+    laws::sightings_are_extents();
+    laws::headerless_has_no_nodes();
     laws::nodes_are_of_blocks();
     laws::blank_from_is_least();
     laws::addresses_ascend();
     laws::addresses_are_within();
     laws::refusal_is_first();
-    laws::nodes_are_held();
+    laws::nodes_are_contained();
     laws::nodes_fit();
-    rows::no_length_is_dirt();
-    rows::past_the_end_is_dirt();
-    rows::last_marker_is_seen();
-    rows::entry_is_seen();
-    rows::other_order_is_known();
-    rows::rest_is_judged_whole();
-    rows::full_block();
-    rows::hidden_entry_is_not_seen();
-    rows::nodes_of_a_cut_image();
-    rows::blank_tail();
+    examples::no_length_is_dirt();
+    examples::past_the_end_is_dirt();
+    examples::last_marker_is_seen();
+    examples::entry_is_seen();
+    examples::other_order_is_known();
+    examples::rest_is_judged_whole();
+    examples::full_block();
+    examples::hidden_entry_is_not_seen();
+    examples::nodes_of_a_cut_image();
+    examples::blank_tail();
 }

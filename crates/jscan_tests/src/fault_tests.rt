@@ -2,8 +2,8 @@
 
 use byteorder::BigEndian;
 use jscan::{
-    GREATEST_BLOCK, GREATEST_IMAGE, Geometry, LEAST_BLOCK, ScanFault, Sightings, StreamFault, scan,
-    survey,
+    GREATEST_BLOCK, GREATEST_IMAGE, Geometry, LEAST_BLOCK, ScanFault, Sightings, StreamFault,
+    partial, scan,
 };
 use std::alloc::Global;
 use std::test::Fail;
@@ -14,7 +14,7 @@ type Faults = [Option<ScanFault>; 3];
 fn faults(alloc: Global, image: &[u8], block: u32) -> Faults {
     let geometry = Geometry { block };
     [
-        survey::<BigEndian>(alloc, image, geometry).err(),
+        scan_to_refusal::<BigEndian>(alloc, image, geometry).err(),
         scan::<BigEndian>(alloc, image, geometry).err(),
         Sightings::<BigEndian>::new(image, geometry).err(),
     ]

@@ -1,10 +1,12 @@
-//! What stands in whole images.
+//! What is in whole images.
 
 use crate::block_tests::shown;
 use crate::bytes::*;
 use byteorder::{BigEndian, LittleEndian};
 use jnode::{Damage, Fill, NodeRef, Order, Seen};
-use jscan::{Finding, FindingKind, Geometry, Look, ScanFault, Sightings, scan, survey};
+use jscan::{
+    ExtentKind, Finding, FindingKind, Geometry, ScanFault, Sightings, scan, scan_to_refusal,
+};
 use std::alloc::Global;
 use std::test::Fail;
 
@@ -110,10 +112,10 @@ fn scanned<E: Order>(alloc: Global, image: &[u8]) -> Result<Answer, Fail> {
 }
 
 fn surveyed<E: Order>(alloc: Global, image: &[u8]) -> Result<Answer, Fail> {
-    let survey = survey::<E>(alloc, image, GEOMETRY)?;
-    let rows = survey.nodes.iter().map(row).collect(alloc)?;
-    let findings = survey.findings.iter().map(found).collect(alloc)?;
-    Ok((rows, findings, survey.read_only, survey.refused))
+    let partial = scan_to_refusal::<E>(alloc, image, GEOMETRY)?;
+    let rows = partial.nodes.iter().map(row).collect(alloc)?;
+    let findings = partial.findings.iter().map(found).collect(alloc)?;
+    Ok((rows, findings, partial.read_only, partial.refused))
 }
 
 #[test]
@@ -135,7 +137,7 @@ fn nodes_and_findings_of_images(rt: HostRuntime) -> Result<(), Fail> {
     Ok(())
 }
 
-/// Images with a node that no image may have, at 4096, and behind it another one.
+/// Images with a node that no image may have, at 4096, and after it another one.
 const REFUSED: [(Pieces, ScanFault); 2] = [
     (
         &[(0, &ENTRY_A), (4096, &INCOMPATIBLE), (8192, &COMPRESSED)],
@@ -159,16 +161,16 @@ fn the_first_refusal_counts(rt: HostRuntime) -> Result<(), Fail> {
         let image = flash(rt.alloc(), 12288, pieces)?;
         let scan = scan::<LittleEndian>(rt.alloc(), &image, GEOMETRY);
         assert_eq!(rt; scan.err(), Some(want));
-        let survey = surveyed::<LittleEndian>(rt.alloc(), &image)?;
-        assert_eq!(rt; survey.3, Some(want));
-        assert_eq!(rt; survey.0.as_slice(), [(0, "entry", 2, 1, 1)].as_slice());
+        let partial = surveyed::<LittleEndian>(rt.alloc(), &image)?;
+        assert_eq!(rt; partial.3, Some(want));
+        assert_eq!(rt; partial.0.as_slice(), [(0, "entry", 2, 1, 1)].as_slice());
     }
     Ok(())
 }
 
 fn sighting_row(sighting: (u32, Seen<'_>)) -> (u32, &'static str) {
     let (addr, seen) = sighting;
-    (addr, shown(&Look::Tiled(seen)))
+    (addr, shown(&ExtentKind::Tiled(seen)))
 }
 
 #[test]
@@ -183,7 +185,7 @@ fn sightings_in_order(rt: HostRuntime) -> Result<(), Fail> {
     Ok(())
 }
 
-/// Passes with each allocation behind that of the image failing in turn too: memory is then blamed, and nothing else.
+/// Passes with each allocation after that of the image failing in turn too: memory is then blamed, and nothing else.
 /// Sightings take none.
 #[test]
 fn scans_with_little_memory(rt: HostRuntime) -> Result<(), Fail> {
@@ -193,8 +195,8 @@ fn scans_with_little_memory(rt: HostRuntime) -> Result<(), Fail> {
         Ok(scan) => assert_eq!(rt; (scan.nodes.len(), scan.findings.len()), (2, 1)),
         Err(fault) => assert_eq!(rt; fault, ScanFault::OutOfMemory),
     }
-    match survey::<LittleEndian>(rt.alloc(), &image, GEOMETRY) {
-        Ok(survey) => assert_eq!(rt; survey.nodes.len(), 2),
+    match scan_to_refusal::<LittleEndian>(rt.alloc(), &image, GEOMETRY) {
+        Ok(partial) => assert_eq!(rt; partial.nodes.len(), 2),
         Err(fault) => assert_eq!(rt; fault, ScanFault::OutOfMemory),
     }
     assert!(rt; Sightings::<LittleEndian>::new(&image, GEOMETRY).is_ok());

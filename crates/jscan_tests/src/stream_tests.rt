@@ -12,7 +12,7 @@ const SMALL: Geometry = Geometry { block: 4096 };
 /// How many bytes the sources of these tests give a call.
 const CUTS: [usize; 4] = [1, 3, 4095, usize::MAX];
 
-/// A block with the clean marker and the entry node, and the entry node again behind it.
+/// A block with the clean marker and the entry node, and the entry node again after it.
 const TWO_ENTRIES: Pieces = &[(0, &LITTLE_MARKER), (12, &ENTRY_A), (4096, &ENTRY_A)];
 
 /// Sources of a length, with these bytes, and how many blocks, entries, inode nodes and findings are counted.
@@ -59,7 +59,7 @@ impl Source for CutSource<'_> {
     }
 }
 
-/// Gives as many bytes as it has left, whatever stands in them.
+/// Gives as many bytes as it has left, whatever is in them.
 #[derive(Drop)]
 struct Long {
     left: usize,

@@ -8,7 +8,7 @@ use Rattle.flashbase.proofs.ListLemmas.{length-below}
 use Rattle.jsteps.specs.Nodes.{Indexed}
 use Rattle.jsteps.specs.Planning.{IsPage, plain_page, spelling_len, most_steps, piece_puts, page_puts, puts, zeros_to, write_steps, resize_steps, size_named, steps_of}
 use Rattle.jsteps.specs.Refusals.{planned_by, greatest_size}
-use Rattle.jsteps.specs.Where.{number_of}
+use Rattle.jsteps.specs.Where.{number_or_zero}
 use Rattle.jsteps.specs.declared.op.Op.{Op}
 use Rattle.jsteps.specs.declared.op.Op.TheVariants as op
 use Rattle.jsteps.specs.declared.step.Step.{Step}
@@ -72,9 +72,9 @@ steps_few page x (op.Mkdir time path mode uid gid) steps is_page e = omega arith
 steps_few page x (op.Create time path mode uid gid) steps is_page e = omega arith
 steps_few page x (op.Symlink time path link uid gid) steps is_page e = omega arith
 steps_few page x (op.Write time path offset bytes) steps is_page e =
-    write_few page time (number_of x.tree path) (size_named x.tree path) offset bytes is_page (accepted page x (op.Write time path offset bytes) steps e).large
+    write_few page time (number_or_zero x.tree path) (size_named x.tree path) offset bytes is_page (accepted page x (op.Write time path offset bytes) steps e).large
 steps_few page x (op.Truncate time path size) steps is_page e =
-    let few : length (resize_steps time (number_of x.tree path) (size_named x.tree path) size) ≤ 1 = resize_few time (number_of x.tree path) (size_named x.tree path) size in
+    let few : length (resize_steps time (number_or_zero x.tree path) (size_named x.tree path) size) ≤ 1 = resize_few time (number_or_zero x.tree path) (size_named x.tree path) size in
     omega arith
 steps_few page x (op.Link time old new) steps is_page e = omega arith
 steps_few page x (op.Remove time path) steps is_page e = omega arith

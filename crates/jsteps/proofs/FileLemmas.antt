@@ -13,7 +13,7 @@ use Rattle.jsteps.specs.Nodes.{Indexed, node_of, nodes_of, advanced}
 use Rattle.jsteps.specs.Planning.{plain_page, spelling_len, piece_puts, page_puts, puts, zeros_to, write_steps, resize_steps}
 use Rattle.jmount.specs.Tree.{Outline}
 use Rattle.jsteps.specs.Planning.{steps_of}
-use Rattle.jsteps.specs.Refusals.{greatest_size, is_past, is_bad, is_long, paths, is_exhausted, planned_by}
+use Rattle.jsteps.specs.Refusals.{greatest_size, is_past, is_bad_path, is_long, paths, is_exhausted, planned_by}
 use Rattle.jsteps.specs.Site.{IsSiteOf}
 use Rattle.jsteps.specs.Tests.{tests_of, kept_tests}
 use Rattle.jsteps.specs.Where.{above, number_there}
@@ -99,14 +99,14 @@ kept_sites t path site large has =
     ∙ ap (λ r. kept_tests t site.is_long r (number_there t path) large) (sym has.above)
     ∙ ap (λ n. kept_tests t site.is_long site.above n large) (sym has.number)
 
-pub file_from : (page : ℕ) (x : Indexed) (o : Op) (path : List ℕ) (site : Site) (large : Bool) (ino : ℕ) (steps : List Step) → IsSiteOf x.tree path site → list_any is_bad (paths o) ≡ is_bad path
+pub file_from : (page : ℕ) (x : Indexed) (o : Op) (path : List ℕ) (site : Site) (large : Bool) (ino : ℕ) (steps : List Step) → IsSiteOf x.tree path site → list_any is_bad_path (paths o) ≡ is_bad_path path
     → tests_of x.tree o ≡ kept_tests x.tree (is_long path) (above x.tree path) (number_there x.tree path) large → steps_of page x.tree o ≡ steps
     → ino ≤ 0xFFFFFFFF → AllByRecursion (IsNext ino) steps → top_at x.tops ino ≤ 0xFFFFFFFF
     → IsFrom (planned_by page x o) (kept_tests x.tree site.is_long site.above site.number large) (nat_lt 0xFFFFFFFF (top_at x.tops ino + length steps)) steps
 file_from page x o path site large ino steps has bad tests are le all top = record {
   is =
       planned_from page x o
-      ∙ plan_same (list_any is_bad (paths o)) false (tests_of x.tree o) (kept_tests x.tree site.is_long site.above site.number large) (is_exhausted page x o) (nat_lt 0xFFFFFFFF (top_at x.tops ino + length steps)) (steps_of page x.tree o) steps
+      ∙ plan_same (list_any is_bad_path (paths o)) false (tests_of x.tree o) (kept_tests x.tree site.is_long site.above site.number large) (is_exhausted page x o) (nat_lt 0xFFFFFFFF (top_at x.tops ino + length steps)) (steps_of page x.tree o) steps
       (bad ∙ has.good)
       (tests ∙ kept_sites x.tree path site large has)
       (ap (λ ss. list_any is_past (nodes_of x ss)) are ∙ spent_all x ino steps le all top)
@@ -118,7 +118,7 @@ pub truncate_from : (page : ℕ) (x : Indexed) (time : ℕ) (path : List ℕ) (s
     → IsFrom (planned_by page x (op.Truncate time path size)) (kept_tests x.tree site.is_long site.above site.number (nat_lt greatest_size size)) (nat_lt 0xFFFFFFFF (highest + length (resize_steps time ino old size))) (resize_steps time ino old size)
 truncate_from page x time path size site ino old highest has ino_is le old_is top_is most =
     subst (λ t. IsFrom (planned_by page x (op.Truncate time path size)) (kept_tests x.tree site.is_long site.above site.number (nat_lt greatest_size size)) (nat_lt 0xFFFFFFFF (t + length (resize_steps time ino old size))) (resize_steps time ino old size)) (sym top_is)
-    (file_from page x (op.Truncate time path size) path site (nat_lt greatest_size size) ino (resize_steps time ino old size) has (or_none (is_bad path)) (same (nat_lt greatest_size size))
+    (file_from page x (op.Truncate time path size) path site (nat_lt greatest_size size) ino (resize_steps time ino old size) has (or_none (is_bad_path path)) (same (nat_lt greatest_size size))
     (ap (λ (n : Option ℕ). resize_steps time (unwrap_or n 0) (unwrap_or (option_map (λ (o : ObjectOf ℕ). o.body) (option_and_then (object x.tree) n)) 0) size) (sym has.number)
     ∙ ap (λ i. resize_steps time i (unwrap_or (option_map (λ (o : ObjectOf ℕ). o.body) (option_and_then (object x.tree) site.number)) 0) size) (sym ino_is)
     ∙ ap (λ i. resize_steps time ino i size) (sym old_is))
@@ -132,7 +132,7 @@ pub write_from : (page : ℕ) (x : Indexed) (time : ℕ) (path : List ℕ) (offs
     → IsFrom (planned_by page x (op.Write time path offset bytes)) (kept_tests x.tree site.is_long site.above site.number (nat_lt 0 (length bytes) && nat_lt greatest_size (offset + length bytes))) (nat_lt 0xFFFFFFFF (highest + length (write_steps page time ino old offset bytes))) (write_steps page time ino old offset bytes)
 write_from page x time path offset bytes site ino old highest has ino_is le old_is top_is most =
     subst (λ t. IsFrom (planned_by page x (op.Write time path offset bytes)) (kept_tests x.tree site.is_long site.above site.number (nat_lt 0 (length bytes) && nat_lt greatest_size (offset + length bytes))) (nat_lt 0xFFFFFFFF (t + length (write_steps page time ino old offset bytes))) (write_steps page time ino old offset bytes)) (sym top_is)
-    (file_from page x (op.Write time path offset bytes) path site (nat_lt 0 (length bytes) && nat_lt greatest_size (offset + length bytes)) ino (write_steps page time ino old offset bytes) has (or_none (is_bad path)) (same (nat_lt 0 (length bytes) && nat_lt greatest_size (offset + length bytes)))
+    (file_from page x (op.Write time path offset bytes) path site (nat_lt 0 (length bytes) && nat_lt greatest_size (offset + length bytes)) ino (write_steps page time ino old offset bytes) has (or_none (is_bad_path path)) (same (nat_lt 0 (length bytes) && nat_lt greatest_size (offset + length bytes)))
     (ap (λ (n : Option ℕ). write_steps page time (unwrap_or n 0) (unwrap_or (option_map (λ (o : ObjectOf ℕ). o.body) (option_and_then (object x.tree) n)) 0) offset bytes) (sym has.number)
     ∙ ap (λ i. write_steps page time i (unwrap_or (option_map (λ (o : ObjectOf ℕ). o.body) (option_and_then (object x.tree) site.number)) 0) offset bytes) (sym ino_is)
     ∙ ap (λ i. write_steps page time ino i offset bytes) (sym old_is))

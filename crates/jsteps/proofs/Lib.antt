@@ -10,9 +10,9 @@ pub mod TakenLemmas
 pub mod PutsLemmas
 pub mod PlanLemmas
 pub mod GoesOnLemmas
-pub mod RowLemmas
+pub mod ExampleLemmas
 pub mod DirectoriesLemmas
-pub mod HeldLemmas
+pub mod StoredLemmas
 pub mod AdvancingLemmas
 pub mod MountedLemmas
 pub mod ImageLemmas

@@ -10,8 +10,8 @@ use Rattle.flashbase.specs.Ranges.{IsHalf, IsWord}
 use Rattle.jmount.specs.Tree.{ObjectOf, object, directory_bits}
 use Rattle.jsteps.specs.Nodes.{Indexed, advanced}
 use Rattle.jsteps.specs.Planning.{IsPage, size_named, make_steps, steps_of}
-use Rattle.jsteps.specs.Refusals.{paths, is_bad, is_long, is_not_found, meets_nothing, meets_other, is_wrong_kind, is_too_large, is_bad_mode, is_bad_target, greatest_size, is_exhausted, refusals, unless_refused, planned_by}
-use Rattle.jsteps.specs.Where.{last_name, above, parent, ends_in_directory, number_of, object_named, is_missing, is_unnamed}
+use Rattle.jsteps.specs.Refusals.{paths, is_bad_path, is_long, is_not_found, meets_nothing, meets_other, is_wrong_kind, is_too_large, is_bad_mode, is_bad_target, greatest_size, is_exhausted, refusals, unless_refused, planned_by}
+use Rattle.jsteps.specs.Where.{last_name, above, parent, ends_in_directory, number_or_zero, object_named, is_missing, is_unnamed}
 use Rattle.jsteps.specs.Laws as law
 use Rattle.jsteps.specs.Laws.{IsConsistent, OpFits}
 use Rattle.jsteps.specs.declared.fault.OpFault.{OpFault}
@@ -43,7 +43,7 @@ none_applies (r ∷ rs) answer steps e =
 
 -- what is known of an operation that is planned
 pub record IsAccepted (page : ℕ) (x : Indexed) (o : Op) (steps : List Step) : Type 0 where
-  bad : list_any is_bad (paths o) ≡ false
+  bad : list_any is_bad_path (paths o) ≡ false
   long : list_any is_long (paths o) ≡ false
   found : is_not_found x.tree o ≡ false
   directory : list_any (λ path. meets_other x.tree (above x.tree path)) (paths o) ≡ false
@@ -90,7 +90,7 @@ record IsLed (x : Indexed) (path : List ℕ) : Type 0 where
   parent_there : IsParent x.tree (parent x.tree path)
   ends : ends_in_directory x.tree (above x.tree path) ≡ true
 
-led : (x : Indexed) (path : List ℕ) → IsConsistent x → is_bad path ≡ false → is_long path ≡ false → meets_nothing (above x.tree path) ≡ false → meets_other x.tree (above x.tree path) ≡ false
+led : (x : Indexed) (path : List ℕ) → IsConsistent x → is_bad_path path ≡ false → is_long path ≡ false → meets_nothing (above x.tree path) ≡ false → meets_other x.tree (above x.tree path) ≡ false
     → IsLed x path
 led x path same bad long found directory =
     let above_it = parent_is x path same found directory in
@@ -100,7 +100,7 @@ targeted : (x : Indexed) (path : List ℕ) → IsConsistent x → IsLed x path �
 targeted x path same is_led there = target_is x path same (not_missing x.tree path is_led.ends there)
 
 -- the size of what is named
-sized_target : (x : Indexed) (path : List ℕ) → IsTarget x path → HasSize x (number_of x.tree path) (size_named x.tree path) (size_named x.tree path)
+sized_target : (x : Indexed) (path : List ℕ) → IsTarget x path → HasSize x (number_or_zero x.tree path) (size_named x.tree path) (size_named x.tree path)
 sized_target x path is =
     with_some (object_named x.tree path) is.there
     (λ o e.
@@ -111,7 +111,7 @@ size_is_word : (x : Indexed) (path : List ℕ) → IsConsistent x → IsTarget x
 size_is_word x path same is =
     let h = sized_target x path is in
     let least : size_named x.tree path ≤ h.o.body = h.least in
-    let word : IsWord h.o.body = (same.fits (number_of x.tree path) h.o h.is).size in
+    let word : IsWord h.o.body = (same.fits (number_or_zero x.tree path) h.o h.is).size in
     omega arith
 
 -- ---- the steps of each operation
@@ -153,29 +153,29 @@ parent_some x path is_led = bits_there directory_bits (object x.tree (parent x.t
 all_fine : (page : ℕ) (x : Indexed) (o : Op) (steps : List Step) → IsPage page → IsConsistent x → OpFits o → IsAccepted page x o steps → AllFine page x (steps_of page x.tree o)
 all_fine page x (op.Mkdir time path mode uid gid) steps is_page same fits is =
     let found = three_false (meets_nothing (above x.tree path) || false) false false is.found in
-    let is_led = led x path same (one_false (is_bad path) is.bad) (one_false (is_long path) is.long) (one_false (meets_nothing (above x.tree path)) found.0)
+    let is_led = led x path same (one_false (is_bad_path path) is.bad) (one_false (is_long path) is.long) (one_false (meets_nothing (above x.tree path)) found.0)
     (one_false (meets_other x.tree (above x.tree path)) is.directory) in
     let bits : mode ≤ 0o7777 = ltb-false 0o7777 mode is.mode in
     make_fine page x time path (0o040000 + mode) uid gid [] same is_led fits.0 (omega arith) fits.1 fits.2 (omega arith)
 all_fine page x (op.Create time path mode uid gid) steps is_page same fits is =
     let found = three_false (meets_nothing (above x.tree path) || false) false false is.found in
-    let is_led = led x path same (one_false (is_bad path) is.bad) (one_false (is_long path) is.long) (one_false (meets_nothing (above x.tree path)) found.0)
+    let is_led = led x path same (one_false (is_bad_path path) is.bad) (one_false (is_long path) is.long) (one_false (meets_nothing (above x.tree path)) found.0)
     (one_false (meets_other x.tree (above x.tree path)) is.directory) in
     let bits : mode ≤ 0o7777 = ltb-false 0o7777 mode is.mode in
     make_fine page x time path (0o100000 + mode) uid gid [] same is_led fits.0 (omega arith) fits.1 fits.2 (omega arith)
 all_fine page x (op.Symlink time path link uid gid) steps is_page same fits is =
     let found = three_false (meets_nothing (above x.tree path) || false) false false is.found in
-    let is_led = led x path same (one_false (is_bad path) is.bad) (one_false (is_long path) is.long) (one_false (meets_nothing (above x.tree path)) found.0)
+    let is_led = led x path same (one_false (is_bad_path path) is.bad) (one_false (is_long path) is.long) (one_false (meets_nothing (above x.tree path)) found.0)
     (one_false (meets_other x.tree (above x.tree path)) is.directory) in
     let parts = three_false (length link == 0) (nat_lt 4095 (length link)) (list_any (λ b. b == 0) link) is.link in
     let short : length link ≤ 4095 = ltb-false 4095 (length link) parts.1 in
     make_fine page x time path 0o120777 uid gid link same is_led fits.0 (omega arith) fits.1 fits.2 short
 all_fine page x (op.Write time path offset bytes) steps is_page same fits is =
     let found = three_false (meets_nothing (above x.tree path) || false) (is_missing x.tree path || false) false is.found in
-    let is_led = led x path same (one_false (is_bad path) is.bad) (one_false (is_long path) is.long) (one_false (meets_nothing (above x.tree path)) found.0)
+    let is_led = led x path same (one_false (is_bad_path path) is.bad) (one_false (is_long path) is.long) (one_false (meets_nothing (above x.tree path)) found.0)
     (one_false (meets_other x.tree (above x.tree path)) is.directory) in
     let is_target = targeted x path same is_led (one_false (is_missing x.tree path) found.1) in
-    write_fine page x time (number_of x.tree path) (size_named x.tree path) offset bytes is_page fits is_target.positive (sized_target x path is_target) (size_is_word x path same is_target)
+    write_fine page x time (number_or_zero x.tree path) (size_named x.tree path) offset bytes is_page fits is_target.positive (sized_target x path is_target) (size_is_word x path same is_target)
     (λ some. ends_within (nat_lt 0 (length bytes)) (offset + length bytes) (lt-ltb 0 (length bytes) some) is.large)
   where
     ends_within : (b : Bool) (n : ℕ) → b ≡ true → (b && nat_lt greatest_size n) ≡ false → n ≤ 0xFFFFFFFF
@@ -183,40 +183,40 @@ all_fine page x (op.Write time path offset bytes) steps is_page same fits is =
     ends_within false n e h = absurd (false≢true e)
 all_fine page x (op.Truncate time path size) steps is_page same fits is =
     let found = three_false (meets_nothing (above x.tree path) || false) (is_missing x.tree path || false) false is.found in
-    let is_led = led x path same (one_false (is_bad path) is.bad) (one_false (is_long path) is.long) (one_false (meets_nothing (above x.tree path)) found.0)
+    let is_led = led x path same (one_false (is_bad_path path) is.bad) (one_false (is_long path) is.long) (one_false (meets_nothing (above x.tree path)) found.0)
     (one_false (meets_other x.tree (above x.tree path)) is.directory) in
     let is_target = targeted x path same is_led (one_false (is_missing x.tree path) found.1) in
     let least : size ≤ 2147483647 = ltb-false greatest_size size is.large in
-    resize_fine page x time (number_of x.tree path) (size_named x.tree path) size fits is_target.positive (sized_target x path is_target) (size_is_word x path same is_target) (omega arith)
+    resize_fine page x time (number_or_zero x.tree path) (size_named x.tree path) size fits is_target.positive (sized_target x path is_target) (size_is_word x path same is_target) (omega arith)
 all_fine page x (op.Link time old new) steps is_page same fits is =
     let found = three_false (meets_nothing (above x.tree old) || (meets_nothing (above x.tree new) || false)) (is_missing x.tree old || false) false is.found in
-    let bad = two_false (is_bad old) (is_bad new) is.bad in
+    let bad = two_false (is_bad_path old) (is_bad_path new) is.bad in
     let long = two_false (is_long old) (is_long new) is.long in
     let nothing = two_false (meets_nothing (above x.tree old)) (meets_nothing (above x.tree new)) found.0 in
     let other = two_false (meets_other x.tree (above x.tree old)) (meets_other x.tree (above x.tree new)) is.directory in
     let led_old = led x old same bad.0 long.0 nothing.0 other.0 in
     let led_new = led x new same bad.1 long.1 nothing.1 other.1 in
     let is_target = targeted x old same led_old (one_false (is_missing x.tree old) found.1) in
-    AllFine-one page x (step.SetName time (parent x.tree new) (last_name new) (number_of x.tree old))
-    (set_fine page x time (parent x.tree new) (last_name new) (number_of x.tree old) fits led_new.parent_there.positive led_new.name (parent_some x new led_new) is_target.positive is_target.below)
+    AllFine-one page x (step.SetName time (parent x.tree new) (last_name new) (number_or_zero x.tree old))
+    (set_fine page x time (parent x.tree new) (last_name new) (number_or_zero x.tree old) fits led_new.parent_there.positive led_new.name (parent_some x new led_new) is_target.positive is_target.below)
 all_fine page x (op.Remove time path) steps is_page same fits is =
     let found = three_false (meets_nothing (above x.tree path) || false) false (is_unnamed x.tree path || false) is.found in
-    let is_led = led x path same (one_false (is_bad path) is.bad) (one_false (is_long path) is.long) (one_false (meets_nothing (above x.tree path)) found.0)
+    let is_led = led x path same (one_false (is_bad_path path) is.bad) (one_false (is_long path) is.long) (one_false (meets_nothing (above x.tree path)) found.0)
     (one_false (meets_other x.tree (above x.tree path)) is.directory) in
     AllFine-one page x (step.ClearName time (parent x.tree path) (last_name path))
     (clear_fine page x time (parent x.tree path) (last_name path) fits is_led.parent_there.positive is_led.name (parent_some x path is_led))
 all_fine page x (op.Rename time old new) steps is_page same fits is =
     let found = three_false (meets_nothing (above x.tree old) || (meets_nothing (above x.tree new) || false)) (is_missing x.tree old || false) false is.found in
-    let bad = two_false (is_bad old) (is_bad new) is.bad in
+    let bad = two_false (is_bad_path old) (is_bad_path new) is.bad in
     let long = two_false (is_long old) (is_long new) is.long in
     let nothing = two_false (meets_nothing (above x.tree old)) (meets_nothing (above x.tree new)) found.0 in
     let other = two_false (meets_other x.tree (above x.tree old)) (meets_other x.tree (above x.tree new)) is.directory in
     let led_old = led x old same bad.0 long.0 nothing.0 other.0 in
     let led_new = led x new same bad.1 long.1 nothing.1 other.1 in
     let is_target = targeted x old same led_old (one_false (is_missing x.tree old) found.1) in
-    let set = step.SetName time (parent x.tree new) (last_name new) (number_of x.tree old) in
+    let set = step.SetName time (parent x.tree new) (last_name new) (number_or_zero x.tree old) in
     AllFine-two page x set (step.ClearName time (parent x.tree old) (last_name old))
-    (set_fine page x time (parent x.tree new) (last_name new) (number_of x.tree old) fits led_new.parent_there.positive led_new.name (parent_some x new led_new) is_target.positive is_target.below)
+    (set_fine page x time (parent x.tree new) (last_name new) (number_or_zero x.tree old) fits led_new.parent_there.positive led_new.name (parent_some x new led_new) is_target.positive is_target.below)
     (clear_fine page (advanced x set) time (parent x.tree old) (last_name old) fits led_old.parent_there.positive led_old.name (parent_some x old led_old))
 
 pub planned_taken : (page : ℕ) (x : Indexed) (o : Op) (steps : List Step) → IsPage page → IsConsistent x → OpFits o → planned_by page x o ≡ Ok steps → AllTaken page x steps

@@ -11,10 +11,10 @@ use Rattle.jmount.specs.Shown.{top_at}
 use Rattle.jmount.specs.Tree.{Outline, object, has_bits, directory_bits}
 use Rattle.jsteps.specs.Nodes.{Indexed, nodes_of}
 use Rattle.jsteps.specs.Planning.{steps_of, make_steps}
-use Rattle.jsteps.specs.Refusals.{paths, is_bad, is_long, meets_nothing, meets_other, is_exhausted, is_past, is_bad_target, planned_by}
+use Rattle.jsteps.specs.Refusals.{paths, is_bad_path, is_long, meets_nothing, meets_other, is_exhausted, is_past, is_bad_target, planned_by}
 use Rattle.jsteps.specs.Site.{IsSiteOf}
-use Rattle.jsteps.specs.Tests.{Gives, listed, first_of, made_plan, full_by, spent_by, into_itself_at, tests_of, plan_from, made_tests, removed_tests, named_tests, unnamed_at}
-use Rattle.jsteps.specs.Where.{above, number_there, number_or_none, parent, last_name, number_of, object_named}
+use Rattle.jsteps.specs.Tests.{GivesPlan, listed, first_of, made_plan, full_by, spent_by, into_itself_at, tests_of, plan_from, made_tests, removed_tests, named_tests, unnamed_at}
+use Rattle.jsteps.specs.Where.{above, number_there, number_or_none, parent, last_name, number_or_zero, object_named}
 use Rattle.jsteps.specs.declared.fault.OpFault.{OpFault}
 use Rattle.jsteps.specs.declared.fault.OpFault.TheVariants as refused
 use Rattle.jsteps.specs.declared.op.Op.{Op}
@@ -27,12 +27,12 @@ use Rattle.jsteps.proofs.ChoiceLemmas.{planned_from, from_bad, from_refused, fro
 
 -- ---- what a look-up answers
 
-pub bad_of : (t : Outline) (path : List ℕ) (o : Option Site) → MatchOption o (is_bad path ≡ true) (IsSiteOf t path) → o ≡ None → is_bad path ≡ true
+pub bad_of : (t : Outline) (path : List ℕ) (o : Option Site) → MatchOption o (is_bad_path path ≡ true) (IsSiteOf t path) → o ≡ None → is_bad_path path ≡ true
 bad_of t path None h e = h
 bad_of t path (Some site) h e = absurd (true≢false (ap is_some e))
 
-pub good_of : (t : Outline) (path : List ℕ) (o : Option Site) (site : Site) → MatchOption o (is_bad path ≡ true) (IsSiteOf t path) → o ≡ Some site → IsSiteOf t path site
-good_of t path o site h e = subst (λ (o : Option Site). MatchOption o (is_bad path ≡ true) (IsSiteOf t path)) e h
+pub good_of : (t : Outline) (path : List ℕ) (o : Option Site) (site : Site) → MatchOption o (is_bad_path path ≡ true) (IsSiteOf t path) → o ≡ Some site → IsSiteOf t path site
+good_of t path o site h e = subst (λ (o : Option Site). MatchOption o (is_bad_path path ≡ true) (IsSiteOf t path)) e h
 
 -- ---- plans by their parts
 
@@ -85,17 +85,17 @@ pub answer_none : {plan : Result (List Step) OpFault} {tests : Tests} {spent : B
 answer_none {plan} {tests} {spent} {steps} from found r b items same is e b_is is_b are =
     from.is ∙ from_none false tests spent steps refl (ap (λ t. first_of (listed t)) (sym same) ∙ sym is ∙ e) (sym b_is ∙ is_b) ∙ ap Ok (sym are)
 
-pub bad_plan : (page : ℕ) (x : Indexed) (o : Op) → list_any is_bad (paths o) ≡ true → planned_by page x o ≡ Err refused.BadPath
-bad_plan page x o e = planned_from page x o ∙ from_bad (list_any is_bad (paths o)) (tests_of x.tree o) (is_exhausted page x o) (steps_of page x.tree o) e
+pub bad_plan : (page : ℕ) (x : Indexed) (o : Op) → list_any is_bad_path (paths o) ≡ true → planned_by page x o ≡ Err refused.BadPath
+bad_plan page x o e = planned_from page x o ∙ from_bad (list_any is_bad_path (paths o)) (tests_of x.tree o) (is_exhausted page x o) (steps_of page x.tree o) e
 
-pub bad_first : (old new : List ℕ) → is_bad old ≡ true → (is_bad old || (is_bad new || false)) ≡ true
-bad_first old new e = ap (λ b. b || (is_bad new || false)) e
+pub bad_first : (old new : List ℕ) → is_bad_path old ≡ true → (is_bad_path old || (is_bad_path new || false)) ≡ true
+bad_first old new e = ap (λ b. b || (is_bad_path new || false)) e
 
-pub bad_second : (old new : List ℕ) → is_bad old ≡ false → is_bad new ≡ true → (is_bad old || (is_bad new || false)) ≡ true
-bad_second old new e f = ap (λ b. b || (is_bad new || false)) e ∙ ap (λ b. b || false) f
+pub bad_second : (old new : List ℕ) → is_bad_path old ≡ false → is_bad_path new ≡ true → (is_bad_path old || (is_bad_path new || false)) ≡ true
+bad_second old new e f = ap (λ b. b || (is_bad_path new || false)) e ∙ ap (λ b. b || false) f
 
-good_both : (old new : List ℕ) → is_bad old ≡ false → is_bad new ≡ false → (is_bad old || (is_bad new || false)) ≡ false
-good_both old new e f = ap (λ b. b || (is_bad new || false)) e ∙ ap (λ b. b || false) f
+good_both : (old new : List ℕ) → is_bad_path old ≡ false → is_bad_path new ≡ false → (is_bad_path old || (is_bad_path new || false)) ≡ false
+good_both old new e f = ap (λ b. b || (is_bad_path new || false)) e ∙ ap (λ b. b || false) f
 
 pub removed_from : (page : ℕ) (x : Indexed) (time : ℕ) (path : List ℕ) (site : Site) (dir : ℕ) → IsSiteOf x.tree path site → dir ≡ number_or_none site.above → dir ≤ 0xFFFFFFFF
     → IsFrom (planned_by page x (op.Remove time path)) (removed_tests x.tree site.is_long site.above site.number) (nat_lt 0xFFFFFFFF (top_at x.tops dir + 1)) (step.ClearName time dir site.last.now ∷ [])
@@ -103,10 +103,10 @@ removed_from page x time path site dir has e le =
     let same : parent x.tree path ≡ dir = ap number_or_none (sym has.above) ∙ sym e in
     record {
       is = planned_from page x (op.Remove time path)
-          ∙ plan_same (list_any is_bad (paths (op.Remove time path))) false (tests_of x.tree (op.Remove time path)) (removed_tests x.tree site.is_long site.above site.number)
+          ∙ plan_same (list_any is_bad_path (paths (op.Remove time path))) false (tests_of x.tree (op.Remove time path)) (removed_tests x.tree site.is_long site.above site.number)
           (is_exhausted page x (op.Remove time path)) (nat_lt 0xFFFFFFFF (top_at x.tops dir + 1))
           (steps_of page x.tree (op.Remove time path)) (step.ClearName time dir site.last.now ∷ [])
-          (or_none (is_bad path) ∙ has.good)
+          (or_none (is_bad_path path) ∙ has.good)
           (removed_same x.tree path site time has)
           (ap (λ p. (nat_lt 0xFFFFFFFF (top_at x.tops p + 1) || nat_lt 0xFFFFFFFF p) || false) same ∙ past_one (top_at x.tops dir + 1) dir le)
           (ap (λ p. step.ClearName time p (last_name path) ∷ []) same ∙ ap (λ l. step.ClearName time dir l ∷ []) (sym has.last));
@@ -135,11 +135,11 @@ pub link_from : (page : ℕ) (x : Indexed) (time : ℕ) (old new : List ℕ) (fr
     → IsFrom (planned_by page x (op.Link time old new)) (named_tests x.tree from.is_long from.above from.number to.is_long to.above to.number kind false) (nat_lt 0xFFFFFFFF (top_at x.tops dir + 1)) (step.SetName time dir to.last.now ino ∷ [])
 link_from page x time old new from to kind dir ino is_from is_to kind_is e le ino_is =
     let same : parent x.tree new ≡ dir = ap number_or_none (sym is_to.above) ∙ sym e in
-    let same_ino : number_of x.tree old ≡ ino = ap (λ (n : Option ℕ). unwrap_or n 0) (sym is_from.number) ∙ sym ino_is in
+    let same_ino : number_or_zero x.tree old ≡ ino = ap (λ (n : Option ℕ). unwrap_or n 0) (sym is_from.number) ∙ sym ino_is in
     let bits : has_bits directory_bits (object_named x.tree old) ≡ kind = ap (λ (n : Option ℕ). has_bits directory_bits (option_and_then (object x.tree) n)) (sym is_from.number) ∙ sym kind_is in
     record {
       is = planned_from page x (op.Link time old new)
-          ∙ plan_same (list_any is_bad (paths (op.Link time old new))) false (tests_of x.tree (op.Link time old new)) (named_tests x.tree from.is_long from.above from.number to.is_long to.above to.number kind false)
+          ∙ plan_same (list_any is_bad_path (paths (op.Link time old new))) false (tests_of x.tree (op.Link time old new)) (named_tests x.tree from.is_long from.above from.number to.is_long to.above to.number kind false)
           (is_exhausted page x (op.Link time old new)) (nat_lt 0xFFFFFFFF (top_at x.tops dir + 1))
           (steps_of page x.tree (op.Link time old new)) (step.SetName time dir to.last.now ino ∷ [])
           (good_both old new is_from.good is_to.good)
@@ -147,7 +147,7 @@ link_from page x time old new from to kind dir ino is_from is_to kind_is e le in
           ∙ ap (λ b. named_tests x.tree (is_long old) (above x.tree old) (number_there x.tree old) (is_long new) (above x.tree new) (number_there x.tree new) b false) bits
           ∙ named_sites x.tree old new from to kind false is_from is_to)
           (ap (λ p. (nat_lt 0xFFFFFFFF (top_at x.tops p + 1) || nat_lt 0xFFFFFFFF p) || false) same ∙ past_one (top_at x.tops dir + 1) dir le)
-          (ap (λ p. step.SetName time p (last_name new) (number_of x.tree old) ∷ []) same ∙ ap (λ l. step.SetName time dir l (number_of x.tree old) ∷ []) (sym is_to.last)
+          (ap (λ p. step.SetName time p (last_name new) (number_or_zero x.tree old) ∷ []) same ∙ ap (λ l. step.SetName time dir l (number_or_zero x.tree old) ∷ []) (sym is_to.last)
           ∙ ap (λ i. step.SetName time dir to.last.now i ∷ []) same_ino);
     }
 
@@ -180,7 +180,7 @@ pub made_from : (x : Indexed) (time : ℕ) (path : List ℕ) (kind mode uid gid 
 made_from x time path kind mode uid gid target link site dir whole next has e le whole_is next_is =
     let same : parent x.tree path ≡ dir = ap number_or_none (sym has.above) ∙ sym e in
     record {
-      is = plan_same (is_bad path) false (made_tests x.tree (is_long path) (above x.tree path) (number_there x.tree path) (nat_lt 0o7777 mode) link)
+      is = plan_same (is_bad_path path) false (made_tests x.tree (is_long path) (above x.tree path) (number_there x.tree path) (nat_lt 0o7777 mode) link)
           (made_tests x.tree site.is_long site.above site.number (nat_lt 0o7777 mode) link)
           (list_any is_past (nodes_of x (make_steps x.tree time path (kind + mode) uid gid target))) (full_by x dir)
           (make_steps x.tree time path (kind + mode) uid gid target) (step.MakeObject time whole uid gid target ∷ step.SetName time dir site.last.now next ∷ [])
@@ -194,30 +194,30 @@ made_from x time path kind mode uid gid target link site dir whole next has e le
           ∙ ap (λ n. step.MakeObject time whole uid gid target ∷ step.SetName time dir site.last.now n ∷ []) (sym next_is));
     }
 
-made_as : (page : ℕ) (x : Indexed) (o : Op) (path : List ℕ) (mode link : Bool) → list_any is_bad (paths o) ≡ is_bad path
+made_as : (page : ℕ) (x : Indexed) (o : Op) (path : List ℕ) (mode link : Bool) → list_any is_bad_path (paths o) ≡ is_bad_path path
     → tests_of x.tree o ≡ made_tests x.tree (is_long path) (above x.tree path) (number_there x.tree path) mode link
-    → planned_by page x o ≡ plan_from (is_bad path) (made_tests x.tree (is_long path) (above x.tree path) (number_there x.tree path) mode link) (is_exhausted page x o) (steps_of page x.tree o)
+    → planned_by page x o ≡ plan_from (is_bad_path path) (made_tests x.tree (is_long path) (above x.tree path) (number_there x.tree path) mode link) (is_exhausted page x o) (steps_of page x.tree o)
 made_as page x o path mode link e f =
     planned_from page x o
-    ∙ plan_same (list_any is_bad (paths o)) (is_bad path) (tests_of x.tree o) (made_tests x.tree (is_long path) (above x.tree path) (number_there x.tree path) mode link)
+    ∙ plan_same (list_any is_bad_path (paths o)) (is_bad_path path) (tests_of x.tree o) (made_tests x.tree (is_long path) (above x.tree path) (number_there x.tree path) mode link)
     (is_exhausted page x o) (is_exhausted page x o) (steps_of page x.tree o) (steps_of page x.tree o) e f refl refl
 
 pub mkdir_made : (page : ℕ) (x : Indexed) (time : ℕ) (path : List ℕ) (mode uid gid : ℕ) → planned_by page x (op.Mkdir time path mode uid gid) ≡ made_plan x time path 0o040000 mode uid gid [] false
-mkdir_made page x time path mode uid gid = made_as page x (op.Mkdir time path mode uid gid) path (nat_lt 0o7777 mode) false (or_none (is_bad path)) (simp (or_none) refl)
+mkdir_made page x time path mode uid gid = made_as page x (op.Mkdir time path mode uid gid) path (nat_lt 0o7777 mode) false (or_none (is_bad_path path)) (simp (or_none) refl)
 
 pub create_made : (page : ℕ) (x : Indexed) (time : ℕ) (path : List ℕ) (mode uid gid : ℕ) → planned_by page x (op.Create time path mode uid gid) ≡ made_plan x time path 0o100000 mode uid gid [] false
-create_made page x time path mode uid gid = made_as page x (op.Create time path mode uid gid) path (nat_lt 0o7777 mode) false (or_none (is_bad path)) (simp (or_none) refl)
+create_made page x time path mode uid gid = made_as page x (op.Create time path mode uid gid) path (nat_lt 0o7777 mode) false (or_none (is_bad_path path)) (simp (or_none) refl)
 
 pub symlink_made : (page : ℕ) (x : Indexed) (time : ℕ) (path link : List ℕ) (uid gid : ℕ)
     → planned_by page x (op.Symlink time path link uid gid) ≡ made_plan x time path 0o120000 0o777 uid gid link (is_bad_target (op.Symlink time path link uid gid))
 symlink_made page x time path link uid gid =
-    made_as page x (op.Symlink time path link uid gid) path false (is_bad_target (op.Symlink time path link uid gid)) (or_none (is_bad path)) (same (is_bad_target (op.Symlink time path link uid gid)))
+    made_as page x (op.Symlink time path link uid gid) path false (is_bad_target (op.Symlink time path link uid gid)) (or_none (is_bad_path path)) (same (is_bad_target (op.Symlink time path link uid gid)))
   where
     same : (bad : Bool) → tests_of x.tree (op.Symlink time path link uid gid) ≡ made_tests x.tree (is_long path) (above x.tree path) (number_there x.tree path) false (is_bad_target (op.Symlink time path link uid gid))
     same bad = simp (or_none) refl
 
-pub given_as : (r : Result (Vec Step Global) OpFault) (p q : Result (List Step) OpFault) → Gives r p → q ≡ p → Gives r q
-given_as r p q g e = subst (Gives r) (sym e) g
+pub given_as : (r : Result (Vec Step Global) OpFault) (p q : Result (List Step) OpFault) → GivesPlan r p → q ≡ p → GivesPlan r q
+given_as r p q g e = subst (GivesPlan r) (sym e) g
 
 -- ---- another name
 
@@ -245,23 +245,23 @@ pub rename_from : (page : ℕ) (x : Indexed) (time : ℕ) (old new : List ℕ) (
 rename_from page x time old new from to into dir left ino is_from is_to into_is e le e_left le_left ino_is =
     let same : parent x.tree new ≡ dir = ap number_or_none (sym is_to.above) ∙ sym e in
     let same_left : parent x.tree old ≡ left = ap number_or_none (sym is_from.above) ∙ sym e_left in
-    let same_ino : number_of x.tree old ≡ ino = ap (λ (n : Option ℕ). unwrap_or n 0) (sym is_from.number) ∙ sym ino_is in
+    let same_ino : number_or_zero x.tree old ≡ ino = ap (λ (n : Option ℕ). unwrap_or n 0) (sym is_from.number) ∙ sym ino_is in
     let same_into : into_itself_at x.tree (number_there x.tree old) new ≡ into = ap (λ (n : Option ℕ). into_itself_at x.tree n new) (sym is_from.number) ∙ sym into_is in
     record {
       is = planned_from page x (op.Rename time old new)
-          ∙ plan_same (list_any is_bad (paths (op.Rename time old new))) false (tests_of x.tree (op.Rename time old new)) (named_tests x.tree from.is_long from.above from.number to.is_long to.above to.number false into)
+          ∙ plan_same (list_any is_bad_path (paths (op.Rename time old new))) false (tests_of x.tree (op.Rename time old new)) (named_tests x.tree from.is_long from.above from.number to.is_long to.above to.number false into)
           (is_exhausted page x (op.Rename time old new)) (spent_by x dir left)
           (steps_of page x.tree (op.Rename time old new)) (step.SetName time dir to.last.now ino ∷ step.ClearName time left from.last.now ∷ [])
           (good_both old new is_from.good is_to.good)
           (rename_same x.tree old new time
           ∙ ap (λ b. named_tests x.tree (is_long old) (above x.tree old) (number_there x.tree old) (is_long new) (above x.tree new) (number_there x.tree new) false b) same_into
           ∙ named_sites x.tree old new from to false into is_from is_to)
-          (ap (λ p. list_any is_past (nodes_of x (step.SetName time p (last_name new) (number_of x.tree old) ∷ step.ClearName time (parent x.tree old) (last_name old) ∷ []))) same
-          ∙ ap (λ p. list_any is_past (nodes_of x (step.SetName time dir (last_name new) (number_of x.tree old) ∷ step.ClearName time p (last_name old) ∷ []))) same_left
+          (ap (λ p. list_any is_past (nodes_of x (step.SetName time p (last_name new) (number_or_zero x.tree old) ∷ step.ClearName time (parent x.tree old) (last_name old) ∷ []))) same
+          ∙ ap (λ p. list_any is_past (nodes_of x (step.SetName time dir (last_name new) (number_or_zero x.tree old) ∷ step.ClearName time p (last_name old) ∷ []))) same_left
           ∙ renamed_spent x dir left le le_left)
-          (ap (λ p. step.SetName time p (last_name new) (number_of x.tree old) ∷ step.ClearName time (parent x.tree old) (last_name old) ∷ []) same
-          ∙ ap (λ p. step.SetName time dir (last_name new) (number_of x.tree old) ∷ step.ClearName time p (last_name old) ∷ []) same_left
-          ∙ ap (λ l. step.SetName time dir l (number_of x.tree old) ∷ step.ClearName time left (last_name old) ∷ []) (sym is_to.last)
-          ∙ ap (λ l. step.SetName time dir to.last.now (number_of x.tree old) ∷ step.ClearName time left l ∷ []) (sym is_from.last)
+          (ap (λ p. step.SetName time p (last_name new) (number_or_zero x.tree old) ∷ step.ClearName time (parent x.tree old) (last_name old) ∷ []) same
+          ∙ ap (λ p. step.SetName time dir (last_name new) (number_or_zero x.tree old) ∷ step.ClearName time p (last_name old) ∷ []) same_left
+          ∙ ap (λ l. step.SetName time dir l (number_or_zero x.tree old) ∷ step.ClearName time left (last_name old) ∷ []) (sym is_to.last)
+          ∙ ap (λ l. step.SetName time dir to.last.now (number_or_zero x.tree old) ∷ step.ClearName time left l ∷ []) (sym is_from.last)
           ∙ ap (λ i. step.SetName time dir to.last.now i ∷ step.ClearName time left from.last.now ∷ []) same_ino);
     }

@@ -8,7 +8,7 @@ use Rattle.jmount.specs.Find.{path_names, walk}
 use Rattle.jmount.specs.Tree.{Outline}
 use Rattle.jmount.specs.declared.fault.FindFault.{FindFault}
 use Rattle.jsteps.specs.Site.{IsSite, IsSiteOf}
-use Rattle.jsteps.specs.Refusals.{is_bad}
+use Rattle.jsteps.specs.Refusals.{is_bad_path}
 use Rattle.jsteps.specs.Where.{all_but_last, last_of, named_there, names_in, names_above}
 use Rattle.jsteps.specs.declared.site.Site.{Site}
 
@@ -57,14 +57,14 @@ site_of_path t path names site is has =
       number = has.number ∙ ap (λ ns. named_there t (walk t (all_but_last ns) (Ok 1)) (last_of ns)) (sym same);
     }
 
-pub bad_path : (path : List ℕ) → path_names path ≡ None → is_bad path ≡ true
+pub bad_path : (path : List ℕ) → path_names path ≡ None → is_bad_path path ≡ true
 bad_path path is = ap (λ (o : Option (List (List ℕ))). length (unwrap_or o []) == 0) is
 
-bad_root : (path : List ℕ) (names : List (Bor (List ℕ))) → names ≡ [] → path_names path ≡ Some (map (λ n. n.now) names) → is_bad path ≡ true
+bad_root : (path : List ℕ) (names : List (Bor (List ℕ))) → names ≡ [] → path_names path ≡ Some (map (λ n. n.now) names) → is_bad_path path ≡ true
 bad_root path names none is = ap (λ (o : Option (List (List ℕ))). length (unwrap_or o []) == 0) is ∙ ap (λ (ns : List (Bor (List ℕ))). length (map (λ n. n.now) ns) == 0) none
 
 pub site_answer : (t : Outline) (path : List ℕ) (names : List (Bor (List ℕ))) (o : Option Site) → path_names path ≡ Some (map (λ n. n.now) names)
-    → MatchOption o (names ≡ []) (IsSite t (map (λ n. n.now) names)) → MatchOption o (is_bad path ≡ true) (IsSiteOf t path)
+    → MatchOption o (names ≡ []) (IsSite t (map (λ n. n.now) names)) → MatchOption o (is_bad_path path ≡ true) (IsSiteOf t path)
 site_answer t path names None is has = bad_root path names has is
 site_answer t path names (Some site) is has = site_of_path t path (map (λ n. n.now) names) site is has
 

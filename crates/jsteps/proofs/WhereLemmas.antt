@@ -13,8 +13,8 @@ use Rattle.jmount.proofs.PathLemmas.{walk-turn}
 use Rattle.jmount.proofs.PathNameLemmas.{path_names_exactly}
 use Rattle.jsteps.specs.Nodes.{Indexed}
 use Rattle.jsteps.specs.Laws.{IsConsistent}
-use Rattle.jsteps.specs.Refusals.{is_bad, is_long, meets_nothing, meets_other}
-use Rattle.jsteps.specs.Where.{last_of, names_in, names_above, last_name, above, number_or_none, parent, ends_in_directory, named_there, number_there, number_of, object_named, is_missing, met}
+use Rattle.jsteps.specs.Refusals.{is_bad_path, is_long, meets_nothing, meets_other}
+use Rattle.jsteps.specs.Where.{last_of, names_in, names_above, last_name, above, number_or_none, parent, ends_in_directory, named_there, number_there, number_or_zero, object_named, is_missing, met}
 use Rattle.jsteps.proofs.IndexLemmas.{with_some}
 
 -- ---- names
@@ -57,7 +57,7 @@ all_names path = at_most (path_names path) refl
     at_most None e = λ k d h. absurd (omega arith)
     at_most (Some names) e = ((path_names_exactly path names).0 e).1
 
-pub last_name_length : (path : List ℕ) → is_bad path ≡ false → is_long path ≡ false → HasLength (last_name path)
+pub last_name_length : (path : List ℕ) → is_bad_path path ≡ false → is_long path ≡ false → HasLength (last_name path)
 last_name_length path bad long =
     let some : 0 < length (names_in path) = some_length (names_in path) bad in
     record { some = last_is_name (names_in path) some (all_names path); most = last_is_short (names_in path) some long }
@@ -119,9 +119,9 @@ parent_is x path same found directory =
 
 -- an object that a path names
 pub record IsTarget (x : Indexed) (path : List ℕ) : Type 0 where
-  pub positive : 0 < number_of x.tree path
-  pub below : number_of x.tree path < x.tree.next
-  pub same : object x.tree (number_of x.tree path) ≡ object_named x.tree path
+  pub positive : 0 < number_or_zero x.tree path
+  pub below : number_or_zero x.tree path < x.tree.next
+  pub same : object x.tree (number_or_zero x.tree path) ≡ object_named x.tree path
   pub there : is_some (object_named x.tree path) ≡ true
 
 linked_there : (x : Indexed) → IsConsistent x → (r : Result ℕ FindFault) (name : List ℕ) (i : ℕ) → named_there x.tree r name ≡ Some i → (0 < i) × (i < x.tree.next)
@@ -136,7 +136,7 @@ pub target_is : (x : Indexed) (path : List ℕ) → IsConsistent x → is_some (
 target_is x path same there =
     with_some (number_there x.tree path) (entry_some x.tree (number_there x.tree path) there)
     (λ i e.
-    let is : number_of x.tree path ≡ i = ap (λ (o : Option ℕ). unwrap_or o 0) e in
+    let is : number_or_zero x.tree path ≡ i = ap (λ (o : Option ℕ). unwrap_or o 0) e in
     let linked = linked_there x same (above x.tree path) (last_name path) i e in
     record {
       positive = subst (λ i. 0 < i) (sym is) linked.0;

@@ -5,7 +5,7 @@ use Rattle.flashbase.specs.Ranges.{AreBytes, IsHalf, IsWord}
 use Rattle.jnode.specs.Writing.{canonical, Fits, is_writable}
 use Rattle.jnode.specs.declared.order.Endian.{Endian}
 use Rattle.jnode.specs.declared.node.NodeRef.{NodeRef}
-use Rattle.jmount.specs.Clash.{Clashes, IsClashAt}
+use Rattle.jmount.specs.Clash.{NodesClash, IsClashAt}
 use Rattle.jmount.specs.Mount.{Mount}
 use Rattle.jmount.specs.Mounts.{IsMountOf, plain_nodes}
 use Rattle.jmount.specs.Tree.{ObjectOf, State, outline, object, named, is_directory}
@@ -38,8 +38,8 @@ abbrev pub NewNodeIsNewer : Type 0
 NewNodeIsNewer = (ns : List NodeRef) (s : Step) → IsReady (index_of ns) s → top ns (owner (node_of (index_of ns) s)) < version_of (node_of (index_of ns) s)
 
 -- so it clashes with none of the nodes
-abbrev pub NewNodeDoesNotClash : Type 0
-NewNodeDoesNotClash = (ns : List NodeRef) (s : Step) (other : NodeRef) → IsReady (index_of ns) s → Contains ns other → Clashes other (node_of (index_of ns) s) → ⊥
+abbrev pub StepDoesNotClash : Type 0
+StepDoesNotClash = (ns : List NodeRef) (s : Step) (other : NodeRef) → IsReady (index_of ns) s → Contains ns other → NodesClash other (node_of (index_of ns) s) → ⊥
 
 -- ---- steps that follow one another
 
@@ -53,7 +53,7 @@ NodesAreSteps = (ns : List NodeRef) (steps : List Step) → AllReady (index_of n
 
 -- no two of these nodes clash
 abbrev pub NoneClash : List NodeRef → Type 0
-NoneClash ns = (a b : NodeRef) → Contains ns a → Contains ns b → Clashes a b → ⊥
+NoneClash ns = (a b : NodeRef) → Contains ns a → Contains ns b → NodesClash a b → ⊥
 
 abbrev pub NewNodesDoNotClash : Type 0
 NewNodesDoNotClash = (ns : List NodeRef) (steps : List Step) → AllReady (index_of ns) steps → NoneClash ns → NoneClash (ns ++ nodes_of (index_of ns) steps)

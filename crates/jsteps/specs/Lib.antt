@@ -6,8 +6,8 @@ pub mod Where
 pub mod Planning
 pub mod Refusals
 pub mod Codes
-pub mod Held
+pub mod Stored
 pub mod Laws
-pub mod Rows
+pub mod Examples
 pub mod Site
 pub mod Tests

@@ -2,7 +2,7 @@
 use Rattle.std.specs.Prelude.{ℕ, ◌+◌, ◌-◌, ◌*◌, ◌/◌, ◌==◌, ◌≤◌, max, min, nat_lt, List, [], ◌∷◌, ◌++◌, length, take, drop, slice_range, flat_map, option_map, unwrap_or, if◌then◌else◌}
 use Rattle.flashbase.specs.Lists.{below}
 use Rattle.jmount.specs.Tree.{Outline}
-use Rattle.jsteps.specs.Where.{parent, last_name, number_of, object_named}
+use Rattle.jsteps.specs.Where.{parent, last_name, number_or_zero, object_named}
 use Rattle.jsteps.specs.declared.op.Op.{Op}
 use Rattle.jsteps.specs.declared.op.Op.TheVariants as op
 use Rattle.jsteps.specs.declared.step.Step.{Step}
@@ -67,12 +67,12 @@ abbrev pub steps_of : ℕ → Outline → Op → List Step
 steps_of page t (op.Mkdir time path mode uid gid) = make_steps t time path (0o040000 + mode) uid gid []
 steps_of page t (op.Create time path mode uid gid) = make_steps t time path (0o100000 + mode) uid gid []
 steps_of page t (op.Symlink time path link uid gid) = make_steps t time path 0o120777 uid gid link
-steps_of page t (op.Write time path offset bytes) = write_steps page time (number_of t path) (size_named t path) offset bytes
-steps_of page t (op.Truncate time path size) = resize_steps time (number_of t path) (size_named t path) size
-steps_of page t (op.Link time old new) = step.SetName time (parent t new) (last_name new) (number_of t old) ∷ []
+steps_of page t (op.Write time path offset bytes) = write_steps page time (number_or_zero t path) (size_named t path) offset bytes
+steps_of page t (op.Truncate time path size) = resize_steps time (number_or_zero t path) (size_named t path) size
+steps_of page t (op.Link time old new) = step.SetName time (parent t new) (last_name new) (number_or_zero t old) ∷ []
 steps_of page t (op.Remove time path) = step.ClearName time (parent t path) (last_name path) ∷ []
 steps_of page t (op.Rename time old new) =
-    step.SetName time (parent t new) (last_name new) (number_of t old) ∷ step.ClearName time (parent t old) (last_name old) ∷ []
+    step.SetName time (parent t new) (last_name new) (number_or_zero t old) ∷ step.ClearName time (parent t old) (last_name old) ∷ []
 
 -- No plan has more: two for each 4,096 bytes up to the greatest size of a file, and zeros.
 abbrev pub most_steps : ℕ

@@ -5,19 +5,19 @@ ghost use Rattle.std.specs.List.{list_any};
 ghost use Rattle.jmount.specs.Shown.{top_at};
 ghost use Rattle.jsteps.specs.Planning.{IsPage, most_steps};
 ghost use Rattle.jsteps.specs.Refusals.{planned, planned_by, greatest_size};
-ghost use Rattle.jsteps.specs.Tests.{Gives, made_plan, full_by, spent_by, into_itself_at};
+ghost use Rattle.jsteps.specs.Tests.{GivesPlan, made_plan, full_by, spent_by, into_itself_at};
 ghost use Rattle.jsteps.specs.declared.fault.OpFault.TheVariants as refused;
 ghost use Rattle.jsteps.specs.declared.op.Op.TheVariants as op;
 ghost use Rattle.jsteps.specs.declared.step.Step.TheVariants as step;
 
 use crate::fault::OpFault;
-use crate::held::DIRECTORY;
 use crate::index::Index;
 use crate::op::Op;
 use crate::puts::{PLAIN_PAGE, push_resize, push_write};
 use crate::refusal::{tests_of_file, tests_of_name, tests_of_new, tests_of_removed};
 use crate::site::{end_of, look_up, meets_above};
 use crate::step::Step;
+use crate::stored::DIRECTORY;
 use flashbase::Part;
 use std::alloc::{AllocError, Global};
 
@@ -100,7 +100,7 @@ fn remove<'a>(
     time: u32,
     path: &'a [u8],
 ) -> Result<Vec<Step<'a>>, OpFault>
-    ensures { (page : ℕ) → Gives result (planned_by page index.now (op.Remove time path.now)) }
+    ensures { (page : ℕ) → GivesPlan result (planned_by page index.now (op.Remove time path.now)) }
 {
     let Some(site) = look_up(alloc, index, path)? else {
         return Err(OpFault::BadPath);
@@ -123,7 +123,7 @@ fn truncate<'a>(
     path: &'a [u8],
     size: u32,
 ) -> Result<Vec<Step<'a>>, OpFault>
-    ensures { (page : ℕ) → Gives result (planned_by page index.now (op.Truncate time path.now size)) }
+    ensures { (page : ℕ) → GivesPlan result (planned_by page index.now (op.Truncate time path.now size)) }
 {
     let Some(site) = look_up(alloc, index, path)? else {
         return Err(OpFault::BadPath);
@@ -160,7 +160,7 @@ fn write<'a>(
     bytes: &'a [u8],
 ) -> Result<Vec<Step<'a>>, OpFault>
     requires { IsPage page }
-    ensures { Gives result (planned_by page index.now (op.Write time path.now offset bytes.now)) }
+    ensures { GivesPlan result (planned_by page index.now (op.Write time path.now offset bytes.now)) }
 {
     let Some(site) = look_up(alloc, index, path)? else {
         return Err(OpFault::BadPath);
@@ -187,7 +187,7 @@ fn link<'a>(
     old: &'a [u8],
     new: &'a [u8],
 ) -> Result<Vec<Step<'a>>, OpFault>
-    ensures { (page : ℕ) → Gives result (planned_by page index.now (op.Link time old.now new.now)) }
+    ensures { (page : ℕ) → GivesPlan result (planned_by page index.now (op.Link time old.now new.now)) }
 {
     let Some(from) = look_up(alloc, index, old)? else {
         return Err(OpFault::BadPath);
@@ -238,7 +238,7 @@ fn rename<'a>(
     old: &'a [u8],
     new: &'a [u8],
 ) -> Result<Vec<Step<'a>>, OpFault>
-    ensures { (page : ℕ) → Gives result (planned_by page index.now (op.Rename time old.now new.now)) }
+    ensures { (page : ℕ) → GivesPlan result (planned_by page index.now (op.Rename time old.now new.now)) }
 {
     let Some(from) = look_up(alloc, index, old)? else {
         return Err(OpFault::BadPath);
@@ -275,7 +275,7 @@ fn make<'a>(
     is_bad_target: bool,
 ) -> Result<Vec<Step<'a>>, OpFault>
     requires { kind ≤ 0o170000 }
-    ensures { Gives result (made_plan index.now time path.now kind mode uid gid target.now is_bad_target) }
+    ensures { GivesPlan result (made_plan index.now time path.now kind mode uid gid target.now is_bad_target) }
 {
     let Some(site) = look_up(alloc, index, path)? else {
         return Err(OpFault::BadPath);
@@ -310,7 +310,7 @@ fn mkdir<'a>(
     uid: u16,
     gid: u16,
 ) -> Result<Vec<Step<'a>>, OpFault>
-    ensures { (page : ℕ) → Gives result (planned_by page index.now (op.Mkdir time path.now mode uid gid)) }
+    ensures { (page : ℕ) → GivesPlan result (planned_by page index.now (op.Mkdir time path.now mode uid gid)) }
 {
     let target = b"".as_slice();
     make(
@@ -328,7 +328,7 @@ fn create<'a>(
     uid: u16,
     gid: u16,
 ) -> Result<Vec<Step<'a>>, OpFault>
-    ensures { (page : ℕ) → Gives result (planned_by page index.now (op.Create time path.now mode uid gid)) }
+    ensures { (page : ℕ) → GivesPlan result (planned_by page index.now (op.Create time path.now mode uid gid)) }
 {
     let target = b"".as_slice();
     make(
@@ -353,7 +353,7 @@ fn symlink<'a>(
     uid: u16,
     gid: u16,
 ) -> Result<Vec<Step<'a>>, OpFault>
-    ensures { (page : ℕ) → Gives result (planned_by page index.now (op.Symlink time path.now target.now uid gid)) }
+    ensures { (page : ℕ) → GivesPlan result (planned_by page index.now (op.Symlink time path.now target.now uid gid)) }
 {
     let is_bad = is_bad_target(target);
     make(
@@ -369,7 +369,7 @@ fn plan_paged<'a>(
     op: &'a Op<'_>,
 ) -> Result<Vec<Step<'a>>, OpFault>
     requires { IsPage page }
-    ensures { Gives result (planned_by page index.now op.now) }
+    ensures { GivesPlan result (planned_by page index.now op.now) }
 {
     match op {
         Op::Mkdir {

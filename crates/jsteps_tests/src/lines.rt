@@ -75,7 +75,7 @@ pub fn op_of(line: &str) -> Option<Op<'_>> {
 }
 
 fn text_of<'a>(part: &Part<'a>) -> &'a str {
-    str::from_utf8(part.held()).unwrap_or("?")
+    str::from_utf8(part.present()).unwrap_or("?")
 }
 
 /// Appends a step.

@@ -1,33 +1,33 @@
 use Rattle.std.proofs.Common.{refl}
 use Rattle.clap.proofs.OnLiterals.{clap_on_literals}
-use Rattle.jcommand.specs.Asked.{asked, asked_for}
+use Rattle.jcommand.specs.Parsed.{parsed, parsed_from}
 use Rattle.jcommand.specs.Commands.{program}
 use Rattle.jcommand.proofs.laws.known_refusals.Goals as goal
 
 pub returns-clause-help : goal.returns-clause-help
-unfolding clap_on_literals program asked asked_for
+unfolding clap_on_literals program parsed parsed_from
 returns-clause-help c = refl
 
 pub returns-clause-version : goal.returns-clause-version
-unfolding clap_on_literals program asked asked_for
+unfolding clap_on_literals program parsed parsed_from
 returns-clause-version c = refl
 
-pub returns-clause-no_words : goal.returns-clause-no_words
-unfolding clap_on_literals program asked asked_for
-returns-clause-no_words c = refl
+pub returns-clause-no_args : goal.returns-clause-no_args
+unfolding clap_on_literals program parsed parsed_from
+returns-clause-no_args c = refl
 
 pub returns-clause-no_image : goal.returns-clause-no_image
-unfolding clap_on_literals program asked asked_for
+unfolding clap_on_literals program parsed parsed_from
 returns-clause-no_image c = refl
 
 pub returns-clause-not_of_ls : goal.returns-clause-not_of_ls
-unfolding clap_on_literals program asked asked_for
+unfolding clap_on_literals program parsed parsed_from
 returns-clause-not_of_ls c = refl
 
 pub returns-clause-no_path : goal.returns-clause-no_path
-unfolding clap_on_literals program asked asked_for
+unfolding clap_on_literals program parsed parsed_from
 returns-clause-no_path c = refl
 
 pub returns-clause-unreadable : goal.returns-clause-unreadable
-unfolding clap_on_literals program asked asked_for
+unfolding clap_on_literals program parsed parsed_from
 returns-clause-unreadable c = refl

@@ -1,21 +1,21 @@
 use Rattle.std.proofs.Common.{refl}
 use Rattle.clap.proofs.OnLiterals.{clap_on_literals}
-use Rattle.jcommand.specs.Asked.{asked, asked_for}
+use Rattle.jcommand.specs.Parsed.{parsed, parsed_from}
 use Rattle.jcommand.specs.Commands.{program}
 use Rattle.jcommand.proofs.laws.known_requests.Goals as goal
 
 pub returns-clause-defaults : goal.returns-clause-defaults
-unfolding clap_on_literals program asked asked_for
+unfolding clap_on_literals program parsed parsed_from
 returns-clause-defaults c = refl
 
 pub returns-clause-given : goal.returns-clause-given
-unfolding clap_on_literals program asked asked_for
+unfolding clap_on_literals program parsed parsed_from
 returns-clause-given c = refl
 
 pub returns-clause-tree : goal.returns-clause-tree
-unfolding clap_on_literals program asked asked_for
+unfolding clap_on_literals program parsed parsed_from
 returns-clause-tree c = refl
 
 pub returns-clause-content : goal.returns-clause-content
-unfolding clap_on_literals program asked asked_for
+unfolding clap_on_literals program parsed parsed_from
 returns-clause-content c = refl

@@ -1,5 +1,5 @@
 use Rattle.jfrag.proofs.OverlaysLemmas.{one_more_piece, again_changes_nothing, empty_changes_nothing}
-use Rattle.jfrag.proofs.Painting.{idle_is_not_taken}
+use Rattle.jfrag.proofs.Overwriting.{idle_is_not_taken}
 use Rattle.jfrag.proofs.laws.piece_laws.Goals as goal
 
 pub returns : goal.returns

@@ -2,17 +2,17 @@ use Rattle.std.proofs.Common.{rules, ◌≡◌, ℕ, ◌∙◌, ap, List, map, S
 use Rattle.std.specs.Ordering.{nat_cmp, eq_by_cmp}
 use Rattle.std.specs.BTreeMap.{get}
 use Rattle.jnode.specs.declared.node.InodeNode.{InodeNode}
-use Rattle.jname.proofs.HeldLemmas.{err_map, err_always}
+use Rattle.jname.proofs.ContentsByNameLemmas.{err_map, err_always}
 use Rattle.jname.proofs.MemberLemmas.{map-set_value}
 use Rattle.jmount.specs.declared.versions.Versions.{Versions}
-use Rattle.jmount.specs.Inodes.{ByNumber, nodes_in}
-use Rattle.jmount.proofs.InodesLemmas.{nodes_of-same, nodes_of-unchanged}
+use Rattle.jmount.specs.Inodes.{NodesByNumber, nodes_in}
+use Rattle.jmount.proofs.InodesLemmas.{nodes_of_numbers-same, nodes_of_numbers-unchanged}
 use Rattle.jmount.proofs.inodes.add_node.Goals as goal
 
 pub returns-in-Some-clause-err : goal.returns-in-Some-clause-err
 returns-in-Some-clause-err c =
     let was : get nat_cmp c.args.numbers.now c.args.node.ino ≡ Some c.in-Some.versions.now = search rules in
-    err_map c.add.result (λ h. nodes_of-same c.args.numbers.now (c.get_mut.follows.lender c.add.new.self)
+    err_map c.add.result (λ h. nodes_of_numbers-same c.args.numbers.now (c.get_mut.follows.lender c.add.new.self)
     (ap (λ (es : List (ℕ × Versions)). map (λ e. nodes_in e.1) es) (c.get_mut.follows.holds c.add.new.self).0
     ∙ map-set_value (λ (e : ℕ × Versions). nodes_in e.1) (eq_by_cmp nat_cmp c.args.node.ino) c.args.numbers.now.entries c.in-Some.versions.now c.add.new.self was
     (λ k. ap (λ (es : List (ℕ × InodeNode)). map (λ e. e.1) es) h)))
@@ -20,7 +20,7 @@ returns-in-Some-clause-err c =
 
 pub returns-in_err-insert-clause-err : goal.returns-in_err-insert-clause-err
 returns-in_err-insert-clause-err c =
-    let kept : c.get_mut.follows.lender-at-none ≡ c.args.numbers.now = search rules in
+    let unchanged : c.get_mut.follows.lender-at-none ≡ c.args.numbers.now = search rules in
     let same : c.insert.new.self.entries ≡ c.get_mut.follows.lender-at-none.entries = c.in_err-insert.ensures.err in
     err_always c.from_residual.result
-    (nodes_of-unchanged c.args.numbers.now c.insert.new.self (same ∙ ap (λ (m : ByNumber). m.entries) kept))
+    (nodes_of_numbers-unchanged c.args.numbers.now c.insert.new.self (same ∙ ap (λ (m : NodesByNumber). m.entries) unchanged))

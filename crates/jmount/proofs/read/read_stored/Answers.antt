@@ -3,17 +3,17 @@ use Rattle.std.proofs.lemmas.List.{length-take}
 use Rattle.flashbase.specs.Lists.{each_below}
 use Rattle.flashbase.proofs.ListLemmas.{length-each_below}
 use Rattle.jfrag.specs.Overlays.{byte_at}
-use Rattle.jmount.specs.Stored.{stored_object, stands_in}
+use Rattle.jmount.specs.Stored.{stored_object, visible_in}
 use Rattle.jmount.specs.Shown.{bytes_if}
-use Rattle.jmount.proofs.ReadLemmas.{part-of_each, bytes-held}
+use Rattle.jmount.proofs.ReadLemmas.{part-of_each, bytes-stored}
 use Rattle.jmount.proofs.read.read_stored.Goals as goal
 
 pub returns-clause-count : goal.returns-clause-count
 returns-clause-count c =
     let stored = c.args.stored.now in
     let has = sym c.has_bytes.ensures ∙ c.if-not-has_bytes.false in
-    let held : length (bytes_if (Some (stored_object stored))) ≡ stored.size =
-    ap length (bytes-held (stored_object stored) has) ∙ length-each_below stored.size (λ place. byte_at (stands_in stored.bytes place)) in
+    let stored_len : length (bytes_if (Some (stored_object stored))) ≡ stored.size =
+    ap length (bytes-stored (stored_object stored) has) ∙ length-each_below stored.size (λ place. byte_at (visible_in stored.bytes place)) in
     let left = c.saturating_sub-left.ensures in
     let size = c.from.ensures in
     let count = c.min-count.ensures in
@@ -25,7 +25,7 @@ returns-clause-bytes c =
     let offset = c.args.offset in
     let count = c.min-count.result in
     let out = c.args.out.now in
-    let at = λ (place : ℕ). byte_at (stands_in stored.bytes place) in
+    let at = λ (place : ℕ). byte_at (visible_in stored.bytes place) in
     let has = sym c.has_bytes.ensures ∙ c.if-not-has_bytes.false in
     let left = c.saturating_sub-left.ensures in
     let size = c.from.ensures in
@@ -35,4 +35,4 @@ returns-clause-bytes c =
     let read : c.read_at.new.out ≡ each_below (length (take count out)) (λ k. at (offset + k)) = c.read_at.ensures in
     ap (λ xs. xs ++ drop count out)
     (read ∙ ap (λ n. each_below n (λ k. at (offset + k))) room ∙ sym (part-of_each stored.size offset count at fits)
-    ∙ ap (λ bytes. take count (drop offset bytes)) (sym (bytes-held (stored_object stored) has)))
+    ∙ ap (λ bytes. take count (drop offset bytes)) (sym (bytes-stored (stored_object stored) has)))

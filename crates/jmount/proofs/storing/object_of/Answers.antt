@@ -5,9 +5,9 @@ use Rattle.jfrag.specs.declared.piece.Piece.{Piece}
 use Rattle.jfrag.specs.Pieces.{end_of}
 use Rattle.jfrag.specs.Overlays.{IsHighestAt}
 use Rattle.jmount.specs.Inodes.{nodes_in}
-use Rattle.jmount.specs.Stored.{stands_in}
+use Rattle.jmount.specs.Stored.{visible_in}
 use Rattle.jmount.specs.StateOf.{piece_of, object_by, with_bytes}
-use Rattle.jmount.proofs.StoringLemmas.{latest_is, content-stands}
+use Rattle.jmount.proofs.StoringLemmas.{latest_is, content-visible}
 use Rattle.jmount.proofs.storing.object_of.Goals as goal
 
 pub overlay-requires : goal.overlay-requires
@@ -21,9 +21,9 @@ overlay-requires c κs =
 pub returns : goal.returns
 returns c =
     let pieces : c.deref.result.now ≡ map piece_of (nodes_in c.args.versions.now) = c.deref.ensures.value ∙ c.in_ok-pieces.ensures in
-    let highest : (place : ℕ) → IsHighestAt (map piece_of (nodes_in c.args.versions.now)) place (stands_in c.in_ok-bytes.bytes place) =
-    λ place. subst (λ (ps : List Piece). IsHighestAt ps place (stands_in c.in_ok-bytes.bytes place)) pieces (c.in_ok-bytes.ensures.highest place) in
+    let highest : (place : ℕ) → IsHighestAt (map piece_of (nodes_in c.args.versions.now)) place (visible_in c.in_ok-bytes.bytes place) =
+    λ place. subst (λ (ps : List Piece). IsHighestAt ps place (visible_in c.in_ok-bytes.bytes place)) pieces (c.in_ok-bytes.ensures.highest place) in
     let latest = c.args.versions.now.newest in
-    let body = content-stands c.args.versions.now c.requires.by_version (stands_in c.in_ok-bytes.bytes) highest latest.isize in
+    let body = content-visible c.args.versions.now c.requires.by_version (visible_in c.in_ok-bytes.bytes) highest latest.isize in
     ap (λ bytes. Some (with_bytes latest bytes, latest.version)) body
     ∙ ap (option_map (λ node. (object_by (nodes_in c.args.versions.now) node, node.version))) (sym (latest_is c.args.versions.now c.requires.by_version))

@@ -1,4 +1,4 @@
-use Rattle.jscan.proofs.StretchLaws.{nodes_are_seen, names_are_short}
+use Rattle.jscan.proofs.ExtentLaws.{nodes_are_seen, names_are_short}
 use Rattle.jscan.proofs.laws.nodes_are_seen.Goals as goal
 
 pub returns-clause-seen : goal.returns-clause-seen

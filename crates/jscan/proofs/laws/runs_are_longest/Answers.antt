@@ -1,4 +1,4 @@
-use Rattle.jscan.proofs.StretchLaws.{runs_are_longest}
+use Rattle.jscan.proofs.ExtentLaws.{runs_are_longest}
 use Rattle.jscan.proofs.laws.runs_are_longest.Goals as goal
 
 pub returns : goal.returns

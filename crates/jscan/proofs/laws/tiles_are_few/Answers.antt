@@ -1,4 +1,4 @@
-use Rattle.jscan.proofs.StretchLaws as laws
+use Rattle.jscan.proofs.ExtentLaws as laws
 use Rattle.jscan.proofs.laws.tiles_are_few.Goals as goal
 
 pub returns : goal.returns

@@ -1,6 +1,6 @@
 use Rattle.std.proofs.Common.{◌≡◌, Some, rules}
 use Rattle.jscan.specs.Scans.{first_refused}
-use Rattle.jscan.proofs.SurveyLemmas.{scans_refused}
+use Rattle.jscan.proofs.PartialScanLemmas.{scans_refused}
 use Rattle.jscan.proofs.scanning.scan.Goals as goal
 
 pub returns-in-Some : goal.returns-in-Some

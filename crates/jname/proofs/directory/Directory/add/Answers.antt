@@ -2,7 +2,7 @@ use Rattle.std.proofs.Common.{rules, ◌≡◌}
 use Rattle.std.specs.Prelude.{max}
 use Rattle.std.specs.Cow.{cow_slice_items}
 use Rattle.jname.specs.NameMaps.{names_in}
-use Rattle.jname.proofs.HeldLemmas.{bound_of_one_more, reached_by_one_more, bound_the_same, reached_the_same}
+use Rattle.jname.proofs.ContentsByNameLemmas.{bound_of_one_more, reached_by_one_more, bound_the_same, reached_the_same}
 use Rattle.jname.proofs.directory.Directory.add.Goals as goal
 
 pub invariant_of-self : goal.invariant_of-self

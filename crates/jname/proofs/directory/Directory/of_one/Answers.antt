@@ -1,7 +1,7 @@
 use Rattle.std.proofs.Common.{[]}
 use Rattle.std.specs.Cow.{cow_slice_items}
 use Rattle.jname.specs.NameMaps.{names_in}
-use Rattle.jname.proofs.HeldLemmas.{reached_there}
+use Rattle.jname.proofs.ContentsByNameLemmas.{reached_there}
 use Rattle.jname.proofs.NameMapLemmas.{first_more, bound_of_first}
 use Rattle.jname.proofs.directory.Directory.of_one.Goals as goal
 

@@ -7,4 +7,4 @@ abbrev pub invariant-loop-addr : goal.invariant-loop-addr
 invariant-loop-addr g l = sightings_left l.self ≡ sightings_left l.initial.self
 
 abbrev pub decreases-loop-addr : goal.decreases-loop-addr
-decreases-loop-addr g l = length (image_left l.self.stretches)
+decreases-loop-addr g l = length (image_left l.self.extents)

@@ -1,0 +1,123 @@
+-- What a command line asks for, by clap's matches of its words.
+use Rattle.std.specs.Prelude.{◌≡◌, ◌≢◌, ◌⊎◌, ◌+◌, ◌-◌, ◌*◌, ◌^◌, ◌&&◌, ℕ, Bool, false, List, [], ◌∷◌, Option, Some, None, if◌then◌else◌, nat_lt, codes, option_and_then}
+use Rattle.std.specs.Char.{is_ascii_digit}
+use Rattle.std.specs.Str.{bytes_eq}
+use Rattle.clap.specs.Words.{Row, Text, IsAmong, fault_of, first_of, subcommand_of, takes}
+use Rattle.clap.specs.declared.error.ErrorKind.{ErrorKind}
+use Rattle.clap.specs.declared.error.ErrorKind.TheVariants.{DisplayHelp, DisplayVersion}
+use Rattle.jnode.specs.declared.order.Endian.{Endian}
+use Rattle.jnode.specs.declared.order.Endian.TheVariants.{Little, Big}
+use Rattle.jcommand.specs.Commands.{program}
+use Rattle.jcommand.specs.declared.parsed.Options.{Options}
+use Rattle.jcommand.specs.declared.parsed.Request.{Request}
+use Rattle.jcommand.specs.declared.parsed.Request.TheVariants as request
+
+-- ---- values
+
+-- a number below 2 ^ 32 in decimal digits, of which n stands for those before
+abbrev pub digits_from : ℕ → Text → Option ℕ
+digits_from n [] = Some n
+digits_from n (b ∷ bs) = if is_ascii_digit b && nat_lt (10 * n + (b - 48)) (2 ^ 32) then digits_from (10 * n + (b - 48)) bs else None
+
+abbrev pub number_of : Text → Option ℕ
+number_of [] = None
+number_of (b ∷ bs) = digits_from 0 (b ∷ bs)
+
+abbrev pub endian_of : Text → Option Endian
+endian_of text = if bytes_eq text (codes "little") then Some Little else (if bytes_eq text (codes "big") then Some Big else None)
+
+abbrev pub number_option : Text → List Row → Option ℕ
+number_option id rows = option_and_then number_of (first_of id rows)
+
+-- ---- a request, without where its texts lie
+
+pub data Parsed : Type 0 where
+  ScanParsed : Options → Text → Parsed
+  CheckParsed : Options → Text → Parsed
+  ListParsed : Options → Text → Parsed
+  CatParsed : Options → Text → Text → Parsed
+
+abbrev pub view : Request → Parsed
+view (request.Scan options image) = ScanParsed options image.now
+view (request.Check options image) = CheckParsed options image.now
+view (request.List options image) = ListParsed options image.now
+view (request.Cat options image path) = CatParsed options image.now path.now
+
+abbrev pub options_of : Request → Options
+options_of (request.Scan options image) = options
+options_of (request.Check options image) = options
+options_of (request.List options image) = options
+options_of (request.Cat options image path) = options
+
+-- ---- by the rows of the subcommand's matches
+
+infixl 10 ◌>>=◌
+abbrev pub ◌>>=◌ : {A B : Type 0} → Option A → (A → Option B) → Option B
+(Some x) >>= f = f x
+None >>= f = None
+
+abbrev pub options_in : List Row → Option Options
+options_in rows = number_option (codes "block") rows >>= λ block.
+    (first_of (codes "endian") rows >>= endian_of) >>= λ endian.
+    Some (record { geometry = record { block = block }; endian = endian })
+
+-- the options and the image that each subcommand takes
+abbrev pub image_in : List Row → Option (Options × Text)
+image_in rows = options_in rows >>= λ options. first_of (codes "IMAGE") rows >>= λ image. Some (options, image)
+
+-- a flag that is given
+abbrev pub is_given : Option Text → Bool
+is_given (Some text) = bytes_eq text (codes "true")
+is_given None = false
+
+abbrev pub check_in : List Row → Option Parsed
+check_in rows = image_in rows >>= λ p.
+    Some (if is_given (first_of (codes "scan") rows) then ScanParsed p.0 p.1 else CheckParsed p.0 p.1)
+
+abbrev pub ls_in : List Row → Option Parsed
+ls_in rows = image_in rows >>= λ p. Some (ListParsed p.0 p.1)
+
+abbrev pub cat_in : List Row → Option Parsed
+cat_in rows = image_in rows >>= λ p. first_of (codes "PATH") rows >>= λ path. Some (CatParsed p.0 p.1 path)
+
+-- what the subcommand of this name asks for, with these rows; None where it is no subcommand or a value can't be read
+unfoldable pub parsed : Text → List Row → Option Parsed
+parsed name rows =
+    if bytes_eq name (codes "check") then check_in rows
+    else if bytes_eq name (codes "ls") then ls_in rows
+    else if bytes_eq name (codes "cat") then cat_in rows
+    else None
+
+abbrev pub parsed_by : Option (Text × List Row) → Option Parsed
+parsed_by (Some p) = parsed p.0 p.1
+parsed_by None = None
+
+-- what the words ask for, by clap's matches of them
+unfoldable pub parsed_from : List Text → Option Parsed
+parsed_from args = parsed_by (subcommand_of program args)
+
+-- ---- words that ask for nothing
+
+-- clap takes the words
+unfoldable pub is_taken : List Text → Bool
+is_taken args = takes program args
+
+-- clap has nothing against the words, and does not answer them by help
+unfoldable pub IsFaultless : List Text → Type 0
+IsFaultless args = fault_of program args ≡ []
+
+-- clap answers by what it knows of the program
+abbrev pub IsHelpKind : ErrorKind → Type 0
+IsHelpKind kind = (kind ≡ DisplayHelp) ⊎ (kind ≡ DisplayVersion)
+
+-- clap answers the words by help, or by the version
+unfoldable pub IsHelpRequested : List Text → Type 0
+IsHelpRequested args = (kind : ErrorKind) × IsHelpKind kind × IsAmong kind (fault_of program args)
+
+-- clap refuses the words for another reason
+unfoldable pub IsRefusedByClap : List Text → Type 0
+IsRefusedByClap args = (kind : ErrorKind) × (kind ≢ DisplayHelp) × (kind ≢ DisplayVersion) × IsAmong kind (fault_of program args)
+
+-- clap has nothing against the words, but a value can't be read
+unfoldable pub IsUnreadable : List Text → Type 0
+IsUnreadable args = (fault_of program args ≡ []) × (parsed_from args ≡ None)

@@ -1,0 +1,173 @@
+//! What the matches of the program's command line ask for.
+ghost use Rattle.std.specs.Prelude.{◌≡◌, option_map};
+ghost use Rattle.clap.specs.Words.{found_of, rows_of, first_of};
+ghost use Rattle.jcommand.specs.Parsed.{number_of, endian_of, number_option, options_in, image_in, is_given, check_in, ls_in, cat_in, parsed, options_of, view};
+
+use clap::ArgMatches;
+use jnode::Endian;
+use jscan::Geometry;
+
+/// What each subcommand is given.
+#[derive(Clone, Copy)]
+pub struct Options {
+    pub geometry: Geometry,
+    pub endian: Endian,
+}
+
+/// A subcommand with its values.
+#[derive(Clone, Copy)]
+pub enum Request<'a> {
+    /// `check --scan`: the tiles of the image and what is found in them.
+    Scan {
+        options: Options,
+        image: &'a str,
+    },
+    /// `check`: the same, and whether the image mounts.
+    Check {
+        options: Options,
+        image: &'a str,
+    },
+    /// `ls`: a line for each object of the tree.
+    List {
+        options: Options,
+        image: &'a str,
+    },
+    /// `cat`: the content of a file.
+    Cat {
+        options: Options,
+        image: &'a str,
+        path: &'a str,
+    },
+}
+
+impl Request<'_> {
+    /// What each subcommand is given.
+    pub fn options(&self) -> Options
+        ensures { result ≡ options_of self.now }
+    {
+        match *self {
+            Request::Scan { options, .. }
+            | Request::Check { options, .. }
+            | Request::List { options, .. }
+            | Request::Cat { options, .. } => options,
+        }
+    }
+}
+
+/// A number below 2^32 in decimal digits.
+pub(crate) fn number(text: &str) -> Option<u32>
+    ensures { result ≡ number_of text.now }
+{
+    if text.is_empty() {
+        return None;
+    }
+    let mut n = 0u64;
+    for byte in text.as_bytes() {
+        if !byte.is_ascii_digit() {
+            return None;
+        }
+        let more = 10 * n + u64::from(*byte - b'0');
+        if more >= 0x1_0000_0000 {
+            return None;
+        }
+        n = more;
+    }
+    Some(n as u32)
+}
+
+/// A byte order by its name.
+pub(crate) fn endian(text: &str) -> Option<Endian>
+    ensures { result ≡ endian_of text.now }
+{
+    match text {
+        "little" => Some(Endian::Little),
+        "big" => Some(Endian::Big),
+        _ => None,
+    }
+}
+
+/// The value of an option or a word.
+pub(crate) fn text_at<'a>(found: &ArgMatches<'a>, id: &str) -> Option<&'a str>
+    ensures { option_map (λ s. s.now) result ≡ first_of id.now (rows_of (found_of found.now)) }
+{
+    found.get_str(id)
+}
+
+fn number_at(found: &ArgMatches<'_>, id: &str) -> Option<u32>
+    ensures { result ≡ number_option id.now (rows_of (found_of found.now)) }
+{
+    number(text_at(found, id)?)
+}
+
+fn options_at(found: &ArgMatches<'_>) -> Option<Options>
+    ensures { result ≡ options_in (rows_of (found_of found.now)) }
+{
+    let block = number_at(found, "block")?;
+    let endian = endian(text_at(found, "endian")?)?;
+    Some(Options {
+        geometry: Geometry { block },
+        endian,
+    })
+}
+
+/// The options and the image that each subcommand takes.
+fn image_at<'a>(found: &ArgMatches<'a>) -> Option<(Options, &'a str)>
+    ensures { option_map (λ p. (p.0, p.1.now)) result ≡ image_in (rows_of (found_of found.now)) }
+{
+    let options = options_at(found)?;
+    let image = text_at(found, "IMAGE")?;
+    Some((options, image))
+}
+
+/// Whether a flag is given.
+fn is_given(found: &ArgMatches<'_>, id: &str) -> bool
+    ensures { result ≡ is_given (first_of id.now (rows_of (found_of found.now))) }
+{
+    match text_at(found, id) {
+        Some(text) => text == "true",
+        None => false,
+    }
+}
+
+fn check_at<'a>(found: &ArgMatches<'a>) -> Option<Request<'a>>
+    ensures { option_map view result ≡ check_in (rows_of (found_of found.now)) }
+{
+    let (options, image) = image_at(found)?;
+    if is_given(found, "scan") {
+        Some(Request::Scan { options, image })
+    } else {
+        Some(Request::Check { options, image })
+    }
+}
+
+fn ls_at<'a>(found: &ArgMatches<'a>) -> Option<Request<'a>>
+    ensures { option_map view result ≡ ls_in (rows_of (found_of found.now)) }
+{
+    let (options, image) = image_at(found)?;
+    Some(Request::List { options, image })
+}
+
+fn cat_at<'a>(found: &ArgMatches<'a>) -> Option<Request<'a>>
+    ensures { option_map view result ≡ cat_in (rows_of (found_of found.now)) }
+{
+    let (options, image) = image_at(found)?;
+    let path = text_at(found, "PATH")?;
+    Some(Request::Cat {
+        options,
+        image,
+        path,
+    })
+}
+
+/// What the subcommand asks for, or nothing where a value can't be read.
+#[tactic(auto, unfolding(crate::specs::Parsed::parsed))]
+pub(crate) fn parsed_of<'a>(name: &str, found: &ArgMatches<'a>) -> Option<Request<'a>>
+    ensures { option_map view result ≡ parsed name.now (rows_of (found_of found.now)) }
+{
+    match name {
+        "check" => check_at(found),
+        "ls" => ls_at(found),
+        "cat" => cat_at(found),
+        _ => None,
+    }
+}

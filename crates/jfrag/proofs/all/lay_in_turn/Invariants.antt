@@ -1,9 +1,0 @@
-use Rattle.std.proofs.Common.{ℕ, ◌*◌, ◌≤◌, take}
-use Rattle.jfrag.specs.Overlays.{IsHighestAt}
-use Rattle.jfrag.proofs.all.lay_in_turn.Given as goal
-
-abbrev pub invariant-loop-piece : goal.invariant-loop-piece
-invariant-loop-piece g l = record {
-  highest : (i : ℕ) → IsHighestAt (take l.piece-index l.pieces) i (g.O.Overlay.stands l.laid i);
-  few : g.O.Overlay.ends l.laid ≤ 2 * l.piece-index;
-}

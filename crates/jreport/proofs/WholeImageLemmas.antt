@@ -1,0 +1,262 @@
+-- What is put of an image that was read, in terms of what its source had left.
+use Rattle.std.proofs.Common.{◌≡◌, ◌≢◌, ℕ, ◌%◌, ◌<◌, ◌≤◌, ◌||◌, Bool, true, false, nat_lt, List, [], ◌++◌, length, take, sym, refl, ap, ◌∙◌, subst, arith, take_all, inl, inr, Option, Some, None, Result, Ok, Err}
+use Rattle.std.specs.Prelude.{IfErr, IfSome, IsErrAnd, IsTrue, IsFalse, ⊤}
+use Rattle.std.specs.Io.KnownBytes.{Appends, IsAtEnd}
+use Rattle.std.proofs.KnownBytes.{Appends-trans}
+use Rattle.flashbase.specs.Device.{PutsPart, CountsLoad, next_count}
+use Rattle.flashbase.specs.declared.source.LoadFault.{LoadFault}
+use Rattle.flashbase.specs.declared.source.LoadFault.TheVariants as load
+use Rattle.flashbase.proofs.DeviceLemmas.{part_behind}
+use Rattle.jnode.specs.declared.order.Endian.{Endian}
+use Rattle.jscan.specs.Counts.{is_found}
+use Rattle.jscan.specs.Image.{greatest_image}
+use Rattle.jscan.specs.declared.geometry.ScanFault.TheVariants as scan
+use Rattle.jmount.specs.Mount.{Mount}
+use Rattle.jmount.specs.Mounts.{Answers}
+use Rattle.jmount.specs.declared.fault.MountFault.{MountFault}
+use Rattle.jmount.specs.declared.fault.MountFault.TheVariants as mount
+use Rattle.jreport.specs.Content.{content_of, PutsContent}
+use Rattle.jreport.specs.Faults.{fault_of_report}
+use Rattle.jreport.specs.WholeImage.{AnswersNoted, IsFaultOfLoad, OfSomeImage, OnMount, PutsCheck, PutsFile, PutsListing, ReadsWhole}
+use Rattle.jreport.specs.Puts.{PutsReport}
+use Rattle.jreport.specs.Report.{count_in_image, scan_text}
+use Rattle.jreport.specs.TreeText.{PutsTree}
+use Rattle.jreport.specs.Verdict.{IsVerdict, PutsVerdict}
+use Rattle.jreport.specs.declared.faults.ProgramFault.{ProgramFault}
+use Rattle.jreport.specs.declared.faults.ProgramFault.TheVariants as program
+use Rattle.jreport.specs.declared.report_fault.ReportFault.{ReportFault}
+use Rattle.jreport.specs.declared.report_fault.ReportFault.TheVariants as report
+
+-- ---- what was read
+
+-- an image that fits what a source tells
+pub fitting : (known_bytes : Option (List ℕ)) → (image : List ℕ) × IfSome known_bytes (λ bytes. image ≡ bytes)
+fitting None = ([], tt)
+fitting (Some bytes) = (bytes, refl)
+
+-- of an image that was not read there is nothing to say
+pub of_unread : {P : List ℕ → Type 0} (known_bytes : Option (List ℕ)) → ((image : List ℕ) → P image) → OfSomeImage known_bytes P
+of_unread known_bytes all = ((fitting known_bytes).0, (fitting known_bytes).1, all (fitting known_bytes).0)
+
+pub is_short : (known_bytes : Option (List ℕ)) (items : List ℕ) → IfSome known_bytes (λ bytes. items ≡ bytes) → length items ≤ greatest_image
+    → IfSome known_bytes (λ bytes. length bytes ≤ greatest_image)
+is_short None items whole short = tt
+is_short (Some bytes) items whole short = subst (λ (l : List ℕ). length l ≤ greatest_image) whole short
+
+pub load_failed : {T U : Type 0} (old new : Option (List ℕ)) (before now : ℕ) (f : LoadFault) (loaded : Result U LoadFault) (r : Result T ProgramFault)
+    → loaded ≡ Err f → IsErrAnd r (λ x. x ≡ program.Load f) → CountsLoad before now loaded
+    → (loaded ≡ Err load.TooLarge → IfSome old (λ bytes. greatest_image < length bytes)) → ReadsWhole old new before now r
+load_failed old new before now f loaded (Ok x) was is count long = absurd is
+load_failed {T} {U} old new before now f loaded (Err x) was is count long =
+    subst (λ (y : ProgramFault). ReadsWhole {T = T} old new before now (Err y)) (sym is) (by f was (subst (CountsLoad before now) was count))
+  where
+    by : (g : LoadFault) → loaded ≡ Err g → CountsLoad {T = U} before now (Err g) → ReadsWhole {T = T} old new before now (Err (program.Load g))
+    by load.Device was count = count
+    by load.TooLarge was count = (long was, count)
+    by load.OutOfMemory was count = count
+
+-- the fault is none of loading
+abbrev pub IsRead : {T : Type 0} → Result T ProgramFault → Type 0
+IsRead r = IfErr r (λ x. IsFaultOfLoad x → ⊥)
+
+pub read_whole : {T : Type 0} (old new : Option (List ℕ)) (before now : ℕ) (r : Result T ProgramFault) → IsRead r
+    → IsAtEnd new → IfSome old (λ bytes. length bytes ≤ greatest_image) → now ≡ before → ReadsWhole old new before now r
+read_whole old new before now (Err (program.Load f)) read end short same = absurd (read tt)
+read_whole old new before now r read end short same = (end, short, same)
+
+-- ---- a mount
+
+pub mount_is_read : {T : Type 0} (f : MountFault) (r : Result T ProgramFault) → IsErrAnd r (λ x. x ≡ program.Mount f) → IsRead r
+mount_is_read f (Ok x) is = absurd is
+mount_is_read f (Err x) is = subst (λ (y : ProgramFault). IsFaultOfLoad y → ⊥) (sym is) (λ none. none)
+
+pub unread_mount : {T : Type 0} (e : Endian) (size : ℕ) (image : List ℕ) (f : LoadFault) (a : Option (List ℕ)) (n : ℕ) (puts : Mount → Type 0) (r : Result T ProgramFault)
+    → IsErrAnd r (λ x. x ≡ program.Load f) → OnMount e size image a a n n puts r
+unread_mount e size image f a n puts (Ok x) is = absurd is
+unread_mount {T} e size image f a n puts (Err x) is =
+    subst (λ (y : ProgramFault). OnMount {T = T} e size image a a n n puts (Err y)) (sym is) (refl, refl)
+
+-- an image that does not mount
+pub mount_failed : {T : Type 0} (e : Endian) (size : ℕ) (items present : List ℕ) (f : MountFault) (a : Option (List ℕ)) (n : ℕ) (puts : Mount → Type 0) (r : Result T ProgramFault)
+    → IsErrAnd r (λ x. x ≡ program.Mount f) → present ≡ items → Answers e size present (Err f)
+    → OnMount e size items a a n n puts r
+mount_failed e size items present f a n puts (Ok x) is same answers = absurd is
+mount_failed {T} e size items present f a n puts (Err x) is same answers =
+    subst (λ (y : ProgramFault). OnMount {T = T} e size items a a n n puts (Err y)) (sym is)
+    (subst (λ (image : List ℕ). Answers e size image (Err f)) same answers, refl, refl)
+
+-- an image that mounts, and a call that says nothing of faults of a load or a mount
+on_mounted : {T : Type 0} (e : Endian) (size : ℕ) (image : List ℕ) (m : Mount) (a b : Option (List ℕ)) (before now : ℕ) (puts : Mount → Result T ProgramFault → Type 0) (r : Result T ProgramFault)
+    → ((f : LoadFault) → puts m (Err (program.Load f)) → ⊥) → ((f : MountFault) → puts m (Err (program.Mount f)) → ⊥)
+    → Answers e size image (Ok m) → puts m r → OnMount e size image a b before now (λ x. puts x r) r
+on_mounted e size image m a b before now puts (Err (program.Load f)) no_load no_mount answers put = absurd (no_load f put)
+on_mounted e size image m a b before now puts (Err (program.Mount f)) no_load no_mount answers put = absurd (no_mount f put)
+on_mounted e size image m a b before now puts r no_load no_mount answers put = (m, answers, put)
+
+-- ---- `check`
+
+pub check_unread : (e : Endian) (size : ℕ) (image : List ℕ) (f : LoadFault) (a : Option (List ℕ)) (n : ℕ) (r : Result Bool ProgramFault)
+    → IsErrAnd r (λ x. x ≡ program.Load f) → PutsCheck e size image a a n n r
+check_unread e size image f a n (Ok x) is = absurd is
+check_unread e size image f a n (Err x) is = subst (λ (y : ProgramFault). PutsCheck e size image a a n n (Err y)) (sym is) (refl, refl)
+
+-- the report ended early
+pub report_failed : (e : Endian) (size : ℕ) (items present : List ℕ) (f : ReportFault) (a b : Option (List ℕ)) (before now : ℕ) (r : Result Bool ProgramFault)
+    → IsErrAnd r (λ x. x ≡ fault_of_report f) → present ≡ items → length items ≤ greatest_image
+    → PutsReport e size present a b before now (Err f) → PutsCheck e size items a b before now r
+report_failed e size items present f a b before now (Ok x) is same short put = absurd is
+report_failed e size items present f a b before now (Err x) is same short put =
+    subst (λ (y : ProgramFault). PutsCheck e size items a b before now (Err y)) (sym is)
+    (by f (subst (λ (image : List ℕ). PutsReport e size image a b before now (Err f)) same put))
+  where
+    by : (g : ReportFault) → PutsReport e size items a b before now (Err g) → PutsCheck e size items a b before now (Err (fault_of_report g))
+    by report.Output p = (inl p.1, p.2)
+    by (report.Scan scan.OutOfMemory) p = (p.1, p.2, p.3)
+    by (report.Scan scan.BlockSize) p = (p.1, p.2)
+    by (report.Scan scan.TooLarge) p = absurd (omega (arith, p.0.1, short))
+    by (report.Scan (scan.Incompatible addr nodetype)) p = absurd p.0
+    by (report.Scan (scan.Compressed addr compr)) p = absurd p.0
+
+-- no fault of a report is one of loading
+pub report_is_read : {T : Type 0} (f : ReportFault) (r : Result T ProgramFault) → IsErrAnd r (λ x. x ≡ fault_of_report f) → IsRead r
+report_is_read f (Ok x) is = absurd is
+report_is_read f (Err x) is = subst (λ (y : ProgramFault). IsFaultOfLoad y → ⊥) (sym is) (by f)
+  where
+    by : (g : ReportFault) → IsFaultOfLoad (fault_of_report g) → ⊥
+    by report.Output none = none
+    by (report.Scan fault) none = none
+
+pub check_done : (e : Endian) (size : ℕ) (items present again : List ℕ) (a b c : Option (List ℕ)) (before mid now findings : ℕ) (bad found : Bool)
+    → present ≡ items → again ≡ items → PutsReport e size present a b before mid (Ok findings) → PutsVerdict e size again b c mid now (Ok bad)
+    → found ≡ nat_lt 0 findings || bad → PutsCheck e size items a c before now (Ok found)
+check_done e size items present again a b c before mid now findings bad found same same_again report verdict judged =
+    let put = subst (λ (image : List ℕ). PutsReport e size image a b before mid (Ok findings)) same report in
+    let said = subst (λ (image : List ℕ). PutsVerdict e size image b c mid now (Ok bad)) same_again verdict in (
+      scan_text e size items ++ said.0,
+      record {
+        verdict = said.0;
+        bad = bad;
+        mount = said.1;
+        said = refl;
+        judged = judged ∙ ap (λ (n : ℕ). nat_lt 0 n || bad) put.1;
+      },
+      Appends-trans a b c (scan_text e size items) said.0 put.2 said.2,
+      said.3 ∙ put.3,
+    )
+
+-- the report went out, and the verdict did not, or a beginning of it
+verdict_ends : (e : Endian) (size : ℕ) (image : List ℕ) (a b c : Option (List ℕ)) (before mid now findings : ℕ) (f : ProgramFault)
+    → PutsReport e size image a b before mid (Ok findings) → PutsVerdict e size image b c mid now (Err f) → PutsCheck e size image a c before now (Err f)
+verdict_ends e size image a b c before mid now findings program.Output report put = (
+  inr (
+    scan_text e size image ++ put.0,
+    nat_lt 0 (count_in_image is_found e size image) || put.1,
+    record { verdict = put.0; bad = put.1; mount = put.2; said = refl; judged = refl },
+    part_behind a b c (scan_text e size image) put.0 report.2 put.3,
+  ),
+  put.4 ∙ ap next_count report.3,
+)
+verdict_ends e size image a b c before mid now findings program.OutOfMemory report put =
+    (put.0, put.1, subst (λ (new : Option (List ℕ)). Appends a new (scan_text e size image)) (sym put.2) report.2, put.3 ∙ report.3)
+verdict_ends e size image a b c before mid now findings (program.Mount mount.OutOfMemory) report put =
+    (put.0, subst (λ (new : Option (List ℕ)). Appends a new (scan_text e size image)) (sym put.1) report.2, put.2 ∙ report.3)
+verdict_ends e size image a b c before mid now findings (program.Mount mount.BlockSize) report put = absurd put
+verdict_ends e size image a b c before mid now findings (program.Mount mount.TooLarge) report put = absurd put
+verdict_ends e size image a b c before mid now findings (program.Mount (mount.Incompatible addr nodetype)) report put = absurd put
+verdict_ends e size image a b c before mid now findings (program.Mount (mount.Compressed addr compr)) report put = absurd put
+verdict_ends e size image a b c before mid now findings (program.Mount (mount.Clash addr)) report put = absurd put
+verdict_ends e size image a b c before mid now findings (program.Mount mount.RootKind) report put = absurd put
+verdict_ends e size image a b c before mid now findings (program.Load f) report put = absurd put
+verdict_ends e size image a b c before mid now findings (program.Scan f) report put = absurd put
+verdict_ends e size image a b c before mid now findings (program.File f) report put = absurd put
+verdict_ends e size image a b c before mid now findings (program.Path f) report put = absurd put
+verdict_ends e size image a b c before mid now findings program.NotRegular report put = absurd put
+
+pub verdict_failed : (e : Endian) (size : ℕ) (items present again : List ℕ) (a b c : Option (List ℕ)) (before mid now findings : ℕ) (f : ProgramFault) (r : Result Bool ProgramFault)
+    → IsErrAnd r (λ x. x ≡ f) → present ≡ items → again ≡ items
+    → PutsReport e size present a b before mid (Ok findings) → PutsVerdict e size again b c mid now (Err f) → PutsCheck e size items a c before now r
+verdict_failed e size items present again a b c before mid now findings f (Ok x) is same same_again report put = absurd is
+verdict_failed e size items present again a b c before mid now findings f (Err x) is same same_again report put =
+    subst (λ (y : ProgramFault). PutsCheck e size items a c before now (Err y)) (sym is)
+    (verdict_ends e size items a b c before mid now findings f
+    (subst (λ (image : List ℕ). PutsReport e size image a b before mid (Ok findings)) same report)
+    (subst (λ (image : List ℕ). PutsVerdict e size image b c mid now (Err f)) same_again put))
+
+-- no verdict is a fault of loading
+pub verdict_is_read : {T : Type 0} (e : Endian) (size : ℕ) (image : List ℕ) (a b : Option (List ℕ)) (before now : ℕ) (f : ProgramFault) (r : Result T ProgramFault)
+    → IsErrAnd r (λ x. x ≡ f) → PutsVerdict e size image a b before now (Err f) → IsRead r
+verdict_is_read e size image a b before now f (Ok x) is put = absurd is
+verdict_is_read e size image a b before now f (Err x) is put =
+    subst (λ (y : ProgramFault). IsFaultOfLoad y → ⊥) (sym is) (by f put)
+  where
+    by : (g : ProgramFault) → PutsVerdict e size image a b before now (Err g) → IsFaultOfLoad g → ⊥
+    by (program.Load f) p is_load = p
+    by g p is_load = is_load
+
+-- ---- `cat`
+
+pub file_put : (e : Endian) (size : ℕ) (path items present : List ℕ) (m : Mount) (a b : Option (List ℕ)) (before now : ℕ) (r : Result ℕ ProgramFault)
+    → present ≡ items → Answers e size present (Ok m) → PutsContent (content_of m.state path) a b before now r → AnswersNoted m r
+    → PutsFile e size items path a b before now r
+file_put e size path items present m a b before now r same answers put noted =
+    on_mounted e size items m a b before now (λ (x : Mount) (s : Result ℕ ProgramFault). PutsContent (content_of x.state path) a b before now s × AnswersNoted x s) r
+    (λ f none. none.0.0) (λ f none. none.0.0)
+    (subst (λ (image : List ℕ). Answers e size image (Ok m)) same answers) (put, noted)
+
+-- a fault that is passed on
+pub content_failed : (X : Type 0) (e : Endian) (size : ℕ) (path items present : List ℕ) (m : Mount) (a b : Option (List ℕ)) (before now : ℕ) (f : ProgramFault) (r : Result ℕ ProgramFault)
+    → IsErrAnd r (λ x. x ≡ f) → present ≡ items → Answers e size present (Ok m) → PutsContent {T = X} (content_of m.state path) a b before now (Err f)
+    → PutsFile e size items path a b before now r
+content_failed X e size path items present m a b before now f (Ok x) is same answers put = absurd is
+content_failed X e size path items present m a b before now f (Err x) is same answers put =
+    subst (λ (y : ProgramFault). PutsFile e size items path a b before now (Err y)) (sym is)
+    (file_put e size path items present m a b before now (Err f) same answers put tt)
+
+pub content_is_read : (X : Type 0) {T : Type 0} (content : Result (List ℕ) ProgramFault) (a b : Option (List ℕ)) (before now : ℕ) (f : ProgramFault) (r : Result T ProgramFault)
+    → IsErrAnd r (λ x. x ≡ f) → PutsContent {T = X} content a b before now (Err f) → IsRead r
+content_is_read X content a b before now f (Ok x) is put = absurd is
+content_is_read X content a b before now f (Err x) is put =
+    subst (λ (y : ProgramFault). IsFaultOfLoad y → ⊥) (sym is) (by f put)
+  where
+    by : (g : ProgramFault) → PutsContent {T = X} content a b before now (Err g) → IsFaultOfLoad g → ⊥
+    by (program.Load f) p is_load = p.0
+    by g p is_load = is_load
+
+-- ---- `ls`
+
+pub tree_put : (e : Endian) (size : ℕ) (items present : List ℕ) (m : Mount) (a b : Option (List ℕ)) (before now : ℕ) (r : Result ℕ ProgramFault)
+    → present ≡ items → Answers e size present (Ok m) → PutsTree m.state a b before now r → AnswersNoted m r
+    → PutsListing e size items a b before now r
+tree_put e size items present m a b before now r same answers put noted =
+    on_mounted e size items m a b before now (λ (x : Mount) (s : Result ℕ ProgramFault). PutsTree x.state a b before now s × AnswersNoted x s) r
+    (λ f none. none.0) (λ f none. none.0)
+    (subst (λ (image : List ℕ). Answers e size image (Ok m)) same answers) (put, noted)
+
+-- a fault that is passed on
+pub tree_failed : (X : Type 0) (e : Endian) (size : ℕ) (items present : List ℕ) (m : Mount) (a b : Option (List ℕ)) (before now : ℕ) (f : ProgramFault) (r : Result ℕ ProgramFault)
+    → IsErrAnd r (λ x. x ≡ f) → present ≡ items → Answers e size present (Ok m) → PutsTree {T = X} m.state a b before now (Err f)
+    → PutsListing e size items a b before now r
+tree_failed X e size items present m a b before now f (Ok x) is same answers put = absurd is
+tree_failed X e size items present m a b before now f (Err x) is same answers put =
+    subst (λ (y : ProgramFault). PutsListing e size items a b before now (Err y)) (sym is)
+    (tree_put e size items present m a b before now (Err f) same answers (by f put) tt)
+  where
+    by : (g : ProgramFault) → PutsTree {T = X} m.state a b before now (Err g) → PutsTree {T = ℕ} m.state a b before now (Err g)
+    by program.Output p = p
+    by program.OutOfMemory p = p
+    by (program.Load f) p = p
+    by (program.Scan f) p = p
+    by (program.Mount f) p = p
+    by (program.File f) p = p
+    by (program.Path f) p = p
+    by program.NotRegular p = p
+
+pub tree_is_read : (X : Type 0) {T : Type 0} (m : Mount) (a b : Option (List ℕ)) (before now : ℕ) (f : ProgramFault) (r : Result T ProgramFault)
+    → IsErrAnd r (λ x. x ≡ f) → PutsTree {T = X} m.state a b before now (Err f) → IsRead r
+tree_is_read X m a b before now f (Ok x) is put = absurd is
+tree_is_read X m a b before now f (Err x) is put =
+    subst (λ (y : ProgramFault). IsFaultOfLoad y → ⊥) (sym is) (by f put)
+  where
+    by : (g : ProgramFault) → PutsTree {T = X} m.state a b before now (Err g) → IsFaultOfLoad g → ⊥
+    by (program.Load f) p is_load = p
+    by g p is_load = is_load

@@ -1,0 +1,93 @@
+-- What is put of an image that is read as a whole.
+use Rattle.std.specs.Prelude.{◌≡◌, ◌≢◌, ◌⊎◌, ℕ, ◌%◌, ◌<◌, ◌≤◌, ◌||◌, Bool, nat_lt, List, ◌++◌, length, Option, Result, Ok, Err, IfSome, ⊤}
+use Rattle.std.specs.Io.KnownBytes.{Appends, IsAtEnd}
+use Rattle.flashbase.specs.Device.{PutsPart, next_count}
+use Rattle.flashbase.specs.declared.source.LoadFault.TheVariants as load
+use Rattle.jnode.specs.declared.order.Endian.{Endian}
+use Rattle.jmount.specs.Mount.{Mount}
+use Rattle.jmount.specs.Mounts.{Answers}
+use Rattle.jmount.specs.declared.fault.MountFault.TheVariants as mount
+use Rattle.jscan.specs.Counts.{is_found}
+use Rattle.jscan.specs.Image.{greatest_image}
+use Rattle.jscan.specs.declared.geometry.ScanFault.TheVariants as scan
+use Rattle.jreport.specs.Content.{content_of, PutsContent}
+use Rattle.jreport.specs.Notes.{noted}
+use Rattle.jreport.specs.Report.{count_in_image, scan_text}
+use Rattle.jreport.specs.TreeText.{PutsTree}
+use Rattle.jreport.specs.Verdict.{IsVerdict}
+use Rattle.jreport.specs.declared.faults.ProgramFault.{ProgramFault}
+use Rattle.jreport.specs.declared.faults.ProgramFault.TheVariants as program
+
+-- ---- what is read
+
+-- There is an image of which this holds. Where the source tells what it had left, it is that.
+abbrev pub OfSomeImage : Option (List ℕ) → (List ℕ → Type 0) → Type 0
+OfSomeImage known_bytes P = (image : List ℕ) × IfSome known_bytes (λ bytes. image ≡ bytes) × P image
+
+-- A call reads all that a source has left, by the bytes that it tells and the count of its failures. A fault of loading says
+-- why it did not; at any other answer the source is at its end, and had no more left than the greatest image.
+abbrev pub ReadsWhole : {T : Type 0} → Option (List ℕ) → Option (List ℕ) → ℕ → ℕ → Result T ProgramFault → Type 0
+ReadsWhole old new before now (Err (program.Load load.Device)) = now ≡ next_count before
+ReadsWhole old new before now (Err (program.Load load.TooLarge)) = IfSome old (λ bytes. greatest_image < length bytes) × (now ≡ before)
+ReadsWhole old new before now (Err (program.Load load.OutOfMemory)) = now ≡ before
+ReadsWhole old new before now _ = IsAtEnd new × IfSome old (λ bytes. length bytes ≤ greatest_image) × (now ≡ before)
+
+-- the image was not read
+abbrev pub IsFaultOfLoad : ProgramFault → Type 0
+IsFaultOfLoad (program.Load fault) = Unit {0}
+IsFaultOfLoad _ = ⊥
+
+-- ---- `check`
+
+-- what it prints of an image, and whether it found anything: the report, and then the verdict
+pub record IsCheck (e : Endian) (size : ℕ) (image : List ℕ) (text : List ℕ) (found : Bool) : Type 0 where
+  pub verdict : List ℕ
+  pub bad : Bool
+  pub mount : IsVerdict e size image verdict bad
+  pub said : text ≡ scan_text e size image ++ verdict
+  pub judged : found ≡ nat_lt 0 (count_in_image is_found e size image) || bad
+
+-- a beginning of it went out: of the report, or of the report and the verdict
+abbrev pub PutsPartOfCheck : Endian → ℕ → List ℕ → Option (List ℕ) → Option (List ℕ) → Type 0
+PutsPartOfCheck e size image old new =
+    PutsPart old new (scan_text e size image)
+    ⊎ ((text : List ℕ) × (found : Bool) × IsCheck e size image text found × PutsPart old new text)
+
+-- A call puts what `check` prints. Only where the sink is blamed did it fail, once. Memory is wanting in the report only
+-- where the last block of the image has a missing tail, and then in the mount, or for the entries that dangle in it.
+abbrev pub PutsCheck : Endian → ℕ → List ℕ → Option (List ℕ) → Option (List ℕ) → ℕ → ℕ → Result Bool ProgramFault → Type 0
+PutsCheck e size image old new before now (Ok found) =
+    (text : List ℕ) × IsCheck e size image text found × Appends old new text × (now ≡ before)
+PutsCheck e size image old new before now (Err program.Output) = PutsPartOfCheck e size image old new × (now ≡ next_count before)
+PutsCheck e size image old new before now (Err (program.Load fault)) = (new ≡ old) × (now ≡ before)
+PutsCheck e size image old new before now (Err (program.Scan scan.BlockSize)) = (new ≡ old) × (now ≡ before)
+PutsCheck e size image old new before now (Err (program.Scan scan.OutOfMemory)) =
+    (length image % size ≢ 0) × PutsPart old new (scan_text e size image) × (now ≡ before)
+PutsCheck e size image old new before now (Err (program.Mount mount.OutOfMemory)) =
+    Answers e size image (Err mount.OutOfMemory) × Appends old new (scan_text e size image) × (now ≡ before)
+PutsCheck e size image old new before now (Err program.OutOfMemory) =
+    (m : Mount) × Answers e size image (Ok m) × Appends old new (scan_text e size image) × (now ≡ before)
+PutsCheck e size image old new before now (Err _) = ⊥
+
+-- ---- `cat` and `ls`
+
+-- What a call does that mounts an image: nothing is put of one that was not read or does not mount.
+abbrev pub OnMount : {T : Type 0} → Endian → ℕ → List ℕ → Option (List ℕ) → Option (List ℕ) → ℕ → ℕ → (Mount → Type 0) → Result T ProgramFault → Type 0
+OnMount e size image old new before now puts (Err (program.Load fault)) = (new ≡ old) × (now ≡ before)
+OnMount e size image old new before now puts (Err (program.Mount fault)) = Answers e size image (Err fault) × (new ≡ old) × (now ≡ before)
+OnMount e size image old new before now puts _ = (m : Mount) × Answers e size image (Ok m) × puts m
+
+-- the answer is the number of findings that a reader of files is told of
+abbrev pub AnswersNoted : Mount → Result ℕ ProgramFault → Type 0
+AnswersNoted m (Ok n) = n ≡ noted m
+AnswersNoted m (Err _) = ⊤
+
+-- `cat`: the content of the regular file that a path names in an image
+abbrev pub PutsFile : Endian → ℕ → List ℕ → List ℕ → Option (List ℕ) → Option (List ℕ) → ℕ → ℕ → Result ℕ ProgramFault → Type 0
+PutsFile e size image path old new before now answer =
+    OnMount e size image old new before now (λ m. PutsContent (content_of m.state path) old new before now answer × AnswersNoted m answer) answer
+
+-- `ls`: the lines of an image's tree
+abbrev pub PutsListing : Endian → ℕ → List ℕ → Option (List ℕ) → Option (List ℕ) → ℕ → ℕ → Result ℕ ProgramFault → Type 0
+PutsListing e size image old new before now answer =
+    OnMount e size image old new before now (λ m. PutsTree m.state old new before now answer × AnswersNoted m answer) answer

@@ -1,0 +1,92 @@
+//! What is done with an image that is read as a whole.
+
+ghost use Rattle.std.specs.Prelude.{◌≡◌, ◌↔◌, ◌||◌, nat_lt, IsFalse, IsTrue, IfErr, IsErrOf};
+ghost use Rattle.jscan.specs.Image.{is_block_size};
+ghost use Rattle.jreport.specs.WholeImage.{IsFaultOfLoad, OfSomeImage, PutsCheck, PutsFile, PutsListing, ReadsWhole};
+
+use crate::faults::ProgramFault;
+use crate::files::content;
+use crate::listing::tree_lines;
+use crate::notes::noted;
+use crate::report::put_report;
+use crate::verdict::verdict_lines;
+use flashbase::{Sink, Source, load};
+use jmount::mount;
+use jnode::Order;
+use jscan::{GREATEST_IMAGE, Geometry, ScanFault};
+use std::alloc::Global;
+
+/// Whether anything was found, in the report or by the mount.
+fn is_any(findings: u64, bad: bool) -> bool
+    ensures { result ≡ nat_lt 0 findings || bad }
+{
+    findings > 0 || bad
+}
+
+/// Reads an image and puts its report, and then the verdict on its mount. Answers whether anything was found.
+pub fn check_lines<E: Order, S: Source, T: Sink>(
+    alloc: Global,
+    source: &mut S,
+    geometry: Geometry,
+    sink: &mut T,
+) -> Result<bool, ProgramFault<'static>>
+    // The size of a block is judged before anything is read or put.
+    ensures block_size { IsErrOf result (ProgramFault.Scan ScanFault.BlockSize) ↔ IsFalse (is_block_size geometry.block) }
+    ensures unread { IsFalse (is_block_size geometry.block) → (source.new ≡ source.old) × (sink.new ≡ sink.old) }
+
+    // Then all that the source had left is read. Nothing is put of an image that was not.
+    ensures read { IsTrue (is_block_size geometry.block)
+        → ReadsWhole (S.rest source.old) (S.rest source.new) (S.failures source.old) (S.failures source.new) result }
+    ensures load { IfErr result (λ fault. IsFaultOfLoad fault → sink.new ≡ sink.old) }
+    ensures put { OfSomeImage (S.rest source.old) (λ image. PutsCheck E.order geometry.block image
+        (T.taken sink.old) (T.taken sink.new) (T.failures sink.old) (T.failures sink.new) result) }
+{
+    if !geometry.is_readable() {
+        return Err(ProgramFault::Scan(ScanFault::BlockSize));
+    }
+    let image = load(alloc, source, GREATEST_IMAGE)?;
+    let findings = put_report::<E, T>(alloc, image.as_slice(), geometry, sink)?;
+    let bad = verdict_lines::<E, T>(alloc, image.as_slice(), geometry, sink)?;
+    Ok(is_any(findings, bad))
+}
+
+/// Reads an image, and puts the content of the regular file that a path names there. Answers how many findings of damage,
+/// dirt or the other byte order the image has.
+pub fn file_bytes<E: Order, S: Source, T: Sink>(
+    alloc: Global,
+    source: &mut S,
+    geometry: Geometry,
+    path: &[u8],
+    sink: &mut T,
+) -> Result<u64, ProgramFault<'static>>
+    // All that the source had left is read before the size of a block is judged. Nothing is put of an image that was not.
+    ensures read { ReadsWhole (S.rest source.old) (S.rest source.new) (S.failures source.old) (S.failures source.new) result }
+    ensures load { IfErr result (λ fault. IsFaultOfLoad fault → sink.new ≡ sink.old) }
+    ensures put { OfSomeImage (S.rest source.old) (λ image. PutsFile E.order geometry.block image path.now
+        (T.taken sink.old) (T.taken sink.new) (T.failures sink.old) (T.failures sink.new) result) }
+{
+    let image = load(alloc, source, GREATEST_IMAGE)?;
+    let mounted = mount::<E>(alloc, image.as_slice(), geometry)?;
+    content(&mounted, path, sink)?;
+    Ok(noted(&mounted))
+}
+
+/// Reads an image, and puts a line for each object of its tree. Answers how many findings of damage, dirt or the other byte
+/// order the image has.
+pub fn list_lines<E: Order, S: Source, T: Sink>(
+    alloc: Global,
+    source: &mut S,
+    geometry: Geometry,
+    sink: &mut T,
+) -> Result<u64, ProgramFault<'static>>
+    // All that the source had left is read before the size of a block is judged. Nothing is put of an image that was not.
+    ensures read { ReadsWhole (S.rest source.old) (S.rest source.new) (S.failures source.old) (S.failures source.new) result }
+    ensures load { IfErr result (λ fault. IsFaultOfLoad fault → sink.new ≡ sink.old) }
+    ensures put { OfSomeImage (S.rest source.old) (λ image. PutsListing E.order geometry.block image
+        (T.taken sink.old) (T.taken sink.new) (T.failures sink.old) (T.failures sink.new) result) }
+{
+    let image = load(alloc, source, GREATEST_IMAGE)?;
+    let mounted = mount::<E>(alloc, image.as_slice(), geometry)?;
+    tree_lines(alloc, &mounted, sink)?;
+    Ok(noted(&mounted))
+}

@@ -1,5 +1,0 @@
-use Rattle.jscan.proofs.SightingLaws.{sightings_are_stretches}
-use Rattle.jscan.proofs.laws.sightings_are_stretches.Goals as goal
-
-pub returns : goal.returns
-returns c = sightings_are_stretches

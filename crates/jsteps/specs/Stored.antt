@@ -1,0 +1,78 @@
+-- How an index keeps its file system.
+use Rattle.std.specs.Prelude.{ℕ, ◌+◌, Vec, List, map, Option, option_map, option_and_then, unwrap_or}
+use Rattle.std.specs.List.{flat_map}
+use Rattle.std.specs.declared.alloc.Global.{Global}
+use Rattle.std.specs.declared.cmp.Ordering.{Ordering}
+use Rattle.std.specs.Ordering.{nat_cmp}
+use Rattle.std.specs.Cmp.Lexicographic.{slice_cmp}
+use Rattle.std.specs.BTreeMap.{BTreeMap, get, get_by}
+use Rattle.flashbase.specs.Lists.{tabled}
+use Rattle.jname.specs.Live.{Key, key_cmp}
+use Rattle.jmount.specs.Mount.{Mount}
+use Rattle.jmount.specs.Shown.{top_at}
+use Rattle.jmount.specs.Tree.{ObjectOf, sized, object}
+use Rattle.jsteps.specs.Nodes.{Indexed}
+use Rattle.jsteps.specs.declared.stored.Stored.{Stored}
+
+-- an object as it is kept
+abbrev pub stored_outline : Stored → ObjectOf ℕ
+stored_outline stored = record { mode = stored.mode; uid = stored.uid; gid = stored.gid; atime = stored.atime; mtime = stored.mtime; ctime = stored.ctime; body = stored.size }
+
+abbrev pub Objects : Type 0
+Objects = BTreeMap ℕ Stored
+
+abbrev pub OwnedName : Type 0
+OwnedName = Vec ℕ Global
+
+-- names in the order of their bytes
+abbrev pub owned_name_cmp : OwnedName → OwnedName → Ordering
+owned_name_cmp x y = slice_cmp nat_cmp x.items y.items
+
+abbrev pub NumbersByName : Type 0
+NumbersByName = BTreeMap OwnedName ℕ
+
+abbrev pub Directories : Type 0
+Directories = BTreeMap ℕ NumbersByName
+
+-- the number that a name stands for
+abbrev pub ino_in : NumbersByName → List ℕ → Option ℕ
+ino_in names name = get_by (λ k. slice_cmp nat_cmp name k.items) names
+
+abbrev pub ino_at : Directories → Key → Option ℕ
+ino_at directories key = option_and_then (λ names. ino_in names key.1) (get nat_cmp directories key.0)
+
+-- all names that are kept, each with its directory's number
+abbrev pub keys_under : ℕ × NumbersByName → List Key
+keys_under e = map (λ n. (e.0, n.0.items)) e.1.entries
+
+-- what is kept, as callers see it
+unfoldable pub stored_index : Objects → Directories → ℕ → Indexed
+stored_index objects directories next = record {
+  tree = record {
+    objects = tabled nat_cmp (map (λ e. e.0) objects.entries) (λ i. option_map stored_outline (get nat_cmp objects i));
+    names = tabled key_cmp (flat_map keys_under directories.entries) (ino_at directories);
+    next = next;
+  };
+  tops = tabled nat_cmp (map (λ e. e.0) objects.entries) (λ i. option_map (λ stored. stored.top) (get nat_cmp objects i));
+}
+
+-- the greatest version and the size of a number, 0 where it has no object
+abbrev pub top_in : Objects → ℕ → ℕ
+top_in objects i = unwrap_or (option_map (λ stored. stored.top) (get nat_cmp objects i)) 0
+
+abbrev pub size_in : Objects → ℕ → ℕ
+size_in objects i = unwrap_or (option_map (λ stored. stored.size) (get nat_cmp objects i)) 0
+
+-- an object of which one more version is there, and one that was changed as well
+abbrev pub raised : Stored → Stored
+raised stored = record stored { top = stored.top + 1 }
+
+abbrev pub changed : ℕ → ℕ → Stored → Stored
+changed time size stored = record stored { size = size; mtime = time; ctime = time; top = stored.top + 1 }
+
+-- an object with the greatest version of its number, as it is kept, and of a file system
+abbrev pub with_top : Stored → ObjectOf ℕ × ℕ
+with_top stored = (stored_outline stored, stored.top)
+
+abbrev pub object_and_top : Mount → ℕ → Option (ObjectOf ℕ × ℕ)
+object_and_top m i = option_map (λ o. (sized o, top_at m.tops i)) (object m.state i)
