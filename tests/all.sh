@@ -1,7 +1,7 @@
 #!/usr/bin/env bash
-# Passes all tests: `rt ci` (every proof from nothing, the edits that the prover must refuse, the tests, the program's
-# stored run), then the finished program as a user meets it. The last lines are where the processor time of `rt ci` went, crate
-# by crate in minutes, and 'N passed, M failed'.
+# Passes all tests: `rt ci` (every proof from nothing, the tests, the program's stored run), then the wrong bodies that the
+# prover must refuse, the names in docs/TRACE.md, and the finished program as a user meets it. The last lines are where the
+# processor time of the first two went, crate by crate in minutes, and 'N passed, M failed'.
 set -uo pipefail
 cd "$(dirname "$0")/.."
 log=$(mktemp)
@@ -10,18 +10,17 @@ trap 'rm -f "$log" "$times"' EXIT
 passed=0
 failed=0
 
-# Runs a suite, and adds the counts of its last line.
+# Runs a suite, and adds the counts of each line 'N passed, M failed' that it prints.
 suite() {
   "$@" 2>&1 | tee "$log"
-  local status=$? counts
-  counts=$(tail -n 1 "$log" | sed -nE 's/^([0-9]+) passed, ([0-9]+) failed$/\1 \2/p')
-  read -r good bad <<<"${counts:-0 1}"
+  local status=$? good bad
+  read -r good bad < <(awk '/^[0-9]+ passed, [0-9]+ failed$/ { good += $1; bad += $3; n++ } END { print good + 0, n ? bad + 0 : 1 }' "$log")
   [ "$status" -eq 0 ] || [ "$bad" -gt 0 ] || bad=1
   passed=$((passed + good))
   failed=$((failed + bad))
 }
 
-suite tests/gate_clock.py "$times" rt ci
+suite tests/gate_clock.py "$times" bash -c 'rt ci && tests/edits.py'
 suite tests/trace.py
 suite tests/program.sh crates/jffs2_image/out/jffs2_image
 cat "$times"

@@ -4,7 +4,7 @@
 Usage: tests/gate_clock.py TABLE COMMAND [ARGUMENT ..]
 
 What the command writes and its exit status pass through unchanged. The file TABLE gets a line for each crate with the
-processor minutes of its proof, its tests and its must-fail edits, as /proc shows them twice a second. `other` is what is left:
+processor minutes of its proof, its tests and its edits, as /proc shows them twice a second. `other` is what is left:
 linking, the runs of programs and tests, `rt` itself, and the last moments of each check. The last line is the whole, as the
 system counted it for the command and all that it started. Where there is no /proc, it stands alone.
 """
@@ -40,8 +40,8 @@ def task_of(pid):
     if not words[0].endswith("/rattle") or "--crate-name" not in words:
         return None
     after = {word: following for word, following in zip(words, words[1:])}
-    # an edit is checked in a folder of its own, over what the edits before it left in another one
-    is_edit = any("/rt-edit" in path for path in (folder, after.get("--incremental", "")))
+    # edits are checked in a copy of the crate, below a folder of this name
+    is_edit = "/edits-" in folder
     return after["--crate-name"], "edits" if is_edit else "tests" if "--test" in words else "proof"
 
 
