@@ -5,7 +5,7 @@ use byteorder::{BigEndian, LittleEndian};
 use jnode::{Damage, Endian, Order, Seen};
 use jscan::{
     Extent, ExtentKind, Extents, Finding, FindingKind, Geometry, ScanFault, Tile, TileKind, Tiles,
-    laws, rows,
+    examples, laws,
 };
 use std::alloc::Global;
 use std::test::Fail;

@@ -2,15 +2,15 @@
 
 use byteorder::BigEndian;
 use jscan::{
-    GREATEST_BLOCK, GREATEST_IMAGE, Geometry, LEAST_BLOCK, ScanFault, Sightings, StreamFault,
-    partial, scan,
+    GREATEST_BLOCK, GREATEST_IMAGE, Geometry, LEAST_BLOCK, ScanFault, Sightings, StreamFault, scan,
+    scan_to_refusal,
 };
 use std::alloc::Global;
 use std::test::Fail;
 
 type Faults = [Option<ScanFault>; 3];
 
-/// Why an image is not surveyed, not scanned, and has no sightings.
+/// Why an image is not scanned to a refusal, not scanned, and has no sightings.
 fn faults(alloc: Global, image: &[u8], block: u32) -> Faults {
     let geometry = Geometry { block };
     [

@@ -111,7 +111,7 @@ fn scanned<E: Order>(alloc: Global, image: &[u8]) -> Result<Answer, Fail> {
     Ok((rows, findings, scan.read_only, None))
 }
 
-fn surveyed<E: Order>(alloc: Global, image: &[u8]) -> Result<Answer, Fail> {
+fn scanned_to_refusal<E: Order>(alloc: Global, image: &[u8]) -> Result<Answer, Fail> {
     let partial = scan_to_refusal::<E>(alloc, image, GEOMETRY)?;
     let rows = partial.nodes.iter().map(row).collect(alloc)?;
     let findings = partial.findings.iter().map(found).collect(alloc)?;
@@ -124,7 +124,7 @@ fn nodes_and_findings_of_images(rt: HostRuntime) -> Result<(), Fail> {
         let image = flash(rt.alloc(), len, pieces)?;
         for answer in [
             scanned::<LittleEndian>(rt.alloc(), &image)?,
-            surveyed::<LittleEndian>(rt.alloc(), &image)?,
+            scanned_to_refusal::<LittleEndian>(rt.alloc(), &image)?,
         ] {
             assert_eq!(rt;
                 (answer.0.as_slice(), answer.1.as_slice(), answer.2, answer.3),
@@ -161,7 +161,7 @@ fn the_first_refusal_counts(rt: HostRuntime) -> Result<(), Fail> {
         let image = flash(rt.alloc(), 12288, pieces)?;
         let scan = scan::<LittleEndian>(rt.alloc(), &image, GEOMETRY);
         assert_eq!(rt; scan.err(), Some(want));
-        let partial = surveyed::<LittleEndian>(rt.alloc(), &image)?;
+        let partial = scanned_to_refusal::<LittleEndian>(rt.alloc(), &image)?;
         assert_eq!(rt; partial.3, Some(want));
         assert_eq!(rt; partial.0.as_slice(), [(0, "entry", 2, 1, 1)].as_slice());
     }
