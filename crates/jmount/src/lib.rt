@@ -30,4 +30,6 @@ pub use crate::fault::{FindFault, MountFault};
 pub use crate::mounted::Mounted;
 pub use crate::mounting::mount;
 pub use crate::object::{Kind, Object};
+pub use crate::path::after_slash;
+pub use crate::shown::{kind_of, type_bits};
 pub use crate::walk::Objects;

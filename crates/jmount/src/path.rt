@@ -5,7 +5,8 @@ ghost use Rattle.std.specs.List.{list_all};
 ghost use Rattle.jmount.specs.Find.{is_name, parts, path_names};
 ghost use Rattle.jmount.specs.Paths.{names_after};
 
-/// What a path has after its first slash; nothing of a text that is no path.
+/// What a path has after its first slash, which is nothing or names with a slash between any two; `None` of a text that
+/// is no path.
 pub fn after_slash(text: &[u8]) -> Option<&[u8]>
     ensures { option_map (λ names. names_after names.now) result ≡ path_names text.now }
 {

@@ -31,8 +31,8 @@ pub fn shown(stored: &Stored<'_>) -> Object
     }
 }
 
-/// The kind that a mode says.
-fn kind_of(mode: u32) -> Kind
+/// The kind of object that a mode says.
+pub fn kind_of(mode: u32) -> Kind
     ensures { result ≡ kind_of (type_bits mode) }
 {
     match type_bits(mode) {
@@ -61,7 +61,8 @@ pub fn has_bytes(mode: u32) -> bool
     matches!(type_bits(mode), REGULAR | SYMLINK)
 }
 
-fn type_bits(mode: u32) -> u32
+/// Bits 12 to 15 of a mode, which say the kind of an object (Linux, include/uapi/linux/stat.h).
+pub fn type_bits(mode: u32) -> u32
     ensures { result ≡ type_bits mode }
 {
     (mode >> 12) & 0xF

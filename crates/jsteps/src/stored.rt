@@ -3,11 +3,10 @@
 ghost use Rattle.std.specs.Prelude.{◌≡◌, ◌==◌, ◌<◌, ℕ, OnOk, OnErr, Some, None, option_map, if◌then◌else◌};
 ghost use Rattle.std.specs.Ordering.{nat_cmp};
 ghost use Rattle.std.specs.BTreeMap.{get, IsUnchanged, Updates};
-ghost use Rattle.jmount.specs.Shown.{kind_of, shown_outline};
-ghost use Rattle.jmount.specs.Tree.{type_bits};
+ghost use Rattle.jmount.specs.Shown.{shown_outline};
 ghost use Rattle.jsteps.specs.Stored.{stored_outline, top_in, size_in, raised, changed};
 
-use jmount::{Kind, Object};
+use jmount::{Object, kind_of};
 use std::alloc::AllocError;
 use std::collections::BTreeMap;
 
@@ -90,27 +89,4 @@ pub fn shown(stored: Stored) -> Object
         mtime: stored.mtime,
         ctime: stored.ctime,
     }
-}
-
-/// The kind that bits 12 to 15 of a mode say (Linux, include/uapi/linux/stat.h).
-fn kind_of(mode: u32) -> Kind
-    ensures { result ≡ kind_of (type_bits mode) }
-{
-    match type_bits(mode) {
-        1 => Kind::Fifo,
-        2 => Kind::CharacterDevice,
-        DIRECTORY => Kind::Directory,
-        6 => Kind::BlockDevice,
-        8 => Kind::Regular,
-        10 => Kind::Symlink,
-        12 => Kind::Socket,
-        _ => Kind::Other,
-    }
-}
-
-/// Bits 12 to 15 of a mode.
-pub fn type_bits(mode: u32) -> u32
-    ensures { result ≡ type_bits mode }
-{
-    (mode >> 12) & 0xF
 }
