@@ -2,7 +2,7 @@
 
 ghost use Rattle.std.specs.Prelude.{◌≡◌};
 
-use std::alloc::{AllocError, AllocFailed};
+use std::alloc::AllocError;
 use thiserror::Error;
 
 /// Why a listing is not read.
@@ -22,33 +22,5 @@ impl From<AllocError> for ListingFault {
 
     fn from(_fault: AllocError) -> Self {
         ListingFault::OutOfMemory
-    }
-}
-
-/// Why a word or a line is not read.
-#[derive(Clone, Copy)]
-pub enum WordFault {
-    /// It stands for nothing.
-    Invalid,
-    OutOfMemory,
-}
-
-impl From<AllocError> for WordFault {
-    ghost use Rattle.jlisting.specs.declared.fault.WordFault.TheVariants.{OutOfMemory};
-
-    ghost from_gives = { λ _ e. e ≡ OutOfMemory };
-
-    fn from(_fault: AllocError) -> Self {
-        WordFault::OutOfMemory
-    }
-}
-
-impl<T: Drop> From<AllocFailed<T>> for WordFault {
-    ghost use Rattle.jlisting.specs.declared.fault.WordFault.TheVariants.{OutOfMemory};
-
-    ghost from_gives = { λ _ e. e ≡ OutOfMemory };
-
-    fn from(_fault: AllocFailed<T>) -> Self {
-        WordFault::OutOfMemory
     }
 }

@@ -1,13 +1,13 @@
 //! The forms of a line, by its words.
 
-ghost use Rattle.jlisting.specs.Words.{IsRead};
+ghost use Rattle.jword.specs.Words.{IsRead};
 ghost use Rattle.jlisting.specs.Listing.{time_line, owner_line, mkdir_line, create_line, symlink_line, write_line, part_line, truncate_line, link_line, rename_line, remove_line};
 
-use crate::fault::WordFault;
 use crate::line::Action;
 use crate::statement::{Settings, Statement};
 use crate::words::{data_word, decimal_word, file_word, mode_word, owner_word, text_word};
 use jsteps::Op;
+use jword::WordFault;
 use std::alloc::Global;
 
 /// `time T`: the time of what follows.

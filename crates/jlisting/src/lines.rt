@@ -5,11 +5,12 @@ ghost use Rattle.std.specs.List.{slice_split};
 ghost use Rattle.jlisting.specs.declared.statement.Settings.{Settings};
 ghost use Rattle.jlisting.specs.Listing.{settings_after, action_lines, lines_from, lines_in, lines_of, IsListingFault};
 
-use crate::fault::{ListingFault, WordFault};
+use crate::fault::ListingFault;
 use crate::line::Line;
 use crate::reading::read_line;
 use crate::split::split_once;
 use crate::statement::{Settings, Statement};
+use jword::WordFault;
 use std::alloc::{AllocError, Global};
 
 /// The first line, and what follows it.

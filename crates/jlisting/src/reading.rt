@@ -2,10 +2,9 @@
 
 ghost use Rattle.std.specs.Prelude.{◌==◌};
 ghost use Rattle.std.specs.List.{slice_split};
-ghost use Rattle.jlisting.specs.Words.{IsRead};
+ghost use Rattle.jword.specs.Words.{IsRead};
 ghost use Rattle.jlisting.specs.Listing.{one_operand, two_operands, three_operands, statement_of, statement_of_words};
 
-use crate::fault::WordFault;
 use crate::forms::{
     read_create, read_link, read_mkdir, read_owner, read_part, read_remove, read_rename,
     read_symlink, read_time, read_truncate, read_write,
@@ -13,6 +12,7 @@ use crate::forms::{
 use crate::split::split_once;
 use crate::statement::{Settings, Statement};
 use crate::words::is_word;
+use jword::WordFault;
 use std::alloc::Global;
 
 /// A line of two words.

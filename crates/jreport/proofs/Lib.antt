@@ -3,7 +3,6 @@ pub mod FaultLemmas
 pub mod GrowingLemmas
 pub mod ListingLemmas
 pub mod WholeImageLemmas
-pub mod PathLemmas
 pub mod PathTextLemmas
 pub mod PutLemmas
 pub mod StreamLemmas
