@@ -14,7 +14,7 @@ use Rattle.jlisting.specs.declared.statement.Settings.{Settings}
 use Rattle.jlisting.specs.declared.statement.Statement.{Statement}
 use Rattle.jlisting.specs.declared.statement.Statement.TheVariants as kind
 
--- ---- a line
+-- ---- the forms of a line, each by the words after its first
 
 infixl 10 ◌>>=◌
 abbrev pub ◌>>=◌ : {A B : Type 0} → Option A → (A → Option B) → Option B
@@ -63,7 +63,9 @@ rename_line s a b = text_of a >>= λ old. text_of b >>= λ new. operation (op.Re
 abbrev pub remove_line : Settings → List ℕ → Option Statement
 remove_line s a = text_of a >>= λ path. operation (op.Remove s.time path)
 
--- by the number of words after the first
+-- ---- a line
+
+-- the form with this first word and so many after it
 unfoldable pub one_operand : Settings → List ℕ → List ℕ → Option Statement
 one_operand s name a =
     if bytes_eq name (codes "time") then time_line s a
@@ -97,7 +99,7 @@ statement_of_words s _ = None
 abbrev pub is_skipped : List ℕ → Bool
 is_skipped line = (length line == 0) || (slice_index line 0 == 35)
 
--- a line that is not skipped is words between single spaces
+-- Any other line is words between single spaces. A space at an end, or a second one, makes an empty word, which no form takes.
 unfoldable pub statement_of : Settings → List ℕ → Option Statement
 statement_of s line = if is_skipped line then Some kind.Blank else statement_of_words s (slice_split (λ b. b == 32) line)
 
@@ -136,7 +138,7 @@ lines_in n s text = lines_from n s (slice_split (λ b. b == 10) text)
 unfoldable pub lines_of : List ℕ → Result (List Line) ℕ
 lines_of text = lines_in 1 initial_settings text
 
--- why a listing is not read: the first line that means nothing, or out of memory
+-- why a listing is not read: the first line that means nothing, or memory runs out
 abbrev pub IsListingFault : Result (List Line) ℕ → ListingFault → Type 0
 IsListingFault lines (fault.Line n) = lines ≡ Err n
 IsListingFault lines fault.OutOfMemory = Unit {0}

@@ -16,7 +16,7 @@ pub fn file_is_listed()
         ∷ record { number = 4; action = action.Op (op.Write 0 (codes "/a") 8 []) } ∷ []) }
 {}
 
-/// What is set stands for the lines after.
+/// Settings hold for the lines after them.
 #[tactic(auto, unfolding(crate::specs::Listing::lines_of, crate::specs::Listing::statement_of, crate::specs::Listing::one_operand, crate::specs::Listing::two_operands))]
 pub fn settings_are_listed()
     ensures { lines_of (codes "mkdir 0 /a\n# later\n\ntime 5\nowner 1 65535\nmkdir 777 /b\n") ≡ Ok (

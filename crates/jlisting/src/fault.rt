@@ -11,6 +11,7 @@ pub enum ListingFault {
     /// The first line that means nothing, counted from 1.
     #[error("P2 Listing line {0}")]
     Line(usize),
+    /// A growth was refused.
     #[error("P6 OutOfMemory")]
     OutOfMemory,
 }

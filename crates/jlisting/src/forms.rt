@@ -1,4 +1,4 @@
-//! The forms of a line, by its words.
+//! The forms of a line, each by the words after its first.
 
 ghost use Rattle.jword.specs.Words.{IsRead};
 ghost use Rattle.jlisting.specs.Listing.{time_line, owner_line, mkdir_line, create_line, symlink_line, write_line, part_line, truncate_line, link_line, rename_line, remove_line};

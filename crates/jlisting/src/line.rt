@@ -1,11 +1,11 @@
-//! The lines of a listing that ask for something.
+//! The lines of a listing that have an action.
 
 ghost use Rattle.std.specs.Prelude.{◌≡◌, option_map};
 
 use jsteps::{Op, Text};
 use std::marker::Model;
 
-/// The name of a file of the host, seen as its bytes.
+/// The name of a file of the host as it is in the listing, seen as its bytes.
 #[derive(Drop)]
 pub struct FileName<'a> {
     name: &'a str,
@@ -20,12 +20,14 @@ impl<'a> Model for FileName<'a> {
 }
 
 impl<'a> FileName<'a> {
-    pub fn new(name: &'a str) -> FileName<'a>
+    /// A name.
+    pub(crate) fn new(name: &'a str) -> FileName<'a>
         ensures { result ≡ name.now }
     {
         FileName { name }
     }
 
+    /// The name, which lies in the listing.
     pub fn as_str(&self) -> &'a str
         ensures { result.now ≡ self.now }
     {
@@ -33,11 +35,11 @@ impl<'a> FileName<'a> {
     }
 }
 
-/// What a line asks for.
+/// What a line does.
 #[derive(Drop)]
 pub enum Action<'a> {
     Op(Op<'a>),
-    /// A write of the bytes of a file of the host.
+    /// A write from `offset` on of the bytes of a file of the host, which are not read yet.
     Part {
         time: u32,
         path: Text<'a>,
@@ -49,7 +51,7 @@ pub enum Action<'a> {
 impl<'a> Action<'a> {
     ghost use Rattle.jlisting.specs.Listing.{file_of, op_of};
 
-    /// The file of the host whose bytes it needs.
+    /// The file of the host whose bytes are written, if there is one.
     pub fn file(&self) -> Option<&'a str>
         ensures { option_map (λ name. name.now) result ≡ file_of self.now }
     {
@@ -59,7 +61,7 @@ impl<'a> Action<'a> {
         }
     }
 
-    /// What it asks for, where the bytes of that file are at hand.
+    /// The operation, where that file has these bytes. They are lent, and an operation without a file has no use for them.
     pub fn op(self, bytes: &'a [u8]) -> Op<'a>
         ensures { result ≡ op_of self.entry bytes.entry.now }
     {
@@ -80,7 +82,7 @@ impl<'a> Action<'a> {
     }
 }
 
-/// A line that asks for something, and its number, counted from 1.
+/// A line with an action, and its number, counted from 1 over all lines.
 #[derive(Drop)]
 pub struct Line<'a> {
     pub number: usize,

@@ -26,7 +26,7 @@ fn first_line(text: &[u8]) -> (&[u8], &[u8])
     }
 }
 
-/// Adds what a line means, and gives what is set after it.
+/// Adds the action of a line, and gives the settings after it.
 fn apply<'a>(
     number: usize,
     settings: Settings,
@@ -46,7 +46,10 @@ fn apply<'a>(
     }
 }
 
-/// Reads a listing as a whole: its lines that ask for something.
+/// Reads a listing as a whole: its lines that have an action, in their order.
+///
+/// # Errors
+/// `Line`: the first line that means nothing. `OutOfMemory`.
 pub fn listing<'a>(alloc: Global, text: &'a [u8]) -> Result<Vec<Line<'a>>, ListingFault>
     ensures ok { IfOk result (λ lines. lines_of text.entry.now ≡ Ok lines.items) }
     ensures err { IfErr result (IsListingFault (lines_of text.entry.now)) }

@@ -1,4 +1,4 @@
-//! Which form a line has.
+//! The form of a line, by its number of words and its first word.
 
 ghost use Rattle.std.specs.Prelude.{◌==◌};
 ghost use Rattle.std.specs.List.{slice_split};
@@ -85,7 +85,7 @@ fn read_three<'a>(
     }
 }
 
-/// What words between single spaces mean.
+/// What the words of a line mean.
 fn read_words<'a>(
     alloc: Global,
     settings: Settings,
@@ -108,7 +108,7 @@ fn read_words<'a>(
     }
 }
 
-/// What a line means where earlier ones set this.
+/// What a line means after these settings.
 #[tactic(auto, unfolding(crate::specs::Listing::statement_of))]
 pub fn read_line<'a>(
     alloc: Global,

@@ -17,5 +17,6 @@ pub enum Statement<'a> {
     Blank,
     /// Settings for the lines that follow.
     Settings(Settings),
+    /// An action.
     Action(Action<'a>),
 }
