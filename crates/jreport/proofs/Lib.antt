@@ -9,3 +9,4 @@ pub mod StreamLemmas
 pub mod ExtentLemmas
 pub mod VerdictLemmas
 pub mod WalkLemmas
+pub mod PathLemmas

@@ -1,8 +1,9 @@
 -- The word of a command line that names a path.
-use Rattle.std.specs.Prelude.{◌≡◌, ℕ, List, Option, None}
+use Rattle.std.specs.Prelude.{◌≡◌, ◌<◌, ℕ, List, All, Option, Some, None}
 use Rattle.jmount.specs.declared.fault.FindFault.TheVariants as find
 use Rattle.jreport.specs.declared.faults.ProgramFault.{ProgramFault}
 use Rattle.jreport.specs.declared.faults.ProgramFault.TheVariants.{Path, OutOfMemory}
+use Rattle.jline.specs.Words.{escaped}
 use Rattle.jword.specs.Words.{unescaped}
 
 -- the path that a word stands for: escapes are bytes, so an escaped slash is a separator too
@@ -14,3 +15,7 @@ abbrev pub IsWordFault : Option (List ℕ) → ProgramFault → Type 0
 IsWordFault bytes (Path find.BadPath) = bytes ≡ None
 IsWordFault bytes OutOfMemory = Unit {0}
 IsWordFault bytes _ = ⊥
+
+-- A name as it is printed is a word that stands for the name.
+abbrev pub EscapedIsReadBack : Type 0
+EscapedIsReadBack = (bytes : List ℕ) → All (λ b. b < 256) bytes → path_of (escaped bytes) ≡ Some bytes
