@@ -25,12 +25,13 @@
 //! the actions of the text with their lines, or the number of the first line that means nothing.
 //!
 //! `specs/Words.antt` says what a word stands for, `specs/Listing.antt` what a line means and which actions a text has.
-//! `examples` has worked listings.
+//! `laws` has what holds of numbers, and `examples` has worked listings.
 #![tactic(auto)]
 
 pub mod examples;
 mod fault;
 mod forms;
+pub mod laws;
 mod line;
 mod lines;
 mod reading;
