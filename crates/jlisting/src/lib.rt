@@ -12,17 +12,18 @@
 //! | `link OLD NEW`, `rename OLD NEW` | a further name, another name |
 //! | `remove PATH` | a name that goes |
 //!
-//! A line ends with a line feed, which the last may lack. Empty lines and those that begin with `#` are skipped. Any other has its
-//! words between single spaces, none at its ends; every other byte belongs to a word, tabs and carriage returns too. In PATH, OLD,
-//! NEW and TARGET `\x` and two hexadecimal digits are one byte, and `\` has no other use; FILE is UTF-8 and as it is. Numbers
-//! have 1 to 10 decimal digits and are at most 4294967295, owners at most 65535. MODE has 1 to 6 octal digits. HEX is pairs of
-//! hexadecimal digits, or `-` for no bytes. Hexadecimal digits are taken in either case.
+//! A line ends with a line feed, which the last may lack. Empty lines and those that begin with `#` are skipped. Any
+//! other has its words between single spaces, none at its ends; every other byte belongs to a word, tabs and carriage
+//! returns too. In PATH, OLD, NEW and TARGET `\x` and two hexadecimal digits are one byte, and `\` has no other use. FILE
+//! is UTF-8 and taken as it is. Numbers have 1 to 10 decimal digits and are at most 4294967295, owners at most 65535.
+//! MODE has 1 to 6 octal digits. HEX is pairs of hexadecimal digits, or `-` for no bytes. Hexadecimal digits are taken in
+//! either case.
 //!
-//! A listing is read in one pass, in time linear in its bytes, and its words are lent and not copied but for those with an escape
-//! and for HEX.
+//! A listing is read in one pass, in time linear in its bytes. Its words are lent and not copied, but for those with an
+//! escape and for HEX.
 //!
-//! It is built on `jsteps` (operations) and `jword` (words that stand for bytes). Its promise to the program: `listing` answers
-//! the actions of the text with their lines, or the number of the first line that means nothing.
+//! It is built on `jsteps` (operations) and `jword` (words that stand for bytes). Its promise to the program: `listing`
+//! answers the actions of the text with their lines, or the number of the first line that means nothing.
 //!
 //! `specs/Words.antt` says what a word stands for, `specs/Listing.antt` what a line means and which actions a text has.
 //! `laws` has what holds of numbers, and `examples` has worked listings.
