@@ -1,7 +1,8 @@
-/* The baseline of the benchmarks: the checksum of a file, and nothing else.
+/* The baseline of the benchmarks: one pass over the bytes of a file, and nothing else.
  *
- * loop pieces FILE    reads 64 KiB at a time into one buffer
- * loop whole FILE     reads the file into one allocation first
+ * loop pieces FILE    the checksum, read 64 KiB at a time into one buffer
+ * loop whole FILE     the checksum, of the file in one allocation
+ * loop lines FILE     how many lines and words it has, of the file in one allocation
  *
  * Eight tables, eight bytes a step: the same work a byte as `flashbase::crc`.
  */
@@ -51,26 +52,49 @@ static uint32_t in_pieces(int file) {
     return rest;
 }
 
-static uint32_t as_a_whole(int file) {
+/* All bytes of the file, or NULL. */
+static unsigned char *loaded(int file, ssize_t *length) {
     struct stat about;
+    *length = 0;
     if (fstat(file, &about))
-        return 0;
+        return NULL;
     unsigned char *bytes = malloc(about.st_size + 1);
-    ssize_t held = 0;
-    for (ssize_t length; bytes && (length = read(file, bytes + held, about.st_size - held)) > 0;)
-        held += length;
-    uint32_t rest = bytes ? checksum_from(0, bytes, held) : 0;
+    for (ssize_t more; bytes && (more = read(file, bytes + *length, about.st_size - *length)) > 0;)
+        *length += more;
+    return bytes;
+}
+
+static uint32_t as_a_whole(int file) {
+    ssize_t length;
+    unsigned char *bytes = loaded(file, &length);
+    uint32_t rest = bytes ? checksum_from(0, bytes, length) : 0;
     free(bytes);
     return rest;
+}
+
+/* Line feeds, and bytes that begin a word: what `wc -lw` counts of a text with single spaces. */
+static uint32_t lines_and_words(int file) {
+    ssize_t length;
+    unsigned char *bytes = loaded(file, &length);
+    uint32_t lines = 0, words = 0;
+    int between = 1;
+    for (ssize_t k = 0; bytes && k < length; k++) {
+        int ends = bytes[k] == '\n' || bytes[k] == ' ';
+        lines += bytes[k] == '\n';
+        words += between && !ends;
+        between = ends;
+    }
+    free(bytes);
+    return lines ^ words;
 }
 
 int main(int count, char **words) {
     int file = count == 3 ? open(words[2], O_RDONLY) : -1;
     if (file < 0) {
-        fprintf(stderr, "usage: loop pieces|whole FILE\n");
+        fprintf(stderr, "usage: loop pieces|whole|lines FILE\n");
         return 2;
     }
     fill_tables();
-    printf("%08x\n", strcmp(words[1], "whole") ? in_pieces(file) : as_a_whole(file));
+    printf("%08x\n", !strcmp(words[1], "lines") ? lines_and_words(file) : !strcmp(words[1], "whole") ? as_a_whole(file) : in_pieces(file));
     return 0;
 }

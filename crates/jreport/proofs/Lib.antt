@@ -3,10 +3,10 @@ pub mod FaultLemmas
 pub mod GrowingLemmas
 pub mod ListingLemmas
 pub mod WholeImageLemmas
-pub mod PathLemmas
 pub mod PathTextLemmas
 pub mod PutLemmas
 pub mod StreamLemmas
 pub mod ExtentLemmas
 pub mod VerdictLemmas
 pub mod WalkLemmas
+pub mod PathLemmas

@@ -1,20 +1,39 @@
--- The word of a path, byte by byte.
-use Rattle.std.proofs.Common.{◌≡◌, ◌≢◌, ℕ, List, [], ◌∷◌, ◌++◌, ap, sym, ◌∙◌, append_assoc, Option, Some, None, option_map, arith}
-use Rattle.std.proofs.lemmas.Grind.{common_steps}
-use Rattle.jreport.specs.Paths.{path_of, byte_of_digits, and_byte}
+-- Bytes that are escaped, and read again.
+use Rattle.std.proofs.Common.{◌≡◌, ◌≢◌, ℕ, ◌+◌, ◌*◌, ◌/◌, ◌%◌, ◌<◌, Bool, true, false, cond, List, [], ◌∷◌, ◌++◌, ap, sym, ◌∙◌, Option, Some, option_map, option_and_then, refl, arith}
+use Rattle.std.specs.List.{All}
+use Rattle.std.proofs.lemmas.List.Elements.{All-head, All-tail}
+use Rattle.std.proofs.lemmas.Bool.Decides.{nat_tests}
+use Rattle.jline.specs.Words.{escaped, escaped_byte, hex_digit, is_plain}
+use Rattle.jword.specs.Words.{byte_of, digit_of, unescaped}
+use Rattle.jword.proofs.WordLemmas.{unescaped_escape, unescaped_plain}
+use Rattle.jreport.specs.Paths.{EscapedIsReadBack}
 
-pub path_of_plain : (a : ℕ) (word : List ℕ) → a ≢ 92 → path_of (a ∷ word) ≡ option_map (λ (bytes : List ℕ). a ∷ bytes) (path_of word)
-path_of_plain a [] plain = grind (arith, common_steps)
-path_of_plain a (b ∷ []) plain = grind (arith, common_steps)
-path_of_plain a (b ∷ c ∷ []) plain = grind (arith, common_steps)
-path_of_plain a (b ∷ c ∷ d ∷ word) plain = grind (arith, common_steps)
+digit_of_hex_digit : (d : ℕ) → d < 16 → digit_of (hex_digit d) ≡ Some d
+digit_of_hex_digit d small = grind (arith, nat_tests)
 
-pub path_of_escape : (high low byte : ℕ) (rest : List ℕ) → byte_of_digits high low ≡ Some byte
-    → path_of (92 ∷ 120 ∷ high ∷ low ∷ rest) ≡ option_map (λ (bytes : List ℕ). byte ∷ bytes) (path_of rest)
-path_of_escape high low byte rest is = ap (λ (b : Option ℕ). and_byte b (path_of rest)) is
+byte_of_hex_digits : (b : ℕ) → b < 256 → byte_of (hex_digit (b / 16)) (hex_digit (b % 16)) ≡ Some b
+byte_of_hex_digits b small =
+    let high = digit_of_hex_digit (b / 16) (omega arith) in
+    let low = digit_of_hex_digit (b % 16) (omega arith) in
+    let whole : 16 * (b / 16) + b % 16 ≡ b = omega arith in
+    ap (λ (o : Option ℕ). option_and_then (λ h. option_map (λ l. 16 * h + l) (digit_of (hex_digit (b % 16)))) o) high
+    ∙ ap (λ (o : Option ℕ). option_map (λ l. 16 * (b / 16) + l) o) low
+    ∙ ap (λ (n : ℕ). Some n) whole
 
--- one byte more is read
-pub path_more : (path : List ℕ) (byte : ℕ) (left word : Option (List ℕ)) → word ≡ option_map (λ (bytes : List ℕ). path ++ bytes) (option_map (λ (bytes : List ℕ). byte ∷ bytes) left)
-    → word ≡ option_map (λ (bytes : List ℕ). (path ++ byte ∷ []) ++ bytes) left
-path_more path byte None word is = is
-path_more path byte (Some bytes) word is = is ∙ ap (λ (l : List ℕ). Some l) (sym (append_assoc path (byte ∷ []) bytes))
+byte_read_back : (b : ℕ) (rest : List ℕ) → b < 256 → unescaped (escaped_byte b ++ rest) ≡ option_map (λ (bytes : List ℕ). b ∷ bytes) (unescaped rest)
+byte_read_back b rest small = by_kind (is_plain b) refl
+  where
+    by_kind : (plain : Bool) → is_plain b ≡ plain → unescaped (escaped_byte b ++ rest) ≡ option_map (λ (bytes : List ℕ). b ∷ bytes) (unescaped rest)
+    by_kind true is =
+        let no_backslash : b ≢ 92 = λ e. grind (arith, nat_tests) in
+        ap (λ (t : Bool). unescaped (cond t (b ∷ []) (92 ∷ 120 ∷ hex_digit (b / 16) ∷ hex_digit (b % 16) ∷ []) ++ rest)) is
+        ∙ unescaped_plain b rest no_backslash
+    by_kind false is =
+        ap (λ (t : Bool). unescaped (cond t (b ∷ []) (92 ∷ 120 ∷ hex_digit (b / 16) ∷ hex_digit (b % 16) ∷ []) ++ rest)) is
+        ∙ unescaped_escape (hex_digit (b / 16)) (hex_digit (b % 16)) b rest (byte_of_hex_digits b small)
+
+pub escaped_read_back : EscapedIsReadBack
+escaped_read_back [] all = refl
+escaped_read_back (b ∷ bytes) all =
+    byte_read_back b (escaped bytes) (All-head (λ b. b < 256) b bytes all)
+    ∙ ap (option_map (λ (more : List ℕ). b ∷ more)) (escaped_read_back bytes (All-tail (λ b. b < 256) b bytes all))

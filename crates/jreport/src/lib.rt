@@ -18,6 +18,7 @@ mod faults;
 mod files;
 mod listing;
 mod notes;
+pub mod path_laws;
 mod paths;
 mod report;
 pub mod report_examples;

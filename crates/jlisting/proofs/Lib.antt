@@ -1,0 +1,4 @@
+pub mod SplitLemmas
+pub mod ListingLemmas
+pub mod WordLemmas
+pub mod NumberLemmas

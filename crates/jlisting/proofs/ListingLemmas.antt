@@ -1,0 +1,43 @@
+-- Lines, one after the other.
+use Rattle.std.proofs.Common.{◌≡◌, ℕ, ◌+◌, ◌<◌, List, [], ◌∷◌, ◌++◌, length, refl, ap, sym, ◌∙◌, append_assoc, append-nil, Option, Some, None, Result, Ok, Err, arith}
+use Rattle.jlisting.specs.Listing.{statement_of_words, prepend, or_err, action_lines, settings_after, lines_from, lines_in, statement_of}
+use Rattle.jlisting.specs.declared.line.Line.{Line}
+use Rattle.jlisting.specs.declared.statement.Settings.{Settings}
+use Rattle.jlisting.specs.declared.statement.Statement.{Statement}
+
+-- more than four words mean nothing
+pub statement_of_words_many : (s : Settings) (name a b c : List ℕ) (more : List (List ℕ)) → 0 < length more → statement_of_words s (name ∷ a ∷ b ∷ c ∷ more) ≡ None
+statement_of_words_many s name a b c [] some = absurd (omega arith)
+statement_of_words_many s name a b c (d ∷ more) some = refl
+
+pub prepend-nil : (r : Result (List Line) ℕ) → prepend [] r ≡ r
+prepend-nil (Ok lines) = refl
+prepend-nil (Err n) = refl
+
+pub prepend-prepend : (first then : List Line) (r : Result (List Line) ℕ) → prepend first (prepend then r) ≡ prepend (first ++ then) r
+prepend-prepend first then (Ok lines) = ap (λ (l : List Line). Ok l) (sym (append_assoc first then lines))
+prepend-prepend first then (Err n) = refl
+
+-- what follows the last line feed may be empty
+pub lines_from_end : (n : ℕ) (s : Settings) (line : List ℕ) → lines_from n s (line ∷ []) ≡ lines_from n s (line ∷ [] ∷ [])
+unfolding statement_of
+lines_from_end n s line = refl
+
+-- one line more is read
+pub lines_more : (lines : List Line) (n : ℕ) (s : Settings) (line : List ℕ) (rest : List (List ℕ)) (m : Statement) → statement_of s line ≡ Some m
+    → prepend lines (lines_from n s (line ∷ rest)) ≡ prepend (lines ++ action_lines n m) (lines_from (n + 1) (settings_after s m) rest)
+lines_more lines n s line rest m is =
+    ap (λ (o : Option Statement). prepend lines (or_err n o (λ m. prepend (action_lines n m) (lines_from (n + 1) (settings_after s m) rest)))) is
+    ∙ prepend-prepend lines (action_lines n m) (lines_from (n + 1) (settings_after s m) rest)
+
+-- a line that means nothing
+pub lines_wrong : (lines : List Line) (n : ℕ) (s : Settings) (line : List ℕ) (rest : List (List ℕ)) → statement_of s line ≡ None
+    → prepend lines (lines_from n s (line ∷ rest)) ≡ Err n
+lines_wrong lines n s line rest is =
+    ap (λ (o : Option Statement). prepend lines (or_err n o (λ m. prepend (action_lines n m) (lines_from (n + 1) (settings_after s m) rest)))) is
+
+-- nothing is left
+pub lines_end : (lines : List Line) (n : ℕ) (s : Settings) (text : List ℕ) → length text ≡ 0 → prepend lines (lines_in n s text) ≡ Ok lines
+unfolding statement_of
+lines_end lines n s [] none = ap (λ (l : List Line). Ok l) (append-nil lines)
+lines_end lines n s (b ∷ text) none = absurd (omega arith)

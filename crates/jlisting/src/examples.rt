@@ -1,0 +1,59 @@
+//! Worked listings. Each function's contract is a text and its lines, and its body is empty.
+
+ghost use Rattle.std.specs.Prelude.{◌≡◌, [], ◌∷◌, Some, None, Ok, Err, codes};
+ghost use Rattle.jsteps.specs.declared.op.Op.TheVariants as op;
+ghost use Rattle.jlisting.specs.Words.{decimal_of, mode_of, text_of, data_of};
+ghost use Rattle.jlisting.specs.Listing.{lines_of};
+ghost use Rattle.jlisting.specs.declared.line.Action.TheVariants as action;
+
+/// A file that is made, written, cut and written again.
+#[tactic(auto, unfolding(crate::specs::Listing::lines_of, crate::specs::Listing::statement_of, crate::specs::Listing::two_operands, crate::specs::Listing::three_operands))]
+pub fn file_is_listed()
+    ensures { lines_of (codes "create 0644 /a\nwrite /a 0 01fF\ntruncate /a 1\nwrite /a 8 -") ≡ Ok (
+        record { number = 1; action = action.Op (op.Create 0 (codes "/a") 0o644 0 0) }
+        ∷ record { number = 2; action = action.Op (op.Write 0 (codes "/a") 0 (0x01 ∷ 0xFF ∷ [])) }
+        ∷ record { number = 3; action = action.Op (op.Truncate 0 (codes "/a") 1) }
+        ∷ record { number = 4; action = action.Op (op.Write 0 (codes "/a") 8 []) } ∷ []) }
+{}
+
+/// Settings hold for the lines after them.
+#[tactic(auto, unfolding(crate::specs::Listing::lines_of, crate::specs::Listing::statement_of, crate::specs::Listing::one_operand, crate::specs::Listing::two_operands))]
+pub fn settings_are_listed()
+    ensures { lines_of (codes "mkdir 0 /a\n# later\n\ntime 5\nowner 1 65535\nmkdir 777 /b\n") ≡ Ok (
+        record { number = 1; action = action.Op (op.Mkdir 0 (codes "/a") 0 0 0) }
+        ∷ record { number = 6; action = action.Op (op.Mkdir 5 (codes "/b") 0o777 1 65535) } ∷ []) }
+{}
+
+/// Two spaces, a space at the end, and a carriage return.
+#[tactic(auto, unfolding(crate::specs::Listing::lines_of, crate::specs::Listing::statement_of, crate::specs::Listing::one_operand, crate::specs::Listing::two_operands, crate::specs::Listing::three_operands))]
+pub fn wrong_lines_are_found()
+    ensures two_spaces { lines_of (codes "# a\n\ncreate  0644 /a") ≡ Err 3 }
+    ensures at_the_end { lines_of (codes "remove /a\nremove /b \n") ≡ Err 2 }
+    ensures carriage_return { lines_of (codes "remove /a\n\r\n") ≡ Err 2 }
+    ensures indented { lines_of (codes " # a") ≡ Err 1 }
+    ensures nothing { lines_of [] ≡ Ok [] }
+{}
+
+/// Numbers at their limits, and past them.
+pub fn numbers_are_read()
+    ensures greatest { decimal_of 4294967295 (codes "4294967295") ≡ Some 4294967295 }
+    ensures past_greatest { decimal_of 4294967295 (codes "4294967296") ≡ None }
+    ensures zeros { decimal_of 65535 (codes "0000065535") ≡ Some 65535 }
+    ensures eleven_digits { decimal_of 65535 (codes "00000065535") ≡ None }
+    ensures no_digits { decimal_of 65535 [] ≡ None }
+    ensures mode { mode_of (codes "777777") ≡ Some 0o777777 }
+    ensures long_mode { mode_of (codes "0000644") ≡ None }
+    ensures decimal_mode { mode_of (codes "8") ≡ None }
+{}
+
+/// Bytes that are escaped, and bytes that are written.
+pub fn bytes_are_read()
+    ensures escapes { text_of (codes "a\\x2F\\x00\\xff") ≡ Some (97 ∷ 47 ∷ 0 ∷ 255 ∷ []) }
+    ensures capital { text_of (codes "\\X2f") ≡ None }
+    ensures short { text_of (codes "a\\x2") ≡ None }
+    ensures double { text_of (codes "\\\\") ≡ None }
+    ensures data { data_of (codes "00aF") ≡ Some (0x00 ∷ 0xAF ∷ []) }
+    ensures odd { data_of (codes "00a") ≡ None }
+    ensures no_data { data_of (codes "-") ≡ Some [] }
+    ensures empty { data_of [] ≡ None }
+{}

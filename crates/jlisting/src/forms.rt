@@ -1,0 +1,207 @@
+//! The forms of a line, each by the words after its first.
+
+ghost use Rattle.jword.specs.Words.{IsRead};
+ghost use Rattle.jlisting.specs.Listing.{time_line, owner_line, mkdir_line, create_line, symlink_line, write_line, part_line, truncate_line, link_line, rename_line, remove_line};
+
+use crate::line::Action;
+use crate::statement::{Settings, Statement};
+use crate::words::{data_word, decimal_word, file_word, mode_word, owner_word, text_word};
+use jsteps::Op;
+use jword::WordFault;
+use std::alloc::Global;
+
+/// `time T`: the time of what follows.
+pub fn read_time<'a>(settings: Settings, time: &'a [u8]) -> Result<Statement<'a>, WordFault>
+    ensures { IsRead (time_line settings time.entry.now) result }
+{
+    let time = decimal_word(time)?;
+    Ok(Statement::Settings(Settings { time, ..settings }))
+}
+
+/// `owner UID GID`: the owner of what follows.
+pub fn read_owner<'a>(
+    settings: Settings,
+    uid: &'a [u8],
+    gid: &'a [u8],
+) -> Result<Statement<'a>, WordFault>
+    ensures { IsRead (owner_line settings uid.entry.now gid.entry.now) result }
+{
+    let uid = owner_word(uid)?;
+    let gid = owner_word(gid)?;
+    Ok(Statement::Settings(Settings {
+        uid,
+        gid,
+        ..settings
+    }))
+}
+
+/// `mkdir MODE PATH`
+pub fn read_mkdir<'a>(
+    alloc: Global,
+    settings: Settings,
+    mode: &'a [u8],
+    path: &'a [u8],
+) -> Result<Statement<'a>, WordFault>
+    ensures { IsRead (mkdir_line settings mode.entry.now path.entry.now) result }
+{
+    let mode = mode_word(mode)?;
+    let path = text_word(alloc, path)?;
+    Ok(Statement::Action(Action::Op(Op::Mkdir {
+        time: settings.time,
+        path,
+        mode,
+        uid: settings.uid,
+        gid: settings.gid,
+    })))
+}
+
+/// `create MODE PATH`
+pub fn read_create<'a>(
+    alloc: Global,
+    settings: Settings,
+    mode: &'a [u8],
+    path: &'a [u8],
+) -> Result<Statement<'a>, WordFault>
+    ensures { IsRead (create_line settings mode.entry.now path.entry.now) result }
+{
+    let mode = mode_word(mode)?;
+    let path = text_word(alloc, path)?;
+    Ok(Statement::Action(Action::Op(Op::Create {
+        time: settings.time,
+        path,
+        mode,
+        uid: settings.uid,
+        gid: settings.gid,
+    })))
+}
+
+/// `symlink PATH TARGET`
+pub fn read_symlink<'a>(
+    alloc: Global,
+    settings: Settings,
+    path: &'a [u8],
+    target: &'a [u8],
+) -> Result<Statement<'a>, WordFault>
+    ensures { IsRead (symlink_line settings path.entry.now target.entry.now) result }
+{
+    let path = text_word(alloc, path)?;
+    let target = text_word(alloc, target)?;
+    Ok(Statement::Action(Action::Op(Op::Symlink {
+        time: settings.time,
+        path,
+        target,
+        uid: settings.uid,
+        gid: settings.gid,
+    })))
+}
+
+/// `write PATH OFFSET HEX`
+pub fn read_write<'a>(
+    alloc: Global,
+    settings: Settings,
+    path: &'a [u8],
+    offset: &'a [u8],
+    bytes: &'a [u8],
+) -> Result<Statement<'a>, WordFault>
+    ensures { IsRead (write_line settings path.entry.now offset.entry.now bytes.entry.now) result }
+{
+    let path = text_word(alloc, path)?;
+    let offset = decimal_word(offset)?;
+    let bytes = data_word(alloc, bytes)?;
+    Ok(Statement::Action(Action::Op(Op::Write {
+        time: settings.time,
+        path,
+        offset,
+        bytes,
+    })))
+}
+
+/// `part PATH OFFSET FILE`
+pub fn read_part<'a>(
+    alloc: Global,
+    settings: Settings,
+    path: &'a [u8],
+    offset: &'a [u8],
+    file: &'a [u8],
+) -> Result<Statement<'a>, WordFault>
+    ensures { IsRead (part_line settings path.entry.now offset.entry.now file.entry.now) result }
+{
+    let path = text_word(alloc, path)?;
+    let offset = decimal_word(offset)?;
+    let file = file_word(file)?;
+    Ok(Statement::Action(Action::Part {
+        time: settings.time,
+        path,
+        offset,
+        file,
+    }))
+}
+
+/// `truncate PATH SIZE`
+pub fn read_truncate<'a>(
+    alloc: Global,
+    settings: Settings,
+    path: &'a [u8],
+    size: &'a [u8],
+) -> Result<Statement<'a>, WordFault>
+    ensures { IsRead (truncate_line settings path.entry.now size.entry.now) result }
+{
+    let path = text_word(alloc, path)?;
+    let size = decimal_word(size)?;
+    Ok(Statement::Action(Action::Op(Op::Truncate {
+        time: settings.time,
+        path,
+        size,
+    })))
+}
+
+/// `link OLD NEW`
+pub fn read_link<'a>(
+    alloc: Global,
+    settings: Settings,
+    old: &'a [u8],
+    new: &'a [u8],
+) -> Result<Statement<'a>, WordFault>
+    ensures { IsRead (link_line settings old.entry.now new.entry.now) result }
+{
+    let old = text_word(alloc, old)?;
+    let new = text_word(alloc, new)?;
+    Ok(Statement::Action(Action::Op(Op::Link {
+        time: settings.time,
+        old,
+        new,
+    })))
+}
+
+/// `rename OLD NEW`
+pub fn read_rename<'a>(
+    alloc: Global,
+    settings: Settings,
+    old: &'a [u8],
+    new: &'a [u8],
+) -> Result<Statement<'a>, WordFault>
+    ensures { IsRead (rename_line settings old.entry.now new.entry.now) result }
+{
+    let old = text_word(alloc, old)?;
+    let new = text_word(alloc, new)?;
+    Ok(Statement::Action(Action::Op(Op::Rename {
+        time: settings.time,
+        old,
+        new,
+    })))
+}
+
+/// `remove PATH`
+pub fn read_remove<'a>(
+    alloc: Global,
+    settings: Settings,
+    path: &'a [u8],
+) -> Result<Statement<'a>, WordFault>
+    ensures { IsRead (remove_line settings path.entry.now) result }
+{
+    let path = text_word(alloc, path)?;
+    Ok(Statement::Action(Action::Op(Op::Remove {
+        time: settings.time,
+        path,
+    })))
+}

@@ -1,0 +1,124 @@
+//! The form of a line, by its number of words and its first word.
+
+ghost use Rattle.std.specs.Prelude.{◌==◌};
+ghost use Rattle.std.specs.List.{slice_split};
+ghost use Rattle.jword.specs.Words.{IsRead};
+ghost use Rattle.jlisting.specs.Listing.{one_operand, two_operands, three_operands, statement_of, statement_of_words};
+
+use crate::forms::{
+    read_create, read_link, read_mkdir, read_owner, read_part, read_remove, read_rename,
+    read_symlink, read_time, read_truncate, read_write,
+};
+use crate::split::split_once;
+use crate::statement::{Settings, Statement};
+use crate::words::is_word;
+use jword::WordFault;
+use std::alloc::Global;
+
+/// A line of two words.
+#[tactic(auto, unfolding(crate::specs::Listing::one_operand))]
+fn read_one<'a>(
+    alloc: Global,
+    settings: Settings,
+    name: &[u8],
+    a: &'a [u8],
+) -> Result<Statement<'a>, WordFault>
+    ensures { IsRead (one_operand settings name.now a.entry.now) result }
+{
+    if is_word(name, b"time") {
+        read_time(settings, a)
+    } else if is_word(name, b"remove") {
+        read_remove(alloc, settings, a)
+    } else {
+        Err(WordFault::Invalid)
+    }
+}
+
+/// A line of three words.
+#[tactic(auto, unfolding(crate::specs::Listing::two_operands))]
+fn read_two<'a>(
+    alloc: Global,
+    settings: Settings,
+    name: &[u8],
+    a: &'a [u8],
+    b: &'a [u8],
+) -> Result<Statement<'a>, WordFault>
+    ensures { IsRead (two_operands settings name.now a.entry.now b.entry.now) result }
+{
+    if is_word(name, b"owner") {
+        read_owner(settings, a, b)
+    } else if is_word(name, b"mkdir") {
+        read_mkdir(alloc, settings, a, b)
+    } else if is_word(name, b"create") {
+        read_create(alloc, settings, a, b)
+    } else if is_word(name, b"symlink") {
+        read_symlink(alloc, settings, a, b)
+    } else if is_word(name, b"truncate") {
+        read_truncate(alloc, settings, a, b)
+    } else if is_word(name, b"link") {
+        read_link(alloc, settings, a, b)
+    } else if is_word(name, b"rename") {
+        read_rename(alloc, settings, a, b)
+    } else {
+        Err(WordFault::Invalid)
+    }
+}
+
+/// A line of four words.
+#[tactic(auto, unfolding(crate::specs::Listing::three_operands))]
+fn read_three<'a>(
+    alloc: Global,
+    settings: Settings,
+    name: &[u8],
+    a: &'a [u8],
+    b: &'a [u8],
+    c: &'a [u8],
+) -> Result<Statement<'a>, WordFault>
+    ensures { IsRead (three_operands settings name.now a.entry.now b.entry.now c.entry.now) result }
+{
+    if is_word(name, b"write") {
+        read_write(alloc, settings, a, b, c)
+    } else if is_word(name, b"part") {
+        read_part(alloc, settings, a, b, c)
+    } else {
+        Err(WordFault::Invalid)
+    }
+}
+
+/// What the words of a line mean.
+fn read_words<'a>(
+    alloc: Global,
+    settings: Settings,
+    line: &'a [u8],
+) -> Result<Statement<'a>, WordFault>
+    ensures { IsRead (statement_of_words settings (slice_split (λ b. b == 32) line.entry.now)) result }
+{
+    let Some((name, line)) = split_once(line, b' ') else {
+        return Err(WordFault::Invalid);
+    };
+    let Some((a, line)) = split_once(line, b' ') else {
+        return read_one(alloc, settings, name, line);
+    };
+    let Some((b, line)) = split_once(line, b' ') else {
+        return read_two(alloc, settings, name, a, line);
+    };
+    match split_once(line, b' ') {
+        None => read_three(alloc, settings, name, a, b, line),
+        Some(_) => Err(WordFault::Invalid),
+    }
+}
+
+/// What a line means after these settings.
+#[tactic(auto, unfolding(crate::specs::Listing::statement_of))]
+pub fn read_line<'a>(
+    alloc: Global,
+    settings: Settings,
+    line: &'a [u8],
+) -> Result<Statement<'a>, WordFault>
+    ensures { IsRead (statement_of settings line.entry.now) result }
+{
+    match line {
+        [] | [b'#', ..] => Ok(Statement::Blank),
+        _ => read_words(alloc, settings, line),
+    }
+}

@@ -1,0 +1,12 @@
+//! Tests of `jlisting`: each form of a line, the lines that are none with their numbers, settings, escapes, the limits of
+//! numbers, and refused growth. Expected values come from the format of a listing and not from the program's output.
+#![tactic(auto)]
+
+#[cfg(test)]
+mod growth;
+#[cfg(test)]
+mod readable;
+#[cfg(test)]
+mod shown;
+#[cfg(test)]
+mod wrong;

@@ -1,0 +1,110 @@
+//! Listings that are read, and what their lines mean.
+
+use crate::shown::{is_shown, show_line};
+use jlisting::{Action, Line, listing};
+use std::test::Fail;
+
+/// Whole listings, each with the lines that are read of it.
+const LISTINGS: [(&[u8], &str); 9] = [
+    (
+        b"create 0644 /a\nwrite /a 0 0102030405060708090a\ntruncate /a 4\nwrite /a 8 ff\n",
+        "1: 0 create 644 0 0 /a\n2: 0 write 0 /a \\x01\\x02\\x03\\x04\\x05\\x06\\x07\\x08\\x09\\x0a\n\
+        3: 0 truncate 4 /a\n4: 0 write 8 /a \\xff\n",
+    ),
+    (
+        b"mkdir 0755 /a\ntime 7\nowner 1 65535\ncreate 644 /a/b\nsymlink /l ../x\n\
+        write /a/b 3 0aFf\npart /a/b 12 host\\x.bin\ntruncate /a/b 4294967295\nlink /a/b /c\n\
+        owner 0 0\nrename /c /d\ntime 0\nremove /d",
+        "1: 0 mkdir 755 0 0 /a\n4: 7 create 644 1 65535 /a/b\n\
+        5: 7 symlink 1 65535 /l ../x\n6: 7 write 3 /a/b \\x0a\\xff\n\
+        7: 7 part 12 /a/b host\\x.bin\n8: 7 truncate 4294967295 /a/b\n9: 7 link /a/b /c\n\
+        11: 7 rename /c /d\n13: 0 remove /d\n",
+    ),
+    (
+        b"time 5\nmkdir 1 /a\nowner 7 8\nmkdir 2 /b\ntime 6\nmkdir 3 /c\nowner 9 10\nmkdir 4 /d",
+        "2: 5 mkdir 1 0 0 /a\n4: 5 mkdir 2 7 8 /b\n6: 6 mkdir 3 7 8 /c\n8: 6 mkdir 4 9 10 /d\n",
+    ),
+    (b"time 1\ntime 2\nremove a", "3: 2 remove a\n"),
+    (b"\n# a\nremove /a", "3: 0 remove /a\n"),
+    (b"\n# a\nremove /a\n", "3: 0 remove /a\n"),
+    (
+        b"remove /a\n\n\n\nremove /b\n",
+        "1: 0 remove /a\n5: 0 remove /b\n",
+    ),
+    (b"#\r\nremove /a\r\n", "2: 0 remove /a\\x0d\n"),
+    (b"owner 1 2\ncreate 0 /a\n", "2: 0 create 0 1 2 /a\n"),
+];
+
+/// Listings of no action.
+const EMPTY: [&[u8]; 8] = [
+    b"",
+    b"\n",
+    b"\n\n\n",
+    b"#",
+    b"#\n",
+    b"# a  b \n#\x00\xff\\\r\n\n#mkdir",
+    b"time 5\nowner 1 2\n",
+    b"time 4294967295\nowner 65535 0",
+];
+
+/// Words, each in a line of its own, at the limits of what is read.
+const WORDS: [(&[u8], &str); 24] = [
+    (b"truncate /a 0000000000", "1: 0 truncate 0 /a\n"),
+    (b"truncate /a 4294967295", "1: 0 truncate 4294967295 /a\n"),
+    (b"truncate /a 0000000042", "1: 0 truncate 42 /a\n"),
+    (
+        b"owner 65535 0000000001\nmkdir 0 /a",
+        "2: 0 mkdir 0 65535 1 /a\n",
+    ),
+    (b"time 4294967295\nremove /a", "2: 4294967295 remove /a\n"),
+    (b"mkdir 7 /a", "1: 0 mkdir 7 0 0 /a\n"),
+    (b"mkdir 777777 /a", "1: 0 mkdir 777777 0 0 /a\n"),
+    (b"mkdir 000001 /a", "1: 0 mkdir 1 0 0 /a\n"),
+    (b"create 107777 /a", "1: 0 create 107777 0 0 /a\n"),
+    (b"write /a 0 -", "1: 0 write 0 /a \n"),
+    (b"write /a 0 00", "1: 0 write 0 /a \\x00\n"),
+    (b"write /a 9 61AbcDef", "1: 0 write 9 /a a\\xab\\xcd\\xef\n"),
+    (b"remove /\\x61\\xaB\\xFf", "1: 0 remove /a\\xab\\xff\n"),
+    (b"remove \\x2f\\x2f", "1: 0 remove //\n"),
+    (b"remove \\x5cx41", "1: 0 remove \\x5cx41\n"),
+    (b"remove \\x20\\x0a", "1: 0 remove \\x20\\x0a\n"),
+    (b"remove #", "1: 0 remove #\n"),
+    (b"remove \xff\x00\t", "1: 0 remove \\xff\\x00\\x09\n"),
+    (b"symlink /a \\x00", "1: 0 symlink 0 0 /a \\x00\n"),
+    (b"part /a 0 -", "1: 0 part 0 /a -\n"),
+    (b"part /a 0 \\", "1: 0 part 0 /a \\\n"),
+    (b"part /\\x61 0 a\tb", "1: 0 part 0 /a a\tb\n"),
+    (b"part /a 0 \xc3\xa4", "1: 0 part 0 /a \u{e4}\n"),
+    (b"link a b", "1: 0 link a b\n"),
+];
+
+#[test]
+fn listings_that_are_read(rt: HostRuntime) {
+    for (text, wanted) in LISTINGS {
+        assert!(rt; is_shown(rt.alloc(), text, wanted), "{wanted}");
+    }
+    for (text, wanted) in WORDS {
+        assert!(rt; is_shown(rt.alloc(), text, wanted), "{wanted}");
+    }
+    for text in EMPTY {
+        assert!(rt; is_shown(rt.alloc(), text, ""), "{text:?}");
+    }
+}
+
+/// The bytes of a part's file join its line, also where they are younger than the listing.
+#[test]
+fn parts_become_writes(rt: HostRuntime) -> Result<(), Fail> {
+    let mut out = String::new(rt.alloc());
+    let text = b"time 3\npart /a 4 f\nremove /a\n".to_vec(rt.alloc())?;
+    let lines = listing(rt.alloc(), &text)?;
+    let bytes = b"xyz".to_vec(rt.alloc())?;
+    for line in lines {
+        let wanted = if line.number == 2 { Some("f") } else { None };
+        assert_eq!(rt; line.action.file(), wanted);
+        let number = line.number;
+        let action = Action::Op(line.action.op(&bytes));
+        show_line(&mut out, &Line { number, action })?;
+    }
+    assert_eq!(rt; out.as_str(), "2: 3 write 4 /a xyz\n3: 3 remove /a\n");
+    Ok(())
+}

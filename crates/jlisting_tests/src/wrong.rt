@@ -1,0 +1,145 @@
+//! Lines that mean nothing, with their numbers.
+
+use jlisting::{ListingFault, listing};
+use std::alloc::Global;
+
+/// The number of the line for which a listing is not read.
+fn wrong_line(alloc: Global, text: &[u8]) -> Option<usize> {
+    match listing(alloc, text) {
+        Err(ListingFault::Line(number)) => Some(number),
+        _ => None,
+    }
+}
+
+/// Lines are counted from 1, empty ones and comments with the others; the first that means nothing is answered.
+const NUMBERS: [(&[u8], usize); 14] = [
+    (b"# a\n\ncreate  0644 /a\n", 3),
+    (b"# a\n\ncreate  0644 /a", 3),
+    (b"x", 1),
+    (b"\n\n\nx\ny\n", 4),
+    (b"remove /a\nremove /b\n \n", 3),
+    (b"remove /a\n # a\n", 2),
+    (b"\r\n", 1),
+    (b"# a\r\n\r\n", 2),
+    (b"remove /a\n\x00", 2),
+    (b"mkdir 755 /a\ntime 9\ntime 9\r\nremove /a\n", 3),
+    (b"owner 1 1\nowner 65536 1\n", 2),
+    (b"create 0644 /a\rwrite /a 0 -", 1),
+    (b"remove /a\n\n\n\n\n\n\n\n\n\n\nremove", 12),
+    (b"\xef\xbb\xbfremove /a\n", 1),
+];
+
+/// Lines that mean nothing, each a listing of its own.
+const NOTHING: [&[u8]; 101] = [
+    b"truncate /a 00000000000",
+    b"truncate /a 4294967296",
+    b"truncate /a 9999999999",
+    b"truncate /a 42949672950",
+    b"truncate /a ",
+    b"truncate /a +1",
+    b"truncate /a -1",
+    b"truncate /a 0x1",
+    b"truncate /a 1\r",
+    b"truncate /a 1 ",
+    b"truncate  /a 1",
+    b" truncate /a 1",
+    b"truncate /a",
+    b"truncate /a 1 2",
+    b"truncate",
+    b"time",
+    b"time ",
+    b"time 1 2",
+    b"time 4294967296",
+    b"time a",
+    b"time 1\t",
+    b"time\t1",
+    b"Time 1",
+    b"owner 1",
+    b"owner 1 2 3",
+    b"owner 65536 0",
+    b"owner 0 65536",
+    b"owner 0 ",
+    b"owner  0",
+    b"mkdir /a",
+    b"mkdir 8 /a",
+    b"mkdir 0000755 /a",
+    b"mkdir 1000000 /a",
+    b"mkdir  /a",
+    b"mkdir 755 ",
+    b"mkdir 755 /a b",
+    b"create 0644",
+    b"create 9 /a",
+    b"write /a 0",
+    b"write /a 0 ",
+    b"write /a 0 a",
+    b"write /a 0 abc",
+    b"write /a 0 0g",
+    b"write /a 0 g0",
+    b"write /a 0 --",
+    b"write /a 0 -0",
+    b"write /a x 00",
+    b"write /a 0 00 00",
+    b"write /a 0 00 00 00 00",
+    b"write \\x 0 00",
+    b"part /a 0",
+    b"part /a 0 ",
+    b"part /a 0 \xff",
+    b"part /a 0 a\xc3",
+    b"part /a 0 a b",
+    b"part /\\ 0 a",
+    b"remove",
+    b"remove ",
+    b"remove /a /b",
+    b"remove \\",
+    b"remove \\x",
+    b"remove \\x6",
+    b"remove \\xg0",
+    b"remove \\x0g",
+    b"remove \\X61",
+    b"remove \\\\",
+    b"remove /a\\n",
+    b"remove \\x61\\",
+    b"link /a",
+    b"link /a ",
+    b"link  /a",
+    b"rename /a /b /c",
+    b"symlink /a",
+    b"symlink /a \\q",
+    b"removes /a",
+    b"remov /a",
+    b"REMOVE /a",
+    b"copy /a /b",
+    b"attr 644 0 0 0 0 /a",
+    b"\x00",
+    b" ",
+    b" #",
+    b"\t",
+    b"truncate /a \xff",
+    b"mkdir 0o7 /a",
+    b"mkdir -1 /a",
+    b"mkdir 75 8 /a",
+    b"write /a 4294967296 -",
+    b"part /a 4294967296 f",
+    b"part /a -1 f",
+    b"time 00000000000",
+    b"time 9999999999",
+    b"owner 00000000001 0",
+    b"owner -1 0",
+    b"write /a 0 \\x00",
+    b"symlink /a ",
+    b"symlink  /a",
+    b"rename /a ",
+    b"create 0644 ",
+    b"remove /a ",
+    b"mkdir\x20\x20755 /a",
+];
+
+#[test]
+fn lines_that_mean_nothing(rt: HostRuntime) {
+    for (text, number) in NUMBERS {
+        assert_eq!(rt; wrong_line(rt.alloc(), text), Some(number), "{text:?}");
+    }
+    for text in NOTHING {
+        assert_eq!(rt; wrong_line(rt.alloc(), text), Some(1), "{text:?}");
+    }
+}
