@@ -8,3 +8,4 @@ pub mod MountLaws
 pub mod Headline
 pub mod Running
 pub mod Session
+pub mod View

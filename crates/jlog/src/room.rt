@@ -1,9 +1,7 @@
 //! Whether there is room for the nodes of steps.
 
-ghost use Rattle.std.specs.Prelude.{◌≡◌, ◌≤◌, ◌+◌, ◌*◌, ◌%◌, IsTrue, IfOk, IfErr, Err, Ok, length};
-ghost use Rattle.jsteps.specs.Planning.{IsPage};
-ghost use Rattle.jsteps.specs.Refusals.{planned_by};
-ghost use Rattle.jsteps.specs.declared.fault.OpFault.TheVariants as refused;
+ghost use Rattle.std.specs.Prelude.{◌≡◌, ◌≤◌, ◌+◌, ◌*◌, ◌%◌, IsTrue, length};
+ghost use Rattle.jsteps.specs.Planning.{plain_page, most_steps};
 ghost use Rattle.jlog.specs.Places.{is_writable_flash, fit, needed, free};
 ghost use Rattle.jlog.specs.Running.{written, CanWriteAll};
 
@@ -11,40 +9,20 @@ use crate::node::node_len;
 use crate::place::place_of;
 use flashbase::pad4;
 use jnode::Order;
-use jsteps::{Index, Op, OpFault, Step};
-use std::alloc::Global;
-
-/// The steps of an operation. (It is in for the layer below, which has no such call yet.)
-pub fn plan<'a>(
-    _alloc: Global,
-    _index: &Index,
-    _op: &'a Op,
-    page: u32,
-) -> Result<Vec<Step<'a>>, OpFault>
-    requires { IsPage page }
-    ensures ok { IfOk result (λ steps. planned_by page _index.now _op.now ≡ Ok steps.items) }
-    ensures few { IfOk result (λ steps. length steps.items ≤ 2147483650) }
-    ensures err { IfErr result (λ f. (f ≡ refused.OutOfMemory → ⊥) → planned_by page _index.now _op.now ≡ Err f) }
-{
-    let _page = page;
-    Err(OpFault::OutOfMemory)
-}
+use jsteps::{Index, Step};
 
 /// Whether the nodes of steps fit.
 pub fn has_room<E: Order>(
     _index: &Index,
-    _page: u32,
     block: u32,
     blocks: u32,
     cursor: u32,
     steps: &[Step<'_>],
 ) -> bool
     requires flash { IsTrue (is_writable_flash block blocks) }
-    requires page { IsPage _page }
-    requires fits { _page + 80 ≤ block }
     requires within { cursor ≤ blocks * block }
     requires word { cursor % 4 ≡ 0 }
-    requires steps { CanWriteAll _page E.order _index.now steps.now }
+    requires steps { CanWriteAll plain_page E.order _index.now steps.now }
     ensures { result ≡ fit block blocks cursor (written E.order _index.now steps.now) }
 {
     let mut end = cursor;
@@ -61,10 +39,9 @@ pub fn has_room<E: Order>(
 }
 
 /// The bytes that the nodes of steps need.
-pub fn needed<E: Order>(_index: &Index, _page: u32, steps: &[Step<'_>]) -> u64
-    requires page { IsPage _page }
-    requires steps { CanWriteAll _page E.order _index.now steps.now }
-    requires few { length steps.now ≤ 2147483650 }
+pub fn needed<E: Order>(_index: &Index, steps: &[Step<'_>]) -> u64
+    requires steps { CanWriteAll plain_page E.order _index.now steps.now }
+    requires few { length steps.now ≤ most_steps }
     ensures { result ≡ needed (written E.order _index.now steps.now) }
 {
     let mut sum = 0;
