@@ -20,3 +20,4 @@ pub mod StepLemmas
 pub mod RunLemmas
 pub mod RoomCode
 pub mod SurviveLemmas
+pub mod ResumeLemmas

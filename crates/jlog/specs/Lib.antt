@@ -8,4 +8,5 @@ pub mod MountLaws
 pub mod Headline
 pub mod Running
 pub mod Session
+pub mod Resuming
 pub mod View

@@ -8,14 +8,15 @@
 //! and which nodes stand whole. `laws` has what follows from them, and `examples` has worked logs.
 #![tactic(auto)]
 
-pub mod laws;
+pub mod examples;
 mod fault;
+pub mod laws;
 mod node;
 mod place;
 mod putting;
 mod report;
+mod resuming;
 mod room;
-pub mod examples;
 mod session;
 mod writing;
 
@@ -23,6 +24,7 @@ pub use crate::fault::SessionFault;
 pub use crate::place::place_of;
 pub use crate::putting::put_node;
 pub use crate::report::{Applied, Place, RunReport};
+pub use crate::resuming::resume_at;
 pub use crate::session::Session;
 
 #[cfg(test)]
