@@ -78,7 +78,7 @@ pub resumes : (e : Endian) (size blocks : ℕ) (m : Mount) (image : List ℕ) (b
 resumes e size blocks m image b image_is writes ok is =
     let fits : is_flash_of size blocks m.image ≡ true = subst (λ (l : List ℕ). is_flash_of size blocks l ≡ true) image_is ok in
     let at : b * size ≡ resume_address e size blocks m.image =
-        ap (λ (n : ℕ). n * size) (blank_is e size m.image blocks b (subst (λ (l : List ℕ). IsBlankFrom e size l blocks b) image_is is)) in
+    ap (λ (n : ℕ). n * size) (blank_is e size m.image blocks b (subst (λ (l : List ℕ). IsBlankFrom e size l blocks b) image_is is)) in
     let last : answer false true (b * size) ≡ answer false true (resume_address e size blocks m.image) = ap (answer false true) at in
     last
     ∙ (sym (ap (λ (r : Bool). answer false r (resume_address e size blocks m.image)) fits)
@@ -101,9 +101,10 @@ resumed_at e size blocks m at is = by m.read_only (is_flash_of size blocks m.ima
 pub resumed_by : (e : Endian) (size blocks : ℕ) (m : Mount) (at : ℕ) (x : Indexed) → resumes_at e size blocks m ≡ Ok at → IsMountOf e size m → AreBytes m.image → x ≡ indexed m
     → IsTrue (is_writable_flash size blocks) × IsGoing size blocks at x
 resumed_by e size blocks m at x is mount are_bytes index_is =
-    let ok = resumed_at e size blocks m at is in
-    ((holds_parts size blocks m.image ok.flash).flash,
-    subst (IsGoing size blocks at) (sym index_is) (subst (λ (n : ℕ). IsGoing size blocks n (indexed m)) (sym ok.cursor) (resumed e size blocks m ok.flash mount are_bytes)))
+    let ok = resumed_at e size blocks m at is in (
+      (holds_parts size blocks m.image ok.flash).flash,
+      subst (IsGoing size blocks at) (sym index_is) (subst (λ (n : ℕ). IsGoing size blocks n (indexed m)) (sym ok.cursor) (resumed e size blocks m ok.flash mount are_bytes)),
+    )
 
 pub fresh_by : (e : Endian) (size blocks : ℕ) (m : Mount) (image : List ℕ) (at : ℕ) (x : Indexed) → resumes_at e size blocks m ≡ Ok at → IsMountOf e size m → image ≡ m.image → x ≡ indexed m
     → IsFresh e size blocks image at x

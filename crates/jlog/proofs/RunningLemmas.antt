@@ -82,7 +82,6 @@ written_none e size from x a p = record { cursor = refl; index = refl; bytes = A
 
 -- ---- places that are within, and that are not
 
-
 none_within : (size from limit : ℕ) (nodes : List (List ℕ)) → size % 4 ≡ 0 → AllByRecursion (HasRoom size) nodes → limit ≤ from
     → filter (λ place. nat_le (place.0 + place.1) limit) (places size from nodes) ≡ []
 none_within size from limit [] words ok up = refl

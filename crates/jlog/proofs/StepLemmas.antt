@@ -87,9 +87,9 @@ pub spot_of : (page : ℕ) (e : Endian) (size c : ℕ) (x : Indexed) (s : Step) 
 spot_of page e size c x s node len at end is_page fits words can is long placed padded =
     let room : HasRoom size (canonical e (node_of x s)) = (can_room page e size x (s ∷ []) is_page fits (can, tt)).0 in
     let first : Spot e size c x s node (place_after size c (length node)) (pad4_of (length node) - length node) =
-        subst (λ (n : List ℕ). Spot e size c x s n (place_after size c (length n)) (pad4_of (length n) - length n)) (sym is) (spot_by e size c x s words room) in
+    subst (λ (n : List ℕ). Spot e size c x s n (place_after size c (length n)) (pad4_of (length n) - length n)) (sym is) (spot_by e size c x s words room) in
     let second : Spot e size c x s node (place_after size c len) (pad4_of len - len) =
-        subst (λ (n : ℕ). Spot e size c x s node (place_after size c n) (pad4_of n - n)) (sym long) first in
+    subst (λ (n : ℕ). Spot e size c x s node (place_after size c n) (pad4_of n - n)) (sym long) first in
     let third : Spot e size c x s node at (pad4_of len - len) = subst (λ (a : ℕ). Spot e size c x s node a (pad4_of len - len)) (sym placed) second in
     subst (λ (n : ℕ). Spot e size c x s node at (n - len)) (sym padded) third
 
@@ -129,10 +129,12 @@ gap_failed e size c x s node at pad a b p spot part =
     let rest : List ℕ = node ++ erased pad in
     let n = clamped a b front part in
     let t : ℕ = n.0 in
-    let within : t ≤ length front = n.1 in
-    (t, begun_by e size c x s t (front ++ rest) a b p p spot.out (omega (arith, length-append front rest))
-    (subst (Appends a b) (sym (take-append-le t front rest within)) n.2)
-    (not_whole e size c x s node at pad t p spot (omega (arith, spot.reach, spot.some))))
+    let within : t ≤ length front = n.1 in (
+      t,
+      begun_by e size c x s t (front ++ rest) a b p p spot.out (omega (arith, length-append front rest))
+          (subst (Appends a b) (sym (take-append-le t front rest within)) n.2)
+          (not_whole e size c x s node at pad t p spot (omega (arith, spot.reach, spot.some))),
+    )
 
 -- in the node
 pub node_failed : (e : Endian) (size c : ℕ) (x : Indexed) (s : Step) (node : List ℕ) (at pad k : ℕ) (a b d : Option (List ℕ)) (p : List Place) → Spot e size c x s node at pad
@@ -141,10 +143,12 @@ node_failed e size c x s node at pad k a b d p spot first short part =
     let front : List ℕ = gap e size c at in
     let rest : List ℕ = node ++ erased pad in
     let t : ℕ = length front + k in
-    let same : take t (front ++ rest) ≡ front ++ take k node = take-append-add front rest k ∙ ap (λ (l : List ℕ). front ++ l) (take-append-le k node (erased pad) (omega arith)) in
-    (t, begun_by e size c x s t (front ++ rest) a d p p spot.out (omega (arith, length-append front rest, length-append node (erased pad)))
-    (subst (Appends a d) (sym same) (Appends-trans a b d _ _ first part))
-    (not_whole e size c x s node at pad t p spot (omega (arith, spot.reach))))
+    let same : take t (front ++ rest) ≡ front ++ take k node = take-append-add front rest k ∙ ap (λ (l : List ℕ). front ++ l) (take-append-le k node (erased pad) (omega arith)) in (
+      t,
+      begun_by e size c x s t (front ++ rest) a d p p spot.out (omega (arith, length-append front rest, length-append node (erased pad)))
+          (subst (Appends a d) (sym same) (Appends-trans a b d _ _ first part))
+          (not_whole e size c x s node at pad t p spot (omega (arith, spot.reach))),
+    )
 
 -- after it
 pub pad_failed : (e : Endian) (size c : ℕ) (x : Indexed) (s : Step) (node : List ℕ) (at pad : ℕ) (a b d f : Option (List ℕ)) (p : List Place) → Spot e size c x s node at pad
@@ -158,10 +162,12 @@ pad_failed e size c x s node at pad a b d f p spot first second part =
     let within : k ≤ length (erased pad) = n.1 in
     let t : ℕ = length front + (length node + k) in
     let same : take t (front ++ rest) ≡ front ++ (node ++ take k (erased pad)) =
-        take-append-add front rest (length node + k) ∙ ap (λ (l : List ℕ). front ++ l) (take-append-add node (erased pad) k) in
-    (t, begun_by e size c x s t (front ++ rest) a f p (p ++ shown_place (at, length node) ∷ []) spot.out (omega (arith, length-append front rest, length-append node (erased pad)))
-    (subst (Appends a f) (sym same) (Appends-trans a b f _ _ first (Appends-trans b d f _ _ second n.2)))
-    (whole e size c x s node at pad t p spot (omega (arith, spot.reach))))
+    take-append-add front rest (length node + k) ∙ ap (λ (l : List ℕ). front ++ l) (take-append-add node (erased pad) k) in (
+      t,
+      begun_by e size c x s t (front ++ rest) a f p (p ++ shown_place (at, length node) ∷ []) spot.out (omega (arith, length-append front rest, length-append node (erased pad)))
+          (subst (Appends a f) (sym same) (Appends-trans a b f _ _ first (Appends-trans b d f _ _ second n.2)))
+          (whole e size c x s node at pad t p spot (omega (arith, spot.reach))),
+    )
 
 -- all went out
 pub step_written : (e : Endian) (size c : ℕ) (x y : Indexed) (s : Step) (node : List ℕ) (at pad end : ℕ) (a b d f : Option (List ℕ)) (p : List Place) → Spot e size c x s node at pad

@@ -52,8 +52,8 @@ invariant_of-self-in-Ok-write_steps-clause-going g c =
     let can = can_plan plain_page e s.index c.args.op.now steps plain_is_page going.consistent c.known.ensures c.in-Ok.ensures.ok in
     let room : IsTrue (fit s.block s.blocks s.cursor (written e s.index c.deref.result.now)) = search rules in
     let fits : IsTrue (fit s.block s.blocks s.cursor (written e s.index steps)) =
-        subst (λ (l : List Step). IsTrue (fit s.block s.blocks s.cursor (written e s.index l))) c.deref.ensures.value room in
+    subst (λ (l : List Step). IsTrue (fit s.block s.blocks s.cursor (written e s.index l))) c.deref.ensures.value room in
     let wrote = c.in-Ok-write_steps.ensures.writes.0 in
     let same : c.deref-2.result.now ≡ steps = c.deref-2.ensures.value in
     λ _. going_on plain_page e s.block s.blocks s.cursor c.in-Ok-write_steps.end s.index c.write_steps.new.index steps plain_is_page (page_fits s.block s.blocks s.flash)
-        (size_words s.block s.blocks s.flash) going can.0 fits can.1 (wrote.cursor ∙ ap (λ (l : List Step). end_of_all s.block s.cursor (written e s.index l)) same) (wrote.index ∙ ap (advanced_all s.index) same)
+    (size_words s.block s.blocks s.flash) going can.0 fits can.1 (wrote.cursor ∙ ap (λ (l : List Step). end_of_all s.block s.cursor (written e s.index l)) same) (wrote.index ∙ ap (advanced_all s.index) same)
