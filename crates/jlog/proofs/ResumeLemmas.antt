@@ -1,5 +1,5 @@
 -- A session that goes on from a mounted image.
-use Rattle.std.proofs.Common.{◌≡◌, ℕ, Bool, true, false, cond, Result, Ok, Err, ◌+◌, ◌*◌, ◌≤◌, ◌%◌, List, length, refl, sym, ap, ◌∙◌, subst, arith}
+use Rattle.std.proofs.Common.{◌≡◌, ℕ, Bool, true, false, cond, Result, Ok, Err, ◌*◌, ◌≤◌, List, length, refl, sym, ap, ◌∙◌, subst, arith}
 use Rattle.std.specs.Prelude.{IsTrue, nat_le, nat_lt, ◌&&◌}
 use Rattle.std.proofs.Math.Nat.{mul-le-mul_right}
 use Rattle.std.proofs.lemmas.Bool.{and_parts, leb-true}
@@ -9,12 +9,12 @@ use Rattle.jscan.specs.Image.{is_block_size, greatest_image}
 use Rattle.jscan.specs.Blank.{blank_from, IsBlankFrom}
 use Rattle.jscan.proofs.BlankLemmas.{blank_from_is_least}
 use Rattle.jmount.specs.Mount.{Mount}
-use Rattle.jmount.specs.Mounts.{IsMountOf, plain_nodes, state}
+use Rattle.jmount.specs.Mounts.{IsMountOf, plain_nodes}
 use Rattle.jsteps.specs.Nodes.{Indexed, indexed}
 use Rattle.jsteps.specs.Laws.{IsConsistent}
 use Rattle.jsteps.proofs.ConsistentLemmas.{index_is_consistent, index_is_of_nodes}
 use Rattle.jlog.specs.Places.{is_writable_flash}
-use Rattle.jlog.specs.Headline.{is_flash_of, resume_address, IsBase}
+use Rattle.jlog.specs.Headline.{is_flash_of, resume_address}
 use Rattle.jlog.specs.Resuming.{resumes_at}
 use Rattle.jlog.specs.Session.{IsGoing, IsFresh}
 use Rattle.jlog.specs.declared.fault.SessionFault.{SessionFault}

@@ -1,32 +1,29 @@
 -- Steps that are written one after another, and beginnings of them.
-use Rattle.std.proofs.Common.{◌≡◌, ℕ, zero, suc, ◌+◌, ◌-◌, ◌*◌, ◌%◌, ◌<◌, ◌≤◌, leb, Bool, List, [], ◌∷◌, ◌++◌, length, map, take, drop, get_or, refl, sym, ap, ◌∙◌, subst, arith, append_assoc, length-append, take-append-drop, take_all, Option}
-use Rattle.std.specs.Prelude.{filter, nat_le, IsTrue, ◌&&◌}
+use Rattle.std.proofs.Common.{◌≡◌, ℕ, zero, suc, ◌+◌, ◌%◌, ◌<◌, ◌≤◌, leb, List, [], ◌∷◌, ◌++◌, length, map, take, get_or, refl, sym, ap, ◌∙◌, subst, arith, append_assoc, length-append, take_all, Option}
+use Rattle.std.specs.Prelude.{filter, nat_le}
 use Rattle.std.specs.List.{AllByRecursion}
 use Rattle.std.specs.Io.KnownBytes.{Appends}
 use Rattle.std.proofs.KnownBytes.{Appends-trans, Appends-nil}
-use Rattle.std.proofs.Math.Seq.{take-append-add, take-suc}
-use Rattle.std.proofs.lemmas.Bool.{cond-true, cond-false, le-leb, lt-leb, and_parts}
+use Rattle.std.proofs.Math.Seq.{take-append-add}
+use Rattle.std.proofs.lemmas.Bool.{cond-true, cond-false, le-leb, lt-leb}
 use Rattle.std.proofs.lemmas.List.{append-nil, map-append, take-append-le}
 use Rattle.std.proofs.lemmas.List.Elements.{filter-append}
-use Rattle.flashbase.specs.Bytes.{pad4_of}
 use Rattle.flashbase.proofs.BytesLemmas.{le_pad4}
-use Rattle.jnode.specs.Writing.{canonical, filled}
+use Rattle.jnode.specs.Writing.{canonical}
 use Rattle.jnode.specs.declared.order.Endian.{Endian}
-use Rattle.jnode.specs.declared.node.NodeRef.{NodeRef}
 use Rattle.jsteps.specs.Nodes.{Indexed, node_of, nodes_of, advanced, advanced_all}
 use Rattle.jsteps.specs.Planning.{IsPage}
 use Rattle.jsteps.specs.Laws.{IsPlanned}
 use Rattle.jsteps.specs.declared.step.Step.{Step}
 use Rattle.jsteps.proofs.TakenLemmas.{advanced_all-append}
-use Rattle.jlog.specs.Places.{place_after, end_after, places, end_of_all, fit}
-use Rattle.jlog.specs.Output.{gap, output}
+use Rattle.jlog.specs.Places.{place_after, end_after, places, end_of_all}
+use Rattle.jlog.specs.Output.{output}
 use Rattle.jlog.specs.Laws.{HasRoom, GoesOn}
-use Rattle.jlog.specs.LeftLaws.{IsLoggable}
-use Rattle.jlog.specs.Running.{written, shown_place, places_of, places_within, IsWritten, IsBegun, CanWrite, CanWriteAll}
+use Rattle.jlog.specs.Running.{written, shown_place, places_of, IsWritten, IsBegun, CanWrite, CanWriteAll}
 use Rattle.jlog.specs.declared.report.Place.{Place}
 use Rattle.jlog.proofs.PlaceLemmas.{place_is_least}
 use Rattle.jlog.proofs.OutputLemmas.{output_goes_on}
-use Rattle.jlog.proofs.IntactLemmas.{first_gap, output_is_long, has_room}
+use Rattle.jlog.proofs.IntactLemmas.{output_is_long, has_room}
 use Rattle.jlog.proofs.HeadlineLemmas.{planned_loggable}
 
 pub written_on : (e : Endian) (x : Indexed) (xs ys : List Step) → written e x (xs ++ ys) ≡ written e x xs ++ written e (advanced_all x xs) ys

@@ -15,11 +15,12 @@ use Rattle.jmount.specs.Mounts.{IsSound, IsFaultAt, plain_nodes}
 use Rattle.jmount.specs.declared.fault.MountFault.{MountFault}
 use Rattle.jmount.specs.declared.fault.MountFault.TheVariants as fault
 use Rattle.jscan.proofs.AddressLaws.{nodes_ascend}
+use Rattle.jsteps.specs.Laws.{NoneClash}
 use Rattle.jlog.specs.Places.{places}
 use Rattle.jlog.specs.Output.{output}
 use Rattle.jlog.specs.Left.{count_whole, intact}
 use Rattle.jlog.specs.LeftLaws.{RefusesAs, placed, intact_of}
-use Rattle.jlog.specs.MountLaws.{NoneClash, SoundNodesAreApart, LeftIsSound, WholeIsSound}
+use Rattle.jlog.specs.MountLaws.{SoundNodesAreApart, LeftIsSound, WholeIsSound}
 use Rattle.jlog.proofs.ImageLemmas.{block_size}
 use Rattle.jlog.proofs.TellLemmas.{cons_cases}
 use Rattle.jlog.proofs.IntactLemmas.{intact_is_counted, has_room}

@@ -1,12 +1,11 @@
 -- One step that is written, or the beginning of one.
-use Rattle.std.proofs.Common.{◌≡◌, ℕ, ◌+◌, ◌-◌, ◌*◌, ◌%◌, ◌<◌, ◌≤◌, leb, Bool, true, false, List, [], ◌∷◌, ◌++◌, length, map, take, refl, sym, ap, ◌∙◌, subst, arith, length-append, append_assoc, take_all, Option, Result, Ok, Err}
+use Rattle.std.proofs.Common.{◌≡◌, ℕ, ◌+◌, ◌-◌, ◌*◌, ◌%◌, ◌<◌, ◌≤◌, leb, Bool, true, false, List, [], ◌∷◌, ◌++◌, length, map, take, refl, sym, ap, ◌∙◌, subst, arith, length-append, take_all, Option, Result, Ok, Err}
 use Rattle.std.specs.Prelude.{filter, nat_le, nat_lt, IsTrue, is_err, OnOk, IfErr, ◌&&◌, ◌==◌}
-use Rattle.std.specs.List.{AllByRecursion}
 use Rattle.std.specs.Io.KnownBytes.{Appends}
 use Rattle.std.proofs.KnownBytes.{Appends-trans}
-use Rattle.std.proofs.Math.Seq.{take-append-add, take-append_seam}
+use Rattle.std.proofs.Math.Seq.{take-append-add}
 use Rattle.std.proofs.lemmas.Bool.{cond-true, cond-false, le-leb, lt-leb, ltb-true, ltb-false, and_parts, eqb-true}
-use Rattle.std.proofs.lemmas.List.{append-nil, take-append-le, length-replicate}
+use Rattle.std.proofs.lemmas.List.{append-nil, take-append-le}
 use Rattle.flashbase.specs.Bytes.{pad4_of, erased}
 use Rattle.flashbase.specs.Device.{PutsPart, Puts, next_count}
 use Rattle.flashbase.specs.declared.sink.PutFault.{PutFault}
@@ -17,10 +16,10 @@ use Rattle.jsteps.specs.Nodes.{Indexed, node_of, advanced}
 use Rattle.jsteps.specs.Planning.{IsPage}
 use Rattle.jsteps.specs.declared.step.Step.{Step}
 use Rattle.jscan.specs.Image.{is_block_size, greatest_image}
-use Rattle.jlog.specs.Places.{place_after, end_after, places, end_of_all, is_writable_flash}
+use Rattle.jlog.specs.Places.{place_after, places, end_of_all, is_writable_flash}
 use Rattle.jlog.specs.Output.{gap, output}
 use Rattle.jlog.specs.Laws.{HasRoom}
-use Rattle.jlog.specs.Running.{written, shown_place, places_of, places_within, IsWritten, IsBegun, CanWrite, CanWriteAll}
+use Rattle.jlog.specs.Running.{written, shown_place, places_within, IsWritten, IsBegun, CanWrite}
 use Rattle.jlog.specs.declared.report.Place.{Place}
 use Rattle.jlog.proofs.IntactLemmas.{first_gap}
 use Rattle.jlog.proofs.RunningLemmas.{can_room}

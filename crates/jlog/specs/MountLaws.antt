@@ -1,21 +1,17 @@
 -- Laws of mounting what is left. Each is a statement: it holds since a public function's contract names it.
-use Rattle.std.specs.Prelude.{◌≡◌, ℕ, ◌*◌, ◌≤◌, List, ◌++◌, map, take, Contains}
+use Rattle.std.specs.Prelude.{◌≡◌, ℕ, ◌*◌, ◌≤◌, List, ◌++◌, map, take}
 use Rattle.jnode.specs.Writing.{canonical}
 use Rattle.jnode.specs.declared.node.NodeRef.{NodeRef}
 use Rattle.jnode.specs.declared.order.Endian.{Endian}
 use Rattle.jscan.specs.Image.{greatest_image}
-use Rattle.jmount.specs.Clash.{NodesClash}
 use Rattle.jmount.specs.Mounts.{IsSound, plain_nodes}
+use Rattle.jsteps.specs.Laws.{NoneClash}
 use Rattle.jlog.specs.Places.{places}
 use Rattle.jlog.specs.Output.{output}
 use Rattle.jlog.specs.Left.{count_whole}
 use Rattle.jlog.specs.LeftLaws.{AreLogged, NoneWeak, IsLeftOf, IsUncut}
 
--- no two of these nodes clash
-abbrev pub NoneClash : List NodeRef → Type 0
-NoneClash ns = (a b : NodeRef) → Contains ns a → Contains ns b → NodesClash a b → ⊥
-
--- The nodes of an image without a fault are such.
+-- No two nodes of an image without a fault clash.
 abbrev pub SoundNodesAreApart : Type 0
 SoundNodesAreApart = (e : Endian) (size : ℕ) (image : List ℕ) → IsSound e size image → NoneClash (plain_nodes e size image)
 

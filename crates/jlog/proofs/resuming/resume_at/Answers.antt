@@ -1,4 +1,4 @@
-use Rattle.std.proofs.Common.{rules, ◌≡◌, ◌*◌, ◌&&◌, nat_le, ℕ, length, Bool, true, false}
+use Rattle.std.proofs.Common.{rules, ◌≡◌, true, false}
 use Rattle.jlog.specs.Headline.{is_flash_of}
 use Rattle.jlog.proofs.ResumeLemmas.{resumes}
 use Rattle.jlog.proofs.resuming.resume_at.Goals as goal

@@ -1,6 +1,5 @@
-use Rattle.std.proofs.Common.{rules, ◌≡◌, ◌≤◌, ◌+◌, ◌*◌, length, ℕ, List, Ok, subst, sym, ap, ◌∙◌}
+use Rattle.std.proofs.Common.{rules, ◌≡◌, List, subst, sym, ap, ◌∙◌}
 use Rattle.std.specs.Prelude.{IsFalse, IsTrue}
-use Rattle.jsteps.specs.Refusals.{planned_by}
 use Rattle.jsteps.specs.declared.step.Step.{Step}
 use Rattle.jsteps.specs.Nodes.{advanced_all}
 use Rattle.jsteps.specs.Planning.{plain_page}

@@ -1,4 +1,4 @@
-use Rattle.std.proofs.Common.{rules, ◌≡◌, ℕ, List, Ok, subst}
+use Rattle.std.proofs.Common.{rules, ◌≡◌, Ok, subst}
 use Rattle.flashbase.specs.Ranges.{AreBytes}
 use Rattle.jlog.specs.Resuming.{resumes_at}
 use Rattle.jlog.proofs.ResumeLemmas.{resumed_by, fresh_by}
@@ -13,8 +13,8 @@ invariant_of-result g c =
     let did = resumed_by e a.geometry.block a.blocks a.mounted.now c.in_ok-cursor.cursor c.in_ok-index.index at c.requires bytes c.in_ok-index.ensures in
     record { flash = did.0; going = λ _. did.1 }
 
-pub returns-clause-fresh : goal.returns-clause-fresh
-returns-clause-fresh g c =
+pub returns-clause-resumed : goal.returns-clause-resumed
+returns-clause-resumed g c =
     let a = c.args in
     let e = g.E.Order.order in
     let at : resumes_at e a.geometry.block a.blocks a.mounted.now ≡ Ok c.in_ok-cursor.cursor = search rules in
