@@ -1,0 +1,178 @@
+-- What a stop leaves of an image: its base, and the new nodes that are intact.
+use Rattle.std.proofs.Common.{◌≡◌, ℕ, zero, suc, ◌+◌, ◌-◌, ◌*◌, ◌<◌, ◌≤◌, List, [], ◌∷◌, ◌++◌, length, take, map, refl, sym, ap, ap₂, ◌∙◌, arith, inl, inr}
+use Rattle.std.specs.Prelude.{◌⊎◌, filter}
+use Rattle.std.proofs.Math.Nat.{mul-le-mul_right}
+use Rattle.std.proofs.lemmas.Bool.{and_parts, leb-true}
+use Rattle.std.proofs.lemmas.List.{append-nil, ext_get_or, take_all, length-take, length-append, length-replicate, length-map}
+use Rattle.flashbase.specs.Bytes.{erased}
+use Rattle.jnode.specs.Writing.{canonical, clean_marker}
+use Rattle.jnode.specs.declared.node.NodeRef.{NodeRef}
+use Rattle.jnode.specs.declared.node.Seen.{Seen}
+use Rattle.jnode.specs.declared.order.Endian.{Endian}
+use Rattle.jnode.proofs.WritingLemmas.{canonical_long}
+use Rattle.jscan.specs.Image.{block_of, sightings, nodes}
+use Rattle.jscan.specs.Blank.{marked}
+use Rattle.jlog.specs.Places.{place_after, end_after, places}
+use Rattle.jlog.specs.Output.{output}
+use Rattle.jlog.specs.Left.{HoldsWritten, HoldsMarker, IsLeft, intact}
+use Rattle.jlog.specs.LeftLaws.{IsLoggable, AreLogged, placed, tells, sighting_of, BaseStays, PlacedAreNew, LeftSightings, LeftNodes, LeftRefuses, WholeNodes, WholeRefuses, LeftIsWithin, intact_of, IsLeftOf, IsUncut}
+use Rattle.jlog.proofs.IntactLemmas.{all_is_intact, has_room}
+use Rattle.jlog.proofs.TellLemmas.{nodes_told, refuses_as}
+use Rattle.jlog.proofs.ByteLemmas.{erased_end, block_long, block_byte}
+use Rattle.jlog.proofs.PlaceLemmas.{place_front}
+use Rattle.jlog.proofs.SightLemmas.{marker_long}
+use Rattle.jlog.proofs.FlashLemmas.{BlockLeft, up}
+use Rattle.jlog.proofs.HereLemmas.{Sure}
+use Rattle.jlog.proofs.FlashLemmas.{Flash}
+use Rattle.jlog.proofs.WalkLemmas.{walks_all}
+use Rattle.jlog.proofs.ImageLemmas.{count_within, told_below, below_up, below_same, told_image, blank_up, block_size}
+
+pub left_is_within : LeftIsWithin
+left_is_within e size blocks from k base out image some left = count_within size blocks image some left.no_longer
+
+-- ---- the base's blocks
+
+pub base_stays : BaseStays
+base_stays e size blocks from k b base out image below left =
+    ext_get_or 0xFF (block_of size image b) (block_of size base b) (block_long size image b ∙ sym (block_long size base b)) (λ i inside.
+    let less : i < size = omega (arith, inside, block_long size image b) in
+    block_byte size image b i less ∙ (left.stays (b * size + i) (omega arith) ∙ sym (block_byte size base b i less)))
+
+-- ---- the new ones
+
+marked_is : (e : Endian) (size from k b j : ℕ) (image : List ℕ) → 12 ≤ size → HoldsMarker e size from k image b j → block_of size image b ≡ marked e size j
+marked_is e size from k b j image large m =
+    let cut : length (take j (clean_marker e)) ≤ size = omega (arith, length-take j (clean_marker e), marker_long e) in
+    let long : length (marked e size j) ≡ size =
+    omega (arith, length-append (take j (clean_marker e)) (erased (size - j)), length-take j (clean_marker e), marker_long e, m.most, length-replicate {A = ℕ} (size - j) 0xFF) in
+    ext_get_or 0xFF (block_of size image b) (marked e size j) (block_long size image b ∙ sym long) (λ i inside.
+    let less : i < size = omega (arith, inside, block_long size image b) in
+    block_byte size image b i less ∙ (m.bytes i less ∙ sym (erased_end (take j (clean_marker e)) (size - j) i)))
+
+block_left : (e : Endian) (size from k b : ℕ) (out image : List ℕ) → 12 ≤ size
+    → HoldsWritten size from out k image b ⊎ ((j : ℕ) × HoldsMarker e size from k image b j) → BlockLeft e size from out k (block_of size image b) b
+block_left e size from k b out image large (inl holds) = inl (λ i inside low. block_byte size image b i inside ∙ holds i inside low)
+block_left e size from k b out image large (inr (j, m)) =
+    inr (j, record { unwritten = m.unwritten; before = m.before; no_fewer = m.no_fewer; most = m.most; is = marked_is e size from k b j image large m })
+
+flash_left : (e : Endian) (size blocks from k : ℕ) (base out image : List ℕ) → 12 ≤ size → IsLeft e size blocks base from out k image
+    → Flash e size from blocks (block_of size image) out k
+flash_left e size blocks from k base out image large left = record {
+  long = λ d inside. block_long size image d;
+  each = λ d inside. block_left e size from k d out image large (left.each d inside);
+}
+
+-- what is told from the block on where they begin
+new_told : (e : Endian) (size blocks block n k : ℕ) (base image : List ℕ) (new : List NodeRef) → block + n ≡ blocks → AreLogged e size blocks base block new
+    → Sure e size (block * size) k new
+    → IsLeftOf e size blocks base block new k image
+    → up e size (block_of size image) block n
+    ≡ map sighting_of (intact_of e size block new k)
+new_told e size blocks block zero k base image [] sum logged sure left = refl
+new_told e size blocks block zero k base image (x ∷ xs) sum logged sure left =
+    let limits = block_size size logged.size_is in
+    let ok : IsLoggable e size x = logged.nodes.0 in
+    let at : place_after size (block * size) (length (canonical e x)) ≡ block * size + 12 =
+    place_front size (block * size) block (length (canonical e x)) limits.words refl ok.room (omega (arith, canonical_long e x)) in
+    let fits : place_after size (block * size) (length (canonical e x)) + length (canonical e x) ≤ blocks * size = leb-true _ _ (and_parts _ _ logged.room).0 in
+    let same : block ≡ blocks = omega arith in
+    let end : blocks * size ≡ block * size = ap (λ (b : ℕ). b * size) (sym same) in
+    absurd (omega (arith, at, fits, end))
+new_told e size blocks block (suc n) k base image new sum logged sure left =
+    let limits = block_size size logged.size_is in
+    walks_all e size blocks (block_of size image) new logged.nodes (block * size) block 0 n k (record {
+      cursor = record {
+        sized = limits.words;
+        large = omega (arith, limits.least);
+        small = limits.most;
+        at = omega arith;
+        words = refl;
+        high = omega arith;
+        beside = inl refl;
+      };
+      ends = omega arith;
+      room = logged.room;
+      sure = sure;
+      left = flash_left e size blocks (block * size) k base (output e size (block * size) (map (canonical e) new)) image (omega (arith, limits.least)) left;
+    })
+
+-- ---- the whole
+
+-- where no node is weak, or none is cut
+pub left_sightings : (e : Endian) (size blocks block k : ℕ) (base image : List ℕ) (new : List NodeRef) → AreLogged e size blocks base block new
+    → Sure e size (block * size) k new
+    → IsLeftOf e size blocks base block new k image
+    → filter tells (sightings e size image)
+    ≡ filter tells (sightings e size base) ++ map sighting_of (intact_of e size block new k)
+left_sightings e size blocks block k base image new logged sure left =
+    let limits = block_size size logged.size_is in
+    let some : 0 < size = omega (arith, limits.least) in
+    let out : List ℕ = output e size (block * size) (map (canonical e) new) in
+    let n : ℕ = blocks - block in
+    let sum : block + n ≡ blocks = omega (arith, logged.blank.within) in
+    let old : filter tells (sightings e size base) ≡ told_below e size (block_of size base) block =
+    told_image e size blocks base some logged.no_longer
+    ∙ (ap (told_below e size (block_of size base)) (sym sum)
+    ∙ (below_up e size (block_of size base) block n
+    ∙ (ap (λ ys. told_below e size (block_of size base) block ++ ys)
+    (blank_up e size blocks base block block n (omega (arith, limits.least)) logged.blank (omega arith) (omega arith))
+    ∙ append-nil (told_below e size (block_of size base) block)))) in
+    told_image e size blocks image some left.no_longer
+    ∙ (ap (told_below e size (block_of size image)) (sym sum)
+    ∙ (below_up e size (block_of size image) block n
+    ∙ ap₂ (λ (xs ys : List (ℕ × Seen)). xs ++ ys)
+    (below_same e size (block_of size image) (block_of size base) block
+    (λ d less.
+    let next : (d + 1) * size ≤ block * size = mul-le-mul_right size (omega arith) in
+    base_stays e size blocks (block * size) k d base out image (omega arith) left)
+    ∙ sym old)
+    (new_told e size blocks block n k base image new sum logged sure left)))
+
+-- ---- the laws
+
+placed_places : (e : Endian) (size from : ℕ) (new : List NodeRef) → map (λ n. (n.0, length (canonical e n.1))) (placed e size from new) ≡ places size from (map (canonical e) new)
+placed_places e size from [] = refl
+placed_places e size from (x ∷ xs) =
+    ap (λ (ps : List (ℕ × ℕ)). (place_after size from (length (canonical e x)), length (canonical e x)) ∷ ps) (placed_places e size (end_after size from (length (canonical e x))) xs)
+
+placed_nodes : (e : Endian) (size from : ℕ) (new : List NodeRef) → map (λ n. n.1) (placed e size from new) ≡ new
+placed_nodes e size from [] = refl
+placed_nodes e size from (x ∷ xs) = ap (λ (ns : List NodeRef). x ∷ ns) (placed_nodes e size (end_after size from (length (canonical e x))) xs)
+
+pub placed_are_new : PlacedAreNew
+placed_are_new e size from new = record { places = placed_places e size from new; nodes = placed_nodes e size from new }
+
+pub left_sightings_told : LeftSightings
+left_sightings_told e size blocks block k base image new logged none left = left_sightings e size blocks block k base image new logged (inl none) left
+
+pub left_nodes : LeftNodes
+left_nodes e size blocks block k base image new logged none left =
+    nodes_told e size base image (intact_of e size block new k)
+    (left_sightings e size blocks block k base image new logged (inl none) left)
+
+pub left_refuses : LeftRefuses
+left_refuses e size blocks block k base image new logged none left =
+    refuses_as e size base image (intact_of e size block new k)
+    (left_sightings e size blocks block k base image new logged (inl none) left)
+
+-- without a cut all are kept
+all_placed : (e : Endian) (size blocks block k : ℕ) (base : List ℕ) (new : List NodeRef) → AreLogged e size blocks base block new
+    → IsUncut e size block new k
+    → intact_of e size block new k ≡ placed e size (block * size) new
+all_placed e size blocks block k base new logged all =
+    let ns : List (ℕ × NodeRef) = placed e size (block * size) new in
+    let count : intact size (block * size) k (map (canonical e) new) ≡ length new =
+    all_is_intact e size (block * size) k (map (canonical e) new) (block_size size logged.size_is).words (has_room e size new logged.nodes) all ∙ length-map new (canonical e) in
+    let long : length ns ≡ length new = sym (length-map ns (λ n. n.1)) ∙ ap length (placed_nodes e size (block * size) new) in
+    take_all (intact size (block * size) k (map (canonical e) new)) ns (omega (arith, count, long))
+
+pub whole_nodes : WholeNodes
+whole_nodes e size blocks block k base image new logged all left =
+    nodes_told e size base image (intact_of e size block new k)
+    (left_sightings e size blocks block k base image new logged (inr all) left)
+    ∙ ap (λ (ns : List (ℕ × NodeRef)). nodes e size base ++ ns) (all_placed e size blocks block k base new logged all)
+
+pub whole_refuses : WholeRefuses
+whole_refuses e size blocks block k base image new logged all left =
+    refuses_as e size base image (intact_of e size block new k)
+    (left_sightings e size blocks block k base image new logged (inr all) left)

@@ -1,0 +1,21 @@
+use Rattle.std.proofs.Common.{rules, ◌≡◌, Ok, subst}
+use Rattle.flashbase.specs.Ranges.{AreBytes}
+use Rattle.jlog.specs.Resuming.{resumes_at}
+use Rattle.jlog.proofs.ResumeLemmas.{resumed_by, fresh_by}
+use Rattle.jlog.proofs.session.Session.resume.Goals as goal
+
+pub invariant_of-result : goal.invariant_of-result
+invariant_of-result g c =
+    let a = c.args in
+    let e = g.E.Order.order in
+    let at : resumes_at e a.geometry.block a.blocks a.mounted.now ≡ Ok c.in_ok-cursor.cursor = search rules in
+    let bytes : AreBytes a.mounted.now.image = subst AreBytes c.image-base.ensures c.known_bytes.ensures in
+    let did = resumed_by e a.geometry.block a.blocks a.mounted.now c.in_ok-cursor.cursor c.in_ok-index.index at c.requires bytes c.in_ok-index.ensures in
+    record { flash = did.0; going = λ _. did.1 }
+
+pub returns-clause-resumed : goal.returns-clause-resumed
+returns-clause-resumed g c =
+    let a = c.args in
+    let e = g.E.Order.order in
+    let at : resumes_at e a.geometry.block a.blocks a.mounted.now ≡ Ok c.in_ok-cursor.cursor = search rules in
+    fresh_by e a.geometry.block a.blocks a.mounted.now c.image-base.result.now c.in_ok-cursor.cursor c.in_ok-index.index at c.requires c.image-base.ensures c.in_ok-index.ensures

@@ -1,0 +1,12 @@
+pub mod Places
+pub mod Output
+pub mod Left
+pub mod Examples
+pub mod Laws
+pub mod LeftLaws
+pub mod MountLaws
+pub mod Headline
+pub mod Running
+pub mod Session
+pub mod Resuming
+pub mod View

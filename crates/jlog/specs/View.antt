@@ -1,0 +1,65 @@
+-- What contracts see of a session.
+use Rattle.std.specs.Prelude.{ℕ, Bool, List, Option, Result}
+use Rattle.byteorder.specs.declared.ByteOrder.{Ghosts as OfByteOrder}
+use Rattle.flashbase.specs.declared.sink.Sink.{Ghosts as OfSink}
+use Rattle.jnode.specs.declared.order.Order.{Ghosts as OfOrder}
+use Rattle.jsteps.specs.Nodes.{Indexed}
+use Rattle.jsteps.specs.Planning.{plain_page}
+use Rattle.jsteps.specs.Refusals.{steps_of_first}
+use Rattle.jsteps.specs.declared.op.Op.{Op}
+use Rattle.jlog.specs.Headline.{Survives}
+use Rattle.jlog.specs.Session.{Applies, Runs, IsFresh, attempted}
+use Rattle.jlog.specs.declared.fault.SessionFault.{SessionFault}
+use Rattle.jlog.specs.declared.report.Place.{Place}
+use Rattle.jlog.specs.declared.session.Session.{Session}
+
+module _ {E : Type 0} {S : Type 0} {order : OfOrder E} {numbers : OfByteOrder E} {sink : OfSink S} where
+  -- the bytes that were mounted
+  abbrev pub base_of : Session E S order numbers sink → List ℕ
+  base_of session = session.base.now
+
+  -- how the flash is divided: so many bytes a block, and so many blocks
+  abbrev pub block_size_of : Session E S order numbers sink → ℕ
+  block_size_of session = session.block
+
+  abbrev pub blocks_of : Session E S order numbers sink → ℕ
+  blocks_of session = session.blocks
+
+  -- the address where writing goes on
+  abbrev pub cursor_of : Session E S order numbers sink → ℕ
+  cursor_of session = session.cursor
+
+  -- what operations are planned on
+  abbrev pub index_of_log : Session E S order numbers sink → Indexed
+  index_of_log session = session.index
+
+  -- an operation was written in part
+  abbrev pub is_broken : Session E S order numbers sink → Bool
+  is_broken session = session.broken
+
+  abbrev pub sink_of : Session E S order numbers sink → S
+  sink_of session = session.sink
+
+  -- it goes on from its base, as resuming gives it
+  abbrev pub IsResumed : Session E S order numbers sink → Type 0
+  IsResumed session = IsFresh order.order (block_size_of session) (blocks_of session) (base_of session) (cursor_of session) (index_of_log session)
+
+  -- Applying an operation to the one leaves the other, and the places of its nodes are added to those before.
+  abbrev pub AppliesTo : {T : Type 0} → Session E S order numbers sink → Op → Session E S order numbers sink → List Place → List Place → Result T SessionFault → Type 0
+  AppliesTo old o new before after result =
+      Applies plain_page order.order (block_size_of old) (blocks_of old) (cursor_of old) (index_of_log old) o (is_broken old)
+      (cursor_of new) (index_of_log new) (is_broken new)
+      (sink.taken (sink_of old)) (sink.taken (sink_of new)) (sink.failures (sink_of old)) (sink.failures (sink_of new)) before after result
+
+  -- Running operations on the one leaves the other: so many were accepted, their nodes have these places, and this stopped it.
+  abbrev pub RunsOn : Session E S order numbers sink → List Op → Session E S order numbers sink → ℕ → List Place → Option SessionFault → Type 0
+  RunsOn old ops new accepted places stopped =
+      Runs plain_page order.order (block_size_of old) (blocks_of old) (cursor_of old) (index_of_log old) ops (is_broken old)
+      accepted (cursor_of new) (index_of_log new) (is_broken new)
+      (sink.taken (sink_of old)) (sink.taken (sink_of new)) (sink.failures (sink_of old)) (sink.failures (sink_of new)) places stopped
+
+  -- the steps of the operations that were attempted survive on the session's base
+  abbrev pub RunSurvives : Session E S order numbers sink → List Op → Session E S order numbers sink → ℕ → Type 0
+  RunSurvives old ops new accepted =
+      Survives order.order (block_size_of old) (blocks_of old) (base_of old)
+      (steps_of_first plain_page (index_of_log old) ops (attempted accepted (is_broken new)))

@@ -1,0 +1,97 @@
+//! Laws of a log. Each function's contract is a law, and its body is empty.
+
+ghost use Rattle.jlog.specs.Laws.{PlaceIsLeast, PlacesAreLeast, OutputIsLong, OutputGoesOn, OneMoreGoesOut, IntactIsCounted, WholeIsBeginning, AllIsIntact, RoomGoesOn, EndIsWithin};
+ghost use Rattle.jlog.specs.LeftLaws.{PlacedAreNew, BaseStays, LeftIsWithin, LeftSightings, LeftNodes, LeftRefuses, WholeNodes, WholeRefuses, WrittenIsLeft, MarkerIsLeft, PlacesAreLeft};
+ghost use Rattle.jlog.specs.Headline.{AcceptedSurvives};
+ghost use Rattle.jlog.specs.MountLaws.{SoundNodesAreApart, LeftIsSound, WholeIsSound};
+
+/// A node goes to the least place, and each next one to the least after it.
+pub fn place_is_least()
+    ensures place { PlaceIsLeast }
+    ensures places { PlacesAreLeast }
+{}
+
+/// What goes out runs from where it begins to the last node's end.
+pub fn output_is_long()
+    ensures { OutputIsLong }
+{}
+
+/// More nodes go on where the earlier ones end, one at a time.
+pub fn output_goes_on()
+    ensures more { OutputGoesOn }
+    ensures one { OneMoreGoesOut }
+{}
+
+/// There is room for nodes one after the other, and where all fit writing goes on within the flash.
+pub fn room_goes_on()
+    ensures on { RoomGoesOn }
+    ensures end { EndIsWithin }
+{}
+
+/// The nodes that are intact after a cut are the first ones, as many as are intact; without a cut all are.
+pub fn intact_is_counted()
+    ensures counted { IntactIsCounted }
+    ensures beginning { WholeIsBeginning }
+    ensures all { AllIsIntact }
+{}
+
+/// Which nodes are intact is seen from what is left at their places.
+pub fn places_are_left()
+    ensures { PlacesAreLeft }
+{}
+
+/// New nodes are placed at the places, each at its own.
+pub fn placed_are_new()
+    ensures { PlacedAreNew }
+{}
+
+/// What a stop leaves has the base's blocks below the address where writing went on, and no more blocks than the flash.
+pub fn base_stays()
+    ensures blocks { BaseStays }
+    ensures within { LeftIsWithin }
+{}
+
+/// Some image may always be left: what went out, and where no more than a marker did, more of that.
+pub fn some_are_left()
+    ensures written { WrittenIsLeft }
+    ensures marker { MarkerIsLeft }
+{}
+
+/// After a cut there stands what was in the base, and the new nodes that are intact, but for markers and damage.
+pub fn left_sightings()
+    ensures { LeftSightings }
+{}
+
+/// So the nodes are the base's, and the new ones that are kept.
+pub fn left_nodes()
+    ensures { LeftNodes }
+{}
+
+/// What refuses a scan of it, or forbids to write after it, does so in the base.
+pub fn left_refuses()
+    ensures { LeftRefuses }
+{}
+
+/// Without a cut the nodes are the base's and all new ones, weak or not, and the same refuses.
+pub fn left_whole()
+    ensures nodes { WholeNodes }
+    ensures refuses { WholeRefuses }
+{}
+
+/// No two nodes of an image without a fault clash.
+pub fn sound_nodes_are_apart()
+    ensures { SoundNodesAreApart }
+{}
+
+/// On a base without a fault, what is left has none where no new node clashes; and it has the base's nodes and the new ones
+/// that stand whole.
+pub fn left_is_sound()
+    ensures cut { LeftIsSound }
+    ensures whole { WholeIsSound }
+{}
+
+/// Whatever the base that mounts, the accepted operations and the byte where writing stops: what is left mounts as the file
+/// system after the steps whose nodes stand whole.
+pub fn accepted_survives()
+    ensures { AcceptedSurvives }
+{}

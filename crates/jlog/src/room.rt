@@ -1,0 +1,65 @@
+//! Whether there is room for the nodes of steps.
+
+ghost use Rattle.std.specs.Prelude.{◌≡◌, ◌≤◌, ◌+◌, ◌*◌, ◌%◌, IsTrue, length};
+ghost use Rattle.jsteps.specs.Planning.{plain_page, most_steps};
+ghost use Rattle.jlog.specs.Places.{is_writable_flash, fit, needed, free};
+ghost use Rattle.jlog.specs.Running.{written, CanWriteAll};
+
+use crate::node::node_len;
+use crate::place::place_of;
+use flashbase::pad4;
+use jnode::Order;
+use jsteps::{Index, Step};
+
+/// Whether the nodes of steps fit.
+pub fn has_room<E: Order>(
+    _index: &Index,
+    block: u32,
+    blocks: u32,
+    cursor: u32,
+    steps: &[Step<'_>],
+) -> bool
+    requires flash { IsTrue (is_writable_flash block blocks) }
+    requires within { cursor ≤ blocks * block }
+    requires word { cursor % 4 ≡ 0 }
+    requires steps { CanWriteAll plain_page E.order _index.now steps.now }
+    ensures { result ≡ fit block blocks cursor (written E.order _index.now steps.now) }
+{
+    let mut end = cursor;
+    let mut i = 0;
+    while i < steps.len() {
+        let len = node_len(&steps[i]) as u32;
+        match place_of(block, blocks, end, len) {
+            Some(at) => end = at + pad4(len) as u32,
+            None => return false,
+        }
+        i += 1;
+    }
+    true
+}
+
+/// The bytes that the nodes of steps need.
+pub fn needed<E: Order>(_index: &Index, steps: &[Step<'_>]) -> u64
+    requires steps { CanWriteAll plain_page E.order _index.now steps.now }
+    requires few { length steps.now ≤ most_steps }
+    ensures { result ≡ needed (written E.order _index.now steps.now) }
+{
+    let mut sum = 0;
+    let mut i = 0;
+    while i < steps.len() {
+        sum += pad4(node_len(&steps[i]) as u32);
+        i += 1;
+    }
+    sum
+}
+
+/// The bytes that are left, less a marker for each block that is not begun.
+pub fn free(block: u32, blocks: u32, cursor: u32) -> u64
+    requires flash { IsTrue (is_writable_flash block blocks) }
+    requires within { cursor ≤ blocks * block }
+    ensures { result ≡ free block blocks cursor }
+{
+    let begun = cursor.div_ceil(block);
+    let left = u64::from(blocks) * u64::from(block) - u64::from(cursor);
+    left - 12 * u64::from(blocks - begun)
+}

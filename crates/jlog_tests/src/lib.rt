@@ -1,0 +1,19 @@
+//! Worked logs: what sessions put, where they refuse, and what mounts after a cut, from the rules of the format and not from
+//! the program's output.
+//!
+//! `lines` reads operations from lines of text, `sessions` runs them onto an image, `run_tests` and `refusal_tests` have the
+//! tables, `cut_tests` mounts what each cut leaves, and `sink_tests` lets a sink fail.
+#![tactic(auto)]
+
+#[cfg(test)]
+mod cut_tests;
+#[cfg(test)]
+mod lines;
+#[cfg(test)]
+mod refusal_tests;
+#[cfg(test)]
+mod run_tests;
+#[cfg(test)]
+mod sessions;
+#[cfg(test)]
+mod sink_tests;

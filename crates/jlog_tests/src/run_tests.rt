@@ -1,0 +1,174 @@
+//! What runs put, and where.
+
+use crate::sessions::run_lines;
+use byteorder::{BigEndian, LittleEndian};
+use jlog::Place;
+use jnode::Order;
+use jscan::Geometry;
+use std::alloc::Global;
+use std::test::Fail;
+
+const GEOMETRY: Geometry = Geometry { block: 8192 };
+
+/// A run onto an empty flash of so many blocks: its operations, where their nodes go, and how many bytes are put.
+#[derive(Clone, Copy)]
+struct Row {
+    blocks: u32,
+    lines: &'static [&'static str],
+    places: &'static [(u32, u32)],
+    len: usize,
+}
+
+const ROWS: &[Row] = &[
+    Row {
+        blocks: 1,
+        lines: &[],
+        places: &[],
+        len: 0,
+    },
+    Row {
+        blocks: 1,
+        lines: &["create /a 644"],
+        places: &[(12, 68), (80, 41)],
+        len: 124,
+    },
+    Row {
+        blocks: 1,
+        lines: &[
+            "create /a 644",
+            "write /a 0 10",
+            "truncate /a 4",
+            "write /a 8 1",
+        ],
+        places: &[
+            (12, 68),
+            (80, 41),
+            (124, 78),
+            (204, 68),
+            (272, 68),
+            (340, 69),
+        ],
+        len: 412,
+    },
+    Row {
+        blocks: 1,
+        lines: &["create /a 644", "write /a 0 3"],
+        places: &[(12, 68), (80, 41), (124, 71)],
+        len: 196,
+    },
+    Row {
+        blocks: 1,
+        lines: &["mkdir /d 755", "rename /d /e"],
+        places: &[(12, 68), (80, 41), (124, 41), (168, 41)],
+        len: 212,
+    },
+    Row {
+        blocks: 2,
+        lines: &["create /a 644", "write /a 0 8192"],
+        places: &[(12, 68), (80, 41), (124, 4164), (8204, 4164)],
+        len: 12368,
+    },
+    Row {
+        blocks: 1,
+        lines: &["create /a 644", "write /a 100 0", "truncate /a 0"],
+        places: &[(12, 68), (80, 41)],
+        len: 124,
+    },
+];
+
+fn rows_hold<E: Order>(alloc: Global) -> Result<bool, Fail> {
+    for row in ROWS {
+        let run = run_lines::<E>(alloc, &[], GEOMETRY, row.blocks, row.lines)?;
+        let places = run
+            .report
+            .places
+            .iter()
+            .map(|place| (place.addr, place.totlen));
+        let is_right = run.report.accepted == row.lines.len()
+            && run.report.stopped.is_none()
+            && places.eq(row.places.iter().copied())
+            && run.output.len() == row.len;
+        if !is_right {
+            return Ok(false);
+        }
+    }
+    Ok(true)
+}
+
+#[test]
+fn nodes_have_their_places(rt: HostRuntime) -> Result<(), Fail> {
+    assert!(rt; rows_hold::<LittleEndian>(rt.alloc())?);
+    assert!(rt; rows_hold::<BigEndian>(rt.alloc())?);
+    Ok(())
+}
+
+/// Marker, inode node and entry of a file that is made, in little order, with the padding.
+const MADE: [u8; 124] = [
+    0x85, 0x19, 0x03, 0x20, 0x0C, 0, 0, 0, 0xB1, 0xB0, 0x1E, 0xE4, // marker
+    0x85, 0x19, 0x02, 0xE0, 0x44, 0, 0, 0, 0x1D, 0xFB, 0xF7, 0x98, 2, 0, 0, 0, 1, 0, 0, 0, 0xA4,
+    0x81, 0, 0, 0, 0, 0, 0, 0, 0, 0, 0, 0, 0, 0, 0, 0, 0, 0, 0, 0, 0, 0, 0, 0, 0, 0, 0, 0, 0, 0, 0,
+    0, 0, 0, 0, 0, 0, 0, 0, 0, 0, 0, 0, 0x14, 0xD0, 0xC4, 0x71, // inode node
+    0x85, 0x19, 0x01, 0xE0, 0x29, 0, 0, 0, 0x6D, 0xA6, 0x2F, 0xD7, 1, 0, 0, 0, 1, 0, 0, 0, 2, 0, 0,
+    0, 0, 0, 0, 0, 1, 8, 0, 0, 0x95, 0x02, 0x9B, 0x91, 0xCE, 0x51, 0xB5, 0x3A, 0x61, // entry
+    0xFF, 0xFF, 0xFF,
+];
+
+/// The marker and the entry of the same file in big order.
+const BIG_MARKER: [u8; 12] = [
+    0x19, 0x85, 0x20, 0x03, 0, 0, 0, 0x0C, 0xF0, 0x60, 0xDC, 0x98,
+];
+
+const BIG_ENTRY: [u8; 41] = [
+    0x19, 0x85, 0xE0, 0x01, 0, 0, 0, 0x29, 0xD0, 0x4C, 0x45, 0x0B, 0, 0, 0, 1, 0, 0, 0, 1, 0, 0, 0,
+    2, 0, 0, 0, 0, 1, 8, 0, 0, 0xBA, 0x8F, 0x4B, 0xF0, 0x3A, 0xB5, 0x51, 0xCE, 0x61,
+];
+
+#[test]
+fn a_file_that_is_made(rt: HostRuntime) -> Result<(), Fail> {
+    let little = run_lines::<LittleEndian>(rt.alloc(), &[], GEOMETRY, 1, &["create /a 644"])?;
+    assert!(rt; little.output.as_slice() == MADE.as_slice());
+    let big = run_lines::<BigEndian>(rt.alloc(), &[], GEOMETRY, 1, &["create /a 644"])?;
+    assert!(rt; &big.output[..12] == BIG_MARKER.as_slice());
+    assert!(rt; &big.output[80..121] == BIG_ENTRY.as_slice());
+    assert!(rt; &big.output[121..] == b"\xFF\xFF\xFF".as_slice());
+    Ok(())
+}
+
+#[test]
+fn the_rest_of_a_block_is_erased(rt: HostRuntime) -> Result<(), Fail> {
+    let lines = ["create /a 644", "write /a 0 8192"];
+    let run = run_lines::<LittleEndian>(rt.alloc(), &[], GEOMETRY, 2, &lines)?;
+    assert!(rt; run.output[4288..8192].iter().all(|byte| *byte == 0xFF));
+    assert!(rt; &run.output[8192..8204] == &MADE[..12]);
+    Ok(())
+}
+
+#[test]
+fn a_log_goes_on_after_its_base(rt: HostRuntime) -> Result<(), Fail> {
+    let alloc = rt.alloc();
+    let rows: [(&[u8], u32, u32); 4] = [
+        (&MADE[..100], 2, 8192),
+        (&MADE, 2, 8192),
+        (&MADE[..12], 1, 0),
+        (&MADE[..7], 1, 0),
+    ];
+    for (base, blocks, at) in rows {
+        let run = run_lines::<LittleEndian>(alloc, base, GEOMETRY, blocks, &["create /b 644"])?;
+        let inode = Place {
+            addr: at + 12,
+            totlen: 68,
+        };
+        let entry = Place {
+            addr: at + 80,
+            totlen: 41,
+        };
+        assert!(rt;
+            run.report.places.as_slice() == [inode, entry].as_slice(),
+            "at {at}"
+        );
+        assert_eq!(rt; run.output.len(), 124, "at {at}");
+    }
+    let again = run_lines::<LittleEndian>(alloc, &MADE[..7], GEOMETRY, 1, &["create /a 644"])?;
+    assert!(rt; again.output.as_slice() == MADE.as_slice());
+    Ok(())
+}

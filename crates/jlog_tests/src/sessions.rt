@@ -1,0 +1,49 @@
+//! Operations run onto an image.
+
+use crate::lines::op_of;
+use flashbase::FromWriter;
+use jlog::{RunReport, Session};
+use jmount::mount;
+use jnode::Order;
+use jscan::Geometry;
+use jsteps::Op;
+use std::alloc::Global;
+use std::test::Fail;
+
+/// What a run put, and what it reported.
+#[derive(Drop)]
+pub struct Outcome {
+    pub output: Vec<u8>,
+    pub report: RunReport,
+}
+
+/// The operations of lines.
+pub fn ops_of<'a>(alloc: Global, lines: &[&'a str]) -> Result<Vec<Op<'a>>, Fail> {
+    let mut ops = Vec::new(alloc);
+    for line in lines {
+        ops.push(op_of(line).ok_or("no operation")?)?;
+    }
+    Ok(ops)
+}
+
+/// Runs the operations of lines onto an image, on a flash of so many blocks.
+pub fn run_lines<E: Order>(
+    alloc: Global,
+    image: &[u8],
+    geometry: Geometry,
+    blocks: u32,
+    lines: &[&str],
+) -> Result<Outcome, Fail> {
+    let ops = ops_of(alloc, lines)?;
+    let mounted = mount::<E>(alloc, image, geometry)?;
+    let sink = FromWriter::new(Vec::new(alloc));
+    let mut session = Session::<E, _>::resume(alloc, &mounted, geometry, blocks, sink)?;
+    let report = session.run(alloc, &ops);
+    if session.base() != image {
+        return Err(Fail::from("another base"));
+    }
+    Ok(Outcome {
+        output: session.finish().into_writer(),
+        report,
+    })
+}
