@@ -93,7 +93,7 @@ fn add_node<'a>(
     ensures ordered { IsOrdered nat_cmp numbers.new }
 {
     if let Some(versions) = numbers.get_mut(&node.ino) {
-        return versions.add(node);
+        return versions.add(alloc, node);
     }
     let ino = node.ino;
     numbers.insert(ino, Versions::of_one(alloc, node))?;

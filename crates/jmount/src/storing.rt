@@ -96,7 +96,7 @@ fn pieces_of<'a>(alloc: Global, versions: &Versions<'a>) -> Result<Vec<Piece<'a>
     let mut pieces = Vec::with_capacity(alloc, versions.older.len() + 1)?;
     pieces.push(piece_of(&versions.newest))?;
     for node in versions.older.values() {
-        pieces.push(piece_of(node))?;
+        pieces.push(piece_of(node.node()))?;
     }
     Ok(pieces)
 }
