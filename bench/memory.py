@@ -8,7 +8,9 @@ programs are those that `rt run` built in CRATES (here, where it is not given).
   numbers      inode nodes without data, each of a number of its own
   data         the same with four bytes each
   versions     two inode nodes a number
+  pieces       the same with four bytes each, side by side
   directories  entries, each in a directory number of its own
+  pairs        two entries a directory
   children     directories: an inode node, and one entry
 """
 import os
@@ -36,9 +38,21 @@ def versions(count):
         yield inode(k + 2, 2, 0, 1, b"")
 
 
+def pieces(count):
+    for k in range(count):
+        yield inode(k + 2, 1, 0, 4, b"data")
+        yield inode(k + 2, 2, 4, 8, b"data")
+
+
 def directories(count):
     for k in range(count):
         yield entry(k + 2, 1, 1, b"name")
+
+
+def pairs(count):
+    for k in range(count):
+        yield entry(k + 2, 1, 1, b"name")
+        yield entry(k + 2, 2, 1, b"other")
 
 
 def children(count):
@@ -47,7 +61,7 @@ def children(count):
         yield entry(k + 2, 2, 1, b"name")
 
 
-THINGS = (numbers, data, versions, directories, children)
+THINGS = (numbers, data, versions, pieces, directories, pairs, children)
 
 
 def measured(words, folder):

@@ -5,4 +5,5 @@ pub mod Reading
 pub mod IntervalMapLemmas
 pub mod IntervalMapChanges
 pub mod IntervalsLemmas
+pub mod OnePiece
 pub mod Walk

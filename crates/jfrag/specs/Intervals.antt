@@ -1,18 +1,17 @@
 -- The intervals of a file in each of which one piece is visible.
 use Rattle.std.specs.Prelude.{◌≡◌, ◌≢◌, ℕ, ◌+◌, ◌<◌, ◌↔◌, List, length, Contains, Option, Some}
 use Rattle.std.specs.List.{AllPairs}
-use Rattle.std.specs.BTreeMap.{btree_map_len}
 use Rattle.jfrag.specs.declared.piece.Piece.{Piece}
 use Rattle.jfrag.specs.declared.frag.FragOverlay.{FragOverlay}
-use Rattle.jfrag.specs.IntervalMap.{interval_at}
+use Rattle.jfrag.specs.Layouts.{laid_at, laid_ends}
 
 -- the piece whose byte is visible at a place, or nothing
 abbrev pub piece_at : FragOverlay → ℕ → Option Piece
-piece_at overlay place = interval_at overlay.intervals.entries place
+piece_at overlay place = laid_at overlay.layout place
 
 -- how many ends of intervals are stored: the end of one that is the beginning of the next counts once
 abbrev pub end_count : FragOverlay → ℕ
-end_count overlay = btree_map_len overlay.intervals
+end_count overlay = laid_ends overlay.layout
 
 -- an interval begins where a piece is visible that is not visible right before
 abbrev pub Begins : (ℕ → Option Piece) → ℕ → Type 0

@@ -1,22 +1,20 @@
 // An overlay in ordered intervals.
 ghost use Rattle.std.specs.Prelude.{◌≡◌, ℕ, ◌+◌, ◌*◌, ◌<◌, ◌≤◌};
-ghost use Rattle.std.specs.BTreeMap.{btree_map_len};
-ghost use Rattle.jfrag.specs.IntervalMap.{interval_at, seen, IsCovered, IsSettled, IsTight};
+ghost use Rattle.jfrag.specs.IntervalMap.{seen};
+ghost use Rattle.jfrag.specs.Layouts.{IsWhole, IsWhole-prop};
 
-use super::interval_map::{self, Intervals};
+use super::layout::{self, Layout};
 use super::overlays::Overlay;
 use super::piece::Piece;
 use std::alloc::{AllocError, Global};
-use std::collections::BTreeMap;
 
 /// Intervals in the order of their places, in each of which one piece is visible: no two overlap, and no
-/// two that touch show one piece. At each key of the map begins what is visible up to the next key.
+/// two that touch show one piece.
 #[derive(Drop)]
 pub struct FragOverlay<'a> {
-    intervals: BTreeMap<u32, Option<Piece<'a>>>,
-    ghost covered: { IsCovered intervals.entries },
-    ghost settled: { IsSettled intervals.entries },
-    ghost tight: { IsTight intervals },
+    layout: Layout<'a>,
+    alloc: Global,
+    ghost whole: { IsWhole layout } by { IsWhole-prop layout },
 }
 
 impl<'a> Overlay<'a> for FragOverlay<'a> {
@@ -32,12 +30,13 @@ impl<'a> Overlay<'a> for FragOverlay<'a> {
 
     fn new(alloc: Global) -> Self {
         FragOverlay {
-            intervals: BTreeMap::new(alloc),
+            layout: Layout::Empty,
+            alloc,
         }
     }
 
     /// In the order of versions n pieces take O(n log n) in all. A piece that is older than k
-    /// intervals in its range takes k steps more: `overlay` sorts first.
+    /// intervals in its range takes k steps more: `overlay` sorts first. The first piece takes no memory.
     fn add(&mut self, piece: Piece<'a>) -> Result<(), AllocError>
         requires { end_of piece < 2 ^ 32 }
         ensures taken { OnOk result ((place : ℕ) → piece_at self.new place ≡ overwritten piece.entry place (piece_at self.old place)) }
@@ -47,11 +46,11 @@ impl<'a> Overlay<'a> for FragOverlay<'a> {
         ensures same { OnErr result ((place : ℕ) → seen (piece_at self.new place) place ≡ seen (piece_at self.old place) place) }
         ensures same_ends { OnErr result (end_count self.new ≡ end_count self.old) }
     {
-        interval_map::overlay_piece(&mut self.intervals, &piece)
+        layout::add(self.alloc, &mut self.layout, piece)
     }
 
     fn read_at(&self, place: u64, out: &mut [u8]) {
-        interval_map::read(&self.intervals, place, out);
+        layout::read(&self.layout, place, out);
     }
 
     /// How many intervals there are, in each of which one piece is visible.
@@ -59,6 +58,6 @@ impl<'a> Overlay<'a> for FragOverlay<'a> {
         ensures exact { IsIntervalCount (piece_at self.now) result }
         ensures bound { result ≤ end_count self.now }
     {
-        interval_map::count(&self.intervals)
+        layout::count(&self.layout)
     }
 }

@@ -226,7 +226,13 @@ fn walk(intervals: &Intervals<'_>, from: u32, out: &mut [u8])
 }
 
 // Shows an interval at the indices `done` up to `upto` of a slice whose first byte is the file's byte `from`.
-fn show_part(interval: &Option<Piece<'_>>, from: u32, done: usize, upto: usize, out: &mut [u8])
+pub(crate) fn show_part(
+    interval: &Option<Piece<'_>>,
+    from: u32,
+    done: usize,
+    upto: usize,
+    out: &mut [u8],
+)
     requires forward { done ≤ upto }
     requires within { upto ≤ length out.old }
     requires fits { IfSome interval.now (λ p. (p.offset ≤ from + done) × (from + upto ≤ end_of p)) }

@@ -12,6 +12,7 @@ mod all;
 mod frag;
 mod interval_map;
 pub mod laws;
+mod layout;
 mod overlays;
 mod piece;
 mod plain;

@@ -70,12 +70,12 @@ impl<'a> Inodes<'a> {
 
     /// The objects that the nodes make, by their numbers, and the root, which every image has. O(n log n) for n
     /// nodes of which no two clash.
-    pub fn objects(&self) -> Result<BTreeMap<u32, Stored<'a>>, AllocError>
-        requires ends { All (λ node. end_of (piece_of node) < 2 ^ 32) self.now }
-        ensures each { IfOk result (λ objects. (i : ℕ) → option_map as_made (get nat_cmp objects i) ≡ made_of self.now i) }
+    pub fn into_objects(self) -> Result<BTreeMap<u32, Stored<'a>>, AllocError>
+        requires ends { All (λ node. end_of (piece_of node) < 2 ^ 32) self }
+        ensures each { IfOk result (λ objects. (i : ℕ) → option_map as_made (get nat_cmp objects i) ≡ made_of self.entry i) }
         ensures ordered { IfOk result (IsOrdered nat_cmp) }
     {
-        objects_with_root(self.alloc, &self.numbers)
+        objects_with_root(self.alloc, self.numbers)
     }
 }
 
@@ -93,7 +93,7 @@ fn add_node<'a>(
     ensures ordered { IsOrdered nat_cmp numbers.new }
 {
     if let Some(versions) = numbers.get_mut(&node.ino) {
-        return versions.add(node);
+        return versions.add(alloc, node);
     }
     let ino = node.ino;
     numbers.insert(ino, Versions::of_one(alloc, node))?;

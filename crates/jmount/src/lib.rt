@@ -8,6 +8,7 @@
 //! what follows from them, many of them once more as relations, and `examples` has worked examples.
 #![tactic(auto)]
 
+mod apart;
 mod collecting;
 pub mod examples;
 mod fault;

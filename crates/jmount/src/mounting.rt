@@ -2,7 +2,7 @@
 
 ghost use Rattle.jmount.specs.Mounts.{Answers};
 
-use crate::collecting::collect;
+use crate::collecting::{NodeTables, collect};
 use crate::fault::MountFault;
 use crate::mounted::{Mounted, ROOT};
 use jnode::Order;
@@ -30,13 +30,17 @@ pub fn mount<'a, E: Order>(
     } = scan_to_refusal::<E>(alloc, image, geometry)?;
     // The partial scan stops at the first node that is refused: all nodes that it gives lie below that one, so a clash of
     // theirs is the fault of least address, and is looked for first.
-    let tables = collect(alloc, nodes)?;
+    let NodeTables {
+        names,
+        inodes,
+        greatest,
+    } = collect(alloc, nodes)?;
     if let Some(refusal) = refused {
         return Err(MountFault::from(refusal));
     }
-    let objects = tables.inodes.objects()?;
-    let next = u64::from(tables.greatest) + 1;
-    let mounted = Mounted::new(image, objects, tables.names, next, findings, read_only);
+    let objects = inodes.into_objects()?;
+    let next = u64::from(greatest) + 1;
+    let mounted = Mounted::new(image, objects, names, next, findings, read_only);
     if !mounted.is_directory(ROOT) {
         return Err(MountFault::RootKind);
     }

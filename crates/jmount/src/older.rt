@@ -5,9 +5,11 @@ ghost use Rattle.std.specs.Ordering.{nat_cmp};
 ghost use Rattle.std.specs.BTreeMap.{IsOrdered, get};
 ghost use Rattle.jmount.specs.Inodes.{Agrees, Differs};
 
+use crate::apart::Apart;
 use crate::sameness::is_same_node;
 use crate::versions::InodeFault;
 use jnode::{Fill, InodeNode};
+use std::alloc::Global;
 use std::collections::BTreeMap;
 
 /// Whether a node may come where this one is stored.
@@ -24,7 +26,8 @@ pub fn agree(there: &InodeNode<'_>, node: &InodeNode<'_>) -> Result<(), InodeFau
 
 /// Adds a node to these.
 pub fn add_older<'a>(
-    older: &mut BTreeMap<u32, InodeNode<'a>>,
+    alloc: Global,
+    older: &mut BTreeMap<u32, Apart<'a>>,
     node: InodeNode<'a>,
 ) -> Result<(), InodeFault>
     requires { IsOrdered nat_cmp older.old }
@@ -35,9 +38,10 @@ pub fn add_older<'a>(
     ensures ordered { IsOrdered nat_cmp older.new }
 {
     if let Some(there) = older.get(&node.version) {
-        return agree(there, &node);
+        return agree(there.node(), &node);
     }
-    older.insert(node.version, node)?;
+    let version = node.version;
+    older.insert(version, Apart::new(alloc, node)?)?;
     Ok(())
 }
 

@@ -20,11 +20,11 @@ use std::collections::BTreeMap;
 /// The objects of these numbers, and the root.
 pub fn objects_with_root<'a>(
     alloc: Global,
-    numbers: &NodesByNumber<'a>,
+    numbers: NodesByNumber<'a>,
 ) -> Result<BTreeMap<u32, Stored<'a>>, AllocError>
-    requires keyed { IsKeyed numbers.now }
-    requires ends { All (λ node. end_of (piece_of node) < 2 ^ 32) (nodes_of_numbers numbers.now) }
-    ensures each { IfOk result (λ objects. (i : ℕ) → option_map as_made (get nat_cmp objects i) ≡ or_made_root i (made_at numbers.now i)) }
+    requires keyed { IsKeyed numbers }
+    requires ends { All (λ node. end_of (piece_of node) < 2 ^ 32) (nodes_of_numbers numbers) }
+    ensures each { IfOk result (λ objects. (i : ℕ) → option_map as_made (get nat_cmp objects i) ≡ or_made_root i (made_at numbers.entry i)) }
     ensures ordered { IfOk result (IsOrdered nat_cmp) }
 {
     let mut objects = objects_of(alloc, numbers)?;
@@ -51,19 +51,19 @@ fn default_root<'a>(alloc: Global) -> Stored<'a>
     }
 }
 
-/// The objects of these numbers.
+/// The objects of these numbers. The memory of the nodes goes back as that of the objects is taken.
 fn objects_of<'a>(
     alloc: Global,
-    numbers: &NodesByNumber<'a>,
+    numbers: NodesByNumber<'a>,
 ) -> Result<BTreeMap<u32, Stored<'a>>, AllocError>
-    requires keyed { IsKeyed numbers.now }
-    requires ends { All (λ node. end_of (piece_of node) < 2 ^ 32) (nodes_of_numbers numbers.now) }
-    ensures each { IfOk result (λ objects. (i : ℕ) → option_map as_made (get nat_cmp objects i) ≡ made_at numbers.now i) }
+    requires keyed { IsKeyed numbers }
+    requires ends { All (λ node. end_of (piece_of node) < 2 ^ 32) (nodes_of_numbers numbers) }
+    ensures each { IfOk result (λ objects. (i : ℕ) → option_map as_made (get nat_cmp objects i) ≡ made_at numbers.entry i) }
     ensures ordered { IfOk result (IsOrdered nat_cmp) }
 {
     let mut objects = BTreeMap::new(alloc);
     for (ino, versions) in numbers {
-        objects.insert(*ino, object_of(alloc, versions)?)?;
+        objects.insert(ino, object_of(alloc, &versions)?)?;
     }
     Ok(objects)
 }
@@ -96,7 +96,7 @@ fn pieces_of<'a>(alloc: Global, versions: &Versions<'a>) -> Result<Vec<Piece<'a>
     let mut pieces = Vec::with_capacity(alloc, versions.older.len() + 1)?;
     pieces.push(piece_of(&versions.newest))?;
     for node in versions.older.values() {
-        pieces.push(piece_of(node))?;
+        pieces.push(piece_of(node.node()))?;
     }
     Ok(pieces)
 }

@@ -5,6 +5,7 @@ ghost use Rattle.std.specs.Ordering.{nat_cmp};
 ghost use Rattle.std.specs.BTreeMap.{IsOrdered, get};
 ghost use Rattle.std.proofs.Props.{props};
 
+use crate::apart::Apart;
 use crate::older::{add_older, agree, copied};
 use jnode::InodeNode;
 use std::alloc::{AllocError, AllocFailed, Global};
@@ -43,7 +44,7 @@ impl<T: Drop> From<AllocFailed<T>> for InodeFault {
 #[derive(Drop)]
 pub struct Versions<'a> {
     pub newest: InodeNode<'a>,
-    pub older: BTreeMap<u32, InodeNode<'a>>,
+    pub older: BTreeMap<u32, Apart<'a>>,
     ghost ordered: { IsOrdered nat_cmp older } by { Prim.hlevel props },
     ghost below: { (v : ℕ) → IsSome (get nat_cmp older v) → v < newest.version },
 }
@@ -62,7 +63,7 @@ impl<'a> Versions<'a> {
     }
 
     /// Adds a node.
-    pub fn add(&mut self, node: InodeNode<'a>) -> Result<(), InodeFault>
+    pub fn add(&mut self, alloc: Global, node: InodeNode<'a>) -> Result<(), InodeFault>
         ensures clash { result ≡ Err InodeFault.Clash → Differs (version_at self.old node.entry.version) node.entry }
         ensures alone { OnOk result (Agrees (version_at self.old node.entry.version) node.entry) }
         ensures ok { OnOk result ((v : ℕ) → version_at self.new v ≡ (if node.entry.version == v then Some node.entry else version_at self.old v)) }
@@ -72,10 +73,10 @@ impl<'a> Versions<'a> {
             return agree(&self.newest, &node);
         }
         if node.version < self.newest.version {
-            return add_older(&mut self.older, node);
+            return add_older(alloc, &mut self.older, node);
         }
-        self.older
-            .insert(self.newest.version, copied(&self.newest))?;
+        let newest = Apart::new(alloc, copied(&self.newest))?;
+        self.older.insert(self.newest.version, newest)?;
         self.newest = node;
         Ok(())
     }

@@ -9,7 +9,7 @@ abbrev pub invariant-loop-ino : goal.invariant-loop-ino
 invariant-loop-ino l = record {
   can : (goal.iterator-loop-ino).can_next l.ino-iterator;
   finite : (goal.iterator-loop-ino).is_finite l.ino-iterator;
-  left : All (λ e. get nat_cmp l.numbers e.0 ≡ Some e.1) l.ino-iterator;
-  done : (i : ℕ) → lookup (eq_by_cmp nat_cmp i) l.ino-iterator ≡ None → option_map as_made (get nat_cmp l.objects i) ≡ made_at l.numbers i;
+  left : All (λ e. get nat_cmp l.fn.numbers e.0 ≡ Some e.1) l.ino-iterator;
+  done : (i : ℕ) → lookup (eq_by_cmp nat_cmp i) l.ino-iterator ≡ None → option_map as_made (get nat_cmp l.objects i) ≡ made_at l.fn.numbers i;
   ordered : IsOrdered nat_cmp l.objects;
 }
