@@ -1,6 +1,6 @@
 -- A plan has few steps: two for each page at most, and one of zeros.
-use Rattle.std.proofs.Common.{◌≡◌, ℕ, ◌+◌, ◌-◌, ◌*◌, ◌/◌, ◌≤◌, Bool, true, false, List, [], ◌∷◌, length, length-append, subst, ⊎_elim, arith, Ok}
-use Rattle.std.specs.Prelude.{flat_map, nat_lt, ◌&&◌, ◌==◌, take, drop}
+use Rattle.std.proofs.Common.{◌≡◌, ℕ, ◌+◌, ◌-◌, ◌*◌, ◌/◌, ◌≤◌, Bool, true, false, List, [], ◌∷◌, length, length-append, subst, ⊎_elim, arith, Result, Ok, Err, IfOk}
+use Rattle.std.specs.Prelude.{Vec, flat_map, nat_lt, ◌&&◌, ◌==◌, take, drop}
 use Rattle.std.proofs.Math.Nat.{div-mul-le_self, mul-le-mul_left}
 use Rattle.std.proofs.lemmas.Bool.{cases_lt, cond_both, lt-ltb, ltb-false, false≢true}
 use Rattle.flashbase.specs.Lists.{below}
@@ -9,6 +9,8 @@ use Rattle.jsteps.specs.Nodes.{Indexed}
 use Rattle.jsteps.specs.Planning.{IsPage, plain_page, spelling_len, most_steps, piece_puts, page_puts, puts, zeros_to, write_steps, resize_steps, size_named, steps_of}
 use Rattle.jsteps.specs.Refusals.{planned_by, greatest_size}
 use Rattle.jsteps.specs.Where.{number_or_zero}
+use Rattle.std.specs.declared.alloc.Global.{Global}
+use Rattle.jsteps.specs.declared.fault.OpFault.{OpFault}
 use Rattle.jsteps.specs.declared.op.Op.{Op}
 use Rattle.jsteps.specs.declared.op.Op.TheVariants as op
 use Rattle.jsteps.specs.declared.step.Step.{Step}
@@ -82,3 +84,7 @@ steps_few page x (op.Rename time old new) steps is_page e = omega arith
 
 pub planned_few : (page : ℕ) (x : Indexed) (o : Op) (steps : List Step) → IsPage page → planned_by page x o ≡ Ok steps → length steps ≤ most_steps
 planned_few page x o steps is_page e = subst (λ steps. length steps ≤ most_steps) (accepted page x o steps e).steps_are (steps_few page x o steps is_page e)
+
+pub few_of : (page : ℕ) (x : Indexed) (o : Op) (r : Result (Vec Step Global) OpFault) → IsPage page → IfOk r (λ steps. planned_by page x o ≡ Ok steps.items) → IfOk r (λ steps. length steps.items ≤ most_steps)
+few_of page x o (Ok steps) is_page e = planned_few page x o steps.items is_page e
+few_of page x o (Err f) is_page e = tt

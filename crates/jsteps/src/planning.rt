@@ -18,6 +18,7 @@ use crate::refusal::{tests_of_file, tests_of_name, tests_of_new, tests_of_remove
 use crate::site::{end_of, look_up, meets_above};
 use crate::step::Step;
 use crate::stored::DIRECTORY;
+use crate::text::Text;
 use flashbase::Part;
 use std::alloc::{AllocError, Global};
 
@@ -155,14 +156,15 @@ fn write<'a>(
     page: u32,
     index: &Index,
     time: u32,
-    path: &'a [u8],
+    path: &'a Text<'_>,
     offset: u32,
-    bytes: &'a [u8],
+    bytes: &'a Text<'_>,
 ) -> Result<Vec<Step<'a>>, OpFault>
     requires { IsPage page }
     ensures { GivesPlan result (planned_by page index.now (op.Write time path.now offset bytes.now)) }
 {
-    let Some(site) = look_up(alloc, index, path)? else {
+    let bytes = bytes.as_slice();
+    let Some(site) = look_up(alloc, index, path.as_slice())? else {
         return Err(OpFault::BadPath);
     };
     let ino = site.number.unwrap_or(0);
@@ -348,28 +350,35 @@ fn symlink<'a>(
     alloc: Global,
     index: &Index,
     time: u32,
-    path: &'a [u8],
-    target: &'a [u8],
+    path: &'a Text<'_>,
+    target: &'a Text<'_>,
     uid: u16,
     gid: u16,
 ) -> Result<Vec<Step<'a>>, OpFault>
     ensures { (page : ℕ) → GivesPlan result (planned_by page index.now (op.Symlink time path.now target.now uid gid)) }
 {
+    let path = path.as_slice();
+    let target = target.as_slice();
     let is_bad = is_bad_target(target);
     make(
         alloc, index, time, path, 0o120000, 0o777, uid, gid, target, is_bad,
     )
 }
 
-/// The steps of an operation, or why it is refused, page by page of this length.
-fn plan_paged<'a>(
+/// The steps of an operation, or why it is refused, with bytes cut where a page of this length of the file ends.
+///
+/// # Errors
+/// As those of [`plan`].
+pub(crate) fn plan_paged<'a>(
     alloc: Global,
     page: u32,
     index: &Index,
     op: &'a Op<'_>,
 ) -> Result<Vec<Step<'a>>, OpFault>
-    requires { IsPage page }
-    ensures { GivesPlan result (planned_by page index.now op.now) }
+    requires page { IsPage page }
+    ensures ok { IfOk result (λ steps. planned_by page index.now op.now ≡ Ok steps.items) }
+    ensures few { IfOk result (λ steps. length steps.items ≤ most_steps) }
+    ensures err { IfErr result (λ fault. fault ≢ refused.OutOfMemory → planned_by page index.now op.now ≡ Err fault) }
 {
     match op {
         Op::Mkdir {
@@ -392,29 +401,13 @@ fn plan_paged<'a>(
             target,
             uid,
             gid,
-        } => symlink(
-            alloc,
-            index,
-            *time,
-            path.as_slice(),
-            target.as_slice(),
-            *uid,
-            *gid,
-        ),
+        } => symlink(alloc, index, *time, path, target, *uid, *gid),
         Op::Write {
             time,
             path,
             offset,
             bytes,
-        } => write(
-            alloc,
-            page,
-            index,
-            *time,
-            path.as_slice(),
-            *offset,
-            bytes.as_slice(),
-        ),
+        } => write(alloc, page, index, *time, path, *offset, bytes),
         Op::Truncate { time, path, size } => truncate(alloc, index, *time, path.as_slice(), *size),
         Op::Link { time, old, new } => link(alloc, index, *time, old.as_slice(), new.as_slice()),
         Op::Remove { time, path } => remove(alloc, index, *time, path.as_slice()),

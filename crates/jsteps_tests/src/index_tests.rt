@@ -1,7 +1,8 @@
 //! What an index shows, of a tree and after steps.
 
+use crate::lines::answer;
 use crate::taking::take;
-use crate::trees::{SMALL, index_of};
+use crate::trees::{ONE_NUMBER_LEFT, SMALL, index_of};
 use jmount::Kind;
 use std::test::Fail;
 
@@ -58,5 +59,26 @@ fn what_steps_leave(rt: HostRuntime) -> Result<(), Fail> {
     assert_eq!(rt; index.top(1), 10);
     let times = index.object(2).map(|o| (o.atime, o.mtime, o.ctime));
     assert_eq!(rt; times, Some((1, 7, 7)));
+    Ok(())
+}
+
+#[test]
+fn what_the_last_number_leaves(rt: HostRuntime) -> Result<(), Fail> {
+    let alloc = rt.alloc();
+    let mut index = index_of(alloc, ONE_NUMBER_LEFT)?;
+    assert_eq!(rt; take(alloc, &mut index, "mkdir /y 755")?, 2);
+    assert_eq!(rt; index.next(), 4_294_967_296);
+    assert_eq!(rt; index.top(u32::MAX), 1);
+    let rows = [
+        ("create /x 644", "O12 Exhausted"),
+        ("mkdir /y/x 755", "O12 Exhausted"),
+        ("link /z /y/x", "O3 NotFound"),
+        ("rename /y /x", "set 1 x 4294967295, clear 1 y"),
+        ("rename /y /y/x", "O8 IntoItself"),
+    ];
+    for (line, wanted) in rows {
+        let found = answer(alloc, &index, line)?;
+        assert_eq!(rt; found.as_str(), wanted, "at {line}");
+    }
     Ok(())
 }

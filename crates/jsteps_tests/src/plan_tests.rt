@@ -271,6 +271,8 @@ fn names_without_objects_count(rt: HostRuntime) -> Result<(), Fail> {
 fn the_root_by_another_name(rt: HostRuntime) -> Result<(), Fail> {
     let rows = [
         ("rename /d/r /x", "O8 IntoItself"),
+        ("rename /d/r x", "O1 BadPath"),
+        ("rename /d/r /", "O1 BadPath"),
         ("rename /d/r /d/r/d/x", "O8 IntoItself"),
         ("rename /d /d/r/x", "O8 IntoItself"),
         ("link /d/r /x", "O6 WrongKind"),
