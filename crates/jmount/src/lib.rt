@@ -28,6 +28,6 @@ mod walk;
 
 pub use crate::fault::{FindFault, MountFault};
 pub use crate::mounted::Mounted;
-pub use crate::mounting::mount;
+pub use crate::mounting::{mount, mount_scanned};
 pub use crate::object::{Kind, Object};
 pub use crate::walk::Objects;
