@@ -29,7 +29,7 @@ mod walk;
 
 pub use crate::fault::{FindFault, MountFault};
 pub use crate::mounted::Mounted;
-pub use crate::mounting::mount;
+pub use crate::mounting::{mount, mount_scanned};
 pub use crate::object::{Kind, Object};
 pub use crate::path::after_slash;
 pub use crate::shown::{kind_of, type_bits};

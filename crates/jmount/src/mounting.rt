@@ -1,5 +1,8 @@
 // Mounting an image.
 
+ghost use Rattle.std.specs.Prelude.{ℕ};
+ghost use Rattle.jnode.specs.declared.order.Endian.{Endian};
+ghost use Rattle.jscan.specs.PartialScans.{IsScanOf};
 ghost use Rattle.jmount.specs.Mounts.{Answers};
 
 use crate::collecting::{NodeTables, collect};
@@ -22,12 +25,28 @@ pub fn mount<'a, E: Order>(
 ) -> Result<Mounted<'a>, MountFault>
     ensures { Answers E.order geometry.block image.now result }
 {
+    let partial = scan_to_refusal::<E>(alloc, image, geometry)?;
+    mount_scanned(alloc, image, partial)
+}
+
+/// Mounts an image that was scanned, up to its first refusal if it has one: the nodes are not read again.
+///
+/// # Errors
+/// As `mount`, but for those that come before any byte is read.
+pub fn mount_scanned<'a>(
+    alloc: Global,
+    image: &'a [u8],
+    partial: PartialScan<'a>,
+) -> Result<Mounted<'a>, MountFault>
+    requires scanned { (e : Endian) × (size : ℕ) × IsScanOf e size image.now partial }
+    ensures { (e : Endian) (size : ℕ) → IsScanOf e size image.now partial.entry → Answers e size image.now result }
+{
     let PartialScan {
         nodes,
         findings,
         read_only,
         refused,
-    } = scan_to_refusal::<E>(alloc, image, geometry)?;
+    } = partial;
     // The partial scan stops at the first node that is refused: all nodes that it gives lie below that one, so a clash of
     // theirs is the fault of least address, and is looked for first.
     let NodeTables {

@@ -1,6 +1,6 @@
 -- What is put of an image that was read, in terms of what its source had left.
 use Rattle.std.proofs.Common.{◌≡◌, ◌≢◌, ℕ, ◌%◌, ◌<◌, ◌≤◌, ◌||◌, Bool, true, false, nat_lt, List, [], ◌++◌, length, take, sym, refl, ap, ◌∙◌, subst, arith, take_all, inl, inr, Option, Some, None, Result, Ok, Err}
-use Rattle.std.specs.Prelude.{IfErr, IfSome, IsErrAnd, IsTrue, IsFalse, ⊤}
+use Rattle.std.specs.Prelude.{IfErr, IfSome, IsErrAnd, IsErrOf, IsTrue, IsFalse, ⊤}
 use Rattle.std.specs.Io.KnownBytes.{Appends, IsAtEnd}
 use Rattle.std.proofs.KnownBytes.{Appends-trans}
 use Rattle.flashbase.specs.Device.{PutsPart, CountsLoad, next_count}
@@ -9,8 +9,12 @@ use Rattle.flashbase.specs.declared.source.LoadFault.TheVariants as load
 use Rattle.flashbase.proofs.DeviceLemmas.{part_behind}
 use Rattle.jnode.specs.declared.order.Endian.{Endian}
 use Rattle.jscan.specs.Counts.{is_found}
-use Rattle.jscan.specs.Image.{greatest_image}
+use Rattle.jscan.specs.Image.{greatest_image, is_block_size}
 use Rattle.jscan.specs.declared.geometry.ScanFault.TheVariants as scan
+use Rattle.jscan.specs.PartialScans.{HasScanned, IsScanOf}
+use Rattle.jscan.specs.Scans.{IsScannable, image_extents}
+use Rattle.jscan.specs.declared.answer.PartialScan.{PartialScan}
+use Rattle.jscan.proofs.TakeLemmas.{scanned_image}
 use Rattle.jmount.specs.Mount.{Mount}
 use Rattle.jmount.specs.Mounts.{Answers}
 use Rattle.jmount.specs.declared.fault.MountFault.{MountFault}
@@ -100,6 +104,17 @@ pub check_unread : (e : Endian) (size : ℕ) (image : List ℕ) (f : LoadFault) 
 check_unread e size image f a n (Ok x) is = absurd is
 check_unread e size image f a n (Err x) is = subst (λ (y : ProgramFault). PutsCheck e size image a a n n (Err y)) (sym is) (refl, refl)
 
+-- the scan that a report made
+pub scan_of : (e : Endian) (size : ℕ) (image : List ℕ) (partial : Option PartialScan) → IsScannable size image → IfSome partial (HasScanned (image_extents e size image))
+    → IfSome partial (IsScanOf e size image)
+scan_of e size image None scannable has = tt
+scan_of e size image (Some scan) scannable has = scanned_image e size image scan scannable has
+
+pub some_scan : (e : Endian) (size : ℕ) (image : List ℕ) (partial : Option PartialScan) → IfSome partial (IsScanOf e size image)
+    → IfSome partial (λ scan. (f : Endian) × (n : ℕ) × IsScanOf f n image scan)
+some_scan e size image None is = tt
+some_scan e size image (Some scan) is = (e, size, is)
+
 -- the report ended early
 pub report_failed : (e : Endian) (size : ℕ) (items present : List ℕ) (f : ReportFault) (a b : Option (List ℕ)) (before now : ℕ) (r : Result Bool ProgramFault)
     → IsErrAnd r (λ x. x ≡ fault_of_report f) → present ≡ items → length items ≤ greatest_image
@@ -111,7 +126,7 @@ report_failed e size items present f a b before now (Err x) is same short put =
   where
     by : (g : ReportFault) → PutsReport e size items a b before now (Err g) → PutsCheck e size items a b before now (Err (fault_of_report g))
     by report.Output p = (inl p.1, p.2)
-    by (report.Scan scan.OutOfMemory) p = (p.1, p.2, p.3)
+    by (report.Scan scan.OutOfMemory) p = absurd p
     by (report.Scan scan.BlockSize) p = (p.1, p.2)
     by (report.Scan scan.TooLarge) p = absurd (omega (arith, p.0.1, short))
     by (report.Scan (scan.Incompatible addr nodetype)) p = absurd p.0
@@ -192,6 +207,21 @@ verdict_is_read e size image a b before now f (Err x) is put =
     by : (g : ProgramFault) → PutsVerdict e size image a b before now (Err g) → IsFaultOfLoad g → ⊥
     by (program.Load f) p is_load = p
     by g p is_load = is_load
+
+pub not_of_load : {T : Type 0} (X : Type 0) (r : Result T ProgramFault) → IsRead r → IfErr r (λ x. IsFaultOfLoad x → X)
+not_of_load X (Ok x) read = tt
+not_of_load X (Err x) read = λ is_load. absurd (read is_load)
+
+-- nor is it the size of a block
+pub verdict_has_size : (e : Endian) (size : ℕ) (image : List ℕ) (a b : Option (List ℕ)) (before now : ℕ) (f : ProgramFault) (r : Result Bool ProgramFault)
+    → IsErrAnd r (λ x. x ≡ f) → IsTrue (is_block_size size) → PutsVerdict e size image a b before now (Err f)
+    → (IsErrOf r (program.Scan scan.BlockSize) → IsFalse (is_block_size size)) × (IsFalse (is_block_size size) → IsErrOf r (program.Scan scan.BlockSize))
+verdict_has_size e size image a b before now f (Ok x) is sized put = absurd is
+verdict_has_size e size image a b before now f (Err x) is sized put = (
+  λ same. absurd (subst (λ (q : Result Bool ProgramFault). PutsVerdict e size image a b before now q) same
+  (subst (λ (y : ProgramFault). PutsVerdict e size image a b before now (Err y)) (sym is) put)),
+  λ unsized. let bad : true ≡ false = sym sized ∙ unsized in cc,
+)
 
 -- ---- `cat`
 

@@ -24,23 +24,13 @@ IsFaultOf size image scan.OutOfMemory = IsScannable size image
 IsFaultOf size image (scan.Incompatible addr nodetype) = ⊥
 IsFaultOf size image (scan.Compressed addr compr) = ⊥
 
--- A call puts lines of an image that can be scanned. At a fault a beginning of them went out, and the sink failed
--- once if the fault is its own. Memory is wanted only where the last block has a missing tail.
-abbrev pub PutsLines : {T : Type 0} → ℕ → List ℕ → Option (List ℕ) → Option (List ℕ) → ℕ → ℕ → List ℕ → Result T ReportFault → Type 0
-PutsLines size image old new before now text (Ok _) = Appends old new text × (now ≡ before)
-PutsLines size image old new before now text (Err Output) = PutsPart old new text × (now ≡ next_count before)
-PutsLines size image old new before now text (Err (Scan scan.OutOfMemory)) =
-    (length image % size ≢ 0) × PutsPart old new text × (now ≡ before)
-PutsLines size image old new before now text (Err (Scan _)) = ⊥
-
 -- A report puts its whole text and answers the number of findings; at a fault a beginning of the text went out. An
--- image that can't be scanned is refused before anything is put.
+-- image that can't be scanned is refused before anything is put. No memory is taken.
 abbrev pub PutsReport : Endian → ℕ → List ℕ → Option (List ℕ) → Option (List ℕ) → ℕ → ℕ → Result ℕ ReportFault → Type 0
 PutsReport e size image old new before now (Ok findings) =
     IsScannable size image × (findings ≡ count_in_image is_found e size image)
     × Appends old new (scan_text e size image) × (now ≡ before)
 PutsReport e size image old new before now (Err Output) =
     IsScannable size image × PutsPart old new (scan_text e size image) × (now ≡ next_count before)
-PutsReport e size image old new before now (Err (Scan scan.OutOfMemory)) =
-    IsFaultOf size image scan.OutOfMemory × (length image % size ≢ 0) × PutsPart old new (scan_text e size image) × (now ≡ before)
+PutsReport e size image old new before now (Err (Scan scan.OutOfMemory)) = ⊥
 PutsReport e size image old new before now (Err (Scan fault)) = IsFaultOf size image fault × (new ≡ old) × (now ≡ before)

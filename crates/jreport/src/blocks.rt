@@ -1,16 +1,18 @@
 //! The lines of one block, and the last line.
 
-ghost use Rattle.std.specs.Prelude.{◌≡◌, ◌%◌, ◌^◌, ◌+◌, ◌<◌, ◌≤◌, length, OnOk};
+ghost use Rattle.std.specs.Prelude.{◌≡◌, ◌%◌, ◌^◌, ◌+◌, ◌<◌, ◌≤◌, List, [], ◌∷◌, ◌++◌, length, IfSome, OnOk};
 ghost use Rattle.flashbase.specs.Device.{Puts};
 ghost use Rattle.jscan.specs.Counts.{block_counted, counted, no_counts};
 ghost use Rattle.jscan.specs.Extents.{extents};
+ghost use Rattle.jscan.specs.PartialScans.{HasScanned};
+ghost use Rattle.jscan.specs.declared.extent.Extent.{Extent};
 ghost use Rattle.jline.specs.Forms.{extent_line, shown_name};
 ghost use Rattle.jreport.specs.Report.{lines_of, totals_line, CountsHaveRoom};
 
-use flashbase::{DeviceFault, Sink};
+use flashbase::{DeviceFault, Part, Sink};
 use jline::{LineBuffer, put_text, write_block, write_extent, write_total};
 use jnode::Order;
-use jscan::{Counts, Extent, Extents};
+use jscan::{Counts, Extent, Extents, PartialScan};
 
 /// The counts before the first block.
 pub fn nothing() -> Counts
@@ -42,8 +44,48 @@ fn put_extent<T: Sink>(
     Ok(())
 }
 
-/// Puts the lines of the next block, whose bytes begin at the address `start`, and counts what they report.
+/// Gives an extent to a scan, if one is made. It ends where memory runs out.
+fn scan_extent<'a>(partial: &mut Option<PartialScan<'a>>, extent: Extent<'a>)
+    ensures { (ss : List Extent) → IfSome partial.old (HasScanned ss) → IfSome partial.new (HasScanned (ss ++ extent.entry ∷ [])) }
+{
+    if let Some(mut scan) = partial.take() {
+        if scan.take(extent).is_ok() {
+            *partial = Some(scan);
+        }
+    }
+}
+
+/// Puts the lines of the next block, whose bytes begin at the address `start`, and counts what they report. A scan, if one is
+/// made, takes in its extents; it ends where memory runs out.
 #[tactic(auto, using(crate::proofs::ExtentLemmas::length_extents))]
+pub fn put_part<'a, E: Order, T: Sink>(
+    sink: &mut T,
+    start: u32,
+    block: Part<'a>,
+    counts: &mut Counts,
+    partial: &mut Option<PartialScan<'a>>,
+) -> Result<(), DeviceFault>
+    requires whole_words { length block % 4 ≡ 0 }
+    requires addressed { start + length block < 2 ^ 32 }
+    requires room { CountsHaveRoom counts.old (length block + 1) }
+    ensures puts { Puts (T.taken sink.old) (T.taken sink.new) (T.failures sink.old) (T.failures sink.new)
+        (lines_of counts.old.blocks (extents E.order start block.entry)) result }
+    ensures counts { OnOk result (counts.new ≡ block_counted counts.old (extents E.order start block.entry)) }
+    ensures scan { (before : List Extent) → IfSome partial.old (HasScanned before)
+        → OnOk result (IfSome partial.new (HasScanned (before ++ extents E.order start block.entry))) }
+{
+    let mut line = LineBuffer::new();
+    write_block(&mut line, counts.blocks);
+    put_text(sink, line.as_slice())?;
+    counts.blocks += 1;
+    for extent in Extents::<E>::of_part(start, block) {
+        put_extent(sink, &mut line, counts, &extent)?;
+        scan_extent(partial, extent);
+    }
+    Ok(())
+}
+
+/// The same of a block of which all bytes are there, with no scan.
 pub fn put_block<E: Order, T: Sink>(
     sink: &mut T,
     start: u32,
@@ -57,14 +99,14 @@ pub fn put_block<E: Order, T: Sink>(
         (lines_of counts.old.blocks (extents E.order start block.now)) result }
     ensures counts { OnOk result (counts.new ≡ block_counted counts.old (extents E.order start block.now)) }
 {
-    let mut line = LineBuffer::new();
-    write_block(&mut line, counts.blocks);
-    put_text(sink, line.as_slice())?;
-    counts.blocks += 1;
-    for extent in Extents::<E>::new(start, block) {
-        put_extent(sink, &mut line, counts, &extent)?;
-    }
-    Ok(())
+    put_part::<E, T>(sink, start, whole(block), counts, &mut None)
+}
+
+/// Bytes of which none is missing.
+fn whole(bytes: &[u8]) -> Part<'_>
+    ensures { result ≡ bytes.now }
+{
+    Part::new(bytes, 0)
 }
 
 /// Puts the last line of a report.

@@ -1,17 +1,21 @@
 //! The verdict of `check`: whether the image mounts, and which entries dangle.
 
-ghost use Rattle.std.specs.Prelude.{◌≡◌, [], ◌++◌, ◌∷◌};
+ghost use Rattle.std.specs.Prelude.{◌≡◌, ℕ, List, [], ◌++◌, ◌∷◌, IfSome};
 ghost use Rattle.std.specs.List.{flat_map};
 ghost use Rattle.flashbase.specs.Device.{Puts};
+ghost use Rattle.jnode.specs.declared.order.Endian.{Endian};
+ghost use Rattle.jscan.specs.PartialScans.{IsScanOf};
+ghost use Rattle.jscan.specs.Scans.{IsScannable};
+ghost use Rattle.jmount.specs.Mounts.{Answers};
 ghost use Rattle.jreport.specs.Faults.{mount_text};
 ghost use Rattle.jreport.specs.Verdict.{dangling_line, dangling_start, ok_line, refused_line, PutsMounted, PutsVerdict};
 
 use crate::faults::{ProgramFault, push_mount};
 use flashbase::{DeviceFault, Sink};
 use jline::{LineBuffer, put_escaped, put_text};
-use jmount::{MountFault, Mounted, mount};
+use jmount::{MountFault, Mounted, mount, mount_scanned};
 use jnode::Order;
-use jscan::Geometry;
+use jscan::{Geometry, PartialScan};
 use std::alloc::Global;
 
 /// What comes before the name of a dangling entry.
@@ -97,6 +101,25 @@ fn put_mounted<T: Sink>(
     Ok(!dangling.is_empty())
 }
 
+/// Puts the verdict on what a mount answered, and answers whether it was refused or an entry dangles.
+fn put_verdict<T: Sink>(
+    alloc: Global,
+    answer: Result<Mounted<'_>, MountFault>,
+    sink: &mut T,
+) -> Result<bool, ProgramFault<'static>>
+    ensures { (e : Endian) (size : ℕ) (image : List ℕ) → Answers e size image answer.entry
+        → PutsVerdict e size image (T.taken sink.old) (T.taken sink.new) (T.failures sink.old) (T.failures sink.new) result }
+{
+    match answer {
+        Ok(mounted) => put_mounted(alloc, &mounted, sink),
+        Err(MountFault::OutOfMemory) => Err(ProgramFault::Mount(MountFault::OutOfMemory)),
+        Err(fault) => {
+            put_refused(sink, fault)?;
+            Ok(true)
+        }
+    }
+}
+
 /// Puts the verdict on an image, and answers whether the mount was refused or an entry dangles.
 ///
 /// `Mount(OutOfMemory)`: memory ran out in the mount, which is no verdict. `OutOfMemory`: for the list of the dangling
@@ -110,12 +133,35 @@ pub fn verdict_lines<E: Order, T: Sink>(
     ensures { PutsVerdict E.order geometry.block image.now (T.taken sink.old) (T.taken sink.new)
         (T.failures sink.old) (T.failures sink.new) result }
 {
-    match mount::<E>(alloc, image, geometry) {
-        Ok(mounted) => put_mounted(alloc, &mounted, sink),
-        Err(MountFault::OutOfMemory) => Err(ProgramFault::Mount(MountFault::OutOfMemory)),
-        Err(fault) => {
-            put_refused(sink, fault)?;
-            Ok(true)
-        }
+    put_verdict(alloc, mount::<E>(alloc, image, geometry), sink)
+}
+
+/// Mounts an image by its scan. Where there is none, memory ran out in it.
+fn mount_partial<'a>(
+    alloc: Global,
+    image: &'a [u8],
+    partial: Option<PartialScan<'a>>,
+) -> Result<Mounted<'a>, MountFault>
+    requires scanned { IfSome partial (λ scan. (e : Endian) × (size : ℕ) × IsScanOf e size image.now scan) }
+    ensures { (e : Endian) (size : ℕ) → IsScannable size image.now → IfSome partial.entry (IsScanOf e size image.now)
+        → Answers e size image.now result }
+{
+    match partial {
+        Some(scan) => mount_scanned(alloc, image, scan),
+        None => Err(MountFault::OutOfMemory),
     }
+}
+
+/// The same of an image by its scan. Where there is none, memory ran out in it.
+pub fn scanned_verdict<T: Sink>(
+    alloc: Global,
+    image: &[u8],
+    partial: Option<PartialScan<'_>>,
+    sink: &mut T,
+) -> Result<bool, ProgramFault<'static>>
+    requires scanned { IfSome partial (λ scan. (e : Endian) × (size : ℕ) × IsScanOf e size image.now scan) }
+    ensures { (e : Endian) (size : ℕ) → IsScannable size image.now → IfSome partial.entry (IsScanOf e size image.now)
+        → PutsVerdict e size image.now (T.taken sink.old) (T.taken sink.new) (T.failures sink.old) (T.failures sink.new) result }
+{
+    put_verdict(alloc, mount_partial(alloc, image, partial), sink)
 }

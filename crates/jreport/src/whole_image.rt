@@ -8,12 +8,12 @@ use crate::faults::ProgramFault;
 use crate::files::content;
 use crate::listing::tree_lines;
 use crate::notes::noted;
-use crate::report::put_report;
-use crate::verdict::verdict_lines;
+use crate::report::report_and_scan;
+use crate::verdict::scanned_verdict;
 use flashbase::{Sink, Source, load};
 use jmount::mount;
 use jnode::Order;
-use jscan::{GREATEST_IMAGE, Geometry, ScanFault};
+use jscan::{GREATEST_IMAGE, Geometry, PartialScan, ScanFault};
 use std::alloc::Global;
 
 /// Whether anything was found, in the report or by the mount.
@@ -45,8 +45,10 @@ pub fn check_lines<E: Order, S: Source, T: Sink>(
         return Err(ProgramFault::Scan(ScanFault::BlockSize));
     }
     let image = load(alloc, source, GREATEST_IMAGE)?;
-    let findings = put_report::<E, T>(alloc, image.as_slice(), geometry, sink)?;
-    let bad = verdict_lines::<E, T>(alloc, image.as_slice(), geometry, sink)?;
+    let bytes = image.as_slice();
+    let mut partial = Some(PartialScan::new(alloc));
+    let findings = report_and_scan::<E, T>(bytes, geometry, sink, &mut partial)?;
+    let bad = scanned_verdict(alloc, bytes, partial, sink)?;
     Ok(is_any(findings, bad))
 }
 

@@ -259,7 +259,7 @@ fn block_sizes_that_are_refused(rt: HostRuntime) {
 /// Whether a sink that fails after so many bytes takes exactly the beginning of the report.
 fn is_cut(alloc: Global, image: &[u8], whole: &[u8], limit: usize) -> bool {
     let mut sink = Short::new(alloc, limit, u64::MAX);
-    let answer = put_report::<LittleEndian, Short>(alloc, image, GEOMETRY, &mut sink);
+    let answer = put_report::<LittleEndian, Short>(image, GEOMETRY, &mut sink);
     answer == Err(ReportFault::Output) && sink.took(0, &whole[..limit.min(whole.len())])
 }
 

@@ -16,6 +16,7 @@ pub mod StreamCounts
 pub mod PartLemmas
 pub mod ImageLemmas
 pub mod PartialScanLemmas
+pub mod TakeLemmas
 pub mod AddressLaws
 pub mod RefusalLaws
 pub mod FitLaws

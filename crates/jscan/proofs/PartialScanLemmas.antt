@@ -61,11 +61,11 @@ before_none (s ∷ ss) none = by_cases (before_none ss) (refusal_by s) refl
 
 -- ---- one more at the end of a list, and the others after it
 
-cons_append : {X : Type 0} (xs : List X) (o : Option X) (ys : List X) → xs ++ cons_option o ys ≡ (xs ++ option_to_list o) ++ ys
+pub cons_append : {X : Type 0} (xs : List X) (o : Option X) (ys : List X) → xs ++ cons_option o ys ≡ (xs ++ option_to_list o) ++ ys
 cons_append xs None ys = ap (λ l. l ++ ys) (sym (append-nil xs))
 cons_append xs (Some x) ys = sym (append_assoc xs (x ∷ []) ys)
 
-or_again : (a b c : Bool) → (a || (b || c)) ≡ ((a || b) || c)
+pub or_again : (a b c : Bool) → (a || (b || c)) ≡ ((a || b) || c)
 or_again true b c = refl
 or_again false b c = refl
 
@@ -84,7 +84,7 @@ pub record ScannedSoFar (all left : List Extent) (partial : PartialScan) : Type 
   pub going_on : partial.refused ≡ None
 
 -- the parts of one step, by the kind of the extent
-nodes_step : (addr len : ℕ) (kind : ExtentKind) (left : List Extent) (xs : List (ℕ × NodeRef)) → refused addr kind ≡ None
+pub nodes_step : (addr len : ℕ) (kind : ExtentKind) (left : List Extent) (xs : List (ℕ × NodeRef)) → refused addr kind ≡ None
     → xs ++ nodes_among (filter_map sighted (record { addr = addr; len = len; kind = kind } ∷ left)) ≡ (xs ++ node_at addr kind) ++ nodes_among (filter_map sighted left)
 nodes_step addr len (Tiled what) left xs none =
     ap (λ (l : List (ℕ × Seen)). xs ++ filter_map node_sighted l) (before_open (addr, what) (filter_map sighted left) none)
@@ -93,7 +93,7 @@ nodes_step addr len Erased left xs none = ap (λ (l : List (ℕ × NodeRef)). l 
 nodes_step addr len OtherOrder left xs none = ap (λ (l : List (ℕ × NodeRef)). l ++ nodes_among (filter_map sighted left)) (sym (append-nil xs))
 nodes_step addr len Dirt left xs none = ap (λ (l : List (ℕ × NodeRef)). l ++ nodes_among (filter_map sighted left)) (sym (append-nil xs))
 
-read_only_step : (addr len : ℕ) (kind : ExtentKind) (left : List Extent) (was : Bool)
+pub read_only_step : (addr len : ℕ) (kind : ExtentKind) (left : List Extent) (was : Bool)
     → (was || any_forbids (filter_map sighted (record { addr = addr; len = len; kind = kind } ∷ left))) ≡ ((was || is_forbidding kind) || any_forbids (filter_map sighted left))
 read_only_step addr len (Tiled what) left was = or_again was (forbids_writing what) (any_forbids (filter_map sighted left))
 read_only_step addr len Erased left was = or_none was (any_forbids (filter_map sighted left))
@@ -150,7 +150,7 @@ pub record Whole (all : List Extent) (partial : PartialScan) : Type 0 where
   pub findings : partial.findings.items ≡ filter_map finding_of all
   pub read_only : partial.read_only ≡ any_forbids (filter_map sighted all)
 
-or_false : (a : Bool) → (a || false) ≡ a
+pub or_false : (a : Bool) → (a || false) ≡ a
 or_false true = refl
 or_false false = refl
 

@@ -4,7 +4,7 @@ use crate::extent::{Extent, ExtentKind};
 use crate::finding::Finding;
 use crate::geometry::ScanFault;
 use jnode::{NodeRef, Seen};
-use std::alloc::AllocError;
+use std::alloc::{AllocError, Global};
 
 /// What an image contains up to its first refusal, by the addresses.
 #[derive(Drop)]
@@ -20,8 +20,38 @@ pub struct PartialScan<'a> {
 }
 
 impl<'a> PartialScan<'a> {
-    ghost use Rattle.std.specs.Prelude.{OnOk};
-    ghost use Rattle.jscan.specs.PartialScans.{Adds};
+    ghost use Rattle.std.specs.Prelude.{List, [], ◌∷◌, ◌++◌, OnOk};
+    ghost use Rattle.jscan.specs.PartialScans.{Adds, HasScanned};
+    ghost use Rattle.jscan.specs.declared.extent.Extent.{Extent};
+
+    /// A scan in front of the first extent.
+    pub fn new(alloc: Global) -> Self
+        ensures { HasScanned [] result }
+    {
+        PartialScan {
+            nodes: Vec::new(alloc),
+            findings: Vec::new(alloc),
+            read_only: false,
+            refused: None,
+        }
+    }
+
+    /// Scans the next extent of an image. What comes after a refusal is passed over. Where memory runs out, the scan may lack
+    /// a part of the extent, and is of no more use.
+    pub fn take(&mut self, extent: Extent<'a>) -> Result<(), AllocError>
+        ensures { (ss : List Extent) → HasScanned ss self.old → OnOk result (HasScanned (ss ++ extent.entry ∷ []) self.new) }
+    {
+        if self.refused.is_some() {
+            return Ok(());
+        }
+        match extent.refusal() {
+            Some(refusal) => {
+                self.refused = Some(refusal);
+                Ok(())
+            }
+            None => self.add(extent),
+        }
+    }
 
     /// Takes in an extent that is no refusal.
     pub(crate) fn add(&mut self, extent: Extent<'a>) -> Result<(), AllocError>

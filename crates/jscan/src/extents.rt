@@ -42,7 +42,7 @@ impl<'a, E: Order> Extents<'a, E> {
     }
 
     /// The same of a block of which the image may lack the end.
-    pub(crate) fn of_part(start: u32, block: Part<'a>) -> Self
+    pub fn of_part(start: u32, block: Part<'a>) -> Self
         requires whole_words { length block % 4 ≡ 0 }
         requires addressed { start + length block < 2 ^ 32 }
         ensures { extents_left result ≡ extents E.order start block.entry }

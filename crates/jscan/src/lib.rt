@@ -40,6 +40,7 @@ pub use crate::extent::{Extent, ExtentKind};
 pub use crate::extents::Extents;
 pub use crate::finding::{Finding, FindingKind};
 pub use crate::geometry::{GREATEST_BLOCK, GREATEST_IMAGE, Geometry, LEAST_BLOCK, ScanFault};
+pub use crate::parts::block_at;
 pub use crate::scanning::{scan, scan_to_refusal};
 pub use crate::sightings::Sightings;
 pub use crate::stream::{BlockReader, StreamFault, scan_stream};

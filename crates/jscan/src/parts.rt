@@ -17,8 +17,8 @@ pub(crate) fn whole(bytes: &[u8]) -> Part<'_>
     Part::new(bytes, 0)
 }
 
-/// The block of an image that begins at `start`.
-pub(crate) fn block_at(image: &[u8], start: usize, size: usize) -> Part<'_>
+/// The block of `size` bytes of an image that begins at `start`. The missing tail of the last block counts as erased.
+pub fn block_at(image: &[u8], start: usize, size: usize) -> Part<'_>
     requires within { start ≤ length image.now }
     requires small { size < 2 ^ 32 }
     ensures { (k : ℕ) → k * size ≡ start → result ≡ block_of size image.now k }

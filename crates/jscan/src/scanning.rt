@@ -28,12 +28,7 @@ pub fn scan_to_refusal<'a, E: Order>(
     ensures findings { IfOk result (λ partial. partial.refused ≡ None → partial.findings.items ≡ findings E.order geometry.block image.now) }
     ensures read_only { IfOk result (λ partial. partial.refused ≡ None → partial.read_only ≡ is_read_only E.order geometry.block image.now) }
 {
-    let mut partial = PartialScan {
-        nodes: Vec::new(alloc),
-        findings: Vec::new(alloc),
-        read_only: false,
-        refused: None,
-    };
+    let mut partial = PartialScan::new(alloc);
     for extent in ImageExtents::<E>::new(image, geometry)? {
         if let Some(refusal) = extent.refusal() {
             partial.refused = Some(refusal);

@@ -7,15 +7,15 @@ use Rattle.jscan.specs.declared.counts.Counts.{Counts}
 use Rattle.jreport.specs.Report.{totals_line}
 use Rattle.jreport.specs.Puts.{IsScannable}
 use Rattle.jreport.proofs.FaultLemmas.{early_fault, last_fault, whole_text}
-use Rattle.jreport.proofs.report.put_report.Goals as goal
+use Rattle.jreport.proofs.report.report_and_scan.Goals as goal
 
-pub returns-in_err-counts : goal.returns-in_err-counts
-returns-in_err-counts g c =
+pub returns-in_err-counts-clause-puts : goal.returns-in_err-counts-clause-puts
+returns-in_err-counts-clause-puts g c =
     let scannable : IsScannable c.args.geometry.block c.args.image.now = search rules in
-    early_fault g.E.Order.order c.args.geometry.block c.args.image.now _ _ _ _ c.in_err-counts.field-0.0 _ c.from_residual.ensures.1 scannable c.in_err-counts.ensures.puts
+    early_fault g.E.Order.order c.args.geometry.block c.args.image.now _ _ _ _ _ c.from_residual.ensures.1 scannable c.in_err-counts.ensures.puts.0 c.in_err-counts.ensures.puts.1
 
-pub returns-in_err-put_total : goal.returns-in_err-put_total
-returns-in_err-put_total g c =
+pub returns-in_err-put_total-clause-puts : goal.returns-in_err-put_total-clause-puts
+returns-in_err-put_total-clause-puts g c =
     let e = g.E.Order.order in
     let size = c.args.geometry.block in
     let image = c.args.image.now in
@@ -27,8 +27,8 @@ returns-in_err-put_total g c =
     (subst (λ (l : List ℕ). PutsPart (g.T.Sink.taken c.put_blocks.new.sink) (g.T.Sink.taken c.put_total.new.sink) l) line put.0)
     (put.1 ∙ ap next_count c.in_ok-counts.ensures.puts.1)
 
-pub returns : goal.returns
-returns g c =
+pub returns-clause-puts : goal.returns-clause-puts
+returns-clause-puts g c =
     let e = g.E.Order.order in
     let size = c.args.geometry.block in
     let image = c.args.image.now in
