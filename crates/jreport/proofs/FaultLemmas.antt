@@ -1,17 +1,15 @@
 -- A report that ends early: what has gone out.
-use Rattle.std.proofs.Common.{◌≡◌, ◌≢◌, ℕ, ◌%◌, List, ◌++◌, length, refl, sym, subst, Option}
+use Rattle.std.proofs.Common.{◌≡◌, ℕ, List, sym, subst, Option}
 use Rattle.std.specs.Prelude.{Result, Ok, Err, IfErr, IsErrAnd}
 use Rattle.std.specs.Io.KnownBytes.{Appends}
-use Rattle.std.proofs.KnownBytes.{Appends-trans, Appends-nil}
+use Rattle.std.proofs.KnownBytes.{Appends-trans}
 use Rattle.flashbase.specs.Device.{PutsPart, next_count}
 use Rattle.flashbase.proofs.DeviceLemmas.{part_before, part_behind}
 use Rattle.jnode.specs.declared.order.Endian.{Endian}
 use Rattle.jscan.specs.Image.{block_count}
-use Rattle.jscan.specs.declared.geometry.ScanFault.TheVariants as scan
 use Rattle.jreport.specs.declared.report_fault.ReportFault.{ReportFault}
-use Rattle.jreport.specs.declared.report_fault.ReportFault.TheVariants.{Scan, Output}
+use Rattle.jreport.specs.declared.report_fault.ReportFault.TheVariants.{Output}
 use Rattle.jscan.specs.Counts.{counts_of}
-use Rattle.jscan.specs.declared.counts.Counts.{Counts}
 use Rattle.jreport.specs.Report.{scan_text, lines_below, totals_line}
 use Rattle.jreport.specs.Puts.{IsScannable, PutsReport}
 

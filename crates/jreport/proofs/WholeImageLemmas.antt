@@ -1,9 +1,9 @@
 -- What is put of an image that was read, in terms of what its source had left.
-use Rattle.std.proofs.Common.{◌≡◌, ◌≢◌, ℕ, ◌%◌, ◌<◌, ◌≤◌, ◌||◌, Bool, true, false, nat_lt, List, [], ◌++◌, length, take, sym, refl, ap, ◌∙◌, subst, arith, take_all, inl, inr, Option, Some, None, Result, Ok, Err}
-use Rattle.std.specs.Prelude.{IfErr, IfSome, IsErrAnd, IsErrOf, IsTrue, IsFalse, ⊤}
+use Rattle.std.proofs.Common.{◌≡◌, ℕ, ◌<◌, ◌≤◌, ◌||◌, Bool, true, false, nat_lt, List, [], ◌++◌, length, sym, refl, ap, ◌∙◌, subst, arith, inl, inr, Option, Some, None, Result, Ok, Err}
+use Rattle.std.specs.Prelude.{IfErr, IfSome, IsErrAnd, IsErrOf, IsTrue, IsFalse}
 use Rattle.std.specs.Io.KnownBytes.{Appends, IsAtEnd}
 use Rattle.std.proofs.KnownBytes.{Appends-trans}
-use Rattle.flashbase.specs.Device.{PutsPart, CountsLoad, next_count}
+use Rattle.flashbase.specs.Device.{CountsLoad, next_count}
 use Rattle.flashbase.specs.declared.source.LoadFault.{LoadFault}
 use Rattle.flashbase.specs.declared.source.LoadFault.TheVariants as load
 use Rattle.flashbase.proofs.DeviceLemmas.{part_behind}
@@ -25,7 +25,7 @@ use Rattle.jreport.specs.WholeImage.{AnswersNoted, IsFaultOfLoad, OfSomeImage, O
 use Rattle.jreport.specs.Puts.{PutsReport}
 use Rattle.jreport.specs.Report.{count_in_image, scan_text}
 use Rattle.jreport.specs.TreeText.{PutsTree}
-use Rattle.jreport.specs.Verdict.{IsVerdict, PutsVerdict}
+use Rattle.jreport.specs.Verdict.{PutsVerdict}
 use Rattle.jreport.specs.declared.faults.ProgramFault.{ProgramFault}
 use Rattle.jreport.specs.declared.faults.ProgramFault.TheVariants as program
 use Rattle.jreport.specs.declared.report_fault.ReportFault.{ReportFault}
