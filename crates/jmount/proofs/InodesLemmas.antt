@@ -15,7 +15,7 @@ use Rattle.jname.proofs.EntriesLemmas.{nat_found}
 use Rattle.jname.proofs.MemberLemmas.{Contains-map, Contains-map_from, Contains-flat_map, Contains-flat_map_from}
 use Rattle.jmount.specs.declared.versions.Versions.{Versions}
 use Rattle.jmount.specs.Clash.{SomeInodeClashesWith, NoInodeClashesWith}
-use Rattle.jmount.specs.Inodes.{Gains, Agrees, Differs, versions_in, version_at, NodesByNumber, inode_at, IsKeyed, nodes_in, nodes_of_numbers}
+use Rattle.jmount.specs.Inodes.{GainsInode, InodeAgrees, InodeDiffers, versions_in, inode_of_version, NodesByNumber, inode_at, IsKeyed, nodes_in, nodes_of_numbers}
 use Rattle.jmount.proofs.NewestLemmas.{version_found}
 
 -- ---- the list
@@ -47,7 +47,7 @@ nodes_of_numbers-unchanged old new same = nodes_of_numbers-same old new (ap (λ 
 pub Contains-from_inode_at : (numbers : NodesByNumber) (i v : ℕ) (node : InodeNode) → inode_at numbers i v ≡ Some node → Contains (nodes_of_numbers numbers) node
 unfolding nodes_of_numbers
 Contains-from_inode_at numbers i v node h =
-    let vs = and_then_from (λ (vs : Versions). version_at vs v) (get nat_cmp numbers i) node h in
+    let vs = and_then_from (λ (vs : Versions). inode_of_version vs v) (get nat_cmp numbers i) node h in
     let at_number : Contains numbers.entries (i, vs.0) = Contains-from_lookup (tells_apart exact_unsigned) i vs.0 numbers.entries vs.1 in
     let at_version : Contains (versions_in vs.0) (v, node) = Contains-from_lookup (tells_apart exact_unsigned) v node (versions_in vs.0) vs.2 in
     Contains-flat_map nodes_at numbers.entries (i, vs.0) node at_number
@@ -60,9 +60,9 @@ inode_at-from_Contains numbers ordered keyed node h =
     let a = Contains-flat_map_from nodes_at numbers.entries node h in
     let b = Contains-map_from (λ (e : ℕ × InodeNode). e.1) (versions_in a.0.1) node a.2 in
     let number : get nat_cmp numbers a.0.0 ≡ Some a.0.1 = nat_found numbers.entries a.0.0 a.0.1 ordered a.1 in
-    let version : version_at a.0.1 b.0.0 ≡ Some b.0.1 = version_found a.0.1 b.0.0 b.0.1 b.1 in
+    let version : inode_of_version a.0.1 b.0.0 ≡ Some b.0.1 = version_found a.0.1 b.0.0 b.0.1 b.1 in
     let there : inode_at numbers a.0.0 b.0.0 ≡ Some node =
-    ap (λ (o : Option Versions). option_and_then (λ vs. version_at vs b.0.0) o) number ∙ version ∙ ap Some b.2 in
+    ap (λ (o : Option Versions). option_and_then (λ vs. inode_of_version vs b.0.0) o) number ∙ version ∙ ap Some b.2 in
     let key = keyed a.0.0 b.0.0 node there in
     (λ i. inode_at numbers (key.0 i) (key.1 i)) ∙ there
 
@@ -104,11 +104,11 @@ pub keyed_the_same : (old new : NodesByNumber) → ((i v : ℕ) → inode_at new
 keyed_the_same old new same keyed i v x h = keyed i v x (sym (same i v) ∙ h)
 
 -- no other node is stored: what is stored is this one
-agreed : (o : Option InodeNode) (there node : InodeNode) → Agrees o node → o ≡ Some there → there ≡ node
+agreed : (o : Option InodeNode) (there node : InodeNode) → InodeAgrees o node → o ≡ Some there → there ≡ node
 agreed None there node h e = let no : None ≡ Some there = e in cc
 agreed (Some x) there node h e = sym (same_Some x there e) ∙ h
 
-still_there : (old : NodesByNumber) (node x : InodeNode) (b : Bool) → (node.ino == x.ino && node.version == x.version) ≡ b → Agrees (inode_at old node.ino node.version) node → inode_at old x.ino x.version ≡ Some x
+still_there : (old : NodesByNumber) (node x : InodeNode) (b : Bool) → (node.ino == x.ino && node.version == x.version) ≡ b → InodeAgrees (inode_at old node.ino node.version) node → inode_at old x.ino x.version ≡ Some x
     → (if b then Some node else inode_at old x.ino x.version) ≡ Some x
 still_there old node x true e agrees h =
     let key = same_key node x.ino x.version e in
@@ -116,7 +116,7 @@ still_there old node x true e agrees h =
 still_there old node x false e agrees h = h
 
 pub gains_one : (old new : NodesByNumber) → IsOrdered nat_cmp old → IsOrdered nat_cmp new → IsKeyed old → (node : InodeNode) → HoldsOneMore old new node
-    → Agrees (inode_at old node.ino node.version) node → Gains (nodes_of_numbers old) (nodes_of_numbers new) node
+    → InodeAgrees (inode_at old node.ino node.version) node → GainsInode (nodes_of_numbers old) (nodes_of_numbers new) node
 gains_one old new old_ordered new_ordered keyed node more agrees x = (
   λ h.
       ⊎_elim
@@ -133,16 +133,16 @@ gains_one old new old_ordered new_ordered keyed node more agrees x = (
 
 -- ---- clashes
 
-pub none_clashes : (old : NodesByNumber) → IsOrdered nat_cmp old → IsKeyed old → (node : InodeNode) → Agrees (inode_at old node.ino node.version) node → NoInodeClashesWith (nodes_of_numbers old) node
+pub none_clashes : (old : NodesByNumber) → IsOrdered nat_cmp old → IsKeyed old → (node : InodeNode) → InodeAgrees (inode_at old node.ino node.version) node → NoInodeClashesWith (nodes_of_numbers old) node
 none_clashes old ordered keyed node agrees other there clash =
     clash.contents (agreed (inode_at old node.ino node.version) other node agrees
     (inode_at_same old node.ino other.ino node.version other.version (sym clash.ino) (sym clash.version) ∙ inode_at-from_Contains old ordered keyed other there))
 
-differing : (old : NodesByNumber) → IsKeyed old → (node : InodeNode) (o : Option InodeNode) → inode_at old node.ino node.version ≡ o → Differs o node → SomeInodeClashesWith (nodes_of_numbers old) node
+differing : (old : NodesByNumber) → IsKeyed old → (node : InodeNode) (o : Option InodeNode) → inode_at old node.ino node.version ≡ o → InodeDiffers o node → SomeInodeClashesWith (nodes_of_numbers old) node
 differing old keyed node None e h = absurd h
 differing old keyed node (Some other) e h =
     let key = keyed node.ino node.version other e in
     (other, Contains-from_inode_at old node.ino node.version other e, record { ino = key.0; version = key.1; contents = h })
 
-pub some_clashes : (old : NodesByNumber) → IsKeyed old → (node : InodeNode) → Differs (inode_at old node.ino node.version) node → SomeInodeClashesWith (nodes_of_numbers old) node
+pub some_clashes : (old : NodesByNumber) → IsKeyed old → (node : InodeNode) → InodeDiffers (inode_at old node.ino node.version) node → SomeInodeClashesWith (nodes_of_numbers old) node
 some_clashes old keyed node h = differing old keyed node (inode_at old node.ino node.version) refl h

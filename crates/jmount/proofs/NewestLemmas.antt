@@ -6,7 +6,7 @@ use Rattle.std.specs.BTreeMap.{BTreeMap, get}
 use Rattle.std.proofs.lemmas.Bool.{eq-eqb, eqb-true}
 use Rattle.jnode.specs.declared.node.InodeNode.{InodeNode}
 use Rattle.jmount.specs.declared.versions.Versions.{Versions}
-use Rattle.jmount.specs.Inodes.{versions_in, version_at}
+use Rattle.jmount.specs.Inodes.{versions_in, inode_of_version}
 use Rattle.std.specs.Cmp.{unsigned_tied}
 use Rattle.jname.proofs.EntriesLemmas.{nat_found}
 use Rattle.jname.proofs.ContentsByNameLemmas.{by_test}
@@ -15,29 +15,29 @@ use Rattle.jname.proofs.MemberLemmas.{Contains-cases}
 choose : Bool → InodeNode → Option InodeNode → Option InodeNode
 choose b node rest = if b then Some node else rest
 
-version_at-is : (versions : Versions) (v : ℕ) → version_at versions v ≡ choose (v == versions.newest.version) versions.newest (get nat_cmp versions.older v)
+version_at-is : (versions : Versions) (v : ℕ) → inode_of_version versions v ≡ choose (v == versions.newest.version) versions.newest (get nat_cmp versions.older v)
 unfolding choose
 version_at-is versions v = ap (λ (b : Bool). choose b versions.newest (get nat_cmp versions.older v)) (unsigned_tied v versions.newest.version)
 
 not_equal : (v w : ℕ) → v < w → (v == w) ≡ false
 not_equal v w h = by_test (v == w) (λ e. let same : v ≡ w = eqb-true v w e in absurd (omega arith)) (λ e. e)
 
-at_newest : (versions : Versions) (v : ℕ) → (v == versions.newest.version) ≡ true → version_at versions v ≡ Some versions.newest
+at_newest : (versions : Versions) (v : ℕ) → (v == versions.newest.version) ≡ true → inode_of_version versions v ≡ Some versions.newest
 unfolding choose
 at_newest versions v e = version_at-is versions v ∙ ap (λ (b : Bool). choose b versions.newest (get nat_cmp versions.older v)) e
 
-at_other : (versions : Versions) (v : ℕ) → (v == versions.newest.version) ≡ false → version_at versions v ≡ get nat_cmp versions.older v
+at_other : (versions : Versions) (v : ℕ) → (v == versions.newest.version) ≡ false → inode_of_version versions v ≡ get nat_cmp versions.older v
 unfolding choose
 at_other versions v e = version_at-is versions v ∙ ap (λ (b : Bool). choose b versions.newest (get nat_cmp versions.older v)) e
 
-pub newest_at : (versions : Versions) (v : ℕ) → v ≡ versions.newest.version → version_at versions v ≡ Some versions.newest
+pub newest_at : (versions : Versions) (v : ℕ) → v ≡ versions.newest.version → inode_of_version versions v ≡ Some versions.newest
 newest_at versions v is = at_newest versions v (eq-eqb v versions.newest.version is)
 
-pub older_at : (versions : Versions) (v : ℕ) (node : InodeNode) → get nat_cmp versions.older v ≡ Some node → version_at versions v ≡ Some node
+pub older_at : (versions : Versions) (v : ℕ) (node : InodeNode) → get nat_cmp versions.older v ≡ Some node → inode_of_version versions v ≡ Some node
 older_at versions v node h =
     at_other versions v (not_equal v versions.newest.version (versions.below v (subst (λ (o : Option InodeNode). IsSome o) (sym h) refl))) ∙ h
 
-pub at_most_newest : (versions : Versions) (v : ℕ) → IsSome (version_at versions v) → v ≤ versions.newest.version
+pub at_most_newest : (versions : Versions) (v : ℕ) → IsSome (inode_of_version versions v) → v ≤ versions.newest.version
 at_most_newest versions v h =
     by_test (v == versions.newest.version)
     (λ e. let same : v ≡ versions.newest.version = eqb-true v versions.newest.version e in omega arith)
@@ -47,9 +47,9 @@ is_none : (o : Option InodeNode) → (IsSome o → ⊥) → o ≡ None
 is_none None never = refl
 is_none (Some node) never = absurd (never refl)
 
-pub none_above : (versions : Versions) (v : ℕ) → versions.newest.version < v → version_at versions v ≡ None
+pub none_above : (versions : Versions) (v : ℕ) → versions.newest.version < v → inode_of_version versions v ≡ None
 none_above versions v above =
-    is_none (version_at versions v) (λ there. let most : v ≤ versions.newest.version = at_most_newest versions v there in absurd (omega arith))
+    is_none (inode_of_version versions v) (λ there. let most : v ≤ versions.newest.version = at_most_newest versions v there in absurd (omega arith))
 
 same_test : (m n : ℕ) → (m == n) ≡ (n == m)
 same_test m n =
@@ -58,17 +58,17 @@ same_test m n =
     (λ e. by_test (m == n) (λ f. let yes : (n == m) ≡ true = eq-eqb n m (sym (eqb-true m n f)) in cc) (λ f. f ∙ sym e))
 
 -- a node at the greatest version is one more
-pub newest_more : (versions : Versions) (v : ℕ) → version_at versions v ≡ (if versions.newest.version == v then Some versions.newest else version_at versions v)
+pub newest_more : (versions : Versions) (v : ℕ) → inode_of_version versions v ≡ (if versions.newest.version == v then Some versions.newest else inode_of_version versions v)
 unfolding choose
 newest_more versions v =
     by_test (versions.newest.version == v)
-    (λ e. newest_at versions v (sym (eqb-true versions.newest.version v e)) ∙ ap (λ (b : Bool). choose b versions.newest (version_at versions v)) (sym e))
-    (λ e. ap (λ (b : Bool). choose b versions.newest (version_at versions v)) (sym e))
+    (λ e. newest_at versions v (sym (eqb-true versions.newest.version v e)) ∙ ap (λ (b : Bool). choose b versions.newest (inode_of_version versions v)) (sym e))
+    (λ e. ap (λ (b : Bool). choose b versions.newest (inode_of_version versions v)) (sym e))
 
 -- the old map with the node that was the newest, and the new one apart
 pub greater_more : (versions : Versions) (older : BTreeMap ℕ InodeNode) (version : ℕ) (node : InodeNode) → versions.newest.version < version
     → ((v : ℕ) → get nat_cmp older v ≡ (if versions.newest.version == v then Some versions.newest else get nat_cmp versions.older v))
-    → (v : ℕ) → (if eq_by_cmp nat_cmp v version then Some node else get nat_cmp older v) ≡ (if version == v then Some node else version_at versions v)
+    → (v : ℕ) → (if eq_by_cmp nat_cmp v version then Some node else get nat_cmp older v) ≡ (if version == v then Some node else inode_of_version versions v)
 unfolding choose
 greater_more versions older version node above more v =
     ap (λ (b : Bool). choose b node (get nat_cmp older v)) (unsigned_tied v version ∙ same_test v version)
@@ -76,7 +76,7 @@ greater_more versions older version node above more v =
     (more v ∙ ap (λ (b : Bool). choose b versions.newest (get nat_cmp versions.older v)) (same_test versions.newest.version v) ∙ sym (version_at-is versions v))
 
 -- a node of the list is stored at its version
-pub version_found : (versions : Versions) (v : ℕ) (node : InodeNode) → Contains (versions_in versions) (v, node) → version_at versions v ≡ Some node
+pub version_found : (versions : Versions) (v : ℕ) (node : InodeNode) → Contains (versions_in versions) (v, node) → inode_of_version versions v ≡ Some node
 version_found versions v node h =
     ⊎_elim
     (λ is. newest_at versions v (sym (ap (λ (e : ℕ × InodeNode). e.0) is)) ∙ ap (λ (e : ℕ × InodeNode). Some e.1) is)

@@ -24,7 +24,7 @@ use Rattle.jname.proofs.ContentsByNameLemmas.{by_test}
 use Rattle.jname.proofs.MemberLemmas.{Contains-none, Contains-here, Contains-map, Contains-map_from, Contains-flat_map}
 use Rattle.jmount.specs.declared.versions.Versions.{Versions}
 use Rattle.jmount.specs.declared.stored.Stored.{Stored}
-use Rattle.jmount.specs.Inodes.{versions_in, version_at, IsByVersion, IsKeyed, NodesByNumber, nodes_in, nodes_of_numbers}
+use Rattle.jmount.specs.Inodes.{versions_in, inode_of_version, IsByVersion, IsKeyed, NodesByNumber, nodes_in, nodes_of_numbers}
 use Rattle.jmount.specs.StateOf.{latest, piece_of}
 use Rattle.jmount.specs.Storing.{Made, as_made, made_by, made_at}
 use Rattle.jmount.proofs.NumbersLemmas.{eqb_symm}
@@ -32,20 +32,20 @@ use Rattle.jmount.proofs.NewestLemmas.{version_found, at_most_newest}
 
 -- ---- the nodes of one number
 
-pub found_at_version : (versions : Versions) → IsByVersion versions → (x : InodeNode) → Contains (nodes_in versions) x → version_at versions x.version ≡ Some x
+pub found_at_version : (versions : Versions) → IsByVersion versions → (x : InodeNode) → Contains (nodes_in versions) x → inode_of_version versions x.version ≡ Some x
 found_at_version versions keyed x h =
     let e = Contains-map_from (λ (e : ℕ × InodeNode). e.1) (versions_in versions) x h in
-    let there : version_at versions e.0.0 ≡ Some e.0.1 = version_found versions e.0.0 e.0.1 e.1 in
+    let there : inode_of_version versions e.0.0 ≡ Some e.0.1 = version_found versions e.0.0 e.0.1 e.1 in
     let version : x.version ≡ e.0.0 = ap (λ (y : InodeNode). y.version) (sym e.2) ∙ keyed e.0.0 e.0.1 there in
-    ap (version_at versions) version ∙ there ∙ ap Some e.2
+    ap (inode_of_version versions) version ∙ there ∙ ap Some e.2
 
-pub Contains-at_version : (versions : Versions) (v : ℕ) (x : InodeNode) → version_at versions v ≡ Some x → Contains (nodes_in versions) x
+pub Contains-at_version : (versions : Versions) (v : ℕ) (x : InodeNode) → inode_of_version versions v ≡ Some x → Contains (nodes_in versions) x
 Contains-at_version versions v x h =
     Contains-map (λ (e : ℕ × InodeNode). e.1) (versions_in versions) (v, x) (Contains-from_lookup (tells_apart exact_unsigned) v x (versions_in versions) h)
 
 pub one_of_version : (versions : Versions) → IsByVersion versions → (x y : InodeNode) → Contains (nodes_in versions) x → Contains (nodes_in versions) y → x.version ≡ y.version → x ≡ y
 one_of_version versions keyed x y in_x in_y same =
-    same_Some x y (sym (found_at_version versions keyed x in_x) ∙ ap (version_at versions) same ∙ found_at_version versions keyed y in_y)
+    same_Some x y (sym (found_at_version versions keyed x in_x) ∙ ap (inode_of_version versions) same ∙ found_at_version versions keyed y in_y)
 
 -- ---- their pieces agree
 
@@ -79,7 +79,7 @@ latest_from versions keyed None e =
 latest_from versions keyed (Some x) e =
     let is = newest_is_newest (nodes_in versions) (λ n. n.version) x e in
     let above : versions.newest.version ≤ x.version = is.1 versions.newest (in_newest versions) in
-    let below : x.version ≤ versions.newest.version = at_most_newest versions x.version (is_some_of (version_at versions x.version) x (found_at_version versions keyed x is.0)) in
+    let below : x.version ≤ versions.newest.version = at_most_newest versions x.version (is_some_of (inode_of_version versions x.version) x (found_at_version versions keyed x is.0)) in
     let same : x.version ≡ versions.newest.version = omega arith in
     ap Some (one_of_version versions keyed x versions.newest is.0 (in_newest versions) same)
 
@@ -136,7 +136,7 @@ none_done numbers objects empty i none =
 
 pub by_version-of : (numbers : NodesByNumber) → IsKeyed numbers → (k : ℕ) (versions : Versions) → get nat_cmp numbers k ≡ Some versions → IsByVersion versions
 by_version-of numbers keyed k versions there v node h =
-    (keyed k v node (ap (λ (o : Option Versions). option_and_then (λ vs. version_at vs v) o) there ∙ h)).1
+    (keyed k v node (ap (λ (o : Option Versions). option_and_then (λ vs. inode_of_version vs v) o) there ∙ h)).1
 
 pub All-of_number : (P : InodeNode → Type 0) (numbers : NodesByNumber) (k : ℕ) (versions : Versions) → get nat_cmp numbers k ≡ Some versions → All P (nodes_of_numbers numbers) → All P (nodes_in versions)
 unfolding nodes_of_numbers

@@ -5,7 +5,7 @@ ghost use Rattle.flashbase.specs.Lists.{greatest};
 ghost use Rattle.jname.specs.Clash as clash;
 ghost use Rattle.jname.specs.Live as live;
 ghost use Rattle.jmount.specs.Clash.{NoInodeClashesWith, SomeInodeClashesWith};
-ghost use Rattle.jmount.specs.Inodes.{Gains};
+ghost use Rattle.jmount.specs.Inodes.{GainsInode};
 ghost use Rattle.jmount.specs.StateOf.{numbers_in};
 ghost use Rattle.jmount.specs.Collected.{Collected, IsRefused, StopsCollecting, without_addresses, greatest_number};
 
@@ -76,7 +76,7 @@ fn add_entry<'a>(names: &mut Names<'a>, addr: u32, entry: &Dirent<'a>) -> Result
 
 /// Adds the inode node at an address.
 fn add_inode<'a>(inodes: &mut Inodes<'a>, addr: u32, inode: InodeNode<'a>) -> Result<(), MountFault>
-    ensures ok { OnOk result (Gains inodes.old inodes.new inode.entry) }
+    ensures ok { OnOk result (GainsInode inodes.old inodes.new inode.entry) }
     ensures alone { OnOk result (NoInodeClashesWith inodes.old inode.entry) }
     ensures err { IfErr result (IsRefused addr (SomeInodeClashesWith inodes.old inode.entry)) }
 {

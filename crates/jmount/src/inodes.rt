@@ -3,7 +3,7 @@
 ghost use Rattle.std.specs.Prelude.{◌≡◌, ◌==◌, ◌&&◌, ℕ, Some, Err, OnOk, OnErr, if◌then◌else◌};
 ghost use Rattle.std.specs.Ordering.{nat_cmp};
 ghost use Rattle.std.specs.BTreeMap.{IsOrdered};
-ghost use Rattle.jmount.specs.Inodes.{Agrees, Differs, inode_at, nodes_of_numbers};
+ghost use Rattle.jmount.specs.Inodes.{InodeAgrees, InodeDiffers, inode_at, nodes_of_numbers};
 
 use crate::stored::Stored;
 use crate::storing::objects_with_root;
@@ -43,7 +43,7 @@ impl<'a> Inodes<'a> {
     ghost use Rattle.jmount.specs.StateOf.{piece_of};
     ghost use Rattle.jmount.specs.Storing.{made_of, as_made};
     ghost use Rattle.jmount.specs.Clash.{NoInodeClashesWith, SomeInodeClashesWith};
-    ghost use Rattle.jmount.specs.Inodes.{Gains};
+    ghost use Rattle.jmount.specs.Inodes.{GainsInode};
 
     /// No nodes.
     pub fn new(alloc: Global) -> Inodes<'a>
@@ -60,7 +60,7 @@ impl<'a> Inodes<'a> {
     /// `Clash`: a node of the same number and version, with other contents, was added before. After a fault the nodes
     /// are those from before.
     pub fn add(&mut self, node: InodeNode<'a>) -> Result<(), InodeFault>
-        ensures ok { OnOk result (Gains self.old self.new node.entry) }
+        ensures ok { OnOk result (GainsInode self.old self.new node.entry) }
         ensures alone { OnOk result (NoInodeClashesWith self.old node.entry) }
         ensures clash { result ≡ Err InodeFault.Clash → SomeInodeClashesWith self.old node.entry }
         ensures err { OnErr result (self.new ≡ self.old) }
@@ -85,8 +85,8 @@ fn add_node<'a>(
     numbers: &mut NodesByNumber<'a>,
     node: InodeNode<'a>,
 ) -> Result<(), InodeFault>
-    ensures clash { result ≡ Err InodeFault.Clash → Differs (inode_at numbers.old node.entry.ino node.entry.version) node.entry }
-    ensures alone { OnOk result (Agrees (inode_at numbers.old node.entry.ino node.entry.version) node.entry) }
+    ensures clash { result ≡ Err InodeFault.Clash → InodeDiffers (inode_at numbers.old node.entry.ino node.entry.version) node.entry }
+    ensures alone { OnOk result (InodeAgrees (inode_at numbers.old node.entry.ino node.entry.version) node.entry) }
     ensures ok { OnOk result ((i v : ℕ) → inode_at numbers.new i v ≡ (if node.entry.ino == i && node.entry.version == v then Some node.entry else inode_at numbers.old i v)) }
     ensures err { OnErr result (nodes_of_numbers numbers.new ≡ nodes_of_numbers numbers.old) }
     ensures same { OnErr result ((i v : ℕ) → inode_at numbers.new i v ≡ inode_at numbers.old i v) }

@@ -3,7 +3,7 @@
 ghost use Rattle.std.specs.Prelude.{◌≡◌, ◌≢◌, ◌==◌, ℕ, Some, OnOk, OnErr, if◌then◌else◌};
 ghost use Rattle.std.specs.Ordering.{nat_cmp};
 ghost use Rattle.std.specs.BTreeMap.{IsOrdered, get};
-ghost use Rattle.jmount.specs.Inodes.{Agrees, Differs};
+ghost use Rattle.jmount.specs.Inodes.{InodeAgrees, InodeDiffers};
 
 use crate::apart::Apart;
 use crate::sameness::is_same_node;
@@ -31,8 +31,8 @@ pub fn add_older<'a>(
     node: InodeNode<'a>,
 ) -> Result<(), InodeFault>
     requires { IsOrdered nat_cmp older.old }
-    ensures clash { result ≡ Err InodeFault.Clash → Differs (get nat_cmp older.old node.entry.version) node.entry }
-    ensures alone { OnOk result (Agrees (get nat_cmp older.old node.entry.version) node.entry) }
+    ensures clash { result ≡ Err InodeFault.Clash → InodeDiffers (get nat_cmp older.old node.entry.version) node.entry }
+    ensures alone { OnOk result (InodeAgrees (get nat_cmp older.old node.entry.version) node.entry) }
     ensures ok { OnOk result ((v : ℕ) → get nat_cmp older.new v ≡ (if node.entry.version == v then Some node.entry else get nat_cmp older.old v)) }
     ensures err { OnErr result (older.new.entries ≡ older.old.entries) }
     ensures ordered { IsOrdered nat_cmp older.new }

@@ -50,11 +50,11 @@ pub struct Versions<'a> {
 }
 
 impl<'a> Versions<'a> {
-    ghost use Rattle.jmount.specs.Inodes.{Agrees, Differs, version_at, versions_in};
+    ghost use Rattle.jmount.specs.Inodes.{InodeAgrees, InodeDiffers, inode_of_version, versions_in};
 
     /// One node. Takes no memory.
     pub fn of_one(alloc: Global, node: InodeNode<'a>) -> Self
-        ensures { (v : ℕ) → version_at result v ≡ (if node.entry.version == v then Some node.entry else None) }
+        ensures { (v : ℕ) → inode_of_version result v ≡ (if node.entry.version == v then Some node.entry else None) }
     {
         Versions {
             newest: node,
@@ -64,9 +64,9 @@ impl<'a> Versions<'a> {
 
     /// Adds a node.
     pub fn add(&mut self, alloc: Global, node: InodeNode<'a>) -> Result<(), InodeFault>
-        ensures clash { result ≡ Err InodeFault.Clash → Differs (version_at self.old node.entry.version) node.entry }
-        ensures alone { OnOk result (Agrees (version_at self.old node.entry.version) node.entry) }
-        ensures ok { OnOk result ((v : ℕ) → version_at self.new v ≡ (if node.entry.version == v then Some node.entry else version_at self.old v)) }
+        ensures clash { result ≡ Err InodeFault.Clash → InodeDiffers (inode_of_version self.old node.entry.version) node.entry }
+        ensures alone { OnOk result (InodeAgrees (inode_of_version self.old node.entry.version) node.entry) }
+        ensures ok { OnOk result ((v : ℕ) → inode_of_version self.new v ≡ (if node.entry.version == v then Some node.entry else inode_of_version self.old v)) }
         ensures err { OnErr result (versions_in self.new ≡ versions_in self.old) }
     {
         if node.version == self.newest.version {

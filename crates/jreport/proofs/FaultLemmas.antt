@@ -11,7 +11,8 @@ use Rattle.jreport.specs.declared.report_fault.ReportFault.{ReportFault}
 use Rattle.jreport.specs.declared.report_fault.ReportFault.TheVariants.{Output}
 use Rattle.jscan.specs.Counts.{counts_of}
 use Rattle.jreport.specs.Report.{scan_text, lines_below, totals_line}
-use Rattle.jreport.specs.Puts.{IsScannable, PutsReport}
+use Rattle.jscan.specs.Scans.{IsScannable}
+use Rattle.jreport.specs.Puts.{PutsReport}
 
 -- what holds at each fault
 pub at_any_err : {T E P : Type 0} (r : Result T E) → P → IfErr r (λ _. P)

@@ -219,7 +219,7 @@ pub verdict_has_size : (e : Endian) (size : ℕ) (image : List ℕ) (a b : Optio
 verdict_has_size e size image a b before now f (Ok x) is sized put = absurd is
 verdict_has_size e size image a b before now f (Err x) is sized put = (
   λ same. absurd (subst (λ (q : Result Bool ProgramFault). PutsVerdict e size image a b before now q) same
-  (subst (λ (y : ProgramFault). PutsVerdict e size image a b before now (Err y)) (sym is) put)),
+      (subst (λ (y : ProgramFault). PutsVerdict e size image a b before now (Err y)) (sym is) put)),
   λ unsized. let bad : true ≡ false = sym sized ∙ unsized in cc,
 )
 

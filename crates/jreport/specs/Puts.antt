@@ -4,16 +4,13 @@ use Rattle.std.specs.Io.KnownBytes.{Appends}
 use Rattle.flashbase.specs.Device.{PutsPart, next_count}
 use Rattle.jnode.specs.declared.order.Endian.{Endian}
 use Rattle.jscan.specs.Image.{is_block_size, greatest_image}
+use Rattle.jscan.specs.Scans.{IsScannable}
 use Rattle.jscan.specs.declared.geometry.ScanFault.{ScanFault}
 use Rattle.jscan.specs.declared.geometry.ScanFault.TheVariants as scan
 use Rattle.jreport.specs.declared.report_fault.ReportFault.{ReportFault}
 use Rattle.jreport.specs.declared.report_fault.ReportFault.TheVariants.{Scan, Output}
 use Rattle.jscan.specs.Counts.{is_found}
 use Rattle.jreport.specs.Report.{scan_text, count_in_image}
-
--- an image that can be scanned at all
-abbrev pub IsScannable : ℕ → List ℕ → Type 0
-IsScannable size image = IsTrue (is_block_size size) × (length image ≤ greatest_image)
 
 -- The fault that fits the image: its block size comes first, and then its length. A report meets no other fault of
 -- a scan than out of memory.

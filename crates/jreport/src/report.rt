@@ -7,7 +7,8 @@ ghost use Rattle.jscan.specs.Image.{is_block_size, greatest_image, block_count};
 ghost use Rattle.jscan.specs.PartialScans.{HasScanned};
 ghost use Rattle.jscan.specs.Scans.{image_extents};
 ghost use Rattle.jreport.specs.Report.{scan_text, lines_below, block_lines, count_in_image};
-ghost use Rattle.jreport.specs.Puts.{IsScannable, IsFaultOf, PutsReport};
+ghost use Rattle.jscan.specs.Scans.{IsScannable};
+ghost use Rattle.jreport.specs.Puts.{IsFaultOf, PutsReport};
 
 use crate::blocks::{nothing, put_part, put_total};
 use crate::report_fault::ReportFault;

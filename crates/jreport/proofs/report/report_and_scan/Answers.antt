@@ -5,7 +5,7 @@ use Rattle.jscan.specs.Image.{block_count}
 use Rattle.jscan.specs.Counts.{counts_of}
 use Rattle.jscan.specs.declared.counts.Counts.{Counts}
 use Rattle.jreport.specs.Report.{totals_line}
-use Rattle.jreport.specs.Puts.{IsScannable}
+use Rattle.jscan.specs.Scans.{IsScannable}
 use Rattle.jreport.proofs.FaultLemmas.{early_fault, last_fault, whole_text}
 use Rattle.jreport.proofs.report.report_and_scan.Goals as goal
 
