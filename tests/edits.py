@@ -154,6 +154,11 @@ def check(crate, batch, kept):
     return found
 
 
+def is_refused(status):
+    """Whether the prover judged the function and did not prove it. What the borrow checker does not cover was not judged."""
+    return status != "proved" and "borrow checker" not in status
+
+
 def tried(crate, batch, kept):
     """Returns for each edit of the batch whether it is refused, and what the check said."""
     try:
@@ -167,7 +172,7 @@ def tried(crate, batch, kept):
     again = [edit for edit in batch.edits if found[edit.function].startswith(CALLEE_FAILED)]
     if len(again) == len(batch.edits):
         return [(edit, False, f"NOT REFUSED: {found[edit.function]}") for edit in again]
-    judged = [(edit, found[edit.function] != "proved", found[edit.function]) for edit in batch.edits if edit not in again]
+    judged = [(edit, is_refused(found[edit.function]), found[edit.function]) for edit in batch.edits if edit not in again]
     return [*judged, *(it for part in batches_of(again) for it in tried(crate, part, kept))]
 
 
@@ -190,10 +195,10 @@ def try_all(crate):
     refused = 0
     with tempfile.TemporaryDirectory(prefix="edits-kept-") as kept:
         for batch in batches_of(edits):
-            for edit, is_refused, said in tried(crate, batch, kept):
-                verdict = "refused" if is_refused else "NOT REFUSED"
+            for edit, is_good, said in tried(crate, batch, kept):
+                verdict = "refused" if is_good else "NOT REFUSED"
                 lines.append(f"{crate.name}/{edit.name}: {verdict}: {edit.function}: {said[:160]}")
-                refused += is_refused
+                refused += is_good
     return lines, refused
 
 

@@ -26,6 +26,3 @@ pub use crate::putting::put_node;
 pub use crate::report::{Applied, Place, RunReport};
 pub use crate::resuming::resume_at;
 pub use crate::session::Session;
-
-#[cfg(test)]
-mod tests;

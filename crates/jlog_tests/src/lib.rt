@@ -2,13 +2,15 @@
 //! the program's output.
 //!
 //! `lines` reads operations from lines of text, `sessions` runs them onto an image, `run_tests` and `refusal_tests` have the
-//! tables, `cut_tests` mounts what each cut leaves, and `sink_tests` lets a sink fail.
+//! tables, `cut_tests` mounts what each cut leaves, `sink_tests` lets a sink fail, and `place_tests` has single nodes.
 #![tactic(auto)]
 
 #[cfg(test)]
 mod cut_tests;
 #[cfg(test)]
 mod lines;
+#[cfg(test)]
+mod place_tests;
 #[cfg(test)]
 mod refusal_tests;
 #[cfg(test)]

@@ -62,8 +62,7 @@ fn why_a_run_stops(rt: HostRuntime) -> Result<(), Fail> {
         assert_eq!(rt; run.report.accepted, accepted, "{text}");
         assert_eq!(rt; run.output.len(), len, "{text}");
         let fault = run.report.stopped.ok_or("no fault")?;
-        let shown = format!(in alloc; "{fault}")?;
-        assert!(rt; shown.as_str() == text, "{shown} for {text}");
+        assert!(rt; format!(in alloc; "{fault}")?.as_str() == text);
     }
     Ok(())
 }

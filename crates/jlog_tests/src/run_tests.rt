@@ -128,9 +128,9 @@ fn a_file_that_is_made(rt: HostRuntime) -> Result<(), Fail> {
     let little = run_lines::<LittleEndian>(rt.alloc(), &[], GEOMETRY, 1, &["create /a 644"])?;
     assert!(rt; little.output.as_slice() == MADE.as_slice());
     let big = run_lines::<BigEndian>(rt.alloc(), &[], GEOMETRY, 1, &["create /a 644"])?;
-    assert!(rt; &big.output[..12] == BIG_MARKER.as_slice());
-    assert!(rt; &big.output[80..121] == BIG_ENTRY.as_slice());
-    assert!(rt; &big.output[121..] == b"\xFF\xFF\xFF".as_slice());
+    assert!(rt; big.output.starts_with(&BIG_MARKER));
+    assert_eq!(rt; big.output.get(80..121), Some(BIG_ENTRY.as_slice()));
+    assert!(rt; big.output.ends_with(b"\xFF\xFF\xFF"));
     Ok(())
 }
 
@@ -138,8 +138,9 @@ fn a_file_that_is_made(rt: HostRuntime) -> Result<(), Fail> {
 fn the_rest_of_a_block_is_erased(rt: HostRuntime) -> Result<(), Fail> {
     let lines = ["create /a 644", "write /a 0 8192"];
     let run = run_lines::<LittleEndian>(rt.alloc(), &[], GEOMETRY, 2, &lines)?;
-    assert!(rt; run.output[4288..8192].iter().all(|byte| *byte == 0xFF));
-    assert!(rt; &run.output[8192..8204] == &MADE[..12]);
+    let rest = run.output.get(4288..8192).ok_or("no rest")?;
+    assert!(rt; rest.iter().all(|byte| *byte == 0xFF));
+    assert_eq!(rt; run.output.get(8192..8204), MADE.get(..12));
     Ok(())
 }
 
