@@ -1,18 +1,18 @@
 #!/usr/bin/env python3
-"""Shows that the prover refuses wrong bodies: tests/edits.py [--jobs N] [CRATE ..]
+"""Shows that the prover refuses wrong bodies: tests/edits.py [--jobs N] [--built DIR] [CRATE ..]
 
-A file crates/NAME/edits/*.edit is one wrong body:
+A file crates/NAME/must-fail/*.edit is one wrong body, in the form of `rt must-fail` and with a first line of its own:
 
     refused: MODULE::FUNCTION     the function whose contract it breaks, as a check prints it
     file: src/FILE.rt
-    old: TEXT                     a part of one line, or of as many as there are such lines, which stands once in the file
+    old: TEXT                     a part of one line, which stands once in the file
     new: TEXT                     what is put in its place; further pairs apply to what those before them made
 
 A check proves each function from the contracts of what it calls. So many edits, each of another function, go into one copy
 of the crate, and a check of those functions judges them all. An edit is refused where its function's own proof fails; where
 the check only says that what it calls is not proved, it is tried again without the edits of others. In each check every
 function that no edit is in must be proved, so nothing but the edits is to blame. The libraries below a crate are those
-that `rt ci` or `rt check` made. The last line is 'N passed, M failed'.
+that `rt ci` or `rt check` made, here or in DIR. The last line is 'N passed, M failed'.
 """
 import argparse
 import concurrent.futures
@@ -39,9 +39,10 @@ class BadEdit(Exception):
 class Edit:
     """A wrong body: the function that is to be refused, and the runs of lines that change in each file."""
 
-    def __init__(self, folder, name):
-        self.name, self.function, self.changes = name.removesuffix(".edit"), None, {}
-        with open(f"{folder}/edits/{name}", encoding="utf-8") as it:
+    def __init__(self, folder, file):
+        """Reads an edit of the crate in this folder."""
+        self.name, self.function, self.changes = os.path.basename(file).removesuffix(".edit"), None, {}
+        with open(file, encoding="utf-8") as it:
             texts = self.applied(folder, it.read().split("\n"))
         for path, (before, after) in texts.items():
             self.changes[path] = changed_lines(before.split("\n"), after.split("\n"))
@@ -50,24 +51,13 @@ class Edit:
 
     def applied(self, folder, lines):
         """Returns each file that the edit names, before and after it."""
-        texts, path, old, new = {}, None, [], []
-
-        def replace():
-            if old:
-                before, after = texts[path]
-                if after.count("\n".join(old)) != 1:
-                    raise BadEdit(f"{path} has its old text {after.count(chr(10).join(old))} times: {old[0]}")
-                texts[path] = before, after.replace("\n".join(old), "\n".join(new))
-            old.clear()
-            new.clear()
-
+        texts, path, old = {}, None, None
         for line in lines:
             word, _, rest = line.partition(":")
             rest = rest.removeprefix(" ")
             if word == "refused":
                 self.function = rest
             elif word == "file":
-                replace()
                 path = rest
                 if not path.startswith("src/"):
                     raise BadEdit(f"{path} is not below src/")
@@ -75,12 +65,12 @@ class Edit:
                     text = it.read()
                 texts.setdefault(path, (text, text))
             elif word == "old":
-                if new:
-                    replace()
-                old.append(rest)
+                old = rest
             elif word == "new":
-                new.append(rest)
-        replace()
+                before, after = texts[path]
+                if after.count(old) != 1:
+                    raise BadEdit(f"{path} has its old text {after.count(old)} times: {old}")
+                texts[path] = before, after.replace(old, rest)
         return texts
 
 
@@ -182,16 +172,22 @@ def unmade(crate):
     return [it.name for it in crate.below() if not os.path.isdir(it.rlib) or os.path.isfile(stamp(it)) and not it.is_built()]
 
 
+def edits_of(crate):
+    """Returns the files of the crate's edits. They are in this repository, wherever the crate was built."""
+    folder = f"{ROOT}/crates/{crate.name}/must-fail"
+    return sorted(f"{folder}/{it}" for it in os.listdir(folder)) if os.path.isdir(folder) else []
+
+
 def try_all(crate):
     """Returns a line for each edit of the crate, and how many are refused."""
     if unmade(crate):
         return [f"{crate.name}: run rt check first: {', '.join(unmade(crate))}"], 0
     lines, edits = [], []
-    for name in sorted(os.listdir(f"{crate.folder}/edits")):
+    for file in edits_of(crate):
         try:
-            edits.append(Edit(crate.folder, name))
+            edits.append(Edit(crate.folder, file))
         except (BadEdit, KeyError, OSError) as error:
-            lines.append(f"{crate.name}/{name}: BAD EDIT: {error}")
+            lines.append(f"{crate.name}/{os.path.basename(file)}: BAD EDIT: {error}")
     refused = 0
     with tempfile.TemporaryDirectory(prefix="edits-kept-") as kept:
         for batch in batches_of(edits):
@@ -203,16 +199,17 @@ def try_all(crate):
 
 
 def main():
-    parser = argparse.ArgumentParser(description="Shows that the prover refuses the wrong bodies in crates/*/edits.")
+    parser = argparse.ArgumentParser(description="Shows that the prover refuses the wrong bodies in crates/*/must-fail.")
     parser.add_argument("--jobs", type=int, default=len(os.sched_getaffinity(0)), help="how many crates at a time")
+    parser.add_argument("--built", metavar="DIR", default=ROOT, help="a copy of the repository in which the crates were proved")
     parser.add_argument("crates", metavar="CRATE", nargs="*", help="these crates alone")
     asked = parser.parse_args()
-    os.chdir(ROOT)
+    os.chdir(asked.built)
     rtlib.guarded()
-    crates = [it for it in rtlib.crates_below(ROOT) if os.path.isdir(f"{it.folder}/edits")]
+    crates = [it for it in rtlib.crates_below(os.getcwd()) if edits_of(it)]
     crates = [it for it in crates if not asked.crates or it.name in asked.crates]
     # the longest first
-    crates.sort(key=lambda it: -len(os.listdir(f"{it.folder}/edits")))
+    crates.sort(key=lambda it: -len(edits_of(it)))
     passed = failed = 0
     with concurrent.futures.ThreadPoolExecutor(asked.jobs) as pool:
         for done in concurrent.futures.as_completed([pool.submit(try_all, it) for it in crates]):

@@ -2,7 +2,7 @@
 """Looks up each name of docs/TRACE.md in the repository: tests/trace.py. The last line is 'N passed, M failed'.
 
 The names stand between backquotes, in three forms: `crate.File.name` is a definition in crates/crate/specs/File.antt,
-`crate::module::name` an item of crates/crate/src/module.rt, and `crate/name` an edit, crates/crate/edits/name.edit.
+`crate::module::name` an item of crates/crate/src/module.rt, and `crate/name` an edit, crates/crate/must-fail/name.edit.
 """
 import os
 import re
@@ -36,7 +36,7 @@ def is_there(name):
         text = text_of(crate, "src", f"{module}.rt")
         return bool(re.search(rf"\b(?:fn|struct|enum|trait|type|const|impl(?:<[^>]*>)?) {word}\b", text))
     if found := EDIT.fullmatch(name):
-        return os.path.isfile(os.path.join(CRATES, found[1], "edits", f"{found[2]}.edit"))
+        return os.path.isfile(os.path.join(CRATES, found[1], "must-fail", f"{found[2]}.edit"))
     return None
 
 
