@@ -14,6 +14,10 @@ word id = record (new_rule id) { required = true }
 abbrev pub option_or : Text → Text → Rule
 option_or id default = record (new_rule id) { long = Some id; value_names = 1; defaults = default ∷ [] }
 
+-- an option with a value that has to be there
+abbrev pub required_option : Text → Rule
+required_option id = record (new_rule id) { long = Some id; value_names = 1; required = true }
+
 -- a flag that may be left out
 abbrev pub flag : Text → Rule
 flag id = record (new_rule id) { long = Some id; action = Some SetTrue }
@@ -35,12 +39,26 @@ ls_app = with_rule (plain (codes "ls")) (word (codes "IMAGE"))
 abbrev pub cat_app : App
 cat_app = with_rule (with_rule (plain (codes "cat")) (word (codes "IMAGE"))) (word (codes "PATH"))
 
+-- a subcommand that writes to flash of so many blocks
+abbrev pub writer : Text → App
+writer name = with_rule (plain name) (required_option (codes "blocks"))
+
+-- `build --blocks N [--block N] [--endian ORDER] LISTING OUT`
+abbrev pub build_app : App
+build_app = with_rule (with_rule (writer (codes "build")) (word (codes "LISTING"))) (word (codes "OUT"))
+
+-- `append --blocks N [--block N] [--endian ORDER] IMAGE LISTING OUT`
+abbrev pub append_app : App
+append_app = with_rule (with_rule (with_rule (writer (codes "append")) (word (codes "IMAGE"))) (word (codes "LISTING")))
+    (word (codes "OUT"))
+
 -- the program without its subcommands, of which one has to be named; it tells its version
 abbrev pub bare : App
 bare = let app = new_app (codes "jffs2_image") in record app { top = record app.top { has_version = true; subcommand_required = true } }
 
 unfoldable pub program : App
-program = with_subcommand (with_subcommand (with_subcommand bare check_app.top) ls_app.top) cat_app.top
+program = with_subcommand (with_subcommand (with_subcommand (with_subcommand (with_subcommand bare check_app.top) ls_app.top)
+    cat_app.top) build_app.top) append_app.top
 
 -- ---- what is made
 

@@ -36,18 +36,24 @@ pub data Parsed : Type 0 where
   CheckParsed : Options → Text → Parsed
   ListParsed : Options → Text → Parsed
   CatParsed : Options → Text → Text → Parsed
+  BuildParsed : Options → ℕ → Text → Text → Parsed
+  AppendParsed : Options → ℕ → Text → Text → Text → Parsed
 
 abbrev pub view : Request → Parsed
 view (request.Scan options image) = ScanParsed options image.now
 view (request.Check options image) = CheckParsed options image.now
 view (request.List options image) = ListParsed options image.now
 view (request.Cat options image path) = CatParsed options image.now path.now
+view (request.Build options blocks listing output) = BuildParsed options blocks listing.now output.now
+view (request.Append options blocks image listing output) = AppendParsed options blocks image.now listing.now output.now
 
 abbrev pub options_of : Request → Options
 options_of (request.Scan options image) = options
 options_of (request.Check options image) = options
 options_of (request.List options image) = options
 options_of (request.Cat options image path) = options
+options_of (request.Build options blocks listing output) = options
+options_of (request.Append options blocks image listing output) = options
 
 -- ---- by the rows of the subcommand's matches
 
@@ -61,7 +67,7 @@ options_in rows = number_option (codes "block") rows >>= λ block.
     (first_of (codes "endian") rows >>= endian_of) >>= λ endian.
     Some (record { geometry = record { block = block }; endian = endian })
 
--- the options and the image that each subcommand takes
+-- the options and the image that a subcommand reads
 abbrev pub image_in : List Row → Option (Options × Text)
 image_in rows = options_in rows >>= λ options. first_of (codes "IMAGE") rows >>= λ image. Some (options, image)
 
@@ -80,12 +86,25 @@ ls_in rows = image_in rows >>= λ p. Some (ListParsed p.0 p.1)
 abbrev pub cat_in : List Row → Option Parsed
 cat_in rows = image_in rows >>= λ p. first_of (codes "PATH") rows >>= λ path. Some (CatParsed p.0 p.1 path)
 
+-- the number of blocks, the listing and the output of a subcommand that writes
+abbrev pub writing_in : List Row → Option (ℕ × Text × Text)
+writing_in rows = number_option (codes "blocks") rows >>= λ blocks. first_of (codes "LISTING") rows >>= λ listing.
+    first_of (codes "OUT") rows >>= λ output. Some (blocks, listing, output)
+
+abbrev pub build_in : List Row → Option Parsed
+build_in rows = options_in rows >>= λ options. writing_in rows >>= λ w. Some (BuildParsed options w.0 w.1 w.2)
+
+abbrev pub append_in : List Row → Option Parsed
+append_in rows = image_in rows >>= λ p. writing_in rows >>= λ w. Some (AppendParsed p.0 w.0 p.1 w.1 w.2)
+
 -- what the subcommand of this name asks for, with these rows; None where it is no subcommand or a value can't be read
 unfoldable pub parsed : Text → List Row → Option Parsed
 parsed name rows =
     if bytes_eq name (codes "check") then check_in rows
     else if bytes_eq name (codes "ls") then ls_in rows
     else if bytes_eq name (codes "cat") then cat_in rows
+    else if bytes_eq name (codes "build") then build_in rows
+    else if bytes_eq name (codes "append") then append_in rows
     else None
 
 abbrev pub parsed_by : Option (Text × List Row) → Option Parsed

@@ -82,21 +82,28 @@ fn parsed_in<'a>(matches: &ArgMatches<'a>) -> Option<Request<'a>>
     parsed_of(name, found)
 }
 
+/// The first value that can't be read, its option, and what is wanted there.
+fn unreadable_value<'a>(found: &ArgMatches<'a>) -> (&'a str, &'a str, &'a str) {
+    let block = text_at(found, "block").unwrap_or("");
+    if number(block).is_none() {
+        let wanted = "a number of bytes in decimal digits, below 4294967296";
+        return (block, "--block <N>", wanted);
+    }
+    let order = text_at(found, "endian").unwrap_or("");
+    if endian(order).is_none() {
+        return (order, "--endian <ORDER>", "little or big");
+    }
+    let blocks = text_at(found, "blocks").unwrap_or("");
+    let wanted = "a number of blocks in decimal digits, below 4294967296";
+    (blocks, "--blocks <N>", wanted)
+}
+
 /// The text about the value that can't be read.
 fn unreadable(alloc: Global, matches: &ArgMatches<'_>) -> Result<String, AllocError> {
     let Some((name, found)) = matches.subcommand() else {
         return String::from_str(alloc, "error: no subcommand; try '--help'\n");
     };
-    let block = text_at(found, "block").unwrap_or("");
-    let order = text_at(found, "endian").unwrap_or("");
-    let (value, option, wanted) = match number(block) {
-        None => (
-            block,
-            "--block <N>",
-            "a number of bytes in decimal digits, below 4294967296",
-        ),
-        Some(_) => (order, "--endian <ORDER>", "little or big"),
-    };
+    let (value, option, wanted) = unreadable_value(found);
     format!(in alloc;
         "error: invalid value '{value}' for '{option}': wanted {wanted}\n\n\
          For more information, try 'jffs2_image {name} --help'.\n"

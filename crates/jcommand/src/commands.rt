@@ -1,108 +1,13 @@
 //! The command line, built with clap: the program, its subcommands, and the words that each one takes.
 ghost use Rattle.std.specs.Prelude.{◌≡◌, Ok};
 ghost use Rattle.clap.specs.Words.{App, Rule, new_app, with_rule, with_subcommand};
-ghost use Rattle.jcommand.specs.Commands.{IsApp, IsRule, MakesApp, word, option_or, flag, plain, check_app, ls_app, cat_app, bare, program};
+ghost use Rattle.jcommand.specs.Commands.{IsApp, IsRule, MakesApp, word, option_or, required_option, flag, plain, writer, check_app, ls_app, cat_app, build_app, append_app, bare, program};
 
+use crate::help;
 use clap::{Arg, ArgAction, Command};
 use std::alloc::{AllocError, Global};
 
 const VERSION: &str = "0.1.0";
-
-const PROGRAM: &str = "\
-Looks into flash images of JFFS2, a file system that is a log of nodes";
-
-const CHECK: &str = "Print what stands in an image, what is wrong with it, and whether it mounts";
-
-const LIST: &str = "Print a line for each object of the tree";
-
-const CAT: &str = "Write the content of a regular file to standard output";
-
-const IMAGE: &str = "File with the bytes of the flash";
-
-const PATH: &str =
-    "Path of the file from the root, as /a/b; \\x and two hexadecimal digits are one byte";
-
-/// What is at the end of the program's help.
-const EPILOGUE: &str = "\
-Each command takes --block, the size of an erase block, and --endian, the byte order.
-The image is only read. 'jffs2_image help check' tells what check prints, and so for the
-others.
-
-Examples:
-  jffs2_image check flash.img
-  jffs2_image ls --block 131072 flash.img
-  jffs2_image cat --endian big flash.img /etc/passwd
-
-Exit status:
-  0  done, and nothing was found
-  1  a fault, which standard error names
-  2  the command line is wrong
-  3  check found something
-
-A fault is one line, as 'jffs2_image: M6 RootKind'. Its letter says what gave up: C the
-report, L reading the image, M the mount, P the program. The manual page jffs2_image.1
-tells what each fault may mean and what to do.
-
-The image does not tell its block size or byte order. With a wrong --block, a wrong
---endian or a damaged image, ls and cat may show less than the flash holds, or zeros; a
-note on standard error then counts what check --scan finds.";
-
-const CHECK_EPILOGUE: &str = "\
-For each block it prints 'block' and its number, and then a line for each node and for
-each longest run of erased flash or dirt, with its address, kind and number of bytes.
-The last line has the totals. Findings are damaged, compressed, attribute, read-only and
-incompatible nodes, and runs of dirt or of words in the other byte order.
-
-Then comes the verdict, unless --scan is given: 'mount ok', 'mount ok read-only', or
-'mount refused' and why. After an ok, 'dangling' tells of a name without an object.
-
-Examples:
-  jffs2_image check flash.img
-  jffs2_image check --scan --endian big --block 131072 flash.img
-
-Exit status:
-  0  done, and nothing was found
-  1  a fault, which standard error names
-  2  the command line is wrong
-  3  a finding, an image that does not mount, or a name without an object";
-
-const LIST_EPILOGUE: &str = "\
-The root is the first line. A directory stands before what lies in it, and names are in
-byte order. A line is
-
-  KIND MODE UID GID SIZE MTIME INO PATH
-
-  KIND   - regular file, d directory, l symlink, c character device, b block device,
-         p FIFO, s socket, ? anything else
-  MODE   the low 12 bits of the mode, as four octal digits
-  SIZE   bytes
-  MTIME  seconds since 1970
-  INO    inode number
-  PATH   from the root; a byte of a name that is no visible ASCII character, and
-         backslash and slash, are \\x and two hexadecimal digits
-
-' -> TARGET' follows the path of a symlink, escaped likewise, or ' -> (long)' where the
-target has more than 4095 bytes. ' (again)' follows a directory that was met before.
-
-Example:
-  jffs2_image ls --endian big flash.img
-
-Exit status:
-  0  done
-  1  a fault, which standard error names
-  2  the command line is wrong";
-
-const CAT_EPILOGUE: &str = "\
-The path begins with / and leads from the root by names, through directories alone:
-symlinks are not followed. A path can be given as ls prints it.
-
-Example:
-  jffs2_image cat --endian big flash.img /etc/passwd
-
-Exit status:
-  0  done
-  1  a fault, which standard error names
-  2  the command line is wrong";
 
 /// What making a command comes to.
 type Made<'a> = Result<Command<'a>, AllocError>;
@@ -128,6 +33,17 @@ fn make_option<'a>(
         .long(id)
         .value_name(value)
         .default_value(default)
+        .help(help)
+}
+
+/// An option with a value that has to be there.
+fn make_required_option<'a>(alloc: Global, id: &'a str, value: &'a str, help: &'a str) -> Arg<'a>
+    ensures { IsRule result (required_option id.now) }
+{
+    Arg::new(alloc, id)
+        .long(id)
+        .value_name(value)
+        .required(true)
         .help(help)
 }
 
@@ -168,20 +84,8 @@ fn add_subcommand<'a>(command: Made<'a>, subcommand: Made<'a>) -> Made<'a>
 fn make_plain<'a>(alloc: Global, name: &'a str, about: &'a str, after: &'a str) -> Made<'a>
     ensures { MakesApp result (plain name.now) }
 {
-    let block = make_option(
-        alloc,
-        "block",
-        "N",
-        "65536",
-        "Size of a block in bytes: a multiple of 4 from 4096 to 4194304",
-    );
-    let endian = make_option(
-        alloc,
-        "endian",
-        "ORDER",
-        "little",
-        "Byte order of the image: little or big",
-    );
+    let block = make_option(alloc, "block", "N", "65536", help::BLOCK);
+    let endian = make_option(alloc, "endian", "ORDER", "little", help::ENDIAN);
     let command = make_named(alloc, name, about, after);
     add_arg(add_arg(Ok(command), block), endian)
 }
@@ -189,33 +93,63 @@ fn make_plain<'a>(alloc: Global, name: &'a str, about: &'a str, after: &'a str) 
 fn make_check<'a>(alloc: Global) -> Made<'a>
     ensures { MakesApp result check_app }
 {
-    let scan = make_flag(alloc, "scan", "Print the tiles alone, and do not mount");
-    let image = make_word(alloc, "IMAGE", IMAGE);
-    let command = make_plain(alloc, "check", CHECK, CHECK_EPILOGUE);
+    let scan = make_flag(alloc, "scan", help::SCAN);
+    let image = make_word(alloc, "IMAGE", help::IMAGE);
+    let command = make_plain(alloc, "check", help::CHECK, help::CHECK_EPILOGUE);
     add_arg(add_arg(command, scan), image)
 }
 
 fn make_ls<'a>(alloc: Global) -> Made<'a>
     ensures { MakesApp result ls_app }
 {
-    let image = make_word(alloc, "IMAGE", IMAGE);
-    add_arg(make_plain(alloc, "ls", LIST, LIST_EPILOGUE), image)
+    let image = make_word(alloc, "IMAGE", help::IMAGE);
+    add_arg(
+        make_plain(alloc, "ls", help::LIST, help::LIST_EPILOGUE),
+        image,
+    )
 }
 
 fn make_cat<'a>(alloc: Global) -> Made<'a>
     ensures { MakesApp result cat_app }
 {
-    let image = make_word(alloc, "IMAGE", IMAGE);
-    let path = make_word(alloc, "PATH", PATH);
-    let command = make_plain(alloc, "cat", CAT, CAT_EPILOGUE);
+    let image = make_word(alloc, "IMAGE", help::IMAGE);
+    let path = make_word(alloc, "PATH", help::PATH);
+    let command = make_plain(alloc, "cat", help::CAT, help::CAT_EPILOGUE);
     add_arg(add_arg(command, image), path)
+}
+
+/// A subcommand that writes to flash of so many blocks.
+fn make_writer<'a>(alloc: Global, name: &'a str, about: &'a str, after: &'a str) -> Made<'a>
+    ensures { MakesApp result (writer name.now) }
+{
+    let blocks = make_required_option(alloc, "blocks", "N", help::BLOCKS);
+    add_arg(make_plain(alloc, name, about, after), blocks)
+}
+
+fn make_build<'a>(alloc: Global) -> Made<'a>
+    ensures { MakesApp result build_app }
+{
+    let listing = make_word(alloc, "LISTING", help::LISTING);
+    let output = make_word(alloc, "OUT", help::OUT);
+    let command = make_writer(alloc, "build", help::BUILD, help::BUILD_EPILOGUE);
+    add_arg(add_arg(command, listing), output)
+}
+
+fn make_append<'a>(alloc: Global) -> Made<'a>
+    ensures { MakesApp result append_app }
+{
+    let image = make_word(alloc, "IMAGE", help::IMAGE);
+    let listing = make_word(alloc, "LISTING", help::LISTING);
+    let output = make_word(alloc, "OUT", help::OUT);
+    let command = make_writer(alloc, "append", help::APPEND, help::APPEND_EPILOGUE);
+    add_arg(add_arg(add_arg(command, image), listing), output)
 }
 
 /// The program without its subcommands.
 fn make_bare<'a>(alloc: Global) -> Command<'a>
     ensures { IsApp result bare }
 {
-    make_named(alloc, "jffs2_image", PROGRAM, EPILOGUE)
+    make_named(alloc, "jffs2_image", help::PROGRAM, help::EPILOGUE)
         .version(VERSION)
         .subcommand_required(true)
 }
@@ -226,5 +160,7 @@ pub(crate) fn make_program<'a>(alloc: Global) -> Made<'a>
 {
     let command = add_subcommand(Ok(make_bare(alloc)), make_check(alloc));
     let command = add_subcommand(command, make_ls(alloc));
-    add_subcommand(command, make_cat(alloc))
+    let command = add_subcommand(command, make_cat(alloc));
+    let command = add_subcommand(command, make_build(alloc));
+    add_subcommand(command, make_append(alloc))
 }

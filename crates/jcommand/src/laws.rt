@@ -3,7 +3,7 @@ ghost use Rattle.std.specs.Prelude.{◌≡◌, [], ◌∷◌, Some, None, codes}
 ghost use Rattle.clap.specs.Words.{fault_of};
 ghost use Rattle.clap.specs.declared.error.ErrorKind.TheVariants.{DisplayHelp, DisplayVersion, MissingSubcommand, MissingRequiredArgument, UnknownArgument};
 ghost use Rattle.jnode.specs.declared.order.Endian.TheVariants.{Little, Big};
-ghost use Rattle.jcommand.specs.Parsed.{ScanParsed, CheckParsed, ListParsed, CatParsed, parsed_from, endian_of, number_of};
+ghost use Rattle.jcommand.specs.Parsed.{ScanParsed, CheckParsed, ListParsed, CatParsed, BuildParsed, AppendParsed, parsed_from, endian_of, number_of};
 ghost use Rattle.jcommand.specs.Commands.{program};
 
 /// The values of options.
@@ -29,6 +29,11 @@ pub fn known_requests()
         ≡ Some (ListParsed (record { geometry = record { block = 8192 }; endian = Little }) (codes "a")) }
     ensures content { parsed_from (codes "jffs2_image" ∷ codes "cat" ∷ codes "a" ∷ codes "/b" ∷ [])
         ≡ Some (CatParsed (record { geometry = record { block = 65536 }; endian = Little }) (codes "a") (codes "/b")) }
+    ensures made { parsed_from (codes "jffs2_image" ∷ codes "build" ∷ codes "--blocks" ∷ codes "2" ∷ codes "a" ∷ codes "b" ∷ [])
+        ≡ Some (BuildParsed (record { geometry = record { block = 65536 }; endian = Little }) 2 (codes "a") (codes "b")) }
+    ensures extended { parsed_from (codes "jffs2_image" ∷ codes "append" ∷ codes "a" ∷ codes "--block" ∷ codes "8192" ∷ codes "b"
+        ∷ codes "--endian=big" ∷ codes "c" ∷ codes "--blocks=3" ∷ [])
+        ≡ Some (AppendParsed (record { geometry = record { block = 8192 }; endian = Big }) 3 (codes "a") (codes "b") (codes "c")) }
 {}
 
 /// Words that ask for nothing.
@@ -39,5 +44,11 @@ pub fn known_refusals()
     ensures no_image { fault_of program (codes "jffs2_image" ∷ codes "ls" ∷ []) ≡ MissingRequiredArgument ∷ [] }
     ensures not_of_ls { fault_of program (codes "jffs2_image" ∷ codes "ls" ∷ codes "--scan" ∷ codes "a" ∷ []) ≡ UnknownArgument ∷ [] }
     ensures no_path { fault_of program (codes "jffs2_image" ∷ codes "cat" ∷ codes "a" ∷ []) ≡ MissingRequiredArgument ∷ [] }
+    ensures no_blocks { fault_of program (codes "jffs2_image" ∷ codes "build" ∷ codes "a" ∷ codes "b" ∷ []) ≡ MissingRequiredArgument ∷ [] }
+    ensures no_output { fault_of program (codes "jffs2_image" ∷ codes "append" ∷ codes "--blocks" ∷ codes "2" ∷ codes "a" ∷ codes "b" ∷ [])
+        ≡ MissingRequiredArgument ∷ [] }
+    ensures not_of_cat { fault_of program (codes "jffs2_image" ∷ codes "cat" ∷ codes "--blocks=2" ∷ codes "a" ∷ codes "/b" ∷ [])
+        ≡ UnknownArgument ∷ [] }
+    ensures unreadable_blocks { parsed_from (codes "jffs2_image" ∷ codes "build" ∷ codes "--blocks=x" ∷ codes "a" ∷ codes "b" ∷ []) ≡ None }
     ensures unreadable { parsed_from (codes "jffs2_image" ∷ codes "check" ∷ codes "--block=x" ∷ codes "--scan" ∷ codes "a" ∷ []) ≡ None }
 {}

@@ -6,6 +6,7 @@
 //!
 //! - `commands`: the program, its subcommands, and the words that each one takes; `specs/Commands.antt` has the same as
 //!   clap sees it.
+//! - `help`: the texts of the help.
 //! - `parsed`: what clap's matches ask for, `specs/Parsed.antt`.
 //! - `command_line`: `request`, which takes the words to a `Request` or to the text that answers them;
 //!   `specs/Refused.antt`.
@@ -15,6 +16,7 @@
 
 mod command_line;
 mod commands;
+mod help;
 pub mod laws;
 mod outcome;
 mod parsed;

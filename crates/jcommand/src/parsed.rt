@@ -1,7 +1,7 @@
 //! What the matches of the program's command line ask for.
 ghost use Rattle.std.specs.Prelude.{◌≡◌, option_map};
 ghost use Rattle.clap.specs.Words.{found_of, rows_of, first_of};
-ghost use Rattle.jcommand.specs.Parsed.{number_of, endian_of, number_option, options_in, image_in, is_given, check_in, ls_in, cat_in, parsed, options_of, view};
+ghost use Rattle.jcommand.specs.Parsed.{number_of, endian_of, number_option, options_in, image_in, is_given, check_in, ls_in, cat_in, writing_in, build_in, append_in, parsed, options_of, view};
 
 use clap::ArgMatches;
 use jnode::Endian;
@@ -38,6 +38,21 @@ pub enum Request<'a> {
         image: &'a str,
         path: &'a str,
     },
+    /// `build`: an image of what the listing makes of an empty file system.
+    Build {
+        options: Options,
+        blocks: u32,
+        listing: &'a str,
+        output: &'a str,
+    },
+    /// `append`: the image with what the listing makes of its file system.
+    Append {
+        options: Options,
+        blocks: u32,
+        image: &'a str,
+        listing: &'a str,
+        output: &'a str,
+    },
 }
 
 impl Request<'_> {
@@ -49,7 +64,9 @@ impl Request<'_> {
             Request::Scan { options, .. }
             | Request::Check { options, .. }
             | Request::List { options, .. }
-            | Request::Cat { options, .. } => options,
+            | Request::Cat { options, .. }
+            | Request::Build { options, .. }
+            | Request::Append { options, .. } => options,
         }
     }
 }
@@ -110,7 +127,7 @@ fn options_at(found: &ArgMatches<'_>) -> Option<Options>
     })
 }
 
-/// The options and the image that each subcommand takes.
+/// The options and the image that a subcommand reads.
 fn image_at<'a>(found: &ArgMatches<'a>) -> Option<(Options, &'a str)>
     ensures { option_map (λ p. (p.0, p.1.now)) result ≡ image_in (rows_of (found_of found.now)) }
 {
@@ -159,6 +176,43 @@ fn cat_at<'a>(found: &ArgMatches<'a>) -> Option<Request<'a>>
     })
 }
 
+/// The number of blocks, the listing and the output of a subcommand that writes.
+fn writing_at<'a>(found: &ArgMatches<'a>) -> Option<(u32, &'a str, &'a str)>
+    ensures { option_map (λ w. (w.0, w.1.now, w.2.now)) result ≡ writing_in (rows_of (found_of found.now)) }
+{
+    let blocks = number_at(found, "blocks")?;
+    let listing = text_at(found, "LISTING")?;
+    let output = text_at(found, "OUT")?;
+    Some((blocks, listing, output))
+}
+
+fn build_at<'a>(found: &ArgMatches<'a>) -> Option<Request<'a>>
+    ensures { option_map view result ≡ build_in (rows_of (found_of found.now)) }
+{
+    let options = options_at(found)?;
+    let (blocks, listing, output) = writing_at(found)?;
+    Some(Request::Build {
+        options,
+        blocks,
+        listing,
+        output,
+    })
+}
+
+fn append_at<'a>(found: &ArgMatches<'a>) -> Option<Request<'a>>
+    ensures { option_map view result ≡ append_in (rows_of (found_of found.now)) }
+{
+    let (options, image) = image_at(found)?;
+    let (blocks, listing, output) = writing_at(found)?;
+    Some(Request::Append {
+        options,
+        blocks,
+        image,
+        listing,
+        output,
+    })
+}
+
 /// What the subcommand asks for, or nothing where a value can't be read.
 #[tactic(auto, unfolding(crate::specs::Parsed::parsed))]
 pub(crate) fn parsed_of<'a>(name: &str, found: &ArgMatches<'a>) -> Option<Request<'a>>
@@ -168,6 +222,8 @@ pub(crate) fn parsed_of<'a>(name: &str, found: &ArgMatches<'a>) -> Option<Reques
         "check" => check_at(found),
         "ls" => ls_at(found),
         "cat" => cat_at(found),
+        "build" => build_at(found),
+        "append" => append_at(found),
         _ => None,
     }
 }

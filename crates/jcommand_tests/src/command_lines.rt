@@ -6,20 +6,34 @@ use jnode::Endian;
 use std::alloc::{AllocError, Global};
 use std::test::Fail;
 
-/// A request as the name of its kind, the size of a block, the byte order, the image and the path.
+/// A request as the name of its kind, the size of a block, the byte order, and its other values in the order of the
+/// command's help.
 fn shown(alloc: Global, request: Request<'_>) -> Result<String, AllocError> {
     let Options { geometry, endian } = request.options();
+    let block = geometry.block;
     let order = match endian {
         Endian::Little => "little",
         Endian::Big => "big",
     };
-    let (kind, image, path) = match request {
-        Request::Scan { image, .. } => ("scan", image, "-"),
-        Request::Check { image, .. } => ("check", image, "-"),
-        Request::List { image, .. } => ("ls", image, "-"),
-        Request::Cat { image, path, .. } => ("cat", image, path),
-    };
-    format!(in alloc; "{kind} {} {order} {image} {path}", geometry.block)
+    match request {
+        Request::Scan { image, .. } => format!(in alloc; "scan {block} {order} {image}"),
+        Request::Check { image, .. } => format!(in alloc; "check {block} {order} {image}"),
+        Request::List { image, .. } => format!(in alloc; "ls {block} {order} {image}"),
+        Request::Cat { image, path, .. } => format!(in alloc; "cat {block} {order} {image} {path}"),
+        Request::Build {
+            blocks,
+            listing,
+            output,
+            ..
+        } => format!(in alloc; "build {block} {order} {blocks} {listing} {output}"),
+        Request::Append {
+            blocks,
+            image,
+            listing,
+            output,
+            ..
+        } => format!(in alloc; "append {block} {order} {blocks} {image} {listing} {output}"),
+    }
 }
 
 /// The request that the words make, or `help` or `wrong` and the text that answers them.
@@ -49,38 +63,80 @@ fn is_text(text: &str, start: &str, parts: [&str; 2]) -> bool {
 #[test]
 fn args_that_ask_for_something(rt: HostRuntime) -> Result<(), Fail> {
     let examples = [
-        ("t check --scan a.img", "scan 65536 little a.img -"),
-        ("t check a.img --scan", "scan 65536 little a.img -"),
+        ("t check --scan a.img", "scan 65536 little a.img"),
+        ("t check a.img --scan", "scan 65536 little a.img"),
         (
             "t check --scan --block 4096 a.img",
-            "scan 4096 little a.img -",
+            "scan 4096 little a.img",
         ),
-        ("t check --scan --block=0 a.img", "scan 0 little a.img -"),
+        ("t check --scan --block=0 a.img", "scan 0 little a.img"),
         (
             "t check --scan --block 4294967295 a.img",
-            "scan 4294967295 little a.img -",
+            "scan 4294967295 little a.img",
         ),
-        (
-            "t check --endian big --scan a.img",
-            "scan 65536 big a.img -",
-        ),
+        ("t check --endian big --scan a.img", "scan 65536 big a.img"),
         (
             "t check --endian=little --block 08192 --scan a.img",
-            "scan 8192 little a.img -",
+            "scan 8192 little a.img",
         ),
-        ("t check --scan -- a.img", "scan 65536 little a.img -"),
-        ("t check a.img", "check 65536 little a.img -"),
-        (
-            "t check --block 0065536 a.img",
-            "check 65536 little a.img -",
-        ),
-        (
-            "t ls a.img --block 8192 --endian=big",
-            "ls 8192 big a.img -",
-        ),
+        ("t check --scan -- a.img", "scan 65536 little a.img"),
+        ("t check a.img", "check 65536 little a.img"),
+        ("t check --block 0065536 a.img", "check 65536 little a.img"),
+        ("t ls a.img --block 8192 --endian=big", "ls 8192 big a.img"),
         (
             "t cat --endian big --block=4096 a.img /b",
             "cat 4096 big a.img /b",
+        ),
+    ];
+    for (line, wanted) in examples {
+        let answer = answer_to(rt.alloc(), line)?;
+        assert_eq!(rt; answer.as_str(), wanted, "{line}");
+    }
+    Ok(())
+}
+
+#[test]
+fn args_that_ask_to_write(rt: HostRuntime) -> Result<(), Fail> {
+    let examples = [
+        (
+            "t build --blocks 8 a.txt b.img",
+            "build 65536 little 8 a.txt b.img",
+        ),
+        (
+            "t build a.txt --blocks=8 b.img",
+            "build 65536 little 8 a.txt b.img",
+        ),
+        (
+            "t build a.txt b.img --blocks 0",
+            "build 65536 little 0 a.txt b.img",
+        ),
+        (
+            "t build --endian big --blocks 4294967295 --block 8192 a.txt b.img",
+            "build 8192 big 4294967295 a.txt b.img",
+        ),
+        (
+            "t build a.txt --endian=big b.img --block=0 --blocks=00012",
+            "build 0 big 12 a.txt b.img",
+        ),
+        (
+            "t build --blocks 3 -- --block --blocks",
+            "build 65536 little 3 --block --blocks",
+        ),
+        (
+            "t append --blocks 8 a.img b.txt c.img",
+            "append 65536 little 8 a.img b.txt c.img",
+        ),
+        (
+            "t append a.img b.txt c.img --blocks=8",
+            "append 65536 little 8 a.img b.txt c.img",
+        ),
+        (
+            "t append a.img --blocks 8 b.txt --block 4096 c.img --endian big",
+            "append 4096 big 8 a.img b.txt c.img",
+        ),
+        (
+            "t append --block=131072 --blocks=4294967295 a.img b.txt a.img",
+            "append 131072 little 4294967295 a.img b.txt a.img",
         ),
     ];
     for (line, wanted) in examples {
@@ -162,6 +218,70 @@ fn args_that_are_wrong(rt: HostRuntime) -> Result<(), Fail> {
 }
 
 #[test]
+fn args_that_are_wrong_to_write(rt: HostRuntime) -> Result<(), Fail> {
+    let examples = [
+        ("t build", "--blocks <N>"),
+        ("t build a b", "--blocks <N>"),
+        ("t build --block 8192 a b", "--blocks <N>"),
+        ("t build --blocks 8", "<LISTING>"),
+        ("t build --blocks 8 a", "<OUT>"),
+        ("t build --blocks 8 a b c", "'c'"),
+        ("t build --blocks 8 --blocks 8 a b", "--blocks <N>"),
+        ("t build a b --blocks", "--blocks <N>"),
+        ("t build --blocks= a b", "'' for '--blocks <N>'"),
+        ("t build --blocks x a b", "'x' for '--blocks <N>'"),
+        ("t build --blocks=+8 a b", "'+8' for '--blocks <N>'"),
+        ("t build --blocks=8k a b", "'8k' for '--blocks <N>'"),
+        ("t build --blocks=0x8 a b", "'0x8' for '--blocks <N>'"),
+        (
+            "t build --blocks=4294967296 a b",
+            "'4294967296' for '--blocks <N>'",
+        ),
+        (
+            "t build --blocks=18446744073709551624 a b",
+            "'18446744073709551624' for '--blocks <N>'",
+        ),
+        ("t build --blocks 8 --block=x a b", "'x' for '--block <N>'"),
+        ("t build --blocks=x --block=y a b", "'y' for '--block <N>'"),
+        (
+            "t build --blocks=x --endian=middle a b",
+            "'middle' for '--endian <ORDER>'",
+        ),
+        ("t build --scan --blocks 8 a b", "--scan"),
+        ("t build --page 4096 --blocks 8 a b", "--page"),
+        ("t append", "--blocks <N>"),
+        ("t append a b c", "--blocks <N>"),
+        ("t append --blocks 8", "<IMAGE>"),
+        ("t append --blocks 8 a", "<LISTING>"),
+        ("t append --blocks 8 a b", "<OUT>"),
+        ("t append --blocks 8 a b c d", "'d'"),
+        ("t append --blocks 8 a b c --blocks 9", "--blocks <N>"),
+        ("t append --blocks=x a b c", "'x' for '--blocks <N>'"),
+        (
+            "t append --blocks 8 --endian=BIG a b c",
+            "'BIG' for '--endian <ORDER>'",
+        ),
+        ("t append --version --blocks 8 a b c", "--version"),
+        ("t ls --blocks 8 a", "--blocks"),
+        ("t cat --blocks=8 a /b", "--blocks"),
+    ];
+    for (line, part) in examples {
+        let answer = answer_to(rt.alloc(), line)?;
+        assert!(rt;
+            is_text(answer.as_str(), "wrong error: ", [part, "--help"]),
+            "{line}"
+        );
+    }
+    let answer = answer(rt.alloc(), &["t", "build", "--blocks=", "a", "b"])?;
+    assert_eq!(rt;
+        answer.as_str(),
+        "wrong error: invalid value '' for '--blocks <N>': wanted a number of blocks in decimal digits, below 4294967296\n\n\
+         For more information, try 'jffs2_image build --help'.\n"
+    );
+    Ok(())
+}
+
+#[test]
 fn args_that_ask_for_help(rt: HostRuntime) -> Result<(), Fail> {
     let examples = [
         ("t --help", "Usage: t <COMMAND>"),
@@ -175,6 +295,20 @@ fn args_that_ask_for_help(rt: HostRuntime) -> Result<(), Fail> {
         ("t ls --help", "Usage: t ls [OPTIONS] <IMAGE>"),
         ("t help ls", "KIND MODE UID GID SIZE MTIME INO PATH"),
         ("t cat --help", "Usage: t cat [OPTIONS] <IMAGE> <PATH>"),
+        (
+            "t build --help",
+            "Usage: t build [OPTIONS] --blocks <N> <LISTING> <OUT>",
+        ),
+        ("t build -h", "Number of blocks of the flash"),
+        ("t help build", "write PATH OFFSET HEX"),
+        ("t help build", "accepted A nodes N bytes B"),
+        (
+            "t append --help",
+            "Usage: t append [OPTIONS] --blocks <N> <IMAGE> <LISTING> <OUT>",
+        ),
+        ("t help append", "IMAGE and OUT can be one file"),
+        ("t --help", "jffs2_image build --blocks 64"),
+        ("t --help", "S the session that writes"),
     ];
     for (line, part) in examples {
         let answer = answer_to(rt.alloc(), line)?;

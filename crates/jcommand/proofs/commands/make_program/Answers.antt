@@ -6,4 +6,6 @@ unfolding program
 returns c =
     let check = c.add_subcommand-command.ensures _ _ c.make_bare.ensures c.make_check.ensures in
     let ls = c.add_subcommand-command-2.ensures _ _ check c.make_ls.ensures in
-    c.add_subcommand.ensures _ _ ls c.make_cat.ensures
+    let cat = c.add_subcommand-command-3.ensures _ _ ls c.make_cat.ensures in
+    let build = c.add_subcommand-command-4.ensures _ _ cat c.make_build.ensures in
+    c.add_subcommand.ensures _ _ build c.make_append.ensures

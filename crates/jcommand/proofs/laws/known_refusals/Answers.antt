@@ -31,3 +31,19 @@ returns-clause-no_path c = refl
 pub returns-clause-unreadable : goal.returns-clause-unreadable
 unfolding clap_on_literals program parsed parsed_from
 returns-clause-unreadable c = refl
+
+pub returns-clause-no_blocks : goal.returns-clause-no_blocks
+unfolding clap_on_literals program parsed parsed_from
+returns-clause-no_blocks c = refl
+
+pub returns-clause-no_output : goal.returns-clause-no_output
+unfolding clap_on_literals program parsed parsed_from
+returns-clause-no_output c = refl
+
+pub returns-clause-not_of_cat : goal.returns-clause-not_of_cat
+unfolding clap_on_literals program parsed parsed_from
+returns-clause-not_of_cat c = refl
+
+pub returns-clause-unreadable_blocks : goal.returns-clause-unreadable_blocks
+unfolding clap_on_literals program parsed parsed_from
+returns-clause-unreadable_blocks c = refl

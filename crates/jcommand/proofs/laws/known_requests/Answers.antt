@@ -19,3 +19,11 @@ returns-clause-tree c = refl
 pub returns-clause-content : goal.returns-clause-content
 unfolding clap_on_literals program parsed parsed_from
 returns-clause-content c = refl
+
+pub returns-clause-made : goal.returns-clause-made
+unfolding clap_on_literals program parsed parsed_from
+returns-clause-made c = refl
+
+pub returns-clause-extended : goal.returns-clause-extended
+unfolding clap_on_literals program parsed parsed_from
+returns-clause-extended c = refl

@@ -1,0 +1,185 @@
+//! The texts of the help: what the program, its subcommands and their words are for, and what stands at the end of each.
+
+pub(crate) const PROGRAM: &str = "\
+Reads, checks, builds and extends flash images of JFFS2, a file system that is a log of
+nodes";
+
+pub(crate) const CHECK: &str =
+    "Print what stands in an image, what is wrong with it, and whether it mounts";
+
+pub(crate) const LIST: &str = "Print a line for each object of the tree";
+
+pub(crate) const CAT: &str = "Write the content of a regular file to standard output";
+
+pub(crate) const BUILD: &str = "Make an image by a listing of operations";
+
+pub(crate) const APPEND: &str = "Copy an image, and extend the copy by a listing of operations";
+
+pub(crate) const BLOCK: &str = "Size of a block in bytes: a multiple of 4 from 4096 to 4194304";
+
+pub(crate) const ENDIAN: &str = "Byte order of the image: little or big";
+
+pub(crate) const BLOCKS: &str = "Number of blocks of the flash, which has 268435456 bytes at most";
+
+pub(crate) const SCAN: &str = "Print the tiles alone, and do not mount";
+
+pub(crate) const IMAGE: &str = "File with the bytes of the flash";
+
+pub(crate) const PATH: &str =
+    "Path of the file from the root, as /a/b; \\x and two hexadecimal digits are one byte";
+
+pub(crate) const LISTING: &str = "File with the operations, a line each";
+
+pub(crate) const OUT: &str = "File that is made, or written over, with the bytes of the flash";
+
+/// What is at the end of the program's help.
+pub(crate) const EPILOGUE: &str = "\
+Each command takes --block, the size of an erase block, and --endian, the byte order.
+build and append need --blocks too, the number of blocks; the others only read.
+'jffs2_image help build' tells what a listing is, 'jffs2_image help check' what check
+prints, and so for the others.
+
+Examples:
+  jffs2_image check flash.img
+  jffs2_image ls --block 131072 flash.img
+  jffs2_image cat --endian big flash.img /etc/passwd
+  jffs2_image build --blocks 64 tree.txt flash.img
+  jffs2_image append --blocks 64 flash.img more.txt new.img
+
+Exit status:
+  0  done, and nothing was found
+  1  a fault, which standard error names
+  2  the command line is wrong
+  3  check found something
+
+A fault is one line, as 'jffs2_image: M6 RootKind'. Its letter says what gave up: C the
+report, L reading a file, M the mount, S the session that writes, P the program. P2 is a
+wrong line of a listing. The manual page jffs2_image.1 tells what each fault may mean and
+what to do.
+
+The image does not tell its block size or byte order. With a wrong --block, a wrong
+--endian or a damaged image, ls and cat may show less than the flash holds, or zeros; a
+note on standard error then counts what check --scan finds. append goes on from what ls
+shows, so look there first.";
+
+pub(crate) const CHECK_EPILOGUE: &str = "\
+For each block it prints 'block' and its number, and then a line for each node and for
+each longest run of erased flash or dirt, with its address, kind and number of bytes.
+The last line has the totals. Findings are damaged, compressed, attribute, read-only and
+incompatible nodes, and runs of dirt or of words in the other byte order.
+
+Then comes the verdict, unless --scan is given: 'mount ok', 'mount ok read-only', or
+'mount refused' and why. After an ok, 'dangling' tells of a name without an object.
+
+Examples:
+  jffs2_image check flash.img
+  jffs2_image check --scan --endian big --block 131072 flash.img
+
+Exit status:
+  0  done, and nothing was found
+  1  a fault, which standard error names
+  2  the command line is wrong
+  3  a finding, an image that does not mount, or a name without an object";
+
+pub(crate) const LIST_EPILOGUE: &str = "\
+The root is the first line. A directory stands before what lies in it, and names are in
+byte order. A line is
+
+  KIND MODE UID GID SIZE MTIME INO PATH
+
+  KIND   - regular file, d directory, l symlink, c character device, b block device,
+         p FIFO, s socket, ? anything else
+  MODE   the low 12 bits of the mode, as four octal digits
+  SIZE   bytes
+  MTIME  seconds since 1970
+  INO    inode number
+  PATH   from the root; a byte of a name that is no visible ASCII character, and
+         backslash and slash, are \\x and two hexadecimal digits
+
+' -> TARGET' follows the path of a symlink, escaped likewise, or ' -> (long)' where the
+target has more than 4095 bytes. ' (again)' follows a directory that was met before.
+
+Example:
+  jffs2_image ls --endian big flash.img
+
+Exit status:
+  0  done
+  1  a fault, which standard error names
+  2  the command line is wrong";
+
+pub(crate) const CAT_EPILOGUE: &str = "\
+The path begins with / and leads from the root by names, through directories alone:
+symlinks are not followed. A path can be given as ls prints it.
+
+Example:
+  jffs2_image cat --endian big flash.img /etc/passwd
+
+Exit status:
+  0  done
+  1  a fault, which standard error names
+  2  the command line is wrong";
+
+pub(crate) const BUILD_EPILOGUE: &str = "\
+A listing has an operation a line. Its words are apart by one space; empty lines and those
+that begin with # are skipped.
+
+  time T                    time of what follows, in seconds since 1970; 0 at first
+  owner UID GID             owner of what is made from here on; 0 0 at first
+  mkdir MODE PATH           makes a directory
+  create MODE PATH          makes an empty regular file
+  symlink PATH TARGET       makes a symlink
+  write PATH OFFSET HEX     writes bytes into a file
+  part PATH OFFSET FILE     writes the bytes of FILE, a file of this host, into a file
+  truncate PATH SIZE        cuts a file, or lets it grow by zeros
+  link OLD NEW              gives a file the further name NEW
+  rename OLD NEW            moves OLD to NEW, which must not be there yet
+  remove PATH               removes a name; a directory must be empty
+
+Numbers are decimal, MODE is octal, HEX is pairs of hexadecimal digits, or - for no bytes.
+In a path or a target, \\x and two hexadecimal digits are one byte: a space is \\x20.
+A listing of a small tree:
+
+  time 1000000000
+  mkdir 0755 /etc
+  create 0644 /etc/hostname
+  write /etc/hostname 0 626f780a
+  symlink /name etc/hostname
+  owner 1000 100
+  mkdir 0750 /home
+  create 0755 /home/start
+  part /home/start 0 files/start.sh
+
+To be written, blocks have 8192 bytes at least. OUT ends with the last node: the rest of
+the flash is erased, 0xFF. Where all was accepted, 'accepted A nodes N bytes B' is
+printed: A operations, the N nodes that they took, and their B bytes of the flash.
+
+The listing and each FILE are read before OUT is made. The first operation that is refused,
+or for which there is no room, is the last: the fault has the number of its line, and OUT
+holds what was accepted before it.
+
+Example:
+  jffs2_image build --block 131072 --blocks 64 tree.txt flash.img
+
+Exit status:
+  0  done
+  1  a fault, which standard error names
+  2  the command line is wrong";
+
+pub(crate) const APPEND_EPILOGUE: &str = "\
+OUT begins with the bytes of IMAGE. Writing goes on at the first block from which on all
+blocks are blank, that is erased or with a clean marker alone. What is free in the blocks
+before it is not used. 'jffs2_image help build' tells what a listing is, what is printed,
+and what OUT holds after a fault.
+
+IMAGE and OUT can be one file, since IMAGE is held in memory before OUT is made. But if
+the power, the host or the disk fails while OUT is written, the old bytes are gone. To be
+safe write another file, and give it the old name when append has ended well.
+
+Examples:
+  jffs2_image append --blocks 64 flash.img more.txt new.img
+  jffs2_image append --blocks 64 flash.img more.txt new.img && mv new.img flash.img
+
+Exit status:
+  0  done
+  1  a fault, which standard error names
+  2  the command line is wrong";
