@@ -1,5 +1,5 @@
 -- What a run of the program does: to standard output, to standard error, and in its outcome.
-use Rattle.std.specs.Prelude.{◌≡◌, ◌⊎◌, ◌==◌, ℕ, Bool, true, false, IsFalse, List, Option, Some, None, Result, Ok, Err, IsErrOf, if◌then◌else◌, string_bytes}
+use Rattle.std.specs.Prelude.{◌≡◌, ◌⊎◌, ◌==◌, ℕ, Bool, true, false, IsFalse, List, [], Option, Some, None, Result, Ok, Err, IsErrOf, if◌then◌else◌, string_bytes}
 use Rattle.std.specs.Io.KnownBytes.{Appends, Keeps}
 use Rattle.flashbase.specs.Device.{next_count}
 use Rattle.jnode.specs.declared.order.Endian.{Endian}
@@ -13,7 +13,7 @@ use Rattle.jreport.specs.Stream.{PutsStream}
 use Rattle.jreport.specs.Paths.{path_of}
 use Rattle.jreport.specs.declared.faults.ProgramFault.{ProgramFault}
 use Rattle.jreport.specs.declared.faults.ProgramFault.TheVariants as program
-use Rattle.jcommand.specs.Parsed.{Parsed, ScanParsed, CheckParsed, ListParsed, CatParsed, IsFaultless, IsHelpRequested, IsRefusedByClap, IsUnreadable, parsed_from, view}
+use Rattle.jcommand.specs.Parsed.{Parsed, ScanParsed, CheckParsed, ListParsed, CatParsed, BuildParsed, AppendParsed, IsFaultless, IsHelpRequested, IsRefusedByClap, IsUnreadable, parsed_from, view}
 use Rattle.jcommand.specs.declared.parsed.Options.{Options}
 use Rattle.jcommand.specs.declared.parsed.Request.{Request}
 use Rattle.jcommand.specs.declared.command_line.RequestFault.{RequestFault}
@@ -21,6 +21,7 @@ use Rattle.jcommand.specs.declared.command_line.RequestFault.TheVariants as refu
 use Rattle.jcommand.specs.Status.{outcome_of}
 use Rattle.jcommand.specs.declared.outcome.Outcome.{Outcome}
 use Rattle.jcommand.specs.declared.outcome.Outcome.TheVariants as outcome
+use Rattle.jffs2_image.specs.Writes.{IsUnread, Writes}
 use Rattle.jffs2_image.specs.declared.program.Success.{Success}
 use Rattle.jffs2_image.specs.declared.program.Success.TheVariants as success
 use Rattle.jffs2_image.specs.declared.program.Stop.{Stop}
@@ -33,12 +34,8 @@ options_parsed (ScanParsed options image) = options
 options_parsed (CheckParsed options image) = options
 options_parsed (ListParsed options image) = options
 options_parsed (CatParsed options image path) = options
-
-abbrev pub image_parsed : Parsed → List ℕ
-image_parsed (ScanParsed options image) = image
-image_parsed (CheckParsed options image) = image
-image_parsed (ListParsed options image) = image
-image_parsed (CatParsed options image path) = image
+options_parsed (BuildParsed options blocks listing output) = options
+options_parsed (AppendParsed options blocks image listing output) = options
 
 -- whether `check` found anything, as a number
 abbrev pub number_found : Bool → ℕ
@@ -56,13 +53,27 @@ PutsAnswer e (CheckParsed options name) = PutsJudged e options.geometry.block
 PutsAnswer e (ListParsed options name) = PutsListing e options.geometry.block
 PutsAnswer e (CatParsed options name word) = λ image old new before now answer.
     (path : List ℕ) × (path_of word ≡ Some path) × PutsFile e options.geometry.block image path old new before now answer
+PutsAnswer e (BuildParsed options blocks listing output) = λ image old new before now answer.
+    (image ≡ []) × ((text : List ℕ) × Writes e options.geometry.block blocks output image text old new before now answer)
+PutsAnswer e (AppendParsed options blocks name listing output) = λ image old new before now answer.
+    (text : List ℕ) × Writes e options.geometry.block blocks output image text old new before now answer
 
--- why no image is read: its file can't be opened, or the word of the path can't be read
+-- its file can't be opened
+abbrev pub IsUnopened : List ℕ → ProgramFault → Type 0
+IsUnopened file (program.File name) = name.now ≡ file
+IsUnopened file _ = ⊥
+
+-- why no image is read: its file can't be opened, or the word of the path can't be read; where an image is written, it or
+-- the listing can't be opened, or not be read to its end
 abbrev pub IsEarlyFault : Parsed → ProgramFault → Type 0
-IsEarlyFault parsed (program.File name) = name.now ≡ image_parsed parsed
+IsEarlyFault (ScanParsed options image) fault = IsUnopened image fault
+IsEarlyFault (CheckParsed options image) fault = IsUnopened image fault
+IsEarlyFault (ListParsed options image) fault = IsUnopened image fault
 IsEarlyFault (CatParsed options image word) (program.Path find.BadPath) = path_of word ≡ None
 IsEarlyFault (CatParsed options image word) program.OutOfMemory = Unit {0}
-IsEarlyFault _ _ = ⊥
+IsEarlyFault (CatParsed options image word) fault = IsUnopened image fault
+IsEarlyFault (BuildParsed options blocks listing output) fault = IsUnread listing fault
+IsEarlyFault (AppendParsed options blocks image listing output) fault = IsUnread image fault ⊎ IsUnread listing fault
 
 -- A request is met in the byte order e: there is an image of which the answer is put, or a fault comes before any is read.
 pub record Meets (e : Endian) (parsed : Parsed) (old new : Option (List ℕ)) (before now : ℕ) (answer : Result ℕ ProgramFault) : Type 0 where
@@ -99,6 +110,8 @@ success_of (ScanParsed options image) n = success.Found n
 success_of (CheckParsed options image) n = success.Found n
 success_of (ListParsed options image) n = success.Shown n
 success_of (CatParsed options image path) n = success.Shown n
+success_of (BuildParsed options blocks listing output) n = success.Shown n
+success_of (AppendParsed options blocks image listing output) n = success.Shown n
 
 -- the output failed, once or twice
 abbrev pub HasFailed : ℕ → ℕ → Type 0

@@ -1,11 +1,12 @@
-//! Reads flash images of JFFS2: the program `jffs2_image`.
+//! Reads and writes flash images of JFFS2: the program `jffs2_image`.
 //!
-//! `jcommand` reads the command line, and `program` opens files and lets `jreport` do the work over them. `main` hands
-//! over the process's arguments and streams.
+//! `jcommand` reads the command line, `program` opens files and lets `jreport` do the work over them, and `writing` makes
+//! images by `jbuild`. `main` hands over the process's arguments and streams.
 #![tactic(auto)]
 
 pub mod output;
 pub mod program;
+pub mod writing;
 
 use flashbase::FromWriter;
 use jcommand::{Outcome, status};

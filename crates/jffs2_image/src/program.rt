@@ -1,11 +1,12 @@
 //! The program on its arguments: it opens the image, lets `jreport` do the work, and says how that ended.
 ghost use Rattle.std.specs.Prelude.{◌≡◌, IfErr, OnOk, Some, map};
 ghost use Rattle.std.specs.Io.KnownBytes.{Appends};
-ghost use Rattle.jcommand.specs.Parsed.{Parsed, ScanParsed, CheckParsed, ListParsed, CatParsed, options_of, view};
+ghost use Rattle.jcommand.specs.Parsed.{Parsed, ScanParsed, CheckParsed, ListParsed, CatParsed, BuildParsed, AppendParsed, options_of, view};
 ghost use Rattle.jreport.specs.Faults.{fault_line_of};
 ghost use Rattle.jffs2_image.specs.Runs.{HasFailed, Meets, MeetsCommand, MeetsWhole, Runs, Says, note_after, success_of};
 
 use crate::output::Output;
+use crate::writing::{Target, load_file, write_image};
 use byteorder::{BigEndian, LittleEndian};
 use flashbase::{FromReader, Sink, put_all};
 use jcommand::{Options, Outcome, Request, RequestFault, request};
@@ -97,10 +98,47 @@ fn cat<'a, E: Order, R: Files + AllocGlobal, T: Sink>(
     file_bytes::<E, _, _>(rt.alloc(), &mut source, options.geometry, &path, sink)
 }
 
+/// `build`: an image of what a listing makes of an empty file system. The listing's text is kept, since a fault may name a
+/// part of it.
+fn build<'a, E: Order, R: Files + AllocGlobal, T: Sink>(
+    rt: &R,
+    target: Target<'a>,
+    listing: &'a str,
+    text: &'a mut Vec<u8>,
+    sink: &mut T,
+) -> Result<u64, ProgramFault<'a>>
+    ensures { (options : Options) → options.geometry ≡ target.entry.geometry
+        → Meets E.order (BuildParsed options target.entry.blocks listing.entry.now target.entry.output.now) (T.taken sink.old) (T.taken sink.new) (T.failures sink.old) (T.failures sink.new) result }
+{
+    *text = load_file(rt, listing)?;
+    write_image::<E, _, _>(rt, target, &[], text.as_slice(), sink)?;
+    Ok(0)
+}
+
+/// `append`: an image with what a listing makes of its file system. It is held in memory before the file is made, so the two
+/// may be one. The listing's text is kept, since a fault may name a part of it.
+fn append<'a, E: Order, R: Files + AllocGlobal, T: Sink>(
+    rt: &R,
+    target: Target<'a>,
+    image: &'a str,
+    listing: &'a str,
+    text: &'a mut Vec<u8>,
+    sink: &mut T,
+) -> Result<u64, ProgramFault<'a>>
+    ensures { (options : Options) → options.geometry ≡ target.entry.geometry
+        → Meets E.order (AppendParsed options target.entry.blocks image.entry.now listing.entry.now target.entry.output.now) (T.taken sink.old) (T.taken sink.new) (T.failures sink.old) (T.failures sink.new) result }
+{
+    let base = load_file(rt, image)?;
+    *text = load_file(rt, listing)?;
+    write_image::<E, _, _>(rt, target, &base, text.as_slice(), sink)?;
+    Ok(0)
+}
+
 /// Runs the request in the byte order `E`, and answers how much was found.
 fn run_in_order<'a, E: Order, R: Files + AllocGlobal, T: Sink>(
     rt: &R,
     request: Request<'a>,
+    text: &'a mut Vec<u8>,
     sink: &mut T,
 ) -> Result<u64, ProgramFault<'a>>
     ensures { Meets E.order (view request.entry) (T.taken sink.old) (T.taken sink.new) (T.failures sink.old) (T.failures sink.new) result }
@@ -114,6 +152,25 @@ fn run_in_order<'a, E: Order, R: Files + AllocGlobal, T: Sink>(
             image,
             path,
         } => cat::<E, _, _>(rt, options, image, path, sink),
+        Request::Build {
+            options,
+            blocks,
+            listing,
+            output,
+        } => {
+            let target = Target { geometry: options.geometry, blocks, output };
+            build::<E, _, _>(rt, target, listing, text, sink)
+        }
+        Request::Append {
+            options,
+            blocks,
+            image,
+            listing,
+            output,
+        } => {
+            let target = Target { geometry: options.geometry, blocks, output };
+            append::<E, _, _>(rt, target, image, listing, text, sink)
+        }
     }
 }
 
@@ -121,13 +178,14 @@ fn run_in_order<'a, E: Order, R: Files + AllocGlobal, T: Sink>(
 fn run_request<'a, R: Files + AllocGlobal, T: Sink>(
     rt: &R,
     request: Request<'a>,
+    text: &'a mut Vec<u8>,
     sink: &mut T,
 ) -> Result<u64, ProgramFault<'a>>
     ensures { Meets (options_of request.entry).endian (view request.entry) (T.taken sink.old) (T.taken sink.new) (T.failures sink.old) (T.failures sink.new) result }
 {
     match request.options().endian {
-        Endian::Little => run_in_order::<LittleEndian, _, _>(rt, request, sink),
-        Endian::Big => run_in_order::<BigEndian, _, _>(rt, request, sink),
+        Endian::Little => run_in_order::<LittleEndian, _, _>(rt, request, text, sink),
+        Endian::Big => run_in_order::<BigEndian, _, _>(rt, request, text, sink),
     }
 }
 
@@ -135,11 +193,12 @@ fn run_request<'a, R: Files + AllocGlobal, T: Sink>(
 fn run_whole<'a, R: Files + AllocGlobal, T: Output>(
     rt: &R,
     request: Request<'a>,
+    text: &'a mut Vec<u8>,
     output: &mut T,
 ) -> Result<u64, ProgramFault<'a>>
     ensures { MeetsWhole (view request.entry) (T.taken output.old) (T.given output.new) (T.failures output.old) (T.failures output.new) result }
 {
-    let answer = run_request(rt, request, output);
+    let answer = run_request(rt, request, text, output);
     let finished = output.finish();
     let findings = answer?;
     match finished {
@@ -167,7 +226,10 @@ fn as_success(request: &Request<'_>, findings: u64) -> Success
 {
     match request {
         Request::Scan { .. } | Request::Check { .. } => Success::Found(findings),
-        Request::List { .. } | Request::Cat { .. } => Success::Shown(findings),
+        Request::List { .. }
+        | Request::Cat { .. }
+        | Request::Build { .. }
+        | Request::Append { .. } => Success::Shown(findings),
     }
 }
 
@@ -175,12 +237,13 @@ fn as_success(request: &Request<'_>, findings: u64) -> Success
 fn run_command<'a, R: Files + AllocGlobal, T: Output>(
     rt: &R,
     command: Result<Request<'a>, RequestFault>,
+    text: &'a mut Vec<u8>,
     output: &mut T,
 ) -> Result<Success, Stop<'a>>
     ensures { MeetsCommand command.entry (T.taken output.old) (T.given output.new) (T.failures output.old) (T.failures output.new) result }
 {
     match command {
-        Ok(request) => match run_whole(rt, request, output) {
+        Ok(request) => match run_whole(rt, request, text, output) {
             Ok(findings) => Ok(as_success(&request, findings)),
             Err(fault) => Err(Stop::Fault(fault)),
         },
@@ -236,7 +299,8 @@ pub fn run<R: Files + AllocGlobal, T: Output, E: Sink>(
     ensures { Runs (map (λ w. w.now) args.now) (T.taken output.old) (T.given output.new) (T.failures output.old) (T.failures output.new)
         (Says (errors.new ≡ errors.old) (E.taken errors.old) (E.taken errors.new) (E.failures errors.old) (E.failures errors.new)) result }
 {
-    match run_command(rt, request(rt.alloc(), args), output) {
+    let mut text = Vec::new(rt.alloc());
+    match run_command(rt, request(rt.alloc(), args), &mut text, output) {
         Ok(Success::Found(findings)) => Outcome::of(findings),
         Ok(Success::Shown(findings)) => note(findings, errors),
         Err(Stop::Usage { text }) => report_usage(text.as_str(), errors),

@@ -221,6 +221,8 @@ line_failed s w n name i names set (program.Load f) old new before now read put 
 line_failed s w n name i names set (program.Scan f) old new before now read put = absurd put
 line_failed s w n name i names set (program.Mount f) old new before now read put = absurd put
 line_failed s w n name i names set (program.File f) old new before now read put = absurd put
+line_failed s w n name i names set (program.Listing line) old new before now read put = absurd put
+line_failed s w n name i names set (program.Session fault line) old new before now read put = absurd put
 line_failed s w n name i names set (program.Path f) old new before now read put = absurd put
 line_failed s w n name i names set program.NotRegular old new before now read put = absurd put
 
@@ -311,6 +313,8 @@ root_failed T s empty set (program.Load f) old new before now none put = absurd 
 root_failed T s empty set (program.Scan f) old new before now none put = absurd put
 root_failed T s empty set (program.Mount f) old new before now none put = absurd put
 root_failed T s empty set (program.File f) old new before now none put = absurd put
+root_failed T s empty set (program.Listing line) old new before now none put = absurd put
+root_failed T s empty set (program.Session fault line) old new before now none put = absurd put
 root_failed T s empty set (program.Path f) old new before now none put = absurd put
 root_failed T s empty set program.NotRegular old new before now none put = absurd put
 
@@ -341,6 +345,8 @@ stopped T s w n (program.Load f) a b c first before now far same put = absurd pu
 stopped T s w n (program.Scan f) a b c first before now far same put = absurd put
 stopped T s w n (program.Mount f) a b c first before now far same put = absurd put
 stopped T s w n (program.File f) a b c first before now far same put = absurd put
+stopped T s w n (program.Listing line) a b c first before now far same put = absurd put
+stopped T s w n (program.Session fault line) a b c first before now far same put = absurd put
 stopped T s w n (program.Path f) a b c first before now far same put = absurd put
 stopped T s w n program.NotRegular a b c first before now far same put = absurd put
 

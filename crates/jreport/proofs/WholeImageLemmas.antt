@@ -184,6 +184,8 @@ verdict_ends e size image a b c before mid now findings (program.Mount mount.Roo
 verdict_ends e size image a b c before mid now findings (program.Load f) report put = absurd put
 verdict_ends e size image a b c before mid now findings (program.Scan f) report put = absurd put
 verdict_ends e size image a b c before mid now findings (program.File f) report put = absurd put
+verdict_ends e size image a b c before mid now findings (program.Listing line) report put = absurd put
+verdict_ends e size image a b c before mid now findings (program.Session fault line) report put = absurd put
 verdict_ends e size image a b c before mid now findings (program.Path f) report put = absurd put
 verdict_ends e size image a b c before mid now findings program.NotRegular report put = absurd put
 
@@ -278,6 +280,8 @@ tree_failed X e size items present m a b before now f (Err x) is same answers pu
     by (program.Scan f) p = p
     by (program.Mount f) p = p
     by (program.File f) p = p
+    by (program.Listing line) p = p
+    by (program.Session fault line) p = p
     by (program.Path f) p = p
     by program.NotRegular p = p
 

@@ -1,5 +1,5 @@
 -- The texts of faults: a number and a name, and then the parts.
-use Rattle.std.specs.Prelude.{ℕ, List, [], ◌∷◌, ◌++◌, Option, codes, decimal}
+use Rattle.std.specs.Prelude.{ℕ, List, [], ◌∷◌, ◌++◌, Option, Some, None, codes, decimal}
 use Rattle.std.specs.Io.KnownBytes.{Appends}
 use Rattle.flashbase.specs.declared.source.LoadFault.{LoadFault}
 use Rattle.flashbase.specs.declared.source.LoadFault.TheVariants as load
@@ -11,6 +11,12 @@ use Rattle.jmount.specs.declared.fault.FindFault.{FindFault}
 use Rattle.jmount.specs.declared.fault.FindFault.TheVariants as find
 use Rattle.jscan.specs.declared.stream.StreamFault.{StreamFault}
 use Rattle.jscan.specs.declared.stream.StreamFault.TheVariants as stream
+use Rattle.jsteps.specs.declared.fault.OpFault.{OpFault}
+use Rattle.jsteps.specs.declared.fault.OpFault.TheVariants as op
+use Rattle.jlog.specs.declared.fault.SessionFault.{SessionFault}
+use Rattle.jlog.specs.declared.fault.SessionFault.TheVariants as session
+use Rattle.jlisting.specs.declared.fault.ListingFault.{ListingFault}
+use Rattle.jlisting.specs.declared.fault.ListingFault.TheVariants as listing
 use Rattle.jline.specs.Words.{hex, in_line}
 use Rattle.jreport.specs.declared.report_fault.ReportFault.{ReportFault}
 use Rattle.jreport.specs.declared.report_fault.ReportFault.TheVariants as report
@@ -47,11 +53,48 @@ find_text find.BadPath = codes "P3 Path BadPath"
 find_text find.NotFound = codes "P3 Path NotFound"
 find_text find.NotDirectory = codes "P3 Path NotDirectory"
 
+-- why an operation is refused
+unfoldable pub op_text : OpFault → List ℕ
+op_text op.BadPath = codes "O1 BadPath"
+op_text op.NameTooLong = codes "O2 NameTooLong"
+op_text op.NotFound = codes "O3 NotFound"
+op_text op.NotDirectory = codes "O4 NotDirectory"
+op_text op.Exists = codes "O5 Exists"
+op_text op.WrongKind = codes "O6 WrongKind"
+op_text op.NotEmpty = codes "O7 NotEmpty"
+op_text op.IntoItself = codes "O8 IntoItself"
+op_text op.TooLarge = codes "O9 TooLarge"
+op_text op.BadMode = codes "O10 BadMode"
+op_text op.BadTarget = codes "O11 BadTarget"
+op_text op.Exhausted = codes "O12 Exhausted"
+op_text op.OutOfMemory = codes "O13 OutOfMemory"
+
+-- why a session refuses or stopped
+unfoldable pub session_text : SessionFault → List ℕ
+session_text (session.Refused fault) = codes "S1 Refused " ++ op_text fault
+session_text (session.Full needed free) = codes "S2 Full needed " ++ decimal needed ++ codes " free " ++ decimal free
+session_text session.ReadOnly = codes "S3 ReadOnly"
+session_text session.Sink = codes "S4 Sink"
+session_text session.OutOfMemory = codes "S5 OutOfMemory"
+session_text session.Broken = codes "S6 Broken"
+session_text session.Geometry = codes "S7 Geometry"
+
+-- the line of a listing
+abbrev pub line_text : ℕ → List ℕ
+line_text n = codes " line " ++ decimal n
+
+-- the line of the operation, if it came to one
+abbrev pub line_text_of : Option ℕ → List ℕ
+line_text_of None = []
+line_text_of (Some n) = line_text n
+
 unfoldable pub fault_text_of : ProgramFault → List ℕ
 fault_text_of (program.Load fault) = load_text fault
 fault_text_of (program.Scan fault) = scan_fault_text fault
 fault_text_of (program.Mount fault) = mount_text fault
 fault_text_of (program.File name) = codes "P1 File " ++ name.now
+fault_text_of (program.Listing n) = codes "P2 Listing" ++ line_text n
+fault_text_of (program.Session fault line) = session_text fault ++ line_text_of line
 fault_text_of (program.Path fault) = find_text fault
 fault_text_of program.NotRegular = codes "P4 NotRegular"
 fault_text_of program.Output = codes "P5 Output"
@@ -72,6 +115,11 @@ fault_of_stream stream.BlockSize = program.Scan scan.BlockSize
 fault_of_stream stream.Device = program.Load load.Device
 fault_of_stream stream.TooLarge = program.Load load.TooLarge
 fault_of_stream stream.OutOfMemory = program.Load load.OutOfMemory
+
+-- the program's fault that a listing's fault is
+abbrev pub fault_of_listing : ListingFault → ProgramFault
+fault_of_listing (listing.Line n) = program.Listing n
+fault_of_listing listing.OutOfMemory = program.OutOfMemory
 
 -- the line of a fault went out
 abbrev pub ReportsFault : Option (List ℕ) → Option (List ℕ) → Type 0

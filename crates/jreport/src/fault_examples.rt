@@ -1,7 +1,9 @@
 //! Worked texts of faults.
-ghost use Rattle.std.specs.Prelude.{◌≡◌, codes};
+ghost use Rattle.std.specs.Prelude.{◌≡◌, Some, None, codes};
 ghost use Rattle.flashbase.specs.declared.source.LoadFault.TheVariants as load;
 ghost use Rattle.jscan.specs.declared.geometry.ScanFault.TheVariants as scan;
+ghost use Rattle.jsteps.specs.declared.fault.OpFault.TheVariants as op;
+ghost use Rattle.jlog.specs.declared.fault.SessionFault.TheVariants as session;
 ghost use Rattle.jreport.specs.Faults.{fault_text_of};
 ghost use Rattle.jreport.specs.declared.faults.ProgramFault.TheVariants as fault;
 
@@ -12,4 +14,14 @@ pub fn known_fault_texts()
     ensures block_size { fault_text_of (fault.Scan scan.BlockSize) ≡ codes "C1 BlockSize" }
     ensures incompatible { fault_text_of (fault.Scan (scan.Incompatible 12 0xE0F7)) ≡ codes "C3 Incompatible at 0000000c type e0f7" }
     ensures output { fault_text_of fault.Output ≡ codes "P5 Output" }
+{}
+
+/// The texts of what a listing and a session refuse.
+#[tactic(auto, unfolding(crate::specs::Faults::fault_text_of, crate::specs::Faults::session_text, crate::specs::Faults::op_text))]
+pub fn known_session_texts()
+    ensures listing { fault_text_of (fault.Listing 3) ≡ codes "P2 Listing line 3" }
+    ensures refused { fault_text_of (fault.Session (session.Refused op.Exists) (Some 2)) ≡ codes "S1 Refused O5 Exists line 2" }
+    ensures full { fault_text_of (fault.Session (session.Full 4164 3904) (Some 3)) ≡ codes "S2 Full needed 4164 free 3904 line 3" }
+    ensures sink { fault_text_of (fault.Session session.Sink None) ≡ codes "S4 Sink" }
+    ensures geometry { fault_text_of (fault.Session session.Geometry None) ≡ codes "S7 Geometry" }
 {}

@@ -6,8 +6,11 @@ ghost use Rattle.jline.specs.Words.{in_line};
 ghost use Rattle.jreport.specs.Faults.{fault_line_of, fault_text_of, find_text, load_text, mount_text, scan_fault_text};
 
 use crate::report_fault::ReportFault;
+use crate::session_fault::{push_line, push_session};
 use flashbase::{DeviceFault, LoadFault, PutFault, Sink, put_all};
 use jline::{LineBuffer, put_in_line, put_text};
+use jlisting::ListingFault;
+use jlog::SessionFault;
 use jmount::{FindFault, MountFault};
 use jscan::{ScanFault, StreamFault};
 use std::alloc::{AllocError, AllocFailed};
@@ -23,6 +26,13 @@ pub enum ProgramFault<'a> {
     Mount(MountFault),
     /// The file of this name can't be opened.
     File(&'a str),
+    /// A line of the listing means nothing.
+    Listing { line: usize },
+    /// Nothing was written, or writing stopped, at the operation of a line of the listing if it came to one.
+    Session {
+        fault: SessionFault,
+        line: Option<usize>,
+    },
     /// The path names nothing.
     Path(FindFault),
     /// What the path names is no regular file.
@@ -69,6 +79,30 @@ impl From<FindFault> for ProgramFault<'_> {
 
     fn from(fault: FindFault) -> Self {
         ProgramFault::Path(fault)
+    }
+}
+
+impl From<SessionFault> for ProgramFault<'_> {
+    ghost use Rattle.std.specs.Prelude.{None};
+    ghost use Rattle.jreport.specs.declared.faults.ProgramFault.TheVariants.{Session};
+
+    ghost from_gives = { λ fault e. e ≡ Session fault None };
+
+    fn from(fault: SessionFault) -> Self {
+        ProgramFault::Session { fault, line: None }
+    }
+}
+
+impl From<ListingFault> for ProgramFault<'_> {
+    ghost use Rattle.jreport.specs.Faults.{fault_of_listing};
+
+    ghost from_gives = { λ fault e. e ≡ fault_of_listing fault };
+
+    fn from(fault: ListingFault) -> Self {
+        match fault {
+            ListingFault::Line(line) => ProgramFault::Listing { line },
+            ListingFault::OutOfMemory => ProgramFault::OutOfMemory,
+        }
     }
 }
 
@@ -223,6 +257,19 @@ fn push_fault<'a>(line: &mut LineBuffer, fault: &ProgramFault<'a>) -> &'a str
         ProgramFault::File(name) => {
             line.push_text(b"P1 File ");
             return name;
+        }
+        ProgramFault::Listing { line: number } => {
+            line.push_text(b"P2 Listing");
+            push_line(line, number);
+        }
+        ProgramFault::Session {
+            fault,
+            line: number,
+        } => {
+            push_session(line, fault);
+            if let Some(number) = number {
+                push_line(line, number);
+            }
         }
         ProgramFault::Path(fault) => push_find(line, fault),
         ProgramFault::NotRegular => line.push_text(b"P4 NotRegular"),

@@ -2,7 +2,7 @@
 //! files.
 //!
 //! It is built on `jline` (lines of text), `jscan` (the extents of an image) and `jmount` (the file system that its nodes
-//! make). Its promise to the program: what goes to a sink is the text of the bytes that were read, and a fault says why
+//! make); faults of `jlog` and `jlisting` are among those that it spells. Its promise to the program: what goes to a sink is the text of the bytes that were read, and a fault says why
 //! no more of it did.
 //!
 //! `specs/Report.antt` says what the report of an image is, `specs/Verdict.antt` what is said of its mount,
@@ -23,6 +23,7 @@ mod paths;
 mod report;
 pub mod report_examples;
 mod report_fault;
+mod session_fault;
 mod stream;
 mod tree;
 pub mod tree_laws;

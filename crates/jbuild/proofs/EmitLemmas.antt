@@ -1,0 +1,65 @@
+-- What went out for a base, and for a run on it.
+use Rattle.std.proofs.Common.{◌≡◌, ℕ, Bool, true, false, List, Option, Result, Ok, Err, sym, ap, ◌∙◌, subst}
+use Rattle.std.specs.Prelude.{is_err}
+use Rattle.std.specs.Io.KnownBytes.{Appends}
+use Rattle.flashbase.specs.Device.{Puts}
+use Rattle.jnode.specs.declared.order.Endian.{Endian}
+use Rattle.jsteps.specs.Nodes.{Indexed}
+use Rattle.jsteps.specs.Planning.{plain_page}
+use Rattle.jsteps.specs.Refusals.{steps_of_first}
+use Rattle.jsteps.specs.declared.op.Op.{Op}
+use Rattle.jlog.specs.Headline.{index_of_image, Survives}
+use Rattle.jlog.specs.Left.{front_of}
+use Rattle.jlog.specs.Session.{IsFresh, Runs, attempted}
+use Rattle.jlog.specs.declared.fault.SessionFault.{SessionFault}
+use Rattle.jlog.specs.declared.report.Place.{Place}
+use Rattle.jbuild.specs.Emitting.{IsEmitted}
+
+number_or_zero : {E : Type 0} → Result ℕ E → ℕ
+number_or_zero (Ok n) = n
+number_or_zero (Err e) = 0
+
+pub same_number : {E : Type 0} (r : Result ℕ E) (a b : ℕ) → r ≡ Ok a → r ≡ Ok b → a ≡ b
+unfolding number_or_zero
+same_number r a b one other = ap number_or_zero (sym one ∙ other)
+
+-- what did not fail put all
+pub puts_all : {T E : Type 0} (old new : Option (List ℕ)) (before now : ℕ) (bytes : List ℕ) (r : Result T E) → is_err r ≡ false
+    → Puts old new before now bytes r → Appends old new bytes × (now ≡ before)
+puts_all old new before now bytes (Ok x) fine put = put
+puts_all old new before now bytes (Err e) fine put = cc
+
+-- a run from where the base is gone on from
+emitted_at : (e : Endian) (size blocks : ℕ) (base : List ℕ) (from : ℕ) (x : Indexed) (ops : List Op) (was : Bool) (n end : ℕ) (y : Indexed) (is : Bool)
+    (old between new : Option (List ℕ)) (before mid now : ℕ) (places : List Place) (stopped : Option SessionFault)
+    → IsFresh e size blocks base from x → was ≡ false → mid ≡ before → Appends old between (front_of base from)
+    → Runs plain_page e size blocks from x ops was n end y is between new mid now places stopped
+    → Survives e size blocks base (steps_of_first plain_page x ops (attempted n is))
+    → IsEmitted e size blocks base ops n places stopped old new before now
+emitted_at e size blocks base from x ops was n end y is old between new before mid now places stopped fresh whole same front runs survives = record {
+  between = between;
+  end = end;
+  index = y;
+  broken = is;
+  front = subst (λ (at : ℕ). Appends old between (front_of base at)) fresh.cursor_is front;
+  runs = subst (λ (at : ℕ). Runs plain_page e size blocks at (index_of_image e size base) ops false n end y is between new before now places stopped) fresh.cursor_is
+      (subst (λ (z : Indexed). Runs plain_page e size blocks from z ops false n end y is between new before now places stopped) fresh.index_is
+      (subst (λ (b : Bool). Runs plain_page e size blocks from x ops b n end y is between new before now places stopped) whole
+      (subst (λ (m : ℕ). Runs plain_page e size blocks from x ops was n end y is between new m now places stopped) same runs)));
+  survives = subst (λ (z : Indexed). Survives e size blocks base (steps_of_first plain_page z ops (attempted n is))) fresh.index_is survives;
+}
+
+-- the same, where the session's own words for the flash and the base are known
+pub emitted_by : (e : Endian) (size s blocks b : ℕ) (base image : List ℕ) (from at : ℕ) (x : Indexed) (ops : List Op) (was : Bool) (n end : ℕ) (y : Indexed) (is : Bool)
+    (old between new : Option (List ℕ)) (before mid now : ℕ) (places : List Place) (stopped : Option SessionFault)
+    → s ≡ size → b ≡ blocks → image ≡ base → at ≡ from
+    → IsFresh e s b image from x → was ≡ false → mid ≡ before → Appends old between (front_of base at)
+    → Runs plain_page e s b from x ops was n end y is between new mid now places stopped
+    → Survives e s b image (steps_of_first plain_page x ops (attempted n is))
+    → IsEmitted e size blocks base ops n places stopped old new before now
+emitted_by e size s blocks b base image from at x ops was n end y is old between new before mid now places stopped same_size same_blocks same_base same_at fresh whole same front runs survives =
+    subst (λ (z : List ℕ). IsEmitted e size blocks z ops n places stopped old new before now) same_base
+    (subst (λ (z : ℕ). IsEmitted e size z image ops n places stopped old new before now) same_blocks
+    (subst (λ (z : ℕ). IsEmitted e z b image ops n places stopped old new before now) same_size
+    (emitted_at e s b image from x ops was n end y is old between new before mid now places stopped fresh whole same
+    (subst (λ (z : List ℕ). Appends old between (front_of z from)) (sym same_base) (subst (λ (z : ℕ). Appends old between (front_of base z)) same_at front)) runs survives)))

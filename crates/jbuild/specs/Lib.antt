@@ -1,0 +1,4 @@
+pub mod Operations
+pub mod Parts
+pub mod Emitting
+pub mod Accepted

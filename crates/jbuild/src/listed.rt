@@ -1,0 +1,37 @@
+//! The operations of a listing.
+
+ghost use Rattle.std.specs.Prelude.{◌≡◌, IfOk};
+ghost use Rattle.jbuild.specs.Parts.{contents};
+ghost use Rattle.jbuild.specs.Operations.{op_in, ops_in};
+
+use crate::parts::Parts;
+use jlisting::Line;
+use jsteps::Op;
+use std::alloc::{AllocError, Global};
+
+/// The operation of a line.
+fn operation<'a>(line: Line<'a>, parts: &'a Parts<'_>) -> Op<'a>
+    ensures { result ≡ op_in (contents parts.now) line.entry }
+{
+    let bytes: &[u8] = match line.action.file() {
+        Some(name) => parts.bytes(name),
+        None => &[],
+    };
+    line.action.op(bytes)
+}
+
+/// The operations of the lines of a listing, in order. They borrow the bytes of the files that the lines name; one that was
+/// not read has none.
+pub fn operations<'a>(
+    alloc: Global,
+    lines: Vec<Line<'a>>,
+    parts: &'a Parts<'_>,
+) -> Result<Vec<Op<'a>>, AllocError>
+    ensures { IfOk result (λ ops. ops.items ≡ ops_in (contents parts.now) lines.entry.items) }
+{
+    let mut ops = Vec::with_capacity(alloc, lines.len())?;
+    for line in lines {
+        ops.push(operation(line, parts))?;
+    }
+    Ok(ops)
+}

@@ -1,0 +1,53 @@
+//! Files of the host that a listing names.
+
+ghost use Rattle.std.specs.Prelude.{◌≡◌, ℕ, List, bytes_eq, is_some, OnOk, OnErr, Some, None, if◌then◌else◌};
+ghost use Rattle.jbuild.specs.Parts.{contents, read_of};
+
+use std::alloc::{AllocError, Global};
+use std::collections::BTreeMap;
+
+/// Files of the host that were read: their bytes, by their names.
+#[derive(Drop)]
+pub struct Parts<'a> {
+    files: BTreeMap<&'a str, Vec<u8>>,
+}
+
+impl<'a> Parts<'a> {
+    /// None yet.
+    pub fn new(alloc: Global) -> Parts<'a>
+        ensures { (name : List ℕ) → read_of result name ≡ None }
+    {
+        Parts {
+            files: BTreeMap::new(alloc),
+        }
+    }
+
+    /// Whether the file of a name was read.
+    pub fn has(&self, name: &str) -> bool
+        ensures { result ≡ is_some (read_of self.now name.now) }
+    {
+        self.files.contains_key(name)
+    }
+
+    /// One more file, or new bytes of one.
+    ///
+    /// # Errors
+    /// Out of memory: nothing changes.
+    pub fn insert(&mut self, name: &'a str, bytes: Vec<u8>) -> Result<(), AllocError>
+        ensures ok { OnOk result ((n : List ℕ) → read_of self.new n ≡ (if bytes_eq name.now n then Some bytes.items else read_of self.old n)) }
+        ensures err { OnErr result ((n : List ℕ) → read_of self.new n ≡ read_of self.old n) }
+    {
+        self.files.insert(name, bytes)?;
+        Ok(())
+    }
+
+    /// The bytes of a file. One that was not read has none.
+    pub(crate) fn bytes(&self, name: &str) -> &[u8]
+        ensures { result.now ≡ contents self.now name.now }
+    {
+        match self.files.get(name) {
+            Some(bytes) => bytes.as_slice(),
+            None => &[],
+        }
+    }
+}

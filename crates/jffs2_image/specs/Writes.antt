@@ -1,0 +1,98 @@
+-- What a command that writes an image does.
+use Rattle.std.specs.Prelude.{◌≡◌, ◌⊎◌, ℕ, List, Any, slice_get, option_map, Option, Some, None, Result, Ok, Err, IsOk}
+use Rattle.std.specs.Io.KnownBytes.{Appends}
+use Rattle.flashbase.specs.Device.{PutsPart, next_count}
+use Rattle.jnode.specs.declared.order.Endian.{Endian}
+use Rattle.jmount.specs.Mount.{Mount}
+use Rattle.jmount.specs.Mounts.{Answers}
+use Rattle.jsteps.specs.declared.op.Op.{Op}
+use Rattle.jlisting.specs.Listing.{file_of, lines_of}
+use Rattle.jlisting.specs.declared.line.Line.{Line}
+use Rattle.jlog.specs.Headline.{resume_address}
+use Rattle.jlog.specs.Resuming.{resumes_at}
+use Rattle.jlog.specs.declared.fault.SessionFault.{SessionFault}
+use Rattle.jlog.specs.declared.fault.SessionFault.TheVariants as session
+use Rattle.jlog.specs.declared.report.Place.{Place}
+use Rattle.jbuild.specs.Accepted.{accepted_line}
+use Rattle.jbuild.specs.Emitting.{IsEmitted}
+use Rattle.jbuild.specs.Operations.{ops_in}
+use Rattle.jreport.specs.declared.faults.ProgramFault.{ProgramFault}
+use Rattle.jreport.specs.declared.faults.ProgramFault.TheVariants as program
+
+-- a file of this name can't be opened, or not be read to its end
+abbrev pub IsUnread : List ℕ → ProgramFault → Type 0
+IsUnread file (program.File name) = name.now ≡ file
+IsUnread file (program.Load fault) = Unit {0}
+IsUnread file _ = ⊥
+
+-- a line names this file of the host
+abbrev pub IsNamed : List Line → List ℕ → Type 0
+IsNamed lines name = Any (λ line. file_of line.action ≡ Some name) lines
+
+-- a file that a line names can't be read, or there is no memory for it
+abbrev pub IsPartUnread : List Line → ProgramFault → Type 0
+IsPartUnread lines (program.File name) = IsNamed lines name.now
+IsPartUnread lines (program.Load fault) = Unit {0}
+IsPartUnread lines program.OutOfMemory = Unit {0}
+IsPartUnread lines _ = ⊥
+
+-- ---- what goes out to the file that is made
+
+-- A file was made: the operations were run on the base that is mounted, and this is what they did.
+pub record IsMade (e : Endian) (size blocks : ℕ) (m : Mount) (ops : List Op) (accepted : ℕ) (places : List Place) (stopped : Option SessionFault) : Type 0 where
+  pub old : Option (List ℕ)
+  pub new : Option (List ℕ)
+  pub before : ℕ
+  pub now : ℕ
+  pub resumes : IsOk (resumes_at e size blocks m)
+  pub emitted : IsEmitted e size blocks m.image ops accepted places stopped old new before now
+
+-- The lines of the listing were run on a base, with some bytes for the files that they name: so many were accepted, their
+-- nodes have these places, and this stopped them. What they did survives a stop of writing at any byte.
+pub record IsRunOn (e : Endian) (size blocks : ℕ) (base text : List ℕ) (lines : List Line) (accepted : ℕ) (places : List Place) (stopped : Option SessionFault) : Type 0 where
+  pub mount : Mount
+  pub files : List ℕ → List ℕ
+  pub read : lines_of text ≡ Ok lines
+  pub mounts : Answers e size base (Ok mount)
+  pub made : IsMade e size blocks mount (ops_in files lines) accepted places stopped
+
+-- Why no operation was run: the image is not gone on from; or the file that is made failed, or memory ran out.
+abbrev pub IsNotGoneOn : Endian → ℕ → ℕ → Mount → SessionFault → Type 0
+IsNotGoneOn e size blocks m session.Sink = IsOk (resumes_at e size blocks m)
+IsNotGoneOn e size blocks m session.OutOfMemory = IsOk (resumes_at e size blocks m)
+IsNotGoneOn e size blocks m fault = resumes_at e size blocks m ≡ Err fault
+
+-- why no file was made, or not to its end
+abbrev pub IsNotMade : Endian → ℕ → ℕ → Mount → List ℕ → ProgramFault → Type 0
+IsNotMade e size blocks m output (program.File name) = name.now ≡ output
+IsNotMade e size blocks m output (program.Session fault None) = IsNotGoneOn e size blocks m fault
+IsNotMade e size blocks m output program.OutOfMemory = Unit {0}
+IsNotMade e size blocks m output _ = ⊥
+
+-- the fault of a session, and the line of the listing that it came to
+abbrev pub IsSessionFault : Endian → ℕ → ℕ → List ℕ → List ℕ → SessionFault → Option ℕ → Type 0
+IsSessionFault e size blocks base text fault line =
+    ((line ≡ None) × ((m : Mount) × Answers e size base (Ok m) × IsNotGoneOn e size blocks m fault))
+    ⊎ ((lines : List Line) × (accepted : ℕ) × (places : List Place) × IsRunOn e size blocks base text lines accepted places (Some fault)
+    × (line ≡ option_map (λ l. l.number) (slice_get lines accepted)))
+
+-- why an image is not written, or not to its end
+abbrev pub IsWriteFault : Endian → ℕ → ℕ → List ℕ → List ℕ → List ℕ → ProgramFault → Type 0
+IsWriteFault e size blocks output base text (program.Listing n) = lines_of text ≡ Err n
+IsWriteFault e size blocks output base text (program.File name) = (name.now ≡ output) ⊎ ((lines : List Line) × (lines_of text ≡ Ok lines) × IsNamed lines name.now)
+IsWriteFault e size blocks output base text (program.Load fault) = (lines : List Line) × (lines_of text ≡ Ok lines)
+IsWriteFault e size blocks output base text (program.Mount fault) = Answers e size base (Err fault)
+IsWriteFault e size blocks output base text (program.Session fault line) = IsSessionFault e size blocks base text fault line
+IsWriteFault e size blocks output base text program.OutOfMemory = Unit {0}
+IsWriteFault e size blocks output base text _ = ⊥
+
+-- The operations of a listing's text are run on a base, and what they did is told in a line; or a fault is due, and nothing
+-- is told.
+abbrev pub Writes : {T : Type 0} → Endian → ℕ → ℕ → List ℕ → List ℕ → List ℕ → Option (List ℕ) → Option (List ℕ) → ℕ → ℕ → Result T ProgramFault → Type 0
+Writes e size blocks output base text old new before now (Ok _) =
+    (lines : List Line) × (accepted : ℕ) × (places : List Place) × IsRunOn e size blocks base text lines accepted places None
+    × Appends old new (accepted_line (resume_address e size blocks base) accepted places) × (now ≡ before)
+Writes e size blocks output base text old new before now (Err program.Output) =
+    (lines : List Line) × (accepted : ℕ) × (places : List Place) × IsRunOn e size blocks base text lines accepted places None
+    × PutsPart old new (accepted_line (resume_address e size blocks base) accepted places) × (now ≡ next_count before)
+Writes e size blocks output base text old new before now (Err fault) = IsWriteFault e size blocks output base text fault × (new ≡ old) × (now ≡ before)
