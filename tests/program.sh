@@ -363,7 +363,7 @@ lines comments '# a file' '' 'create 0644 /a' '#' ''
 run build "${small[@]}" --blocks 1 comments built; want 0 "accepted 1 nodes 2 bytes 124" ""; same built made_little
 run build "${small[@]}" --blocks 1 create_a /dev/null; want 0 "accepted 1 nodes 2 bytes 124" ""
 
-# A file that is written, torn and written behind its end
+# A file that is written, cut and written behind its end
 lines listing 'create 0644 /a' 'write /a 0 0102030405060708090a' 'truncate /a 4' 'write /a 8 ff'
 printf '\1\2\3\4\0\0\0\0\377' > nine
 for order in little big; do
@@ -407,7 +407,7 @@ lines listing 'create 0644 /a' 'part /a 0 ones'
 run build "${small[@]}" --blocks 2 listing built; want 0 "accepted 2 nodes 4 bytes 12368" ""
 run cat "${small[@]}" built /a; whole ones
 erased 3904 > gap
-tail -c +4289 built | head -c 3904 > torn; same torn gap
+tail -c +4289 built | head -c 3904 > piece; same piece gap
 lines listing 'create 0644 /a' 'part /a 0 content' 'create 0644 /b' 'part /b 0 content' 'part /b 11 content'
 run build --blocks 1 listing built; want 0 "accepted 5 nodes 7 bytes *" ""
 run cat built /a; whole content
@@ -445,7 +445,7 @@ rm built
 # Operations that are refused: what was accepted before stands
 lines listing 'mkdir 0755 /d' 'mkdir 0755 /d'
 run build "${small[@]}" --blocks 1 listing built; want 1 "" "jffs2_image: S1 Refused O5 Exists line 2"
-head -c 124 built > torn; same built torn
+head -c 124 built > piece; same built piece
 run ls "${small[@]}" built; want 0 "$root"$'\nd 0755 0 0 0 0 2 /d' ""
 refuse() {
     lines listing 'mkdir 0755 /d' '' 'create 0644 /f' "$2"
