@@ -507,7 +507,32 @@ run build --blocks 1 larger built; want 1 "" "jffs2_image: L2 TooLarge"; unmade 
 run build --blocks 1 create_a nowhere/built; want 1 "" "jffs2_image: P1 File nowhere/built"
 run build --blocks 1 create_a folder; want 1 "" "jffs2_image: P1 File folder"
 run build --blocks 1 create_a ""; want 1 "" "jffs2_image: P1 File "
+
+# A disk that takes nothing, or 1024 bytes: the line is that of the operation whose bytes failed, and those before it stand.
 run build --blocks 1 create_a /dev/full; want 1 "" "jffs2_image: S4 Sink line 1"
+lines listing '# two files' 'create 0644 /a' 'create 0644 /b'
+run build --blocks 1 listing /dev/full; want 1 "" "jffs2_image: S4 Sink line 2"
+lines listing 'create 0644 /a' 'part /a 0 ones' 'create 0644 /b'
+run build "${small[@]}" --blocks 2 listing built; want 0 "accepted 3 nodes 6 bytes *" ""
+head -c 1024 built > piece
+line="an image on a disk of 1024 bytes"
+(
+    trap '' XFSZ
+    ulimit -f 1
+    "$program" build "${small[@]}" --blocks 2 listing built > out 2> err
+)
+got=$?; want 1 "" "jffs2_image: S4 Sink line 2"; same built piece
+run ls "${small[@]}" built; want 0 "$root"$'\n'"$file_a" "*"
+line="an image on a disk of 1024 bytes, by an image with more"
+{ cat made_little; erased 8068; } > image
+(
+    trap '' XFSZ
+    ulimit -f 1
+    "$program" append "${small[@]}" --blocks 2 image create_b built > out 2> err
+)
+got=$?; want 1 "" "jffs2_image: S4 Sink"
+head -c 1024 image > piece; same built piece
+rm built
 
 # Flash that is not written: the sizes come behind the listing, and before OUT is made
 for words in "--blocks 0" "--block 4096 --blocks 2" "--block 8188 --blocks 2" "--blocks 4097" "--blocks 4294967295" \
