@@ -17,20 +17,24 @@ erased() {
 erased 4096 > block
 erased 4097 > longer
 mkdir folder
-# The examples of docs/FORMAT.md: an entry of the root that names inode 2 `a`, and the node of inode 2, an empty file.
+# The examples of docs/FORMAT.md: a clean marker, an entry of the root that names inode 2 `a`, and the node of inode 2, an
+# empty file.
 bytes() {
     for byte in "$@"; do printf %b "\\x$byte"; done
+}
+marker() {
+    bytes 85 19 03 20 0c 00 00 00 b1 b0 1e e4
 }
 entry() {
     bytes 85 19 01 e0 29 00 00 00 6d a6 2f d7 01 00 00 00 01 00 00 00 02 00 00 00
     bytes 00 00 00 00 01 08 00 00 95 02 9b 91 ce 51 b5 3a 61 ff ff ff
 }
-{
-    entry
+empty_file() {
     bytes 85 19 02 e0 44 00 00 00 1d fb f7 98 02 00 00 00 01 00 00 00 a4 81 00 00
     bytes 00 00 00 00 00 00 00 00 00 00 00 00 00 00 00 00 00 00 00 00 00 00 00 00
     bytes 00 00 00 00 00 00 00 00 00 00 00 00 00 00 00 00 14 d0 c4 71
-} > file
+}
+{ entry; empty_file; } > file
 # The same entry, and inode 2 in two nodes: `hello`, of which the first byte is given, and ` flash` behind it.
 hello_flash() {
     bytes 85 19 02 e0 49 00 00 00 c0 23 9d 6a 02 00 00 00 01 00 00 00 a4 81 00 00
@@ -271,8 +275,408 @@ for words in "ls --help" "ls -h" "help ls"; do
     run $words; want 0 "*Usage: jffs2_image ls *<IMAGE>*--block <N>*65536*KIND MODE UID GID SIZE MTIME INO PATH*Exit status:*" ""
 done
 
+# ---- Building and extending images
+# NOT RUN YET: written before the program had build and append.
+
+# lines FILE LINE..: makes a text of these lines
+lines() {
+    printf '%s\n' "${@:2}" > "$1"
+}
+# same FILE OTHER: after the last run they have the same bytes
+same() {
+    cmp -s "$1" "$2"
+    local differs=$?
+    count $differs
+    [[ $differs == 0 ]] || echo "FAILED: $1 is not $2 after $line"
+}
+# unmade FILE: the last run did not make it
+unmade() {
+    [[ ! -e $1 ]]
+    local there=$?
+    count $there
+    [[ $there == 0 ]] || echo "FAILED: $1 was made by $line"
+    rm -f "$1"
+}
+# What `create 0644 /a` makes of an empty flash: a marker, the node of inode 2 and its entry, in either byte order. The
+# checksums of the big one are those of another program.
+{ marker; empty_file; entry; } > made_little
+{
+    bytes 19 85 20 03 00 00 00 0c f0 60 dc 98
+    bytes 19 85 e0 02 00 00 00 44 a4 ef 22 3e 00 00 00 02 00 00 00 01 00 00 81 a4
+    bytes 00 00 00 00 00 00 00 00 00 00 00 00 00 00 00 00 00 00 00 00 00 00 00 00
+    bytes 00 00 00 00 00 00 00 00 00 00 00 00 00 00 00 00 68 d2 d2 ed
+    bytes 19 85 e0 01 00 00 00 29 d0 4c 45 0b 00 00 00 01 00 00 00 01 00 00 00 02
+    bytes 00 00 00 00 01 08 00 00 ba 8f 4b f0 3a b5 51 ce 61 ff ff ff
+} > made_big
+lines create_a 'create 0644 /a'
+lines create_b 'create 0644 /b'
+file_a="- 0644 0 0 0 0 2 /a"
+file_b="- 0644 0 0 0 0 3 /b"
+none_accepted="accepted 0 nodes 0 bytes 0"
+# the least blocks that are written
+small=(--block 8192)
+
+# Words
+run build; want 2 "" "error: *--blocks <N>*<LISTING>*<OUT>*Usage: *"
+run build create_a built; want 2 "" "error: *--blocks <N>*Usage: *"; unmade built
+run build --blocks 1 create_a; want 2 "" "error: *<OUT>*Usage: *"
+run build --blocks 1 create_a built more; want 2 "" "error: unexpected argument 'more' found*Usage: *"; unmade built
+run build --blocks 1 --blocks 1 create_a built; want 2 "" "error: *--blocks <N>*Usage: *"; unmade built
+for value in x "" -1 0x10 4294967296 "1 "; do
+    run build "--blocks=$value" create_a built; want 2 "" "error: invalid value '$value' for '--blocks <N>': *--help*"
+    run append "--blocks=$value" block create_a built; want 2 "" "error: invalid value '$value' for '--blocks <N>': *--help*"
+done
+unmade built
+run append; want 2 "" "error: *--blocks <N>*<IMAGE>*<LISTING>*<OUT>*Usage: *"
+run append --blocks 1 block create_a; want 2 "" "error: *<OUT>*Usage: *"
+run ls --blocks 1 block; want 2 "" "error: unexpected argument '--blocks' found*Usage: *"
+for words in "build --help" "build -h" "help build"; do
+    run $words; want 0 "*Usage: jffs2_image build *--blocks <N> <LISTING> <OUT>*--block <N>*65536*write PATH OFFSET HEX*Exit status:*" ""
+done
+for words in "append --help" "append -h" "help append"; do
+    run $words; want 0 "*Usage: jffs2_image append *--blocks <N> <IMAGE> <LISTING> <OUT>*--block <N>*65536*Exit status:*" ""
+done
+
+# The least image, byte for byte, and what the other commands say of it
+for order in little big; do
+    flash=("${small[@]}" --endian "$order")
+    run build "${flash[@]}" --blocks 1 create_a built; want 0 "accepted 1 nodes 2 bytes 124" ""; same built made_$order
+    run check "${flash[@]}" built
+    want 0 $'block 0\n00000000 marker 12\n0000000c inode 68 ino 2 version 1 mode 100644 size 0 offset 0 data 0 none\n00000050 entry 44 pino 1 version 1 ino 2 type 8 name a\n0000007c erased 8068\ntotal blocks 1 entries 1 inodes 1 findings 0\nmount ok' ""
+    run ls "${flash[@]}" built; want 0 "$root"$'\n'"$file_a" ""
+    run cat "${flash[@]}" built /a; want 0 "" ""
+    for length in 0 5 12 79 80 120; do
+        head -c $length made_$order > torn
+        run ls "${flash[@]}" torn; want 0 "$root" "*"
+    done
+    for length in 121 122 123 124; do
+        head -c $length made_$order > torn
+        run ls "${flash[@]}" torn; want 0 "$root"$'\n'"$file_a" ""
+    done
+done
+cp longer built
+run build "${small[@]}" --blocks 1 create_a built; want 0 "accepted 1 nodes 2 bytes 124" ""; same built made_little
+run build --endian=little create_a --blocks=1 built --block=65536; want 0 "accepted 1 nodes 2 bytes 124" ""; same built made_little
+printf 'create 0644 /a' > no_end
+run build "${small[@]}" --blocks 1 no_end built; want 0 "accepted 1 nodes 2 bytes 124" ""; same built made_little
+lines comments '# a file' '' 'create 0644 /a' '#' ''
+run build "${small[@]}" --blocks 1 comments built; want 0 "accepted 1 nodes 2 bytes 124" ""; same built made_little
+run build "${small[@]}" --blocks 1 create_a /dev/null; want 0 "accepted 1 nodes 2 bytes 124" ""
+
+# A file that is written, cut and written behind its end
+lines listing 'create 0644 /a' 'write /a 0 0102030405060708090a' 'truncate /a 4' 'write /a 8 ff'
+printf '\1\2\3\4\0\0\0\0\377' > nine
+for order in little big; do
+    flash=("${small[@]}" --endian "$order")
+    run build "${flash[@]}" --blocks 1 listing built; want 0 "accepted 4 nodes 6 bytes 412" ""
+    run check "${flash[@]}" built
+    want 0 $'block 0\n00000000 marker 12\n0000000c inode 68 ino 2 version 1 mode 100644 size 0 offset 0 data 0 none\n00000050 entry 44 pino 1 version 1 ino 2 type 8 name a\n0000007c inode 80 ino 2 version 2 mode 100644 size 10 offset 0 data 10 none\n000000cc inode 68 ino 2 version 3 mode 100644 size 4 offset 0 data 0 none\n00000110 inode 68 ino 2 version 4 mode 100644 size 8 offset 4 data 4 zero\n00000154 inode 72 ino 2 version 5 mode 100644 size 9 offset 8 data 1 none\n0000019c erased 7780\ntotal blocks 1 entries 1 inodes 5 findings 0\nmount ok' ""
+    run cat "${flash[@]}" built /a; whole nine
+done
+lines listing 'create 0644 /a' 'write /a 0 ffffff'
+run build "${small[@]}" --blocks 1 listing built; want 0 "accepted 2 nodes 3 bytes 196" ""
+erased 3 > three
+for length in 192 193 194 195 196; do
+    head -c $length built > torn
+    run cat "${small[@]}" torn /a; whole three
+done
+
+# A directory that moves, also where its last node is missing
+lines listing 'mkdir 0755 /d' 'rename /d /e'
+for order in little big; do
+    flash=("${small[@]}" --endian "$order")
+    run build "${flash[@]}" --blocks 1 listing built; want 0 "accepted 2 nodes 4 bytes 212" ""
+    run ls "${flash[@]}" built; want 0 "$root"$'\nd 0755 0 0 0 0 2 /e' ""
+    head -c 168 built > torn
+    run ls "${flash[@]}" torn; want 0 "$root"$'\nd 0755 0 0 0 0 2 /d\nd 0755 0 0 0 0 2 /e (again)' ""
+done
+
+# Nothing to write: no byte goes out
+lines only_settings '# nothing' '' 'time 5' 'owner 1 1'
+for listing in empty only_settings; do
+    run build "${small[@]}" --blocks 1 $listing built; want 0 "$none_accepted" ""; same built empty
+    run build "${small[@]}" --blocks 1 $listing /dev/full; want 0 "$none_accepted" ""
+done
+run ls built; want 0 "$root" ""
+lines listing 'create 0644 /a' 'write /a 100 -' 'truncate /a 0'
+run build "${small[@]}" --blocks 1 listing built; want 0 "accepted 3 nodes 2 bytes 124" ""; same built made_little
+
+# The bytes of files of the host
+head -c 8192 /dev/zero | tr '\0' '\1' > ones
+lines listing 'create 0644 /a' 'part /a 0 ones'
+run build "${small[@]}" --blocks 2 listing built; want 0 "accepted 2 nodes 4 bytes 12368" ""
+run cat "${small[@]}" built /a; whole ones
+erased 3904 > gap
+tail -c +4289 built | head -c 3904 > piece; same piece gap
+lines listing 'create 0644 /a' 'part /a 0 content' 'create 0644 /b' 'part /b 0 content' 'part /b 11 content'
+run build --blocks 1 listing built; want 0 "accepted 5 nodes 7 bytes *" ""
+run cat built /a; whole content
+run cat built /b; want 0 "hello flashhello flash" ""
+lines listing 'create 0644 /a' 'part /a 0 empty'
+run build "${small[@]}" --blocks 1 listing built; want 0 "accepted 2 nodes 2 bytes 124" ""; same built made_little
+rm built
+lines listing 'create 0644 /a' 'create 0644 /b' 'part /a 0 none'
+run build --blocks 1 listing built; want 1 "" "jffs2_image: P1 File none"; unmade built
+lines listing 'part /a 0 folder'
+run build --blocks 1 listing built; want 1 "" "jffs2_image: L1 Device"; unmade built
+lines listing 'part /a 0 larger'
+run build --blocks 1 listing built; want 1 "" "jffs2_image: L2 TooLarge"; unmade built
+
+# A tree: names with escapes, owners, times, links
+lines listing 'time 1000000000' 'mkdir 0755 /etc' 'create 0644 /etc/hostname' 'write /etc/hostname 0 626F780a' \
+    'symlink /name etc/hostname' 'owner 1000 100' 'mkdir 0750 /home' 'create 0755 /home/start\x20here' \
+    'part /home/start\x20here 0 content'
+for order in little big; do
+    flash=("${small[@]}" --endian "$order")
+    run build "${flash[@]}" --blocks 1 listing built; want 0 "accepted 7 nodes 12 bytes 748" ""
+    run ls "${flash[@]}" built
+    want 0 "$root"$'\nd 0755 0 0 0 1000000000 2 /etc\n- 0644 0 0 4 1000000000 3 /etc/hostname\nd 0750 1000 100 0 1000000000 5 /home\n- 0755 1000 100 11 1000000000 6 /home/start\\\\x20here\nl 0777 0 0 12 1000000000 4 /name -> etc\\\\x2fhostname' ""
+    run cat "${flash[@]}" built '/home/start\x20here'; whole content
+    run cat "${flash[@]}" built /etc/hostname; want 0 "box" ""
+    run check "${flash[@]}" built; want 0 "*total blocks 1 entries 5 inodes 7 findings 0*mount ok" ""
+done
+lines listing 'create 0600 /a' 'write /a 0 6869' 'link /a /b' 'remove /a' 'mkdir 0700 /d' 'rename /b /d/c' 'mkdir 0700 /e' 'remove /e'
+run build "${small[@]}" --blocks 1 listing built; want 0 "accepted 8 nodes 12 bytes *" ""
+run ls "${small[@]}" built; want 0 "$root"$'\nd 0700 0 0 0 0 3 /d\n- 0600 0 0 2 0 2 /d/c' ""
+run cat "${small[@]}" built /d/c; want 0 "hi" ""
+run check "${small[@]}" built; want 0 "*findings 0*mount ok" ""
+rm built
+
+# Operations that are refused: what was accepted before stands
+lines listing 'mkdir 0755 /d' 'mkdir 0755 /d'
+run build "${small[@]}" --blocks 1 listing built; want 1 "" "jffs2_image: S1 Refused O5 Exists line 2"
+head -c 124 built > piece; same built piece
+run ls "${small[@]}" built; want 0 "$root"$'\nd 0755 0 0 0 0 2 /d' ""
+refuse() {
+    lines listing 'mkdir 0755 /d' '' 'create 0644 /f' "$2"
+    run build "${small[@]}" --blocks 1 listing built; want 1 "" "jffs2_image: S1 Refused $1 line 4"
+    run ls "${small[@]}" built; want 0 "$root"$'\nd 0755 0 0 0 0 2 /d\n- 0644 0 0 0 0 3 /f' ""
+}
+name=$(head -c 254 /dev/zero | tr '\0' n)
+for path in / a a/b /a/ //a /. /.. /d/../e '/\x00' '/d\x2f'; do
+    refuse "O1 BadPath" "create 0644 $path"
+done
+refuse "O1 BadPath" 'remove /'
+refuse "O2 NameTooLong" "create 0644 /${name}n"
+refuse "O3 NotFound" 'create 0644 /none/a'
+refuse "O3 NotFound" 'write /none 0 00'
+refuse "O3 NotFound" 'remove /none'
+refuse "O4 NotDirectory" 'create 0644 /f/a'
+refuse "O5 Exists" 'rename /f /d'
+refuse "O5 Exists" 'symlink /\x66 a'
+refuse "O6 WrongKind" 'write /d 0 00'
+refuse "O6 WrongKind" 'link /d /e'
+refuse "O8 IntoItself" 'rename /d /d/e'
+refuse "O9 TooLarge" 'write /f 2147483647 00'
+refuse "O9 TooLarge" 'truncate /f 2147483648'
+refuse "O10 BadMode" 'create 10000 /x'
+refuse "O11 BadTarget" 'symlink /x a\x00'
+lines listing 'mkdir 0755 /d' 'create 0644 /d/a' 'remove /d'
+run build "${small[@]}" --blocks 1 listing built; want 1 "" "jffs2_image: S1 Refused O7 NotEmpty line 3"
+lines listing "create 0644 /$name"
+run build "${small[@]}" --blocks 1 listing built; want 0 "accepted 1 nodes 2 bytes 376" ""
+run ls "${small[@]}" built; want 0 "$root"$'\n'"- 0644 0 0 0 0 2 /$name" ""
+rm built
+
+# Lines that mean nothing: nothing is made, and what was there stays
+wrong_line() {
+    printf 'create 0644 /a\n\n%b\ncreate 0644 /b\n' "$1" > listing
+    run build "${small[@]}" --blocks 1 listing built; want 1 "" "jffs2_image: P2 Listing line 3"; unmade built
+}
+for text in 'paint /a' 'Create 0644 /a' 'create /a' 'create 0644' 'create 0644 /a /b' 'create  0644 /a' ' create 0644 /a' \
+    'create 0644 /a ' ' ' '\r' 'create 8 /a' 'create 0000644 /a' 'create -1 /a' 'create 0644\t/a' 'write /a 0 0' 'write /a 0 0g' \
+    'write /a 0 ' 'write /a 0' 'write /a -1 00' 'write /a 4294967296 00' 'write /a 00000000001 00' 'write /a 0 00 00' \
+    'owner 65536 0' 'owner 0' 'time x' 'time 4294967296' 'time 5\r' 'remove /\\' 'remove /\\x6' 'remove /\\X61' \
+    'symlink /b \\\\' 'rename /a' 'link /a' 'truncate /a x' 'part /a 0 \0377'; do
+    wrong_line "$text"
+done
+cp made_little built
+run build "${small[@]}" --blocks 1 listing built; want 1 "" "jffs2_image: P2 Listing line 3"; same built made_little
+rm built
+printf 'time 5\r\ncreate 0644 /a\r\n' > listing
+run build "${small[@]}" --blocks 1 listing built; want 1 "" "jffs2_image: P2 Listing line 1"; unmade built
+printf 'create 0644 /a\r\n' > listing
+run build "${small[@]}" --blocks 1 listing built; want 0 "accepted 1 nodes 2 bytes 124" ""
+run ls "${small[@]}" built; want 0 "$root"$'\n- 0644 0 0 0 0 2 /a\\\\x0d' ""
+rm built
+
+# Files that cannot be opened, read or made
+run build --blocks 1 none built; want 1 "" "jffs2_image: P1 File none"; unmade built
+run build --blocks 1 folder built; want 1 "" "jffs2_image: L1 Device"; unmade built
+run build --blocks 1 larger built; want 1 "" "jffs2_image: L2 TooLarge"; unmade built
+run build --blocks 1 create_a nowhere/built; want 1 "" "jffs2_image: P1 File nowhere/built"
+run build --blocks 1 create_a folder; want 1 "" "jffs2_image: P1 File folder"
+run build --blocks 1 create_a ""; want 1 "" "jffs2_image: P1 File "
+
+# A disk that takes nothing, or 1024 bytes: the line is that of the operation whose bytes failed, and those before it stand.
+run build --blocks 1 create_a /dev/full; want 1 "" "jffs2_image: S4 Sink line 1"
+lines listing '# two files' 'create 0644 /a' 'create 0644 /b'
+run build --blocks 1 listing /dev/full; want 1 "" "jffs2_image: S4 Sink line 2"
+lines listing 'create 0644 /a' 'part /a 0 ones' 'create 0644 /b'
+run build "${small[@]}" --blocks 2 listing built; want 0 "accepted 3 nodes 6 bytes *" ""
+head -c 1024 built > piece
+line="an image on a disk of 1024 bytes"
+(
+    trap '' XFSZ
+    ulimit -f 1
+    "$program" build "${small[@]}" --blocks 2 listing built > out 2> err
+)
+got=$?; want 1 "" "jffs2_image: S4 Sink line 2"; same built piece
+run ls "${small[@]}" built; want 0 "$root"$'\n'"$file_a" "*"
+line="an image on a disk of 1024 bytes, by an image with more"
+{ cat made_little; erased 8068; } > image
+(
+    trap '' XFSZ
+    ulimit -f 1
+    "$program" append "${small[@]}" --blocks 2 image create_b built > out 2> err
+)
+got=$?; want 1 "" "jffs2_image: S4 Sink"
+head -c 1024 image > piece; same built piece
+rm built
+
+# Flash that is not written: the sizes come behind the listing, and before OUT is made
+for words in "--blocks 0" "--block 4096 --blocks 2" "--block 8188 --blocks 2" "--blocks 4097" "--blocks 4294967295" \
+    "--block 4194304 --blocks 65" "--block 4194304 --blocks 4294967295"; do
+    run build $words create_a built; want 1 "" "jffs2_image: S7 Geometry"; unmade built
+    run build $words none built; want 1 "" "jffs2_image: P1 File none"; unmade built
+done
+for value in 0 4095 4097 8190 4194308 4294967295; do
+    run build --block $value --blocks 0 create_a built; want 1 "" "jffs2_image: M1 BlockSize"; unmade built
+done
+for words in "--blocks 4096" "--block 4194304 --blocks 64" "--block 8192 --blocks 32768"; do
+    run build $words create_a built; want 0 "accepted 1 nodes 2 bytes 124" ""; same built made_little
+done
+
+# Flash that is full
+head -c 12288 /dev/zero > twelve
+head -c 16384 /dev/zero > sixteen
+head -c 4096 ones > page
+for row in "twelve 12492" "sixteen 16656"; do
+    lines listing 'create 0644 /a' "part /a 0 ${row% *}"
+    run build "${small[@]}" --blocks 2 listing built; want 1 "" "jffs2_image: S2 Full needed ${row#* } free 16248 line 2"
+    same built made_little
+done
+lines listing 'create 0644 /a' 'part /a 0 page' 'part /a 4096 page' 'truncate /a 5'
+run build "${small[@]}" --blocks 1 listing built; want 1 "" "jffs2_image: S2 Full needed 4164 free 3904 line 3"
+run cat "${small[@]}" built /a; whole page
+line="the bytes before a full flash"
+[[ $(wc -c < built) == 4288 ]]; count $?
+rm built
+
+# Extending: the nodes go into the first block from which on the flash is blank
+for order in little big; do
+    flash=("${small[@]}" --endian "$order")
+    { cat made_$order; erased 8068; } > first_block
+    run append "${flash[@]}" --blocks 2 made_$order empty built; want 0 "$none_accepted" ""; same built first_block
+    run append "${flash[@]}" --blocks 1 made_$order create_b built; want 1 "" "jffs2_image: S2 Full needed 112 free 0 line 1"
+    same built first_block
+    head -c 12 made_$order > marked
+    for length in 0 7 12; do
+        head -c $length marked > torn
+        run append "${flash[@]}" --blocks 1 torn create_a built; want 0 "accepted 1 nodes 2 bytes 124" ""; same built made_$order
+    done
+    run append "${flash[@]}" --blocks 2 made_$order create_b built; want 0 "accepted 1 nodes 2 bytes 124" ""
+    run ls "${flash[@]}" built; want 0 "$root"$'\n'"$file_a"$'\n'"$file_b" ""
+    run check "${flash[@]}" built
+    want 0 $'block 0\n*\n0000007c erased 8068\nblock 1\n00002000 marker 12\n0000200c inode 68 ino 3 version 1 mode 100644 size 0 offset 0 data 0 none\n00002050 entry 44 pino 1 version 2 ino 3 type 8 name b\n0000207c erased 8068\ntotal blocks 2 entries 2 inodes 2 findings 0\nmount ok' ""
+    cp built wanted
+    { cat first_block marked; erased 16000; } > image
+    run append "${flash[@]}" --blocks 3 image create_b built; want 0 "accepted 1 nodes 2 bytes 124" ""; same built wanted
+    run append "${flash[@]}" --blocks 3 image create_b image; want 0 "accepted 1 nodes 2 bytes 124" ""; same image wanted
+    # A torn node: its block is not written again.
+    head -c 100 made_$order > torn
+    { cat torn; erased 8092; } > torn_block
+    run append "${flash[@]}" --blocks 2 torn create_b built; want 0 "accepted 1 nodes 2 bytes 124" ""
+    line="the bytes after a torn node"
+    [[ $(wc -c < built) == 8316 ]]; count $?
+    head -c 8192 built > torn; same torn torn_block
+    run ls "${flash[@]}" built; want 0 "$root"$'\n'"$file_b" "$(noted 1)"
+    run check "${flash[@]}" built
+    want 3 $'*\n00000050 damaged 44 node-crc\n*\n0000200c inode 68 ino 3 version 1 *\n00002050 entry 44 pino 1 version 1 ino 3 *\nmount ok' ""
+done
+
+# IMAGE and OUT in one file, also where the first operation is refused
+cp made_little image
+run append "${small[@]}" --blocks 2 image create_b image; want 0 "accepted 1 nodes 2 bytes 124" ""
+run ls "${small[@]}" image; want 0 "$root"$'\n'"$file_a"$'\n'"$file_b" ""
+cp made_little image
+run append "${small[@]}" --blocks 2 image create_a image; want 1 "" "jffs2_image: S1 Refused O5 Exists line 1"
+run ls "${small[@]}" image; want 0 "$root"$'\n'"$file_a" ""
+cp made_little image
+printf 'paint\n' > listing
+run append "${small[@]}" --blocks 2 image listing image; want 1 "" "jffs2_image: P2 Listing line 1"; same image made_little
+
+# A name without an object; a number that is used up: entries of the root for inode 57 and for 4294967295
+{
+    bytes 85 19 01 e0 29 00 00 00 6d a6 2f d7 01 00 00 00 01 00 00 00 39 00 00 00
+    bytes 00 00 00 00 01 08 00 00 9f 90 20 f4 aa 41 02 27 71 ff ff ff
+} > dangling
+{
+    bytes 85 19 01 e0 29 00 00 00 6d a6 2f d7 01 00 00 00 01 00 00 00 ff ff ff ff
+    bytes 00 00 00 00 01 08 00 00 9a a5 8a f9 ce 51 b5 3a 61 ff ff ff
+} > greatest_number
+lines listing 'create 0644 /r' 'remove /q'
+run append "${small[@]}" --blocks 2 dangling listing built; want 0 "accepted 2 nodes 3 bytes 168" ""
+run ls "${small[@]}" built; want 0 "$root"$'\n- 0644 0 0 0 0 58 /r' ""
+run check "${small[@]}" built; want 0 "*findings 0*mount ok" ""
+lines listing 'create 0644 /q'
+run append "${small[@]}" --blocks 2 dangling listing built; want 1 "" "jffs2_image: S1 Refused O5 Exists line 1"
+run append "${small[@]}" --blocks 2 greatest_number create_b built; want 1 "" "jffs2_image: S1 Refused O12 Exhausted line 1"
+rm built
+
+# Images that are not extended: nothing is made
+{ marker; bytes 85 19 f7 a0 0c 00 00 00 2c 5b fb db; } > read_only
+{ marker; bytes 85 19 f7 e0 0c 00 00 00 65 03 08 83; } > later
+run check "${small[@]}" read_only; want 3 "*0000000c read-only 12 type a0f7*mount ok read-only" ""
+run append "${small[@]}" --blocks 2 read_only create_a built; want 1 "" "jffs2_image: S3 ReadOnly"; unmade built
+run append "${small[@]}" --blocks 0 read_only create_a built; want 1 "" "jffs2_image: S3 ReadOnly"; unmade built
+run append "${small[@]}" --blocks 2 later create_a built; want 1 "" "jffs2_image: M3 Incompatible at 0000000c type e0f7"; unmade built
+erased 8193 > image
+run append "${small[@]}" --blocks 1 image create_a built; want 1 "" "jffs2_image: S7 Geometry"; unmade built
+run append --blocks 0 made_little create_a built; want 1 "" "jffs2_image: S7 Geometry"; unmade built
+run append --block 4096 --blocks 2 made_little create_a built; want 1 "" "jffs2_image: S7 Geometry"; unmade built
+run append --block 4097 --blocks 2 made_little create_a built; want 1 "" "jffs2_image: M1 BlockSize"; unmade built
+run append --blocks 2 none absent built; want 1 "" "jffs2_image: P1 File none"; unmade built
+run append --blocks 2 made_little none built; want 1 "" "jffs2_image: P1 File none"; unmade built
+run append --blocks 2 folder create_b built; want 1 "" "jffs2_image: L1 Device"; unmade built
+run append --blocks 2 larger create_b built; want 1 "" "jffs2_image: L2 TooLarge"; unmade built
+lines listing 'paint'
+run append --block 4097 --blocks 2 made_little listing built; want 1 "" "jffs2_image: P2 Listing line 1"; unmade built
+run append --blocks 2 made_little create_b folder; want 1 "" "jffs2_image: P1 File folder"
+run append --blocks 2 made_little create_b nowhere/built; want 1 "" "jffs2_image: P1 File nowhere/built"
+run append --blocks 2 made_little empty /dev/full; want 1 "" "jffs2_image: S4 Sink"
+run append --blocks 2 empty create_a /dev/full; want 1 "" "jffs2_image: S4 Sink line 1"
+run append --blocks 2 empty empty /dev/full; want 0 "$none_accepted" ""
+
+# The examples of the help, of the manual page and of its folder
+mkdir -p files
+printf 'hello flash' > files/start.sh
+run help build
+sed -n '/^A listing of a small tree:/,/^To be written/s/^  //p' out > example
+run build --blocks 1 example built; want 0 "accepted 7 nodes 12 bytes *" ""
+run cat built /home/start; whole content
+sed -n '/^# a small tree/,/^\.Ed/p' "$manual" | sed '/^\.Ed/d; s/\\e/\\/g' > example
+run build --blocks 1 example built; want 0 "accepted 7 nodes 12 bytes 748" ""
+run cat built '/home/start\x20here'; whole content
+lines listing 'mkdir 0755 /etc' 'create 0644 /etc/hostname' 'write /etc/hostname 0 626f780a'
+run build --blocks 64 listing built; want 0 "$(sed -n 's/^\.Ql \(accepted [0-9].*\) \.$/\1/p' "$manual")" ""
+mkdir -p folder/a/b
+printf 'hello flash' > folder/a/file
+ln -s a/file folder/link
+# shellcheck disable=SC2164
+(
+    cd folder
+    find . -mindepth 1 \( -type d -printf 'owner %U %G\nmkdir %m /%P\n' \) -o \
+        \( -type l -printf 'owner %U %G\nsymlink /%P %l\n' \) -o \
+        \( -type f -printf 'owner %U %G\ncreate %m /%P\npart /%P 0 %p\n' \) > ../listing
+    "$program" build --blocks 64 ../listing ../built > ../out 2> ../err
+)
+got=$?; line="an image of a folder"; want 0 "accepted 5 nodes 9 bytes *" ""
+run ls built; want 0 "$root"$'\nd *\nd *\n- * 11 0 * /a/file\nl 0777 * /link -> a\\\\x2ffile' ""
+run cat built /a/file; whole content
+
 # The manual page has the commands and options of the help, and the faults.
-for words in --help "check --help" "ls --help" "cat --help"; do
+for words in --help "check --help" "ls --help" "cat --help" "build --help" "append --help"; do
     run $words
     for word in $(sed -n '/^Commands:/,/^$/s/^  \([a-z]*\) .*/\1/p' out); do
         told "$word" "^\.It Cm $word$"
@@ -283,13 +687,18 @@ for words in --help "check --help" "ls --help" "cat --help"; do
 done
 while read -r fault; do
     told "$fault" "^\.It $fault"
-done < <(grep -oE '`[CLMP][0-9] [A-Z][A-Za-z]+' "$format" | tr -d '`' | sort -u)
+done < <(grep -oE '`[CLMPSO][0-9]+ [A-Z][A-Za-z]+' "$format" | tr -d '`' | sort -u)
+run help build
+while read -r word values; do
+    told "$word" "^\.It Li $word Ar $values$"
+done < <(grep -oE '^  [a-z]+( [A-Z]+)+  ' out)
 
 # Standard output that fails
 line="standard output is /dev/full"
-for words in "--help" "check --help" "ls --help" "check --scan empty" "check empty" "ls empty"; do
+for words in "--help" "check --help" "ls --help" "check --scan empty" "check empty" "ls empty" "build --blocks 1 create_a built"; do
     "$program" $words > /dev/full 2> err; got=$?; : > out; want 1 "" "jffs2_image: P5 Output"
 done
+same built made_little
 line="standard output is closed"
 for words in "--help" "check --scan empty" "ls empty"; do
     "$program" $words >&- 2> err; got=$?; : > out; want 1 "" "jffs2_image: P5 Output"
