@@ -10,7 +10,7 @@ use jsteps::Op;
 use std::alloc::{AllocError, Global};
 
 /// The operation of a line.
-fn operation<'a>(line: Line<'a>, parts: &'a Parts<'_>) -> Op<'a>
+fn operation<'b, 'a: 'b>(line: Line<'a>, parts: &'b Parts<'_>) -> Op<'b>
     ensures { result ≡ op_in (contents parts.now) line.entry }
 {
     let bytes: &[u8] = match line.action.file() {
@@ -22,11 +22,11 @@ fn operation<'a>(line: Line<'a>, parts: &'a Parts<'_>) -> Op<'a>
 
 /// The operations of the lines of a listing, in order. They borrow the bytes of the files that the lines name; one that was
 /// not read has none.
-pub fn operations<'a>(
+pub fn operations<'b, 'a: 'b>(
     alloc: Global,
     lines: Vec<Line<'a>>,
-    parts: &'a Parts<'_>,
-) -> Result<Vec<Op<'a>>, AllocError>
+    parts: &'b Parts<'_>,
+) -> Result<Vec<Op<'b>>, AllocError>
     ensures { IfOk result (λ ops. ops.items ≡ ops_in (contents parts.now) lines.entry.items) }
 {
     let mut ops = Vec::with_capacity(alloc, lines.len())?;

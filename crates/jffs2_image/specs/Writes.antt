@@ -56,11 +56,16 @@ pub record IsRunOn (e : Endian) (size blocks : ℕ) (base text : List ℕ) (line
   pub mounts : Answers e size base (Ok mount)
   pub made : IsMade e size blocks mount (ops_in files lines) accepted places stopped
 
--- Why no operation was run: the image is not gone on from; or the file that is made failed, or memory ran out.
+-- the file that is made failed, or memory ran out
+abbrev pub IsFaultOfMaking : SessionFault → Type 0
+IsFaultOfMaking session.Sink = Unit {0}
+IsFaultOfMaking session.OutOfMemory = Unit {0}
+IsFaultOfMaking _ = ⊥
+
+-- Why no operation was run, or not to its end: the image is not gone on from; or it is, and the file that is made failed, or
+-- memory ran out.
 abbrev pub IsNotGoneOn : Endian → ℕ → ℕ → Mount → SessionFault → Type 0
-IsNotGoneOn e size blocks m session.Sink = IsOk (resumes_at e size blocks m)
-IsNotGoneOn e size blocks m session.OutOfMemory = IsOk (resumes_at e size blocks m)
-IsNotGoneOn e size blocks m fault = resumes_at e size blocks m ≡ Err fault
+IsNotGoneOn e size blocks m fault = (resumes_at e size blocks m ≡ Err fault) ⊎ (IsOk (resumes_at e size blocks m) × IsFaultOfMaking fault)
 
 -- why no file was made, or not to its end
 abbrev pub IsNotMade : Endian → ℕ → ℕ → Mount → List ℕ → ProgramFault → Type 0

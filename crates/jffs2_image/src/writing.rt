@@ -1,8 +1,7 @@
 //! Writing an image to a file of the host: a listing's operations on a base.
-ghost use Rattle.std.specs.Prelude.{◌≡◌, ℕ, IfOk, IfErr, IfSome, All, map};
+ghost use Rattle.std.specs.Prelude.{◌≡◌, ℕ, List, Ok, IfOk, IfErr, map};
 ghost use Rattle.jmount.specs.Mounts.{IsMountOf};
-ghost use Rattle.jbuild.specs.Emitting.{IsEmitted};
-ghost use Rattle.jlog.specs.Resuming.{resumes_at};
+ghost use Rattle.jlisting.specs.Listing.{lines_of};
 ghost use Rattle.jffs2_image.specs.Writes.{IsMade, IsNotMade, IsPartUnread, IsUnread, Writes};
 
 use crate::output::{BufferedOutput, Output};
@@ -96,6 +95,32 @@ fn make_image<'a, E: Order, R: Files + AllocGlobal>(
     }
 }
 
+/// Writes an image: the operations of a listing's lines, on a base. What they did is told in a line.
+fn write_lines<'a, 'p, 'b: 'p, E: Order, R: Files + AllocGlobal, T: Sink>(
+    rt: &R,
+    target: Target<'a>,
+    base: &[u8],
+    lines: Vec<Line<'b>>,
+    parts: &'p Parts<'_>,
+    sink: &mut T,
+) -> Result<(), ProgramFault<'a>>
+    ensures { (text : List ℕ) → lines_of text ≡ Ok lines.entry.items
+        → Writes E.order target.entry.geometry.block target.entry.blocks target.entry.output.now base.now text
+        (T.taken sink.old) (T.taken sink.new) (T.failures sink.old) (T.failures sink.new) result }
+{
+    let numbers = numbers_of(rt.alloc(), &lines)?;
+    let ops = operations(rt.alloc(), lines, parts)?;
+    let mounted = mount::<E>(rt.alloc(), base, target.geometry)?;
+    let from = resume_at::<E>(&mounted, target.geometry, target.blocks)?;
+    let report = make_image::<E, R>(rt, target, &mounted, &ops)?;
+    if let Some(fault) = report.stopped {
+        let line = numbers.get(report.accepted).copied();
+        return Err(ProgramFault::Session { fault, line });
+    }
+    put_accepted(from, report.accepted, &report.places, sink)?;
+    Ok(())
+}
+
 /// Writes an image: the operations of a listing's text, on a base. What they did is told in a line. The file is made only
 /// after all was judged that can be before a byte is written.
 pub fn write_image<'a, E: Order, R: Files + AllocGlobal, T: Sink>(
@@ -110,15 +135,5 @@ pub fn write_image<'a, E: Order, R: Files + AllocGlobal, T: Sink>(
 {
     let lines = listing(rt.alloc(), text)?;
     let parts = load_parts(rt, &lines)?;
-    let numbers = numbers_of(rt.alloc(), &lines)?;
-    let ops = operations(rt.alloc(), lines, &parts)?;
-    let mounted = mount::<E>(rt.alloc(), base, target.geometry)?;
-    let from = resume_at::<E>(&mounted, target.geometry, target.blocks)?;
-    let report = make_image::<E, R>(rt, target, &mounted, &ops)?;
-    if let Some(fault) = report.stopped {
-        let line = numbers.get(report.accepted).copied();
-        return Err(ProgramFault::Session { fault, line });
-    }
-    put_accepted(from, report.accepted, &report.places, sink)?;
-    Ok(())
+    write_lines::<E, R, T>(rt, target, base, lines, &parts, sink)
 }

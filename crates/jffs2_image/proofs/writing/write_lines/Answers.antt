@@ -1,0 +1,98 @@
+use Rattle.std.proofs.Common.{rules, ◌≡◌, ℕ, List, Some, None, Ok, Err, ap, sym, subst, ◌∙◌}
+use Rattle.std.specs.Prelude.{slice_get, option_map, map}
+use Rattle.std.specs.Io.KnownBytes.{Appends}
+use Rattle.flashbase.specs.Device.{PutsPart}
+use Rattle.jlog.specs.declared.report.Place.{Place}
+use Rattle.jbuild.specs.Accepted.{accepted_line}
+use Rattle.jmount.specs.Mounts.{Answers}
+use Rattle.jlog.specs.Headline.{resume_address}
+use Rattle.jlog.specs.Resuming.{resumes_at}
+use Rattle.jbuild.specs.Parts.{contents}
+use Rattle.jbuild.specs.Operations.{ops_in}
+use Rattle.jsteps.specs.declared.op.Op.{Op}
+use Rattle.jreport.specs.declared.faults.ProgramFault.TheVariants as program
+use Rattle.std.proofs.Common.{refl}
+use Rattle.std.proofs.lemmas.Option.{slice_get-map}
+use Rattle.jffs2_image.specs.Writes.{IsMade, IsSessionFault}
+use Rattle.jffs2_image.proofs.WritingLemmas.{not_resumed, not_made, run_on, stopped_at, told, told_in_part, writes_fault, goes_on_from}
+use Rattle.jffs2_image.proofs.writing.write_lines.Goals as goal
+
+pub returns-in_err-from : goal.returns-in_err-from
+returns-in_err-from g c = λ text read.
+    let e = g.E.Order.order in
+    let a = c.args in
+    let m = c.in_ok-mounted.mounted in
+    let mounts : Answers e a.target.geometry.block a.base.now (Ok m) = search rules in
+    let refused : resumes_at e a.target.geometry.block a.target.blocks m ≡ Err c.in_err-from.field-0.0 = search rules in
+    writes_fault e a.target.geometry.block a.target.blocks a.target.output.now a.base.now text _ _ _ _ (program.Session c.in_err-from.field-0.0 None) _ c.from_residual-in_err-from.ensures.1
+    (not_resumed e a.target.geometry.block a.target.blocks a.target.output.now a.base.now text m c.in_err-from.field-0.0 _ _ mounts refused)
+
+pub returns-in_err-report : goal.returns-in_err-report
+returns-in_err-report g c = λ text read.
+    let e = g.E.Order.order in
+    let a = c.args in
+    let m = c.in_ok-mounted.mounted in
+    let mounts : Answers e a.target.geometry.block a.base.now (Ok m) = search rules in
+    writes_fault e a.target.geometry.block a.target.blocks a.target.output.now a.base.now text _ _ _ _ c.in_err-report.field-0.0 _ c.from_residual-in_err-report.ensures.1
+    (not_made e a.target.geometry.block a.target.blocks a.target.output.now a.base.now text m c.in_err-report.field-0.0 _ _ mounts c.in_err-report.ensures.fault)
+
+pub returns-in-Some : goal.returns-in-Some
+returns-in-Some g c = λ text read.
+    let e = g.E.Order.order in
+    let a = c.args in
+    let m = c.in_ok-mounted.mounted in
+    let r = c.in_ok-report.report in
+    let mounts : Answers e a.target.geometry.block a.base.now (Ok m) = search rules in
+    let same : c.deref-2.result.now ≡ ops_in (contents a.parts.now) a.lines.items = search rules in
+    let stopped : r.stopped ≡ Some c.in-Some.fault = search rules in
+    let numbers : c.in_ok-numbers.numbers.items ≡ map (λ l. l.number) a.lines.items = search rules in
+    let line : c.copied-line.result ≡ slice_get c.in_ok-numbers.numbers.items r.accepted =
+        c.copied-line.ensures ∙ (c.get.ensures.lookup ∙ ap (λ (l : List ℕ). slice_get l r.accepted) c.deref-in-Some.ensures.value) in
+    let made : IsMade e a.target.geometry.block a.target.blocks m (ops_in (contents a.parts.now) a.lines.items) r.accepted r.places.items (Some c.in-Some.fault) =
+        subst (λ (o : List Op). IsMade e a.target.geometry.block a.target.blocks m o r.accepted r.places.items (Some c.in-Some.fault)) same
+        (subst (λ s. IsMade e a.target.geometry.block a.target.blocks m c.deref-2.result.now r.accepted r.places.items s) stopped c.in_ok-report.ensures.made) in
+    let run = run_on e a.target.geometry.block a.target.blocks a.base.now text a.lines.items (contents a.parts.now) m r.accepted r.places.items (Some c.in-Some.fault) read mounts made in
+    let shown = line ∙ (ap (λ (l : List ℕ). slice_get l r.accepted) numbers ∙ slice_get-map (λ l. l.number) a.lines.items r.accepted) in
+    (subst (λ n. IsSessionFault e a.target.geometry.block a.target.blocks a.base.now text c.in-Some.fault n) (sym shown)
+    (stopped_at e a.target.geometry.block a.target.blocks a.base.now text a.lines.items r.accepted r.places.items c.in-Some.fault run), refl, refl)
+
+pub returns-in_err-put_accepted : goal.returns-in_err-put_accepted
+returns-in_err-put_accepted g c = λ text read.
+    let e = g.E.Order.order in
+    let a = c.args in
+    let m = c.in_ok-mounted.mounted in
+    let r = c.in_ok-report.report in
+    let mounts : Answers e a.target.geometry.block a.base.now (Ok m) = search rules in
+    let same : c.deref-2.result.now ≡ ops_in (contents a.parts.now) a.lines.items = search rules in
+    let image : m.image ≡ a.base.now = search rules in
+    let at : resumes_at e a.target.geometry.block a.target.blocks m ≡ Ok c.in_ok-from.from = search rules in
+    let stopped : r.stopped ≡ None = search rules in
+    let made : IsMade e a.target.geometry.block a.target.blocks m (ops_in (contents a.parts.now) a.lines.items) r.accepted r.places.items None =
+        subst (λ (o : List Op). IsMade e a.target.geometry.block a.target.blocks m o r.accepted r.places.items None) same
+        (subst (λ s. IsMade e a.target.geometry.block a.target.blocks m c.deref-2.result.now r.accepted r.places.items s) stopped c.in_ok-report.ensures.made) in
+    let run = run_on e a.target.geometry.block a.target.blocks a.base.now text a.lines.items (contents a.parts.now) m r.accepted r.places.items None read mounts made in
+    let from = goes_on_from e a.target.geometry.block a.target.blocks m c.in_ok-from.from at ∙ ap (λ (l : List ℕ). resume_address e a.target.geometry.block a.target.blocks l) image in
+    let put = c.in_err-put_accepted.ensures in
+    writes_fault e a.target.geometry.block a.target.blocks a.target.output.now a.base.now text _ _ _ _ program.Output _ c.from_residual-in_err-put_accepted.ensures.1
+    (told_in_part e a.target.geometry.block a.target.blocks a.target.output.now a.base.now text a.lines.items r.accepted r.places.items c.in_ok-from.from _ _ _ _ from run
+    (subst (λ (l : List Place). PutsPart (g.T.Sink.taken a.sink.now) (g.T.Sink.taken c.put_accepted.new.sink) (accepted_line c.in_ok-from.from r.accepted l)) c.deref-3.ensures.value put.0) put.1)
+
+pub returns : goal.returns
+returns g c = λ text read.
+    let e = g.E.Order.order in
+    let a = c.args in
+    let m = c.in_ok-mounted.mounted in
+    let r = c.in_ok-report.report in
+    let mounts : Answers e a.target.geometry.block a.base.now (Ok m) = search rules in
+    let same : c.deref-2.result.now ≡ ops_in (contents a.parts.now) a.lines.items = search rules in
+    let image : m.image ≡ a.base.now = search rules in
+    let at : resumes_at e a.target.geometry.block a.target.blocks m ≡ Ok c.in_ok-from.from = search rules in
+    let stopped : r.stopped ≡ None = search rules in
+    let made : IsMade e a.target.geometry.block a.target.blocks m (ops_in (contents a.parts.now) a.lines.items) r.accepted r.places.items None =
+        subst (λ (o : List Op). IsMade e a.target.geometry.block a.target.blocks m o r.accepted r.places.items None) same
+        (subst (λ s. IsMade e a.target.geometry.block a.target.blocks m c.deref-2.result.now r.accepted r.places.items s) stopped c.in_ok-report.ensures.made) in
+    let run = run_on e a.target.geometry.block a.target.blocks a.base.now text a.lines.items (contents a.parts.now) m r.accepted r.places.items None read mounts made in
+    let from = goes_on_from e a.target.geometry.block a.target.blocks m c.in_ok-from.from at ∙ ap (λ (l : List ℕ). resume_address e a.target.geometry.block a.target.blocks l) image in
+    let put = c.in_ok-put_accepted.ensures in
+    told e a.target.geometry.block a.target.blocks a.target.output.now a.base.now text a.lines.items r.accepted r.places.items c.in_ok-from.from _ _ _ _ _ from run
+    (subst (λ (l : List Place). Appends (g.T.Sink.taken a.sink.now) (g.T.Sink.taken c.put_accepted.new.sink) (accepted_line c.in_ok-from.from r.accepted l)) c.deref-3.ensures.value put.0) put.1
