@@ -18,6 +18,13 @@ use Rattle.jbuild.specs.Accepted.{accepted_line}
 use Rattle.jbuild.specs.Operations.{ops_in}
 use Rattle.jreport.specs.declared.faults.ProgramFault.{ProgramFault}
 use Rattle.jreport.specs.declared.faults.ProgramFault.TheVariants as program
+use Rattle.std.proofs.Common.{[]}
+use Rattle.std.specs.Prelude.{IsFalse}
+use Rattle.jscan.specs.Image.{is_block_size}
+use Rattle.jscan.specs.declared.geometry.ScanFault.TheVariants as scan
+use Rattle.jcommand.specs.Parsed.{BuildParsed, AppendParsed}
+use Rattle.jcommand.specs.declared.parsed.Options.{Options}
+use Rattle.jffs2_image.specs.Runs.{Meets}
 use Rattle.jffs2_image.specs.Writes.{IsMade, IsNotMade, IsRunOn, IsSessionFault, Writes}
 
 -- the image is not gone on from
@@ -80,3 +87,55 @@ goes_on_from e size blocks m from is = by m.read_only (is_flash_of size blocks m
     by true c same = cc
     by false true same = cc
     by false false same = cc
+
+-- a fault is none of an answer
+pub any_answer : (e : Endian) (size blocks : ℕ) (output base text : List ℕ) (old new : Option (List ℕ)) (before now : ℕ) (f : ProgramFault)
+    → Writes {T = Unit {0}} e size blocks output base text old new before now (Err f) → Writes {T = ℕ} e size blocks output base text old new before now (Err f)
+any_answer e size blocks output base text old new before now (program.Load f) w = w
+any_answer e size blocks output base text old new before now (program.Scan f) w = w
+any_answer e size blocks output base text old new before now (program.Mount f) w = w
+any_answer e size blocks output base text old new before now (program.File f) w = w
+any_answer e size blocks output base text old new before now (program.Listing f) w = w
+any_answer e size blocks output base text old new before now (program.Session f line) w = w
+any_answer e size blocks output base text old new before now (program.Path f) w = w
+any_answer e size blocks output base text old new before now program.NotRegular w = w
+any_answer e size blocks output base text old new before now program.Output w = w
+any_answer e size blocks output base text old new before now program.OutOfMemory w = w
+
+answers_fault : (e : Endian) (size blocks : ℕ) (output base text : List ℕ) (old new : Option (List ℕ)) (before now : ℕ) (f : ProgramFault) (answer : Result ℕ ProgramFault)
+    → IsErrAnd answer (λ is. is ≡ f) → Writes {T = Unit {0}} e size blocks output base text old new before now (Err f) → Writes {T = ℕ} e size blocks output base text old new before now answer
+answers_fault e size blocks output base text old new before now f (Ok x) is w = absurd is
+answers_fault e size blocks output base text old new before now f (Err other) is w =
+    subst (λ (z : ProgramFault). Writes {T = ℕ} e size blocks output base text old new before now (Err z)) (sym is) (any_answer e size blocks output base text old new before now f w)
+
+-- it is not that a block has the wrong size for a report
+no_scan : (e : Endian) (size blocks : ℕ) (output base text : List ℕ) (old new : Option (List ℕ)) (before now : ℕ) (answer : Result ℕ ProgramFault)
+    → Writes {T = ℕ} e size blocks output base text old new before now answer → answer ≡ Err (program.Scan scan.BlockSize) → IsFalse (is_block_size size)
+no_scan e size blocks output base text old new before now answer w is =
+    absurd ((subst (λ (r : Result ℕ ProgramFault). Writes {T = ℕ} e size blocks output base text old new before now r) is w).0)
+
+pub builds : (e : Endian) (options : Options) (blocks : ℕ) (listing output text : List ℕ) (old new : Option (List ℕ)) (before now : ℕ) (answer : Result ℕ ProgramFault)
+    → Writes {T = ℕ} e options.geometry.block blocks output [] text old new before now answer → Meets e (BuildParsed options blocks listing output) old new before now answer
+builds e options blocks listing output text old new before now answer w = record {
+  block_size = no_scan e options.geometry.block blocks output [] text old new before now answer w;
+  put = inl ([], (refl, (text, w)));
+}
+
+pub build_fault : (e : Endian) (options : Options) (blocks : ℕ) (listing output text : List ℕ) (old new : Option (List ℕ)) (before now : ℕ) (f : ProgramFault) (answer : Result ℕ ProgramFault)
+    → IsErrAnd answer (λ is. is ≡ f) → Writes {T = Unit {0}} e options.geometry.block blocks output [] text old new before now (Err f)
+    → Meets e (BuildParsed options blocks listing output) old new before now answer
+build_fault e options blocks listing output text old new before now f answer is w =
+    builds e options blocks listing output text old new before now answer (answers_fault e options.geometry.block blocks output [] text old new before now f answer is w)
+
+pub appends : (e : Endian) (options : Options) (blocks : ℕ) (name listing output base text : List ℕ) (old new : Option (List ℕ)) (before now : ℕ) (answer : Result ℕ ProgramFault)
+    → Writes {T = ℕ} e options.geometry.block blocks output base text old new before now answer → Meets e (AppendParsed options blocks name listing output) old new before now answer
+appends e options blocks name listing output base text old new before now answer w = record {
+  block_size = no_scan e options.geometry.block blocks output base text old new before now answer w;
+  put = inl (base, (text, w));
+}
+
+pub append_fault : (e : Endian) (options : Options) (blocks : ℕ) (name listing output base text : List ℕ) (old new : Option (List ℕ)) (before now : ℕ) (f : ProgramFault) (answer : Result ℕ ProgramFault)
+    → IsErrAnd answer (λ is. is ≡ f) → Writes {T = Unit {0}} e options.geometry.block blocks output base text old new before now (Err f)
+    → Meets e (AppendParsed options blocks name listing output) old new before now answer
+append_fault e options blocks name listing output base text old new before now f answer is w =
+    appends e options blocks name listing output base text old new before now answer (answers_fault e options.geometry.block blocks output base text old new before now f answer is w)

@@ -1,5 +1,5 @@
 //! Writing an image to a file of the host: a listing's operations on a base.
-ghost use Rattle.std.specs.Prelude.{◌≡◌, ℕ, List, Ok, IfOk, IfErr, map};
+ghost use Rattle.std.specs.Prelude.{◌≡◌, ℕ, List, Ok, IfOk, IfErr, map, slice_get};
 ghost use Rattle.jmount.specs.Mounts.{IsMountOf};
 ghost use Rattle.jlisting.specs.Listing.{lines_of};
 ghost use Rattle.jffs2_image.specs.Writes.{IsMade, IsNotMade, IsPartUnread, IsUnread, Writes};
@@ -64,6 +64,12 @@ fn numbers_of(alloc: Global, lines: &[Line<'_>]) -> Result<Vec<usize>, AllocErro
     lines.iter().map(|line| line.number).collect(alloc)
 }
 
+fn number_at(numbers: &[usize], i: usize) -> Option<usize>
+    ensures { result ≡ slice_get numbers.now i }
+{
+    numbers.get(i).copied()
+}
+
 /// Makes the file of an image, and puts out the base and what operations on it make. Answers what was done.
 fn make_image<'a, E: Order, R: Files + AllocGlobal>(
     rt: &R,
@@ -114,7 +120,7 @@ fn write_lines<'a, 'p, 'b: 'p, E: Order, R: Files + AllocGlobal, T: Sink>(
     let from = resume_at::<E>(&mounted, target.geometry, target.blocks)?;
     let report = make_image::<E, R>(rt, target, &mounted, &ops)?;
     if let Some(fault) = report.stopped {
-        let line = numbers.get(report.accepted).copied();
+        let line = number_at(&numbers, report.accepted);
         return Err(ProgramFault::Session { fault, line });
     }
     put_accepted(from, report.accepted, &report.places, sink)?;

@@ -46,8 +46,7 @@ returns-in-Some g c = λ text read.
     let same : c.deref-2.result.now ≡ ops_in (contents a.parts.now) a.lines.items = search rules in
     let stopped : r.stopped ≡ Some c.in-Some.fault = search rules in
     let numbers : c.in_ok-numbers.numbers.items ≡ map (λ l. l.number) a.lines.items = search rules in
-    let line : c.copied-line.result ≡ slice_get c.in_ok-numbers.numbers.items r.accepted =
-        c.copied-line.ensures ∙ (c.get.ensures.lookup ∙ ap (λ (l : List ℕ). slice_get l r.accepted) c.deref-in-Some.ensures.value) in
+    let line : c.number_at-line.result ≡ slice_get c.in_ok-numbers.numbers.items r.accepted = search rules in
     let made : IsMade e a.target.geometry.block a.target.blocks m (ops_in (contents a.parts.now) a.lines.items) r.accepted r.places.items (Some c.in-Some.fault) =
         subst (λ (o : List Op). IsMade e a.target.geometry.block a.target.blocks m o r.accepted r.places.items (Some c.in-Some.fault)) same
         (subst (λ s. IsMade e a.target.geometry.block a.target.blocks m c.deref-2.result.now r.accepted r.places.items s) stopped c.in_ok-report.ensures.made) in
