@@ -1,10 +1,10 @@
 #!/usr/bin/env python3
 """What the least weak cut of a node costs: python3 bench/weak.py [COUNT] [RUNS] [CRATES]
 
-Runs `bench_weak` COUNT times (50000, where it is not given) over nodes of 4,164 bytes, and prints the microseconds of processor time
-a node, and the time as a multiple of that of the checksum of the node: of `cut`, its least weak cut, and of `worst`, the same where only
-the checksum of the data shows a cut in the node_crc. Of each the least time over the runs counts. The program is the one
-that `rt run` built in CRATES (here, where it is not given).
+Runs `bench_weak` COUNT times (50000, where it is not given) over nodes of 4,164 bytes, and prints the microseconds of
+processor time a node, and the time as a multiple of that of the checksum of the node: of `cut`, its least weak cut, and of
+`worst`, the same where only the checksum of the data shows a cut in the node_crc. Of each the least time over the runs
+counts. The program is the one that `rt run` built in CRATES (here, where it is not given).
 """
 import os
 import subprocess
