@@ -1,113 +1,337 @@
-//! What mounts after a cut at each byte.
+//! What mounts after writing stopped, at each byte: the plain file system after the steps whose nodes are whole.
 
-use crate::sessions::run_lines;
+use crate::plain::{Change, Plain};
+use crate::sessions::run_ops;
+use crate::stopped::Log;
 use byteorder::{BigEndian, LittleEndian};
-use jmount::{Mounted, mount};
-use jnode::Order;
-use jscan::Geometry;
+use jmount::mount;
+use jnode::{Damage, Order};
+use jscan::{Finding, FindingKind, Geometry};
+use jsteps::{Op, Text};
 use std::alloc::Global;
 use std::test::Fail;
 
 const GEOMETRY: Geometry = Geometry { block: 8192 };
 
-/// What is seen of a small file system: the number that each of two paths names, and the size of object 2.
-type Shown = (Option<u32>, Option<u32>, Option<u32>);
-
-/// Operations, and what is seen from so many bytes on, up to the next row's.
+/// Operations onto an image, and what they are to leave.
 #[derive(Clone, Copy)]
-struct Cuts {
-    lines: &'static [&'static str],
-    paths: (&'static str, &'static str),
-    shown: &'static [(usize, Shown)],
+struct Case<'c> {
+    base: &'c [u8],
+    /// What makes the base's files.
+    before: &'c [Change],
+    blocks: u32,
+    /// Where writing begins.
+    from: usize,
+    ops: &'c [Op<'c>],
+    steps: &'c [Change],
+    /// How many bytes put each step's node on the flash.
+    whole: &'c [usize],
 }
 
-const CUTS: &[Cuts] = &[
-    Cuts {
-        lines: &["create /a 644"],
-        paths: ("/a", "/b"),
-        shown: &[
-            (0, (None, None, None)),
-            (80, (None, None, Some(0))),
-            (121, (Some(2), None, Some(0))),
-        ],
-    },
-    Cuts {
-        lines: &["create /a 644", "erase /a 0 3"],
-        paths: ("/a", "/b"),
-        shown: &[
-            (0, (None, None, None)),
-            (80, (None, None, Some(0))),
-            (121, (Some(2), None, Some(0))),
-            (192, (Some(2), None, Some(3))),
-        ],
-    },
-    Cuts {
-        lines: &[
-            "create /a 644",
-            "write /a 0 10",
-            "truncate /a 4",
-            "write /a 8 1",
-        ],
-        paths: ("/a", "/b"),
-        shown: &[
-            (0, (None, None, None)),
-            (80, (None, None, Some(0))),
-            (121, (Some(2), None, Some(0))),
-            (202, (Some(2), None, Some(10))),
-            (272, (Some(2), None, Some(4))),
-            (340, (Some(2), None, Some(8))),
-            (409, (Some(2), None, Some(9))),
-        ],
-    },
-    Cuts {
-        lines: &["mkdir /d 755", "rename /d /e"],
-        paths: ("/d", "/e"),
-        shown: &[
-            (0, (None, None, None)),
-            (80, (None, None, Some(0))),
-            (121, (Some(2), None, Some(0))),
-            (165, (Some(2), Some(2), Some(0))),
-            (209, (None, Some(2), Some(0))),
-        ],
-    },
-];
-
-fn shown(mounted: &Mounted<'_>, paths: (&str, &str)) -> Shown {
-    (
-        mounted.find(paths.0.as_bytes()).ok(),
-        mounted.find(paths.1.as_bytes()).ok(),
-        mounted.object(2).map(|object| object.size),
-    )
-}
-
-/// What is to be seen after so many bytes.
-fn wanted(cuts: &Cuts, len: usize) -> Shown {
-    let mut last = (None, None, None);
-    for (from, shown) in cuts.shown {
-        if *from <= len {
-            last = *shown;
-        }
+fn create(time: u32, path: &'static [u8]) -> Op<'static> {
+    Op::Create {
+        time,
+        path: Text::lent(path),
+        mode: 0o644,
+        uid: 0,
+        gid: 0,
     }
-    last
 }
 
-/// The first cut after which something else is seen, by the number of bytes that are left.
-fn first_wrong<E: Order>(alloc: Global, cuts: &Cuts) -> Result<Option<usize>, Fail> {
-    let run = run_lines::<E>(alloc, &[], GEOMETRY, 1, cuts.lines)?;
-    for len in 0..run.output.len() + 1 {
-        let mounted = mount::<E>(alloc, &run.output[..len], GEOMETRY)?;
-        if shown(&mounted, cuts.paths) != wanted(cuts, len) {
-            return Ok(Some(len));
+fn write(time: u32, path: &'static [u8], offset: u32, bytes: &'static [u8]) -> Op<'static> {
+    Op::Write {
+        time,
+        path: Text::lent(path),
+        offset,
+        bytes: Text::lent(bytes),
+    }
+}
+
+const fn made(time: u32) -> Change {
+    Change::Make {
+        mode: 0o100644,
+        time,
+    }
+}
+
+const fn named(name: &'static [u8], ino: u32) -> Change {
+    Change::Name { name, ino }
+}
+
+fn log_of<E: Order>(alloc: Global, case: &Case<'_>) -> Result<Log, Fail> {
+    let run = run_ops::<E>(alloc, case.base, GEOMETRY, case.blocks, case.ops)?;
+    if run.report.accepted != case.ops.len() {
+        return Err(Fail::from("an operation was refused"));
+    }
+    let mut bytes = Vec::new(alloc);
+    bytes.extend_from_slice(case.base)?;
+    bytes.resize(case.from, 0xFF)?;
+    bytes.extend_from_slice(&run.output)?;
+    Ok(Log {
+        bytes,
+        from: case.from,
+        flash: (case.blocks as usize).saturating_mul(8192),
+        places: run.report.places,
+    })
+}
+
+/// The plain file systems after none of the steps, after one, and so on.
+fn states_of(alloc: Global, case: &Case<'_>) -> Result<Vec<Plain>, Fail> {
+    let mut states = Vec::new(alloc);
+    for count in 0..case.steps.len() + 1 {
+        let mut state = Plain::new(alloc);
+        for change in case.before {
+            state.take(alloc, change)?;
+        }
+        for change in case.steps.iter().take(count) {
+            state.take(alloc, change)?;
+        }
+        states.push(state)?;
+    }
+    Ok(states)
+}
+
+/// Which pairs of lengths are tried of the markers of blocks that were not written past them: all inside the first marker
+/// and after every 61st byte, and one in turn after the others. 13 pairs have the same length of the second.
+fn marker_lens(k: usize) -> (usize, usize) {
+    if k <= 12 || k % 61 == 0 {
+        (0, 169)
+    } else {
+        (k, k.saturating_add(1))
+    }
+}
+
+/// The first number of bytes after which an image mounts otherwise than as the steps whose nodes are whole say.
+fn first_wrong<E: Order>(alloc: Global, case: &Case<'_>) -> Result<Option<usize>, Fail> {
+    let log = log_of::<E>(alloc, case)?;
+    let states = states_of(alloc, case)?;
+    let mut image = Vec::new(alloc);
+    let mut room = vec![in alloc; 0u8; 16_384]?;
+    for end in case.from..log.bytes.len() + 1 {
+        let k = end.saturating_sub(case.from);
+        let count = case.whole.iter().filter(|whole| **whole <= k).count();
+        let state = states.get(count).ok_or("no state")?;
+        let (first, last) = marker_lens(k);
+        for pair in first..last {
+            log.leave::<E>(&mut image, end, (pair % 13, pair / 13 % 13))?;
+            let mounted = mount::<E>(alloc, &image, GEOMETRY)?;
+            if log.count_whole(&image) != count || !state.is_shown(&mounted, &mut room) {
+                return Ok(Some(k));
+            }
         }
     }
     Ok(None)
 }
 
+/// Whether each image that is left mounts as it is to, in an order.
+fn survives<E: Order>(alloc: Global, case: &Case<'_>, len: usize) -> Result<bool, Fail> {
+    let run = run_ops::<E>(alloc, case.base, GEOMETRY, case.blocks, case.ops)?;
+    Ok(run.output.len() == len && first_wrong::<E>(alloc, case)?.is_none())
+}
+
+const TEN: [u8; 10] = [1, 2, 3, 4, 5, 6, 7, 8, 9, 10];
+
+/// The file is cut and written past its end, so that zeros fill the gap. The last byte is that of erased flash.
 #[test]
-fn what_mounts_after_each_cut(rt: HostRuntime) -> Result<(), Fail> {
-    for cuts in CUTS {
-        assert_eq!(rt; first_wrong::<LittleEndian>(rt.alloc(), cuts)?, None);
-        assert_eq!(rt; first_wrong::<BigEndian>(rt.alloc(), cuts)?, None);
+fn a_file_that_is_cut_and_written(rt: HostRuntime) -> Result<(), Fail> {
+    let ops = [
+        create(1, b"/a"),
+        write(2, b"/a", 0, &TEN),
+        Op::Truncate {
+            time: 3,
+            path: Text::lent(b"/a"),
+            size: 4,
+        },
+        write(4, b"/a", 8, b"\xFF"),
+    ];
+    let file = 0;
+    let case = Case {
+        base: &[],
+        before: &[],
+        blocks: 1,
+        from: 0,
+        ops: &ops,
+        steps: &[
+            made(1),
+            named(b"a", 2),
+            Change::Put {
+                file,
+                offset: 0,
+                bytes: &TEN,
+                time: 2,
+            },
+            Change::Cut {
+                file,
+                size: 4,
+                time: 3,
+            },
+            Change::Zero {
+                file,
+                size: 8,
+                time: 4,
+            },
+            Change::Put {
+                file,
+                offset: 8,
+                bytes: b"\xFF",
+                time: 4,
+            },
+        ],
+        whole: &[80, 121, 202, 272, 340, 408],
+    };
+    assert!(rt; survives::<LittleEndian>(rt.alloc(), &case, 412)?);
+    assert!(rt; survives::<BigEndian>(rt.alloc(), &case, 412)?);
+    Ok(())
+}
+
+/// Both names are there once the new one is whole.
+#[test]
+fn a_directory_that_is_renamed(rt: HostRuntime) -> Result<(), Fail> {
+    let ops = [
+        Op::Mkdir {
+            time: 1,
+            path: Text::lent(b"/d"),
+            mode: 0o755,
+            uid: 0,
+            gid: 0,
+        },
+        Op::Rename {
+            time: 2,
+            old: Text::lent(b"/d"),
+            new: Text::lent(b"/e"),
+        },
+    ];
+    let case = Case {
+        base: &[],
+        before: &[],
+        blocks: 1,
+        from: 0,
+        ops: &ops,
+        steps: &[
+            Change::Make {
+                mode: 0o040755,
+                time: 1,
+            },
+            named(b"d", 2),
+            named(b"e", 2),
+            Change::Clear { name: b"d" },
+        ],
+        whole: &[80, 121, 165, 209],
+    };
+    assert!(rt; survives::<LittleEndian>(rt.alloc(), &case, 212)?);
+    assert!(rt; survives::<BigEndian>(rt.alloc(), &case, 212)?);
+    Ok(())
+}
+
+fn goes_on<E: Order>(alloc: Global) -> Result<bool, Fail> {
+    let made_file = run_ops::<E>(alloc, &[], GEOMETRY, 1, &[create(0, b"/a")])?;
+    let case = Case {
+        base: made_file.output.get(..100).ok_or("too short")?,
+        before: &[made(0)],
+        blocks: 2,
+        from: 8192,
+        ops: &[create(5, b"/b")],
+        steps: &[made(5), named(b"b", 3)],
+        whole: &[80, 121],
+    };
+    survives::<E>(alloc, &case, 124)
+}
+
+/// The image of a file that was made, without the last bytes of its name's node: writing goes on in the next block.
+#[test]
+fn a_base_that_was_cut(rt: HostRuntime) -> Result<(), Fail> {
+    assert!(rt; goes_on::<LittleEndian>(rt.alloc())?);
+    assert!(rt; goes_on::<BigEndian>(rt.alloc())?);
+    Ok(())
+}
+
+const ONES: [u8; 8192] = [1; 8192];
+
+/// Two nodes of data, each in its block: some 100,000 mounts, which take a second as LLVM builds them and many minutes by
+/// `rt try`.
+#[test]
+fn a_file_over_two_blocks(rt: HostRuntime) -> Result<(), Fail> {
+    let file = 0;
+    let case = Case {
+        base: &[],
+        before: &[],
+        blocks: 2,
+        from: 0,
+        ops: &[create(1, b"/a"), write(2, b"/a", 0, &ONES)],
+        steps: &[
+            made(1),
+            named(b"a", 2),
+            Change::Put {
+                file,
+                offset: 0,
+                bytes: &ONES[..4096],
+                time: 2,
+            },
+            Change::Put {
+                file,
+                offset: 4096,
+                bytes: &ONES[4096..],
+                time: 2,
+            },
+        ],
+        whole: &[80, 121, 4288, 12368],
+    };
+    assert!(rt; survives::<LittleEndian>(rt.alloc(), &case, 12368)?);
+    assert!(rt; survives::<BigEndian>(rt.alloc(), &case, 12368)?);
+    Ok(())
+}
+
+/// A node whose last bytes are those of erased flash is whole before they are written.
+#[test]
+fn a_file_that_ends_in_erased_bytes(rt: HostRuntime) -> Result<(), Fail> {
+    let case = Case {
+        base: &[],
+        before: &[],
+        blocks: 1,
+        from: 0,
+        ops: &[create(0, b"/a"), write(0, b"/a", 0, b"\xFF\xFF\xFF")],
+        steps: &[
+            made(0),
+            named(b"a", 2),
+            Change::Put {
+                file: 0,
+                offset: 0,
+                bytes: b"\xFF\xFF\xFF",
+                time: 0,
+            },
+        ],
+        whole: &[80, 121, 192],
+    };
+    assert!(rt; survives::<LittleEndian>(rt.alloc(), &case, 196)?);
+    assert!(rt; survives::<BigEndian>(rt.alloc(), &case, 196)?);
+    Ok(())
+}
+
+/// Why nodes must have no weak cut: five erased bytes have the checksum of these five, so they mount as the data.
+#[test]
+fn a_weak_cut(rt: HostRuntime) -> Result<(), Fail> {
+    let alloc = rt.alloc();
+    let ops = [
+        create(0, b"/a"),
+        write(0, b"/a", 0, &[0xBE, 0xF9, 0x8E, 0x24, 0xFE]),
+    ];
+    let run = run_ops::<LittleEndian>(alloc, &[], GEOMETRY, 1, &ops)?;
+    let damaged = Finding {
+        addr: 124,
+        kind: FindingKind::Damaged(Damage::DataCrc),
+    };
+    for (k, data, findings) in [
+        (192, b"\xFF\xFF\xFF\xFF\xFF".as_slice(), [].as_slice()),
+        (193, b"", &[damaged]),
+        (196, b"", &[damaged]),
+        (197, b"\xBE\xF9\x8E\x24\xFE", &[]),
+    ] {
+        let image = run.output.get(..k).ok_or("too short")?;
+        let mounted = mount::<LittleEndian>(alloc, image, GEOMETRY)?;
+        let mut room = [0u8; 8];
+        let count = mounted.read_at(2, 0, &mut room);
+        assert!(rt; room.get(..count) == Some(data), "after {k}");
+        assert_eq!(rt; mounted.findings(), findings, "after {k}");
     }
     Ok(())
 }

@@ -1,8 +1,9 @@
 //! Worked logs: what sessions put, where they refuse, and what mounts after a cut, from the rules of the format and not from
 //! the program's output.
 //!
-//! `lines` reads operations from lines of text, `sessions` runs them onto an image, `run_tests` and `refusal_tests` have the
-//! tables, `cut_tests` mounts what each cut leaves, `sink_tests` lets a sink fail, and `place_tests` has single nodes.
+//! `lines` reads operations from lines of text, `sessions` runs them onto an image, `run_tests` and `refusal_tests` have
+//! the tables, `cut_tests` mounts what a stop at each byte leaves (`stopped`) and compares it with a plain file system
+//! (`plain`), `sink_tests` lets a sink fail, and `place_tests` has single nodes.
 #![tactic(auto)]
 
 #[cfg(test)]
@@ -12,6 +13,8 @@ mod lines;
 #[cfg(test)]
 mod place_tests;
 #[cfg(test)]
+mod plain;
+#[cfg(test)]
 mod refusal_tests;
 #[cfg(test)]
 mod run_tests;
@@ -19,3 +22,5 @@ mod run_tests;
 mod sessions;
 #[cfg(test)]
 mod sink_tests;
+#[cfg(test)]
+mod stopped;

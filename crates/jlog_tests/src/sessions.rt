@@ -26,19 +26,18 @@ pub fn ops_of<'a>(alloc: Global, lines: &[&'a str]) -> Result<Vec<Op<'a>>, Fail>
     Ok(ops)
 }
 
-/// Runs the operations of lines onto an image, on a flash of so many blocks.
-pub fn run_lines<E: Order>(
+/// Runs operations onto an image, on a flash of so many blocks.
+pub fn run_ops<E: Order>(
     alloc: Global,
     image: &[u8],
     geometry: Geometry,
     blocks: u32,
-    lines: &[&str],
+    ops: &[Op<'_>],
 ) -> Result<Outcome, Fail> {
-    let ops = ops_of(alloc, lines)?;
     let mounted = mount::<E>(alloc, image, geometry)?;
     let sink = FromWriter::new(Vec::new(alloc));
     let mut session = Session::<E, _>::resume(alloc, &mounted, geometry, blocks, sink)?;
-    let report = session.run(alloc, &ops);
+    let report = session.run(alloc, ops);
     if session.base() != image {
         return Err(Fail::from("another base"));
     }
@@ -46,4 +45,15 @@ pub fn run_lines<E: Order>(
         output: session.finish().into_writer(),
         report,
     })
+}
+
+/// Runs the operations of lines onto an image.
+pub fn run_lines<E: Order>(
+    alloc: Global,
+    image: &[u8],
+    geometry: Geometry,
+    blocks: u32,
+    lines: &[&str],
+) -> Result<Outcome, Fail> {
+    run_ops::<E>(alloc, image, geometry, blocks, &ops_of(alloc, lines)?)
 }

@@ -6,3 +6,6 @@ pub mod WritingLemmas
 pub mod WeakLemmas
 pub mod MarkerLemmas
 pub mod FitsLemmas
+pub mod UndoLemmas
+pub mod CutLemmas
+pub mod StoredLemmas

@@ -36,10 +36,10 @@ pub five_pass : (a b c d f : Bool) (v w x y z : Damage) (r : Seen)
     → cond (not a) (Damaged v) (cond (not b) (Damaged w) (cond (not c) (Damaged x) (cond (not d) (Damaged y) (cond (not f) (Damaged z) r)))) ≡ r
 five_pass a b c d f v w x y z r ha hb hc hd hf = rw (ha, hb, hc, hd, hf) refl
 
-damaged_no_entry : (node : Dirent) (q : Damage) → Damaged q ≡ Entry node → ⊥
+pub damaged_no_entry : (node : Dirent) (q : Damage) → Damaged q ≡ Entry node → ⊥
 damaged_no_entry node q h = cc
 
-damaged_no_inode : (node : InodeNode) (q : Damage) → Damaged q ≡ Inode node → ⊥
+pub damaged_no_inode : (node : InodeNode) (q : Damage) → Damaged q ≡ Inode node → ⊥
 damaged_no_inode node q h = cc
 
 damaged_no_compressed : (compr : ℕ) (q : Damage) → Damaged q ≡ Compressed compr → ⊥
@@ -67,7 +67,7 @@ entry_found e tile node is_tile kind h =
       fields = let same : Entry (dirent_of e tile) ≡ Entry node = parts.5 in cc;
     }
 
-entry_again : (e : Endian) (tile : List ℕ) (node : Dirent) → ReadsEntry e tile node → entry_seen e tile ≡ Entry node
+pub entry_again : (e : Endian) (tile : List ℕ) (node : Dirent) → ReadsEntry e tile node → entry_seen e tile ≡ Entry node
 unfolding entry_seen is_entry_long is_crc_right is_size_right is_entry_in_range
 entry_again e tile node r =
     let parent : 0 < number_at e 4 12 tile = let ne = r.parent in omega arith in
@@ -193,7 +193,7 @@ inode_passes e tile r range =
     (and_from _ _ (and_from _ _ (lt-ltb _ _ object) (le-leb _ _ r.end)) range)
     data_crc
 
-inode_again : (e : Endian) (tile : List ℕ) (node : InodeNode) → ReadsInode e tile node → inode_seen e tile ≡ Inode node
+pub inode_again : (e : Endian) (tile : List ℕ) (node : InodeNode) → ReadsInode e tile node → inode_seen e tile ≡ Inode node
 inode_again e tile node r =
     inode_passes e tile r.sound (fill_range e tile node.fill r.gives)
     ∙ passed_again e tile node.fill r.gives ∙ ap Inode (sym r.fields)

@@ -76,7 +76,7 @@ bounded e rest long good =
     let fits : totlen_of e rest ≤ 4194304 = omega arith in
     and_from _ _ front.0 (le-leb _ _ fits)
 
-bounded_front : (e : Endian) (a b : List ℕ) → take 12 a ≡ take 12 b → has_bounded_header e a ≡ has_bounded_header e b
+pub bounded_front : (e : Endian) (a b : List ℕ) → take 12 a ≡ take 12 b → has_bounded_header e a ≡ has_bounded_header e b
 unfolding has_bounded_header
 bounded_front e a b same =
     let words = header_is_twelve_bytes e a b same in
@@ -206,7 +206,7 @@ sound_is : (s : Seen) → is_sound s ≡ true → IsDamaged s
 unfolding IsDamaged
 sound_is s is not = absurd (both_ways _ not is)
 
-passed_is_sound : (e : Endian) (tile : List ℕ) → is_sound (passed_seen e tile) ≡ true
+pub passed_is_sound : (e : Endian) (tile : List ℕ) → is_sound (passed_seen e tile) ≡ true
 unfolding passed_seen
 passed_is_sound e tile =
     cond_both (compr_of tile == 0) _ _ (λ s. is_sound s ≡ true) (λ _. refl) (λ _.
@@ -240,14 +240,14 @@ not_sound e xs j same differs weak =
 pub torn_long : (xs : List ℕ) (j : ℕ) → length (torn xs j) ≡ length xs
 torn_long xs j = omega (arith, length_of (take j xs) (length xs - j), length-take j xs)
 
-canonical_type : (e : Endian) (node : NodeRef) → nodetype_of e (canonical e node) ≡ nodetype_to node
+pub canonical_type : (e : Endian) (node : NodeRef) → nodetype_of e (canonical e node) ≡ nodetype_to node
 unfolding canonical_entry entry_front canonical_inode inode_front object_bytes time_bytes range_bytes header_bytes bytes_in number_in nodetype_to
 canonical_type Little (Entry d) = refl
 canonical_type Little (Inode n) = refl
 canonical_type Big (Entry d) = refl
 canonical_type Big (Inode n) = refl
 
-filled_type : (e : Endian) (node : NodeRef) (j : ℕ) → take 12 (torn (canonical e node) j) ≡ take 12 (canonical e node)
+pub filled_type : (e : Endian) (node : NodeRef) (j : ℕ) → take 12 (torn (canonical e node) j) ≡ take 12 (canonical e node)
     → nodetype_of e (filled (torn (canonical e node) j)) ≡ nodetype_to node
 filled_type e node j same =
     let left = torn (canonical e node) j in
@@ -280,7 +280,7 @@ cut_behind_keeps_header xs j behind_it long =
     ]
 
 -- the same front, however many erased bytes follow
-same_front : (xs : List ℕ) (j m n : ℕ) → j ≤ length xs → 12 ≤ j + m → 12 ≤ j + n
+pub same_front : (xs : List ℕ) (j m n : ℕ) → j ≤ length xs → 12 ≤ j + m → 12 ≤ j + n
     → take 12 (take j xs ++ erased m) ≡ take 12 (take j xs ++ erased n)
 same_front xs j m n within lm ln =
     let cut : length (take j xs) ≡ j = length-take-le j xs within in

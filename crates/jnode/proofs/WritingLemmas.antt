@@ -82,7 +82,7 @@ tile_from e nodetype totlen tile h long accurate = record {
 -- ---- an entry node
 
 -- the bytes of an entry node, field by field
-record EntryBytes (e : Endian) (d : Dirent) (rest tile : List ℕ) : Type 0 where
+pub record EntryBytes (e : Endian) (d : Dirent) (rest tile : List ℕ) : Type 0 where
   pub header : HeaderBytes e dirent_type (entry_len + length d.name) tile
   pub pino : take 4 (drop 12 tile) ≡ bytes_in e 4 d.pino
   pub version : take 4 (drop 16 tile) ≡ bytes_in e 4 d.version
@@ -95,7 +95,7 @@ record EntryBytes (e : Endian) (d : Dirent) (rest tile : List ℕ) : Type 0 wher
   pub name_crc : take 4 (drop 36 tile) ≡ bytes_in e 4 (crc_of d.name)
   pub behind : drop 40 tile ≡ d.name ++ rest
 
-entry_bytes_are : (e : Endian) (d : Dirent) (rest : List ℕ) → EntryBytes e d rest (canonical_entry e d ++ rest)
+pub entry_bytes_are : (e : Endian) (d : Dirent) (rest : List ℕ) → EntryBytes e d rest (canonical_entry e d ++ rest)
 unfolding canonical_entry entry_front header_bytes bytes_in
 entry_bytes_are Little d rest = record {
   header = record { magic_is = refl; type_is = refl; totlen_is = refl; crc_is = refl };
@@ -171,7 +171,7 @@ length-filled bytes =
 -- ---- an inode node
 
 -- the bytes of an inode node, field by field
-record InodeBytes (e : Endian) (n : InodeNode) (rest tile : List ℕ) : Type 0 where
+pub record InodeBytes (e : Endian) (n : InodeNode) (rest tile : List ℕ) : Type 0 where
   pub header : HeaderBytes e inode_type (inode_len + length (stored_bytes n.fill)) tile
   pub ino : take 4 (drop 12 tile) ≡ bytes_in e 4 n.ino
   pub version : take 4 (drop 16 tile) ≡ bytes_in e 4 n.version
@@ -191,7 +191,7 @@ record InodeBytes (e : Endian) (n : InodeNode) (rest tile : List ℕ) : Type 0 w
   pub node_crc : take 4 (drop 64 tile) ≡ bytes_in e 4 (crc_of (inode_front e n))
   pub behind : drop 68 tile ≡ stored_bytes n.fill ++ rest
 
-inode_bytes_are : (e : Endian) (n : InodeNode) (rest : List ℕ) → InodeBytes e n rest (canonical_inode e n ++ rest)
+pub inode_bytes_are : (e : Endian) (n : InodeNode) (rest : List ℕ) → InodeBytes e n rest (canonical_inode e n ++ rest)
 unfolding canonical_inode inode_front object_bytes time_bytes range_bytes header_bytes bytes_in
 inode_bytes_are Little n rest = record {
   header = record { magic_is = refl; type_is = refl; totlen_is = refl; crc_is = refl };

@@ -1,10 +1,12 @@
 -- A write that power cut short leaves the first bytes of a node, and erased flash after them.
-use Rattle.std.specs.Prelude.{◌≡◌, ◌≤◌, ℕ, ◌-◌, ◌&&◌, not, Bool, true, false, nat_le, bytes_eq, IsTrue, Option, Some, None, List, ◌++◌, length, take, if◌then◌else◌}
+use Rattle.std.specs.Prelude.{◌≡◌, ◌≤◌, ◌==◌, ℕ, ◌-◌, ◌&&◌, not, Bool, true, false, nat_le, bytes_eq, IsTrue, Option, Some, None, List, ◌++◌, length, take, if◌then◌else◌}
 use Rattle.flashbase.specs.Bytes.{erased}
-use Rattle.jnode.specs.Header.{header_len, has_header, totlen_of}
-use Rattle.jnode.specs.Reading.{seen_of}
-use Rattle.jnode.specs.Writing.{filled, totlen_most}
+use Rattle.flashbase.specs.Crc.{crc_of}
+use Rattle.jnode.specs.Header.{header_len, has_header, nodetype_of, totlen_of}
+use Rattle.jnode.specs.Reading.{seen_of, inode_type, entry_len, inode_len}
+use Rattle.jnode.specs.Writing.{filled, totlen_most, canonical, Fits, IsWritable}
 use Rattle.jnode.specs.declared.order.Endian.{Endian}
+use Rattle.jnode.specs.declared.node.NodeRef.{NodeRef}
 use Rattle.jnode.specs.declared.node.Seen.{Seen}
 use Rattle.jnode.specs.declared.node.Seen.TheVariants as seen
 
@@ -35,3 +37,28 @@ is_weak e bytes j =
 abbrev pub IsLeastWeak : Endian → List ℕ → Option ℕ → Type 0
 IsLeastWeak e bytes None = (j : ℕ) → is_weak e bytes j ≡ false
 IsLeastWeak e bytes (Some j) = IsTrue (is_weak e bytes j) × ((i : ℕ) → IsTrue (is_weak e bytes i) → j ≤ i)
+
+-- These bytes are the written form of this node, which is one that is not refused.
+pub record IsWrittenAs (e : Endian) (bytes : List ℕ) (node : NodeRef) : Type 0 where
+  pub form : bytes ≡ canonical e node
+  pub fits : Fits node
+  pub writable : IsWritable node
+
+-- These bytes are the written form of some node.
+abbrev pub IsWrittenNode : Endian → List ℕ → Type 0
+IsWrittenNode e bytes = (node : NodeRef) × IsWrittenAs e bytes node
+
+-- where the bytes of an entry's name or of an inode node's data begin
+abbrev pub stored_at : Endian → List ℕ → ℕ
+stored_at e bytes = if nodetype_of e bytes == inode_type then inode_len else entry_len
+
+-- ---- what a checksum does not show
+
+-- The cut after j bytes leaves other bytes, of the same checksum.
+unfoldable pub is_hidden : List ℕ → ℕ → Bool
+is_hidden bytes j = not (bytes_eq (torn bytes j) bytes) && (crc_of bytes == crc_of (torn bytes j))
+
+-- the least such cut, if there is one
+abbrev pub IsLeastHidden : List ℕ → Option ℕ → Type 0
+IsLeastHidden bytes None = (j : ℕ) → is_hidden bytes j ≡ false
+IsLeastHidden bytes (Some j) = IsTrue (is_hidden bytes j) × ((i : ℕ) → IsTrue (is_hidden bytes i) → j ≤ i)

@@ -48,7 +48,7 @@ fn has_header<E: Order>(front: &[u8]) -> bool
 
 /// Whether there is a good header in the front of `len` bytes.
 #[tactic(auto, unfolding(crate::specs::Header::is_good_front))]
-fn is_good_front<E: Order>(front: &[u8], len: usize) -> bool
+pub(crate) fn is_good_front<E: Order>(front: &[u8], len: usize) -> bool
     requires { header_len ≤ length front.now }
     ensures { result ≡ is_good_front E.order front.now len }
 {
@@ -73,7 +73,7 @@ fn header_by_front<E: Order>(front: &[u8], len: usize) -> Option<Header>
 }
 
 /// The bytes of a header at the start of a part.
-fn front_of(rest: &Part<'_>) -> [u8; header::LEN]
+pub(crate) fn front_of(rest: &Part<'_>) -> [u8; header::LEN]
     requires { header_len ≤ length rest.now }
     ensures { result ≡ take header_len rest.now }
 {

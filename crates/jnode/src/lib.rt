@@ -7,6 +7,7 @@
 //!   `Part` whose end the image lacks; `read_node` and `read_part` say what its node is seen as.
 //! - `write_entry`, `write_inode`, `write_marker` and `write_padding` append the written form of a node; `marker_bytes`
 //!   is that of the marker.
+//! - `weak_cut` gives the least cut of a written node that no check shows.
 //! - `Order` names the byte order, and `Endian` is that order as a value, which the definitions take.
 //! - `laws` has what holds of the definitions themselves: round trips, torn nodes, worked examples.
 //!
@@ -20,12 +21,15 @@ mod layout;
 mod node;
 mod order;
 mod reading;
+mod undo;
+mod weak;
 mod writing;
 
 pub use crate::header::{Header, header_at, header_in};
 pub use crate::node::{Damage, Dirent, Fill, InodeNode, NodeRef, Seen};
 pub use crate::order::{Endian, Order};
 pub use crate::reading::{read_node, read_part};
+pub use crate::weak::weak_cut;
 pub use crate::writing::{
     WriteFault, marker_bytes, write_entry, write_inode, write_marker, write_padding,
 };

@@ -1,4 +1,4 @@
-//! Tests of `jnode`: the vectors of the format, read and written, and nodes that break one rule each.
+//! Tests of `jnode`: the vectors of the format, read and written, nodes that break one rule each, and cuts that no check shows.
 #![tactic(auto)]
 
 #[cfg(test)]
@@ -9,5 +9,7 @@ mod nodes;
 mod reading;
 #[cfg(test)]
 mod vectors;
+#[cfg(test)]
+mod weak;
 #[cfg(test)]
 mod writing;
