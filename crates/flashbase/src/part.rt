@@ -168,13 +168,19 @@ fn cut(bytes: &[u8], from: usize, len: usize) -> &[u8]
     &bytes[start..end]
 }
 
+/// A piece of erased flash.
+const ERASED: [u8; 64] = [0xFF; 64];
+
 /// The checksum of bytes and then `missing` bytes 0xFF.
 fn padded_crc(bytes: &[u8], missing: usize) -> u32
     ensures { result ≡ crc_of (bytes.now ++ erased missing) }
 {
     let mut sum = crc(bytes);
-    for _ in 0..missing {
-        sum = crc_from(sum, &[0xFF]);
+    let mut done = 0;
+    while done < missing {
+        let len = ERASED.len().min(missing - done);
+        sum = crc_from(sum, &ERASED[..len]);
+        done += len;
     }
     sum
 }
