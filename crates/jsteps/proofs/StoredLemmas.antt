@@ -24,7 +24,8 @@ use Rattle.jmount.specs.Tree.{object, type_bits, has_bits, directory_bits}
 use Rattle.jmount.specs.Shown.{shown_outline}
 use Rattle.jmount.proofs.StoredLemmas.{lookup-no_key}
 use Rattle.jsteps.specs.Nodes.{Indexed}
-use Rattle.jsteps.specs.Stored.{stored_outline, Objects, OwnedName, NumbersByName, Directories, ino_in, ino_at, keys_under, stored_index}
+use Rattle.jsteps.specs.Stored.{stored_outline, Objects, OwnedName, Directories, names_in, is_without_names, ino_in, ino_at, keys_under, stored_index}
+use Rattle.jsteps.specs.declared.directories.Names.{Names}
 use Rattle.jsteps.specs.declared.stored.Stored.{Stored}
 
 -- ---- names
@@ -48,19 +49,19 @@ none_in q dir (e ∷ es) tied none =
     (sym (in_directory (nat_cmp q.0 dir) (slice_cmp nat_cmp q.1 e.0.items) tied) ∙ parts.0)
     ∙ none_in q dir es tied parts.1
 
-found_under : (q : Key) (b : Bool) (e : NumbersByName) (o : Option NumbersByName) → (b ≡ true → ino_in e q.1 ≡ None) → option_and_then (λ names. ino_in names q.1) o ≡ None
+found_under : (q : Key) (b : Bool) (e : Names) (o : Option Names) → (b ≡ true → ino_in e q.1 ≡ None) → option_and_then (λ names. ino_in names q.1) o ≡ None
     → option_and_then (λ names. ino_in names q.1) (cond b (Some e) o) ≡ None
 found_under q true e o here later = here refl
 found_under q false e o here later = later
 
-none_at : (q : Key) (es : List (ℕ × NumbersByName)) → list_any (eq_by_cmp key_cmp q) (flat_map keys_under es) ≡ false
+none_at : (q : Key) (es : List (ℕ × Names)) → list_any (eq_by_cmp key_cmp q) (flat_map keys_under es) ≡ false
     → option_and_then (λ names. ino_in names q.1) (lookup (eq_by_cmp nat_cmp q.0) es) ≡ None
 none_at q [] none = refl
 none_at q (e ∷ es) none =
     let parts = or_parts (list_any (eq_by_cmp key_cmp q) (keys_under e)) (list_any (eq_by_cmp key_cmp q) (flat_map keys_under es))
     (sym (list_any-append (eq_by_cmp key_cmp q) (keys_under e) (flat_map keys_under es)) ∙ none) in
     found_under q (eq_by_cmp nat_cmp q.0 e.0) e.1 (lookup (eq_by_cmp nat_cmp q.0) es)
-    (λ tied. none_in q e.0 e.1.entries tied parts.0)
+    (λ tied. none_in q e.0 (names_in e.1) tied parts.0)
     (none_at q es parts.1)
 
 -- ---- what the index has at each number and name
@@ -113,16 +114,16 @@ directory-stored (Some stored) = refl
 
 -- whether names are kept of a directory
 abbrev pub keeps_names : Directories → ℕ → Bool
-keeps_names directories dir = unwrap_or (option_map (λ names. not (length names.entries == 0)) (get nat_cmp directories dir)) false
+keeps_names directories dir = unwrap_or (option_map (λ names. not (is_without_names names)) (get nat_cmp directories dir)) false
 
 both_true : (a b : Bool) → (a ≡ true → b ≡ true) → (b ≡ true → a ≡ true) → a ≡ b
 both_true true b f g = sym (f refl)
 both_true false true f g = g refl
 both_true false false f g = refl
 
-some_kept : (names : Option NumbersByName) (name : List ℕ) (v : ℕ) → option_and_then (λ names. ino_in names name) names ≡ Some v → unwrap_or (option_map (λ names. not (length names.entries == 0)) names) false ≡ true
+some_kept : (names : Option Names) (name : List ℕ) (v : ℕ) → option_and_then (λ names. ino_in names name) names ≡ Some v → unwrap_or (option_map (λ names. not (is_without_names names)) names) false ≡ true
 some_kept None name v e = absurd (true≢false (sym (ap is_some e)))
-some_kept (Some names) name v e = by_entries names.entries (λ (es : List (OwnedName × ℕ)). lookup (λ (k : OwnedName). is_eq (slice_cmp nat_cmp name k.items)) es) refl e
+some_kept (Some names) name v e = by_entries (names_in names) (λ (es : List (OwnedName × ℕ)). lookup (λ (k : OwnedName). is_eq (slice_cmp nat_cmp name k.items)) es) refl e
   where
     by_entries : (es : List (OwnedName × ℕ)) (f : List (OwnedName × ℕ) → Option ℕ) → f [] ≡ None → f es ≡ Some v → not (length es == 0) ≡ true
     by_entries [] f none e = absurd (true≢false (sym (ap is_some (sym none ∙ e))))
@@ -133,12 +134,12 @@ first_found n v es =
     ap (λ (b : Bool). cond b (Some v) (lookup (λ (k : OwnedName). is_eq (slice_cmp nat_cmp n.items k.items)) es)) (is_eq-slice_cmp n.items n.items ∙ (bytes_eq-Decides n.items n.items).1 refl)
 
 -- a name that is kept, where names are
-kept_name : (names : Option NumbersByName) → unwrap_or (option_map (λ names. not (length names.entries == 0)) names) false ≡ true
+kept_name : (names : Option Names) → unwrap_or (option_map (λ names. not (is_without_names names)) names) false ≡ true
     → (name : List ℕ) × (v : ℕ) × (option_and_then (λ names. ino_in names name) names ≡ Some v)
 kept_name None h = absurd (true≢false (sym h))
-kept_name (Some names) h = by_entries names.entries refl h
+kept_name (Some names) h = by_entries (names_in names) refl h
   where
-    by_entries : (es : List (OwnedName × ℕ)) → names.entries ≡ es → not (length es == 0) ≡ true → (name : List ℕ) × (v : ℕ) × (ino_in names name ≡ Some v)
+    by_entries : (es : List (OwnedName × ℕ)) → names_in names ≡ es → not (length es == 0) ≡ true → (name : List ℕ) × (v : ℕ) × (ino_in names name ≡ Some v)
     by_entries [] e h = absurd (true≢false (sym h))
     by_entries (x ∷ es) e h = (x.0.items, x.1, ap (lookup (λ (k : OwnedName). is_eq (slice_cmp nat_cmp x.0.items k.items))) e ∙ first_found x.0 x.1 es)
 

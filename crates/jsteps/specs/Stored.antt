@@ -1,17 +1,19 @@
 -- How an index keeps its file system.
-use Rattle.std.specs.Prelude.{ℕ, ◌+◌, Vec, List, map, Option, option_map, option_and_then, unwrap_or}
-use Rattle.std.specs.List.{flat_map}
+use Rattle.std.specs.Prelude.{ℕ, ◌+◌, ◌==◌, Bool, false, Vec, List, length, map, Option, option_map, option_and_then, unwrap_or, bytes_eq}
+use Rattle.std.specs.List.{flat_map, cons_option}
 use Rattle.std.specs.declared.alloc.Global.{Global}
 use Rattle.std.specs.declared.cmp.Ordering.{Ordering}
-use Rattle.std.specs.Ordering.{nat_cmp}
+use Rattle.std.specs.Ordering.{nat_cmp, is_eq}
 use Rattle.std.specs.Cmp.Lexicographic.{slice_cmp}
-use Rattle.std.specs.BTreeMap.{BTreeMap, get, get_by}
+use Rattle.std.specs.BTreeMap.{BTreeMap, get}
+use Rattle.std.specs.Map.{lookup}
 use Rattle.flashbase.specs.Lists.{tabled}
 use Rattle.jname.specs.Live.{Key, key_cmp}
 use Rattle.jmount.specs.Mount.{Mount}
 use Rattle.jmount.specs.Shown.{top_at}
 use Rattle.jmount.specs.Tree.{ObjectOf, sized, object}
 use Rattle.jsteps.specs.Nodes.{Indexed}
+use Rattle.jsteps.specs.declared.directories.Names.{Names}
 use Rattle.jsteps.specs.declared.stored.Stored.{Stored}
 
 -- an object as it is kept
@@ -28,22 +30,33 @@ OwnedName = Vec ℕ Global
 abbrev pub owned_name_cmp : OwnedName → OwnedName → Ordering
 owned_name_cmp x y = slice_cmp nat_cmp x.items y.items
 
-abbrev pub NumbersByName : Type 0
-NumbersByName = BTreeMap OwnedName ℕ
-
 abbrev pub Directories : Type 0
-Directories = BTreeMap ℕ NumbersByName
+Directories = BTreeMap ℕ Names
+
+-- the names of a directory: the one that is apart, and the others
+abbrev pub names_in : Names → List (OwnedName × ℕ)
+names_in names = cons_option names.apart names.others.entries
 
 -- the number that a name stands for
-abbrev pub ino_in : NumbersByName → List ℕ → Option ℕ
-ino_in names name = get_by (λ k. slice_cmp nat_cmp name k.items) names
+abbrev pub ino_among : List (OwnedName × ℕ) → List ℕ → Option ℕ
+ino_among entries name = lookup (λ k. is_eq (slice_cmp nat_cmp name k.items)) entries
+
+abbrev pub ino_in : Names → List ℕ → Option ℕ
+ino_in names name = ino_among (names_in names) name
 
 abbrev pub ino_at : Directories → Key → Option ℕ
 ino_at directories key = option_and_then (λ names. ino_in names key.1) (get nat_cmp directories key.0)
 
+-- whether there are no names, and whether a name is apart
+abbrev pub is_without_names : Names → Bool
+is_without_names names = length (names_in names) == 0
+
+abbrev pub stands_apart : Names → List ℕ → Bool
+stands_apart names name = unwrap_or (option_map (λ e. bytes_eq e.0.items name) names.apart) false
+
 -- all names that are kept, each with its directory's number
-abbrev pub keys_under : ℕ × NumbersByName → List Key
-keys_under e = map (λ n. (e.0, n.0.items)) e.1.entries
+abbrev pub keys_under : ℕ × Names → List Key
+keys_under e = map (λ n. (e.0, n.0.items)) (names_in e.1)
 
 -- what is kept, as callers see it
 unfoldable pub stored_index : Objects → Directories → ℕ → Indexed

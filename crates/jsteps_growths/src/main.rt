@@ -97,29 +97,51 @@ fn text(text: &'static str) -> Text<'static> {
 
 /// The operations, one by one.
 fn op_of(k: u32) -> Option<Op<'static>> {
-    let time = 7;
+    match k {
+        0..=2 => new_object(k),
+        3..=5 => other_bytes(k),
+        6..=10 => other_name(k),
+        k => Some(Op::Create {
+            time: 7,
+            path: text(TWELVE.get(k.checked_sub(11)? as usize)?),
+            mode: 0o644,
+            uid: 0,
+            gid: 0,
+        }),
+    }
+}
+
+fn new_object(k: u32) -> Option<Op<'static>> {
+    let (time, uid, gid) = (7, 5, 6);
     Some(match k {
         0 => Op::Mkdir {
             time,
             path: text("/m"),
             mode: 0o755,
-            uid: 5,
-            gid: 6,
+            uid,
+            gid,
         },
         1 => Op::Create {
             time,
             path: text("/d/e/f"),
             mode: 0o600,
-            uid: 5,
-            gid: 6,
+            uid,
+            gid,
         },
         2 => Op::Symlink {
             time,
             path: text("/d/l"),
             target: text("../a"),
-            uid: 5,
-            gid: 6,
+            uid,
+            gid,
         },
+        _ => return None,
+    })
+}
+
+fn other_bytes(k: u32) -> Option<Op<'static>> {
+    let time = 7;
+    Some(match k {
         3 => Op::Write {
             time,
             path: text("/d/e/f"),
@@ -136,6 +158,13 @@ fn op_of(k: u32) -> Option<Op<'static>> {
             path: text("/a"),
             size: 400,
         },
+        _ => return None,
+    })
+}
+
+fn other_name(k: u32) -> Option<Op<'static>> {
+    let time = 7;
+    Some(match k {
         6 => Op::Link {
             time,
             old: text("/a"),
@@ -159,13 +188,7 @@ fn op_of(k: u32) -> Option<Op<'static>> {
             time,
             path: text("/m/d/l"),
         },
-        k => Op::Create {
-            time,
-            path: text(TWELVE.get((k - 11) as usize)?),
-            mode: 0o644,
-            uid: 0,
-            gid: 0,
-        },
+        _ => return None,
     })
 }
 

@@ -63,6 +63,29 @@ fn what_steps_leave(rt: HostRuntime) -> Result<(), Fail> {
 }
 
 #[test]
+fn what_names_leave(rt: HostRuntime) -> Result<(), Fail> {
+    let alloc = rt.alloc();
+    let mut index = index_of(alloc, SMALL)?;
+    let rows = [
+        ("mkdir /m 755", 2, "remove /m", "clear 1 m"),
+        ("create /m/b 600", 2, "remove /m", "O7 NotEmpty"),
+        ("create /m/a 600", 2, "remove /m/a", "clear 58 a"),
+        ("remove /m/b", 1, "remove /m", "O7 NotEmpty"),
+        ("link /a /m/c", 1, "link /a /m/a", "O5 Exists"),
+        ("remove /m/a", 1, "remove /m/b", "O3 NotFound"),
+        ("rename /m/c /m/a", 2, "remove /m/c", "O3 NotFound"),
+        ("remove /m/a", 1, "remove /m", "clear 1 m"),
+        ("link /a /m/c", 1, "remove /m/c", "clear 58 c"),
+    ];
+    for (line, count, next, wanted) in rows {
+        assert_eq!(rt; take(alloc, &mut index, line)?, count, "at {line}");
+        let found = answer(alloc, &index, next)?;
+        assert_eq!(rt; found.as_str(), wanted, "after {line}");
+    }
+    Ok(())
+}
+
+#[test]
 fn what_the_last_number_leaves(rt: HostRuntime) -> Result<(), Fail> {
     let alloc = rt.alloc();
     let mut index = index_of(alloc, ONE_NUMBER_LEFT)?;

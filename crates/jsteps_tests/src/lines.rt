@@ -19,14 +19,18 @@ fn words(line: &str) -> (&str, &str, &str, &str) {
 /// The operation of a line, at time 7 and for owners 5 and 6. A write has a count of bytes.
 pub fn op_of(line: &str) -> Option<Op<'_>> {
     let (verb, path, second, third) = words(line);
+    match verb {
+        "mkdir" | "create" | "symlink" => Some(new_object(verb, path, second)),
+        "write" | "truncate" => Some(other_bytes(verb, path, second, third)),
+        _ => other_name(verb, path, second),
+    }
+}
+
+fn new_object<'a>(verb: &str, path: &'a str, second: &'a str) -> Op<'a> {
+    let (time, uid, gid) = (7, 5, 6);
     let path = Text::lent(path.as_bytes());
-    let text = Text::lent(second.as_bytes());
     let mode = u32::from_str_radix(second, 8).unwrap_or(0);
-    let number = second.parse::<u32>().unwrap_or(0);
-    let count = third.parse::<usize>().unwrap_or(0).min(BYTES.len());
-    let time = 7;
-    let (uid, gid) = (5, 6);
-    Some(match verb {
+    match verb {
         "mkdir" => Op::Mkdir {
             time,
             path,
@@ -41,35 +45,44 @@ pub fn op_of(line: &str) -> Option<Op<'_>> {
             uid,
             gid,
         },
-        "symlink" => Op::Symlink {
+        _ => Op::Symlink {
             time,
             path,
-            target: text,
+            target: Text::lent(second.as_bytes()),
             uid,
             gid,
         },
+    }
+}
+
+fn other_bytes<'a>(verb: &str, path: &'a str, second: &str, third: &str) -> Op<'a> {
+    let time = 7;
+    let path = Text::lent(path.as_bytes());
+    let number = second.parse::<u32>().unwrap_or(0);
+    let count = third.parse::<usize>().unwrap_or(0).min(BYTES.len());
+    match verb {
         "write" => Op::Write {
             time,
             path,
             offset: number,
             bytes: Text::lent(&BYTES[..count]),
         },
-        "truncate" => Op::Truncate {
+        _ => Op::Truncate {
             time,
             path,
             size: number,
         },
-        "link" => Op::Link {
-            time,
-            old: path,
-            new: text,
-        },
-        "rename" => Op::Rename {
-            time,
-            old: path,
-            new: text,
-        },
-        "remove" => Op::Remove { time, path },
+    }
+}
+
+fn other_name<'a>(verb: &str, path: &'a str, second: &'a str) -> Option<Op<'a>> {
+    let time = 7;
+    let old = Text::lent(path.as_bytes());
+    let new = Text::lent(second.as_bytes());
+    Some(match verb {
+        "link" => Op::Link { time, old, new },
+        "rename" => Op::Rename { time, old, new },
+        "remove" => Op::Remove { time, path: old },
         _ => return None,
     })
 }

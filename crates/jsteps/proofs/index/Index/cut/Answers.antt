@@ -17,8 +17,8 @@ returns c =
     let m = c.self.inside in
     let x = c.args.self.now in
     let a = c.args in
-    let within : a.size ≤ (object_at x a.ino).body = body_from a.size (object x.tree a.ino) c.requires.defined in
+    let within : a.count ≤ (object_at x a.ino).body = body_from a.count (object x.tree a.ino) c.requires.defined in
     let same : size_in m.objects a.ino ≡ (object_at x a.ino).body = size_is m.objects m.names m.next x c.self.view_is a.ino in
-    let size : a.size ≡ min a.size (size_in m.objects a.ino) = omega arith in
-    change_advanced m.objects m.names m.next x c.self.view_is c.change.new.objects a.time a.ino a.size (λ old. min a.size old)
-    (some_and (object x.tree a.ino) (λ o. a.size ≤ o.body) c.requires.defined) size c.change.ensures
+    let size : a.count ≡ min a.count (size_in m.objects a.ino) = omega arith in
+    change_advanced m.objects m.names m.next x c.self.view_is c.change.new.objects a.time a.ino a.count (λ old. min a.count old)
+    (some_and (object x.tree a.ino) (λ o. a.count ≤ o.body) c.requires.defined) size c.change.ensures
