@@ -1,6 +1,6 @@
 -- What a command that writes an image does.
 use Rattle.std.specs.Prelude.{◌≡◌, ◌⊎◌, ℕ, List, Any, slice_get, option_map, Option, Some, None, Result, Ok, Err, IsOk}
-use Rattle.std.specs.Io.KnownBytes.{Appends}
+use Rattle.std.specs.Io.KnownBytes.{Appends, Keeps}
 use Rattle.flashbase.specs.Device.{PutsPart, next_count}
 use Rattle.jnode.specs.declared.order.Endian.{Endian}
 use Rattle.jmount.specs.Mount.{Mount}
@@ -38,14 +38,21 @@ IsPartUnread lines _ = ⊥
 
 -- ---- what goes out to the file that is made
 
--- A file was made: the operations were run on the base that is mounted, and this is what they did.
+-- A base and operations on it were put out, and all that was taken was given on: so many were accepted, their nodes have
+-- these places, and this stopped them.
+pub record IsPut (e : Endian) (size blocks : ℕ) (m : Mount) (ops : List Op) (accepted : ℕ) (places : List Place) (stopped : Option SessionFault) (old given : Option (List ℕ)) (before now : ℕ) : Type 0 where
+  pub taken : Option (List ℕ)
+  pub resumes : IsOk (resumes_at e size blocks m)
+  pub emitted : IsEmitted e size blocks m.image ops accepted places stopped old taken before now
+  pub finished : Keeps taken given
+
+-- there is a file to which they were
 pub record IsMade (e : Endian) (size blocks : ℕ) (m : Mount) (ops : List Op) (accepted : ℕ) (places : List Place) (stopped : Option SessionFault) : Type 0 where
   pub old : Option (List ℕ)
-  pub new : Option (List ℕ)
+  pub given : Option (List ℕ)
   pub before : ℕ
   pub now : ℕ
-  pub resumes : IsOk (resumes_at e size blocks m)
-  pub emitted : IsEmitted e size blocks m.image ops accepted places stopped old new before now
+  pub put : IsPut e size blocks m ops accepted places stopped old given before now
 
 -- The lines of the listing were run on a base, with some bytes for the files that they name: so many were accepted, their
 -- nodes have these places, and this stopped them. What they did survives a stop of writing at any byte.

@@ -158,7 +158,11 @@ fn run_in_order<'a, E: Order, R: Files + AllocGlobal, T: Sink>(
             listing,
             output,
         } => {
-            let target = Target { geometry: options.geometry, blocks, output };
+            let target = Target {
+                geometry: options.geometry,
+                blocks,
+                output,
+            };
             build::<E, _, _>(rt, target, listing, text, sink)
         }
         Request::Append {
@@ -168,7 +172,11 @@ fn run_in_order<'a, E: Order, R: Files + AllocGlobal, T: Sink>(
             listing,
             output,
         } => {
-            let target = Target { geometry: options.geometry, blocks, output };
+            let target = Target {
+                geometry: options.geometry,
+                blocks,
+                output,
+            };
             append::<E, _, _>(rt, target, image, listing, text, sink)
         }
     }

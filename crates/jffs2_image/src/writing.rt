@@ -2,7 +2,7 @@
 ghost use Rattle.std.specs.Prelude.{◌≡◌, ℕ, List, Ok, IfOk, IfErr, map, slice_get};
 ghost use Rattle.jmount.specs.Mounts.{IsMountOf};
 ghost use Rattle.jlisting.specs.Listing.{lines_of};
-ghost use Rattle.jffs2_image.specs.Writes.{IsMade, IsNotMade, IsPartUnread, IsUnread, Writes};
+ghost use Rattle.jffs2_image.specs.Writes.{IsMade, IsNotGoneOn, IsNotMade, IsPartUnread, IsPut, IsUnread, Writes};
 
 use crate::output::{BufferedOutput, Output};
 use flashbase::{FromReader, Sink, load};
@@ -70,7 +70,34 @@ fn number_at(numbers: &[usize], i: usize) -> Option<usize>
     numbers.get(i).copied()
 }
 
-/// Makes the file of an image, and puts out the base and what operations on it make. Answers what was done.
+/// Puts out a base and what operations on it make, to the last byte. Answers what was done.
+fn put_image<E: Order, S: Output>(
+    alloc: Global,
+    mounted: &Mounted<'_>,
+    target: Target<'_>,
+    ops: &[Op<'_>],
+    output: S,
+) -> Result<(S, RunReport), SessionFault>
+    requires { IsMountOf E.order target.geometry.block mounted.now }
+    ensures put { IfOk result (λ done. IsPut E.order target.entry.geometry.block target.entry.blocks mounted.now ops.now done.1.accepted done.1.places.items done.1.stopped
+        (S.taken output) (S.given done.0) (S.failures output) (S.failures done.0)) }
+    ensures fault { IfErr result (λ fault. IsNotGoneOn E.order target.entry.geometry.block target.entry.blocks mounted.now fault) }
+{
+    match emit::<E, S>(alloc, mounted, target.geometry, target.blocks, ops, output) {
+        Ok((mut output, report)) => match output.finish() {
+            Ok(()) => Ok((output, report)),
+            Err(_) => Err(SessionFault::Sink),
+        },
+        Err((fault, output)) => {
+            if let Some(mut output) = output {
+                let _ = output.finish();
+            }
+            Err(fault)
+        }
+    }
+}
+
+/// Makes the file of an image, and puts out a base and what operations on it make. Answers what was done.
 fn make_image<'a, E: Order, R: Files + AllocGlobal>(
     rt: &R,
     target: Target<'a>,
@@ -87,18 +114,8 @@ fn make_image<'a, E: Order, R: Files + AllocGlobal>(
     let Ok(output) = BufferedOutput::new(rt.alloc(), file) else {
         return Err(ProgramFault::OutOfMemory);
     };
-    match emit::<E, _>(rt.alloc(), mounted, target.geometry, target.blocks, ops, output) {
-        Ok((mut output, report)) => match output.finish() {
-            Ok(()) => Ok(report),
-            Err(_) => Err(ProgramFault::from(SessionFault::Sink)),
-        },
-        Err((fault, output)) => {
-            if let Some(mut output) = output {
-                let _ = output.finish();
-            }
-            Err(ProgramFault::from(fault))
-        }
-    }
+    let (_, report) = put_image::<E, _>(rt.alloc(), mounted, target, ops, output)?;
+    Ok(report)
 }
 
 /// Writes an image: the operations of a listing's lines, on a base. What they did is told in a line.

@@ -15,4 +15,3 @@ returns-in-Append g c =
     let a = c.args in
     subst (λ (r : Request). Meets g.E.Order.order (view r) (g.T.Sink.taken a.sink.now) (g.T.Sink.taken c.append.new.sink) (g.T.Sink.failures a.sink.now) (g.T.Sink.failures c.append.new.sink) c.append.result)
     (sym c.in-Append.is) (c.append.ensures c.in-Append.options refl)
-

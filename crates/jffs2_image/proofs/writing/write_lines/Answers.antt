@@ -48,12 +48,15 @@ returns-in-Some g c = λ text read.
     let numbers : c.in_ok-numbers.numbers.items ≡ map (λ l. l.number) a.lines.items = search rules in
     let line : c.number_at-line.result ≡ slice_get c.in_ok-numbers.numbers.items r.accepted = search rules in
     let made : IsMade e a.target.geometry.block a.target.blocks m (ops_in (contents a.parts.now) a.lines.items) r.accepted r.places.items (Some c.in-Some.fault) =
-        subst (λ (o : List Op). IsMade e a.target.geometry.block a.target.blocks m o r.accepted r.places.items (Some c.in-Some.fault)) same
-        (subst (λ s. IsMade e a.target.geometry.block a.target.blocks m c.deref-2.result.now r.accepted r.places.items s) stopped c.in_ok-report.ensures.made) in
+    subst (λ (o : List Op). IsMade e a.target.geometry.block a.target.blocks m o r.accepted r.places.items (Some c.in-Some.fault)) same
+    (subst (λ s. IsMade e a.target.geometry.block a.target.blocks m c.deref-2.result.now r.accepted r.places.items s) stopped c.in_ok-report.ensures.made) in
     let run = run_on e a.target.geometry.block a.target.blocks a.base.now text a.lines.items (contents a.parts.now) m r.accepted r.places.items (Some c.in-Some.fault) read mounts made in
-    let shown = line ∙ (ap (λ (l : List ℕ). slice_get l r.accepted) numbers ∙ slice_get-map (λ l. l.number) a.lines.items r.accepted) in
-    (subst (λ n. IsSessionFault e a.target.geometry.block a.target.blocks a.base.now text c.in-Some.fault n) (sym shown)
-    (stopped_at e a.target.geometry.block a.target.blocks a.base.now text a.lines.items r.accepted r.places.items c.in-Some.fault run), refl, refl)
+    let shown = line ∙ (ap (λ (l : List ℕ). slice_get l r.accepted) numbers ∙ slice_get-map (λ l. l.number) a.lines.items r.accepted) in (
+      subst (λ n. IsSessionFault e a.target.geometry.block a.target.blocks a.base.now text c.in-Some.fault n) (sym shown)
+          (stopped_at e a.target.geometry.block a.target.blocks a.base.now text a.lines.items r.accepted r.places.items c.in-Some.fault run),
+      refl,
+      refl,
+    )
 
 pub returns-in_err-put_accepted : goal.returns-in_err-put_accepted
 returns-in_err-put_accepted g c = λ text read.
@@ -67,8 +70,8 @@ returns-in_err-put_accepted g c = λ text read.
     let at : resumes_at e a.target.geometry.block a.target.blocks m ≡ Ok c.in_ok-from.from = search rules in
     let stopped : r.stopped ≡ None = search rules in
     let made : IsMade e a.target.geometry.block a.target.blocks m (ops_in (contents a.parts.now) a.lines.items) r.accepted r.places.items None =
-        subst (λ (o : List Op). IsMade e a.target.geometry.block a.target.blocks m o r.accepted r.places.items None) same
-        (subst (λ s. IsMade e a.target.geometry.block a.target.blocks m c.deref-2.result.now r.accepted r.places.items s) stopped c.in_ok-report.ensures.made) in
+    subst (λ (o : List Op). IsMade e a.target.geometry.block a.target.blocks m o r.accepted r.places.items None) same
+    (subst (λ s. IsMade e a.target.geometry.block a.target.blocks m c.deref-2.result.now r.accepted r.places.items s) stopped c.in_ok-report.ensures.made) in
     let run = run_on e a.target.geometry.block a.target.blocks a.base.now text a.lines.items (contents a.parts.now) m r.accepted r.places.items None read mounts made in
     let from = goes_on_from e a.target.geometry.block a.target.blocks m c.in_ok-from.from at ∙ ap (λ (l : List ℕ). resume_address e a.target.geometry.block a.target.blocks l) image in
     let put = c.in_err-put_accepted.ensures in
@@ -88,8 +91,8 @@ returns g c = λ text read.
     let at : resumes_at e a.target.geometry.block a.target.blocks m ≡ Ok c.in_ok-from.from = search rules in
     let stopped : r.stopped ≡ None = search rules in
     let made : IsMade e a.target.geometry.block a.target.blocks m (ops_in (contents a.parts.now) a.lines.items) r.accepted r.places.items None =
-        subst (λ (o : List Op). IsMade e a.target.geometry.block a.target.blocks m o r.accepted r.places.items None) same
-        (subst (λ s. IsMade e a.target.geometry.block a.target.blocks m c.deref-2.result.now r.accepted r.places.items s) stopped c.in_ok-report.ensures.made) in
+    subst (λ (o : List Op). IsMade e a.target.geometry.block a.target.blocks m o r.accepted r.places.items None) same
+    (subst (λ s. IsMade e a.target.geometry.block a.target.blocks m c.deref-2.result.now r.accepted r.places.items s) stopped c.in_ok-report.ensures.made) in
     let run = run_on e a.target.geometry.block a.target.blocks a.base.now text a.lines.items (contents a.parts.now) m r.accepted r.places.items None read mounts made in
     let from = goes_on_from e a.target.geometry.block a.target.blocks m c.in_ok-from.from at ∙ ap (λ (l : List ℕ). resume_address e a.target.geometry.block a.target.blocks l) image in
     let put = c.in_ok-put_accepted.ensures in
