@@ -27,7 +27,9 @@ pub enum ProgramFault<'a> {
     /// The file of this name can't be opened.
     File(&'a str),
     /// A line of the listing means nothing.
-    Listing { line: usize },
+    Listing {
+        line: usize,
+    },
     /// Nothing was written, or writing stopped, at the operation of a line of the listing if it came to one.
     Session {
         fault: SessionFault,

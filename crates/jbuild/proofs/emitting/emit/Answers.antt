@@ -20,10 +20,10 @@ returns-clause-emitted g c =
     let sink = sym c.in-Ok-resume.ensures.sink in
     let same : g.S.Sink.failures s.sink ≡ g.S.Sink.failures a.sink = subst (λ k. g.S.Sink.failures k ≡ g.S.Sink.failures a.sink) sink put.1 in
     let front : Appends (g.S.Sink.taken a.sink) (g.S.Sink.taken s.sink) (front_of a.mounted.now.image c.in-Ok.from) =
-        subst (λ k. Appends (g.S.Sink.taken a.sink) (g.S.Sink.taken k) (front_of a.mounted.now.image c.in-Ok.from)) sink
-        (subst (λ (l : List ℕ). Appends (g.S.Sink.taken a.sink) (g.S.Sink.taken c.put_front.new.sink) (front_of l c.in-Ok.from)) c.image.ensures put.0) in
+    subst (λ k. Appends (g.S.Sink.taken a.sink) (g.S.Sink.taken k) (front_of a.mounted.now.image c.in-Ok.from)) sink
+    (subst (λ (l : List ℕ). Appends (g.S.Sink.taken a.sink) (g.S.Sink.taken c.put_front.new.sink) (front_of l c.in-Ok.from)) c.image.ensures put.0) in
     let runs = subst (λ k. Runs plain_page e s.block s.blocks s.cursor s.index a.ops.now s.broken r.accepted t.cursor t.index t.broken (g.S.Sink.taken s.sink) (g.S.Sink.taken k)
-        (g.S.Sink.failures s.sink) (g.S.Sink.failures k) r.places.items r.stopped) (sym c.finish.ensures) c.run-report.ensures.runs in
+    (g.S.Sink.failures s.sink) (g.S.Sink.failures k) r.places.items r.stopped) (sym c.finish.ensures) c.run-report.ensures.runs in
     emitted_by e a.geometry.block s.block a.blocks s.blocks a.mounted.now.image s.base.now s.cursor c.in-Ok.from s.index a.ops.now s.broken r.accepted t.cursor t.index t.broken
     (g.S.Sink.taken a.sink) (g.S.Sink.taken s.sink) (g.S.Sink.taken c.finish.result) (g.S.Sink.failures a.sink) (g.S.Sink.failures s.sink) (g.S.Sink.failures c.finish.result) r.places.items r.stopped
     c.in-Ok-resume.ensures.block c.in-Ok-resume.ensures.blocks c.in-Ok-resume.ensures.base
