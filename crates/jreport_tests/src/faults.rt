@@ -2,9 +2,12 @@
 
 use crate::devices::Short;
 use flashbase::{FromWriter, LoadFault, PutFault};
+use jlisting::ListingFault;
+use jlog::SessionFault;
 use jmount::{FindFault, MountFault};
 use jreport::{ProgramFault, fault_line, fault_text};
 use jscan::ScanFault;
+use jsteps::OpFault;
 use std::alloc::Global;
 use std::test::Fail;
 
@@ -63,6 +66,70 @@ const FAULTS: [(ProgramFault<'static>, &str); 22] = [
     (ProgramFault::OutOfMemory, "P6 OutOfMemory"),
 ];
 
+/// A session's faults, with the line of an operation and its text.
+const SESSION_FAULTS: [(SessionFault, usize, &str, &str); 8] = [
+    (
+        SessionFault::Full {
+            needed: 4164,
+            free: 3904,
+        },
+        3,
+        "S2 Full needed 4164 free 3904",
+        "S2 Full needed 4164 free 3904 line 3",
+    ),
+    (
+        SessionFault::Full {
+            needed: u64::MAX,
+            free: 0,
+        },
+        usize::MAX,
+        "S2 Full needed 18446744073709551615 free 0",
+        "S2 Full needed 18446744073709551615 free 0 line 18446744073709551615",
+    ),
+    (
+        SessionFault::Refused(OpFault::Exists),
+        2,
+        "S1 Refused O5 Exists",
+        "S1 Refused O5 Exists line 2",
+    ),
+    (
+        SessionFault::ReadOnly,
+        1,
+        "S3 ReadOnly",
+        "S3 ReadOnly line 1",
+    ),
+    (SessionFault::Sink, 10, "S4 Sink", "S4 Sink line 10"),
+    (
+        SessionFault::OutOfMemory,
+        1,
+        "S5 OutOfMemory",
+        "S5 OutOfMemory line 1",
+    ),
+    (SessionFault::Broken, 1, "S6 Broken", "S6 Broken line 1"),
+    (
+        SessionFault::Geometry,
+        1,
+        "S7 Geometry",
+        "S7 Geometry line 1",
+    ),
+];
+
+/// An operation's refusals.
+const OP_FAULTS: [(OpFault, &str); 12] = [
+    (OpFault::BadPath, "S1 Refused O1 BadPath line 12"),
+    (OpFault::NameTooLong, "S1 Refused O2 NameTooLong line 12"),
+    (OpFault::NotFound, "S1 Refused O3 NotFound line 12"),
+    (OpFault::NotDirectory, "S1 Refused O4 NotDirectory line 12"),
+    (OpFault::Exists, "S1 Refused O5 Exists line 12"),
+    (OpFault::WrongKind, "S1 Refused O6 WrongKind line 12"),
+    (OpFault::NotEmpty, "S1 Refused O7 NotEmpty line 12"),
+    (OpFault::IntoItself, "S1 Refused O8 IntoItself line 12"),
+    (OpFault::TooLarge, "S1 Refused O9 TooLarge line 12"),
+    (OpFault::BadMode, "S1 Refused O10 BadMode line 12"),
+    (OpFault::BadTarget, "S1 Refused O11 BadTarget line 12"),
+    (OpFault::Exhausted, "S1 Refused O12 Exhausted line 12"),
+];
+
 /// The text of a fault, and its line.
 fn texts_of(alloc: Global, fault: &ProgramFault<'_>) -> Result<(Vec<u8>, Vec<u8>), &'static str> {
     let mut text = FromWriter::new(Vec::new(alloc));
@@ -73,15 +140,63 @@ fn texts_of(alloc: Global, fault: &ProgramFault<'_>) -> Result<(Vec<u8>, Vec<u8>
     Ok((text.into_writer(), line.into_writer()))
 }
 
+/// Whether a fault has this text, and the line that goes with it.
+fn is_told(alloc: Global, fault: &ProgramFault<'_>, wanted: &str) -> Result<bool, &'static str> {
+    let (text, line) = texts_of(alloc, fault)?;
+    let rest = line.strip_suffix(b"\n".as_slice());
+    let rest = rest.and_then(|rest| rest.strip_prefix(b"jffs2_image: ".as_slice()));
+    Ok(text.as_slice() == wanted.as_bytes() && rest == Some(text.as_slice()))
+}
+
 #[test]
 fn texts_of_faults(rt: HostRuntime) -> Result<(), Fail> {
     for (fault, text) in FAULTS {
-        let (answer_and_text, line) = texts_of(rt.alloc(), &fault)?;
-        assert_eq!(rt; answer_and_text.as_slice(), text.as_bytes());
-        let text = line.strip_suffix(b"\n".as_slice());
-        let text = text.and_then(|text| text.strip_prefix(b"jffs2_image: ".as_slice()));
-        assert_eq!(rt; text, Some(answer_and_text.as_slice()));
+        assert!(rt; is_told(rt.alloc(), &fault, text)?, "{text}");
     }
+    Ok(())
+}
+
+#[test]
+fn texts_of_a_session(rt: HostRuntime) -> Result<(), Fail> {
+    for (fault, number, text, with_line) in SESSION_FAULTS {
+        assert!(rt;
+            is_told(rt.alloc(), &ProgramFault::from(fault), text)?,
+            "{text}"
+        );
+        let line = Some(number);
+        let told = ProgramFault::Session { fault, line };
+        assert!(rt; is_told(rt.alloc(), &told, with_line)?, "{with_line}");
+    }
+    for (fault, text) in OP_FAULTS {
+        let fault = SessionFault::Refused(fault);
+        let told = ProgramFault::Session {
+            fault,
+            line: Some(12),
+        };
+        assert!(rt; is_told(rt.alloc(), &told, text)?, "{text}");
+    }
+    Ok(())
+}
+
+#[test]
+fn texts_of_a_listing(rt: HostRuntime) -> Result<(), Fail> {
+    let rows = [
+        (ListingFault::Line(1), "P2 Listing line 1"),
+        (ListingFault::Line(12), "P2 Listing line 12"),
+        (
+            ListingFault::Line(usize::MAX),
+            "P2 Listing line 18446744073709551615",
+        ),
+        (ListingFault::OutOfMemory, "P6 OutOfMemory"),
+    ];
+    for (fault, text) in rows {
+        assert!(rt;
+            is_told(rt.alloc(), &ProgramFault::from(fault), text)?,
+            "{text}"
+        );
+    }
+    let told = ProgramFault::Listing { line: 3 };
+    assert!(rt; is_told(rt.alloc(), &told, "P2 Listing line 3")?);
     Ok(())
 }
 

@@ -1,0 +1,19 @@
+//! Worked listings: what goes out for them on a base and what is told, from the rules of the format and not from the
+//! program's output.
+//!
+//! `runs` takes a text to its bytes and its report, `built` has listings on an empty base, `appended` on others, `parted` the
+//! files that listings name, `sinks` sinks that fail or take little, and `growth` memory that is refused.
+#![tactic(auto)]
+
+#[cfg(test)]
+mod appended;
+#[cfg(test)]
+mod built;
+#[cfg(test)]
+mod growth;
+#[cfg(test)]
+mod parted;
+#[cfg(test)]
+mod runs;
+#[cfg(test)]
+mod sinks;

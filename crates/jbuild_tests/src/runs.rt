@@ -1,0 +1,114 @@
+//! From the text of a listing to what goes out and is told.
+
+use flashbase::FromWriter;
+use jbuild::{Parts, emit, operations, put_accepted};
+use jlisting::listing;
+use jlog::{RunReport, resume_at};
+use jmount::mount;
+use jnode::Order;
+use jscan::Geometry;
+use std::alloc::Global;
+use std::test::Fail;
+
+pub const GEOMETRY: Geometry = Geometry { block: 8192 };
+
+/// Files of the host, by their names.
+pub const FILES: [(&str, &[u8]); 4] = [
+    ("page", &[2; 4096]),
+    ("two", &[1; 8192]),
+    ("three", &[3; 12288]),
+    ("four", &[4; 16384]),
+];
+
+/// Marker, inode node and entry of a file `/a`, in little order, with the padding.
+pub const MADE: [u8; 124] = [
+    0x85, 0x19, 0x03, 0x20, 0x0C, 0, 0, 0, 0xB1, 0xB0, 0x1E, 0xE4, // marker
+    0x85, 0x19, 0x02, 0xE0, 0x44, 0, 0, 0, 0x1D, 0xFB, 0xF7, 0x98, 2, 0, 0, 0, 1, 0, 0, 0, 0xA4,
+    0x81, 0, 0, 0, 0, 0, 0, 0, 0, 0, 0, 0, 0, 0, 0, 0, 0, 0, 0, 0, 0, 0, 0, 0, 0, 0, 0, 0, 0, 0, 0,
+    0, 0, 0, 0, 0, 0, 0, 0, 0, 0, 0, 0, 0x14, 0xD0, 0xC4, 0x71, // inode node
+    0x85, 0x19, 0x01, 0xE0, 0x29, 0, 0, 0, 0x6D, 0xA6, 0x2F, 0xD7, 1, 0, 0, 0, 1, 0, 0, 0, 2, 0, 0,
+    0, 0, 0, 0, 0, 1, 8, 0, 0, 0x95, 0x02, 0x9B, 0x91, 0xCE, 0x51, 0xB5, 0x3A, 0x61, // entry
+    0xFF, 0xFF, 0xFF,
+];
+
+/// What went out for a listing on a base, what the run did, and the line that tells of it.
+#[derive(Drop)]
+pub struct Outcome {
+    pub output: Vec<u8>,
+    pub report: RunReport,
+    pub line: Vec<u8>,
+}
+
+/// The files, read.
+pub fn read_files(alloc: Global) -> Result<Parts<'static>, Fail> {
+    let mut parts = Parts::new(alloc);
+    for (name, bytes) in FILES {
+        parts.insert(name, bytes.to_vec(alloc)?)?;
+    }
+    Ok(parts)
+}
+
+/// Runs a listing on a base, on a flash of so many blocks.
+pub fn made<E: Order>(
+    alloc: Global,
+    base: &[u8],
+    blocks: u32,
+    text: &[u8],
+) -> Result<Outcome, Fail> {
+    let parts = read_files(alloc)?;
+    let ops = operations(alloc, listing(alloc, text)?, &parts)?;
+    let mounted = mount::<E>(alloc, base, GEOMETRY)?;
+    let from = resume_at::<E>(&mounted, GEOMETRY, blocks)?;
+    let sink = FromWriter::new(Vec::new(alloc));
+    let Ok((sink, report)) = emit::<E, _>(alloc, &mounted, GEOMETRY, blocks, &ops, sink) else {
+        return Err(Fail::from("not emitted"));
+    };
+    let mut line = FromWriter::new(Vec::new(alloc));
+    if put_accepted(from, ops.len(), &report.places, &mut line).is_err() {
+        return Err(Fail::from("no line"));
+    }
+    Ok(Outcome {
+        output: sink.into_writer(),
+        report,
+        line: line.into_writer(),
+    })
+}
+
+/// A listing on a base: where its nodes go, how many bytes go out in all, and what is told.
+#[derive(Clone, Copy)]
+pub struct Row {
+    pub base: &'static [u8],
+    pub blocks: u32,
+    pub text: &'static [u8],
+    pub places: &'static [(u32, u32)],
+    pub len: usize,
+    pub told: &'static str,
+}
+
+/// Whether the line of what was accepted, or the fault that stopped the run, is as told.
+fn is_told(alloc: Global, outcome: &Outcome, told: &str) -> Result<bool, Fail> {
+    match outcome.report.stopped {
+        None => Ok(outcome.line.as_slice() == told.as_bytes()),
+        Some(fault) => Ok(format!(in alloc; "{fault}")?.as_str() == told),
+    }
+}
+
+/// Whether a row holds in an order.
+pub fn holds<E: Order>(alloc: Global, row: &Row) -> Result<bool, Fail> {
+    let outcome = made::<E>(alloc, row.base, row.blocks, row.text)?;
+    let places = outcome
+        .report
+        .places
+        .iter()
+        .map(|place| (place.addr, place.totlen));
+    let is_placed = places.eq(row.places.iter().copied());
+    Ok(is_placed && outcome.output.len() == row.len && is_told(alloc, &outcome, row.told)?)
+}
+
+/// Whether all of a range is erased flash.
+pub fn is_erased(bytes: &[u8], from: usize, to: usize) -> bool {
+    match bytes.get(from..to) {
+        Some(bytes) => bytes.iter().all(|byte| *byte == 0xFF),
+        None => false,
+    }
+}

@@ -1,0 +1,131 @@
+//! Sinks that fail, and sinks that take little.
+
+use crate::runs::{GEOMETRY, MADE, made, read_files};
+use byteorder::LittleEndian;
+use flashbase::{DeviceFault, Sink};
+use jbuild::{emit, operations, put_accepted};
+use jlisting::listing;
+use jlog::{Place, RunReport, SessionFault};
+use jmount::mount;
+use std::alloc::Global;
+use std::test::Fail;
+
+/// Takes at most `most` bytes a call, and fails once it has taken `limit`.
+#[derive(Drop)]
+struct Short {
+    bytes: Vec<u8>,
+    most: usize,
+    limit: usize,
+    failures: u64,
+}
+
+impl Short {
+    fn new(alloc: Global, most: usize, limit: usize) -> Short {
+        Short {
+            bytes: Vec::new(alloc),
+            most,
+            limit,
+            failures: 0,
+        }
+    }
+}
+
+impl Sink for Short {
+    ghost use Rattle.std.specs.Prelude.{Some};
+
+    ghost taken = { λ s. Some s.bytes.items };
+
+    ghost failures = { λ s. s.failures };
+
+    fn put(&mut self, bytes: &[u8]) -> Result<usize, DeviceFault> {
+        if bytes.is_empty() {
+            return Ok(0);
+        }
+        let left = self.limit.saturating_sub(self.bytes.len());
+        let count = bytes.len().min(self.most).min(left);
+        if count == 0 || self.bytes.extend_from_slice(&bytes[..count]).is_err() {
+            self.failures = self.failures.wrapping_add(1);
+            return Err(DeviceFault);
+        }
+        Ok(count)
+    }
+}
+
+const TEXT: &[u8] = b"create 0644 /b\nwrite /b 0 0102\n";
+
+type Emitted = Result<(Short, RunReport), (SessionFault, Option<Short>)>;
+
+/// What goes out for a file on a base of 124 bytes, which is gone on from at 8192.
+fn emitted(alloc: Global, sink: Short) -> Result<Emitted, Fail> {
+    let parts = read_files(alloc)?;
+    let ops = operations(alloc, listing(alloc, TEXT)?, &parts)?;
+    let mounted = mount::<LittleEndian>(alloc, &MADE, GEOMETRY)?;
+    Ok(emit::<LittleEndian, _>(alloc, &mounted, GEOMETRY, 2, &ops, sink))
+}
+
+#[test]
+fn a_sink_that_takes_one_byte_a_call(rt: HostRuntime) -> Result<(), Fail> {
+    let whole = made::<LittleEndian>(rt.alloc(), &MADE, 2, TEXT)?;
+    assert_eq!(rt; whole.output.len(), 8388);
+    let Ok((sink, report)) = emitted(rt.alloc(), Short::new(rt.alloc(), 1, usize::MAX))? else {
+        return Err(Fail::from("not emitted"));
+    };
+    assert!(rt; sink.bytes.as_slice() == whole.output.as_slice());
+    assert!(rt; report.places.as_slice() == whole.report.places.as_slice());
+    assert_eq!(rt; (report.accepted, sink.failures), (2, 0));
+    Ok(())
+}
+
+#[test]
+fn a_sink_that_fails_at_the_base(rt: HostRuntime) -> Result<(), Fail> {
+    let whole = made::<LittleEndian>(rt.alloc(), &MADE, 2, TEXT)?;
+    for limit in [0, 1, 123, 124, 125, 380, 8191] {
+        let Err((fault, Some(sink))) = emitted(rt.alloc(), Short::new(rt.alloc(), 4096, limit))?
+        else {
+            return Err(Fail::from("the sink is not handed back"));
+        };
+        assert_eq!(rt; fault, SessionFault::Sink);
+        assert_eq!(rt; sink.bytes.len(), limit);
+        assert!(rt; whole.output.starts_with(&sink.bytes));
+        assert_eq!(rt; sink.failures, 1);
+    }
+    Ok(())
+}
+
+#[test]
+fn a_sink_that_fails_later(rt: HostRuntime) -> Result<(), Fail> {
+    let whole = made::<LittleEndian>(rt.alloc(), &MADE, 2, TEXT)?;
+    let rows = [
+        (8192, 0, 0),
+        (8271, 0, 0),
+        (8272, 0, 1),
+        (8315, 0, 2),
+        (8316, 1, 2),
+        (8386, 1, 3),
+        (8387, 1, 3),
+    ];
+    for (limit, accepted, places) in rows {
+        let Ok((sink, report)) = emitted(rt.alloc(), Short::new(rt.alloc(), 7, limit))? else {
+            return Err(Fail::from("not emitted"));
+        };
+        assert_eq!(rt; report.stopped, Some(SessionFault::Sink));
+        assert_eq!(rt; (report.accepted, report.places.len()), (accepted, places));
+        assert_eq!(rt; (sink.bytes.len(), sink.failures), (limit, 1));
+        assert!(rt; whole.output.starts_with(&sink.bytes));
+    }
+    Ok(())
+}
+
+const LINE: &[u8] = b"accepted 3 nodes 2 bytes 112\n";
+
+#[test]
+fn a_line_that_does_not_fit(rt: HostRuntime) -> Result<(), Fail> {
+    let places = [(8204, 68), (8272, 29)].map(|(addr, totlen)| Place { addr, totlen });
+    for limit in 0..LINE.len() + 1 {
+        let mut sink = Short::new(rt.alloc(), 7, limit);
+        let answer = put_accepted(8192, 3, &places, &mut sink);
+        assert_eq!(rt; answer.is_ok(), limit == LINE.len());
+        assert_eq!(rt; Some(sink.bytes.as_slice()), LINE.get(..limit));
+    }
+    Ok(())
+}
