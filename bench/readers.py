@@ -11,8 +11,10 @@ import shutil
 import subprocess
 import sys
 
+from measuring import measured, report
+
 HERE = os.path.dirname(os.path.abspath(__file__))
-FOLDER = sys.argv[1]
+FOLDER = os.path.abspath(sys.argv[1])
 RUNS = int(sys.argv[2]) if len(sys.argv) > 2 else 5
 CRATES = sys.argv[3] if len(sys.argv) > 3 else os.path.join(HERE, "../crates")
 PROGRAM = os.path.join(CRATES, "jffs2_image/out/jffs2_image")
@@ -59,16 +61,6 @@ GROUPS = {
 }
 
 
-def measured(words):
-    """Runs a command, and answers its seconds of processor time, its KiB of memory and its status."""
-    told = os.path.join(FOLDER, "memory")
-    with open(os.path.join(FOLDER, "out"), "wb") as out:
-        child = subprocess.Popen(["/usr/bin/time", "-q", "-o", told, "-f", "%M", *words], stdout=out, stderr=subprocess.DEVNULL)
-        _, status, used = os.wait4(child.pid, 0)
-    with open(told) as file:
-        return used.ru_utime + used.ru_stime, int(file.read().split()[-1]), os.waitstatus_to_exitcode(status)
-
-
 def main():
     if not shutil.which("jffs2reader"):
         print("jffs2reader is missing: apt-get install mtd-utils", file=sys.stderr)
@@ -80,12 +72,8 @@ def main():
         for round_number in range(RUNS):
             for name, words, runs in commands:
                 if round_number < runs:
-                    tries[name].append(measured(words))
-        first = min(tries[commands[0][0]])[0]
-        for name, _, _ in commands:
-            seconds, memory = min(tries[name])[0], max(memory for _, memory, _ in tries[name])
-            states = {status for _, _, status in tries[name]} - {0}
-            print(f"  {name:18} {seconds:8.3f} s {seconds / first:8.2f} times {memory:7} KiB" + (f"  status {states}" if states else ""), flush=True)
+                    tries[name].append(measured(words, FOLDER))
+        report(tries, commands[0][0])
     return 0
 
 

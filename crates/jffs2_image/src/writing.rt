@@ -64,6 +64,7 @@ fn numbers_of(alloc: Global, lines: &[Line<'_>]) -> Result<Vec<usize>, AllocErro
     lines.iter().map(|line| line.number).collect(alloc)
 }
 
+/// The number at an index, if there is one.
 fn number_at(numbers: &[usize], i: usize) -> Option<usize>
     ensures { result ≡ slice_get numbers.now i }
 {
