@@ -55,7 +55,7 @@ def main():
         tries = {}
         for _ in range(RUNS):
             for told, words in commands(name):
-                tries.setdefault(told, []).append(measured(words, FOLDER))
+                tries.setdefault(told, []).append(measured(words, FOLDER, FOLDER))
         report(tries, "build")
     return 0
 

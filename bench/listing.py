@@ -16,6 +16,8 @@ import os
 import subprocess
 import sys
 
+from measuring import taken
+
 HERE = os.path.dirname(os.path.abspath(__file__))
 LINES = {
     "plain": b"create 644 /directory/file\n",
@@ -26,21 +28,10 @@ LINES = {
 }
 
 
-def measured(words, folder):
-    """Runs a command, and answers its seconds of processor time and its greatest memory in MiB."""
-    memory = os.path.join(folder, "memory")
-    child = subprocess.Popen(["/usr/bin/time", "-q", "-o", memory, "-f", "%M", *words], stdout=subprocess.DEVNULL)
-    _, status, used = os.wait4(child.pid, 0)
-    if status != 0:
-        sys.exit(f"{words} failed")
-    with open(memory) as file:
-        return used.ru_utime + used.ru_stime, int(file.read().split()[-1]) / 1024
-
-
 def least(words, folder, runs):
     """The least time and the greatest memory of some runs."""
-    results = [measured(words, folder) for _ in range(runs)]
-    return min(time for time, _ in results), max(memory for _, memory in results)
+    results = [taken(words, folder) for _ in range(runs)]
+    return min(time for time, _ in results), max(memory for _, memory in results) / 1024
 
 
 def main():

@@ -1,17 +1,26 @@
 """What a command takes: processor time and memory."""
 import os
 import subprocess
+import sys
 
 
-def measured(words, folder):
-    """Runs a command, and answers its seconds of processor time, its KiB of memory and its status. What it prints goes to
-    the file `out` of the folder."""
-    told = os.path.join(folder, "memory")
+def measured(words, folder, inside=None):
+    """Runs a command, inside a folder where one is given, and answers its seconds of processor time, its KiB of memory and its
+    status. What it prints goes to the file `out` of the folder."""
+    told = os.path.abspath(os.path.join(folder, "memory"))
     with open(os.path.join(folder, "out"), "wb") as out:
-        child = subprocess.Popen(["/usr/bin/time", "-q", "-o", told, "-f", "%M", *words], stdout=out, stderr=subprocess.DEVNULL, cwd=folder)
+        child = subprocess.Popen(["/usr/bin/time", "-q", "-o", told, "-f", "%M", *words], stdout=out, stderr=subprocess.DEVNULL, cwd=inside)
         _, status, used = os.wait4(child.pid, 0)
     with open(told) as file:
         return used.ru_utime + used.ru_stime, int(file.read().split()[-1]), os.waitstatus_to_exitcode(status)
+
+
+def taken(words, folder):
+    """The same for a command that must not fail: its seconds and its KiB."""
+    seconds, memory, status = measured(words, folder)
+    if status != 0:
+        sys.exit(f"{words} failed")
+    return seconds, memory
 
 
 def report(tries, first):

@@ -14,10 +14,10 @@ programs are those that `rt run` built in CRATES (here, where it is not given).
   children     directories: an inode node, and one entry
 """
 import os
-import subprocess
 import sys
 
-from images import BLOCK, blocks, entry, inode
+from images import blocks, entry, inode
+from measuring import taken
 
 HERE = os.path.dirname(os.path.abspath(__file__))
 
@@ -64,17 +64,6 @@ def children(count):
 THINGS = (numbers, data, versions, pieces, directories, pairs, children)
 
 
-def measured(words, folder):
-    """Runs a command, and answers its seconds of processor time and its greatest memory in KiB."""
-    told = os.path.join(folder, "memory")
-    child = subprocess.Popen(["/usr/bin/time", "-q", "-o", told, "-f", "%M", *words], stdout=subprocess.DEVNULL)
-    _, status, used = os.wait4(child.pid, 0)
-    if status != 0:
-        sys.exit(f"{words} failed")
-    with open(told) as file:
-        return used.ru_utime + used.ru_stime, int(file.read().split()[-1])
-
-
 def main():
     folder, count = sys.argv[1], int(sys.argv[2]) if len(sys.argv) > 2 else 200000
     crates = sys.argv[3] if len(sys.argv) > 3 else os.path.join(HERE, "../crates")
@@ -85,8 +74,8 @@ def main():
             with open(path, "wb") as out:
                 out.write(blocks(things(count * times), count * times))
             mount, checksum = ([os.path.join(crates, f"{name}/out/{name}"), path] for name in ("bench_mount", "bench_crc"))
-            seconds, memory = measured(mount, folder)
-            _, image = measured(checksum, folder)
+            seconds, memory = taken(mount, folder)
+            _, image = taken(checksum, folder)
             each = (memory - image) * 1024 / (count * times)
             print(f"{things.__name__:12} {count * times:8} {each:6.0f} bytes each {memory // 1024:6} MiB {seconds:7.2f} s", flush=True)
 
