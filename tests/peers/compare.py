@@ -54,9 +54,9 @@ def strange(folder, image):
         subprocess.run(["mkfs.jffs2", "-l", "-r", folder, "-o", image, *options], check=True)
         what = "compressed " + " ".join(options)
         check(what, [], image, 3, "mount refused M4 Compressed at ")
-        for words in (["ls", image], ["cat", image, "/third"]):
+        for words in (["ls", image], ["cat", image, "/third"], ["append", "--blocks", "64", image, "/dev/null", image + ".more"]):
             status, out, errors = run(*words)
-            fine = status == 1 and not out and errors.startswith("jffs2_image: M4 Compressed at ")
+            fine = status == 1 and not out and errors.startswith("jffs2_image: M4 Compressed at ") and not os.path.exists(image + ".more")
             test(what, [] if fine else [f"{words[0]}: status {status}: {errors}"])
     produce(image, folder, "-l")
     check("the other order", ["--endian", "big"], image, 3, "mount ok")

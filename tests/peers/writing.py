@@ -119,13 +119,15 @@ def change(folder, parts):
 
 
 def extended(what, base, order, block, lines, changed):
-    """Extends an image by the lines, and compares it with the changed folder."""
+    """Extends an image by the lines, and compares it with the changed folder. The new image, or nothing."""
     out, words = os.path.join(os.path.dirname(base), "extended"), geometry(order, block)
     before, faults = dumped(base, block, order)
     nodes = accepted(what, ["append", *words, "--blocks", str(FLASH // block), base, "lines", out], lines, out)
     if nodes is not None:
         compare(what, words, out, changed)
         counted(what, out, order, block, before + nodes, faults)
+        return out
+    return None
 
 
 def bases(folder, place, order, block):
@@ -151,7 +153,9 @@ def append(folder, changed, sayable, place, parts):
             extended("append to " + name, image, order, block, lines, changed)
         what = f"{order} {block}"
         accepted("build " + what, ["build", *geometry(order, block), "--blocks", str(FLASH // block), "lines", built], whole, built)
-        extended("append to build " + what, built, order, block, lines, sayable_changed)
+        out = extended("append to build " + what, built, order, block, lines, sayable_changed)
+        if out and order == "little":
+            seen_by_reader("append to build " + what, out, block, sayable_changed)
 
 
 def copied(folder, name):
