@@ -1,5 +1,5 @@
 #!/usr/bin/env python3
-"""Compares the listing and the files of images made by mkfs.jffs2 with the folder: see run.sh, which starts it."""
+"""Compares images made by mkfs.jffs2, and those of writing.py, with the folder: see run.sh, which starts it."""
 import itertools
 import os
 import subprocess

@@ -38,10 +38,10 @@ def accepted(what, words, lines, out):
     return int(line[2]) if line else None
 
 
-def counted(what, image, order, block, nodes, faults=()):
-    """jffs2dump sees this many nodes, and no other faults than these."""
-    seen, found = dumped(image, block, order)
-    test(f"{what}: jffs2dump", (["%d nodes, wanted %d" % (seen, nodes)] if seen != nodes else []) + [f for f in found if f not in faults])
+def counted(what, image, order, block, nodes):
+    """jffs2dump sees this many nodes and no fault."""
+    seen, faults = dumped(image, block, order)
+    test(f"{what}: jffs2dump", faults + ([f"{seen} nodes, wanted {nodes}"] if seen != nodes else []))
 
 
 def reader_line(path, shown):
@@ -121,11 +121,11 @@ def change(folder, parts):
 def extended(what, base, order, block, lines, changed):
     """Extends an image by the lines, and compares it with the changed folder. The new image, or nothing."""
     out, words = os.path.join(os.path.dirname(base), "extended"), geometry(order, block)
-    before, faults = dumped(base, block, order)
+    before, _ = dumped(base, block, order)
     nodes = accepted(what, ["append", *words, "--blocks", str(FLASH // block), base, "lines", out], lines, out)
     if nodes is not None:
         compare(what, words, out, changed)
-        counted(what, out, order, block, before + nodes, faults)
+        counted(what, out, order, block, before + nodes)
         return out
     return None
 
