@@ -106,6 +106,7 @@ class Changes:
         """A directory, or a regular file where there are bytes."""
         if data is None:
             os.mkdir(self.at(path))
+            self.times.pop(os.stat(self.at(path)).st_ino, None)  # the host may give a number again
             self.line("mkdir", f"{mode:04o}", path)
         else:
             tree.write(self.at(path), data)
