@@ -367,6 +367,7 @@ run build "${small[@]}" --blocks 1 create_a /dev/null; want 0 "accepted 1 nodes 
 
 # A file that is written, cut and written behind its end
 lines listing 'create 0644 /a' 'write /a 0 0102030405060708090a' 'truncate /a 4' 'write /a 8 ff'
+cp listing file_listing
 printf '\1\2\3\4\0\0\0\0\377' > nine
 for order in little big; do
     flash=("${small[@]}" --endian "$order")
@@ -385,6 +386,7 @@ done
 
 # A directory that moves, also where its last node is missing
 lines listing 'mkdir 0755 /d' 'rename /d /e'
+cp listing move_listing
 for order in little big; do
     flash=("${small[@]}" --endian "$order")
     run build "${flash[@]}" --blocks 1 listing built; want 0 "accepted 2 nodes 4 bytes 212" ""
@@ -428,6 +430,7 @@ run build --blocks 1 listing built; want 1 "" "jffs2_image: L2 TooLarge"; unmade
 lines listing 'time 1000000000' 'mkdir 0755 /etc' 'create 0644 /etc/hostname' 'write /etc/hostname 0 626F780a' \
     'symlink /name etc/hostname' 'owner 1000 100' 'mkdir 0750 /home' 'create 0755 /home/start\x20here' \
     'part /home/start\x20here 0 content'
+cp listing tree_listing
 for order in little big; do
     flash=("${small[@]}" --endian "$order")
     run build "${flash[@]}" --blocks 1 listing built; want 0 "accepted 7 nodes 12 bytes 748" ""
@@ -438,6 +441,7 @@ for order in little big; do
     run check "${flash[@]}" built; want 0 "*total blocks 1 entries 5 inodes 7 findings 0*mount ok" ""
 done
 lines listing 'create 0600 /a' 'write /a 0 6869' 'link /a /b' 'remove /a' 'mkdir 0700 /d' 'rename /b /d/c' 'mkdir 0700 /e' 'remove /e'
+cp listing link_listing
 run build "${small[@]}" --blocks 1 listing built; want 0 "accepted 8 nodes 12 bytes *" ""
 run ls "${small[@]}" built; want 0 "$root"$'\nd 0700 0 0 0 0 3 /d\n- 0600 0 0 2 0 2 /d/c' ""
 run cat "${small[@]}" built /d/c; want 0 "hi" ""
@@ -624,6 +628,41 @@ run check "${small[@]}" built; want 0 "*findings 0*mount ok" ""
 lines listing 'create 0644 /q'
 run append "${small[@]}" --blocks 2 dangling listing built; want 1 "" "jffs2_image: S1 Refused O5 Exists line 1"
 run append "${small[@]}" --blocks 2 greatest_number create_b built; want 1 "" "jffs2_image: S1 Refused O12 Exhausted line 1"
+rm built
+
+# A listing in two parts makes the same tree as the whole, and the same bytes up to the block where the second part begins.
+# tree_of FILE: all that `ls` and `cat` say of the built image
+tree_of() {
+    run ls "${flash[@]}" built
+    cp out "$1"
+    while read -r _ _ _ _ _ _ _ path; do
+        "$program" cat "${flash[@]}" built "$path" >> "$1" 2>&1 < /dev/null
+    done < <(grep '^-' out)
+}
+# The second part begins with the settings that hold where the first one ends.
+cut_listing() {
+    head -n "$2" "$1" > first_part
+    { grep '^time ' first_part | tail -n 1; grep '^owner ' first_part | tail -n 1; tail -n "+$(($2 + 1))" "$1"; } > second_part
+}
+lines listing 'mkdir 0755 /base' 'create 0600 /base/file' 'write /base/file 0 68656c6c6f'
+for order in little big; do
+    flash=("${small[@]}" --endian "$order")
+    run build "${flash[@]}" --blocks 4 listing base
+    for listing in file_listing move_listing tree_listing link_listing; do
+        run append "${flash[@]}" --blocks 4 base $listing built; want 0 "accepted *" ""
+        tree_of wanted_tree
+        cp built whole_image
+        for ((place = 0; place <= $(wc -l < $listing); place++)); do
+            cut_listing $listing $place
+            run append "${flash[@]}" --blocks 4 base first_part first_image; want 0 "accepted *" ""
+            run append "${flash[@]}" --blocks 4 first_image second_part built; want 0 "accepted *" ""
+            for longer_image in whole_image built; do
+                head -c "$(wc -c < first_image)" $longer_image > piece; same piece first_image
+            done
+            tree_of cut_tree; same cut_tree wanted_tree
+        done
+    done
+done
 rm built
 
 # Images that are not extended: nothing is made

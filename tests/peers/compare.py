@@ -1,5 +1,5 @@
 #!/usr/bin/env python3
-"""Compares the listing and the files of images made by mkfs.jffs2 with the folder: see run.sh, which starts it."""
+"""Compares images made by mkfs.jffs2, and those of writing.py, with the folder: see run.sh, which starts it."""
 import itertools
 import os
 import subprocess
@@ -7,59 +7,9 @@ import sys
 import tempfile
 
 import tree
-
-PROGRAM = sys.argv[1]
-COUNTS = [0, 0]
-
-
-def test(what, faults):
-    """Counts a test, and tells its first faults."""
-    COUNTS[1 if faults else 0] += 1
-    for fault in faults[:8]:
-        print(f"FAILED: {what}: {fault}"[:400], flush=True)
-
-
-def run(*words):
-    done = subprocess.run([PROGRAM, *words], stdin=subprocess.DEVNULL, capture_output=True, timeout=600)
-    return done.returncode, done.stdout, done.stderr.decode(errors="replace").strip()
-
-
-def produce(image, folder, *words):
-    """Makes an image. -m none: nothing is compressed."""
-    subprocess.run(["mkfs.jffs2", "-m", "none", "-r", folder, "-o", image, *words], check=True, capture_output=True)
-
-
-def check(what, words, image, status, verdict):
-    got, out, errors = run("check", *words, image)
-    last = out.decode().splitlines()[-1] if out else errors
-    fine = got == status and last.startswith(verdict)
-    test(f"{what}: check", [] if fine else [f"status {got}, wanted {status}: {last}"])
-
-
-def compare(what, words, image, folder, squash=tree.Squash(), status=0, verdict="mount ok"):
-    """Judges an image: its verdict, its tree and the bytes of its files."""
-    check(what, words, image, status, verdict)
-    wanted = tree.expected(folder, squash)
-    got, out, errors = run("ls", *words, image)
-    faults = tree.differences(tree.listed(out.decode()), wanted) if got == 0 and not errors else [f"status {got}: {errors}"]
-    test(f"{what}: ls", faults)
-    compare_files(what, words, image, folder)
-
-
-def compare_files(what, words, image, folder):
-    for path, _, names in sorted(os.walk(folder)):
-        # Of the many small files of one folder some serve.
-        for name in sorted(names)[:20]:
-            file = os.path.join(path, name)
-            if not os.path.isfile(file) or os.path.islink(file):
-                continue
-            shown = "".join("/" + tree.escaped(part) for part in os.path.relpath(file, folder).split(b"/"))
-            with open(file, "rb") as source:
-                bytes_wanted = source.read()
-            got, out, errors = run("cat", *words, image, shown)
-            fine = got == 0 and out == bytes_wanted and not errors
-            test(f"{what}: cat {shown}", [] if fine else [f"status {got}, {len(out)} of {len(bytes_wanted)} bytes: {errors}"])
-
+import writing
+from judging import COUNTS, check, compare, produce, run, test
+from listing import Parts, plain
 
 def usual(folder, image):
     """Both orders, four sizes of blocks, padded or not, with clean markers or without."""
@@ -104,9 +54,9 @@ def strange(folder, image):
         subprocess.run(["mkfs.jffs2", "-l", "-r", folder, "-o", image, *options], check=True)
         what = "compressed " + " ".join(options)
         check(what, [], image, 3, "mount refused M4 Compressed at ")
-        for words in (["ls", image], ["cat", image, "/third"]):
+        for words in (["ls", image], ["cat", image, "/third"], ["append", "--blocks", "64", image, "/dev/null", image + ".more"]):
             status, out, errors = run(*words)
-            fine = status == 1 and not out and errors.startswith("jffs2_image: M4 Compressed at ")
+            fine = status == 1 and not out and errors.startswith("jffs2_image: M4 Compressed at ") and not os.path.exists(image + ".more")
             test(what, [] if fine else [f"{words[0]}: status {status}: {errors}"])
     produce(image, folder, "-l")
     check("the other order", ["--endian", "big"], image, 3, "mount ok")
@@ -134,8 +84,13 @@ def main():
         folder, image = os.path.join(place, "folder").encode(), os.path.join(place, "image")
         os.mkdir(folder)
         tree.make(folder)
+        sayable, changed = writing.copied(folder, b"sayable"), writing.copied(folder, b"changed")
+        plain(sayable)
         for part in (usual, unusual, table, strange):
             part(folder, image)
+        parts = Parts(place)
+        writing.build(sayable, place, parts)
+        writing.append(folder, changed, sayable, place, parts)
     print(f"{COUNTS[0]} passed, {COUNTS[1]} failed")
     return 1 if COUNTS[1] else 0
 
