@@ -16,6 +16,7 @@ import sys
 
 import memory
 from images import blocks, entry, inode
+from measuring import taken
 
 HERE = os.path.dirname(os.path.abspath(__file__))
 OPERATIONS = 100000
@@ -54,7 +55,7 @@ def main():
         path = os.path.join(folder, "things.img")
         with open(path, "wb") as out:
             out.write(blocks(things(26 * count), 26 * count))
-        alone, both = (memory.measured(words, folder)[1] / 1024 - os.path.getsize(path) / (1 << 20) for words in ([mount, path], [program, path, "0", "1"]))
+        alone, both = (taken(words, folder)[1] / 1024 - os.path.getsize(path) / (1 << 20) for words in ([mount, path], [program, path, "0", "1"]))
         print(f"{things.__name__:12} {26 * count:8} mount {alone:6.0f} MiB, with its index {both:6.0f} MiB", flush=True)
 
 
