@@ -6,16 +6,23 @@ use Rattle.std.proofs.lemmas.Bool.{cases_lt, cond_both, lt-ltb, ltb-false, false
 use Rattle.flashbase.specs.Lists.{below}
 use Rattle.flashbase.proofs.ListLemmas.{length-below}
 use Rattle.jsteps.specs.Nodes.{Indexed}
-use Rattle.jsteps.specs.Planning.{IsPage, plain_page, spelling_len, most_steps, piece_puts, page_puts, puts, zeros_to, write_steps, resize_steps, size_named, steps_of}
+use Rattle.jsteps.specs.Planning.{IsPage, page_size, plain_page, spelling_len, most_steps, piece_puts, page_puts, puts, zeros_to, write_steps, resize_steps, size_named, steps_of}
 use Rattle.jsteps.specs.Refusals.{planned_by, greatest_size}
 use Rattle.jsteps.specs.Where.{number_or_zero}
 use Rattle.std.specs.declared.alloc.Global.{Global}
 use Rattle.jsteps.specs.declared.fault.OpFault.{OpFault}
 use Rattle.jsteps.specs.declared.op.Op.{Op}
 use Rattle.jsteps.specs.declared.op.Op.TheVariants as op
+use Rattle.jsteps.specs.declared.page.Page.{Page}
+use Rattle.jsteps.specs.declared.page.Page.TheVariants.{P4096, P8192, P16384}
 use Rattle.jsteps.specs.declared.step.Step.{Step}
 use Rattle.jsteps.specs.declared.step.Step.TheVariants as step
 use Rattle.jsteps.proofs.PlanLemmas.{accepted}
+
+pub sizes_are_pages : (p : Page) → IsPage (page_size p)
+sizes_are_pages P4096 = record { least = omega arith; most = omega arith }
+sizes_are_pages P8192 = record { least = omega arith; most = omega arith }
+sizes_are_pages P16384 = record { least = omega arith; most = omega arith }
 
 -- the pages up to an end
 most_pages : (page end : ℕ) → IsPage page → end ≤ 2147483647 → (end + page - 1) / page ≤ 524288

@@ -3,7 +3,7 @@
 ghost use Rattle.std.specs.Prelude.{◌≡◌, ◌==◌, ◌||◌, ◌&&◌, ◌≤◌, ◌+◌, ℕ, nat_lt, length, [], ◌∷◌, IfOk, IfErr, Ok, Err, ◌≢◌};
 ghost use Rattle.std.specs.List.{list_any};
 ghost use Rattle.jmount.specs.Shown.{top_at};
-ghost use Rattle.jsteps.specs.Planning.{IsPage, most_steps};
+ghost use Rattle.jsteps.specs.Planning.{IsPage, page_size, most_steps};
 ghost use Rattle.jsteps.specs.Refusals.{planned, planned_by, greatest_size};
 ghost use Rattle.jsteps.specs.Tests.{GivesPlan, made_plan, full_by, spent_by, into_itself_at};
 ghost use Rattle.jsteps.specs.declared.fault.OpFault.TheVariants as refused;
@@ -13,7 +13,8 @@ ghost use Rattle.jsteps.specs.declared.step.Step.TheVariants as step;
 use crate::fault::OpFault;
 use crate::index::Index;
 use crate::op::Op;
-use crate::puts::{PLAIN_PAGE, push_resize, push_write};
+use crate::page::Page;
+use crate::puts::{push_resize, push_write};
 use crate::refusal::{tests_of_file, tests_of_name, tests_of_new, tests_of_removed};
 use crate::site::{end_of, look_up, meets_above};
 use crate::step::Step;
@@ -365,20 +366,19 @@ fn symlink<'a>(
     )
 }
 
-/// The steps of an operation, or why it is refused, with bytes cut where a page of this length of the file ends.
+/// The steps of an operation, or why it is refused, with bytes cut where a page of this size of the file ends.
 ///
 /// # Errors
 /// As those of [`plan`].
-pub(crate) fn plan_paged<'a>(
+pub fn plan_paged<'a>(
     alloc: Global,
-    page: u32,
     index: &Index,
     op: &'a Op<'_>,
+    page: Page,
 ) -> Result<Vec<Step<'a>>, OpFault>
-    requires page { IsPage page }
-    ensures ok { IfOk result (λ steps. planned_by page index.now op.now ≡ Ok steps.items) }
+    ensures ok { IfOk result (λ steps. planned_by (page_size page) index.now op.now ≡ Ok steps.items) }
     ensures few { IfOk result (λ steps. length steps.items ≤ most_steps) }
-    ensures err { IfErr result (λ fault. fault ≢ refused.OutOfMemory → planned_by page index.now op.now ≡ Err fault) }
+    ensures err { IfErr result (λ fault. fault ≢ refused.OutOfMemory → planned_by (page_size page) index.now op.now ≡ Err fault) }
 {
     match op {
         Op::Mkdir {
@@ -407,7 +407,7 @@ pub(crate) fn plan_paged<'a>(
             path,
             offset,
             bytes,
-        } => write(alloc, page, index, *time, path, *offset, bytes),
+        } => write(alloc, page.size(), index, *time, path, *offset, bytes),
         Op::Truncate { time, path, size } => truncate(alloc, index, *time, path.as_slice(), *size),
         Op::Link { time, old, new } => link(alloc, index, *time, old.as_slice(), new.as_slice()),
         Op::Remove { time, path } => remove(alloc, index, *time, path.as_slice()),
@@ -427,5 +427,5 @@ pub fn plan<'a>(alloc: Global, index: &Index, op: &'a Op<'_>) -> Result<Vec<Step
     ensures few { IfOk result (λ steps. length steps.items ≤ most_steps) }
     ensures err { IfErr result (λ fault. fault ≢ refused.OutOfMemory → planned index.now op.now ≡ Err fault) }
 {
-    plan_paged(alloc, PLAIN_PAGE, index, op)
+    plan_paged(alloc, index, op, Page::P4096)
 }

@@ -1,27 +1,28 @@
 use Rattle.std.proofs.Common.{rules}
-use Rattle.jsteps.proofs.FewLemmas.{few_of}
+use Rattle.jsteps.specs.Planning.{page_size}
+use Rattle.jsteps.proofs.FewLemmas.{few_of, sizes_are_pages}
 use Rattle.jsteps.proofs.planning.plan_paged.Goals as goal
 
 pub returns-in-Mkdir-clause-few : goal.returns-in-Mkdir-clause-few
-returns-in-Mkdir-clause-few c = few_of c.args.page c.args.index.now c.args.op.now _ c.requires.page (search rules)
+returns-in-Mkdir-clause-few c = few_of (page_size c.args.page) c.args.index.now c.args.op.now _ (sizes_are_pages c.args.page) (search rules)
 
 pub returns-in-Create-clause-few : goal.returns-in-Create-clause-few
-returns-in-Create-clause-few c = few_of c.args.page c.args.index.now c.args.op.now _ c.requires.page (search rules)
+returns-in-Create-clause-few c = few_of (page_size c.args.page) c.args.index.now c.args.op.now _ (sizes_are_pages c.args.page) (search rules)
 
 pub returns-in-Symlink-clause-few : goal.returns-in-Symlink-clause-few
-returns-in-Symlink-clause-few c = few_of c.args.page c.args.index.now c.args.op.now _ c.requires.page (search rules)
+returns-in-Symlink-clause-few c = few_of (page_size c.args.page) c.args.index.now c.args.op.now _ (sizes_are_pages c.args.page) (search rules)
 
 pub returns-in-Write-clause-few : goal.returns-in-Write-clause-few
-returns-in-Write-clause-few c = few_of c.args.page c.args.index.now c.args.op.now _ c.requires.page (search rules)
+returns-in-Write-clause-few c = few_of (page_size c.args.page) c.args.index.now c.args.op.now _ (sizes_are_pages c.args.page) (search rules)
 
 pub returns-in-Truncate-clause-few : goal.returns-in-Truncate-clause-few
-returns-in-Truncate-clause-few c = few_of c.args.page c.args.index.now c.args.op.now _ c.requires.page (search rules)
+returns-in-Truncate-clause-few c = few_of (page_size c.args.page) c.args.index.now c.args.op.now _ (sizes_are_pages c.args.page) (search rules)
 
 pub returns-in-Link-clause-few : goal.returns-in-Link-clause-few
-returns-in-Link-clause-few c = few_of c.args.page c.args.index.now c.args.op.now _ c.requires.page (search rules)
+returns-in-Link-clause-few c = few_of (page_size c.args.page) c.args.index.now c.args.op.now _ (sizes_are_pages c.args.page) (search rules)
 
 pub returns-in-Remove-clause-few : goal.returns-in-Remove-clause-few
-returns-in-Remove-clause-few c = few_of c.args.page c.args.index.now c.args.op.now _ c.requires.page (search rules)
+returns-in-Remove-clause-few c = few_of (page_size c.args.page) c.args.index.now c.args.op.now _ (sizes_are_pages c.args.page) (search rules)
 
 pub returns-in-Rename-clause-few : goal.returns-in-Rename-clause-few
-returns-in-Rename-clause-few c = few_of c.args.page c.args.index.now c.args.op.now _ c.requires.page (search rules)
+returns-in-Rename-clause-few c = few_of (page_size c.args.page) c.args.index.now c.args.op.now _ (sizes_are_pages c.args.page) (search rules)
