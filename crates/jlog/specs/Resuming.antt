@@ -1,7 +1,9 @@
 -- Where writing goes on in a mounted image.
-use Rattle.std.specs.Prelude.{ℕ, if◌then◌else◌, Result, Ok, Err}
+use Rattle.std.specs.Prelude.{ℕ, ◌+◌, ◌&&◌, Bool, nat_le, if◌then◌else◌, Result, Ok, Err}
 use Rattle.jnode.specs.declared.order.Endian.{Endian}
 use Rattle.jmount.specs.Mount.{Mount}
+use Rattle.jsteps.specs.Planning.{page_size}
+use Rattle.jsteps.specs.declared.page.Page.{Page}
 use Rattle.jlog.specs.Headline.{is_flash_of, resume_address}
 use Rattle.jlog.specs.declared.fault.SessionFault.{SessionFault}
 use Rattle.jlog.specs.declared.fault.SessionFault.TheVariants as fault
@@ -12,3 +14,13 @@ abbrev pub resumes_at : Endian → ℕ → ℕ → Mount → Result ℕ SessionF
 resumes_at e size blocks mount =
     if mount.read_only then Err fault.ReadOnly else
     if is_flash_of size blocks mount.image then Ok (resume_address e size blocks mount.image) else Err fault.Geometry
+
+-- A block holds its marker, and a node of a page's bytes.
+abbrev pub page_fits : ℕ → Page → Bool
+page_fits size page = nat_le (page_size page + 80) size
+
+-- Nor is an image resumed by a page that its blocks do not hold.
+abbrev pub resumes_by : Page → Endian → ℕ → ℕ → Mount → Result ℕ SessionFault
+resumes_by page e size blocks mount =
+    if mount.read_only then Err fault.ReadOnly else
+    if is_flash_of size blocks mount.image && page_fits size page then Ok (resume_address e size blocks mount.image) else Err fault.Geometry

@@ -4,9 +4,10 @@ use Rattle.byteorder.specs.declared.ByteOrder.{Ghosts as OfByteOrder}
 use Rattle.flashbase.specs.declared.sink.Sink.{Ghosts as OfSink}
 use Rattle.jnode.specs.declared.order.Order.{Ghosts as OfOrder}
 use Rattle.jsteps.specs.Nodes.{Indexed}
-use Rattle.jsteps.specs.Planning.{plain_page}
+use Rattle.jsteps.specs.Planning.{page_size}
 use Rattle.jsteps.specs.Refusals.{steps_of_first}
 use Rattle.jsteps.specs.declared.op.Op.{Op}
+use Rattle.jsteps.specs.declared.page.Page.{Page}
 use Rattle.jlog.specs.Headline.{Survives}
 use Rattle.jlog.specs.Session.{Applies, Runs, IsFresh, attempted}
 use Rattle.jlog.specs.declared.fault.SessionFault.{SessionFault}
@@ -24,6 +25,10 @@ module _ {E : Type 0} {S : Type 0} {order : OfOrder E} {numbers : OfByteOrder E}
 
   abbrev pub blocks_of : Session E S order numbers sink → ℕ
   blocks_of session = session.blocks
+
+  -- the page by which writes are planned
+  abbrev pub page_of : Session E S order numbers sink → Page
+  page_of session = session.page
 
   -- the address where writing goes on
   abbrev pub cursor_of : Session E S order numbers sink → ℕ
@@ -47,14 +52,14 @@ module _ {E : Type 0} {S : Type 0} {order : OfOrder E} {numbers : OfByteOrder E}
   -- Applying an operation to the one leaves the other, and the places of its nodes are added to those before.
   abbrev pub AppliesTo : {T : Type 0} → Session E S order numbers sink → Op → Session E S order numbers sink → List Place → List Place → Result T SessionFault → Type 0
   AppliesTo old o new before after result =
-      Applies plain_page order.order (block_size_of old) (blocks_of old) (cursor_of old) (index_of_log old) o (is_broken old)
+      Applies (page_size (page_of old)) order.order (block_size_of old) (blocks_of old) (cursor_of old) (index_of_log old) o (is_broken old)
       (cursor_of new) (index_of_log new) (is_broken new)
       (sink.taken (sink_of old)) (sink.taken (sink_of new)) (sink.failures (sink_of old)) (sink.failures (sink_of new)) before after result
 
   -- Running operations on the one leaves the other: so many were accepted, their nodes have these places, and this stopped it.
   abbrev pub RunsOn : Session E S order numbers sink → List Op → Session E S order numbers sink → ℕ → List Place → Option SessionFault → Type 0
   RunsOn old ops new accepted places stopped =
-      Runs plain_page order.order (block_size_of old) (blocks_of old) (cursor_of old) (index_of_log old) ops (is_broken old)
+      Runs (page_size (page_of old)) order.order (block_size_of old) (blocks_of old) (cursor_of old) (index_of_log old) ops (is_broken old)
       accepted (cursor_of new) (index_of_log new) (is_broken new)
       (sink.taken (sink_of old)) (sink.taken (sink_of new)) (sink.failures (sink_of old)) (sink.failures (sink_of new)) places stopped
 
@@ -62,4 +67,4 @@ module _ {E : Type 0} {S : Type 0} {order : OfOrder E} {numbers : OfByteOrder E}
   abbrev pub RunSurvives : Session E S order numbers sink → List Op → Session E S order numbers sink → ℕ → Type 0
   RunSurvives old ops new accepted =
       Survives order.order (block_size_of old) (blocks_of old) (base_of old)
-      (steps_of_first plain_page (index_of_log old) ops (attempted accepted (is_broken new)))
+      (steps_of_first (page_size (page_of old)) (index_of_log old) ops (attempted accepted (is_broken new)))

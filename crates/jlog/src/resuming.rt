@@ -3,12 +3,13 @@
 ghost use Rattle.std.specs.Prelude.{◌≡◌, ◌*◌, ◌&&◌, nat_le};
 ghost use Rattle.jmount.specs.Mounts.{IsMountOf};
 ghost use Rattle.jlog.specs.Places.{is_writable_flash};
-ghost use Rattle.jlog.specs.Resuming.{resumes_at};
+ghost use Rattle.jlog.specs.Resuming.{resumes_at, page_fits};
 
 use crate::fault::SessionFault;
 use jmount::Mounted;
 use jnode::Order;
 use jscan::{GREATEST_IMAGE, Geometry, blank_from};
+use jsteps::Page;
 
 /// The least size of a block that is written, in bytes.
 const LEAST_WRITTEN: u32 = 8192;
@@ -47,4 +48,11 @@ pub fn resume_at<E: Order>(
         return Err(SessionFault::Geometry);
     }
     Ok(blank_from::<E>(image, geometry, blocks) * geometry.block)
+}
+
+/// Whether a block of this size holds its marker and a node of a page's bytes: it is at least 80 bytes larger.
+pub fn page_fits(geometry: Geometry, page: Page) -> bool
+    ensures { result ≡ page_fits geometry.block page }
+{
+    page.size() + 80 <= geometry.block
 }

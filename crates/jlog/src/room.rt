@@ -1,9 +1,9 @@
 //! Whether there is room for the nodes of steps.
 
-ghost use Rattle.std.specs.Prelude.{◌≡◌, ◌≤◌, ◌+◌, ◌*◌, ◌%◌, IsTrue, length};
-ghost use Rattle.jsteps.specs.Planning.{plain_page, most_steps};
+ghost use Rattle.std.specs.Prelude.{◌≡◌, ◌≤◌, ◌+◌, ◌*◌, ◌%◌, ℕ, IsTrue, length};
+ghost use Rattle.jsteps.specs.Planning.{IsPage, most_steps};
 ghost use Rattle.jlog.specs.Places.{is_writable_flash, fit, needed, free};
-ghost use Rattle.jlog.specs.Running.{written, CanWriteAll};
+ghost use Rattle.jlog.specs.Running.{written, CanWriteAll, CanWriteIn};
 
 use crate::node::node_len;
 use crate::place::place_of;
@@ -22,7 +22,7 @@ pub fn has_room<E: Order>(
     requires flash { IsTrue (is_writable_flash block blocks) }
     requires within { cursor ≤ blocks * block }
     requires word { cursor % 4 ≡ 0 }
-    requires steps { CanWriteAll plain_page E.order _index.now steps.now }
+    requires steps { CanWriteIn block E.order _index.now steps.now }
     ensures { result ≡ fit block blocks cursor (written E.order _index.now steps.now) }
 {
     let mut end = cursor;
@@ -40,7 +40,7 @@ pub fn has_room<E: Order>(
 
 /// The bytes that the nodes of steps need.
 pub fn needed<E: Order>(_index: &Index, steps: &[Step<'_>]) -> u64
-    requires steps { CanWriteAll plain_page E.order _index.now steps.now }
+    requires steps { (page : ℕ) × IsPage page × CanWriteAll page E.order _index.now steps.now }
     requires few { length steps.now ≤ most_steps }
     ensures { result ≡ needed (written E.order _index.now steps.now) }
 {

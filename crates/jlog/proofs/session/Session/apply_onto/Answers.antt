@@ -2,8 +2,8 @@ use Rattle.std.proofs.Common.{rules, ◌≡◌, List, subst, sym, ap, ◌∙◌}
 use Rattle.std.specs.Prelude.{IsFalse, IsTrue}
 use Rattle.jsteps.specs.declared.step.Step.{Step}
 use Rattle.jsteps.specs.Nodes.{advanced_all}
-use Rattle.jsteps.specs.Planning.{plain_page}
-use Rattle.jlog.proofs.CodeLemmas.{plain_is_page, page_fits}
+use Rattle.jsteps.specs.Planning.{page_size}
+use Rattle.jsteps.proofs.FewLemmas.{sizes_are_pages}
 use Rattle.jlog.specs.Places.{fit, end_of_all}
 use Rattle.jlog.specs.Running.{written, CanWriteAll}
 use Rattle.jlog.specs.Session.{IsGoing}
@@ -18,8 +18,8 @@ has_room-requires-clause-steps g c =
     let steps : List Step = c.in-Ok.steps.items in
     let whole : IsFalse s.broken = search rules in
     let going : IsGoing s.block s.blocks s.cursor s.index = s.going whole in
-    let can = can_plan plain_page e s.index c.args.op.now steps plain_is_page going.consistent c.known.ensures c.in-Ok.ensures.ok in
-    subst (CanWriteAll plain_page e s.index) (sym c.deref.ensures.value) can.0
+    let can = can_plan (page_size s.page) e s.index c.args.op.now steps (sizes_are_pages s.page) going.consistent c.known.ensures c.in-Ok.ensures.ok in
+    record { page = page_size s.page; is_page = sizes_are_pages s.page; fits = s.holds; can = subst (CanWriteAll (page_size s.page) e s.index) (sym c.deref.ensures.value) can.0 }
 
 pub needed-requires-clause-steps : goal.needed-requires-clause-steps
 needed-requires-clause-steps g c =
@@ -28,8 +28,8 @@ needed-requires-clause-steps g c =
     let steps : List Step = c.in-Ok.steps.items in
     let whole : IsFalse s.broken = search rules in
     let going : IsGoing s.block s.blocks s.cursor s.index = s.going whole in
-    let can = can_plan plain_page e s.index c.args.op.now steps plain_is_page going.consistent c.known.ensures c.in-Ok.ensures.ok in
-    subst (CanWriteAll plain_page e s.index) (sym c.deref-then-not-has_room.ensures.value) can.0
+    let can = can_plan (page_size s.page) e s.index c.args.op.now steps (sizes_are_pages s.page) going.consistent c.known.ensures c.in-Ok.ensures.ok in
+    (page_size s.page, sizes_are_pages s.page, subst (CanWriteAll (page_size s.page) e s.index) (sym c.deref-then-not-has_room.ensures.value) can.0)
 
 pub write_steps-requires-clause-steps : goal.write_steps-requires-clause-steps
 write_steps-requires-clause-steps g c =
@@ -38,8 +38,8 @@ write_steps-requires-clause-steps g c =
     let steps : List Step = c.in-Ok.steps.items in
     let whole : IsFalse s.broken = search rules in
     let going : IsGoing s.block s.blocks s.cursor s.index = s.going whole in
-    let can = can_plan plain_page e s.index c.args.op.now steps plain_is_page going.consistent c.known.ensures c.in-Ok.ensures.ok in
-    subst (CanWriteAll plain_page e s.index) (sym c.deref-2.ensures.value) can.0
+    let can = can_plan (page_size s.page) e s.index c.args.op.now steps (sizes_are_pages s.page) going.consistent c.known.ensures c.in-Ok.ensures.ok in
+    record { page = page_size s.page; is_page = sizes_are_pages s.page; fits = s.holds; can = subst (CanWriteAll (page_size s.page) e s.index) (sym c.deref-2.ensures.value) can.0 }
 
 pub invariant_of-self-in-Ok-write_steps-clause-going : goal.invariant_of-self-in-Ok-write_steps-clause-going
 invariant_of-self-in-Ok-write_steps-clause-going g c =
@@ -48,11 +48,11 @@ invariant_of-self-in-Ok-write_steps-clause-going g c =
     let steps : List Step = c.in-Ok.steps.items in
     let whole : IsFalse s.broken = search rules in
     let going : IsGoing s.block s.blocks s.cursor s.index = s.going whole in
-    let can = can_plan plain_page e s.index c.args.op.now steps plain_is_page going.consistent c.known.ensures c.in-Ok.ensures.ok in
+    let can = can_plan (page_size s.page) e s.index c.args.op.now steps (sizes_are_pages s.page) going.consistent c.known.ensures c.in-Ok.ensures.ok in
     let room : IsTrue (fit s.block s.blocks s.cursor (written e s.index c.deref.result.now)) = search rules in
     let fits : IsTrue (fit s.block s.blocks s.cursor (written e s.index steps)) =
     subst (λ (l : List Step). IsTrue (fit s.block s.blocks s.cursor (written e s.index l))) c.deref.ensures.value room in
     let wrote = c.in-Ok-write_steps.ensures.writes.0 in
     let same : c.deref-2.result.now ≡ steps = c.deref-2.ensures.value in
-    λ _. going_on plain_page e s.block s.blocks s.cursor c.in-Ok-write_steps.end s.index c.write_steps.new.index steps plain_is_page (page_fits s.block s.blocks s.flash)
+    λ _. going_on (page_size s.page) e s.block s.blocks s.cursor c.in-Ok-write_steps.end s.index c.write_steps.new.index steps (sizes_are_pages s.page) s.holds
     (size_words s.block s.blocks s.flash) going can.0 fits can.1 (wrote.cursor ∙ ap (λ (l : List Step). end_of_all s.block s.cursor (written e s.index l)) same) (wrote.index ∙ ap (advanced_all s.index) same)

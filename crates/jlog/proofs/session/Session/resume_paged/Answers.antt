@@ -1,8 +1,10 @@
-use Rattle.std.proofs.Common.{rules, ◌≡◌, Ok, subst}
+use Rattle.std.proofs.Common.{rules, ◌≡◌, ◌≤◌, ◌+◌, Ok, subst, true}
+use Rattle.std.proofs.lemmas.Bool.{leb-true}
 use Rattle.flashbase.specs.Ranges.{AreBytes}
-use Rattle.jlog.specs.Resuming.{resumes_at}
+use Rattle.jsteps.specs.Planning.{page_size}
+use Rattle.jlog.specs.Resuming.{resumes_at, page_fits}
 use Rattle.jlog.proofs.ResumeLemmas.{resumed_by, fresh_by}
-use Rattle.jlog.proofs.session.Session.resume.Goals as goal
+use Rattle.jlog.proofs.session.Session.resume_paged.Goals as goal
 
 pub invariant_of-result : goal.invariant_of-result
 invariant_of-result g c =
@@ -11,7 +13,8 @@ invariant_of-result g c =
     let at : resumes_at e a.geometry.block a.blocks a.mounted.now ≡ Ok c.in_ok-cursor.cursor = search rules in
     let bytes : AreBytes a.mounted.now.image = subst AreBytes c.image-base.ensures c.known_bytes.ensures in
     let did = resumed_by e a.geometry.block a.blocks a.mounted.now c.in_ok-cursor.cursor c.in_ok-index.index at c.requires bytes c.in_ok-index.ensures in
-    record { flash = did.0; going = λ _. did.1 }
+    let fits : page_fits a.geometry.block a.page ≡ true = search rules in
+    record { flash = did.0; holds = leb-true (page_size a.page + 80) a.geometry.block fits; going = λ _. did.1 }
 
 pub returns-clause-resumed : goal.returns-clause-resumed
 returns-clause-resumed g c =
