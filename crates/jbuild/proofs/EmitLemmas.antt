@@ -5,9 +5,10 @@ use Rattle.std.specs.Io.KnownBytes.{Appends}
 use Rattle.flashbase.specs.Device.{Puts}
 use Rattle.jnode.specs.declared.order.Endian.{Endian}
 use Rattle.jsteps.specs.Nodes.{Indexed}
-use Rattle.jsteps.specs.Planning.{plain_page}
+use Rattle.jsteps.specs.Planning.{page_size}
 use Rattle.jsteps.specs.Refusals.{steps_of_first}
 use Rattle.jsteps.specs.declared.op.Op.{Op}
+use Rattle.jsteps.specs.declared.page.Page.{Page}
 use Rattle.jlog.specs.Headline.{index_of_image, Survives}
 use Rattle.jlog.specs.Left.{front_of}
 use Rattle.jlog.specs.Session.{IsFresh, Runs, attempted}
@@ -30,36 +31,37 @@ puts_all old new before now bytes (Ok x) fine put = put
 puts_all old new before now bytes (Err e) fine put = cc
 
 -- a run from where the base is gone on from
-emitted_at : (e : Endian) (size blocks : ℕ) (base : List ℕ) (from : ℕ) (x : Indexed) (ops : List Op) (was : Bool) (n end : ℕ) (y : Indexed) (is : Bool)
+emitted_at : (page : Page) (e : Endian) (size blocks : ℕ) (base : List ℕ) (from : ℕ) (x : Indexed) (ops : List Op) (was : Bool) (n end : ℕ) (y : Indexed) (is : Bool)
     (old between new : Option (List ℕ)) (before mid now : ℕ) (places : List Place) (stopped : Option SessionFault)
     → IsFresh e size blocks base from x → was ≡ false → mid ≡ before → Appends old between (front_of base from)
-    → Runs plain_page e size blocks from x ops was n end y is between new mid now places stopped
-    → Survives e size blocks base (steps_of_first plain_page x ops (attempted n is))
-    → IsEmitted e size blocks base ops n places stopped old new before now
-emitted_at e size blocks base from x ops was n end y is old between new before mid now places stopped fresh whole same front runs survives = record {
+    → Runs (page_size page) e size blocks from x ops was n end y is between new mid now places stopped
+    → Survives e size blocks base (steps_of_first (page_size page) x ops (attempted n is))
+    → IsEmitted page e size blocks base ops n places stopped old new before now
+emitted_at page e size blocks base from x ops was n end y is old between new before mid now places stopped fresh whole same front runs survives = record {
   between = between;
   end = end;
   index = y;
   broken = is;
   front = subst (λ (at : ℕ). Appends old between (front_of base at)) fresh.cursor_is front;
-  runs = subst (λ (at : ℕ). Runs plain_page e size blocks at (index_of_image e size base) ops false n end y is between new before now places stopped) fresh.cursor_is
-      (subst (λ (z : Indexed). Runs plain_page e size blocks from z ops false n end y is between new before now places stopped) fresh.index_is
-      (subst (λ (b : Bool). Runs plain_page e size blocks from x ops b n end y is between new before now places stopped) whole
-      (subst (λ (m : ℕ). Runs plain_page e size blocks from x ops was n end y is between new m now places stopped) same runs)));
-  survives = subst (λ (z : Indexed). Survives e size blocks base (steps_of_first plain_page z ops (attempted n is))) fresh.index_is survives;
+  runs = subst (λ (at : ℕ). Runs (page_size page) e size blocks at (index_of_image e size base) ops false n end y is between new before now places stopped) fresh.cursor_is
+      (subst (λ (z : Indexed). Runs (page_size page) e size blocks from z ops false n end y is between new before now places stopped) fresh.index_is
+      (subst (λ (b : Bool). Runs (page_size page) e size blocks from x ops b n end y is between new before now places stopped) whole
+      (subst (λ (m : ℕ). Runs (page_size page) e size blocks from x ops was n end y is between new m now places stopped) same runs)));
+  survives = subst (λ (z : Indexed). Survives e size blocks base (steps_of_first (page_size page) z ops (attempted n is))) fresh.index_is survives;
 }
 
 -- the same, where the session's own words for the flash and the base are known
-pub emitted_by : (e : Endian) (size s blocks b : ℕ) (base image : List ℕ) (from at : ℕ) (x : Indexed) (ops : List Op) (was : Bool) (n end : ℕ) (y : Indexed) (is : Bool)
+pub emitted_by : (page p : Page) (e : Endian) (size s blocks b : ℕ) (base image : List ℕ) (from at : ℕ) (x : Indexed) (ops : List Op) (was : Bool) (n end : ℕ) (y : Indexed) (is : Bool)
     (old between new : Option (List ℕ)) (before mid now : ℕ) (places : List Place) (stopped : Option SessionFault)
-    → s ≡ size → b ≡ blocks → image ≡ base → at ≡ from
+    → p ≡ page → s ≡ size → b ≡ blocks → image ≡ base → at ≡ from
     → IsFresh e s b image from x → was ≡ false → mid ≡ before → Appends old between (front_of base at)
-    → Runs plain_page e s b from x ops was n end y is between new mid now places stopped
-    → Survives e s b image (steps_of_first plain_page x ops (attempted n is))
-    → IsEmitted e size blocks base ops n places stopped old new before now
-emitted_by e size s blocks b base image from at x ops was n end y is old between new before mid now places stopped same_size same_blocks same_base same_at fresh whole same front runs survives =
-    subst (λ (z : List ℕ). IsEmitted e size blocks z ops n places stopped old new before now) same_base
-    (subst (λ (z : ℕ). IsEmitted e size z image ops n places stopped old new before now) same_blocks
-    (subst (λ (z : ℕ). IsEmitted e z b image ops n places stopped old new before now) same_size
-    (emitted_at e s b image from x ops was n end y is old between new before mid now places stopped fresh whole same
-    (subst (λ (z : List ℕ). Appends old between (front_of z from)) (sym same_base) (subst (λ (z : ℕ). Appends old between (front_of base z)) same_at front)) runs survives)))
+    → Runs (page_size p) e s b from x ops was n end y is between new mid now places stopped
+    → Survives e s b image (steps_of_first (page_size p) x ops (attempted n is))
+    → IsEmitted page e size blocks base ops n places stopped old new before now
+emitted_by page p e size s blocks b base image from at x ops was n end y is old between new before mid now places stopped same_page same_size same_blocks same_base same_at fresh whole same front runs survives =
+    subst (λ (z : Page). IsEmitted z e size blocks base ops n places stopped old new before now) same_page
+    (subst (λ (z : List ℕ). IsEmitted p e size blocks z ops n places stopped old new before now) same_base
+    (subst (λ (z : ℕ). IsEmitted p e size z image ops n places stopped old new before now) same_blocks
+    (subst (λ (z : ℕ). IsEmitted p e z b image ops n places stopped old new before now) same_size
+    (emitted_at p e s b image from x ops was n end y is old between new before mid now places stopped fresh whole same
+    (subst (λ (z : List ℕ). Appends old between (front_of z from)) (sym same_base) (subst (λ (z : ℕ). Appends old between (front_of base z)) same_at front)) runs survives))))

@@ -5,12 +5,13 @@ use Rattle.flashbase.specs.Device.{PutsPart, next_count}
 use Rattle.jnode.specs.declared.order.Endian.{Endian}
 use Rattle.jmount.specs.Mount.{Mount}
 use Rattle.jsteps.specs.Nodes.{Indexed}
-use Rattle.jsteps.specs.Planning.{plain_page}
+use Rattle.jsteps.specs.Planning.{page_size}
 use Rattle.jsteps.specs.Refusals.{steps_of_first}
 use Rattle.jsteps.specs.declared.op.Op.{Op}
+use Rattle.jsteps.specs.declared.page.Page.{Page}
 use Rattle.jlog.specs.Headline.{index_of_image, resume_address, Survives}
 use Rattle.jlog.specs.Left.{front_of}
-use Rattle.jlog.specs.Resuming.{resumes_at}
+use Rattle.jlog.specs.Resuming.{resumes_by}
 use Rattle.jlog.specs.Session.{Runs, attempted}
 use Rattle.jlog.specs.declared.fault.SessionFault.{SessionFault}
 use Rattle.jlog.specs.declared.fault.SessionFault.TheVariants as fault
@@ -22,21 +23,21 @@ front_before e size blocks base = front_of base (resume_address e size blocks ba
 
 -- The base's bytes went out up to where writing goes on, and operations were run on it from there; so many were accepted,
 -- their nodes have these places, and this stopped them. What they did survives a stop of writing at any byte.
-pub record IsEmitted (e : Endian) (size blocks : ℕ) (base : List ℕ) (ops : List Op) (accepted : ℕ) (places : List Place) (stopped : Option SessionFault) (old new : Option (List ℕ)) (before now : ℕ) : Type 0 where
+pub record IsEmitted (page : Page) (e : Endian) (size blocks : ℕ) (base : List ℕ) (ops : List Op) (accepted : ℕ) (places : List Place) (stopped : Option SessionFault) (old new : Option (List ℕ)) (before now : ℕ) : Type 0 where
   pub between : Option (List ℕ)
   pub end : ℕ
   pub index : Indexed
   pub broken : Bool
   pub front : Appends old between (front_before e size blocks base)
-  pub runs : Runs plain_page e size blocks (resume_address e size blocks base) (index_of_image e size base) ops false accepted end index broken between new before now places stopped
-  pub survives : Survives e size blocks base (steps_of_first plain_page (index_of_image e size base) ops (attempted accepted broken))
+  pub runs : Runs (page_size page) e size blocks (resume_address e size blocks base) (index_of_image e size base) ops false accepted end index broken between new before now places stopped
+  pub survives : Survives e size blocks base (steps_of_first (page_size page) (index_of_image e size base) ops (attempted accepted broken))
 
 -- Nothing was run: only a beginning of the base's bytes went out, and the sink is handed back; or the image is not gone on
 -- from, or memory ran out, and the sink is dropped.
-abbrev pub IsNotEmitted : Endian → ℕ → ℕ → Mount → Option (List ℕ) → ℕ → SessionFault → Option (Option (List ℕ) × ℕ) → Type 0
-IsNotEmitted e size blocks m old before fault.Sink (Some back) =
-    IsOk (resumes_at e size blocks m) × PutsPart old back.0 (front_before e size blocks m.image) × (back.1 ≡ next_count before)
-IsNotEmitted e size blocks m old before fault.OutOfMemory None = IsOk (resumes_at e size blocks m)
-IsNotEmitted e size blocks m old before fault.ReadOnly None = resumes_at e size blocks m ≡ Err fault.ReadOnly
-IsNotEmitted e size blocks m old before fault.Geometry None = resumes_at e size blocks m ≡ Err fault.Geometry
-IsNotEmitted e size blocks m old before _ _ = ⊥
+abbrev pub IsNotEmitted : Page → Endian → ℕ → ℕ → Mount → Option (List ℕ) → ℕ → SessionFault → Option (Option (List ℕ) × ℕ) → Type 0
+IsNotEmitted page e size blocks m old before fault.Sink (Some back) =
+    IsOk (resumes_by page e size blocks m) × PutsPart old back.0 (front_before e size blocks m.image) × (back.1 ≡ next_count before)
+IsNotEmitted page e size blocks m old before fault.OutOfMemory None = IsOk (resumes_by page e size blocks m)
+IsNotEmitted page e size blocks m old before fault.ReadOnly None = resumes_by page e size blocks m ≡ Err fault.ReadOnly
+IsNotEmitted page e size blocks m old before fault.Geometry None = resumes_by page e size blocks m ≡ Err fault.Geometry
+IsNotEmitted page e size blocks m old before _ _ = ⊥

@@ -4,15 +4,15 @@ ghost use Rattle.std.specs.Prelude.{◌≡◌, IfOk, IfErr, OnOk, IsOk, option_m
 ghost use Rattle.flashbase.specs.Device.{Puts};
 ghost use Rattle.jmount.specs.Mounts.{IsMountOf};
 ghost use Rattle.jlog.specs.Left.{front_of};
-ghost use Rattle.jlog.specs.Resuming.{resumes_at};
+ghost use Rattle.jlog.specs.Resuming.{resumes_by};
 ghost use Rattle.jbuild.specs.Emitting.{IsEmitted, IsNotEmitted};
 
 use flashbase::{PutFault, Sink, put_all};
-use jlog::{RunReport, Session, SessionFault, put_erased, resume_at};
+use jlog::{RunReport, Session, SessionFault, page_fits, put_erased, resume_at};
 use jmount::Mounted;
 use jnode::Order;
 use jscan::Geometry;
-use jsteps::Op;
+use jsteps::{Op, Page};
 use std::alloc::Global;
 
 /// Puts a base's bytes up to an address, and erased flash for those that it lacks.
@@ -27,34 +27,38 @@ fn put_front<S: Sink>(sink: &mut S, base: &[u8], from: usize) -> Result<(), PutF
 }
 
 /// Puts a mounted image's bytes up to where writing goes on, erased flash for those that it lacks, and then runs operations on
-/// it. Answers the sink and what the run did. It is in `E`'s order and of the geometry that the image was mounted with.
+/// it, with bytes cut where a page of this size of a file ends. Answers the sink and what the run did. It is in `E`'s order and of the geometry that the image was mounted with.
 ///
 /// # Errors
-/// Nothing was run. `ReadOnly` and `Geometry` as [`resume_at`] answers them, before a byte is put, and out of memory: the
-/// sink is dropped. `Sink`: it failed at the image's bytes, and is handed back.
+/// Nothing was run. `ReadOnly` and `Geometry` as [`Session::resume_paged`] answers them, before a byte is put, and out of
+/// memory: the sink is dropped. `Sink`: it failed at the image's bytes, and is handed back.
 pub fn emit<E: Order, S: Sink>(
     alloc: Global,
     mounted: &Mounted<'_>,
     geometry: Geometry,
     blocks: u32,
+    page: Page,
     ops: &[Op<'_>],
     mut sink: S,
 ) -> Result<(S, RunReport), (SessionFault, Option<S>)>
     requires { IsMountOf E.order geometry.block mounted.now }
-    ensures resumes { OnOk result (IsOk (resumes_at E.order geometry.block blocks mounted.now)) }
-    ensures emitted { IfOk result (λ done. IsEmitted E.order geometry.block blocks mounted.now.image ops.now done.1.accepted done.1.places.items done.1.stopped
+    ensures resumes { OnOk result (IsOk (resumes_by page E.order geometry.block blocks mounted.now)) }
+    ensures emitted { IfOk result (λ done. IsEmitted page E.order geometry.block blocks mounted.now.image ops.now done.1.accepted done.1.places.items done.1.stopped
         (S.taken sink) (S.taken done.0) (S.failures sink) (S.failures done.0)) }
-    ensures refused { IfErr result (λ refused. IsNotEmitted E.order geometry.block blocks mounted.now (S.taken sink) (S.failures sink) refused.0
+    ensures refused { IfErr result (λ refused. IsNotEmitted page E.order geometry.block blocks mounted.now (S.taken sink) (S.failures sink) refused.0
         (option_map (λ back. (S.taken back, S.failures back)) refused.1)) }
 {
     let from = match resume_at::<E>(mounted, geometry, blocks) {
         Ok(from) => from,
         Err(fault) => return Err((fault, None)),
     };
+    if !page_fits(geometry, page) {
+        return Err((SessionFault::Geometry, None));
+    }
     if put_front(&mut sink, mounted.image(), from as usize).is_err() {
         return Err((SessionFault::Sink, Some(sink)));
     }
-    let mut session = match Session::<E, S>::resume(alloc, mounted, geometry, blocks, sink) {
+    let mut session = match Session::<E, S>::resume_paged(alloc, mounted, geometry, blocks, page, sink) {
         Ok(session) => session,
         Err(fault) => return Err((fault, None)),
     };

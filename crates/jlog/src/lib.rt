@@ -24,5 +24,5 @@ pub use crate::fault::SessionFault;
 pub use crate::place::place_of;
 pub use crate::putting::{put_erased, put_node};
 pub use crate::report::{Applied, Place, RunReport};
-pub use crate::resuming::resume_at;
+pub use crate::resuming::{page_fits, resume_at};
 pub use crate::session::Session;

@@ -1,8 +1,8 @@
 use Rattle.std.proofs.Common.{rules, ◌≡◌, Ok, subst, sym, ap, ◌∙◌}
-use Rattle.jlog.specs.Resuming.{resumes_at}
+use Rattle.jlog.specs.Resuming.{resumes_at, resumes_by}
 use Rattle.std.proofs.Common.{List, ℕ}
 use Rattle.std.specs.Io.KnownBytes.{Appends}
-use Rattle.jsteps.specs.Planning.{plain_page}
+use Rattle.jsteps.specs.Planning.{page_size}
 use Rattle.jlog.specs.Session.{Runs}
 use Rattle.jlog.specs.Left.{front_of}
 use Rattle.jbuild.proofs.EmitLemmas.{emitted_by, puts_all, same_number}
@@ -12,20 +12,21 @@ pub returns-clause-emitted : goal.returns-clause-emitted
 returns-clause-emitted g c =
     let e = g.E.Order.order in
     let a = c.args in
-    let s = c.in-Ok-resume.session in
+    let s = c.in-Ok-resume_paged.session in
     let t = c.run-report.new.self in
     let r = c.run-report.result in
     let at : resumes_at e a.geometry.block a.blocks a.mounted.now ≡ Ok c.in-Ok.from = search rules in
+    let paged : resumes_by a.page e a.geometry.block a.blocks a.mounted.now ≡ Ok c.in-Ok.from = search rules in
     let put = puts_all _ _ _ _ _ c.put_front.result (sym c.is_err.ensures.value ∙ c.if-is_err.false) c.put_front.ensures in
-    let sink = sym c.in-Ok-resume.ensures.sink in
+    let sink = sym c.in-Ok-resume_paged.ensures.sink in
     let same : g.S.Sink.failures s.sink ≡ g.S.Sink.failures a.sink = subst (λ k. g.S.Sink.failures k ≡ g.S.Sink.failures a.sink) sink put.1 in
     let front : Appends (g.S.Sink.taken a.sink) (g.S.Sink.taken s.sink) (front_of a.mounted.now.image c.in-Ok.from) =
     subst (λ k. Appends (g.S.Sink.taken a.sink) (g.S.Sink.taken k) (front_of a.mounted.now.image c.in-Ok.from)) sink
     (subst (λ (l : List ℕ). Appends (g.S.Sink.taken a.sink) (g.S.Sink.taken c.put_front.new.sink) (front_of l c.in-Ok.from)) c.image.ensures put.0) in
-    let runs = subst (λ k. Runs plain_page e s.block s.blocks s.cursor s.index a.ops.now s.broken r.accepted t.cursor t.index t.broken (g.S.Sink.taken s.sink) (g.S.Sink.taken k)
+    let runs = subst (λ k. Runs (page_size s.page) e s.block s.blocks s.cursor s.index a.ops.now s.broken r.accepted t.cursor t.index t.broken (g.S.Sink.taken s.sink) (g.S.Sink.taken k)
     (g.S.Sink.failures s.sink) (g.S.Sink.failures k) r.places.items r.stopped) (sym c.finish.ensures) c.run-report.ensures.runs in
-    emitted_by e a.geometry.block s.block a.blocks s.blocks a.mounted.now.image s.base.now s.cursor c.in-Ok.from s.index a.ops.now s.broken r.accepted t.cursor t.index t.broken
+    emitted_by a.page s.page e a.geometry.block s.block a.blocks s.blocks a.mounted.now.image s.base.now s.cursor c.in-Ok.from s.index a.ops.now s.broken r.accepted t.cursor t.index t.broken
     (g.S.Sink.taken a.sink) (g.S.Sink.taken s.sink) (g.S.Sink.taken c.finish.result) (g.S.Sink.failures a.sink) (g.S.Sink.failures s.sink) (g.S.Sink.failures c.finish.result) r.places.items r.stopped
-    c.in-Ok-resume.ensures.block c.in-Ok-resume.ensures.blocks c.in-Ok-resume.ensures.base
-    (same_number (resumes_at e a.geometry.block a.blocks a.mounted.now) c.in-Ok.from s.cursor at c.in-Ok-resume.ensures.cursor)
-    c.in-Ok-resume.ensures.resumed c.in-Ok-resume.ensures.whole same front runs (c.run-report.ensures.survives c.in-Ok-resume.ensures.whole c.in-Ok-resume.ensures.resumed)
+    c.in-Ok-resume_paged.ensures.page c.in-Ok-resume_paged.ensures.block c.in-Ok-resume_paged.ensures.blocks c.in-Ok-resume_paged.ensures.base
+    (same_number (resumes_by a.page e a.geometry.block a.blocks a.mounted.now) c.in-Ok.from s.cursor paged c.in-Ok-resume_paged.ensures.cursor)
+    c.in-Ok-resume_paged.ensures.resumed c.in-Ok-resume_paged.ensures.whole same front runs (c.run-report.ensures.survives c.in-Ok-resume_paged.ensures.whole c.in-Ok-resume_paged.ensures.resumed)
