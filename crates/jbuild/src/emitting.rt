@@ -58,7 +58,9 @@ pub fn emit<E: Order, S: Sink>(
     if put_front(&mut sink, mounted.image(), from as usize).is_err() {
         return Err((SessionFault::Sink, Some(sink)));
     }
-    let mut session = match Session::<E, S>::resume_paged(alloc, mounted, geometry, blocks, page, sink) {
+    let mut session = match Session::<E, S>::resume_paged(
+        alloc, mounted, geometry, blocks, page, sink,
+    ) {
         Ok(session) => session,
         Err(fault) => return Err((fault, None)),
     };

@@ -39,15 +39,15 @@ ls_app = with_rule (plain (codes "ls")) (word (codes "IMAGE"))
 abbrev pub cat_app : App
 cat_app = with_rule (with_rule (plain (codes "cat")) (word (codes "IMAGE"))) (word (codes "PATH"))
 
--- a subcommand that writes to flash of so many blocks
+-- a subcommand that writes to flash of so many blocks, by pages
 abbrev pub writer : Text → App
-writer name = with_rule (plain name) (required_option (codes "blocks"))
+writer name = with_rule (with_rule (plain name) (required_option (codes "blocks"))) (option_or (codes "page") (codes "4096"))
 
--- `build --blocks N [--block N] [--endian ORDER] LISTING OUT`
+-- `build --blocks N [--page N] [--block N] [--endian ORDER] LISTING OUT`
 abbrev pub build_app : App
 build_app = with_rule (with_rule (writer (codes "build")) (word (codes "LISTING"))) (word (codes "OUT"))
 
--- `append --blocks N [--block N] [--endian ORDER] IMAGE LISTING OUT`
+-- `append --blocks N [--page N] [--block N] [--endian ORDER] IMAGE LISTING OUT`
 abbrev pub append_app : App
 append_app = with_rule (with_rule (with_rule (writer (codes "append")) (word (codes "IMAGE"))) (word (codes "LISTING")))
     (word (codes "OUT"))

@@ -7,6 +7,8 @@ use Rattle.clap.specs.declared.error.ErrorKind.{ErrorKind}
 use Rattle.clap.specs.declared.error.ErrorKind.TheVariants.{DisplayHelp, DisplayVersion}
 use Rattle.jnode.specs.declared.order.Endian.{Endian}
 use Rattle.jnode.specs.declared.order.Endian.TheVariants.{Little, Big}
+use Rattle.jsteps.specs.declared.page.Page.{Page}
+use Rattle.jsteps.specs.declared.page.Page.TheVariants.{P4096, P8192, P16384}
 use Rattle.jcommand.specs.Commands.{program}
 use Rattle.jcommand.specs.declared.parsed.Options.{Options}
 use Rattle.jcommand.specs.declared.parsed.Request.{Request}
@@ -26,6 +28,13 @@ number_of (b ∷ bs) = digits_from 0 (b ∷ bs)
 abbrev pub endian_of : Text → Option Endian
 endian_of text = if bytes_eq text (codes "little") then Some Little else (if bytes_eq text (codes "big") then Some Big else None)
 
+abbrev pub page_of : Text → Option Page
+page_of text =
+    if bytes_eq text (codes "4096") then Some P4096
+    else if bytes_eq text (codes "8192") then Some P8192
+    else if bytes_eq text (codes "16384") then Some P16384
+    else None
+
 abbrev pub number_option : Text → List Row → Option ℕ
 number_option id rows = option_and_then number_of (first_of id rows)
 
@@ -36,24 +45,24 @@ pub data Parsed : Type 0 where
   CheckParsed : Options → Text → Parsed
   ListParsed : Options → Text → Parsed
   CatParsed : Options → Text → Text → Parsed
-  BuildParsed : Options → ℕ → Text → Text → Parsed
-  AppendParsed : Options → ℕ → Text → Text → Text → Parsed
+  BuildParsed : Options → ℕ → Page → Text → Text → Parsed
+  AppendParsed : Options → ℕ → Page → Text → Text → Text → Parsed
 
 abbrev pub view : Request → Parsed
 view (request.Scan options image) = ScanParsed options image.now
 view (request.Check options image) = CheckParsed options image.now
 view (request.List options image) = ListParsed options image.now
 view (request.Cat options image path) = CatParsed options image.now path.now
-view (request.Build options blocks listing output) = BuildParsed options blocks listing.now output.now
-view (request.Append options blocks image listing output) = AppendParsed options blocks image.now listing.now output.now
+view (request.Build options blocks page listing output) = BuildParsed options blocks page listing.now output.now
+view (request.Append options blocks page image listing output) = AppendParsed options blocks page image.now listing.now output.now
 
 abbrev pub options_of : Request → Options
 options_of (request.Scan options image) = options
 options_of (request.Check options image) = options
 options_of (request.List options image) = options
 options_of (request.Cat options image path) = options
-options_of (request.Build options blocks listing output) = options
-options_of (request.Append options blocks image listing output) = options
+options_of (request.Build options blocks page listing output) = options
+options_of (request.Append options blocks page image listing output) = options
 
 -- ---- by the rows of the subcommand's matches
 
@@ -86,16 +95,16 @@ ls_in rows = image_in rows >>= λ p. Some (ListParsed p.0 p.1)
 abbrev pub cat_in : List Row → Option Parsed
 cat_in rows = image_in rows >>= λ p. first_of (codes "PATH") rows >>= λ path. Some (CatParsed p.0 p.1 path)
 
--- the number of blocks, the listing and the output of a subcommand that writes
-abbrev pub writing_in : List Row → Option (ℕ × Text × Text)
-writing_in rows = number_option (codes "blocks") rows >>= λ blocks. first_of (codes "LISTING") rows >>= λ listing.
-    first_of (codes "OUT") rows >>= λ output. Some (blocks, listing, output)
+-- the number of blocks, the page, the listing and the output of a subcommand that writes
+abbrev pub writing_in : List Row → Option (ℕ × Page × Text × Text)
+writing_in rows = number_option (codes "blocks") rows >>= λ blocks. (first_of (codes "page") rows >>= page_of) >>= λ page.
+    first_of (codes "LISTING") rows >>= λ listing. first_of (codes "OUT") rows >>= λ output. Some (blocks, page, listing, output)
 
 abbrev pub build_in : List Row → Option Parsed
-build_in rows = options_in rows >>= λ options. writing_in rows >>= λ w. Some (BuildParsed options w.0 w.1 w.2)
+build_in rows = options_in rows >>= λ options. writing_in rows >>= λ w. Some (BuildParsed options w.0 w.1 w.2 w.3)
 
 abbrev pub append_in : List Row → Option Parsed
-append_in rows = image_in rows >>= λ p. writing_in rows >>= λ w. Some (AppendParsed p.0 w.0 p.1 w.1 w.2)
+append_in rows = image_in rows >>= λ p. writing_in rows >>= λ w. Some (AppendParsed p.0 w.0 w.1 p.1 w.2 w.3)
 
 -- what the subcommand of this name asks for, with these rows; None where it is no subcommand or a value can't be read
 unfoldable pub parsed : Text → List Row → Option Parsed

@@ -7,7 +7,7 @@ ghost use Rattle.jcommand.specs.Refused.{IsHelp, IsUsage};
 ghost use Rattle.jcommand.specs.declared.command_line.RequestFault.TheVariants.{OutOfMemory};
 
 use crate::commands::make_program;
-use crate::parsed::{Request, endian, number, parsed_of, text_at};
+use crate::parsed::{Request, endian, number, page, parsed_of, text_at};
 use clap::error::ErrorKind;
 use clap::{ArgMatches, Error};
 use std::alloc::{AllocError, Global};
@@ -94,8 +94,12 @@ fn unreadable_value<'a>(found: &ArgMatches<'a>) -> (&'a str, &'a str, &'a str) {
         return (order, "--endian <ORDER>", "little or big");
     }
     let blocks = text_at(found, "blocks").unwrap_or("");
-    let wanted = "a number of blocks in decimal digits, below 4294967296";
-    (blocks, "--blocks <N>", wanted)
+    if number(blocks).is_none() {
+        let wanted = "a number of blocks in decimal digits, below 4294967296";
+        return (blocks, "--blocks <N>", wanted);
+    }
+    let size = text_at(found, "page").unwrap_or("");
+    (size, "--page <N>", "4096, 8192 or 16384")
 }
 
 /// The text about the value that can't be read.

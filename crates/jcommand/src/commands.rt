@@ -118,12 +118,13 @@ fn make_cat<'a>(alloc: Global) -> Made<'a>
     add_arg(add_arg(command, image), path)
 }
 
-/// A subcommand that writes to flash of so many blocks.
+/// A subcommand that writes to flash of so many blocks, by pages.
 fn make_writer<'a>(alloc: Global, name: &'a str, about: &'a str, after: &'a str) -> Made<'a>
     ensures { MakesApp result (writer name.now) }
 {
     let blocks = make_required_option(alloc, "blocks", "N", help::BLOCKS);
-    add_arg(make_plain(alloc, name, about, after), blocks)
+    let page = make_option(alloc, "page", "N", "4096", help::PAGE);
+    add_arg(add_arg(make_plain(alloc, name, about, after), blocks), page)
 }
 
 fn make_build<'a>(alloc: Global) -> Made<'a>

@@ -21,6 +21,8 @@ pub(crate) const ENDIAN: &str = "Byte order of the image: little or big";
 
 pub(crate) const BLOCKS: &str = "Number of blocks of the flash, which has 268435456 bytes at most";
 
+pub(crate) const PAGE: &str = "Largest piece of a file in one node, in bytes: 4096, 8192 or 16384";
+
 pub(crate) const SCAN: &str = "Print the tiles alone, and do not mount";
 
 pub(crate) const IMAGE: &str = "File with the bytes of the flash";

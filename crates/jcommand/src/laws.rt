@@ -3,7 +3,8 @@ ghost use Rattle.std.specs.Prelude.{◌≡◌, [], ◌∷◌, Some, None, codes}
 ghost use Rattle.clap.specs.Words.{fault_of};
 ghost use Rattle.clap.specs.declared.error.ErrorKind.TheVariants.{DisplayHelp, DisplayVersion, MissingSubcommand, MissingRequiredArgument, UnknownArgument};
 ghost use Rattle.jnode.specs.declared.order.Endian.TheVariants.{Little, Big};
-ghost use Rattle.jcommand.specs.Parsed.{ScanParsed, CheckParsed, ListParsed, CatParsed, BuildParsed, AppendParsed, parsed_from, endian_of, number_of};
+ghost use Rattle.jcommand.specs.Parsed.{ScanParsed, CheckParsed, ListParsed, CatParsed, BuildParsed, AppendParsed, parsed_from, endian_of, number_of, page_of};
+ghost use Rattle.jsteps.specs.declared.page.Page.TheVariants.{P4096, P8192, P16384};
 ghost use Rattle.jcommand.specs.Commands.{program};
 
 /// The values of options.
@@ -16,6 +17,9 @@ pub fn known_values()
     ensures little { endian_of (codes "little") ≡ Some Little }
     ensures big { endian_of (codes "big") ≡ Some Big }
     ensures other { endian_of (codes "middle") ≡ None }
+    ensures page { page_of (codes "8192") ≡ Some P8192 }
+    ensures padded_page { page_of (codes "08192") ≡ None }
+    ensures other_page { page_of (codes "32768") ≡ None }
 {}
 
 /// What words ask for.
@@ -30,10 +34,10 @@ pub fn known_requests()
     ensures content { parsed_from (codes "jffs2_image" ∷ codes "cat" ∷ codes "a" ∷ codes "/b" ∷ [])
         ≡ Some (CatParsed (record { geometry = record { block = 65536 }; endian = Little }) (codes "a") (codes "/b")) }
     ensures made { parsed_from (codes "jffs2_image" ∷ codes "build" ∷ codes "--blocks" ∷ codes "2" ∷ codes "a" ∷ codes "b" ∷ [])
-        ≡ Some (BuildParsed (record { geometry = record { block = 65536 }; endian = Little }) 2 (codes "a") (codes "b")) }
+        ≡ Some (BuildParsed (record { geometry = record { block = 65536 }; endian = Little }) 2 P4096 (codes "a") (codes "b")) }
     ensures extended { parsed_from (codes "jffs2_image" ∷ codes "append" ∷ codes "a" ∷ codes "--block" ∷ codes "8192" ∷ codes "b"
-        ∷ codes "--endian=big" ∷ codes "c" ∷ codes "--blocks=3" ∷ [])
-        ≡ Some (AppendParsed (record { geometry = record { block = 8192 }; endian = Big }) 3 (codes "a") (codes "b") (codes "c")) }
+        ∷ codes "--endian=big" ∷ codes "--page=16384" ∷ codes "c" ∷ codes "--blocks=3" ∷ [])
+        ≡ Some (AppendParsed (record { geometry = record { block = 8192 }; endian = Big }) 3 P16384 (codes "a") (codes "b") (codes "c")) }
 {}
 
 /// Words that ask for nothing.

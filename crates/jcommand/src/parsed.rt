@@ -1,11 +1,12 @@
 //! What the matches of the program's command line ask for.
 ghost use Rattle.std.specs.Prelude.{◌≡◌, option_map};
 ghost use Rattle.clap.specs.Words.{found_of, rows_of, first_of};
-ghost use Rattle.jcommand.specs.Parsed.{number_of, endian_of, number_option, options_in, image_in, is_given, check_in, ls_in, cat_in, writing_in, build_in, append_in, parsed, options_of, view};
+ghost use Rattle.jcommand.specs.Parsed.{number_of, endian_of, page_of, number_option, options_in, image_in, is_given, check_in, ls_in, cat_in, writing_in, build_in, append_in, parsed, options_of, view};
 
 use clap::ArgMatches;
 use jnode::Endian;
 use jscan::Geometry;
+use jsteps::Page;
 
 /// What each subcommand is given.
 #[derive(Clone, Copy)]
@@ -42,6 +43,7 @@ pub enum Request<'a> {
     Build {
         options: Options,
         blocks: u32,
+        page: Page,
         listing: &'a str,
         output: &'a str,
     },
@@ -49,6 +51,7 @@ pub enum Request<'a> {
     Append {
         options: Options,
         blocks: u32,
+        page: Page,
         image: &'a str,
         listing: &'a str,
         output: &'a str,
@@ -99,6 +102,18 @@ pub(crate) fn endian(text: &str) -> Option<Endian>
     match text {
         "little" => Some(Endian::Little),
         "big" => Some(Endian::Big),
+        _ => None,
+    }
+}
+
+/// A page by its size in bytes.
+pub(crate) fn page(text: &str) -> Option<Page>
+    ensures { result ≡ page_of text.now }
+{
+    match text {
+        "4096" => Some(Page::P4096),
+        "8192" => Some(Page::P8192),
+        "16384" => Some(Page::P16384),
         _ => None,
     }
 }
@@ -176,24 +191,26 @@ fn cat_at<'a>(found: &ArgMatches<'a>) -> Option<Request<'a>>
     })
 }
 
-/// The number of blocks, the listing and the output of a subcommand that writes.
-fn writing_at<'a>(found: &ArgMatches<'a>) -> Option<(u32, &'a str, &'a str)>
-    ensures { option_map (λ w. (w.0, w.1.now, w.2.now)) result ≡ writing_in (rows_of (found_of found.now)) }
+/// The number of blocks, the page, the listing and the output of a subcommand that writes.
+fn writing_at<'a>(found: &ArgMatches<'a>) -> Option<(u32, Page, &'a str, &'a str)>
+    ensures { option_map (λ w. (w.0, w.1, w.2.now, w.3.now)) result ≡ writing_in (rows_of (found_of found.now)) }
 {
     let blocks = number_at(found, "blocks")?;
+    let page = page(text_at(found, "page")?)?;
     let listing = text_at(found, "LISTING")?;
     let output = text_at(found, "OUT")?;
-    Some((blocks, listing, output))
+    Some((blocks, page, listing, output))
 }
 
 fn build_at<'a>(found: &ArgMatches<'a>) -> Option<Request<'a>>
     ensures { option_map view result ≡ build_in (rows_of (found_of found.now)) }
 {
     let options = options_at(found)?;
-    let (blocks, listing, output) = writing_at(found)?;
+    let (blocks, page, listing, output) = writing_at(found)?;
     Some(Request::Build {
         options,
         blocks,
+        page,
         listing,
         output,
     })
@@ -203,10 +220,11 @@ fn append_at<'a>(found: &ArgMatches<'a>) -> Option<Request<'a>>
     ensures { option_map view result ≡ append_in (rows_of (found_of found.now)) }
 {
     let (options, image) = image_at(found)?;
-    let (blocks, listing, output) = writing_at(found)?;
+    let (blocks, page, listing, output) = writing_at(found)?;
     Some(Request::Append {
         options,
         blocks,
+        page,
         image,
         listing,
         output,

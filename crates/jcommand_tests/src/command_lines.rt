@@ -22,17 +22,25 @@ fn shown(alloc: Global, request: Request<'_>) -> Result<String, AllocError> {
         Request::Cat { image, path, .. } => format!(in alloc; "cat {block} {order} {image} {path}"),
         Request::Build {
             blocks,
+            page,
             listing,
             output,
             ..
-        } => format!(in alloc; "build {block} {order} {blocks} {listing} {output}"),
+        } => {
+            let page = page.size();
+            format!(in alloc; "build {block} {order} {blocks} {page} {listing} {output}")
+        }
         Request::Append {
             blocks,
+            page,
             image,
             listing,
             output,
             ..
-        } => format!(in alloc; "append {block} {order} {blocks} {image} {listing} {output}"),
+        } => {
+            let page = page.size();
+            format!(in alloc; "append {block} {order} {blocks} {page} {image} {listing} {output}")
+        }
     }
 }
 
@@ -100,43 +108,51 @@ fn args_that_ask_to_write(rt: HostRuntime) -> Result<(), Fail> {
     let examples = [
         (
             "t build --blocks 8 a.txt b.img",
-            "build 65536 little 8 a.txt b.img",
+            "build 65536 little 8 4096 a.txt b.img",
         ),
         (
             "t build a.txt --blocks=8 b.img",
-            "build 65536 little 8 a.txt b.img",
+            "build 65536 little 8 4096 a.txt b.img",
         ),
         (
             "t build a.txt b.img --blocks 0",
-            "build 65536 little 0 a.txt b.img",
+            "build 65536 little 0 4096 a.txt b.img",
         ),
         (
             "t build --endian big --blocks 4294967295 --block 8192 a.txt b.img",
-            "build 8192 big 4294967295 a.txt b.img",
+            "build 8192 big 4294967295 4096 a.txt b.img",
         ),
         (
             "t build a.txt --endian=big b.img --block=0 --blocks=00012",
-            "build 0 big 12 a.txt b.img",
+            "build 0 big 12 4096 a.txt b.img",
         ),
         (
             "t build --blocks 3 -- --block --blocks",
-            "build 65536 little 3 --block --blocks",
+            "build 65536 little 3 4096 --block --blocks",
+        ),
+        (
+            "t build --blocks 8 --page 16384 a.txt b.img",
+            "build 65536 little 8 16384 a.txt b.img",
+        ),
+        (
+            "t append a.img b.txt c.img --page=8192 --blocks 8",
+            "append 65536 little 8 8192 a.img b.txt c.img",
         ),
         (
             "t append --blocks 8 a.img b.txt c.img",
-            "append 65536 little 8 a.img b.txt c.img",
+            "append 65536 little 8 4096 a.img b.txt c.img",
         ),
         (
             "t append a.img b.txt c.img --blocks=8",
-            "append 65536 little 8 a.img b.txt c.img",
+            "append 65536 little 8 4096 a.img b.txt c.img",
         ),
         (
             "t append a.img --blocks 8 b.txt --block 4096 c.img --endian big",
-            "append 4096 big 8 a.img b.txt c.img",
+            "append 4096 big 8 4096 a.img b.txt c.img",
         ),
         (
             "t append --block=131072 --blocks=4294967295 a.img b.txt a.img",
-            "append 131072 little 4294967295 a.img b.txt a.img",
+            "append 131072 little 4294967295 4096 a.img b.txt a.img",
         ),
     ];
     for (line, wanted) in examples {
@@ -248,7 +264,21 @@ fn args_that_are_wrong_to_write(rt: HostRuntime) -> Result<(), Fail> {
             "'middle' for '--endian <ORDER>'",
         ),
         ("t build --scan --blocks 8 a b", "--scan"),
-        ("t build --page 4096 --blocks 8 a b", "--page"),
+        ("t ls --page 4096 a", "--page"),
+        ("t build --page --blocks 8 a b", "--page <N>"),
+        (
+            "t build --page 4095 --blocks 8 a b",
+            "'4095' for '--page <N>'",
+        ),
+        (
+            "t build --blocks 8 --page=04096 a b",
+            "'04096' for '--page <N>'",
+        ),
+        (
+            "t append --blocks 8 --page 32768 a b c",
+            "'32768' for '--page <N>'",
+        ),
+        ("t build --page 1 --blocks x a b", "'x' for '--blocks <N>'"),
         ("t append", "--blocks <N>"),
         ("t append a b c", "--blocks <N>"),
         ("t append --blocks 8", "<IMAGE>"),
