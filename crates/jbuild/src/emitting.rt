@@ -27,7 +27,8 @@ fn put_front<S: Sink>(sink: &mut S, base: &[u8], from: usize) -> Result<(), PutF
 }
 
 /// Puts a mounted image's bytes up to where writing goes on, erased flash for those that it lacks, and then runs operations on
-/// it, with bytes cut where a page of this size of a file ends. Answers the sink and what the run did. It is in `E`'s order and of the geometry that the image was mounted with.
+/// it, with bytes cut where a page of this size of a file ends. Answers the sink and what the run did. It is in `E`'s order
+/// and of the geometry that the image was mounted with.
 ///
 /// # Errors
 /// Nothing was run. `ReadOnly` and `Geometry` as [`Session::resume_paged`] answers them, before a byte is put, and out of
