@@ -151,9 +151,9 @@ A listing of a small tree:
   create 0755 /home/start
   part /home/start 0 files/start.sh
 
-To be written, blocks have 8192 bytes at least, and 80 more than --page. Linux reads nodes
-of files of up to the page size of the device's processor, most often 4096. OUT ends with
-the last node: the rest of the flash is erased, 0xFF. Where all was accepted, 'accepted A nodes N bytes B' is
+To be written, blocks have 8192 bytes at least, and 80 more than --page. For Linux, --page
+is the page size of the device's memory at most, which 'getconf PAGESIZE' tells there. OUT
+ends with the last node: the rest of the flash is erased, 0xFF. Where all was accepted, 'accepted A nodes N bytes B' is
 printed: A operations, the N nodes that they took, and their B bytes of the flash.
 
 The listing and each FILE are read before OUT is made. The first operation that is refused,
