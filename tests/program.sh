@@ -569,6 +569,34 @@ line="the bytes before a full flash"
 [[ $(wc -c < built) == 4288 ]]; count $?
 rm built
 
+# Pages: a node for each that the bytes meet; a piece whose node would spell the magic in its length becomes two
+for row in "4096 16384 6 16780" "16384 16384 3 16576" "8192 16384 4 16644" "8192 6464 3 6656" "8192 6465 4 6728" "8192 6466 3 6660" \
+    "16384 6465 4 6728" "4096 6465 4 6728"; do
+    read -r size length nodes bytes <<< "$row"
+    yes 0123456789 | head -c "$length" > long
+    lines listing 'create 0644 /a' 'part /a 0 long'
+    for order in little big; do
+        run build --endian $order --blocks 1 --page "$size" listing built; want 0 "accepted 2 nodes $nodes bytes $bytes" ""
+        run check --endian $order built; want 0 $'*\nmount ok' ""
+        run cat --endian $order built /a; whole long
+    done
+done
+lines more 'part /a 16000 long' 'create 0644 /b' 'part /b 0 long'
+run append --endian big --blocks 2 --page 16384 built more built; want 0 "accepted 3 nodes 7 bytes 13400" ""
+run cat --endian big built /b; whole long
+for row in "8192 8192" "8192 16384" "8268 8192" "16384 16384" "16460 16384"; do
+    run build --block "${row% *}" --blocks 2 --page "${row#* }" create_a unmade_image; want 1 "" "jffs2_image: S7 Geometry"; unmade unmade_image
+    run append --block "${row% *}" --blocks 2 --page "${row#* }" made_little create_b unmade_image; want 1 "" "jffs2_image: S7 Geometry"; unmade unmade_image
+done
+for row in "8192 4096" "8272 8192" "16464 16384"; do
+    run build --block "${row% *}" --blocks 2 --page "${row#* }" create_a built; want 0 "accepted 1 nodes 2 bytes 124" ""; same built made_little
+done
+for word in 4095 0 4097 16k 32768 04096 ""; do
+    run build --blocks 1 --page "$word" create_a unmade_image; want 2 "" $'error: invalid value \''"$word"$'\' for \'--page <N>\': wanted 4096, 8192 or 16384\n*'
+    unmade unmade_image
+done
+rm built long
+
 # Extending: the nodes go into the first block from which on the flash is blank
 for order in little big; do
     flash=("${small[@]}" --endian "$order")
