@@ -3,7 +3,8 @@
 
 Two trees are made in the folder, each of about 62 MiB: 62 files of 1 MiB, and 16,000 of 3,900 bytes, and for each a listing
 that builds it. mkfs.jffs2 is that of mtd-utils; where it is missing it is left out. As `build` does it writes little order,
-blocks of 64 KiB with clean markers, pages of 4 KiB, no compression and no padding behind the last node. `cat` writes the files'
+blocks of 64 KiB with clean markers, pages of 4 KiB or of the size that is told, no compression and no padding behind the
+last node. `cat` writes the files'
 bytes one after the other, and nothing else. Last an image of 256 MiB, of which the first block is full and all others are
 erased: `append` of an empty listing reads all of it, and writes one block. The programs are those that `rt run` built in CRATES (here, where it is not given). Of each
 command the least processor time over the runs counts, and the greatest memory; the commands of a round run one after the
@@ -40,8 +41,11 @@ def make(name, count, length):
 def commands(name):
     """The commands that make an image of a tree, or go on from one: a name for each, and its words."""
     yield "build", [PROGRAM, "build", *BLOCKS, name + ".txt", name + ".img"]
+    yield "build --page 16384", [PROGRAM, "build", *BLOCKS, "--page", "16384", name + ".txt", name + ".large"]
     if shutil.which("mkfs.jffs2"):
-        yield "mkfs.jffs2", ["mkfs.jffs2", "-m", "none", "-l", "-e", "64KiB", "-r", name, "-o", name + ".mkfs"]
+        made = ["mkfs.jffs2", "-m", "none", "-l", "-e", "64KiB", "-r", name, "-o", name + ".mkfs"]
+        yield "mkfs.jffs2", made
+        yield "mkfs.jffs2 -s 16384", [*made, "-s", "16384"]
     yield "append of one file", [PROGRAM, "append", *BLOCKS, name + ".img", "one.txt", name + ".more"]
     yield "ls", [PROGRAM, "ls", name + ".img"]
     yield "cp", ["cp", name + ".img", name + ".copy"]
