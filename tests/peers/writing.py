@@ -12,10 +12,16 @@ from listing import Changes, building, plain
 
 FLASH = 4 << 20
 KINDS = tuple(itertools.product(("little", "big"), (8192, 65536, 131072)))
+PAGES = (4096, 8192, 16384)
 
 
 def geometry(order, block):
     return ["--block", str(block), "--endian", order]
+
+
+def pages_of(block):
+    """The pages that a block holds, with its marker and the fields of a node."""
+    return [page for page in PAGES if page + 80 <= block]
 
 
 def lines_of(file, lines):
@@ -70,12 +76,13 @@ def seen_by_reader(what, image, block, folder):
 
 
 def build(folder, place, parts):
-    """The whole folder by a listing, in both orders and three sizes of blocks."""
+    """The whole folder by a listing, in both orders, by three sizes of blocks and of pages."""
     lines = building(folder, parts)
     image = os.path.join(place, "built")
-    for order, block in KINDS:
-        what, words = f"build {order} {block}", geometry(order, block)
-        nodes = accepted(what, ["build", *words, "--blocks", str(FLASH // block), "lines", image], lines, image)
+    for order, block, page in ((order, block, page) for order, block in KINDS for page in pages_of(block)):
+        what, words = f"build {order} {block} by pages of {page}", geometry(order, block)
+        flash = [*words, "--blocks", str(FLASH // block), "--page", str(page)]
+        nodes = accepted(what, ["build", *flash, "lines", image], lines, image)
         if nodes is None:
             continue
         compare(what, words, image, folder)
@@ -118,11 +125,12 @@ def change(folder, parts):
     return changes.done()
 
 
-def extended(what, base, order, block, lines, changed):
+def extended(what, base, order, block, lines, changed, page=PAGES[0]):
     """Extends an image by the lines, and compares it with the changed folder. The new image, or nothing."""
     out, words = os.path.join(os.path.dirname(base), "extended"), geometry(order, block)
     before, _ = dumped(base, block, order)
-    nodes = accepted(what, ["append", *words, "--blocks", str(FLASH // block), base, "lines", out], lines, out)
+    flash = [*words, "--blocks", str(FLASH // block), "--page", str(page)]
+    nodes = accepted(what, ["append", *flash, base, "lines", out], lines, out)
     if nodes is not None:
         compare(what, words, out, changed)
         counted(what, out, order, block, before + nodes)
@@ -153,9 +161,11 @@ def append(folder, changed, sayable, place, parts):
             extended("append to " + name, image, order, block, lines, changed)
         what = f"{order} {block}"
         accepted("build " + what, ["build", *geometry(order, block), "--blocks", str(FLASH // block), "lines", built], whole, built)
-        out = extended("append to build " + what, built, order, block, lines, sayable_changed)
-        if out and order == "little":
-            seen_by_reader("append to build " + what, out, block, sayable_changed)
+        for page in pages_of(block):
+            told = f"append to build {what} by pages of {page}"
+            out = extended(told, built, order, block, lines, sayable_changed, page)
+            if out and order == "little":
+                seen_by_reader(told, out, block, sayable_changed)
 
 
 def copied(folder, name):
