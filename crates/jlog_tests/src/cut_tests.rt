@@ -1,13 +1,13 @@
 //! What mounts after writing stopped, at each byte: the plain file system after the steps whose nodes are whole.
 
 use crate::plain::{Change, Plain};
-use crate::sessions::run_ops;
+use crate::sessions::{Flash, run_ops, run_paged};
 use crate::stopped::Log;
 use byteorder::{BigEndian, LittleEndian};
 use jmount::mount;
 use jnode::{Damage, Order};
 use jscan::{Finding, FindingKind, Geometry};
-use jsteps::{Op, Text};
+use jsteps::{Op, Page, Text};
 use std::alloc::Global;
 use std::test::Fail;
 
@@ -19,7 +19,7 @@ struct Case<'c> {
     base: &'c [u8],
     /// What makes the base's files.
     before: &'c [Change],
-    blocks: u32,
+    flash: Flash,
     /// Where writing begins.
     from: usize,
     ops: &'c [Op<'c>],
@@ -58,8 +58,26 @@ const fn named(name: &'static [u8], ino: u32) -> Change {
     Change::Name { name, ino }
 }
 
+/// So many blocks of 8,192 bytes, by pages of 4,096.
+const fn small(blocks: u32) -> Flash {
+    Flash {
+        geometry: GEOMETRY,
+        blocks,
+        page: Page::P4096,
+    }
+}
+
+/// A block of 65,536 bytes.
+const fn large(page: Page) -> Flash {
+    Flash {
+        geometry: Geometry { block: 65_536 },
+        blocks: 1,
+        page,
+    }
+}
+
 fn log_of<E: Order>(alloc: Global, case: &Case<'_>) -> Result<Log, Fail> {
-    let run = run_ops::<E>(alloc, case.base, GEOMETRY, case.blocks, case.ops)?;
+    let run = run_paged::<E>(alloc, case.base, case.flash, case.ops)?;
     if run.report.accepted != case.ops.len() {
         return Err(Fail::from("an operation was refused"));
     }
@@ -70,7 +88,8 @@ fn log_of<E: Order>(alloc: Global, case: &Case<'_>) -> Result<Log, Fail> {
     Ok(Log {
         bytes,
         from: case.from,
-        flash: (case.blocks as usize).saturating_mul(8192),
+        block: case.flash.geometry.block as usize,
+        flash: (case.flash.blocks as usize).saturating_mul(case.flash.geometry.block as usize),
         places: run.report.places,
     })
 }
@@ -93,9 +112,9 @@ fn states_of(alloc: Global, case: &Case<'_>) -> Result<Vec<Plain>, Fail> {
 
 /// Which pairs of lengths are tried of the markers of blocks that were not written past them: all inside the first marker
 /// and after every 61st byte, and one in turn after the others. 13 pairs have the same length of the second.
-fn marker_lens(k: usize) -> (usize, usize) {
+fn marker_lens(blocks: u32, k: usize) -> (usize, usize) {
     if k <= 12 || k % 61 == 0 {
-        (0, 169)
+        (0, if blocks == 1 { 13 } else { 169 })
     } else {
         (k, k.saturating_add(1))
     }
@@ -106,15 +125,15 @@ fn first_wrong<E: Order>(alloc: Global, case: &Case<'_>) -> Result<Option<usize>
     let log = log_of::<E>(alloc, case)?;
     let states = states_of(alloc, case)?;
     let mut image = Vec::new(alloc);
-    let mut room = vec![in alloc; 0u8; 16_384]?;
+    let mut room = vec![in alloc; 0u8; 20_000]?;
     for end in case.from..log.bytes.len() + 1 {
         let k = end.saturating_sub(case.from);
         let count = case.whole.iter().filter(|whole| **whole <= k).count();
         let state = states.get(count).ok_or("no state")?;
-        let (first, last) = marker_lens(k);
+        let (first, last) = marker_lens(case.flash.blocks, k);
         for pair in first..last {
             log.leave::<E>(&mut image, end, (pair % 13, pair / 13 % 13))?;
-            let mounted = mount::<E>(alloc, &image, GEOMETRY)?;
+            let mounted = mount::<E>(alloc, &image, case.flash.geometry)?;
             if log.count_whole(&image) != count || !state.is_shown(&mounted, &mut room) {
                 return Ok(Some(k));
             }
@@ -125,7 +144,7 @@ fn first_wrong<E: Order>(alloc: Global, case: &Case<'_>) -> Result<Option<usize>
 
 /// Whether each image that is left mounts as it is to, in an order.
 fn survives<E: Order>(alloc: Global, case: &Case<'_>, len: usize) -> Result<bool, Fail> {
-    let run = run_ops::<E>(alloc, case.base, GEOMETRY, case.blocks, case.ops)?;
+    let run = run_paged::<E>(alloc, case.base, case.flash, case.ops)?;
     Ok(run.output.len() == len && first_wrong::<E>(alloc, case)?.is_none())
 }
 
@@ -148,7 +167,7 @@ fn a_file_that_is_cut_and_written(rt: HostRuntime) -> Result<(), Fail> {
     let case = Case {
         base: &[],
         before: &[],
-        blocks: 1,
+        flash: small(1),
         from: 0,
         ops: &ops,
         steps: &[
@@ -204,7 +223,7 @@ fn a_directory_that_is_renamed(rt: HostRuntime) -> Result<(), Fail> {
     let case = Case {
         base: &[],
         before: &[],
-        blocks: 1,
+        flash: small(1),
         from: 0,
         ops: &ops,
         steps: &[
@@ -228,7 +247,7 @@ fn goes_on<E: Order>(alloc: Global) -> Result<bool, Fail> {
     let case = Case {
         base: made_file.output.get(..100).ok_or("too short")?,
         before: &[made(0)],
-        blocks: 2,
+        flash: small(2),
         from: 8192,
         ops: &[create(5, b"/b")],
         steps: &[made(5), named(b"b", 3)],
@@ -255,7 +274,7 @@ fn a_file_over_two_blocks(rt: HostRuntime) -> Result<(), Fail> {
     let case = Case {
         base: &[],
         before: &[],
-        blocks: 2,
+        flash: small(2),
         from: 0,
         ops: &[create(1, b"/a"), write(2, b"/a", 0, &ONES)],
         steps: &[
@@ -281,13 +300,83 @@ fn a_file_over_two_blocks(rt: HostRuntime) -> Result<(), Fail> {
     Ok(())
 }
 
+const SEVENS: [u8; 16_384] = [7; 16_384];
+
+const fn put(offset: usize, bytes: &'static [u8], time: u32) -> Change {
+    Change::Put {
+        file: 0,
+        offset,
+        bytes,
+        time,
+    }
+}
+
+/// The first piece is two nodes, since its length would spell the magic; the second write lies in two pages.
+#[test]
+fn a_file_by_pages_of_8192(rt: HostRuntime) -> Result<(), Fail> {
+    let case = Case {
+        base: &[],
+        before: &[],
+        flash: large(Page::P8192),
+        from: 0,
+        ops: &[
+            create(1, b"/a"),
+            write(2, b"/a", 0, &SEVENS[..6465]),
+            write(3, b"/a", 8000, &SEVENS[..500]),
+        ],
+        steps: &[
+            made(1),
+            named(b"a", 2),
+            put(0, &SEVENS[..4096], 2),
+            put(4096, &SEVENS[..2369], 2),
+            Change::Zero {
+                file: 0,
+                size: 8000,
+                time: 3,
+            },
+            put(8000, &SEVENS[..192], 3),
+            put(8192, &SEVENS[..308], 3),
+        ],
+        whole: &[80, 121, 4288, 6725, 6796, 7056, 7432],
+    };
+    assert!(rt; survives::<LittleEndian>(rt.alloc(), &case, 7432)?);
+    assert!(rt; survives::<BigEndian>(rt.alloc(), &case, 7432)?);
+    Ok(())
+}
+
+#[test]
+fn a_file_by_pages_of_16384(rt: HostRuntime) -> Result<(), Fail> {
+    let case = Case {
+        base: &[],
+        before: &[],
+        flash: large(Page::P16384),
+        from: 0,
+        ops: &[
+            create(1, b"/a"),
+            write(2, b"/a", 0, &SEVENS),
+            write(3, b"/a", 16_380, b"12345678"),
+        ],
+        steps: &[
+            made(1),
+            named(b"a", 2),
+            put(0, &SEVENS, 2),
+            put(16_380, b"1234", 3),
+            put(16_384, b"5678", 3),
+        ],
+        whole: &[80, 121, 16_576, 16_648, 16_720],
+    };
+    assert!(rt; survives::<LittleEndian>(rt.alloc(), &case, 16_720)?);
+    assert!(rt; survives::<BigEndian>(rt.alloc(), &case, 16_720)?);
+    Ok(())
+}
+
 /// A node whose last bytes are those of erased flash is whole before they are written.
 #[test]
 fn a_file_that_ends_in_erased_bytes(rt: HostRuntime) -> Result<(), Fail> {
     let case = Case {
         base: &[],
         before: &[],
-        blocks: 1,
+        flash: small(1),
         from: 0,
         ops: &[create(0, b"/a"), write(0, b"/a", 0, b"\xFF\xFF\xFF")],
         steps: &[

@@ -6,7 +6,7 @@ use jlog::{RunReport, Session};
 use jmount::mount;
 use jnode::Order;
 use jscan::Geometry;
-use jsteps::Op;
+use jsteps::{Op, Page};
 use std::alloc::Global;
 use std::test::Fail;
 
@@ -26,6 +26,31 @@ pub fn ops_of<'a>(alloc: Global, lines: &[&'a str]) -> Result<Vec<Op<'a>>, Fail>
     Ok(ops)
 }
 
+/// A flash, and the page that bytes are cut by.
+#[derive(Clone, Copy)]
+pub struct Flash {
+    pub geometry: Geometry,
+    pub blocks: u32,
+    pub page: Page,
+}
+
+/// Runs operations in a session.
+fn run_in<E: Order>(
+    alloc: Global,
+    image: &[u8],
+    mut session: Session<'_, E, FromWriter<Vec<u8>>>,
+    ops: &[Op<'_>],
+) -> Result<Outcome, Fail> {
+    let report = session.run(alloc, ops);
+    if session.base() != image {
+        return Err(Fail::from("another base"));
+    }
+    Ok(Outcome {
+        output: session.finish().into_writer(),
+        report,
+    })
+}
+
 /// Runs operations onto an image, on a flash of so many blocks.
 pub fn run_ops<E: Order>(
     alloc: Global,
@@ -36,15 +61,28 @@ pub fn run_ops<E: Order>(
 ) -> Result<Outcome, Fail> {
     let mounted = mount::<E>(alloc, image, geometry)?;
     let sink = FromWriter::new(Vec::new(alloc));
-    let mut session = Session::<E, _>::resume(alloc, &mounted, geometry, blocks, sink)?;
-    let report = session.run(alloc, ops);
-    if session.base() != image {
-        return Err(Fail::from("another base"));
-    }
-    Ok(Outcome {
-        output: session.finish().into_writer(),
-        report,
-    })
+    let session = Session::<E, _>::resume(alloc, &mounted, geometry, blocks, sink)?;
+    run_in::<E>(alloc, image, session, ops)
+}
+
+/// Runs operations onto an image, by pages.
+pub fn run_paged<E: Order>(
+    alloc: Global,
+    image: &[u8],
+    flash: Flash,
+    ops: &[Op<'_>],
+) -> Result<Outcome, Fail> {
+    let mounted = mount::<E>(alloc, image, flash.geometry)?;
+    let sink = FromWriter::new(Vec::new(alloc));
+    let session = Session::<E, _>::resume_paged(
+        alloc,
+        &mounted,
+        flash.geometry,
+        flash.blocks,
+        flash.page,
+        sink,
+    )?;
+    run_in::<E>(alloc, image, session, ops)
 }
 
 /// Runs the operations of lines onto an image.

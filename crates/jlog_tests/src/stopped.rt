@@ -4,8 +4,6 @@ use jlog::Place;
 use jnode::{Order, marker_bytes};
 use std::test::Fail;
 
-const BLOCK: usize = 8192;
-
 /// A log that was written whole, onto a flash of one or two blocks.
 #[derive(Drop)]
 pub struct Log {
@@ -13,7 +11,8 @@ pub struct Log {
     pub bytes: Vec<u8>,
     /// Where writing began.
     pub from: usize,
-    /// The length of the flash.
+    /// The length of a block, and of the flash.
+    pub block: usize,
     pub flash: usize,
     pub places: Vec<Place>,
 }
@@ -38,7 +37,7 @@ impl Log {
         image.clear();
         image.extend_from_slice(self.bytes.get(..end).ok_or("past the end")?)?;
         image.resize(self.flash, 0xFF)?;
-        for (start, len) in [(0usize, markers.0), (BLOCK, markers.1)] {
+        for (start, len) in [(0usize, markers.0), (self.block, markers.1)] {
             if self.from <= start
                 && end <= start.saturating_add(12)
                 && end.saturating_sub(start) <= len
