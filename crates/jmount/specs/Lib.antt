@@ -14,3 +14,5 @@ pub mod Paths
 pub mod Walk
 pub mod Storing
 pub mod Collected
+pub mod Shape
+pub mod ShapeForm
