@@ -27,3 +27,4 @@ pub mod ShapeLemmas
 pub mod ShapeFormLemmas
 pub mod ShapeOfLemmas
 pub mod ShapePathLemmas
+pub mod ShapingLemmas

@@ -1,13 +1,13 @@
 -- The shape in forms that are computed and decided.
 use Rattle.std.proofs.Common.{◌≡◌, ℕ, suc, zero, ◌<◌, ◌≤◌, Bool, true, false, List, [], ◌∷◌, ◌++◌, length, length-append, filter, Ok, refl, ap, sym, ◌∙◌, subst, inl, inr, ◌⊎◌, ⊎_elim, arith}
 use Rattle.std.specs.Prelude.{Contains, not, ◌==◌}
-use Rattle.std.proofs.lemmas.Bool.{cond_both, eqb-true, eq-eqb, not_from_true, not_from_false, true_from_ne_false, true≢false}
+use Rattle.std.proofs.lemmas.Bool.{cond_both, eqb-true, eq-eqb, not_from_true, not_from_false, true≢false}
 use Rattle.jname.proofs.MemberLemmas.{Contains-none, Contains-cases, Contains-filter}
-use Rattle.jmount.specs.Tree.{Tree, named, is_directory}
+use Rattle.jmount.specs.Tree.{Tree, is_directory}
 use Rattle.jmount.specs.Find.{walk}
 use Rattle.jmount.specs.Shape.{IsSingle, HasShape}
 use Rattle.jmount.specs.ShapeForm.{IsOnLoop, HasNoLoop, Holds, HeldByEachOther}
-use Rattle.jmount.proofs.ShapeLemmas.{Leads, leads_none, leads_more, leads_on, last_step, first_is_directory, walk_leads, leads_walk, shaped}
+use Rattle.jmount.proofs.ShapeLemmas.{Leads, leads_none, leads_more, leads_on, last_step, first_is_directory, walk_leads, leads_walk}
 
 -- ---- loops
 

@@ -1,5 +1,5 @@
 -- Names that lead from one number to another, and when one more of them makes no loop.
-use Rattle.std.proofs.Common.{◌≡◌, ◌≢◌, ℕ, Bool, true, false, cond, List, [], ◌∷◌, ◌++◌, length, length-append, Option, Some, None, Result, Ok, Err, refl, ap, sym, ◌∙◌, subst, inl, inr, ◌⊎◌, ⊎_elim, arith}
+use Rattle.std.proofs.Common.{◌≡◌, ℕ, Bool, true, false, cond, List, [], ◌∷◌, ◌++◌, length, length-append, Option, Some, None, Result, Ok, Err, refl, ap, sym, ◌∙◌, subst, inl, inr, ◌⊎◌, ⊎_elim, arith}
 use Rattle.std.specs.Prelude.{is_ok, is_some}
 use Rattle.std.proofs.lemmas.Bool.{false≢true}
 use Rattle.jmount.specs.Tree.{ObjectOf, Tree, named, is_directory, is_there, has_bits, object, directory_bits}

@@ -11,16 +11,16 @@ use Rattle.jname.specs.Live.{Key, key_cmp}
 use Rattle.jname.proofs.MemberLemmas.{Contains-none, Contains-here, Contains-there, Contains-cases, Contains-filter, Contains-filter_from}
 use Rattle.jname.proofs.NamingLemmas.{key_cmp_total, key_cmp-IsAntisymmetric}
 use Rattle.jname.proofs.SortedLemmas.{Contains-from_find, find-from_Contains}
-use Rattle.jmount.specs.Tree.{Outline, named, is_directory}
+use Rattle.jmount.specs.Tree.{Tree, Outline, named, is_directory}
 use Rattle.jmount.specs.Shape.{HasShape}
 use Rattle.jmount.specs.Laws as law
-use Rattle.jmount.specs.ShapeForm.{IsOnLoop, Holds, is_no_second, is_single, is_held, left_after, directories}
+use Rattle.jmount.specs.ShapeForm.{IsOnLoop, is_no_second, is_single, is_held, left_after, directories}
 use Rattle.jmount.proofs.ShapeLemmas.{there_of_directory}
 use Rattle.jmount.proofs.ShapeFormLemmas.{shape_has_no_loop, filter_less, held_on_loop, held_is_loop, loops_are_of_directories, no_loop_is_shape}
 
 -- ---- lists
 
-any_from : {X : Type 0} (p : X → Bool) (xs : List X) (x : X) → Contains xs x → p x ≡ true → list_any p xs ≡ true
+pub any_from : {X : Type 0} (p : X → Bool) (xs : List X) (x : X) → Contains xs x → p x ≡ true → list_any p xs ≡ true
 any_from p [] x there h = absurd (Contains-none x there)
 any_from p (y ∷ xs) x there h =
     ⊎_elim (λ (is : y ≡ x). here (p y) (list_any p xs) (ap p is ∙ h)) (λ later. further (p y) (list_any p xs) (any_from p xs x later h)) (Contains-cases y xs x there)
@@ -33,7 +33,7 @@ any_from p (y ∷ xs) x there h =
     further true b e = refl
     further false b e = e
 
-any_to : {X : Type 0} (p : X → Bool) (xs : List X) → list_any p xs ≡ true → (x : X) × Contains xs x × (p x ≡ true)
+pub any_to : {X : Type 0} (p : X → Bool) (xs : List X) → list_any p xs ≡ true → (x : X) × Contains xs x × (p x ≡ true)
 any_to p [] h = absurd (false≢true h)
 any_to p (y ∷ xs) h =
     ⊎_elim
@@ -45,7 +45,7 @@ any_to p (y ∷ xs) h =
     either true b e = inl refl
     either false b e = inr e
 
-both : (a b : Bool) → (a && b) ≡ true → (a ≡ true) × (b ≡ true)
+pub both : (a b : Bool) → (a && b) ≡ true → (a ≡ true) × (b ≡ true)
 both true b h = (refl, h)
 both false b h = absurd (false≢true h)
 
@@ -78,10 +78,10 @@ all_or_one p (y ∷ xs) = one_more p y xs (all_or_one p xs) (p y) refl
 
 -- ---- entries
 
-listed : (t : Outline) (d : ℕ) (n : List ℕ) (i : ℕ) → named t d n ≡ Some i → Contains (entries t.names) ((d, n), i)
+pub listed : {B : Type 0} (t : Tree B) (d : ℕ) (n : List ℕ) (i : ℕ) → named t d n ≡ Some i → Contains (entries t.names) ((d, n), i)
 listed t d n i e = Contains-from_find key_cmp key_cmp-IsAntisymmetric (entries t.names) (d, n) i (sym (get-entries t.names (d, n)) ∙ e)
 
-named_by : (t : Outline) (k : Key) (i : ℕ) → Contains (entries t.names) (k, i) → named t k.0 k.1 ≡ Some i
+pub named_by : {B : Type 0} (t : Tree B) (k : Key) (i : ℕ) → Contains (entries t.names) (k, i) → named t k.0 k.1 ≡ Some i
 named_by t k i there = get-entries t.names k ∙ find-from_Contains key_cmp key_cmp_total (entries t.names) k i (entries_sorted t.names) there
 
 -- ---- one name
@@ -169,10 +169,9 @@ none_is_left t has (suc n) (x ∷ xs) short all =
     none_is_left t has n (filter (is_held t dirs) dirs) (omega arith) (λ i there. all i (Contains-filter_from (is_held t dirs) dirs i there).0))
     (all_or_one (is_held t dirs) dirs)
 
-directory_listed : (t : Outline) (i : ℕ) → is_directory t i ≡ true → Contains (directories t) i
+directory_listed : (t : Outline) (i : ℕ) → is_directory t i ≡ true → Contains (keys t.objects) i
 directory_listed t i there =
-    Contains-filter (is_directory t) (keys t.objects) i there
-    (Contains-from_any {eq = eq_by_cmp nat_cmp} (tells_apart {R = nat_cmp} nat_cmp-IsAntisymmetric) i (keys t.objects) (sym (contains_key-keys t.objects i) ∙ there_of_directory t i there))
+    Contains-from_any {eq = eq_by_cmp nat_cmp} (tells_apart {R = nat_cmp} nat_cmp-IsAntisymmetric) i (keys t.objects) (sym (contains_key-keys t.objects i) ∙ there_of_directory t i there)
 
 nothing_in : (xs : List ℕ) (i : ℕ) → length xs ≡ 0 → Contains xs i → ⊥
 nothing_in [] i none there = Contains-none i there
@@ -187,7 +186,7 @@ shape_is_decided t =
           no_loop_is_shape t (single_of t parts.0)
           (λ i loop.
           nothing_in left i (eqb-true (length left) 0 parts.1)
-          (loops_are_left_after t (length dirs) dirs (λ j round. directory_listed t j (loops_are_of_directories t j round)) i loop)),
+          (loops_are_left_after t (length dirs) dirs (λ j round. let there = loops_are_of_directories t j round in Contains-filter (is_directory t) (keys t.objects) j there (directory_listed t j there)) i loop)),
       λ has.
           and_from (is_single t) (length left == 0) (of_single t has)
           (eq-eqb (length left) 0 (none_is_left t has (length dirs) dirs (omega arith) (λ i there. (Contains-filter_from (is_directory t) (keys t.objects) i there).1))),

@@ -5,7 +5,6 @@ use Rattle.jmount.specs.Tree.{Tree, is_directory}
 use Rattle.jmount.specs.Find.{walk}
 use Rattle.jmount.proofs.OutlineLemmas.{is_directory-outline, walk-outline}
 use Rattle.jmount.specs.Laws as law
-use Rattle.jmount.specs.Shape.{HasShape}
 use Rattle.jmount.proofs.ShapeLemmas.{Leads, IsShaped, walk_step, leads_nowhere, leads_none, leads_more, leads_on, last_step, same_ok, shaped}
 
 pub shape_is_of_outline : law.ShapeIsOfOutline

@@ -16,3 +16,4 @@ pub mod Storing
 pub mod Collected
 pub mod Shape
 pub mod ShapeForm
+pub mod Shaping

@@ -1,5 +1,5 @@
 -- The shape in forms that are computed and decided.
-use Rattle.std.specs.Prelude.{◌≡◌, ◌↔◌, ℕ, zero, suc, ◌==◌, ◌&&◌, ◌||◌, not, Bool, true, IsTrue, List, ◌∷◌, length, filter, Contains, Some, Ok}
+use Rattle.std.specs.Prelude.{◌≡◌, ℕ, zero, suc, ◌==◌, ◌&&◌, ◌||◌, not, Bool, true, List, ◌∷◌, length, filter, Contains, Some, Ok}
 use Rattle.std.specs.List.{list_any, list_all}
 use Rattle.std.specs.Ordering.{eq_by_cmp}
 use Rattle.std.specs.FinMap.{keys, entries}
