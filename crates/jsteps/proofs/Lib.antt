@@ -21,3 +21,8 @@ pub mod ChoiceLemmas
 pub mod PlannedLemmas
 pub mod FileLemmas
 pub mod FewLemmas
+pub mod ShapeMetLemmas
+pub mod ShapeStepLemmas
+pub mod ShapePlanLemmas
+pub mod ShapeStateLemmas
+pub mod ShapeBrokenLemmas
