@@ -2,9 +2,6 @@
 //! operations in its root, each planned and its steps taken.
 #![tactic(auto)]
 
-mod ready;
-
-use crate::ready::is_ready;
 use byteorder::LittleEndian;
 use flashbase::{FromReader, load};
 use jmount::mount;
@@ -15,6 +12,7 @@ use std::process::ExitCode;
 use std::rt::{Clock, Env, Files};
 use std::time::Instant;
 use std::{env, fs};
+use test_operations::is_ready;
 
 /// The greatest file, in bytes.
 const LIMIT: usize = 268_435_456;

@@ -1,43 +1,10 @@
 //! Loads of sources that end, fail, or are too large.
 
-use flashbase::{DeviceFault, FromReader, LoadFault, Source, load};
+use flashbase::{FromReader, LoadFault, Source, load};
 use std::io;
 use std::io::{ErrorKind, Read};
 use std::test::Fail;
-
-/// Gives one byte a call, and fails once, after so many calls.
-#[derive(Drop)]
-struct Drip<'a> {
-    rest: &'a [u8],
-    calls_left: usize,
-    failures: u64,
-}
-
-impl<'a> Source for Drip<'a> {
-    ghost use Rattle.std.specs.Prelude.{Some};
-
-    ghost rest = { λ s. Some s.rest.now };
-
-    ghost failures = { λ s. s.failures };
-
-    fn fill(&mut self, buf: &mut [u8]) -> Result<usize, DeviceFault> {
-        if self.calls_left == 0 {
-            self.calls_left = usize::MAX;
-            self.failures = self.failures.wrapping_add(1);
-            return Err(DeviceFault);
-        }
-        self.calls_left -= 1;
-        if buf.is_empty() {
-            return Ok(0);
-        }
-        let Some((first, others)) = self.rest.split_first() else {
-            return Ok(0);
-        };
-        buf[0] = *first;
-        self.rest = others;
-        Ok(1)
-    }
-}
+use test_support::Giver;
 
 #[derive(Drop)]
 struct Interrupted;
@@ -51,16 +18,15 @@ impl Read for Interrupted {
 /// The source fails once, at each of its calls in turn, and is then loaded to its end.
 #[test]
 fn a_load_meets_each_failure(rt: HostRuntime) -> Result<(), Fail> {
-    for calls_left in 0..5usize {
-        let mut source = Drip {
-            rest: b"abcd",
-            calls_left,
+    for calls in 0..5usize {
+        let mut source = Giver {
             failures: u64::MAX,
+            ..Giver::failing(b"abcd", 1, calls)
         };
         assert!(rt; matches!(load(rt.alloc(), &mut source, 9), Err(LoadFault::Device)));
         assert_eq!(rt; source.failures, 0);
         let rest = load(rt.alloc(), &mut source, 9).map_err(|_| "not loaded")?;
-        assert_eq!(rt; rest.len(), 4 - calls_left);
+        assert_eq!(rt; rest.len(), 4 - calls);
         assert_eq!(rt; source.failures, 0);
     }
     Ok(())
@@ -68,10 +34,9 @@ fn a_load_meets_each_failure(rt: HostRuntime) -> Result<(), Fail> {
 
 #[test]
 fn a_load_without_a_failure(rt: HostRuntime) -> Result<(), Fail> {
-    let mut source = Drip {
-        rest: b"abcd",
-        calls_left: 5,
+    let mut source = Giver {
         failures: 3,
+        ..Giver::failing(b"abcd", 1, 5)
     };
     let bytes = load(rt.alloc(), &mut source, 4).map_err(|_| "not loaded")?;
     assert!(rt; bytes.as_slice() == b"abcd".as_slice());
@@ -83,11 +48,7 @@ fn a_load_without_a_failure(rt: HostRuntime) -> Result<(), Fail> {
 #[test]
 fn a_load_with_little_memory(rt: HostRuntime) {
     let text = b"the quick brown fox jumps over the lazy dog".as_slice();
-    let mut source = Drip {
-        rest: text,
-        calls_left: usize::MAX,
-        failures: 0,
-    };
+    let mut source = Giver::failing(text, 1, usize::MAX);
     match load(rt.alloc(), &mut source, text.len()) {
         Ok(bytes) => assert!(rt; bytes.as_slice() == text),
         Err(fault) => assert_eq!(rt; fault, LoadFault::OutOfMemory),

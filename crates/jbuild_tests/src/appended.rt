@@ -1,6 +1,6 @@
 //! Listings on bases that hold something.
 
-use crate::runs::{GEOMETRY, MADE, Row, holds, is_erased, made, read_files};
+use crate::runs::{GEOMETRY, Row, holds, is_erased, made, read_files};
 use byteorder::{BigEndian, LittleEndian};
 use flashbase::FromWriter;
 use jbuild::{emit, operations};
@@ -9,6 +9,7 @@ use jlog::SessionFault;
 use jmount::{FindFault, mount};
 use std::alloc::Global;
 use std::test::Fail;
+use test_support::{FORBIDS, LITTLE_MARKER, MADE};
 
 const ROWS: [Row; 6] = [
     Row {
@@ -36,9 +37,7 @@ const ROWS: [Row; 6] = [
         told: "S1 Refused O5 Exists",
     },
     Row {
-        base: &[
-            0x85, 0x19, 0x03, 0x20, 0x0C, 0, 0, 0, 0xB1, 0xB0, 0x1E, 0xE4,
-        ],
+        base: &LITTLE_MARKER,
         blocks: 1,
         text: b"create 0644 /a\n",
         places: &[(12, 68), (80, 41)],
@@ -106,12 +105,6 @@ fn a_base_that_is_cut(rt: HostRuntime) -> Result<(), Fail> {
     assert_eq!(rt; mounted.top(3), 1);
     Ok(())
 }
-
-/// A node of a type that forbids writing, in little order.
-const FORBIDS: [u8; 24] = [
-    0x85, 0x19, 0x03, 0x20, 0x0C, 0, 0, 0, 0xB1, 0xB0, 0x1E, 0xE4, 0x85, 0x19, 0xF7, 0xA0, 0x0C, 0,
-    0, 0, 0x2C, 0x5B, 0xFB, 0xDB,
-];
 
 /// Why nothing is put for a file on a base. The sink is dropped.
 fn refused(alloc: Global, base: &[u8], blocks: u32) -> Result<Option<SessionFault>, Fail> {

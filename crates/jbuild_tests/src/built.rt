@@ -1,11 +1,12 @@
 //! Listings on an empty base.
 
-use crate::runs::{GEOMETRY, MADE, Row, holds, is_erased, made};
+use crate::runs::{GEOMETRY, Row, holds, is_erased, made};
 use byteorder::{BigEndian, LittleEndian};
 use jmount::{FindFault, mount};
 use jnode::Order;
 use std::alloc::Global;
 use std::test::Fail;
+use test_support::{BIG_ENTRY_A, BIG_MARKER, MADE};
 
 /// The number of blocks, a listing, where its nodes go, how many bytes go out, and what is told.
 type Built = (
@@ -164,23 +165,13 @@ fn listings_that_are_refused(rt: HostRuntime) -> Result<(), Fail> {
     Ok(())
 }
 
-/// The marker and the entry of the made file in big order.
-const BIG_MARKER: [u8; 12] = [
-    0x19, 0x85, 0x20, 0x03, 0, 0, 0, 0x0C, 0xF0, 0x60, 0xDC, 0x98,
-];
-
-const BIG_ENTRY: [u8; 41] = [
-    0x19, 0x85, 0xE0, 0x01, 0, 0, 0, 0x29, 0xD0, 0x4C, 0x45, 0x0B, 0, 0, 0, 1, 0, 0, 0, 1, 0, 0, 0,
-    2, 0, 0, 0, 0, 1, 8, 0, 0, 0xBA, 0x8F, 0x4B, 0xF0, 0x3A, 0xB5, 0x51, 0xCE, 0x61,
-];
-
 #[test]
 fn a_file_that_is_made(rt: HostRuntime) -> Result<(), Fail> {
     let little = made::<LittleEndian>(rt.alloc(), &[], 1, b"create 0644 /a")?;
     assert!(rt; little.output.as_slice() == MADE.as_slice());
     let big = made::<BigEndian>(rt.alloc(), &[], 1, b"create 0644 /a")?;
     assert!(rt; big.output.starts_with(&BIG_MARKER));
-    assert_eq!(rt; big.output.get(80..121), Some(BIG_ENTRY.as_slice()));
+    assert_eq!(rt; big.output.get(80..121), Some(BIG_ENTRY_A.as_slice()));
     assert!(rt; big.output.ends_with(b"\xFF\xFF\xFF"));
     Ok(())
 }

@@ -1,32 +1,13 @@
 //! Refused growth.
 
-use crate::runs::{GEOMETRY, MADE};
+use crate::runs::GEOMETRY;
 use byteorder::LittleEndian;
-use flashbase::{DeviceFault, Sink};
 use jbuild::{Parts, emit, operations};
 use jlisting::listing;
 use jlog::SessionFault;
 use jmount::mount;
 use std::alloc::Global;
-
-/// Takes all, keeps nothing, and needs no memory.
-#[derive(Drop)]
-struct Counter {
-    taken: u64,
-}
-
-impl Sink for Counter {
-    ghost use Rattle.std.specs.Prelude.{None};
-
-    ghost taken = { λ s. None };
-
-    ghost failures = { λ s. 0 };
-
-    fn put(&mut self, bytes: &[u8]) -> Result<usize, DeviceFault> {
-        self.taken = self.taken.wrapping_add(bytes.len() as u64);
-        Ok(bytes.len())
-    }
-}
+use test_support::{Counter, MADE};
 
 const TEXT: &[u8] = b"create 0644 /b\npart /b 0 f\nmkdir 0755 /d\nrename /b /d/c\n";
 

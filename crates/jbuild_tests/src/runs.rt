@@ -20,17 +20,6 @@ pub const FILES: [(&str, &[u8]); 4] = [
     ("four", &[4; 16384]),
 ];
 
-/// Marker, inode node and entry of a file `/a`, in little order, with the padding.
-pub const MADE: [u8; 124] = [
-    0x85, 0x19, 0x03, 0x20, 0x0C, 0, 0, 0, 0xB1, 0xB0, 0x1E, 0xE4, // marker
-    0x85, 0x19, 0x02, 0xE0, 0x44, 0, 0, 0, 0x1D, 0xFB, 0xF7, 0x98, 2, 0, 0, 0, 1, 0, 0, 0, 0xA4,
-    0x81, 0, 0, 0, 0, 0, 0, 0, 0, 0, 0, 0, 0, 0, 0, 0, 0, 0, 0, 0, 0, 0, 0, 0, 0, 0, 0, 0, 0, 0, 0,
-    0, 0, 0, 0, 0, 0, 0, 0, 0, 0, 0, 0, 0x14, 0xD0, 0xC4, 0x71, // inode node
-    0x85, 0x19, 0x01, 0xE0, 0x29, 0, 0, 0, 0x6D, 0xA6, 0x2F, 0xD7, 1, 0, 0, 0, 1, 0, 0, 0, 2, 0, 0,
-    0, 0, 0, 0, 0, 1, 8, 0, 0, 0x95, 0x02, 0x9B, 0x91, 0xCE, 0x51, 0xB5, 0x3A, 0x61, // entry
-    0xFF, 0xFF, 0xFF,
-];
-
 /// What went out for a listing on a base, what the run did, and the line that tells of it.
 #[derive(Drop)]
 pub struct Outcome {

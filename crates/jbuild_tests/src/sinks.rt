@@ -1,62 +1,21 @@
 //! Sinks that fail, and sinks that take little.
 
-use crate::runs::{GEOMETRY, MADE, made, read_files};
+use crate::runs::{GEOMETRY, made, read_files};
 use byteorder::LittleEndian;
-use flashbase::{DeviceFault, Sink};
 use jbuild::{emit, operations, put_accepted};
 use jlisting::listing;
 use jlog::{Place, RunReport, SessionFault};
 use jmount::mount;
 use std::alloc::Global;
 use std::test::Fail;
-
-/// Takes at most `most` bytes a call, and fails once it has taken `limit`.
-#[derive(Drop)]
-struct Short {
-    bytes: Vec<u8>,
-    most: usize,
-    limit: usize,
-    failures: u64,
-}
-
-impl Short {
-    fn new(alloc: Global, most: usize, limit: usize) -> Short {
-        Short {
-            bytes: Vec::new(alloc),
-            most,
-            limit,
-            failures: 0,
-        }
-    }
-}
-
-impl Sink for Short {
-    ghost use Rattle.std.specs.Prelude.{Some};
-
-    ghost taken = { λ s. Some s.bytes.items };
-
-    ghost failures = { λ s. s.failures };
-
-    fn put(&mut self, bytes: &[u8]) -> Result<usize, DeviceFault> {
-        if bytes.is_empty() {
-            return Ok(0);
-        }
-        let left = self.limit.saturating_sub(self.bytes.len());
-        let count = bytes.len().min(self.most).min(left);
-        if count == 0 || self.bytes.extend_from_slice(&bytes[..count]).is_err() {
-            self.failures = self.failures.wrapping_add(1);
-            return Err(DeviceFault);
-        }
-        Ok(count)
-    }
-}
+use test_support::{MADE, Taker};
 
 const TEXT: &[u8] = b"create 0644 /b\nwrite /b 0 0102\n";
 
-type Emitted = Result<(Short, RunReport), (SessionFault, Option<Short>)>;
+type Emitted = Result<(Taker, RunReport), (SessionFault, Option<Taker>)>;
 
 /// What goes out for a file on a base of 124 bytes, which is gone on from at 8192.
-fn emitted(alloc: Global, sink: Short) -> Result<Emitted, Fail> {
+fn emitted(alloc: Global, sink: Taker) -> Result<Emitted, Fail> {
     let parts = read_files(alloc)?;
     let ops = operations(alloc, listing(alloc, TEXT)?, &parts)?;
     let mounted = mount::<LittleEndian>(alloc, &MADE, GEOMETRY)?;
@@ -67,7 +26,7 @@ fn emitted(alloc: Global, sink: Short) -> Result<Emitted, Fail> {
 fn a_sink_that_takes_one_byte_a_call(rt: HostRuntime) -> Result<(), Fail> {
     let whole = made::<LittleEndian>(rt.alloc(), &MADE, 2, TEXT)?;
     assert_eq!(rt; whole.output.len(), 8388);
-    let Ok((sink, report)) = emitted(rt.alloc(), Short::new(rt.alloc(), 1, usize::MAX))? else {
+    let Ok((sink, report)) = emitted(rt.alloc(), Taker::limited(rt.alloc(), 1, usize::MAX))? else {
         return Err(Fail::from("not emitted"));
     };
     assert!(rt; sink.bytes.as_slice() == whole.output.as_slice());
@@ -80,7 +39,7 @@ fn a_sink_that_takes_one_byte_a_call(rt: HostRuntime) -> Result<(), Fail> {
 fn a_sink_that_fails_at_the_base(rt: HostRuntime) -> Result<(), Fail> {
     let whole = made::<LittleEndian>(rt.alloc(), &MADE, 2, TEXT)?;
     for limit in [0, 1, 123, 124, 125, 380, 8191] {
-        let Err((fault, Some(sink))) = emitted(rt.alloc(), Short::new(rt.alloc(), 4096, limit))?
+        let Err((fault, Some(sink))) = emitted(rt.alloc(), Taker::limited(rt.alloc(), 4096, limit))?
         else {
             return Err(Fail::from("the sink is not handed back"));
         };
@@ -105,7 +64,7 @@ fn a_sink_that_fails_later(rt: HostRuntime) -> Result<(), Fail> {
         (8387, 1, 3),
     ];
     for (limit, accepted, places) in rows {
-        let Ok((sink, report)) = emitted(rt.alloc(), Short::new(rt.alloc(), 7, limit))? else {
+        let Ok((sink, report)) = emitted(rt.alloc(), Taker::limited(rt.alloc(), 7, limit))? else {
             return Err(Fail::from("not emitted"));
         };
         assert_eq!(rt; report.stopped, Some(SessionFault::Sink));
@@ -122,7 +81,7 @@ const LINE: &[u8] = b"accepted 3 nodes 2 bytes 112\n";
 fn a_line_that_does_not_fit(rt: HostRuntime) -> Result<(), Fail> {
     let places = [(8204, 68), (8272, 29)].map(|(addr, totlen)| Place { addr, totlen });
     for limit in 0..LINE.len() + 1 {
-        let mut sink = Short::new(rt.alloc(), 7, limit);
+        let mut sink = Taker::limited(rt.alloc(), 7, limit);
         let answer = put_accepted(8192, 3, &places, &mut sink);
         assert_eq!(rt; answer.is_ok(), limit == LINE.len());
         assert_eq!(rt; Some(sink.bytes.as_slice()), LINE.get(..limit));

@@ -1,15 +1,13 @@
 //! Worked logs: what sessions put, where they refuse, and what mounts after a cut, from the rules of the format and not from
 //! the program's output.
 //!
-//! `lines` reads operations from lines of text, `sessions` runs them onto an image, `run_tests` and `refusal_tests` have
+//! `sessions` runs lines of operations onto an image, `run_tests` and `refusal_tests` have
 //! the tables, `cut_tests` mounts what a stop at each byte leaves (`stopped`) and compares it with a plain file system
 //! (`plain`), `sink_tests` lets a sink fail, and `place_tests` has single nodes.
 #![tactic(auto)]
 
 #[cfg(test)]
 mod cut_tests;
-#[cfg(test)]
-mod lines;
 #[cfg(test)]
 mod place_tests;
 #[cfg(test)]

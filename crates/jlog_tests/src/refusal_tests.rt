@@ -6,6 +6,7 @@ use jlog::{SessionFault, resume_at};
 use jmount::mount;
 use jscan::Geometry;
 use std::test::Fail;
+use test_support::FORBIDS;
 
 const GEOMETRY: Geometry = Geometry { block: 8192 };
 
@@ -75,12 +76,6 @@ fn a_smaller_operation_is_taken_after_one_that_does_not_fit(rt: HostRuntime) -> 
     assert_eq!(rt; run.output.len(), 4356);
     Ok(())
 }
-
-/// A node of a type that forbids writing, in little order.
-const FORBIDS: [u8; 24] = [
-    0x85, 0x19, 0x03, 0x20, 0x0C, 0, 0, 0, 0xB1, 0xB0, 0x1E, 0xE4, 0x85, 0x19, 0xF7, 0xA0, 0x0C, 0,
-    0, 0, 0x2C, 0x5B, 0xFB, 0xDB,
-];
 
 #[test]
 fn where_writing_may_go_on(rt: HostRuntime) -> Result<(), Fail> {

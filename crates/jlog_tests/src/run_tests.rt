@@ -7,6 +7,7 @@ use jnode::Order;
 use jscan::Geometry;
 use std::alloc::Global;
 use std::test::Fail;
+use test_support::{BIG_ENTRY_A, BIG_MARKER, MADE};
 
 const GEOMETRY: Geometry = Geometry { block: 8192 };
 
@@ -102,34 +103,13 @@ fn nodes_have_their_places(rt: HostRuntime) -> Result<(), Fail> {
     Ok(())
 }
 
-/// Marker, inode node and entry of a file that is made, in little order, with the padding.
-const MADE: [u8; 124] = [
-    0x85, 0x19, 0x03, 0x20, 0x0C, 0, 0, 0, 0xB1, 0xB0, 0x1E, 0xE4, // marker
-    0x85, 0x19, 0x02, 0xE0, 0x44, 0, 0, 0, 0x1D, 0xFB, 0xF7, 0x98, 2, 0, 0, 0, 1, 0, 0, 0, 0xA4,
-    0x81, 0, 0, 0, 0, 0, 0, 0, 0, 0, 0, 0, 0, 0, 0, 0, 0, 0, 0, 0, 0, 0, 0, 0, 0, 0, 0, 0, 0, 0, 0,
-    0, 0, 0, 0, 0, 0, 0, 0, 0, 0, 0, 0, 0x14, 0xD0, 0xC4, 0x71, // inode node
-    0x85, 0x19, 0x01, 0xE0, 0x29, 0, 0, 0, 0x6D, 0xA6, 0x2F, 0xD7, 1, 0, 0, 0, 1, 0, 0, 0, 2, 0, 0,
-    0, 0, 0, 0, 0, 1, 8, 0, 0, 0x95, 0x02, 0x9B, 0x91, 0xCE, 0x51, 0xB5, 0x3A, 0x61, // entry
-    0xFF, 0xFF, 0xFF,
-];
-
-/// The marker and the entry of the same file in big order.
-const BIG_MARKER: [u8; 12] = [
-    0x19, 0x85, 0x20, 0x03, 0, 0, 0, 0x0C, 0xF0, 0x60, 0xDC, 0x98,
-];
-
-const BIG_ENTRY: [u8; 41] = [
-    0x19, 0x85, 0xE0, 0x01, 0, 0, 0, 0x29, 0xD0, 0x4C, 0x45, 0x0B, 0, 0, 0, 1, 0, 0, 0, 1, 0, 0, 0,
-    2, 0, 0, 0, 0, 1, 8, 0, 0, 0xBA, 0x8F, 0x4B, 0xF0, 0x3A, 0xB5, 0x51, 0xCE, 0x61,
-];
-
 #[test]
 fn a_file_that_is_made(rt: HostRuntime) -> Result<(), Fail> {
     let little = run_lines::<LittleEndian>(rt.alloc(), &[], GEOMETRY, 1, &["create /a 644"])?;
     assert!(rt; little.output.as_slice() == MADE.as_slice());
     let big = run_lines::<BigEndian>(rt.alloc(), &[], GEOMETRY, 1, &["create /a 644"])?;
     assert!(rt; big.output.starts_with(&BIG_MARKER));
-    assert_eq!(rt; big.output.get(80..121), Some(BIG_ENTRY.as_slice()));
+    assert_eq!(rt; big.output.get(80..121), Some(BIG_ENTRY_A.as_slice()));
     assert!(rt; big.output.ends_with(b"\xFF\xFF\xFF"));
     Ok(())
 }

@@ -1,6 +1,5 @@
 //! Operations run onto an image.
 
-use crate::lines::op_of;
 use flashbase::FromWriter;
 use jlog::{RunReport, Session};
 use jmount::mount;
@@ -9,6 +8,7 @@ use jscan::Geometry;
 use jsteps::{Op, Page};
 use std::alloc::Global;
 use std::test::Fail;
+use test_operations::{By, ops_of};
 
 /// What a run put, and what it reported.
 #[derive(Drop)]
@@ -17,14 +17,12 @@ pub struct Outcome {
     pub report: RunReport,
 }
 
-/// The operations of lines.
-pub fn ops_of<'a>(alloc: Global, lines: &[&'a str]) -> Result<Vec<Op<'a>>, Fail> {
-    let mut ops = Vec::new(alloc);
-    for line in lines {
-        ops.push(op_of(line).ok_or("no operation")?)?;
-    }
-    Ok(ops)
-}
+/// At time 0, for owners 0.
+pub const BY: By = By {
+    time: 0,
+    uid: 0,
+    gid: 0,
+};
 
 /// A flash, and the page that bytes are cut by.
 #[derive(Clone, Copy)]
@@ -93,5 +91,5 @@ pub fn run_lines<E: Order>(
     blocks: u32,
     lines: &[&str],
 ) -> Result<Outcome, Fail> {
-    run_ops::<E>(alloc, image, geometry, blocks, &ops_of(alloc, lines)?)
+    run_ops::<E>(alloc, image, geometry, blocks, &ops_of(alloc, lines, BY)?)
 }

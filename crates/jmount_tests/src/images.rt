@@ -1,10 +1,9 @@
 // How worked images are written down.
 
-use jnode::{
-    Dirent, Fill, InodeNode, Order, Part, WriteFault, write_entry, write_inode, write_marker,
-};
+use jnode::{Fill, InodeNode, Order, Part, WriteFault, write_entry, write_inode, write_marker};
 use std::alloc::Global;
 use std::test::Fail;
+use test_support::{entry, fill_up};
 
 pub const FILE: u32 = 0o100644;
 
@@ -39,9 +38,7 @@ pub fn image_of<E: Order>(alloc: Global, items: &[Item]) -> Result<Vec<u8>, Fail
     let mut image = Vec::new(alloc);
     for &item in items {
         append::<E>(&mut image, item)?;
-        for _ in 0..(4 - image.len() % 4) % 4 {
-            image.push(0xFF)?;
-        }
+        fill_up(&mut image)?;
     }
     Ok(image)
 }
@@ -63,17 +60,6 @@ fn append<E: Order>(image: &mut Vec<u8>, item: Item) -> Result<(), WriteFault> {
         Item::Raw(bytes) => append_raw(image, bytes),
         Item::Run(count, byte) => append_run(image, count, byte),
         Item::Turned(at, byte) => turn(image, at, byte),
-    }
-}
-
-fn entry(pino: u32, version: u32, ino: u32, name: &'static [u8]) -> Dirent<'static> {
-    Dirent {
-        pino,
-        version,
-        ino,
-        mctime: 0,
-        kind: 8,
-        name: Part::new(name, 0),
     }
 }
 

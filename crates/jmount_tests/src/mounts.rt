@@ -5,6 +5,7 @@ use crate::images::{DIRECTORY, FILE, Item, Version};
 use byteorder::{BigEndian, LittleEndian};
 use jmount::{FindFault, Kind, Object};
 use std::test::Fail;
+use test_support::READ_ONLY;
 
 const DEFAULT_ROOT: Object = Object {
     kind: Kind::Directory,
@@ -146,11 +147,6 @@ fn images_mount_in_either_order(rt: HostRuntime) -> Result<(), Fail> {
     }
     Ok(())
 }
-
-/// A header of the unknown type 0xa0f7, beside which nothing may be written.
-const READ_ONLY: [u8; 12] = [
-    0x85, 0x19, 0xf7, 0xa0, 0x0c, 0x00, 0x00, 0x00, 0x2c, 0x5b, 0xfb, 0xdb,
-];
 
 /// Headers of an attribute, a summary, an obsolete node of an unknown type, and an inode node of 109 bytes whose data are
 /// an entry's and whose data_crc is wrong.

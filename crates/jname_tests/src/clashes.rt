@@ -1,8 +1,9 @@
 //! Entries of one directory, name and version with unlike contents.
 
-use crate::entries::{add, are_all, entry};
+use crate::entries::{add, are_all};
 use jname::{NameFault, Names};
 use jnode::{Dirent, Part};
+use test_support::entry;
 
 /// An entry of the name `q` in the root, of version 5.
 fn entry_of(ino: u32, mctime: u32, kind: u8) -> Dirent<'static> {

@@ -5,18 +5,7 @@ ghost use Rattle.std.specs.Prelude.{◌<◌, ◌^◌, length};
 use jname::Names;
 use jnode::{Dirent, Part};
 use std::process::Abort;
-
-/// An entry of a regular file.
-pub(crate) fn entry(pino: u32, version: u32, ino: u32, name: &[u8]) -> Dirent<'_> {
-    Dirent {
-        pino,
-        version,
-        ino,
-        mctime: 0,
-        kind: 8,
-        name: Part::new(name, 0),
-    }
-}
+use test_support::entry;
 
 /// An entry whose name is `content_at` and then bytes that the image lacks.
 pub(crate) fn cut_entry(

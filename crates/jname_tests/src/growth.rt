@@ -1,8 +1,9 @@
 //! A growth that is refused leaves what stood.
 
-use crate::entries::{are_all, cut_entry, entry};
+use crate::entries::{are_all, cut_entry};
 use jname::{NameFault, Names};
 use jnode::Dirent;
+use test_support::entry;
 
 /// Adds an entry. Where a growth is refused, nothing changes, and the entry can be added then.
 fn add_again(

@@ -1,9 +1,10 @@
 //! Which names stand, and in what order they are given.
 
-use crate::entries::{add, are_all, cut_entry, entry};
+use crate::entries::{add, are_all, cut_entry};
 use jname::{NameFault, Names};
 use std::alloc::Global;
 use std::process::Abort;
+use test_support::entry;
 
 #[test]
 fn a_removed_name_is_gone(rt: HostRuntime) {

@@ -1,15 +1,15 @@
 //! Worked images, with all that `check` says of them.
 
 use crate::images::{
-    ATTRIBUTE, BLOCK, CLASH, COMPRESSED, FILE_AS_ROOT, GEOMETRY, INCOMPATIBLE, INODE_2,
-    LITTLE_MARKER, Node, OBSOLETE, ONE_BLOCK, OTHER_INODE_2, READ_ONLY, Raw, SKIPPABLE, image_of,
-    raw_image,
+    BLOCK, CLASH, COMPRESSED, FILE_AS_ROOT, GEOMETRY, Node, OBSOLETE, ONE_BLOCK, OTHER_INODE_2,
+    Raw, SKIPPABLE, image_of, raw_image,
 };
 use byteorder::LittleEndian;
 use flashbase::{FromReader, FromWriter};
 use jreport::{check_lines, verdict_lines};
 use std::alloc::Global;
 use std::test::Fail;
+use test_support::{ATTRIBUTE, INCOMPATIBLE, INODE_2, LITTLE_MARKER, READ_ONLY};
 
 /// What `check` prints of an image, and whether it found anything.
 fn checked(alloc: Global, image: &[u8]) -> Result<(Vec<u8>, bool), &'static str> {
@@ -80,30 +80,38 @@ fn worked_texts(rt: HostRuntime) -> Result<(), Fail> {
 /// Nodes after a marker, each type by itself, and one twice: how the text ends, and whether anything was found.
 const ENDS: [(&[&[u8]], &str, bool); 8] = [
     (
-        &[LITTLE_MARKER, COMPRESSED],
+        &[&LITTLE_MARKER, COMPRESSED],
         "findings 1\nmount refused M4 Compressed at 0000000c compr 6\n",
         true,
     ),
-    (&[LITTLE_MARKER, ATTRIBUTE], "findings 1\nmount ok\n", true),
     (
-        &[LITTLE_MARKER, INCOMPATIBLE],
+        &[&LITTLE_MARKER, &ATTRIBUTE],
+        "findings 1\nmount ok\n",
+        true,
+    ),
+    (
+        &[&LITTLE_MARKER, &INCOMPATIBLE],
         "findings 1\nmount refused M3 Incompatible at 0000000c type e0f7\n",
         true,
     ),
     (
-        &[LITTLE_MARKER, READ_ONLY],
+        &[&LITTLE_MARKER, &READ_ONLY],
         "findings 1\nmount ok read-only\n",
         true,
     ),
-    (&[LITTLE_MARKER, SKIPPABLE], "findings 0\nmount ok\n", false),
-    (&[LITTLE_MARKER, OBSOLETE], "findings 0\nmount ok\n", false),
     (
-        &[LITTLE_MARKER, INODE_2, INODE_2],
+        &[&LITTLE_MARKER, SKIPPABLE],
+        "findings 0\nmount ok\n",
+        false,
+    ),
+    (&[&LITTLE_MARKER, OBSOLETE], "findings 0\nmount ok\n", false),
+    (
+        &[&LITTLE_MARKER, &INODE_2, &INODE_2],
         "inodes 2 findings 0\nmount ok\n",
         false,
     ),
     (
-        &[LITTLE_MARKER, INODE_2, OTHER_INODE_2],
+        &[&LITTLE_MARKER, &INODE_2, OTHER_INODE_2],
         "inodes 2 findings 0\nmount refused M5 Clash at 00000050\n",
         true,
     ),

@@ -1,6 +1,5 @@
 //! What no clause says of the texts of faults.
 
-use crate::devices::Short;
 use flashbase::{FromWriter, LoadFault, PutFault};
 use jlisting::ListingFault;
 use jlog::SessionFault;
@@ -10,6 +9,7 @@ use jscan::ScanFault;
 use jsteps::OpFault;
 use std::alloc::Global;
 use std::test::Fail;
+use test_support::{Long, Taker};
 
 const FAULTS: [(ProgramFault<'static>, &str); 22] = [
     (ProgramFault::Load(LoadFault::Device), "L1 Device"),
@@ -202,7 +202,7 @@ fn texts_of_a_listing(rt: HostRuntime) -> Result<(), Fail> {
 
 /// Whether a sink that fails after so many bytes takes exactly them.
 fn is_cut(alloc: Global, fault: &ProgramFault<'_>, text: &[u8], limit: usize) -> bool {
-    let mut sink = Short::new(alloc, limit, 0);
+    let mut sink = Taker::limited(alloc, 1, limit);
     let answer = fault_text(fault, &mut sink);
     answer == Err(PutFault { taken: limit }) && sink.took(1, text)
 }

@@ -1,9 +1,10 @@
 //! Images that the tests read: raw bytes of nodes, and nodes that are written.
 
 use byteorder::LittleEndian;
-use jnode::{Dirent, Fill, InodeNode, Part, write_entry, write_inode};
+use jnode::{Fill, InodeNode, Part, write_entry, write_inode};
 use jscan::Geometry;
 use std::alloc::{AllocError, Global};
+use test_support::{ENTRY_A, LITTLE_MARKER, entry, fill_up};
 
 pub(crate) const BLOCK: usize = 4096;
 
@@ -12,31 +13,11 @@ pub(crate) const GEOMETRY: Geometry = Geometry { block: 4096 };
 /// A block with room for a symlink of more than 4,096 bytes, and for a file of several pieces.
 pub(crate) const LARGE: Geometry = Geometry { block: 16384 };
 
-pub(crate) const LITTLE_MARKER: &[u8] = &[
-    0x85, 0x19, 0x03, 0x20, 0x0c, 0x00, 0x00, 0x00, 0xb1, 0xb0, 0x1e, 0xe4,
-];
-
-/// An entry of 41 bytes: parent 1, version 1, object 2, type 8, name `a`.
-pub(crate) const ENTRY_A: &[u8] = &[
-    0x85, 0x19, 0x01, 0xe0, 0x29, 0x00, 0x00, 0x00, 0x6d, 0xa6, 0x2f, 0xd7, 0x01, 0x00, 0x00, 0x00,
-    0x01, 0x00, 0x00, 0x00, 0x02, 0x00, 0x00, 0x00, 0x00, 0x00, 0x00, 0x00, 0x01, 0x08, 0x00, 0x00,
-    0x95, 0x02, 0x9b, 0x91, 0xce, 0x51, 0xb5, 0x3a, 0x61,
-];
-
 /// The same, made obsolete: the bit of its type is cleared.
 pub(crate) const OBSOLETE_A: &[u8] = &[
     0x85, 0x19, 0x01, 0xc0, 0x29, 0x00, 0x00, 0x00, 0x6d, 0xa6, 0x2f, 0xd7, 0x01, 0x00, 0x00, 0x00,
     0x01, 0x00, 0x00, 0x00, 0x02, 0x00, 0x00, 0x00, 0x00, 0x00, 0x00, 0x00, 0x01, 0x08, 0x00, 0x00,
     0x95, 0x02, 0x9b, 0x91, 0xce, 0x51, 0xb5, 0x3a, 0x61,
-];
-
-/// An inode node of 68 bytes: object 2, version 1, mode 0o100644, no data.
-pub(crate) const INODE_2: &[u8] = &[
-    0x85, 0x19, 0x02, 0xe0, 0x44, 0x00, 0x00, 0x00, 0x1d, 0xfb, 0xf7, 0x98, 0x02, 0x00, 0x00, 0x00,
-    0x01, 0x00, 0x00, 0x00, 0xa4, 0x81, 0x00, 0x00, 0x00, 0x00, 0x00, 0x00, 0x00, 0x00, 0x00, 0x00,
-    0x00, 0x00, 0x00, 0x00, 0x00, 0x00, 0x00, 0x00, 0x00, 0x00, 0x00, 0x00, 0x00, 0x00, 0x00, 0x00,
-    0x00, 0x00, 0x00, 0x00, 0x00, 0x00, 0x00, 0x00, 0x00, 0x00, 0x00, 0x00, 0x00, 0x00, 0x00, 0x00,
-    0x14, 0xd0, 0xc4, 0x71,
 ];
 
 /// The same with mode 0o100600.
@@ -59,31 +40,6 @@ pub(crate) const DAMAGED_INODE_2: &[u8] = &[
 
 /// The magic number in the other byte order.
 pub(crate) const OTHER_ORDER: &[u8] = &[0x19, 0x85, 0xe0, 0x01];
-
-/// A header with totlen 0.
-pub(crate) const NO_LENGTH: &[u8] = &[
-    0x85, 0x19, 0x03, 0x20, 0x00, 0x00, 0x00, 0x00, 0x09, 0x0f, 0xc8, 0xae,
-];
-
-/// A header with totlen 13.
-pub(crate) const LENGTH_13: &[u8] = &[
-    0x85, 0x19, 0x03, 0x20, 0x0d, 0x00, 0x00, 0x00, 0xd4, 0xd7, 0xa2, 0x5c,
-];
-
-/// A node of 12 bytes of the type E008.
-pub(crate) const ATTRIBUTE: &[u8] = &[
-    0x85, 0x19, 0x08, 0xe0, 0x0c, 0x00, 0x00, 0x00, 0xa9, 0xa8, 0xcc, 0x67,
-];
-
-/// A node of 12 bytes of the type E0F7.
-pub(crate) const INCOMPATIBLE: &[u8] = &[
-    0x85, 0x19, 0xf7, 0xe0, 0x0c, 0x00, 0x00, 0x00, 0x65, 0x03, 0x08, 0x83,
-];
-
-/// A node of 12 bytes of the type A0F7.
-pub(crate) const READ_ONLY: &[u8] = &[
-    0x85, 0x19, 0xf7, 0xa0, 0x0c, 0x00, 0x00, 0x00, 0x2c, 0x5b, 0xfb, 0xdb,
-];
 
 /// A node of 12 bytes of the type 2006.
 pub(crate) const SKIPPABLE: &[u8] = &[
@@ -118,7 +74,7 @@ pub(crate) struct Raw {
 /// A block with a marker and an entry.
 pub(crate) const ONE_BLOCK: Raw = Raw {
     start: 0,
-    nodes: &[LITTLE_MARKER, ENTRY_A],
+    nodes: &[&LITTLE_MARKER, &ENTRY_A],
     end: BLOCK,
     tail: &[],
     len: BLOCK,
@@ -127,9 +83,9 @@ pub(crate) const ONE_BLOCK: Raw = Raw {
 /// The same, and a block with an entry.
 pub(crate) const TWO_BLOCKS: Raw = Raw {
     start: 0,
-    nodes: &[LITTLE_MARKER, ENTRY_A],
+    nodes: &[&LITTLE_MARKER, &ENTRY_A],
     end: BLOCK,
-    tail: &[ENTRY_A],
+    tail: &[&ENTRY_A],
     len: 2 * BLOCK,
 };
 
@@ -188,17 +144,6 @@ fn inode(ino: u32, mode: u32, bytes: &[u8], uid: u16, gid: u16, mtime: u32) -> I
     }
 }
 
-fn entry(pino: u32, ino: u32, name: &[u8]) -> Dirent<'_> {
-    Dirent {
-        pino,
-        version: 1,
-        ino,
-        mctime: 0,
-        kind: 8,
-        name: Part::new(name, 0),
-    }
-}
-
 /// Writes a node, and answers whether it did.
 fn is_written(image: &mut Vec<u8>, node: Node<'_>) -> bool {
     match node {
@@ -209,7 +154,7 @@ fn is_written(image: &mut Vec<u8>, node: Node<'_>) -> bool {
             write_inode::<LittleEndian>(image, &inode(ino, mode, bytes, uid, gid, mtime)).is_ok()
         }
         Node::Entry(pino, ino, name) => {
-            write_entry::<LittleEndian>(image, &entry(pino, ino, name)).is_ok()
+            write_entry::<LittleEndian>(image, &entry(pino, 1, ino, name)).is_ok()
         }
     }
 }
@@ -221,10 +166,7 @@ pub(crate) fn image_of(alloc: Global, nodes: &[Node<'_>]) -> Result<Vec<u8>, &'s
         if !is_written(&mut image, *node) {
             return Err("no node");
         }
-        let missing = (4 - image.len() % 4) % 4;
-        if image.extend_from_slice(&[0xFF; 3][..missing]).is_err() {
-            return Err("no memory");
-        }
+        fill_up(&mut image).map_err(|_| "no memory")?;
     }
     Ok(image)
 }

@@ -4,8 +4,6 @@
 #[cfg(test)]
 mod checks;
 #[cfg(test)]
-mod devices;
-#[cfg(test)]
 mod faults;
 #[cfg(test)]
 mod images;

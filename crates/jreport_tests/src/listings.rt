@@ -1,6 +1,5 @@
 //! Worked trees, with the lines that `ls` prints of them.
 
-use crate::devices::{Follows, Short};
 use crate::images::{CIRCLE, CIRCLE_LINES, DIRECTORY, FILE, LARGE, Node, SYMLINK, image_of};
 use byteorder::LittleEndian;
 use flashbase::{FromWriter, Sink};
@@ -8,6 +7,7 @@ use jmount::mount;
 use jreport::{ProgramFault, put_object, tree_lines};
 use std::alloc::Global;
 use std::test::Fail;
+use test_support::{Matcher, Taker};
 
 fn listed<T: Sink>(alloc: Global, image: &[u8], sink: &mut T) -> Result<(), ProgramFault<'static>> {
     let mounted = mount::<LittleEndian>(alloc, image, LARGE)?;
@@ -200,9 +200,9 @@ fn a_line_of_an_object(rt: HostRuntime) -> Result<(), Fail> {
 
 /// Whether a sink that fails after so many bytes takes exactly them.
 fn is_cut(alloc: Global, image: &[u8], text: &[u8], limit: usize) -> bool {
-    let mut sink = Short::new(alloc, limit, u64::MAX);
+    let mut sink = Taker::limited(alloc, 1, limit);
     let answer = listed(alloc, image, &mut sink);
-    answer == Err(ProgramFault::Output) && sink.took(0, text)
+    answer == Err(ProgramFault::Output) && sink.took(1, text)
 }
 
 #[test]
@@ -219,7 +219,7 @@ fn is_beginning(alloc: Global, image: &[u8]) -> bool {
     let Ok(mounted) = mount::<LittleEndian>(alloc, image, LARGE) else {
         return true;
     };
-    let mut sink = Follows {
+    let mut sink = Matcher {
         rest: CIRCLE_LINES,
         failures: 0,
     };

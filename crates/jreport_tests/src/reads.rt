@@ -1,10 +1,8 @@
 //! Images that are read as a whole: what `check`, `cat` and `ls` write of them, and what they answer.
 
-use crate::devices::{Pieces, Short};
 use crate::images::{
-    ATTRIBUTE, CLASH, DAMAGED_INODE_2, ENTRY_A, FILE, FILE_AS_ROOT, GEOMETRY, INODE_2, LARGE,
-    LITTLE_MARKER, NO_LENGTH, Node, ONE_BLOCK, OTHER_ORDER, READ_ONLY, Raw, SYMLINK, TREE,
-    image_of, raw_image,
+    CLASH, DAMAGED_INODE_2, FILE, FILE_AS_ROOT, GEOMETRY, LARGE, Node, ONE_BLOCK, OTHER_ORDER, Raw,
+    SYMLINK, TREE, image_of, raw_image,
 };
 use byteorder::LittleEndian;
 use flashbase::{FromReader, FromWriter, LoadFault, Sink, Source};
@@ -14,6 +12,9 @@ use jreport::{ProgramFault, check_lines, content, file_bytes, list_lines, note_l
 use jscan::{Geometry, ScanFault};
 use std::alloc::Global;
 use std::test::Fail;
+use test_support::{
+    ATTRIBUTE, ENTRY_A, Giver, INODE_2, LITTLE_MARKER, NO_LENGTH, READ_ONLY, Taker,
+};
 
 /// What `cat` writes of a path in a mounted image, or its fault.
 fn read(alloc: Global, image: &[u8], path: &[u8]) -> Result<Vec<u8>, ProgramFault<'static>> {
@@ -272,34 +273,32 @@ fn block_sizes_that_are_refused(rt: HostRuntime) -> Result<(), Fail> {
 
 /// Whether a source that fails after so many bytes is reported as such, and nothing is put.
 fn is_unread(alloc: Global, call: Call, image: &[u8], limit: usize) -> bool {
-    let mut source = Pieces {
-        bytes: image,
-        piece: 40,
-        limit,
-        failures: u64::MAX,
-    };
+    let mut source = Giver::limited(image, 40, limit);
     let mut sink = FromWriter::new(Vec::new(alloc));
     let answer = ask(alloc, call, &mut source, GEOMETRY, &mut sink);
     answer == Err(ProgramFault::Load(LoadFault::Device))
-        && source.failures == 0
+        && source.failures == 1
         && sink.into_writer().is_empty()
 }
 
 /// Blocks with an empty file of the name `a`, and how many of its findings are told of.
 const FOUND: [(&[&[u8]], u64); 5] = [
-    (&[LITTLE_MARKER, ATTRIBUTE, READ_ONLY, INODE_2, ENTRY_A], 0),
-    (&[LITTLE_MARKER, NO_LENGTH, INODE_2, ENTRY_A], 1),
-    (&[OTHER_ORDER, INODE_2, ENTRY_A], 1),
-    (&[DAMAGED_INODE_2, INODE_2, ENTRY_A], 1),
+    (
+        &[&LITTLE_MARKER, &ATTRIBUTE, &READ_ONLY, &INODE_2, &ENTRY_A],
+        0,
+    ),
+    (&[&LITTLE_MARKER, &NO_LENGTH, &INODE_2, &ENTRY_A], 1),
+    (&[OTHER_ORDER, &INODE_2, &ENTRY_A], 1),
+    (&[DAMAGED_INODE_2, &INODE_2, &ENTRY_A], 1),
     (
         &[
             DAMAGED_INODE_2,
-            ATTRIBUTE,
+            &ATTRIBUTE,
             OTHER_ORDER,
-            LITTLE_MARKER,
-            NO_LENGTH,
-            INODE_2,
-            ENTRY_A,
+            &LITTLE_MARKER,
+            &NO_LENGTH,
+            &INODE_2,
+            &ENTRY_A,
         ],
         3,
     ),
@@ -341,9 +340,9 @@ fn a_source_that_fails(rt: HostRuntime) -> Result<(), Fail> {
 /// Whether a sink that fails after so many bytes takes exactly them.
 fn is_cut(alloc: Global, call: Call, image: &[u8], text: &[u8], limit: usize) -> bool {
     let mut source = FromReader::new(image);
-    let mut sink = Short::new(alloc, limit, u64::MAX);
+    let mut sink = Taker::limited(alloc, 1, limit);
     let answer = ask(alloc, call, &mut source, GEOMETRY, &mut sink);
-    answer == Err(ProgramFault::Output) && sink.took(0, text)
+    answer == Err(ProgramFault::Output) && sink.took(1, text)
 }
 
 #[test]

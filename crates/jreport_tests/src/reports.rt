@@ -1,10 +1,6 @@
 //! Worked images, with the lines that they print, as a whole and block by block.
 
-use crate::devices::Short;
-use crate::images::{
-    ATTRIBUTE, BLOCK, ENTRY_A, GEOMETRY, INCOMPATIBLE, INODE_2, LENGTH_13, LITTLE_MARKER,
-    NO_LENGTH, OBSOLETE, OBSOLETE_A, ONE_BLOCK, READ_ONLY, Raw, SKIPPABLE, raw_image,
-};
+use crate::images::{BLOCK, GEOMETRY, OBSOLETE, OBSOLETE_A, ONE_BLOCK, Raw, SKIPPABLE, raw_image};
 use crate::streams::streamed;
 use byteorder::{BigEndian, LittleEndian};
 use jnode::{Endian, Order};
@@ -12,6 +8,10 @@ use jreport::{Lines, ReportFault, put_report, scan_lines};
 use jscan::{Geometry, ScanFault};
 use std::alloc::Global;
 use std::test::Fail;
+use test_support::{
+    ATTRIBUTE, ENTRY_A, INCOMPATIBLE, INODE_2, LENGTH_13, LITTLE_MARKER, NO_LENGTH, READ_ONLY,
+    Taker,
+};
 
 /// Whether a source of the image's bytes has this report, however it cuts them.
 fn is_streamed<E: Order>(alloc: Global, image: &[u8], lines: &Lines) -> bool {
@@ -65,7 +65,7 @@ total blocks 1 entries 1 inodes 0 findings 0\n",
     (
         Raw {
             start: 0,
-            nodes: &[LITTLE_MARKER, INODE_2],
+            nodes: &[&LITTLE_MARKER, &INODE_2],
             end: BLOCK,
             tail: &[],
             len: BLOCK,
@@ -105,7 +105,7 @@ total blocks 1 entries 0 inodes 1 findings 0\n",
     (
         Raw {
             start: 0,
-            nodes: &[NO_LENGTH],
+            nodes: &[&NO_LENGTH],
             end: BLOCK,
             tail: &[],
             len: BLOCK,
@@ -117,7 +117,7 @@ total blocks 1 entries 0 inodes 1 findings 0\n",
     (
         Raw {
             start: 4084,
-            nodes: &[LENGTH_13],
+            nodes: &[&LENGTH_13],
             end: BLOCK,
             tail: &[],
             len: BLOCK,
@@ -129,7 +129,7 @@ total blocks 1 entries 0 inodes 1 findings 0\n",
     (
         Raw {
             start: 4084,
-            nodes: &[LITTLE_MARKER],
+            nodes: &[&LITTLE_MARKER],
             end: BLOCK,
             tail: &[],
             len: BLOCK,
@@ -154,10 +154,10 @@ total blocks 1 entries 0 inodes 1 findings 0\n",
         Raw {
             start: 0,
             nodes: &[
-                LITTLE_MARKER,
-                ATTRIBUTE,
-                INCOMPATIBLE,
-                READ_ONLY,
+                &LITTLE_MARKER,
+                &ATTRIBUTE,
+                &INCOMPATIBLE,
+                &READ_ONLY,
                 SKIPPABLE,
                 OBSOLETE,
             ],
@@ -180,7 +180,7 @@ total blocks 1 entries 0 inodes 0 findings 3\n",
     (
         Raw {
             start: 0,
-            nodes: &[ENTRY_A],
+            nodes: &[&ENTRY_A],
             end: BLOCK,
             tail: &[],
             len: BLOCK,
@@ -196,9 +196,9 @@ total blocks 1 entries 0 inodes 0 findings 2\n",
     (
         Raw {
             start: 0,
-            nodes: &[LITTLE_MARKER, ENTRY_A],
+            nodes: &[&LITTLE_MARKER, &ENTRY_A],
             end: BLOCK,
-            tail: &[ENTRY_A],
+            tail: &[&ENTRY_A],
             len: 0,
         },
         Endian::Little,
@@ -208,9 +208,9 @@ total blocks 1 entries 0 inodes 0 findings 2\n",
     (
         Raw {
             start: 0,
-            nodes: &[LITTLE_MARKER, ENTRY_A],
+            nodes: &[&LITTLE_MARKER, &ENTRY_A],
             end: BLOCK,
-            tail: &[ENTRY_A, &[0xFF; 3]],
+            tail: &[&ENTRY_A, &[0xFF; 3]],
             len: 0,
         },
         Endian::Little,
@@ -220,7 +220,7 @@ total blocks 1 entries 0 inodes 0 findings 2\n",
     (
         Raw {
             start: 4056,
-            nodes: &[ENTRY_A],
+            nodes: &[&ENTRY_A],
             end: 2 * BLOCK,
             tail: &[],
             len: 0,
@@ -258,9 +258,9 @@ fn block_sizes_that_are_refused(rt: HostRuntime) {
 
 /// Whether a sink that fails after so many bytes takes exactly the beginning of the report.
 fn is_cut(alloc: Global, image: &[u8], whole: &[u8], limit: usize) -> bool {
-    let mut sink = Short::new(alloc, limit, u64::MAX);
-    let answer = put_report::<LittleEndian, Short>(image, GEOMETRY, &mut sink);
-    answer == Err(ReportFault::Output) && sink.took(0, &whole[..limit.min(whole.len())])
+    let mut sink = Taker::limited(alloc, 1, limit);
+    let answer = put_report::<LittleEndian, Taker>(image, GEOMETRY, &mut sink);
+    answer == Err(ReportFault::Output) && sink.took(1, &whole[..limit.min(whole.len())])
 }
 
 #[test]

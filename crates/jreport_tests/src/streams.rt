@@ -1,6 +1,5 @@
 //! Reports of sources that give their bytes in pieces, of sources that fail, and into sinks that fail.
 
-use crate::devices::{Long, Pieces, Short};
 use crate::images::{GEOMETRY, TWO_BLOCKS, raw_image};
 use crate::reports::report;
 use byteorder::{BigEndian, LittleEndian};
@@ -10,6 +9,7 @@ use jreport::{ProgramFault, stream_lines};
 use jscan::{GREATEST_BLOCK, GREATEST_IMAGE, Geometry, ScanFault};
 use std::alloc::Global;
 use std::test::Fail;
+use test_support::{Giver, Long, Taker};
 
 /// What is answered of a source, and what goes out.
 type Answer = (Result<u64, ProgramFault<'static>>, Vec<u8>);
@@ -27,12 +27,7 @@ pub(crate) fn streamed<E: Order>(
     piece: usize,
     limit: usize,
 ) -> Answer {
-    let source = Pieces {
-        bytes,
-        piece,
-        limit,
-        failures: u64::MAX,
-    };
+    let source = Giver::limited(bytes, piece, limit);
     answer_and_text::<E, _>(alloc, source, GEOMETRY)
 }
 
@@ -63,10 +58,10 @@ fn a_source_that_fails(rt: HostRuntime) -> Result<(), Fail> {
 
 /// Whether a sink that fails after so many bytes takes exactly them.
 fn is_cut(alloc: Global, image: &[u8], text: &[u8], limit: usize) -> bool {
-    let mut sink = Short::new(alloc, limit, u64::MAX);
+    let mut sink = Taker::limited(alloc, 1, limit);
     let source = FromReader::new(image);
     let answer = stream_lines::<LittleEndian, _, _>(alloc, source, GEOMETRY, &mut sink);
-    answer == Err(ProgramFault::Output) && sink.took(0, text)
+    answer == Err(ProgramFault::Output) && sink.took(1, text)
 }
 
 #[test]
@@ -82,12 +77,7 @@ fn a_sink_that_fails_at_each_byte(rt: HostRuntime) -> Result<(), Fail> {
 #[test]
 fn block_sizes_that_are_refused_unread(rt: HostRuntime) {
     for block in [0, 4092, 4095, 4097, 4098, 4194305, 4194308, u32::MAX] {
-        let broken = Pieces {
-            bytes: &[],
-            piece: 1,
-            limit: 0,
-            failures: 0,
-        };
+        let broken = Giver::limited(&[], 1, 0);
         let (answer, put) = answer_and_text::<BigEndian, _>(rt.alloc(), broken, Geometry { block });
         assert_eq!(rt; answer, Err(ProgramFault::Scan(ScanFault::BlockSize)));
         assert!(rt; put.is_empty());

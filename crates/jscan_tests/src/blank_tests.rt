@@ -6,9 +6,10 @@ use jnode::{Endian, Order};
 use jscan::{Geometry, blank_from};
 use std::process::Abort;
 use std::test::Fail;
+use test_support::{ENTRY_A, INODE_2, LITTLE_MARKER};
 
 /// The clean marker, and a new file that an entry of the root names.
-const NEW_FILE: Pieces = &[(0, &LITTLE_MARKER), (12, &INODE), (80, &ENTRY_A)];
+const NEW_FILE: Pieces = &[(0, &LITTLE_MARKER), (12, &INODE_2), (80, &ENTRY_A)];
 
 /// What a flash of two blocks of 8,192 bytes has at its beginning, and the block from which on it is blank.
 const FLASHES: [(Endian, usize, Pieces, u32); 24] = [

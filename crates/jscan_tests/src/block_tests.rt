@@ -9,6 +9,9 @@ use jscan::{
 };
 use std::alloc::Global;
 use std::test::Fail;
+use test_support::{
+    ATTRIBUTE, ENTRY_A, INCOMPATIBLE, LENGTH_13, LITTLE_MARKER, NO_LENGTH, READ_ONLY,
+};
 
 /// An extent as address, length and what it looks like.
 type Row = (u32, u32, &'static str);

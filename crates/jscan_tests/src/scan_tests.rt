@@ -9,6 +9,7 @@ use jscan::{
 };
 use std::alloc::Global;
 use std::test::Fail;
+use test_support::{ATTRIBUTE, ENTRY_A, INCOMPATIBLE, LITTLE_MARKER, READ_ONLY};
 
 const GEOMETRY: Geometry = Geometry { block: 4096 };
 

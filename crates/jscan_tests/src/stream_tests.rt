@@ -2,10 +2,11 @@
 
 use crate::bytes::*;
 use byteorder::{BigEndian, LittleEndian};
-use flashbase::{DeviceFault, FromReader, Source};
+use flashbase::FromReader;
 use jscan::{BlockReader, Counts, GREATEST_BLOCK, Geometry, StreamFault, scan_stream};
 use std::alloc::Global;
 use std::test::Fail;
+use test_support::{ENTRY_A, Giver, INODE_2, LITTLE_MARKER, Long};
 
 const SMALL: Geometry = Geometry { block: 4096 };
 
@@ -20,73 +21,9 @@ const SOURCES: [(usize, Pieces, [u64; 4]); 5] = [
     (4137, TWO_ENTRIES, [2, 2, 0, 0]),
     (4140, TWO_ENTRIES, [2, 2, 0, 0]),
     (8192, &[(4056, &ENTRY_A)], [2, 0, 0, 2]),
-    (80, &[(0, &LITTLE_MARKER), (12, &INODE)], [1, 0, 1, 0]),
+    (80, &[(0, &LITTLE_MARKER), (12, &INODE_2)], [1, 0, 1, 0]),
     (0, &[], [0, 0, 0, 0]),
 ];
-
-/// Gives its bytes in pieces, and fails once, after so many bytes.
-#[derive(Drop)]
-struct CutSource<'a> {
-    bytes: &'a [u8],
-    piece: usize,
-    until_failure: usize,
-    failures: u64,
-}
-
-impl Source for CutSource<'_> {
-    ghost use Rattle.std.specs.Prelude.{None};
-
-    ghost rest = { λ _. None };
-
-    ghost failures = { λ s. s.failures };
-
-    fn fill(&mut self, buf: &mut [u8]) -> Result<usize, DeviceFault> {
-        if self.until_failure == 0 {
-            self.until_failure = usize::MAX;
-            self.failures = self.failures.wrapping_add(1);
-            return Err(DeviceFault);
-        }
-        let n = self
-            .piece
-            .min(self.bytes.len())
-            .min(buf.len())
-            .min(self.until_failure);
-        let (front, others) = self.bytes.split_at(n);
-        buf[..n].copy_from_slice(front);
-        self.bytes = others;
-        self.until_failure -= n;
-        Ok(n)
-    }
-}
-
-/// Gives as many bytes as it has left, whatever is in them.
-#[derive(Drop)]
-struct Long {
-    left: usize,
-}
-
-impl Source for Long {
-    ghost use Rattle.std.specs.Prelude.{None};
-
-    ghost rest = { λ _. None };
-
-    ghost failures = { λ _. 0 };
-
-    fn fill(&mut self, buf: &mut [u8]) -> Result<usize, DeviceFault> {
-        let n = self.left.min(buf.len());
-        self.left -= n;
-        Ok(n)
-    }
-}
-
-fn cut(bytes: &[u8], piece: usize, until_failure: usize) -> CutSource<'_> {
-    CutSource {
-        bytes,
-        piece,
-        until_failure,
-        failures: 0,
-    }
-}
 
 fn counts(counted: [u64; 4]) -> Counts {
     let [blocks, entries, inodes, findings] = counted;
@@ -101,7 +38,7 @@ fn counts(counted: [u64; 4]) -> Counts {
 /// What is answered of a source, and what is counted.
 fn streamed(
     alloc: Global,
-    source: CutSource<'_>,
+    source: Giver<'_>,
     geometry: Geometry,
 ) -> (Result<(), StreamFault>, Counts) {
     let mut counted = counts([9, 9, 9, 9]);
@@ -114,7 +51,7 @@ fn counts_do_not_depend_on_the_cut(rt: HostRuntime) -> Result<(), Fail> {
     for (len, pieces, want) in SOURCES {
         let image = flash(rt.alloc(), len, pieces)?;
         for piece in CUTS {
-            let answer = streamed(rt.alloc(), cut(&image, piece, usize::MAX), SMALL);
+            let answer = streamed(rt.alloc(), Giver::limited(&image, piece, usize::MAX), SMALL);
             assert_eq!(rt; answer, (Ok(()), counts(want)), "in pieces of {piece}");
         }
     }
@@ -134,12 +71,12 @@ fn blocks_are_those_of_the_bytes(rt: HostRuntime) -> Result<(), Fail> {
     let image = flash(rt.alloc(), 4137, TWO_ENTRIES)?;
     let filled = flash(rt.alloc(), 8192, TWO_ENTRIES)?;
     for piece in CUTS {
-        let source = cut(&image, piece, usize::MAX);
+        let source = Giver::limited(&image, piece, usize::MAX);
         let mut reader = BlockReader::new(rt.alloc(), source, SMALL)?;
         for want in [filled.get(..4096), filled.get(4096..), None, None] {
             assert!(rt; reader.next()? == want, "in pieces of {piece}");
         }
-        assert!(rt; reader.into_source().bytes.is_empty());
+        assert!(rt; reader.into_source().rest.is_empty());
     }
     Ok(())
 }
@@ -149,13 +86,13 @@ fn a_device_fails_in_the_second_block(rt: HostRuntime) -> Result<(), Fail> {
     let image = flash(rt.alloc(), 4137, TWO_ENTRIES)?;
     let device = Err(StreamFault::Device);
     for piece in CUTS {
-        let mut reader = BlockReader::new(rt.alloc(), cut(&image, piece, 4100), SMALL)?;
+        let mut reader = BlockReader::new(rt.alloc(), Giver::limited(&image, piece, 4100), SMALL)?;
         for want in [Ok(image.get(..4096)), device, device] {
             assert!(rt; reader.next() == want, "in pieces of {piece}");
         }
         let left = reader.into_source();
-        assert_eq!(rt; (left.failures, left.bytes.len()), (1, 37));
-        let answer = streamed(rt.alloc(), cut(&image, piece, 4100), SMALL);
+        assert_eq!(rt; (left.failures, left.rest.len()), (1, 37));
+        let answer = streamed(rt.alloc(), Giver::limited(&image, piece, 4100), SMALL);
         assert_eq!(rt; answer, (Err(StreamFault::Device), counts([1, 1, 0, 0])));
     }
     Ok(())
@@ -184,7 +121,7 @@ fn a_source_is_too_large(rt: HostRuntime) -> Result<(), Fail> {
 #[test]
 fn block_sizes_that_are_not_read(rt: HostRuntime) {
     for block in [0, 4092, 4098, GREATEST_BLOCK + 4] {
-        let source = cut(&ENTRY_A, 1, usize::MAX);
+        let source = Giver::limited(&ENTRY_A, 1, usize::MAX);
         let answer = streamed(rt.alloc(), source, Geometry { block });
         assert_eq!(rt; answer, (Err(StreamFault::BlockSize), counts([0, 0, 0, 0])));
     }

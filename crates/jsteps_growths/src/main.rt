@@ -4,16 +4,14 @@
 //! It prints the same line whichever growth is refused. Its status says which call the growth was refused to.
 #![tactic(auto)]
 
-mod ready;
-
-use crate::ready::is_ready;
 use byteorder::LittleEndian;
 use jmount::{Mounted, mount};
-use jnode::{Dirent, Fill, InodeNode, Part, write_entry, write_inode};
 use jscan::Geometry;
 use jsteps::{Index, Op, OpFault, Step, Text, advance, plan};
 use std::alloc::{AllocError, Global};
 use std::process::ExitCode;
+use test_operations::{By, is_ready, op_of};
+use test_support::{Tree, image_of};
 
 const GEOMETRY: Geometry = Geometry { block: 4096 };
 
@@ -33,167 +31,72 @@ struct Pair {
     other: Index,
 }
 
-const OBJECTS: [(u32, u32, u32); 4] = [
-    (2, 0o100644, 10),
-    (3, 0o040755, 0),
-    (4, 0o040755, 0),
-    (5, 0o120777, 3),
+/// At time 7, for owners 5 and 6.
+const BY: By = By {
+    time: 7,
+    uid: 5,
+    gid: 6,
+};
+
+const TREE: Tree = Tree {
+    objects: &[
+        (2, 1, 0o100644, 10),
+        (3, 1, 0o040755, 0),
+        (4, 1, 0o040755, 0),
+        (5, 1, 0o120777, 3),
+    ],
+    names: &[
+        (1, 1, 2, "a"),
+        (1, 2, 3, "d"),
+        (3, 1, 4, "e"),
+        (1, 3, 5, "s"),
+        (1, 4, 57, "q"),
+    ],
+};
+
+/// The operations. Those at the end make names enough for a directory, and objects enough for an index, that are no longer one
+/// node of a map.
+const LINES: [&str; 23] = [
+    "mkdir /m 755",
+    "create /d/e/f 600",
+    "symlink /d/l ../a",
+    "write /d/e/f 100 9000",
+    "truncate /a 4",
+    "truncate /a 400",
+    "link /a /d/e/n",
+    "rename /d /m/d",
+    "rename /a /m/d/e/name-of-more-than-sixteen-bytes",
+    "remove /q",
+    "remove /m/d/l",
+    "create /m/d/e/0 644",
+    "create /m/d/e/1 644",
+    "create /m/d/e/2 644",
+    "create /m/d/e/3 644",
+    "create /m/d/e/4 644",
+    "create /m/d/e/5 644",
+    "create /m/d/e/6 644",
+    "create /m/d/e/7 644",
+    "create /m/d/e/8 644",
+    "create /m/d/e/9 644",
+    "create /m/d/e/10 644",
+    "create /m/d/e/11 644",
 ];
 
-const NAMES: [(u32, u32, u32, &str); 5] = [
-    (1, 1, 2, "a"),
-    (1, 2, 3, "d"),
-    (3, 1, 4, "e"),
-    (1, 3, 5, "s"),
-    (1, 4, 57, "q"),
-];
-
-const PATHS: [&str; 14] = [
-    "/a", "/d", "/s", "/q", "/x", "/d/e", "/d/e/n", "/d/e/f", "/d/l", "/m", "/m/d", "/m/d/e",
-    "/m/d/e/f", "/y",
-];
-
-const BYTES: [u8; 9000] = [7; 9000];
-
-fn image_of(alloc: Global) -> Option<Vec<u8>> {
-    let mut image = Vec::new(alloc);
-    for (ino, mode, size) in OBJECTS {
-        let node = InodeNode {
-            ino,
-            version: 1,
-            mode,
-            uid: 3,
-            gid: 4,
-            isize: size,
-            atime: 1,
-            mtime: 2,
-            ctime: 2,
-            offset: 0,
-            dsize: 0,
-            fill: Fill::Data(Part::new(b"", 0)),
-        };
-        write_inode::<LittleEndian>(&mut image, &node).ok()?;
-    }
-    for (pino, version, ino, name) in NAMES {
-        let node = Dirent {
-            pino,
-            version,
-            ino,
-            mctime: 0,
-            kind: 8,
-            name: Part::new(name.as_bytes(), 0),
-        };
-        write_entry::<LittleEndian>(&mut image, &node).ok()?;
-        for _ in 0..(4 - image.len() % 4) % 4 {
-            image.push(0xFF).ok()?;
-        }
-    }
-    Some(image)
-}
-
-fn text(text: &'static str) -> Text<'static> {
-    Text::lent(text.as_bytes())
-}
-
-/// The operations, one by one.
-fn op_of(k: u32) -> Option<Op<'static>> {
-    match k {
-        0..=2 => new_object(k),
-        3..=5 => other_bytes(k),
-        6..=10 => other_name(k),
-        k => Some(Op::Create {
-            time: 7,
-            path: text(TWELVE.get(k.checked_sub(11)? as usize)?),
-            mode: 0o644,
-            uid: 0,
-            gid: 0,
-        }),
-    }
-}
-
-fn new_object(k: u32) -> Option<Op<'static>> {
-    let (time, uid, gid) = (7, 5, 6);
-    Some(match k {
-        0 => Op::Mkdir {
-            time,
-            path: text("/m"),
-            mode: 0o755,
-            uid,
-            gid,
-        },
-        1 => Op::Create {
-            time,
-            path: text("/d/e/f"),
-            mode: 0o600,
-            uid,
-            gid,
-        },
-        2 => Op::Symlink {
-            time,
-            path: text("/d/l"),
-            target: text("../a"),
-            uid,
-            gid,
-        },
-        _ => return None,
-    })
-}
-
-fn other_bytes(k: u32) -> Option<Op<'static>> {
-    let time = 7;
-    Some(match k {
-        3 => Op::Write {
-            time,
-            path: text("/d/e/f"),
-            offset: 100,
-            bytes: Text::lent(&BYTES),
-        },
-        4 => Op::Truncate {
-            time,
-            path: text("/a"),
-            size: 4,
-        },
-        5 => Op::Truncate {
-            time,
-            path: text("/a"),
-            size: 400,
-        },
-        _ => return None,
-    })
-}
-
-fn other_name(k: u32) -> Option<Op<'static>> {
-    let time = 7;
-    Some(match k {
-        6 => Op::Link {
-            time,
-            old: text("/a"),
-            new: text("/d/e/n"),
-        },
-        7 => Op::Rename {
-            time,
-            old: text("/d"),
-            new: text("/m/d"),
-        },
-        8 => Op::Rename {
-            time,
-            old: text("/a"),
-            new: text("/m/d/e/name of more than sixteen bytes"),
-        },
-        9 => Op::Remove {
-            time,
-            path: text("/q"),
-        },
-        10 => Op::Remove {
-            time,
-            path: text("/m/d/l"),
-        },
-        _ => return None,
-    })
-}
-
-/// Names enough for a directory, and objects enough for an index, that are no longer one node of a map.
-const TWELVE: [&str; 12] = [
+const PATHS: [&str; 26] = [
+    "/a",
+    "/d",
+    "/s",
+    "/q",
+    "/x",
+    "/d/e",
+    "/d/e/n",
+    "/d/e/f",
+    "/d/l",
+    "/m",
+    "/m/d",
+    "/m/d/e",
+    "/m/d/e/f",
+    "/y",
     "/m/d/e/0",
     "/m/d/e/1",
     "/m/d/e/2",
@@ -239,7 +142,7 @@ fn are_same(alloc: Global, x: &Index, y: &Index) -> Option<bool> {
     for ino in 0..80 {
         same = same && x.object(ino) == y.object(ino) && x.top(ino) == y.top(ino);
     }
-    for path in PATHS.iter().chain(TWELVE.iter()) {
+    for path in PATHS {
         same = same && removal(alloc, x, path)? == removal(alloc, y, path)?;
     }
     Some(same)
@@ -304,8 +207,8 @@ fn take(alloc: Global, pair: &mut Pair, step: &Step<'_>, refused: &mut Refused) 
 /// Takes all operations, and says how many steps there were; nothing where something is not as it should be.
 fn take_all(alloc: Global, pair: &mut Pair, refused: &mut Refused) -> Option<usize> {
     let mut count = 0usize;
-    for k in 0..23 {
-        let op = op_of(k)?;
+    for line in LINES {
+        let op = op_of(line, BY)?;
         let steps = steps_of(alloc, pair, &op, refused)?;
         for step in &steps {
             take(alloc, pair, step, refused)?;
@@ -329,7 +232,7 @@ fn verdict<'a>(alloc: Global, mounted: &Mounted<'a>, refused: &mut Refused) -> O
 
 fn main(rt: HostRuntime) -> ExitCode {
     let alloc = rt.alloc();
-    let Some(image) = image_of(alloc) else {
+    let Ok(image) = image_of::<LittleEndian>(alloc, TREE) else {
         return ExitCode::from(20);
     };
     let Ok(mounted) = mount::<LittleEndian>(alloc, &image, GEOMETRY) else {

@@ -1,91 +1,17 @@
 //! Operations and their answers as lines of text.
 
 use jnode::Part;
-use jsteps::{Index, Op, Step, Text, plan};
+use jsteps::{Index, Step, plan};
 use std::alloc::Global;
 use std::test::Fail;
+use test_operations::{By, op_of};
 
-/// What is written.
-const BYTES: [u8; 12_288] = [0x5A; 12_288];
-
-/// So many first words of a line, and the rest of it.
-fn words(line: &str) -> (&str, &str, &str, &str) {
-    let (verb, rest) = line.split_once(' ').unwrap_or((line, ""));
-    let (path, rest) = rest.split_once(' ').unwrap_or((rest, ""));
-    let (second, third) = rest.split_once(' ').unwrap_or((rest, ""));
-    (verb, path, second, third)
-}
-
-/// The operation of a line, at time 7 and for owners 5 and 6. A write has a count of bytes.
-pub fn op_of(line: &str) -> Option<Op<'_>> {
-    let (verb, path, second, third) = words(line);
-    match verb {
-        "mkdir" | "create" | "symlink" => Some(new_object(verb, path, second)),
-        "write" | "truncate" => Some(other_bytes(verb, path, second, third)),
-        _ => other_name(verb, path, second),
-    }
-}
-
-fn new_object<'a>(verb: &str, path: &'a str, second: &'a str) -> Op<'a> {
-    let (time, uid, gid) = (7, 5, 6);
-    let path = Text::lent(path.as_bytes());
-    let mode = u32::from_str_radix(second, 8).unwrap_or(0);
-    match verb {
-        "mkdir" => Op::Mkdir {
-            time,
-            path,
-            mode,
-            uid,
-            gid,
-        },
-        "create" => Op::Create {
-            time,
-            path,
-            mode,
-            uid,
-            gid,
-        },
-        _ => Op::Symlink {
-            time,
-            path,
-            target: Text::lent(second.as_bytes()),
-            uid,
-            gid,
-        },
-    }
-}
-
-fn other_bytes<'a>(verb: &str, path: &'a str, second: &str, third: &str) -> Op<'a> {
-    let time = 7;
-    let path = Text::lent(path.as_bytes());
-    let number = second.parse::<u32>().unwrap_or(0);
-    let count = third.parse::<usize>().unwrap_or(0).min(BYTES.len());
-    match verb {
-        "write" => Op::Write {
-            time,
-            path,
-            offset: number,
-            bytes: Text::lent(&BYTES[..count]),
-        },
-        _ => Op::Truncate {
-            time,
-            path,
-            size: number,
-        },
-    }
-}
-
-fn other_name<'a>(verb: &str, path: &'a str, second: &'a str) -> Option<Op<'a>> {
-    let time = 7;
-    let old = Text::lent(path.as_bytes());
-    let new = Text::lent(second.as_bytes());
-    Some(match verb {
-        "link" => Op::Link { time, old, new },
-        "rename" => Op::Rename { time, old, new },
-        "remove" => Op::Remove { time, path: old },
-        _ => return None,
-    })
-}
+/// At time 7, for owners 5 and 6.
+pub const BY: By = By {
+    time: 7,
+    uid: 5,
+    gid: 6,
+};
 
 fn text_of<'a>(part: &Part<'a>) -> &'a str {
     str::from_utf8(part.present()).unwrap_or("?")
@@ -138,7 +64,7 @@ fn text_of_steps(alloc: Global, steps: &[Step<'_>]) -> Result<String, Fail> {
 
 /// The steps of the operation of a line, or why it is refused.
 pub fn answer(alloc: Global, index: &Index, line: &str) -> Result<String, Fail> {
-    let op = op_of(line).ok_or("no operation")?;
+    let op = op_of(line, BY).ok_or("no operation")?;
     match plan(alloc, index, &op) {
         Ok(steps) => text_of_steps(alloc, &steps),
         Err(fault) => Ok(format!(in alloc; "{fault}")?),

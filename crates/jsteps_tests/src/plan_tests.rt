@@ -1,10 +1,11 @@
 //! Tables of operations, each with its steps or its refusal.
 
 use crate::lines::answer;
-use crate::trees::{ALMOST_SPENT, DANGLING, LOOP, ONE_NUMBER_LEFT, SMALL, SPENT, Tree, index_of};
+use crate::trees::{ALMOST_SPENT, DANGLING, LOOP, ONE_NUMBER_LEFT, SMALL, SPENT, index_of};
 use std::alloc::Global;
 use std::process::Abort;
 use std::test::Fail;
+use test_support::Tree;
 
 /// Each line's operation has this answer in a tree.
 fn agree(rt: &impl Abort, alloc: Global, tree: Tree, rows: &[(&str, &str)]) -> Result<(), Fail> {

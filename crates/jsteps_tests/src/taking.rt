@@ -1,65 +1,14 @@
 //! Steps that are taken, each judged before.
 
-ghost use Rattle.std.specs.Prelude.{◌≡◌, ◌<◌, ℕ, true, is_some, option_map, unwrap_or};
-ghost use Rattle.jmount.specs.Shown.{top_at};
-ghost use Rattle.jmount.specs.Tree.{ObjectOf, object};
-ghost use Rattle.jsteps.specs.Steps.{IsDefined};
-ghost use Rattle.jsteps.specs.Ready.{HasRoom};
-
-use crate::lines::op_of;
-use jsteps::{Index, Step, advance, plan};
+use crate::lines::BY;
+use jsteps::{Index, advance, plan};
 use std::alloc::Global;
 use std::test::Fail;
-
-/// Whether an object is there and has a version left.
-fn has_version(index: &Index, ino: u32) -> bool
-    ensures there { result ≡ true → is_some (object index.now.tree ino) ≡ true }
-    ensures left { result ≡ true → top_at index.now.tops ino < 0xFFFFFFFF }
-{
-    index.object(ino).is_some() && index.top(ino) < u32::MAX
-}
-
-/// The size of an object, and 0 where there is none.
-fn size_of(index: &Index, ino: u32) -> u32
-    ensures { result ≡ unwrap_or (option_map (λ (o : ObjectOf ℕ). o.body) (object index.now.tree ino)) 0 }
-{
-    match index.object(ino) {
-        Some(object) => object.size,
-        None => 0,
-    }
-}
-
-/// Whether a step can be taken.
-fn is_ready(index: &Index, step: &Step<'_>) -> bool
-    ensures defined { result ≡ true → IsDefined index.now.tree step.now }
-    ensures room { result ≡ true → HasRoom index.now step.now }
-{
-    match step {
-        Step::MakeObject { target, .. } => {
-            index.next() <= u64::from(u32::MAX) && target.len() <= u32::MAX as usize
-        }
-        Step::SetName { directory, .. } => has_version(index, *directory),
-        Step::ClearName { directory, .. } => has_version(index, *directory),
-        Step::Put {
-            ino,
-            offset,
-            bytes,
-            ..
-        } => {
-            has_version(index, *ino)
-                && *offset <= size_of(index, *ino)
-                && bytes.len() <= (u32::MAX - *offset) as usize
-        }
-        Step::Zero { ino, count, .. } => {
-            has_version(index, *ino) && *count <= u32::MAX - size_of(index, *ino)
-        }
-        Step::Cut { ino, size, .. } => { has_version(index, *ino) && *size <= size_of(index, *ino) }
-    }
-}
+use test_operations::{is_ready, op_of};
 
 /// Takes the steps of an operation, and tells how many there are; 0 where one cannot be taken.
 pub fn take(alloc: Global, index: &mut Index, line: &str) -> Result<usize, Fail> {
-    let op = op_of(line).ok_or("no operation")?;
+    let op = op_of(line, BY).ok_or("no operation")?;
     let steps = plan(alloc, index, &op)?;
     for step in &steps {
         if !is_ready(index, step) {

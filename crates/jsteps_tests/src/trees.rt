@@ -2,24 +2,17 @@
 
 use byteorder::LittleEndian;
 use jmount::mount;
-use jnode::{Dirent, Fill, InodeNode, Part, write_entry, write_inode};
 use jscan::Geometry;
 use jsteps::Index;
 use std::alloc::Global;
 use std::test::Fail;
+use test_support::{Tree, image_of};
 
 const GEOMETRY: Geometry = Geometry { block: 4096 };
 
 pub const FILE: u32 = 0o100644;
 
 pub const DIRECTORY: u32 = 0o040755;
-
-/// Objects, each with its number, version, mode and size, and names, each with its directory, version, number and text.
-#[derive(Clone, Copy)]
-pub struct Tree {
-    pub objects: &'static [(u32, u32, u32, u32)],
-    pub names: &'static [(u32, u32, u32, &'static str)],
-}
 
 /// Directories four deep, a file of ten bytes, a symlink, a device, and names of numbers that have no object.
 pub const SMALL: Tree = Tree {
@@ -98,59 +91,9 @@ pub const ONE_NUMBER_LEFT: Tree = Tree {
     names: &[(1, 1, 4_294_967_294, "z")],
 };
 
-/// An object whose bytes are all zeros.
-fn object_of((ino, version, mode, size): (u32, u32, u32, u32)) -> InodeNode<'static> {
-    InodeNode {
-        ino,
-        version,
-        mode,
-        uid: 3,
-        gid: 4,
-        isize: size,
-        atime: 1,
-        mtime: 2,
-        ctime: 2,
-        offset: 0,
-        dsize: 0,
-        fill: Fill::Data(Part::new(b"", 0)),
-    }
-}
-
-fn name_of((pino, version, ino, name): (u32, u32, u32, &str)) -> Dirent<'_> {
-    Dirent {
-        pino,
-        version,
-        ino,
-        mctime: 0,
-        kind: 8,
-        name: Part::new(name.as_bytes(), 0),
-    }
-}
-
-/// Fills an image up to whole words.
-fn fill_up(image: &mut Vec<u8>) -> Result<(), Fail> {
-    for _ in 0..(4 - image.len() % 4) % 4 {
-        image.push(0xFF)?;
-    }
-    Ok(())
-}
-
-/// The image of a tree.
-fn image_of(alloc: Global, tree: Tree) -> Result<Vec<u8>, Fail> {
-    let mut image = Vec::new(alloc);
-    for object in tree.objects {
-        write_inode::<LittleEndian>(&mut image, &object_of(*object))?;
-    }
-    for name in tree.names {
-        write_entry::<LittleEndian>(&mut image, &name_of(*name))?;
-        fill_up(&mut image)?;
-    }
-    Ok(image)
-}
-
 /// The index of a tree.
 pub fn index_of(alloc: Global, tree: Tree) -> Result<Index, Fail> {
-    let image = image_of(alloc, tree)?;
+    let image = image_of::<LittleEndian>(alloc, tree)?;
     let mounted = mount::<LittleEndian>(alloc, &image, GEOMETRY)?;
     Ok(Index::of(alloc, &mounted)?)
 }

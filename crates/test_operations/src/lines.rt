@@ -1,0 +1,111 @@
+//! Operations as lines of text.
+
+use jsteps::{Op, Text};
+use std::alloc::{AllocError, Global};
+
+/// What is written.
+const BYTES: [u8; 16_384] = [0x5A; 16_384];
+
+/// Bytes as those of erased flash.
+const ERASED: [u8; 16] = [0xFF; 16];
+
+/// When an operation is asked for, and the owners of what it makes.
+#[derive(Clone, Copy)]
+pub struct By {
+    pub time: u32,
+    pub uid: u16,
+    pub gid: u16,
+}
+
+/// The first words of a line, and the rest of it.
+fn words(line: &str) -> (&str, &str, &str, &str) {
+    let (verb, rest) = line.split_once(' ').unwrap_or((line, ""));
+    let (path, rest) = rest.split_once(' ').unwrap_or((rest, ""));
+    let (second, third) = rest.split_once(' ').unwrap_or((rest, ""));
+    (verb, path, second, third)
+}
+
+/// The operation of a line. A write has an offset and a count of bytes, which are 0x5A, and 0xFF under the verb `erase`.
+pub fn op_of<'a>(line: &'a str, by: By) -> Option<Op<'a>> {
+    let (verb, path, second, third) = words(line);
+    match verb {
+        "mkdir" | "create" | "symlink" => Some(new_object(verb, path, second, by)),
+        "write" | "erase" | "truncate" => Some(other_bytes(verb, path, second, third, by.time)),
+        _ => other_name(verb, path, second, by.time),
+    }
+}
+
+/// The operations of lines, and of those before the first that has none.
+pub fn ops_of<'a>(alloc: Global, lines: &[&'a str], by: By) -> Result<Vec<Op<'a>>, AllocError> {
+    let mut ops = Vec::new(alloc);
+    for line in lines {
+        let Some(op) = op_of(line, by) else {
+            return Ok(ops);
+        };
+        ops.push(op)?;
+    }
+    Ok(ops)
+}
+
+fn new_object<'a>(verb: &str, path: &'a str, second: &'a str, by: By) -> Op<'a> {
+    let By { time, uid, gid } = by;
+    let path = Text::lent(path.as_bytes());
+    let mode = u32::from_str_radix(second, 8).unwrap_or(0);
+    match verb {
+        "mkdir" => Op::Mkdir {
+            time,
+            path,
+            mode,
+            uid,
+            gid,
+        },
+        "create" => Op::Create {
+            time,
+            path,
+            mode,
+            uid,
+            gid,
+        },
+        _ => Op::Symlink {
+            time,
+            path,
+            target: Text::lent(second.as_bytes()),
+            uid,
+            gid,
+        },
+    }
+}
+
+fn other_bytes<'a>(verb: &str, path: &'a str, second: &str, third: &str, time: u32) -> Op<'a> {
+    let path = Text::lent(path.as_bytes());
+    let number = second.parse::<u32>().unwrap_or(0);
+    let count = third.parse::<usize>().unwrap_or(0).min(BYTES.len());
+    let bytes = match verb {
+        "write" => &BYTES[..count],
+        "erase" => &ERASED[..count.min(ERASED.len())],
+        _ => {
+            return Op::Truncate {
+                time,
+                path,
+                size: number,
+            };
+        }
+    };
+    Op::Write {
+        time,
+        path,
+        offset: number,
+        bytes: Text::lent(bytes),
+    }
+}
+
+fn other_name<'a>(verb: &str, path: &'a str, second: &'a str, time: u32) -> Option<Op<'a>> {
+    let old = Text::lent(path.as_bytes());
+    let new = Text::lent(second.as_bytes());
+    Some(match verb {
+        "link" => Op::Link { time, old, new },
+        "rename" => Op::Rename { time, old, new },
+        "remove" => Op::Remove { time, path: old },
+        _ => return None,
+    })
+}
