@@ -7,6 +7,7 @@ use jbuild::{emit, operations};
 use jlisting::listing;
 use jlog::SessionFault;
 use jmount::{FindFault, mount};
+use jsteps::Page;
 use std::alloc::Global;
 use std::test::Fail;
 use test_support::{FORBIDS, LITTLE_MARKER, MADE};
@@ -112,7 +113,7 @@ fn refused(alloc: Global, base: &[u8], blocks: u32) -> Result<Option<SessionFaul
     let ops = operations(alloc, listing(alloc, b"create 0644 /b")?, &parts)?;
     let mounted = mount::<LittleEndian>(alloc, base, GEOMETRY)?;
     let sink = FromWriter::new(Vec::new(alloc));
-    match emit::<LittleEndian, _>(alloc, &mounted, GEOMETRY, blocks, &ops, sink) {
+    match emit::<LittleEndian, _>(alloc, &mounted, GEOMETRY, blocks, Page::P4096, &ops, sink) {
         Err((fault, None)) => Ok(Some(fault)),
         _ => Ok(None),
     }

@@ -6,6 +6,7 @@ use jbuild::{Parts, emit, operations};
 use jlisting::listing;
 use jlog::SessionFault;
 use jmount::mount;
+use jsteps::Page;
 use std::alloc::Global;
 use test_support::{Counter, MADE};
 
@@ -30,7 +31,15 @@ fn fault(alloc: Global) -> Option<(SessionFault, u64)> {
     let Ok(mounted) = mount::<LittleEndian>(alloc, &MADE, GEOMETRY) else {
         return want;
     };
-    match emit::<LittleEndian, _>(alloc, &mounted, GEOMETRY, 3, &ops, Counter { taken: 0 }) {
+    match emit::<LittleEndian, _>(
+        alloc,
+        &mounted,
+        GEOMETRY,
+        3,
+        Page::P4096,
+        &ops,
+        Counter { taken: 0 },
+    ) {
         Ok((sink, report)) => report.stopped.map(|fault| (fault, sink.taken)),
         Err((fault, None)) => Some((fault, 0)),
         Err((_, Some(sink))) => Some((SessionFault::Broken, sink.taken)),

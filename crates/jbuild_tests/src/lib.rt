@@ -2,7 +2,7 @@
 //! program's output.
 //!
 //! `runs` takes a text to its bytes and its report, `built` has listings on an empty base, `appended` on others, `parted` the
-//! files that listings name, `sinks` sinks that fail or take little, and `growth` memory that is refused.
+//! files that listings name, `paged` larger pages, `sinks` sinks that fail or take little, and `growth` memory that is refused.
 #![tactic(auto)]
 
 #[cfg(test)]
@@ -11,6 +11,8 @@ mod appended;
 mod built;
 #[cfg(test)]
 mod growth;
+#[cfg(test)]
+mod paged;
 #[cfg(test)]
 mod parted;
 #[cfg(test)]

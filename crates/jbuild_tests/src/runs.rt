@@ -7,6 +7,7 @@ use jlog::{RunReport, resume_at};
 use jmount::mount;
 use jnode::Order;
 use jscan::Geometry;
+use jsteps::Page;
 use std::alloc::Global;
 use std::test::Fail;
 
@@ -49,7 +50,15 @@ pub fn made<E: Order>(
     let mounted = mount::<E>(alloc, base, GEOMETRY)?;
     let from = resume_at::<E>(&mounted, GEOMETRY, blocks)?;
     let sink = FromWriter::new(Vec::new(alloc));
-    let Ok((sink, report)) = emit::<E, _>(alloc, &mounted, GEOMETRY, blocks, &ops, sink) else {
+    let Ok((sink, report)) = emit::<E, _>(
+        alloc,
+        &mounted,
+        GEOMETRY,
+        blocks,
+        Page::P4096,
+        &ops,
+        sink,
+    ) else {
         return Err(Fail::from("not emitted"));
     };
     let mut line = FromWriter::new(Vec::new(alloc));

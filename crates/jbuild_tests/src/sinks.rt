@@ -6,6 +6,7 @@ use jbuild::{emit, operations, put_accepted};
 use jlisting::listing;
 use jlog::{Place, RunReport, SessionFault};
 use jmount::mount;
+use jsteps::Page;
 use std::alloc::Global;
 use std::test::Fail;
 use test_support::{MADE, Taker};
@@ -19,7 +20,7 @@ fn emitted(alloc: Global, sink: Taker) -> Result<Emitted, Fail> {
     let parts = read_files(alloc)?;
     let ops = operations(alloc, listing(alloc, TEXT)?, &parts)?;
     let mounted = mount::<LittleEndian>(alloc, &MADE, GEOMETRY)?;
-    Ok(emit::<LittleEndian, _>(alloc, &mounted, GEOMETRY, 2, &ops, sink))
+    Ok(emit::<LittleEndian, _>(alloc, &mounted, GEOMETRY, 2, Page::P4096, &ops, sink))
 }
 
 #[test]

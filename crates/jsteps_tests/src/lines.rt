@@ -1,7 +1,7 @@
 //! Operations and their answers as lines of text.
 
 use jnode::Part;
-use jsteps::{Index, Step, plan};
+use jsteps::{Index, OpFault, Page, Step, plan, plan_paged};
 use std::alloc::Global;
 use std::test::Fail;
 use test_operations::{By, op_of};
@@ -62,11 +62,22 @@ fn text_of_steps(alloc: Global, steps: &[Step<'_>]) -> Result<String, Fail> {
     Ok(text)
 }
 
-/// The steps of the operation of a line, or why it is refused.
-pub fn answer(alloc: Global, index: &Index, line: &str) -> Result<String, Fail> {
-    let op = op_of(line, BY).ok_or("no operation")?;
-    match plan(alloc, index, &op) {
+/// Steps, or why there are none.
+fn shown(alloc: Global, plan: Result<Vec<Step<'_>>, OpFault>) -> Result<String, Fail> {
+    match plan {
         Ok(steps) => text_of_steps(alloc, &steps),
         Err(fault) => Ok(format!(in alloc; "{fault}")?),
     }
+}
+
+/// The steps of the operation of a line, or why it is refused.
+pub fn answer(alloc: Global, index: &Index, line: &str) -> Result<String, Fail> {
+    let op = op_of(line, BY).ok_or("no operation")?;
+    shown(alloc, plan(alloc, index, &op))
+}
+
+/// The same by a page.
+pub fn answer_by(alloc: Global, index: &Index, line: &str, page: Page) -> Result<String, Fail> {
+    let op = op_of(line, BY).ok_or("no operation")?;
+    shown(alloc, plan_paged(alloc, index, &op, page))
 }
