@@ -26,3 +26,4 @@ pub mod ShapeStepLemmas
 pub mod ShapePlanLemmas
 pub mod ShapeStateLemmas
 pub mod ShapeBrokenLemmas
+pub mod AttributesLemmas

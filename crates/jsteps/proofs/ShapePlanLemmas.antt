@@ -9,7 +9,7 @@ use Rattle.jsteps.specs.Steps.{bytes, sizes, do_step, after}
 use Rattle.jsteps.specs.Nodes.{Indexed}
 use Rattle.jsteps.specs.Planning.{size_named, make_steps, steps_of}
 use Rattle.jsteps.specs.Refusals.{is_bad_path, is_long, meets_nothing, meets_other}
-use Rattle.jsteps.specs.Where.{names_above, last_name, above, number_or_none, parent, ends_in_directory, named_there, number_there, number_or_zero, object_named, is_missing, met}
+use Rattle.jsteps.specs.Where.{names_above, last_name, above, number_or_none, parent, ends_in_directory, named_there, number_there, number_or_zero, number_reached, object_named, is_missing, met}
 use Rattle.jsteps.specs.Laws.{IsConsistent}
 use Rattle.jmount.specs.Shape.{HasShape}
 use Rattle.jsteps.specs.ShapeLaws as law
@@ -22,7 +22,7 @@ use Rattle.jsteps.proofs.WhereLemmas.{bits_there}
 use Rattle.jsteps.proofs.PlanLemmas.{IsAccepted, accepted, led, targeted, one_false, two_false, three_false}
 use Rattle.jmount.proofs.ShapeLemmas.{Leads, IsShaped, leads_none, leads_more, leads_on, leads_to_itself, walk_leads, shaped, has_shape, follows_keeps}
 use Rattle.jsteps.proofs.ShapeMetLemmas.{back_to}
-use Rattle.jsteps.proofs.ShapeStepLemmas.{insert_follows, object_keeps, write_on_object, resize_on_object, clear_follows, set_keeps, move_keeps}
+use Rattle.jsteps.proofs.ShapeStepLemmas.{insert_follows, object_keeps, write_on_object, resize_on_object, attributes_on_object, clear_follows, set_keeps, move_keeps}
 
 -- ---- where a path leads
 
@@ -109,6 +109,8 @@ plan_keeps page x (op.Write time path offset bytes) steps same is shape =
     object_keeps x.tree (steps_of page x.tree (op.Write time path offset bytes)) (write_on_object page time (number_or_zero x.tree path) (size_named x.tree path) offset bytes) shape
 plan_keeps page x (op.Truncate time path size) steps same is shape =
     object_keeps x.tree (steps_of page x.tree (op.Truncate time path size)) (resize_on_object time (number_or_zero x.tree path) (size_named x.tree path) size) shape
+plan_keeps page x (op.SetAttributes time path attributes) steps same is shape =
+    object_keeps x.tree (steps_of page x.tree (op.SetAttributes time path attributes)) (attributes_on_object time (unwrap_or (number_reached x.tree path) 0) attributes) shape
 plan_keeps page x (op.Link time old new) steps same is shape =
     let found = three_false (meets_nothing (above x.tree old) || (meets_nothing (above x.tree new) || false)) (is_missing x.tree old || false) false is.found in
     let bad = two_false (is_bad_path old) (is_bad_path new) is.bad in

@@ -10,11 +10,13 @@ use Rattle.std.proofs.lemmas.Map.Views.{tells_apart}
 use Rattle.jname.specs.Live.{Key, key_cmp}
 use Rattle.jname.proofs.NamingLemmas.{key_cmp_total, key_cmp-IsAntisymmetric}
 use Rattle.jmount.specs.Tree.{ObjectOf, Outline, object, named, is_directory, has_bits, directory_bits}
-use Rattle.jsteps.specs.Steps.{sizes, do_step, after, renamed, rewritten, with_body}
+use Rattle.jsteps.specs.Steps.{sizes, do_step, after, renamed, rewritten, with_body, with_permissions, with_attributes, reattributed}
 use Rattle.jsteps.specs.Planning.{piece_puts, page_puts, puts, spelling_len, zeros_to, write_steps, resize_steps}
+use Rattle.jsteps.specs.declared.op.Attributes.{Attributes}
 use Rattle.jsteps.specs.declared.step.Step.{Step}
 use Rattle.jsteps.specs.declared.step.Step.TheVariants as step
 use Rattle.jsteps.proofs.ConsistentLemmas.{cond_some_cases, tied}
+use Rattle.jsteps.proofs.StepsLemmas.{kind_stays}
 use Rattle.jmount.proofs.ShapeLemmas.{Leads, Follows, IsShaped, follows_keeps, gains_keeps}
 
 -- ---- a number has another object
@@ -40,6 +42,12 @@ rewritten_follows t ino time change None is = record { entries = λ d n i e ther
 rewritten_follows t ino time change (Some o) is =
     insert_follows t ino (with_body o time (change o.body)) t.next (λ d n i e same. ap (is_directory t) same ∙ ap (has_bits directory_bits) is)
 
+reattributed_follows : (t : Outline) (ino time : ℕ) (attributes : Attributes) (o : Option (ObjectOf ℕ)) → object t ino ≡ o → Follows t (reattributed t ino time attributes o)
+reattributed_follows t ino time attributes None is = record { entries = λ d n i e there. (e, there) }
+reattributed_follows t ino time attributes (Some o) is =
+    insert_follows t ino (with_attributes o time attributes) t.next
+    (λ d n i e same. ap (is_directory t) same ∙ ap (has_bits directory_bits) is ∙ sym (ap (λ (kind : ℕ). kind == directory_bits) (kind_stays o.mode attributes.mode)))
+
 -- ---- steps that change one object and keep its kind
 
 pub OnObject : Step → Type 0
@@ -49,6 +57,7 @@ OnObject (step.ClearName time directory name) = ⊥
 OnObject (step.Put time ino offset new) = Unit {0}
 OnObject (step.Zero time ino count) = Unit {0}
 OnObject (step.Cut time ino size) = Unit {0}
+OnObject (step.SetAttributes time ino attributes) = Unit {0}
 
 object_follows : (t : Outline) (s : Step) → OnObject s → Follows t (do_step sizes t s)
 unfolding OnObject
@@ -58,6 +67,7 @@ object_follows t (step.ClearName time directory name) is = absurd is
 object_follows t (step.Put time ino offset new) is = rewritten_follows t ino time (λ old. max old (offset + length new)) (object t ino) refl
 object_follows t (step.Zero time ino count) is = rewritten_follows t ino time (λ old. old + count) (object t ino) refl
 object_follows t (step.Cut time ino size) is = rewritten_follows t ino time (λ old. min size old) (object t ino) refl
+object_follows t (step.SetAttributes time ino attributes) is = reattributed_follows t ino time attributes (object t ino) refl
 
 pub object_keeps : (t : Outline) (steps : List Step) → AllByRecursion OnObject steps → IsShaped t → IsShaped (after sizes t steps)
 object_keeps t [] all shape = shape
@@ -89,6 +99,10 @@ write_on_object page time ino size offset (b ∷ bytes) =
 pub resize_on_object : (time ino old new : ℕ) → AllByRecursion OnObject (resize_steps time ino old new)
 unfolding OnObject
 resize_on_object time ino old new = cond_both (nat_lt new old) _ _ (AllByRecursion OnObject) (λ yes. (tt, tt)) (λ no. zeros_on_object time ino old new)
+
+pub attributes_on_object : (time ino : ℕ) (attributes : Attributes) → AllByRecursion OnObject (step.SetAttributes time ino attributes ∷ [])
+unfolding OnObject
+attributes_on_object time ino attributes = (tt, tt)
 
 -- ---- names
 

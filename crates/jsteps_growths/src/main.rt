@@ -7,7 +7,7 @@
 use byteorder::LittleEndian;
 use jmount::{Mounted, mount};
 use jscan::Geometry;
-use jsteps::{Index, Op, OpFault, Step, Text, advance, plan};
+use jsteps::{Attributes, Index, Op, OpFault, Step, Text, advance, plan};
 use std::alloc::{AllocError, Global};
 use std::process::ExitCode;
 use test_operations::{By, is_ready, op_of};
@@ -56,7 +56,7 @@ const TREE: Tree = Tree {
 
 /// The operations. Those at the end make names enough for a directory, and objects enough for an index, that are no longer one
 /// node of a map.
-const LINES: [&str; 23] = [
+const LINES: [&str; 24] = [
     "mkdir /m 755",
     "create /d/e/f 600",
     "symlink /d/l ../a",
@@ -68,6 +68,7 @@ const LINES: [&str; 23] = [
     "rename /a /m/d/e/name-of-more-than-sixteen-bytes",
     "remove /q",
     "remove /m/d/l",
+    "attr /m/d/e 700",
     "create /m/d/e/0 644",
     "create /m/d/e/1 644",
     "create /m/d/e/2 644",

@@ -1,7 +1,7 @@
 //! Operations and their answers as lines of text.
 
 use jnode::Part;
-use jsteps::{Index, OpFault, Page, Step, plan, plan_paged};
+use jsteps::{Attributes, Index, OpFault, Page, Step, plan, plan_paged};
 use std::alloc::Global;
 use std::test::Fail;
 use test_operations::{By, op_of};
@@ -46,6 +46,23 @@ fn put_step(text: &mut String, step: &Step<'_>) -> Result<(), Fail> {
         } => write!(text, "put {ino} {offset} {}", bytes.len())?,
         Step::Zero { ino, count, .. } => write!(text, "zero {ino} {count}")?,
         Step::Cut { ino, size, .. } => write!(text, "cut {ino} {size}")?,
+        Step::SetAttributes {
+            time,
+            ino,
+            attributes,
+        } => {
+            let Attributes {
+                mode,
+                uid,
+                gid,
+                atime,
+                mtime,
+            } = attributes;
+            write!(
+                text,
+                "attr {ino} {mode:o} {uid} {gid} {atime} {mtime} {time}"
+            )?;
+        }
     }
     Ok(())
 }

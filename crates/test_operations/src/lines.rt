@@ -1,6 +1,6 @@
 //! Operations as lines of text.
 
-use jsteps::{Op, Text};
+use jsteps::{Attributes, Op, Text};
 use std::alloc::{AllocError, Global};
 
 /// What is written.
@@ -26,11 +26,13 @@ fn words(line: &str) -> (&str, &str, &str, &str) {
 }
 
 /// The operation of a line. A write has an offset and a count of bytes, which are 0x5A, and 0xFF under the verb `erase`.
+/// Attributes have owners 5 and 6 and the times 1 and 2.
 pub fn op_of<'a>(line: &'a str, by: By) -> Option<Op<'a>> {
     let (verb, path, second, third) = words(line);
     match verb {
         "mkdir" | "create" | "symlink" => Some(new_object(verb, path, second, by)),
         "write" | "erase" | "truncate" => Some(other_bytes(verb, path, second, third, by.time)),
+        "attr" => Some(other_attributes(path, second, by.time)),
         _ => other_name(verb, path, second, by.time),
     }
 }
@@ -96,6 +98,20 @@ fn other_bytes<'a>(verb: &str, path: &'a str, second: &str, third: &str, time: u
         path,
         offset: number,
         bytes: Text::lent(bytes),
+    }
+}
+
+fn other_attributes<'a>(path: &'a str, second: &str, time: u32) -> Op<'a> {
+    Op::SetAttributes {
+        time,
+        path: Text::lent(path.as_bytes()),
+        attributes: Attributes {
+            mode: u32::from_str_radix(second, 8).unwrap_or(0),
+            uid: 5,
+            gid: 6,
+            atime: 1,
+            mtime: 2,
+        },
     }
 }
 

@@ -26,3 +26,6 @@ returns-in-Remove-clause-few c = few_of (page_size c.args.page) c.args.index.now
 
 pub returns-in-Rename-clause-few : goal.returns-in-Rename-clause-few
 returns-in-Rename-clause-few c = few_of (page_size c.args.page) c.args.index.now c.args.op.now _ (sizes_are_pages c.args.page) (search rules)
+
+pub returns-in-SetAttributes-clause-few : goal.returns-in-SetAttributes-clause-few
+returns-in-SetAttributes-clause-few c = few_of (page_size c.args.page) c.args.index.now c.args.op.now _ (sizes_are_pages c.args.page) (search rules)
