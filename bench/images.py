@@ -31,9 +31,9 @@ def entry(pino, version, ino, name):
     return front + struct.pack("<II", crc(front), crc(name)) + name
 
 
-def inode(ino, version, offset, size, data):
+def inode(ino, version, offset, size, data, mode=0o100644):
     front = header(0xE002, 68 + len(data)) + struct.pack(
-        "<IIIHHIIIIIIIBBH", ino, version, 0o100644, 0, 0, size, 0, 0, 0, offset, len(data), len(data), 0, 0, 0
+        "<IIIHHIIIIIIIBBH", ino, version, mode, 0, 0, size, 0, 0, 0, offset, len(data), len(data), 0, 0, 0
     )
     return front + struct.pack("<II", crc(data), crc(front)) + data
 

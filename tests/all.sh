@@ -1,6 +1,6 @@
 #!/usr/bin/env bash
 # Passes all tests: `rt ci` (every proof from nothing, the tests, the program's stored run), then the wrong bodies that the
-# prover must refuse, the names in docs/TRACE.md, and the finished program as a user meets it. `rt ci` gets a copy of the
+# prover must refuse, the names in docs/TRACE.md, and the finished program as a user meets it, and on what is made to do harm. `rt ci` gets a copy of the
 # tree without the wrong bodies, which it would try one after another: tests/edits.py tries many at once. The last lines are
 # where the processor time of the two went, crate by crate in minutes, and 'N passed, M failed'.
 set -uo pipefail
@@ -26,6 +26,7 @@ tar -c --exclude=./.git --exclude=out --exclude=must-fail . | tar -x -C "$copy"
 suite tests/gate_clock.py "$times" bash -c '(cd "$0" && rt ci) && tests/edits.py --built "$0"' "$copy"
 suite tests/trace.py
 suite tests/program.sh "$copy/crates/jffs2_image/out/jffs2_image"
+suite tests/hostile.py "$copy/crates/jffs2_image/out/jffs2_image"
 cat "$times"
 echo "$passed passed, $failed failed"
 [ "$failed" -eq 0 ]

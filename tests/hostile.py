@@ -1,0 +1,477 @@
+#!/usr/bin/env python3
+"""Runs the finished program on images, files, streams and limits that are made to do harm.
+
+Usage: tests/hostile.py [PROGRAM]. Whatever it meets, its answer is right, or its status is 1 and standard error has the one line
+of the fault that the manual page names; it is never ended by a signal. The last line is 'N passed, M failed'.
+"""
+import collections
+import contextlib
+import os
+import re
+import resource
+import shutil
+import signal
+import subprocess
+import sys
+import tempfile
+import threading
+
+import hostile_images as images
+import hostile_model as model
+
+ROOT = os.path.dirname(os.path.dirname(os.path.abspath(__file__)))
+PROGRAM = os.path.realpath(sys.argv[1] if len(sys.argv) > 1 else f"{ROOT}/crates/jffs2_image/out/jffs2_image")
+NO_MEMORY = re.compile(rb"jffs2_image: (L3|C5|M7|P6|S5) OutOfMemory( line \d+)?\n")
+NOTE = b"jffs2_image: note: %d findings, see check --scan; a wrong --block or --endian shows as findings too\n"
+FAULT = re.compile(rb"jffs2_image: [A-Z]\d+ .*\n")
+OUTPUT = b"jffs2_image: P5 Output\n"
+SIZES = 10
+# A command is given up after so many seconds.
+PATIENCE = 120
+counts = collections.Counter()
+Done = collections.namedtuple("Done", "status out err")
+
+
+def verdict(about, right, done=None):
+    """Counts one test, and tells of it where it failed."""
+    counts["passed" if right else "failed"] += 1
+    if not right:
+        told = f": status {done.status}, {done.out[:200]!r}, {done.err[:200]!r}" if done else ""
+        print(f"FAILED: {about}{told}", flush=True)
+
+
+def limits(memory, closed, stack):
+    """What is done in a new process before it becomes the program."""
+
+    def prepare():
+        for number in closed:
+            os.close(number)
+        if memory:
+            resource.setrlimit(resource.RLIMIT_AS, (memory, memory))
+        if stack:
+            resource.setrlimit(resource.RLIMIT_STACK, (stack, stack))
+
+    return prepare
+
+
+def run(words, memory=None, closed=(), stack=None, **streams):
+    """Runs the program in the present folder, with these of its standard streams closed, and what it does not say read."""
+    streams = {"stdin": subprocess.DEVNULL, "stdout": subprocess.PIPE, "stderr": subprocess.PIPE, **streams}
+    prepare = limits(memory, closed, stack)
+    with subprocess.Popen([PROGRAM, *words], preexec_fn=prepare, **streams) as child:
+        try:
+            out, err = child.communicate(timeout=PATIENCE)
+        except subprocess.TimeoutExpired:
+            child.kill()
+            out, err = child.communicate()
+    return Done(child.returncode, out or b"", err or b"")
+
+
+def write(name, data):
+    with open(name, "wb") as file:
+        file.write(data if isinstance(data, bytes) else data.encode())
+
+
+def read(name):
+    if not os.path.isfile(name):
+        return None
+    with open(name, "rb") as file:
+        return file.read()
+
+
+def forget(name):
+    with contextlib.suppress(FileNotFoundError):
+        os.remove(name)
+
+
+# ---- Little memory
+
+LISTING = "".join(f"create 0644 /f{k}\npart /f{k} 0 data\n" for k in range(200))
+MEMORY = (
+    ["check", "--scan", "--block", "4194304", "many.img"],
+    ["check", "many.img"],
+    ["ls", "many.img"],
+    ["cat", "large.img", "/large"],
+    ["build", "--blocks", "200", "many.txt", "out.img"],
+    ["build", "--blocks", "200", "creates.txt", "out.img"],
+    ["append", "--blocks", "200", "many.img", "many.txt", "out.img"],
+)
+
+
+def writes(words):
+    return words[0] in ("build", "append")
+
+
+def tried(words, memory=None, **others):
+    """What a command does, and what stands in the file that it makes."""
+    forget("out.img")
+    return run(words, memory, **others), read("out.img") if writes(words) else None
+
+
+def is_beginning(part, whole):
+    return part is None or whole is not None and whole.startswith(part)
+
+
+def gives_up(done, made, right, wanted):
+    """Whether a command says that memory ran out, behind a beginning of what it has to say and to write."""
+    is_said = done.status == 1 and NO_MEMORY.fullmatch(done.err) is not None
+    return is_said and right.out.startswith(done.out) and is_beginning(made, wanted)
+
+
+def least(is_enough, low, high, step):
+    """The least of the sizes from low to high, in steps, that is enough; high is."""
+    while high - low > step:
+        middle = (low + high) // 2 // step * step
+        low, high = (low, middle) if is_enough(middle) else (middle, high)
+    return high
+
+
+def in_little_memory():
+    """Each command at ten sizes of memory, from where the program begins at all to where the command ends well."""
+    write("many.img", images.names(20000))
+    write("large.img", images.large(256))
+    write("many.txt", LISTING)
+    write("data", bytes(20000))
+    write("creates.txt", "".join(f"create 0644 /f{k:05}\n" for k in range(20000)))
+    # (Below that it cannot be loaded.)
+    begins = least(lambda size: run(["--version"], size).status in (0, 1), 1 << 20, 1 << 26, 4096)
+    for words in MEMORY:
+        right, wanted = tried(words)
+        verdict(f"{words} with memory", right.status == 0, right)
+        enough = least(lambda size, words=words: tried(words, size)[0].status == 0, begins, 1 << 30, 4096)
+        refused = 0
+        for k in range(SIZES):
+            size = begins + (enough - begins) * k // (SIZES - 1)
+            done, made = tried(words, size)
+            refused += done.status != 0
+            is_right = (done, made) == (right, wanted) or gives_up(done, made, right, wanted)
+            verdict(f"{words} in {size} bytes of memory", is_right, done)
+        verdict(f"{words} needs memory", refused > 0)
+
+
+# ---- Growths that are refused
+
+
+def with_refused_growths():
+    """Each command with each of its growths refused, one at a time."""
+    if not shutil.which("cc"):
+        print("left out: cc is missing, which builds tests/refuse.c")
+        return
+    shim = os.path.abspath("refuse.so")
+    subprocess.run(["cc", "-O1", "-shared", "-fPIC", "-fno-builtin", "-o", shim, f"{ROOT}/tests/refuse.c", "-ldl"], check=True)
+    write("small.img", images.sample())
+    write("small.txt", "mkdir 0755 /d\ncreate 0644 /d/f\npart /d/f 0 data\nsymlink /s a\\x20b\nrename /d /e\n")
+    write("data", b"data")
+    for words in (
+        ["check", "--scan", "small.img"],
+        ["check", "small.img"],
+        ["ls", "small.img"],
+        ["cat", "small.img", "/a"],
+        ["build", "--blocks", "2", "small.txt", "out.img"],
+        ["append", "--blocks", "2", "small.img", "small.txt", "out.img"],
+        ["--help"],
+        ["paint"],
+    ):
+        refuse_each(shim, words)
+
+
+def refuse_each(shim, words):
+    settings = lambda number: {"env": {**os.environ, "LD_PRELOAD": shim, "REFUSE": str(number)}}
+    right, wanted = tried(words)
+    plain, _ = tried(words, **settings(0))
+    refused, wrong = 0, 0
+    for number in range(1, int(plain.err.split()[-1]) + 1):
+        done, made = tried(words, **settings(number))
+        if gives_up(done, made, right, wanted):
+            refused += 1
+        elif (done, made) != (right, wanted):
+            wrong += 1
+            verdict(f"{words} with growth {number} refused", False, done)
+    verdict(f"{words} with its growths refused: {refused} told", refused > 0 and not wrong)
+
+
+# ---- Streams that are closed, full, or have no reader
+
+
+def without_reader(words, **others):
+    """Runs a command whose standard output is a pipe that nobody reads."""
+    end, start = os.pipe()
+    os.close(end)
+    try:
+        return run(words, stdout=start, **others)
+    finally:
+        os.close(start)
+
+
+HELP = (["--help"], ["check", "--help"])
+PRINTING = (["check", "small.img"], ["check", "--scan", "small.img"], ["ls", "small.img"], ["cat", "small.img", "/a"])
+WRITING = (["build", "--blocks", "2", "small.txt", "out.img"], ["append", "--blocks", "2", "small.img", "small.txt", "out.img"])
+
+
+def on_bad_streams():
+    """Standard output that takes nothing is a fault; what becomes of standard error changes no status and no byte."""
+    for words in (*HELP, *PRINTING, *WRITING):
+        right, wanted = tried(words)
+        with open("/dev/full", "wb") as full:
+            for about, others in (("closed", {"closed": [1]}), ("full", {"stdout": full})):
+                done, made = tried(words, **others)
+                verdict(f"{words} with standard output {about}", (done, made) == (Done(1, b"", OUTPUT), wanted), done)
+            for about, others in (("closed", {"closed": [2]}), ("full", {"stderr": full})):
+                done, made = tried(words, **others)
+                verdict(f"{words} with standard error {about}", (done, made) == (right._replace(err=b""), wanted), done)
+        for closed in ([0], [0, 2]):
+            done, made = tried(words, closed=closed)
+            verdict(f"{words} with {closed} closed", (done.status, done.out, made) == (0, right.out, wanted), done)
+        for closed in ([0, 1], [1, 2], [0, 1, 2]):
+            done, made = tried(words, closed=closed)
+            verdict(f"{words} with {closed} closed", (done.status, done.out, made) == (1, b"", wanted), done)
+        pipe_without_reader(words, wanted)
+
+
+def pipe_without_reader(words, wanted):
+    """A pipe without a reader is a fault as any other, whether the signal of it is ignored or not."""
+    for is_ignored in (False, True):
+        forget("out.img")
+        done = without_reader(words, restore_signals=not is_ignored)
+        verdict(f"{words} into a pipe without reader", done == Done(1, b"", OUTPUT), done)
+        verdict(f"what {words} made", read("out.img") == wanted)
+
+
+# ---- Files that are none
+
+
+def fed(name, data):
+    """Writes into a FIFO beside the program."""
+    os.mkfifo(name)
+    feeder = threading.Thread(target=write, args=(name, data), daemon=True)
+    feeder.start()
+    return feeder
+
+
+def through_fifos():
+    """FIFOs in place of each file: the same answers."""
+    for words in (*PRINTING, *WRITING):
+        right, wanted = tried(words)
+        for place, name in enumerate(words):
+            if name in ("small.img", "small.txt"):
+                feeder = fed("fifo", read(name))
+                done, made = tried([*words[:place], "fifo", *words[place + 1 :]])
+                verdict(f"{words} with a FIFO as {name}", (done, made) == (right, wanted), done)
+                feeder.join(PATIENCE)
+                os.remove("fifo")
+    write("part.txt", "create 0644 /a\npart /a 0 fifo\ncreate 0644 /b\npart /b 0 fifo\n")
+    feeder = fed("fifo", b"once")
+    done = run(["build", "--blocks", "1", "part.txt", "out.img"])
+    both = [run(["cat", "out.img", path]).out for path in ("/a", "/b")]
+    verdict("a FIFO that a listing names twice", done.status == 0 and both == [b"once", b"once"], done)
+    feeder.join(PATIENCE)
+    os.remove("fifo")
+    into_fifo()
+
+
+def into_fifo():
+    """OUT is a FIFO: its reader gets the image; where the reader goes away, that is a fault."""
+    write("large.txt", LISTING)
+    for words in WRITING:
+        write("data", b"data")
+        _, wanted = tried(words)
+        done, got = read_by(lambda file: file.read(), [*words[:-1], "fifo"])
+        verdict(f"{words} into a FIFO", done.status == 0 and got == [wanted], done)
+        write("data", bytes(20000))
+        others = {"small.txt": "large.txt", "2": "100", "out.img": "fifo"}
+        done, _ = read_by(lambda file: None, [others.get(word, word) for word in words])
+        is_told = re.fullmatch(rb"jffs2_image: S4 Sink( line \d+)?\n", done.err)
+        verdict(f"{words} into a FIFO without reader", done.status == 1 and is_told, done)
+
+
+def read_by(reading, words):
+    """Runs a command with a FIFO whose reader does this and closes it; what that gave comes behind what the command did."""
+    got = []
+
+    def read_fifo():
+        with open("fifo", "rb") as file:
+            got.append(reading(file))
+
+    os.mkfifo("fifo")
+    reader = threading.Thread(target=read_fifo, daemon=True)
+    reader.start()
+    done = run(words)
+    reader.join(PATIENCE)
+    os.remove("fifo")
+    return done, got
+
+
+def fault(text):
+    return Done(1, b"", f"jffs2_image: {text}\n".encode())
+
+
+NOWHERE = b"d 0755 0 0 0 0 1 /\n"
+
+
+def readings(name):
+    """The commands that read a file of this name, as image or as listing."""
+    yield from (["check", name], ["ls", name], ["cat", name, "/a"], ["build", "--blocks", "2", name, "out.img"])
+    yield ["append", "--blocks", "2", name, "small.txt", "out.img"]
+    yield ["append", "--blocks", "2", "small.img", name, "out.img"]
+
+
+def on_devices():
+    """Devices, and names that lead nowhere, in place of files."""
+    # The first byte of the second one cannot be read.
+    for device, told in (("/dev/zero", "L2 TooLarge"), ("/proc/self/mem", "L1 Device")):
+        for words in readings(device):
+            done, made = tried(words)
+            verdict(f"{words}", (done, made) == (fault(told), None), done)
+    os.symlink("loop", "loop")
+    os.symlink("nowhere/file", "nowhere.link")
+    for name in ("loop", "nowhere.link", "small.img/file", "x" * 5000, "y" * 256):
+        for words in (*readings(name), ["build", "--blocks", "2", "small.txt", name]):
+            done = run(words)
+            verdict(f"{words[0]} of {name[:20]}", done == fault(f"P1 File {name}"), done)
+    null = "/dev/null"
+    for words, out in (
+        (["ls", null], NOWHERE),
+        (["check", null], b"total blocks 0 entries 0 inodes 0 findings 0\nmount ok\n"),
+        (["build", "--blocks", "2", null, null], b"accepted 0 nodes 0 bytes 0\n"),
+        (["build", "--blocks", "2", "one.txt", null], b"accepted 1 nodes 2 bytes 124\n"),
+        (["append", "--blocks", "2", null, "one.txt", null], b"accepted 1 nodes 2 bytes 124\n"),
+    ):
+        write("one.txt", "create 0644 /a\n")
+        done = run(words)
+        verdict(f"{words}", done == Done(0, out, b""), done)
+
+
+TWICE = (
+    (["append", "--blocks", "2", "copy", "small.txt", "other"], "small.img"),
+    (["append", "--blocks", "2", "small.img", "copy", "other"], "small.txt"),
+    (["build", "--blocks", "2", "copy", "other"], "small.txt"),
+)
+
+
+def one_file_twice():
+    """OUT is also the image, the listing, or a file that the listing names, by another name: all is read before it is made."""
+    for link in (os.link, os.symlink):
+        for words, name in TWICE:
+            apart = {"copy": name, "other": "out.img"}
+            _, wanted = tried([apart.get(word, word) for word in words])
+            write("copy", read(name))
+            link("copy", "other")
+            done = run(words)
+            verdict(f"{words} by {link.__name__}", done.status == 0 and read("copy") == wanted, done)
+            forget("other")
+            forget("copy")
+    write("part.txt", "create 0644 /a\npart /a 0 copy\n")
+    write("copy", b"bytes")
+    done = run(["build", "--blocks", "1", "part.txt", "copy"])
+    verdict("a part that is OUT", done.status == 0 and run(["cat", "copy", "/a"]).out == b"bytes", done)
+
+
+# ---- Images
+
+USES = (
+    (["check", "--scan", "any.img"], (0, 3)),
+    (["cat", "any.img", "/a"], (0, 1)),
+    (["append", "--blocks", "2", "any.img", "one.txt", "out.img"], (0, 1)),
+)
+GREAT = (
+    (images.names, 100000, 100001),
+    (images.depths, 1000, 1001),
+    (images.circles, 1000, 3001),
+    (images.rising, 100000, 2),
+    (images.falling, 100000, 2),
+    (images.shuffled, 100000, 2),
+    (images.nested, 100000, 2),
+    (images.striped, 100000, 2),
+)
+
+
+def on_images():
+    """Loops, great numbers, and what no producer writes."""
+    write("circle.img", images.circle())
+    lines = NOWHERE + b"d 0755 0 0 0 0 2 /d\nd 0755 0 0 0 0 1 /d/x (again)\nd 0755 0 0 0 0 2 /d/y (again)\n"
+    done = run(["ls", "circle.img"])
+    verdict("ls of a circle", done == Done(0, lines, b""), done)
+    for line, told in (("rename /d /d/y/z", "O8 IntoItself"), ("remove /d/x", "O7 NotEmpty"), ("create 0644 /d/y/y/x/f", None)):
+        write("one.txt", line + "\n")
+        done = run(["append", "--blocks", "2", "circle.img", "one.txt", "out.img"])
+        wanted = fault(f"S1 Refused {told} line 1") if told else Done(0, b"accepted 1 nodes 2 bytes 124\n", b"")
+        verdict(f"{line} in a circle", done == wanted, done)
+    for make, count, lines in GREAT:
+        write("great.img", make(count))
+        listed, checked = run(["ls", "great.img"], stack=1 << 19), run(["check", "great.img"], stack=1 << 19)
+        is_listed = listed.status == 0 and listed.out.count(b"\n") == lines and not listed.err
+        verdict(f"ls of {count} {make.__name__}", is_listed, listed)
+        is_checked = checked.status == 0 and checked.out.endswith(b"findings 0\nmount ok\n")
+        verdict(f"check of {count} {make.__name__}", is_checked, checked)
+    for number, image in enumerate((*images.turned(images.sample()), *images.soups(200, 20), *images.soups(30, 60), images.circles(20))):
+        on_any(number, image)
+
+
+def on_any(number, image):
+    """Whatever the image is, `check` and `ls` say what the rules say, and the others end by themselves with one of their statuses and
+    at most a line on standard error."""
+    write("any.img", image)
+    write("one.txt", "create 0644 /new\n")
+    lines, status = model.check(image)
+    done = run(["check", "any.img"])
+    verdict(f"check of image {number}", done == Done(status, text(lines), b""), done)
+    lines, refused, findings = model.ls(image)
+    note = NOTE % findings if findings else b""
+    done = run(["ls", "any.img"])
+    verdict(f"ls of image {number}", done == (fault(refused) if refused else Done(0, text(lines), note)), done)
+    for words, statuses in USES:
+        done = run(words)
+        is_told = FAULT.fullmatch(done.err) if done.status == 1 else done.err in (b"", note)
+        verdict(f"{words[0]} of image {number}", done.status in statuses and is_told, done)
+
+
+def text(lines):
+    return "".join(f"{line}\n" for line in lines).encode()
+
+
+def from_the_longest_file():
+    """A file of 4 GiB comes out whole in little memory, and `cat` ends where its reader does."""
+    write("longest.img", images.longest())
+    words = [PROGRAM, "cat", "longest.img", "/a"]
+    with subprocess.Popen(words, stdout=subprocess.PIPE, stderr=subprocess.PIPE, preexec_fn=limits(1 << 24, (), None)) as child:
+        first, count, zeros = child.stdout.read(1), 1, bytes(1 << 20)
+        while piece := child.stdout.read(1 << 20):
+            count += len(piece) if piece == zeros[: len(piece)] else 1 << 40
+        err = child.stderr.read()
+    done = Done(child.returncode, b"%d" % count, err)
+    verdict("the longest file in 16 MiB", first == b"x" and done == Done(0, b"%d" % images.LONGEST, b""), done)
+    with subprocess.Popen(words, stdout=subprocess.PIPE, stderr=subprocess.PIPE, restore_signals=False) as child:
+        child.stdout.read(1 << 20)
+        child.stdout.close()
+        err = child.stderr.read()
+    verdict("the longest file to a reader who leaves", (child.returncode, err) == (1, OUTPUT), Done(child.returncode, b"", err))
+
+
+GROUPS = (
+    in_little_memory,
+    with_refused_growths,
+    on_bad_streams,
+    through_fifos,
+    on_devices,
+    one_file_twice,
+    on_images,
+    from_the_longest_file,
+)
+
+
+def main():
+    resource.setrlimit(resource.RLIMIT_CORE, (0, 0))
+    signal.signal(signal.SIGPIPE, signal.SIG_IGN)
+    with tempfile.TemporaryDirectory(prefix="hostile-") as folder:
+        os.chdir(folder)
+        for group in GROUPS:
+            before = counts["failed"]
+            group()
+            print(f"{group.__name__}: {'fails' if counts['failed'] > before else 'passes'}", flush=True)
+        os.chdir(ROOT)
+    print(f"{counts['passed']} passed, {counts['failed']} failed")
+    return 1 if counts["failed"] or not counts["passed"] else 0
+
+
+if __name__ == "__main__":
+    sys.exit(main())
