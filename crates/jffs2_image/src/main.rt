@@ -4,11 +4,13 @@
 //! images by `jbuild`. `main` hands over the process's arguments and streams.
 #![tactic(auto)]
 
+pub mod host;
 pub mod output;
 pub mod program;
 pub mod writing;
 
 use flashbase::FromWriter;
+use host::{FileLoader, FileMaker};
 use jcommand::{Outcome, status};
 use jreport::ProgramFault;
 use output::BufferedOutput;
@@ -49,7 +51,16 @@ fn run(rt: &HostRuntime) -> Outcome {
     let Ok(mut output) = BufferedOutput::new(rt.alloc(), rt.stdout()) else {
         return report_fault(&ProgramFault::OutOfMemory, &mut errors);
     };
-    program::run(rt, texts.as_slice(), &mut output, &mut errors)
+    let mut loader = FileLoader::new(rt);
+    let mut maker = FileMaker::new(rt);
+    program::run(
+        rt,
+        &mut loader,
+        &mut maker,
+        texts.as_slice(),
+        &mut output,
+        &mut errors,
+    )
 }
 
 fn main(rt: HostRuntime) -> ExitCode {

@@ -1,13 +1,14 @@
 //! Standard output, through a buffer that is emptied before a run ends.
-ghost use Rattle.std.specs.Prelude.{◌≡◌, ℕ, List, Option, IfOk, OnOk};
+ghost use Rattle.std.specs.Prelude.{◌≡◌, ℕ, List, Option, IfOk, IfErr, OnOk};
 ghost use Rattle.std.specs.Io.KnownBytes.{Keeps};
+ghost use Rattle.std.specs.IoError.{error_kind};
 ghost use Rattle.std.specs.Io.Buffered.{writer_contents, writer_inner};
 ghost use Rattle.flashbase.specs.Device.{CountsErr};
 
 use flashbase::{DeviceFault, Sink};
 use std::alloc::Global;
 use std::io;
-use std::io::{BufWriter, Write};
+use std::io::{BufWriter, ErrorKind, Write};
 
 /// Output goes out in pieces of this many bytes.
 const BUFFER: usize = 65536;
@@ -31,12 +32,32 @@ pub struct BufferedOutput<W: Write + Drop> {
 }
 
 impl<W: Write + Drop> BufferedOutput<W> {
-    pub fn new(alloc: Global, writer: W) -> io::Result<Self> {
+    /// An empty buffer before a writer, which is dropped where there is no memory for one.
+    pub fn new(alloc: Global, writer: W) -> io::Result<Self>
+        ensures given { IfOk result (λ output. ⟦<BufferedOutput<W> as Output>⟧.given output ≡ W.contents writer) }
+        ensures taken { IfOk result (λ output. Keeps (W.contents writer) (⟦<BufferedOutput<W> as Sink>⟧.taken output)) }
+        ensures failures { IfOk result (λ output. ⟦<BufferedOutput<W> as Sink>⟧.failures output ≡ 0) }
+        ensures memory { IfErr result (λ error. error_kind error ≡ ErrorKind.OutOfMemory) }
+    {
+        BufferedOutput::counting_from(alloc, writer, 0)
+    }
+
+    /// The same, which goes on with a count of failures.
+    pub(crate) fn counting_from(alloc: Global, writer: W, failures: u64) -> io::Result<Self>
+        ensures given { IfOk result (λ output. ⟦<BufferedOutput<W> as Output>⟧.given output ≡ W.contents writer) }
+        ensures taken { IfOk result (λ output. Keeps (W.contents writer) (⟦<BufferedOutput<W> as Sink>⟧.taken output)) }
+        ensures failures { IfOk result (λ output. ⟦<BufferedOutput<W> as Sink>⟧.failures output ≡ failures) }
+        ensures memory { IfErr result (λ error. error_kind error ≡ ErrorKind.OutOfMemory) }
+    {
         let writer = BufWriter::with_capacity(alloc, BUFFER, writer)?;
-        Ok(BufferedOutput {
-            writer,
-            failures: 0,
-        })
+        Ok(BufferedOutput { writer, failures })
+    }
+
+    /// How often it failed, modulo 2^64.
+    pub(crate) fn failures(&self) -> u64
+        ensures { result ≡ ⟦<BufferedOutput<W> as Sink>⟧.failures self.now }
+    {
+        self.failures
     }
 }
 

@@ -3,8 +3,10 @@ ghost use Rattle.std.specs.Prelude.{◌≡◌, IfErr, OnOk, Some, map};
 ghost use Rattle.std.specs.Io.KnownBytes.{Appends};
 ghost use Rattle.jcommand.specs.Parsed.{Parsed, ScanParsed, CheckParsed, ListParsed, CatParsed, BuildParsed, AppendParsed, options_of, view};
 ghost use Rattle.jreport.specs.Faults.{fault_line_of};
+ghost use Rattle.jffs2_image.specs.Host.{Blames, BlamesCommand, BlamesFor};
 ghost use Rattle.jffs2_image.specs.Runs.{HasFailed, Meets, MeetsCommand, MeetsWhole, Runs, Says, note_after, success_of};
 
+use crate::host::{Loader, Maker};
 use crate::output::Output;
 use crate::writing::{Target, load_file, write_image};
 use byteorder::{BigEndian, LittleEndian};
@@ -15,6 +17,7 @@ use jreport::{
     ProgramFault, check_lines, fault_line, file_bytes, list_lines, note_line, path_word,
     stream_lines,
 };
+use std::alloc::Global;
 use std::fs;
 use std::rt::Files;
 
@@ -100,48 +103,58 @@ fn cat<'a, E: Order, R: Files + AllocGlobal, T: Sink>(
 
 /// `build`: an image of what a listing makes of an empty file system. The listing's text is kept, since a fault may name a
 /// part of it.
-fn build<'a, E: Order, R: Files + AllocGlobal, T: Sink>(
-    rt: &R,
+fn build<'a, E: Order, L: Loader, M: Maker, T: Sink>(
+    alloc: Global,
+    loader: &mut L,
+    maker: &mut M,
     target: Target<'a>,
     listing: &'a str,
     text: &'a mut Vec<u8>,
     sink: &mut T,
 ) -> Result<u64, ProgramFault<'a>>
-    ensures { (options : Options) → options.geometry ≡ target.entry.geometry
+    ensures meets { (options : Options) → options.geometry ≡ target.entry.geometry
         → Meets E.order (BuildParsed options target.entry.blocks listing.entry.now target.entry.output.now) (T.taken sink.old) (T.taken sink.new) (T.failures sink.old) (T.failures sink.new) result }
+    ensures host { Blames (maker.new ≡ maker.old) (L.failures loader.old) (L.failures loader.new) (M.failures maker.old) (M.failures maker.new) result }
 {
-    *text = load_file(rt, listing)?;
-    write_image::<E, _, _>(rt, target, &[], text.as_slice(), sink)?;
+    *text = load_file(loader, listing)?;
+    write_image::<E, _, _, _>(alloc, loader, maker, target, &[], text.as_slice(), sink)?;
     Ok(0)
 }
 
 /// `append`: an image with what a listing makes of its file system. It is held in memory before the file is made, so the two
 /// may be one. The listing's text is kept, since a fault may name a part of it.
-fn append<'a, E: Order, R: Files + AllocGlobal, T: Sink>(
-    rt: &R,
+fn append<'a, E: Order, L: Loader, M: Maker, T: Sink>(
+    alloc: Global,
+    loader: &mut L,
+    maker: &mut M,
     target: Target<'a>,
     image: &'a str,
     listing: &'a str,
     text: &'a mut Vec<u8>,
     sink: &mut T,
 ) -> Result<u64, ProgramFault<'a>>
-    ensures { (options : Options) → options.geometry ≡ target.entry.geometry
+    ensures meets { (options : Options) → options.geometry ≡ target.entry.geometry
         → Meets E.order (AppendParsed options target.entry.blocks image.entry.now listing.entry.now target.entry.output.now) (T.taken sink.old) (T.taken sink.new) (T.failures sink.old) (T.failures sink.new) result }
+    ensures host { Blames (maker.new ≡ maker.old) (L.failures loader.old) (L.failures loader.new) (M.failures maker.old) (M.failures maker.new) result }
 {
-    let base = load_file(rt, image)?;
-    *text = load_file(rt, listing)?;
-    write_image::<E, _, _>(rt, target, &base, text.as_slice(), sink)?;
+    let base = load_file(loader, image)?;
+    *text = load_file(loader, listing)?;
+    write_image::<E, _, _, _>(alloc, loader, maker, target, &base, text.as_slice(), sink)?;
     Ok(0)
 }
 
 /// Runs the request in the byte order `E`, and answers how much was found.
-fn run_in_order<'a, E: Order, R: Files + AllocGlobal, T: Sink>(
+fn run_in_order<'a, E: Order, R: Files + AllocGlobal, L: Loader, M: Maker, T: Sink>(
     rt: &R,
+    loader: &mut L,
+    maker: &mut M,
     request: Request<'a>,
     text: &'a mut Vec<u8>,
     sink: &mut T,
 ) -> Result<u64, ProgramFault<'a>>
-    ensures { Meets E.order (view request.entry) (T.taken sink.old) (T.taken sink.new) (T.failures sink.old) (T.failures sink.new) result }
+    ensures meets { Meets E.order (view request.entry) (T.taken sink.old) (T.taken sink.new) (T.failures sink.old) (T.failures sink.new) result }
+    ensures host { BlamesFor (view request.entry) (loader.new ≡ loader.old) (maker.new ≡ maker.old) (L.failures loader.old) (L.failures loader.new)
+        (M.failures maker.old) (M.failures maker.new) result }
 {
     match request {
         Request::Scan { options, image } => scan::<E, _, _>(rt, options, image, sink),
@@ -163,7 +176,7 @@ fn run_in_order<'a, E: Order, R: Files + AllocGlobal, T: Sink>(
                 blocks,
                 output,
             };
-            build::<E, _, _>(rt, target, listing, text, sink)
+            build::<E, _, _, _>(rt.alloc(), loader, maker, target, listing, text, sink)
         }
         Request::Append {
             options,
@@ -177,36 +190,57 @@ fn run_in_order<'a, E: Order, R: Files + AllocGlobal, T: Sink>(
                 blocks,
                 output,
             };
-            append::<E, _, _>(rt, target, image, listing, text, sink)
+            append::<E, _, _, _>(
+                rt.alloc(),
+                loader,
+                maker,
+                target,
+                image,
+                listing,
+                text,
+                sink,
+            )
         }
     }
 }
 
 /// Runs the request in the byte order that it names, and answers how much was found.
-fn run_request<'a, R: Files + AllocGlobal, T: Sink>(
+fn run_request<'a, R: Files + AllocGlobal, L: Loader, M: Maker, T: Sink>(
     rt: &R,
+    loader: &mut L,
+    maker: &mut M,
     request: Request<'a>,
     text: &'a mut Vec<u8>,
     sink: &mut T,
 ) -> Result<u64, ProgramFault<'a>>
-    ensures { Meets (options_of request.entry).endian (view request.entry) (T.taken sink.old) (T.taken sink.new) (T.failures sink.old) (T.failures sink.new) result }
+    ensures meets { Meets (options_of request.entry).endian (view request.entry) (T.taken sink.old) (T.taken sink.new) (T.failures sink.old) (T.failures sink.new) result }
+    ensures host { BlamesFor (view request.entry) (loader.new ≡ loader.old) (maker.new ≡ maker.old) (L.failures loader.old) (L.failures loader.new)
+        (M.failures maker.old) (M.failures maker.new) result }
 {
     match request.options().endian {
-        Endian::Little => run_in_order::<LittleEndian, _, _>(rt, request, text, sink),
-        Endian::Big => run_in_order::<BigEndian, _, _>(rt, request, text, sink),
+        Endian::Little => {
+            run_in_order::<LittleEndian, _, _, _, _>(rt, loader, maker, request, text, sink)
+        }
+        Endian::Big => {
+            run_in_order::<BigEndian, _, _, _, _>(rt, loader, maker, request, text, sink)
+        }
     }
 }
 
 /// Runs the request. What was put goes out, also before a fault.
-fn run_whole<'a, R: Files + AllocGlobal, T: Output>(
+fn run_whole<'a, R: Files + AllocGlobal, L: Loader, M: Maker, T: Output>(
     rt: &R,
+    loader: &mut L,
+    maker: &mut M,
     request: Request<'a>,
     text: &'a mut Vec<u8>,
     output: &mut T,
 ) -> Result<u64, ProgramFault<'a>>
-    ensures { MeetsWhole (view request.entry) (T.taken output.old) (T.given output.new) (T.failures output.old) (T.failures output.new) result }
+    ensures meets { MeetsWhole (view request.entry) (T.taken output.old) (T.given output.new) (T.failures output.old) (T.failures output.new) result }
+    ensures host { BlamesFor (view request.entry) (loader.new ≡ loader.old) (maker.new ≡ maker.old) (L.failures loader.old) (L.failures loader.new)
+        (M.failures maker.old) (M.failures maker.new) result }
 {
-    let answer = run_request(rt, request, text, output);
+    let answer = run_request(rt, loader, maker, request, text, output);
     let finished = output.finish();
     let findings = answer?;
     match finished {
@@ -242,16 +276,20 @@ fn as_success(request: &Request<'_>, findings: u64) -> Success
 }
 
 /// Answers a command line.
-fn run_command<'a, R: Files + AllocGlobal, T: Output>(
+fn run_command<'a, R: Files + AllocGlobal, L: Loader, M: Maker, T: Output>(
     rt: &R,
+    loader: &mut L,
+    maker: &mut M,
     command: Result<Request<'a>, RequestFault>,
     text: &'a mut Vec<u8>,
     output: &mut T,
 ) -> Result<Success, Stop<'a>>
-    ensures { MeetsCommand command.entry (T.taken output.old) (T.given output.new) (T.failures output.old) (T.failures output.new) result }
+    ensures meets { MeetsCommand command.entry (T.taken output.old) (T.given output.new) (T.failures output.old) (T.failures output.new) result }
+    ensures host { BlamesCommand command.entry (loader.new ≡ loader.old) (maker.new ≡ maker.old) (L.failures loader.old) (L.failures loader.new)
+        (M.failures maker.old) (M.failures maker.new) result }
 {
     match command {
-        Ok(request) => match run_whole(rt, request, text, output) {
+        Ok(request) => match run_whole(rt, loader, maker, request, text, output) {
             Ok(findings) => Ok(as_success(&request, findings)),
             Err(fault) => Err(Stop::Fault(fault)),
         },
@@ -296,19 +334,33 @@ fn note<E: Sink>(findings: u64, errors: &mut E) -> Outcome
 }
 
 /// Runs the program on its arguments, of which the first is its own name.
-pub fn run<R: Files + AllocGlobal, T: Output, E: Sink>(
+pub fn run<R: Files + AllocGlobal, L: Loader, M: Maker, T: Output, E: Sink>(
     rt: &R,
+    loader: &mut L,
+    maker: &mut M,
     args: &[&str],
     output: &mut T,
     errors: &mut E,
 ) -> Outcome
     // The words make a request, whose answer goes out, or are answered by a text. A fault is one that is due, and is told
     // in one line; `ls` and `cat` note what they passed over.
-    ensures { Runs (map (λ w. w.now) args.now) (T.taken output.old) (T.given output.new) (T.failures output.old) (T.failures output.new)
+    ensures runs { Runs (map (λ w. w.now) args.now) (T.taken output.old) (T.given output.new) (T.failures output.old) (T.failures output.new)
         (Says (errors.new ≡ errors.old) (E.taken errors.old) (E.taken errors.new) (E.failures errors.old) (E.failures errors.new)) result }
+    // What is told of the host's files is so.
+    ensures host { (ran : Runs (map (λ w. w.now) args.now) (T.taken output.old) (T.given output.new) (T.failures output.old) (T.failures output.new)
+        (Says (errors.new ≡ errors.old) (E.taken errors.old) (E.taken errors.new) (E.failures errors.old) (E.failures errors.new)) result)
+        × BlamesCommand ran.command (loader.new ≡ loader.old) (maker.new ≡ maker.old) (L.failures loader.old) (L.failures loader.new)
+        (M.failures maker.old) (M.failures maker.new) ran.answer }
 {
     let mut text = Vec::new(rt.alloc());
-    match run_command(rt, request(rt.alloc(), args), &mut text, output) {
+    match run_command(
+        rt,
+        loader,
+        maker,
+        request(rt.alloc(), args),
+        &mut text,
+        output,
+    ) {
         Ok(Success::Found(findings)) => Outcome::of(findings),
         Ok(Success::Shown(findings)) => note(findings, errors),
         Err(Stop::Usage { text }) => report_usage(text.as_str(), errors),

@@ -1,11 +1,13 @@
 //! Writing an image to a file of the host: a listing's operations on a base.
-ghost use Rattle.std.specs.Prelude.{◌≡◌, ℕ, List, Ok, IfOk, IfErr, map, slice_get};
+ghost use Rattle.std.specs.Prelude.{◌≡◌, ℕ, List, Option, Ok, IfOk, IfErr, OnOk, map, option_map, slice_get};
 ghost use Rattle.jmount.specs.Mounts.{IsMountOf};
 ghost use Rattle.jlisting.specs.Listing.{lines_of};
+ghost use Rattle.jffs2_image.specs.Host.{AreOf, AreRead, Blames, BlamesMaker, IsHandedBack, IsMadeUntil, IsMakeFault, IsReadFault, RunsFiles};
 ghost use Rattle.jffs2_image.specs.Writes.{IsMade, IsNotGoneOn, IsNotMade, IsPartUnread, IsPut, IsUnread, Writes};
 
-use crate::output::{BufferedOutput, Output};
-use flashbase::{FromReader, Sink, load};
+use crate::host::{FileFault, Loader, MakeFault, Maker};
+use crate::output::Output;
+use flashbase::Sink;
 use jbuild::{Parts, emit, operations, put_accepted};
 use jlisting::{Line, listing};
 use jlog::{RunReport, SessionFault, resume_at};
@@ -15,8 +17,6 @@ use jreport::ProgramFault;
 use jscan::{GREATEST_IMAGE, Geometry};
 use jsteps::Op;
 use std::alloc::{AllocError, Global};
-use std::fs;
-use std::rt::Files;
 
 /// The flash that is written, and the file that holds its bytes.
 #[derive(Clone, Copy)]
@@ -27,30 +27,36 @@ pub struct Target<'a> {
 }
 
 /// The bytes of a file.
-pub fn load_file<'a, R: Files + AllocGlobal>(
-    rt: &R,
-    name: &'a str,
-) -> Result<Vec<u8>, ProgramFault<'a>>
-    ensures { IfErr result (λ fault. IsUnread name.entry.now fault) }
+pub fn load_file<'a, L: Loader>(loader: &mut L, name: &'a str) -> Result<Vec<u8>, ProgramFault<'a>>
+    ensures unread { IfErr result (λ fault. IsUnread name.entry.now fault) }
+    ensures bytes { IfOk result (λ bytes. AreOf (L.told loader.old name.entry.now) bytes.items) }
+    ensures read { OnOk result (L.failures loader.new ≡ L.failures loader.old) }
+    ensures fault { IfErr result (λ fault. IsReadFault (L.failures loader.old) (L.failures loader.new) fault) }
+    ensures stays { (other : List ℕ) → L.told loader.new other ≡ L.told loader.old other }
 {
-    match fs::open(rt, name) {
-        Ok(file) => Ok(load(rt.alloc(), &mut FromReader::new(file), GREATEST_IMAGE)?),
-        Err(_) => Err(ProgramFault::File(name)),
+    match loader.load(name, GREATEST_IMAGE) {
+        Ok(bytes) => Ok(bytes),
+        Err(FileFault::NotOpened) => Err(ProgramFault::File(name)),
+        Err(FileFault::Load(fault)) => Err(ProgramFault::Load(fault)),
     }
 }
 
 /// The files that a listing names, each of which is read once.
-fn load_parts<'a, R: Files + AllocGlobal>(
-    rt: &R,
+fn load_parts<'a, L: Loader>(
+    alloc: Global,
+    loader: &mut L,
     lines: &[Line<'a>],
 ) -> Result<Parts<'a>, ProgramFault<'a>>
-    ensures { IfErr result (λ fault. IsPartUnread lines.now fault) }
+    ensures unread { IfErr result (λ fault. IsPartUnread lines.now fault) }
+    ensures parts { IfOk result (λ parts. AreRead (L.told loader.old) lines.now parts) }
+    ensures read { OnOk result (L.failures loader.new ≡ L.failures loader.old) }
+    ensures fault { IfErr result (λ fault. IsReadFault (L.failures loader.old) (L.failures loader.new) fault) }
 {
-    let mut parts = Parts::new(rt.alloc());
+    let mut parts = Parts::new(alloc);
     for line in lines {
         if let Some(name) = line.action.file() {
             if !parts.has(name) {
-                parts.insert(name, load_file(rt, name)?)?;
+                parts.insert(name, load_file(loader, name)?)?;
             }
         }
     }
@@ -71,36 +77,39 @@ fn number_at(numbers: &[usize], i: usize) -> Option<usize>
     numbers.get(i).copied()
 }
 
-/// Puts out a base and what operations on it make, to the last byte. Answers what was done.
+/// Puts out a base and what operations on it make, to the last byte. Answers what was done. Where the output failed it is
+/// handed back.
 fn put_image<E: Order, S: Output>(
     alloc: Global,
     mounted: &Mounted<'_>,
     target: Target<'_>,
     ops: &[Op<'_>],
     output: S,
-) -> Result<(S, RunReport), SessionFault>
+) -> Result<(S, RunReport), (SessionFault, Option<S>)>
     requires { IsMountOf E.order target.geometry.block mounted.now }
     ensures put { IfOk result (λ done. IsPut E.order target.entry.geometry.block target.entry.blocks mounted.now ops.now done.1.accepted done.1.places.items done.1.stopped
         (S.taken output) (S.given done.0) (S.failures output) (S.failures done.0)) }
-    ensures fault { IfErr result (λ fault. IsNotGoneOn E.order target.entry.geometry.block target.entry.blocks mounted.now fault) }
+    ensures fault { IfErr result (λ refused. IsNotGoneOn E.order target.entry.geometry.block target.entry.blocks mounted.now refused.0) }
+    ensures back { IfErr result (λ refused. IsHandedBack (S.failures output) refused.0 (option_map (λ back. S.failures back) refused.1)) }
 {
     match emit::<E, S>(alloc, mounted, target.geometry, target.blocks, ops, output) {
         Ok((mut output, report)) => match output.finish() {
             Ok(()) => Ok((output, report)),
-            Err(_) => Err(SessionFault::Sink),
+            Err(_) => Err((SessionFault::Sink, Some(output))),
         },
-        Err((fault, output)) => {
-            if let Some(mut output) = output {
+        Err((fault, mut output)) => {
+            if let Some(output) = &mut output {
                 let _ = output.finish();
             }
-            Err(fault)
+            Err((fault, output))
         }
     }
 }
 
 /// Makes the file of an image, and puts out a base and what operations on it make. Answers what was done.
-fn make_image<'a, E: Order, R: Files + AllocGlobal>(
-    rt: &R,
+fn make_image<'a, E: Order, M: Maker>(
+    alloc: Global,
+    maker: &mut M,
     target: Target<'a>,
     mounted: &Mounted<'_>,
     ops: &[Op<'_>],
@@ -108,35 +117,50 @@ fn make_image<'a, E: Order, R: Files + AllocGlobal>(
     requires { IsMountOf E.order target.geometry.block mounted.now }
     ensures made { IfOk result (λ report. IsMade E.order target.entry.geometry.block target.entry.blocks mounted.now ops.now report.accepted report.places.items report.stopped) }
     ensures fault { IfErr result (λ fault. IsNotMade E.order target.entry.geometry.block target.entry.blocks mounted.now target.entry.output.now fault) }
+    ensures stopped { IfOk result (λ report. IsMadeUntil (M.failures maker.old) (M.failures maker.new) report.stopped) }
+    ensures failed { IfErr result (λ fault. IsMakeFault (M.failures maker.old) (M.failures maker.new) fault) }
 {
-    let Ok(file) = fs::create(rt, target.output) else {
-        return Err(ProgramFault::File(target.output));
+    let output = match maker.make(target.output) {
+        Ok(output) => output,
+        Err(MakeFault::NotMade) => return Err(ProgramFault::File(target.output)),
+        Err(MakeFault::OutOfMemory) => return Err(ProgramFault::OutOfMemory),
     };
-    let Ok(output) = BufferedOutput::new(rt.alloc(), file) else {
-        return Err(ProgramFault::OutOfMemory);
-    };
-    let (_, report) = put_image::<E, _>(rt.alloc(), mounted, target, ops, output)?;
-    Ok(report)
+    match put_image::<E, M::Made>(alloc, mounted, target, ops, output) {
+        Ok((output, report)) => {
+            maker.take_back(output);
+            Ok(report)
+        }
+        Err((fault, output)) => {
+            if let Some(output) = output {
+                maker.take_back(output);
+            }
+            Err(ProgramFault::from(fault))
+        }
+    }
 }
 
 /// Writes an image: the operations of a listing's lines, on a base. What they did is told in a line.
-fn write_lines<'a, 'p, 'b: 'p, E: Order, R: Files + AllocGlobal, T: Sink>(
-    rt: &R,
+fn write_lines<'a, 'p, 'b: 'p, E: Order, M: Maker, T: Sink>(
+    alloc: Global,
+    maker: &mut M,
     target: Target<'a>,
     base: &[u8],
     lines: Vec<Line<'b>>,
     parts: &'p Parts<'_>,
     sink: &mut T,
 ) -> Result<(), ProgramFault<'a>>
-    ensures { (text : List ℕ) → lines_of text ≡ Ok lines.entry.items
+    ensures writes { (text : List ℕ) → lines_of text ≡ Ok lines.entry.items
         → Writes E.order target.entry.geometry.block target.entry.blocks target.entry.output.now base.now text
         (T.taken sink.old) (T.taken sink.new) (T.failures sink.old) (T.failures sink.new) result }
+    ensures files { (told : List ℕ → Option (List ℕ)) → (text : List ℕ) → lines_of text ≡ Ok lines.entry.items → AreRead told lines.entry.items parts.entry.now
+        → RunsFiles told E.order target.entry.geometry.block target.entry.blocks base.now text (T.taken sink.old) (T.taken sink.new) result }
+    ensures maker { BlamesMaker (maker.new ≡ maker.old) (M.failures maker.old) (M.failures maker.new) result }
 {
-    let numbers = numbers_of(rt.alloc(), &lines)?;
-    let ops = operations(rt.alloc(), lines, parts)?;
-    let mounted = mount::<E>(rt.alloc(), base, target.geometry)?;
+    let numbers = numbers_of(alloc, &lines)?;
+    let ops = operations(alloc, lines, parts)?;
+    let mounted = mount::<E>(alloc, base, target.geometry)?;
     let from = resume_at::<E>(&mounted, target.geometry, target.blocks)?;
-    let report = make_image::<E, R>(rt, target, &mounted, &ops)?;
+    let report = make_image::<E, M>(alloc, maker, target, &mounted, &ops)?;
     if let Some(fault) = report.stopped {
         let line = number_at(&numbers, report.accepted);
         return Err(ProgramFault::Session { fault, line });
@@ -147,17 +171,23 @@ fn write_lines<'a, 'p, 'b: 'p, E: Order, R: Files + AllocGlobal, T: Sink>(
 
 /// Writes an image: the operations of a listing's text, on a base. What they did is told in a line. The file is made only
 /// after all was judged that can be before a byte is written.
-pub fn write_image<'a, E: Order, R: Files + AllocGlobal, T: Sink>(
-    rt: &R,
+pub fn write_image<'a, E: Order, L: Loader, M: Maker, T: Sink>(
+    alloc: Global,
+    loader: &mut L,
+    maker: &mut M,
     target: Target<'a>,
     base: &[u8],
     text: &'a [u8],
     sink: &mut T,
 ) -> Result<(), ProgramFault<'a>>
-    ensures { Writes E.order target.entry.geometry.block target.entry.blocks target.entry.output.now base.now text.now
+    ensures writes { Writes E.order target.entry.geometry.block target.entry.blocks target.entry.output.now base.now text.now
         (T.taken sink.old) (T.taken sink.new) (T.failures sink.old) (T.failures sink.new) result }
+    // Each file that a line names was read: its operation has the bytes that it has on the host.
+    ensures files { RunsFiles (L.told loader.old) E.order target.entry.geometry.block target.entry.blocks base.now text.now (T.taken sink.old) (T.taken sink.new) result }
+    // Files are blamed only where they failed, and the image's is made only after all else was judged.
+    ensures host { Blames (maker.new ≡ maker.old) (L.failures loader.old) (L.failures loader.new) (M.failures maker.old) (M.failures maker.new) result }
 {
-    let lines = listing(rt.alloc(), text)?;
-    let parts = load_parts(rt, &lines)?;
-    write_lines::<E, R, T>(rt, target, base, lines, &parts, sink)
+    let lines = listing(alloc, text)?;
+    let parts = load_parts(alloc, loader, &lines)?;
+    write_lines::<E, M, T>(alloc, maker, target, base, lines, &parts, sink)
 }

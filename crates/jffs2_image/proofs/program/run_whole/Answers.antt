@@ -13,28 +13,28 @@ options_are_parsed (request.Cat options image path) = refl
 options_are_parsed (request.Build options blocks listing output) = refl
 options_are_parsed (request.Append options blocks image listing output) = refl
 
-pub returns-in-Ok : goal.returns-in-Ok
-returns-in-Ok g c =
+pub returns-in-Ok-clause-meets : goal.returns-in-Ok-clause-meets
+returns-in-Ok-clause-meets g c =
     let was : c.run_request-answer.result ≡ Ok c.in_ok-findings.findings = search rules in
     record {
       taken = g.T.Sink.taken c.run_request-answer.new.sink;
       count = g.T.Sink.failures c.run_request-answer.new.sink;
       answer = Ok c.in_ok-findings.findings;
       finished = true;
-      meets = rw (options_are_parsed c.args.request) (rw was at c.run_request-answer.ensures);
+      meets = rw (options_are_parsed c.args.request) (rw was at c.run_request-answer.ensures.meets);
       finishes = (c.in-Ok.ensures.given, c.in-Ok.ensures.count);
       comes_to = refl;
     }
 
-pub returns-in-Err : goal.returns-in-Err
-returns-in-Err g c =
+pub returns-in-Err-clause-meets : goal.returns-in-Err-clause-meets
+returns-in-Err-clause-meets g c =
     let was : c.run_request-answer.result ≡ Ok c.in_ok-findings.findings = search rules in
     record {
       taken = g.T.Sink.taken c.run_request-answer.new.sink;
       count = g.T.Sink.failures c.run_request-answer.new.sink;
       answer = Ok c.in_ok-findings.findings;
       finished = false;
-      meets = rw (options_are_parsed c.args.request) (rw was at c.run_request-answer.ensures);
+      meets = rw (options_are_parsed c.args.request) (rw was at c.run_request-answer.ensures.meets);
       finishes = c.in-Err.ensures.count;
       comes_to = refl;
     }

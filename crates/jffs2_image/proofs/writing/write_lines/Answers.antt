@@ -15,10 +15,12 @@ use Rattle.std.proofs.Common.{refl}
 use Rattle.std.proofs.lemmas.Option.{slice_get-map}
 use Rattle.jffs2_image.specs.Writes.{IsMade, IsSessionFault}
 use Rattle.jffs2_image.proofs.WritingLemmas.{not_resumed, not_made, run_on, stopped_at, told, told_in_part, writes_fault, goes_on_from}
+use Rattle.jffs2_image.specs.Host.{IsMadeUntil}
+use Rattle.jffs2_image.proofs.HostLemmas.{files_in_part, files_not_made, files_of_all, files_until, make_fault, maker_fault, run_fault}
 use Rattle.jffs2_image.proofs.writing.write_lines.Goals as goal
 
-pub returns-in_err-from : goal.returns-in_err-from
-returns-in_err-from g c = λ text read.
+pub returns-in_err-from-clause-writes : goal.returns-in_err-from-clause-writes
+returns-in_err-from-clause-writes g c = λ text read.
     let e = g.E.Order.order in
     let a = c.args in
     let m = c.in_ok-mounted.mounted in
@@ -27,8 +29,8 @@ returns-in_err-from g c = λ text read.
     writes_fault e a.target.geometry.block a.target.blocks a.target.output.now a.base.now text _ _ _ _ (program.Session c.in_err-from.field-0.0 None) _ c.from_residual-in_err-from.ensures.1
     (not_resumed e a.target.geometry.block a.target.blocks a.target.output.now a.base.now text m c.in_err-from.field-0.0 _ _ mounts refused)
 
-pub returns-in_err-report : goal.returns-in_err-report
-returns-in_err-report g c = λ text read.
+pub returns-in_err-report-clause-writes : goal.returns-in_err-report-clause-writes
+returns-in_err-report-clause-writes g c = λ text read.
     let e = g.E.Order.order in
     let a = c.args in
     let m = c.in_ok-mounted.mounted in
@@ -36,8 +38,8 @@ returns-in_err-report g c = λ text read.
     writes_fault e a.target.geometry.block a.target.blocks a.target.output.now a.base.now text _ _ _ _ c.in_err-report.field-0.0 _ c.from_residual-in_err-report.ensures.1
     (not_made e a.target.geometry.block a.target.blocks a.target.output.now a.base.now text m c.in_err-report.field-0.0 _ _ mounts c.in_err-report.ensures.fault)
 
-pub returns-in-Some : goal.returns-in-Some
-returns-in-Some g c = λ text read.
+pub returns-in-Some-clause-writes : goal.returns-in-Some-clause-writes
+returns-in-Some-clause-writes g c = λ text read.
     let e = g.E.Order.order in
     let a = c.args in
     let m = c.in_ok-mounted.mounted in
@@ -58,8 +60,8 @@ returns-in-Some g c = λ text read.
       refl,
     )
 
-pub returns-in_err-put_accepted : goal.returns-in_err-put_accepted
-returns-in_err-put_accepted g c = λ text read.
+pub returns-in_err-put_accepted-clause-writes : goal.returns-in_err-put_accepted-clause-writes
+returns-in_err-put_accepted-clause-writes g c = λ text read.
     let e = g.E.Order.order in
     let a = c.args in
     let m = c.in_ok-mounted.mounted in
@@ -79,8 +81,8 @@ returns-in_err-put_accepted g c = λ text read.
     (told_in_part e a.target.geometry.block a.target.blocks a.target.output.now a.base.now text a.lines.items r.accepted r.places.items c.in_ok-from.from _ _ _ _ from run
     (subst (λ (l : List Place). PutsPart (g.T.Sink.taken a.sink.now) (g.T.Sink.taken c.put_accepted.new.sink) (accepted_line c.in_ok-from.from r.accepted l)) c.deref-3.ensures.value put.0) put.1)
 
-pub returns : goal.returns
-returns g c = λ text read.
+pub returns-clause-writes : goal.returns-clause-writes
+returns-clause-writes g c = λ text read.
     let e = g.E.Order.order in
     let a = c.args in
     let m = c.in_ok-mounted.mounted in
@@ -98,3 +100,84 @@ returns g c = λ text read.
     let put = c.in_ok-put_accepted.ensures in
     told e a.target.geometry.block a.target.blocks a.target.output.now a.base.now text a.lines.items r.accepted r.places.items c.in_ok-from.from _ _ _ _ _ from run
     (subst (λ (l : List Place). Appends (g.T.Sink.taken a.sink.now) (g.T.Sink.taken c.put_accepted.new.sink) (accepted_line c.in_ok-from.from r.accepted l)) c.deref-3.ensures.value put.0) put.1
+
+pub returns-in_err-report-clause-maker : goal.returns-in_err-report-clause-maker
+returns-in_err-report-clause-maker g c =
+    let e = g.E.Order.order in
+    let a = c.args in
+    let m = c.in_ok-mounted.mounted in
+    let at : resumes_at e a.target.geometry.block a.target.blocks m ≡ Ok c.in_ok-from.from = search rules in
+    maker_fault _ _ _ c.in_err-report.field-0.0 _ c.from_residual-in_err-report.ensures.1
+    (make_fault e a.target.geometry.block a.target.blocks m a.target.output.now c.in_ok-from.from _ _ _ c.in_err-report.field-0.0 at c.in_err-report.ensures.fault c.in_err-report.ensures.failed)
+
+pub returns-in-Some-clause-maker : goal.returns-in-Some-clause-maker
+returns-in-Some-clause-maker g c =
+    let e = g.E.Order.order in
+    let a = c.args in
+    let m = c.in_ok-mounted.mounted in
+    let r = c.in_ok-report.report in
+    let stopped : r.stopped ≡ Some c.in-Some.fault = search rules in
+    run_fault e a.target.geometry.block a.target.blocks m c.deref-2.result.now r.accepted r.places.items _ _ _ c.in-Some.fault _
+    (subst (λ s. IsMade e a.target.geometry.block a.target.blocks m c.deref-2.result.now r.accepted r.places.items s) stopped c.in_ok-report.ensures.made)
+    (subst (λ s. IsMadeUntil (g.M.Maker.failures a.maker.now) (g.M.Maker.failures c.make_image.new.maker) s) stopped c.in_ok-report.ensures.stopped)
+
+pub returns-clause-files : goal.returns-clause-files
+returns-clause-files g c = λ known text read are.
+    let e = g.E.Order.order in
+    let a = c.args in
+    let m = c.in_ok-mounted.mounted in
+    let r = c.in_ok-report.report in
+    let mounts : Answers e a.target.geometry.block a.base.now (Ok m) = search rules in
+    let same : c.deref-2.result.now ≡ ops_in (contents a.parts.now) a.lines.items = search rules in
+    let image : m.image ≡ a.base.now = search rules in
+    let at : resumes_at e a.target.geometry.block a.target.blocks m ≡ Ok c.in_ok-from.from = search rules in
+    let stopped : r.stopped ≡ None = search rules in
+    let made : IsMade e a.target.geometry.block a.target.blocks m (ops_in (contents a.parts.now) a.lines.items) r.accepted r.places.items None =
+    subst (λ (o : List Op). IsMade e a.target.geometry.block a.target.blocks m o r.accepted r.places.items None) same
+    (subst (λ s. IsMade e a.target.geometry.block a.target.blocks m c.deref-2.result.now r.accepted r.places.items s) stopped c.in_ok-report.ensures.made) in
+    let from = goes_on_from e a.target.geometry.block a.target.blocks m c.in_ok-from.from at ∙ ap (λ (l : List ℕ). resume_address e a.target.geometry.block a.target.blocks l) image in
+    let put = c.in_ok-put_accepted.ensures in
+    files_of_all known e a.target.geometry.block a.target.blocks a.base.now text a.lines.items a.parts.now m r.accepted r.places.items c.in_ok-from.from _ _ _ from are read mounts made
+    (subst (λ (l : List Place). Appends (g.T.Sink.taken a.sink.now) (g.T.Sink.taken c.put_accepted.new.sink) (accepted_line c.in_ok-from.from r.accepted l)) c.deref-3.ensures.value put.0)
+
+pub returns-in_err-put_accepted-clause-files : goal.returns-in_err-put_accepted-clause-files
+returns-in_err-put_accepted-clause-files g c = λ known text read are.
+    let e = g.E.Order.order in
+    let a = c.args in
+    let m = c.in_ok-mounted.mounted in
+    let r = c.in_ok-report.report in
+    let mounts : Answers e a.target.geometry.block a.base.now (Ok m) = search rules in
+    let same : c.deref-2.result.now ≡ ops_in (contents a.parts.now) a.lines.items = search rules in
+    let image : m.image ≡ a.base.now = search rules in
+    let at : resumes_at e a.target.geometry.block a.target.blocks m ≡ Ok c.in_ok-from.from = search rules in
+    let stopped : r.stopped ≡ None = search rules in
+    let made : IsMade e a.target.geometry.block a.target.blocks m (ops_in (contents a.parts.now) a.lines.items) r.accepted r.places.items None =
+    subst (λ (o : List Op). IsMade e a.target.geometry.block a.target.blocks m o r.accepted r.places.items None) same
+    (subst (λ s. IsMade e a.target.geometry.block a.target.blocks m c.deref-2.result.now r.accepted r.places.items s) stopped c.in_ok-report.ensures.made) in
+    let from = goes_on_from e a.target.geometry.block a.target.blocks m c.in_ok-from.from at ∙ ap (λ (l : List ℕ). resume_address e a.target.geometry.block a.target.blocks l) image in
+    let put = c.in_err-put_accepted.ensures in
+    files_in_part known e a.target.geometry.block a.target.blocks a.base.now text a.lines.items a.parts.now m r.accepted r.places.items c.in_ok-from.from _ _ _ c.from_residual-in_err-put_accepted.ensures.1 from are read mounts made
+    (subst (λ (l : List Place). PutsPart (g.T.Sink.taken a.sink.now) (g.T.Sink.taken c.put_accepted.new.sink) (accepted_line c.in_ok-from.from r.accepted l)) c.deref-3.ensures.value put.0)
+
+pub returns-in-Some-clause-files : goal.returns-in-Some-clause-files
+returns-in-Some-clause-files g c = λ known text read are.
+    let e = g.E.Order.order in
+    let a = c.args in
+    let m = c.in_ok-mounted.mounted in
+    let r = c.in_ok-report.report in
+    let mounts : Answers e a.target.geometry.block a.base.now (Ok m) = search rules in
+    let same : c.deref-2.result.now ≡ ops_in (contents a.parts.now) a.lines.items = search rules in
+    let stopped : r.stopped ≡ Some c.in-Some.fault = search rules in
+    let numbers : c.in_ok-numbers.numbers.items ≡ map (λ l. l.number) a.lines.items = search rules in
+    let line : c.number_at-line.result ≡ slice_get c.in_ok-numbers.numbers.items r.accepted = search rules in
+    let made : IsMade e a.target.geometry.block a.target.blocks m (ops_in (contents a.parts.now) a.lines.items) r.accepted r.places.items (Some c.in-Some.fault) =
+    subst (λ (o : List Op). IsMade e a.target.geometry.block a.target.blocks m o r.accepted r.places.items (Some c.in-Some.fault)) same
+    (subst (λ s. IsMade e a.target.geometry.block a.target.blocks m c.deref-2.result.now r.accepted r.places.items s) stopped c.in_ok-report.ensures.made) in
+    let shown = line ∙ (ap (λ (l : List ℕ). slice_get l r.accepted) numbers ∙ slice_get-map (λ l. l.number) a.lines.items r.accepted) in
+    files_until known e a.target.geometry.block a.target.blocks a.base.now text a.lines.items a.parts.now m r.accepted r.places.items (g.T.Sink.taken a.sink.now) (g.T.Sink.taken a.sink.now) c.in-Some.fault _ shown are read mounts made
+
+pub returns-in_err-report-clause-files : goal.returns-in_err-report-clause-files
+returns-in_err-report-clause-files g c = λ known text read are.
+    let e = g.E.Order.order in
+    let a = c.args in
+    files_not_made known e a.target.geometry.block a.target.blocks a.target.output.now a.base.now text c.in_ok-mounted.mounted _ _ c.in_err-report.field-0.0 _ c.from_residual-in_err-report.ensures.1 c.in_err-report.ensures.fault

@@ -1,0 +1,230 @@
+-- Who is to blame for a fault, and which files were read.
+use Rattle.std.proofs.Common.{◌≡◌, ℕ, ◌+◌, ◌<◌, Bool, true, false, List, Option, Some, None, Result, Ok, Err, [], inl, inr, ⊎_elim, ◌≤◌, refl, sym, ap, subst, ◌∙◌, length, arith}
+use Rattle.std.specs.Prelude.{◌⊎◌, IsTrue, option_map, slice_get, is_some, bytes_eq, slice_index_or, if◌then◌else◌}
+use Rattle.std.specs.Option.{option_map_or}
+use Rattle.std.specs.Result.{IsErrAnd}
+use Rattle.std.proofs.lemmas.Bool.{cases_lt}
+use Rattle.std.proofs.lemmas.List.{get_or_default}
+use Rattle.std.proofs.lemmas.Slice.Eq.{bytes_eq-Decides}
+use Rattle.flashbase.specs.Device.{next_count}
+use Rattle.flashbase.specs.declared.source.LoadFault.TheVariants as load
+use Rattle.jnode.specs.declared.order.Endian.{Endian}
+use Rattle.jmount.specs.Mount.{Mount}
+use Rattle.jsteps.specs.declared.op.Op.{Op}
+use Rattle.jlisting.specs.Listing.{file_of, lines_of}
+use Rattle.jlisting.specs.declared.line.Line.{Line}
+use Rattle.std.specs.Io.KnownBytes.{Appends}
+use Rattle.flashbase.specs.Device.{PutsPart}
+use Rattle.jmount.specs.Mounts.{Answers}
+use Rattle.jlog.specs.Headline.{resume_address}
+use Rattle.jlog.specs.Resuming.{resumes_at}
+use Rattle.jlog.specs.declared.fault.SessionFault.{SessionFault}
+use Rattle.jlog.specs.declared.fault.SessionFault.TheVariants as session
+use Rattle.jlog.specs.declared.report.Place.{Place}
+use Rattle.jbuild.specs.Accepted.{accepted_line}
+use Rattle.jbuild.specs.Operations.{ops_in}
+use Rattle.jbuild.specs.Parts.{contents, read_of}
+use Rattle.jbuild.specs.declared.parts.Parts.{Parts}
+use Rattle.jreport.specs.declared.faults.ProgramFault.{ProgramFault}
+use Rattle.jreport.specs.declared.faults.ProgramFault.TheVariants as program
+use Rattle.jffs2_image.specs.Host.{AreOf, AreRead, Blames, BlamesMaker, HaveBytes, RunsFiles, IsMadeUntil, IsMakeFault, IsReadFault}
+use Rattle.jffs2_image.specs.Writes.{IsMade, IsNamed, IsNotMade, IsPartUnread, IsUnread}
+
+-- ---- the file that is made
+
+-- no file was made, or not to its end
+pub make_fault : (e : Endian) (size blocks : ℕ) (m : Mount) (output : List ℕ) (from : ℕ) (u : Type 0) (before now : ℕ) (f : ProgramFault)
+    → resumes_at e size blocks m ≡ Ok from → IsNotMade e size blocks m output f → IsMakeFault before now f → BlamesMaker {T = Unit {0}} u before now (Err f)
+make_fault e size blocks m output from u before now (program.Load f) on not made = absurd not
+make_fault e size blocks m output from u before now (program.Scan f) on not made = absurd not
+make_fault e size blocks m output from u before now (program.Mount f) on not made = absurd not
+make_fault e size blocks m output from u before now (program.File name) on not made = made
+make_fault e size blocks m output from u before now (program.Listing k) on not made = absurd not
+make_fault e size blocks m output from u before now (program.Session session.ReadOnly None) on (inl is) made = cc
+make_fault e size blocks m output from u before now (program.Session session.ReadOnly None) on (inr is) made = absurd (is.1)
+make_fault e size blocks m output from u before now (program.Session session.Geometry None) on (inl is) made = cc
+make_fault e size blocks m output from u before now (program.Session session.Geometry None) on (inr is) made = absurd (is.1)
+make_fault e size blocks m output from u before now (program.Session session.Sink None) on not made = made
+make_fault e size blocks m output from u before now (program.Session (session.Refused f) None) on not made = tt
+make_fault e size blocks m output from u before now (program.Session (session.Full a b) None) on not made = tt
+make_fault e size blocks m output from u before now (program.Session session.OutOfMemory None) on not made = tt
+make_fault e size blocks m output from u before now (program.Session session.Broken None) on not made = tt
+make_fault e size blocks m output from u before now (program.Session f (Some k)) on not made = absurd not
+make_fault e size blocks m output from u before now (program.Path f) on not made = absurd not
+make_fault e size blocks m output from u before now program.NotRegular on not made = absurd not
+make_fault e size blocks m output from u before now program.Output on not made = absurd not
+make_fault e size blocks m output from u before now program.OutOfMemory on not made = tt
+
+-- a run on it stopped
+pub run_fault : (e : Endian) (size blocks : ℕ) (m : Mount) (ops : List Op) (accepted : ℕ) (places : List Place) (u : Type 0) (before now : ℕ) (f : SessionFault) (line : Option ℕ)
+    → IsMade e size blocks m ops accepted places (Some f) → IsMadeUntil before now (Some f) → BlamesMaker {T = Unit {0}} u before now (Err (program.Session f line))
+run_fault e size blocks m ops accepted places u before now session.ReadOnly line made until = absurd (made.put.emitted.runs.5.stop)
+run_fault e size blocks m ops accepted places u before now session.Geometry line made until = absurd (made.put.emitted.runs.5.stop)
+run_fault e size blocks m ops accepted places u before now session.Sink line made until = inl until
+run_fault e size blocks m ops accepted places u before now (session.Refused f) line made until = tt
+run_fault e size blocks m ops accepted places u before now (session.Full a b) line made until = tt
+run_fault e size blocks m ops accepted places u before now session.OutOfMemory line made until = tt
+run_fault e size blocks m ops accepted places u before now session.Broken line made until = tt
+
+-- the answer is that fault
+pub maker_fault : (u : Type 0) (before now : ℕ) (f : ProgramFault) (r : Result (Unit {0}) ProgramFault)
+    → IsErrAnd r (λ is. is ≡ f) → BlamesMaker {T = Unit {0}} u before now (Err f) → BlamesMaker {T = Unit {0}} u before now r
+maker_fault u before now f (Ok x) is w = absurd is
+maker_fault u before now f (Err other) is w = subst (λ (z : ProgramFault). BlamesMaker {T = Unit {0}} u before now (Err z)) (sym is) w
+
+-- ---- both
+
+-- no file was read in vain
+pub lines_blame : (u : Type 0) (rb rn mb mn : ℕ) (r : Result (Unit {0}) ProgramFault) → rn ≡ rb → BlamesMaker u mb mn r → Blames u rb rn mb mn r
+lines_blame u rb rn mb mn (Ok x) read made = (read, made)
+lines_blame u rb rn mb mn (Err (program.Load f)) read made = absurd made
+lines_blame u rb rn mb mn (Err (program.Scan f)) read made = tt
+lines_blame u rb rn mb mn (Err (program.Mount f)) read made = made
+lines_blame u rb rn mb mn (Err (program.File name)) read made = inr made
+lines_blame u rb rn mb mn (Err (program.Listing k)) read made = absurd made
+lines_blame u rb rn mb mn (Err (program.Session session.ReadOnly line)) read made = made
+lines_blame u rb rn mb mn (Err (program.Session session.Geometry line)) read made = made
+lines_blame u rb rn mb mn (Err (program.Session session.Sink line)) read made = made
+lines_blame u rb rn mb mn (Err (program.Session (session.Refused f) line)) read made = tt
+lines_blame u rb rn mb mn (Err (program.Session (session.Full a b) line)) read made = tt
+lines_blame u rb rn mb mn (Err (program.Session session.OutOfMemory line)) read made = tt
+lines_blame u rb rn mb mn (Err (program.Session session.Broken line)) read made = tt
+lines_blame u rb rn mb mn (Err (program.Path f)) read made = tt
+lines_blame u rb rn mb mn (Err program.NotRegular) read made = tt
+lines_blame u rb rn mb mn (Err program.Output) read made = tt
+lines_blame u rb rn mb mn (Err program.OutOfMemory) read made = tt
+
+-- a file that a line names was not read
+pub parts_blame : (T : Type 0) (u : Type 0) (rb rn mb mn : ℕ) (lines : List Line) (f : ProgramFault) → u → IsPartUnread lines f → IsReadFault rb rn f → Blames {T = T} u rb rn mb mn (Err f)
+parts_blame T u rb rn mb mn lines (program.Load load.Device) still not read = (still, read)
+parts_blame T u rb rn mb mn lines (program.Load load.TooLarge) still not read = still
+parts_blame T u rb rn mb mn lines (program.Load load.OutOfMemory) still not read = still
+parts_blame T u rb rn mb mn lines (program.Scan f) still not read = absurd not
+parts_blame T u rb rn mb mn lines (program.Mount f) still not read = absurd not
+parts_blame T u rb rn mb mn lines (program.File name) still not read = inl (still, read)
+parts_blame T u rb rn mb mn lines (program.Listing k) still not read = absurd not
+parts_blame T u rb rn mb mn lines (program.Session f line) still not read = absurd not
+parts_blame T u rb rn mb mn lines (program.Path f) still not read = absurd not
+parts_blame T u rb rn mb mn lines program.NotRegular still not read = absurd not
+parts_blame T u rb rn mb mn lines program.Output still not read = absurd not
+parts_blame T u rb rn mb mn lines program.OutOfMemory still not read = tt
+
+-- a file that the words name was not read
+pub file_blame : (T : Type 0) (u : Type 0) (rb rn mb mn : ℕ) (name : List ℕ) (f : ProgramFault) → u → IsUnread name f → IsReadFault rb rn f → Blames {T = T} u rb rn mb mn (Err f)
+file_blame T u rb rn mb mn name (program.Load load.Device) still not read = (still, read)
+file_blame T u rb rn mb mn name (program.Load load.TooLarge) still not read = still
+file_blame T u rb rn mb mn name (program.Load load.OutOfMemory) still not read = still
+file_blame T u rb rn mb mn name (program.Scan f) still not read = absurd not
+file_blame T u rb rn mb mn name (program.Mount f) still not read = absurd not
+file_blame T u rb rn mb mn name (program.File other) still not read = inl (still, read)
+file_blame T u rb rn mb mn name (program.Listing k) still not read = absurd not
+file_blame T u rb rn mb mn name (program.Session f line) still not read = absurd not
+file_blame T u rb rn mb mn name (program.Path f) still not read = absurd not
+file_blame T u rb rn mb mn name program.NotRegular still not read = absurd not
+file_blame T u rb rn mb mn name program.Output still not read = absurd not
+file_blame T u rb rn mb mn name program.OutOfMemory still not read = absurd not
+
+-- a fault is none of an answer
+pub any_blame : (T : Type 0) (u : Type 0) (rb rn mb mn : ℕ) (f : ProgramFault) → Blames {T = Unit {0}} u rb rn mb mn (Err f) → Blames {T = T} u rb rn mb mn (Err f)
+any_blame T u rb rn mb mn (program.Load load.Device) w = w
+any_blame T u rb rn mb mn (program.Load load.TooLarge) w = w
+any_blame T u rb rn mb mn (program.Load load.OutOfMemory) w = w
+any_blame T u rb rn mb mn (program.Scan f) w = w
+any_blame T u rb rn mb mn (program.Mount f) w = w
+any_blame T u rb rn mb mn (program.File name) w = w
+any_blame T u rb rn mb mn (program.Listing k) w = w
+any_blame T u rb rn mb mn (program.Session session.ReadOnly line) w = w
+any_blame T u rb rn mb mn (program.Session session.Geometry line) w = w
+any_blame T u rb rn mb mn (program.Session session.Sink line) w = w
+any_blame T u rb rn mb mn (program.Session (session.Refused f) line) w = w
+any_blame T u rb rn mb mn (program.Session (session.Full a b) line) w = w
+any_blame T u rb rn mb mn (program.Session session.OutOfMemory line) w = w
+any_blame T u rb rn mb mn (program.Session session.Broken line) w = w
+any_blame T u rb rn mb mn (program.Path f) w = w
+any_blame T u rb rn mb mn program.NotRegular w = w
+any_blame T u rb rn mb mn program.Output w = w
+any_blame T u rb rn mb mn program.OutOfMemory w = w
+
+-- the answer is that fault, and a file was read before
+pub fault_blame : (T : Type 0) (u : Type 0) (rb mid rn mb mn : ℕ) (f : ProgramFault) (r : Result T ProgramFault)
+    → IsErrAnd r (λ is. is ≡ f) → mid ≡ rb → Blames {T = Unit {0}} u mid rn mb mn (Err f) → Blames {T = T} u rb rn mb mn r
+fault_blame T u rb mid rn mb mn f (Ok x) is same w = absurd is
+fault_blame T u rb mid rn mb mn f (Err other) is same w =
+    subst (λ (k : ℕ). Blames {T = T} u k rn mb mn (Err other)) same (subst (λ (z : ProgramFault). Blames {T = T} u mid rn mb mn (Err z)) (sym is) (any_blame T u mid rn mb mn f w))
+
+-- ---- files that lines name
+
+-- the files of the first n lines were read
+pub record IsReading (told : List ℕ → Option (List ℕ)) (lines : List Line) (n : ℕ) (parts : Parts) : Type 0 where
+  pub own : (name bytes : List ℕ) → read_of parts name ≡ Some bytes → AreOf (told name) bytes
+  pub each : (k : ℕ) (x : Line) (name : List ℕ) → k < n → slice_index_or lines k x ≡ x → file_of x.action ≡ Some name → IsTrue (is_some (read_of parts name))
+
+got_of : (told : Option (List ℕ)) (o : Option (List ℕ)) → IsTrue (is_some o) → ((bytes : List ℕ) → o ≡ Some bytes → AreOf told bytes) → AreOf told (option_map_or (λ bytes. bytes) o [])
+got_of told (Some bytes) is own = own bytes refl
+got_of told None is own = cc
+
+-- all
+pub all_read : (told : List ℕ → Option (List ℕ)) (lines : List Line) (n : ℕ) (parts : Parts) → IsReading told lines n parts → length lines ≤ n → AreRead told lines parts
+all_read told lines n parts was all = λ name named.
+    let is = was.each named.0 named.1 name (let below = named.2 in omega arith) named.3 named.4 in
+    (is, got_of (told name) (read_of parts name) is (was.own name))
+
+-- so they are those of the operations that were run
+have_bytes : (told : List ℕ → Option (List ℕ)) (lines : List Line) (parts : Parts) → AreRead told lines parts → HaveBytes told lines (contents parts)
+have_bytes told lines parts are = λ name named. (are name named).1
+
+pub files_of_all : (told : List ℕ → Option (List ℕ)) (e : Endian) (size blocks : ℕ) (base text : List ℕ) (lines : List Line) (parts : Parts) (m : Mount) (accepted : ℕ) (places : List Place) (from : ℕ)
+    (old new : Option (List ℕ)) (x : Unit {0}) → from ≡ resume_address e size blocks base → AreRead told lines parts → lines_of text ≡ Ok lines → Answers e size base (Ok m)
+    → IsMade e size blocks m (ops_in (contents parts) lines) accepted places None → Appends old new (accepted_line from accepted places)
+    → RunsFiles {T = Unit {0}} told e size blocks base text old new (Ok x)
+files_of_all told e size blocks base text lines parts m accepted places from old new x is are read mounts made put = (
+  lines,
+  accepted,
+  places,
+  record { mount = m; files = contents parts; read = read; mounts = mounts; made = made },
+  have_bytes told lines parts are,
+  subst (λ (at : ℕ). Appends old new (accepted_line at accepted places)) is put,
+)
+
+pub files_in_part : (told : List ℕ → Option (List ℕ)) (e : Endian) (size blocks : ℕ) (base text : List ℕ) (lines : List Line) (parts : Parts) (m : Mount) (accepted : ℕ) (places : List Place) (from : ℕ)
+    (old new : Option (List ℕ)) (r : Result (Unit {0}) ProgramFault) → IsErrAnd r (λ is. is ≡ program.Output) → from ≡ resume_address e size blocks base → AreRead told lines parts → lines_of text ≡ Ok lines
+    → Answers e size base (Ok m) → IsMade e size blocks m (ops_in (contents parts) lines) accepted places None → PutsPart old new (accepted_line from accepted places)
+    → RunsFiles {T = Unit {0}} told e size blocks base text old new r
+files_in_part told e size blocks base text lines parts m accepted places from old new (Ok x) fault is are read mounts made put = absurd fault
+files_in_part told e size blocks base text lines parts m accepted places from old new (Err f) fault is are read mounts made put =
+    subst (λ (z : ProgramFault). RunsFiles {T = Unit {0}} told e size blocks base text old new (Err z)) (sym fault) (
+      lines,
+      accepted,
+      places,
+      record { mount = m; files = contents parts; read = read; mounts = mounts; made = made },
+      have_bytes told lines parts are,
+      subst (λ (at : ℕ). PutsPart old new (accepted_line at accepted places)) is put,
+    )
+
+pub files_until : (told : List ℕ → Option (List ℕ)) (e : Endian) (size blocks : ℕ) (base text : List ℕ) (lines : List Line) (parts : Parts) (m : Mount) (accepted : ℕ) (places : List Place)
+    (old new : Option (List ℕ)) (f : SessionFault) (line : Option ℕ) → line ≡ option_map (λ l. l.number) (slice_get lines accepted) → AreRead told lines parts → lines_of text ≡ Ok lines
+    → Answers e size base (Ok m) → IsMade e size blocks m (ops_in (contents parts) lines) accepted places (Some f)
+    → RunsFiles {T = Unit {0}} told e size blocks base text old new (Err (program.Session f line))
+files_until told e size blocks base text lines parts m accepted places old new f None is are read mounts made = tt
+files_until told e size blocks base text lines parts m accepted places old new f (Some n) is are read mounts made =
+    (lines, accepted, places, record { mount = m; files = contents parts; read = read; mounts = mounts; made = made }, have_bytes told lines parts are, sym is)
+
+-- no fault of making is one of a line
+pub files_not_made : (told : List ℕ → Option (List ℕ)) (e : Endian) (size blocks : ℕ) (output base text : List ℕ) (m : Mount) (old new : Option (List ℕ)) (f : ProgramFault) (r : Result (Unit {0}) ProgramFault)
+    → IsErrAnd r (λ is. is ≡ f) → IsNotMade e size blocks m output f → RunsFiles {T = Unit {0}} told e size blocks base text old new r
+files_not_made told e size blocks output base text m old new f (Ok x) fault not = absurd fault
+files_not_made told e size blocks output base text m old new f (Err g) fault not =
+    subst (λ (z : ProgramFault). RunsFiles {T = Unit {0}} told e size blocks base text old new (Err z)) (sym fault) (by f not)
+  where
+    by : (f : ProgramFault) → IsNotMade e size blocks m output f → RunsFiles {T = Unit {0}} told e size blocks base text old new (Err f)
+    by (program.Load f) not = tt
+    by (program.Scan f) not = tt
+    by (program.Mount f) not = tt
+    by (program.File name) not = tt
+    by (program.Listing k) not = tt
+    by (program.Session f None) not = tt
+    by (program.Session f (Some k)) not = absurd not
+    by (program.Path f) not = tt
+    by program.NotRegular not = tt
+    by program.Output not = absurd not
+    by program.OutOfMemory not = tt

@@ -1,0 +1,132 @@
+-- What a command that writes an image does with the host: the files that it reads, and the one that it makes.
+use Rattle.std.specs.Prelude.{◌≡◌, ◌⊎◌, ℕ, List, Option, Some, None, Result, Ok, Err, IfSome, IsTrue, is_some, option_map, slice_get}
+use Rattle.std.specs.Io.KnownBytes.{Appends}
+use Rattle.flashbase.specs.Device.{PutsPart, next_count}
+use Rattle.flashbase.specs.declared.source.LoadFault.TheVariants as load
+use Rattle.jlisting.specs.declared.line.Line.{Line}
+use Rattle.jlog.specs.declared.fault.SessionFault.{SessionFault}
+use Rattle.jlog.specs.declared.fault.SessionFault.TheVariants as session
+use Rattle.jnode.specs.declared.order.Endian.{Endian}
+use Rattle.jlog.specs.Headline.{resume_address}
+use Rattle.jlog.specs.declared.report.Place.{Place}
+use Rattle.jbuild.specs.Accepted.{accepted_line}
+use Rattle.jbuild.specs.Parts.{contents, read_of}
+use Rattle.jbuild.specs.declared.parts.Parts.{Parts}
+use Rattle.jcommand.specs.Parsed.{Parsed, BuildParsed, AppendParsed, view}
+use Rattle.jcommand.specs.declared.parsed.Request.{Request}
+use Rattle.jcommand.specs.declared.command_line.RequestFault.{RequestFault}
+use Rattle.jreport.specs.declared.faults.ProgramFault.{ProgramFault}
+use Rattle.jreport.specs.declared.faults.ProgramFault.TheVariants as program
+use Rattle.jffs2_image.specs.Runs.{HasFailed}
+use Rattle.jffs2_image.specs.Writes.{IsNamed, IsRunOn}
+use Rattle.jffs2_image.specs.declared.host.FileFault.{FileFault}
+use Rattle.jffs2_image.specs.declared.host.FileFault.TheVariants as file
+use Rattle.jffs2_image.specs.declared.program.Success.{Success}
+use Rattle.jffs2_image.specs.declared.program.Stop.{Stop}
+use Rattle.jffs2_image.specs.declared.program.Stop.TheVariants as stop
+
+-- ---- files that are read
+
+-- a file that was not opened, or failed while it was read, counts once
+abbrev pub CountsFile : {T : Type 0} → ℕ → ℕ → Result T FileFault → Type 0
+CountsFile before now (Ok _) = now ≡ before
+CountsFile before now (Err file.NotOpened) = now ≡ next_count before
+CountsFile before now (Err (file.Load load.Device)) = now ≡ next_count before
+CountsFile before now (Err (file.Load load.TooLarge)) = now ≡ before
+CountsFile before now (Err (file.Load load.OutOfMemory)) = now ≡ before
+
+-- the same of the program's own faults
+abbrev pub IsReadFault : ℕ → ℕ → ProgramFault → Type 0
+IsReadFault before now (program.File name) = now ≡ next_count before
+IsReadFault before now (program.Load load.Device) = now ≡ next_count before
+IsReadFault before now _ = Unit {0}
+
+-- the bytes are those of the file, where the host tells them
+abbrev pub AreOf : Option (List ℕ) → List ℕ → Type 0
+AreOf told bytes = IfSome told (λ known. bytes ≡ known)
+
+-- Each file that a line names was read, and has the bytes that it has on the host.
+abbrev pub AreRead : (List ℕ → Option (List ℕ)) → List Line → Parts → Type 0
+AreRead told lines parts = (name : List ℕ) → IsNamed lines name → IsTrue (is_some (read_of parts name)) × AreOf (told name) (contents parts name)
+
+-- files have those bytes where lines name them
+abbrev pub HaveBytes : (List ℕ → Option (List ℕ)) → List Line → (List ℕ → List ℕ) → Type 0
+HaveBytes told lines files = (name : List ℕ) → IsNamed lines name → AreOf (told name) (files name)
+
+-- The operations that were run have the bytes of the host's files: those of all lines, told in a line or in a beginning of it;
+-- or those up to the one that stopped them.
+abbrev pub RunsFiles : {T : Type 0} → (List ℕ → Option (List ℕ)) → Endian → ℕ → ℕ → List ℕ → List ℕ → Option (List ℕ) → Option (List ℕ) → Result T ProgramFault → Type 0
+RunsFiles told e size blocks base text old new (Ok _) =
+    (lines : List Line) × (accepted : ℕ) × (places : List Place) × (run : IsRunOn e size blocks base text lines accepted places None)
+    × HaveBytes told lines run.files × Appends old new (accepted_line (resume_address e size blocks base) accepted places)
+RunsFiles told e size blocks base text old new (Err program.Output) =
+    (lines : List Line) × (accepted : ℕ) × (places : List Place) × (run : IsRunOn e size blocks base text lines accepted places None)
+    × HaveBytes told lines run.files × PutsPart old new (accepted_line (resume_address e size blocks base) accepted places)
+RunsFiles told e size blocks base text old new (Err (program.Session fault (Some number))) =
+    (lines : List Line) × (accepted : ℕ) × (places : List Place) × (run : IsRunOn e size blocks base text lines accepted places (Some fault))
+    × HaveBytes told lines run.files × (option_map (λ l. l.number) (slice_get lines accepted) ≡ Some number)
+RunsFiles told e size blocks base text old new (Err _) = Unit {0}
+
+-- ---- who is to blame
+
+-- the output failed, and is handed back with a count that rose; at any other fault it may be gone
+abbrev pub IsHandedBack : ℕ → SessionFault → Option ℕ → Type 0
+IsHandedBack before session.Sink None = ⊥
+IsHandedBack before session.Sink (Some now) = HasFailed before now
+IsHandedBack before _ back = Unit {0}
+
+-- why a run on a file that was made stopped: the file failed, or it did not
+abbrev pub IsMadeUntil : ℕ → ℕ → Option SessionFault → Type 0
+IsMadeUntil before now (Some session.Sink) = now ≡ next_count before
+IsMadeUntil before now (Some fault) = Unit {0}
+IsMadeUntil before now None = now ≡ before
+
+-- why no file was made, or not to its end
+abbrev pub IsMakeFault : ℕ → ℕ → ProgramFault → Type 0
+IsMakeFault before now (program.File name) = now ≡ next_count before
+IsMakeFault before now (program.Session session.Sink line) = HasFailed before now
+IsMakeFault before now _ = Unit {0}
+
+-- By the answer: a fault of the file that is made comes only where it failed, and what is judged before comes with the file
+-- untouched.
+abbrev pub BlamesMaker : {T : Type 0} → Type 0 → ℕ → ℕ → Result T ProgramFault → Type 0
+BlamesMaker untouched before now (Ok _) = now ≡ before
+BlamesMaker untouched before now (Err (program.Mount fault)) = untouched
+BlamesMaker untouched before now (Err (program.Session session.ReadOnly line)) = untouched
+BlamesMaker untouched before now (Err (program.Session session.Geometry line)) = untouched
+BlamesMaker untouched before now (Err (program.Session session.Sink line)) = HasFailed before now
+BlamesMaker untouched before now (Err (program.File name)) = now ≡ next_count before
+BlamesMaker untouched before now (Err (program.Load fault)) = ⊥
+BlamesMaker untouched before now (Err (program.Listing n)) = ⊥
+BlamesMaker untouched before now (Err _) = Unit {0}
+
+-- By the answer: a fault of a file that is read, or of the one that is made, comes only where it failed, and what is judged
+-- before a file is made comes with none touched.
+abbrev pub Blames : {T : Type 0} → Type 0 → ℕ → ℕ → ℕ → ℕ → Result T ProgramFault → Type 0
+Blames untouched read_before read_now made_before made_now (Ok _) = (read_now ≡ read_before) × (made_now ≡ made_before)
+Blames untouched read_before read_now made_before made_now (Err (program.Listing n)) = untouched
+Blames untouched read_before read_now made_before made_now (Err (program.Mount fault)) = untouched
+Blames untouched read_before read_now made_before made_now (Err (program.Session session.ReadOnly line)) = untouched
+Blames untouched read_before read_now made_before made_now (Err (program.Session session.Geometry line)) = untouched
+Blames untouched read_before read_now made_before made_now (Err (program.Session session.Sink line)) = HasFailed made_before made_now
+Blames untouched read_before read_now made_before made_now (Err (program.File name)) =
+    (untouched × (read_now ≡ next_count read_before)) ⊎ (made_now ≡ next_count made_before)
+Blames untouched read_before read_now made_before made_now (Err (program.Load load.Device)) = untouched × (read_now ≡ next_count read_before)
+Blames untouched read_before read_now made_before made_now (Err (program.Load fault)) = untouched
+Blames untouched read_before read_now made_before made_now (Err _) = Unit {0}
+
+-- the same of a request that writes an image; any other touches nothing
+abbrev pub BlamesFor : {T : Type 0} → Parsed → Type 0 → Type 0 → ℕ → ℕ → ℕ → ℕ → Result T ProgramFault → Type 0
+BlamesFor (BuildParsed options blocks listing output) unread untouched read_before read_now made_before made_now result =
+    Blames untouched read_before read_now made_before made_now result
+BlamesFor (AppendParsed options blocks image listing output) unread untouched read_before read_now made_before made_now result =
+    Blames untouched read_before read_now made_before made_now result
+BlamesFor _ unread untouched read_before read_now made_before made_now result = unread × untouched
+
+-- the same of a command line; one that makes no request touches nothing
+abbrev pub BlamesCommand : Result Request RequestFault → Type 0 → Type 0 → ℕ → ℕ → ℕ → ℕ → Result Success Stop → Type 0
+BlamesCommand (Ok request) unread untouched read_before read_now made_before made_now (Ok ended) =
+    BlamesFor {T = Success} (view request) unread untouched read_before read_now made_before made_now (Ok ended)
+BlamesCommand (Ok request) unread untouched read_before read_now made_before made_now (Err (stop.Fault fault)) =
+    BlamesFor {T = Success} (view request) unread untouched read_before read_now made_before made_now (Err fault)
+BlamesCommand _ unread untouched read_before read_now made_before made_now _ = unread × untouched

@@ -1,0 +1,131 @@
+//! Files of the host: those that are read whole, and the one that is made.
+ghost use Rattle.std.specs.Prelude.{◌≡◌, ℕ, List, Option, IfOk, None};
+ghost use Rattle.flashbase.specs.Device.{next_count};
+ghost use Rattle.jffs2_image.specs.Host.{AreOf, CountsFile};
+
+use crate::output::{BufferedOutput, Output};
+use flashbase::{FromReader, LoadFault, load};
+use std::fs;
+use std::rt::Files;
+
+/// Why a file was not read whole.
+#[derive(Clone, Copy, Debug, PartialEq, Eq)]
+pub enum FileFault {
+    /// It can't be opened.
+    NotOpened,
+    /// It was not read to its end.
+    Load(LoadFault),
+}
+
+/// Reads files whole.
+pub trait Loader {
+    /// The bytes of the file of a name, where they are told.
+    ghost told: { Self → List ℕ → Option (List ℕ) };
+
+    /// How often a file was not opened, or failed while it was read, modulo 2^64.
+    ghost failures: { Self → ℕ };
+
+    /// The bytes of the file of a name, if they are at most `limit`.
+    fn load(&mut self, name: &str, limit: usize) -> Result<Vec<u8>, FileFault>
+        ensures bytes { IfOk result (λ bytes. AreOf (told self.old name.now) bytes.items) }
+        ensures count { CountsFile (failures self.old) (failures self.new) result }
+        ensures stays { (other : List ℕ) → told self.new other ≡ told self.old other };
+}
+
+/// Why a file was not made.
+#[derive(Clone, Copy, Debug, PartialEq, Eq)]
+pub enum MakeFault {
+    /// It can't be opened for writing.
+    NotMade,
+    OutOfMemory,
+}
+
+/// Makes files, lends them out to be written, and takes them back.
+pub trait Maker {
+    type Made: Output;
+
+    /// How often a file was not made, or failed until it was given back, modulo 2^64.
+    ghost failures: { Self → ℕ };
+
+    /// Makes the file of a name, empty, also in place of one that is there. It goes on with the count of failures.
+    fn make(&mut self, name: &str) -> Result<Self::Made, MakeFault>
+        ensures made { IfOk result (λ made. Self.Made.failures made ≡ failures self.old) }
+        ensures not_made { result ≡ Err MakeFault.NotMade → failures self.new ≡ next_count (failures self.old) };
+
+    /// Takes back a file that was made, with its count of failures.
+    fn take_back(&mut self, made: Self::Made)
+        ensures { failures self.new ≡ Self.Made.failures made };
+}
+
+/// Reads files of the system.
+#[derive(Drop)]
+pub struct FileLoader<'r, R: Files + AllocGlobal> {
+    rt: &'r R,
+    failures: u64,
+}
+
+impl<'r, R: Files + AllocGlobal> FileLoader<'r, R> {
+    pub fn new(rt: &'r R) -> Self
+        ensures { ⟦<FileLoader<'r, R> as Loader>⟧.failures result ≡ 0 }
+    {
+        FileLoader { rt, failures: 0 }
+    }
+}
+
+impl<'r, R: Files + AllocGlobal> Loader for FileLoader<'r, R> {
+    ghost told = { λ _ _. None };
+
+    ghost failures = { λ s. s.failures };
+
+    fn load(&mut self, name: &str, limit: usize) -> Result<Vec<u8>, FileFault> {
+        let Ok(file) = fs::open(self.rt, name) else {
+            self.failures = self.failures.wrapping_add(1);
+            return Err(FileFault::NotOpened);
+        };
+        match load(self.rt.alloc(), &mut FromReader::new(file), limit) {
+            Ok(bytes) => Ok(bytes),
+            Err(fault) => {
+                if fault == LoadFault::Device {
+                    self.failures = self.failures.wrapping_add(1);
+                }
+                Err(FileFault::Load(fault))
+            }
+        }
+    }
+}
+
+/// Makes files of the system, each behind a buffer.
+#[derive(Drop)]
+pub struct FileMaker<'r, R: Files + AllocGlobal> {
+    rt: &'r R,
+    failures: u64,
+}
+
+impl<'r, R: Files + AllocGlobal> FileMaker<'r, R> {
+    pub fn new(rt: &'r R) -> Self
+        ensures { ⟦<FileMaker<'r, R> as Maker>⟧.failures result ≡ 0 }
+    {
+        FileMaker { rt, failures: 0 }
+    }
+}
+
+impl<'r, R: Files + AllocGlobal> Maker for FileMaker<'r, R> {
+    type Made = BufferedOutput<R::File>;
+
+    ghost failures = { λ s. s.failures };
+
+    fn make(&mut self, name: &str) -> Result<BufferedOutput<R::File>, MakeFault> {
+        let Ok(file) = fs::create(self.rt, name) else {
+            self.failures = self.failures.wrapping_add(1);
+            return Err(MakeFault::NotMade);
+        };
+        match BufferedOutput::counting_from(self.rt.alloc(), file, self.failures) {
+            Ok(output) => Ok(output),
+            Err(_) => Err(MakeFault::OutOfMemory),
+        }
+    }
+
+    fn take_back(&mut self, made: BufferedOutput<R::File>) {
+        self.failures = made.failures();
+    }
+}
