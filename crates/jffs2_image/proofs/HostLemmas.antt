@@ -16,8 +16,9 @@ use Rattle.jlisting.specs.declared.line.Line.{Line}
 use Rattle.std.specs.Io.KnownBytes.{Appends}
 use Rattle.flashbase.specs.Device.{PutsPart}
 use Rattle.jmount.specs.Mounts.{Answers}
+use Rattle.jsteps.specs.declared.page.Page.{Page}
 use Rattle.jlog.specs.Headline.{resume_address}
-use Rattle.jlog.specs.Resuming.{resumes_at}
+use Rattle.jlog.specs.Resuming.{resumes_by}
 use Rattle.jlog.specs.declared.fault.SessionFault.{SessionFault}
 use Rattle.jlog.specs.declared.fault.SessionFault.TheVariants as session
 use Rattle.jlog.specs.declared.report.Place.{Place}
@@ -33,38 +34,38 @@ use Rattle.jffs2_image.specs.Writes.{IsMade, IsNamed, IsNotMade, IsPartUnread, I
 -- ---- the file that is made
 
 -- no file was made, or not to its end
-pub make_fault : (e : Endian) (size blocks : ℕ) (m : Mount) (output : List ℕ) (from : ℕ) (u : Type 0) (before now : ℕ) (f : ProgramFault)
-    → resumes_at e size blocks m ≡ Ok from → IsNotMade e size blocks m output f → IsMakeFault before now f → BlamesMaker {T = Unit {0}} u before now (Err f)
-make_fault e size blocks m output from u before now (program.Load f) on not made = absurd not
-make_fault e size blocks m output from u before now (program.Scan f) on not made = absurd not
-make_fault e size blocks m output from u before now (program.Mount f) on not made = absurd not
-make_fault e size blocks m output from u before now (program.File name) on not made = made
-make_fault e size blocks m output from u before now (program.Listing k) on not made = absurd not
-make_fault e size blocks m output from u before now (program.Session session.ReadOnly None) on (inl is) made = cc
-make_fault e size blocks m output from u before now (program.Session session.ReadOnly None) on (inr is) made = absurd (is.1)
-make_fault e size blocks m output from u before now (program.Session session.Geometry None) on (inl is) made = cc
-make_fault e size blocks m output from u before now (program.Session session.Geometry None) on (inr is) made = absurd (is.1)
-make_fault e size blocks m output from u before now (program.Session session.Sink None) on not made = made
-make_fault e size blocks m output from u before now (program.Session (session.Refused f) None) on not made = tt
-make_fault e size blocks m output from u before now (program.Session (session.Full a b) None) on not made = tt
-make_fault e size blocks m output from u before now (program.Session session.OutOfMemory None) on not made = tt
-make_fault e size blocks m output from u before now (program.Session session.Broken None) on not made = tt
-make_fault e size blocks m output from u before now (program.Session f (Some k)) on not made = absurd not
-make_fault e size blocks m output from u before now (program.Path f) on not made = absurd not
-make_fault e size blocks m output from u before now program.NotRegular on not made = absurd not
-make_fault e size blocks m output from u before now program.Output on not made = absurd not
-make_fault e size blocks m output from u before now program.OutOfMemory on not made = tt
+pub make_fault : (page : Page) (e : Endian) (size blocks : ℕ) (m : Mount) (output : List ℕ) (from : ℕ) (u : Type 0) (before now : ℕ) (f : ProgramFault)
+    → resumes_by page e size blocks m ≡ Ok from → IsNotMade page e size blocks m output f → IsMakeFault before now f → BlamesMaker {T = Unit {0}} u before now (Err f)
+make_fault page e size blocks m output from u before now (program.Load f) on not made = absurd not
+make_fault page e size blocks m output from u before now (program.Scan f) on not made = absurd not
+make_fault page e size blocks m output from u before now (program.Mount f) on not made = absurd not
+make_fault page e size blocks m output from u before now (program.File name) on not made = made
+make_fault page e size blocks m output from u before now (program.Listing k) on not made = absurd not
+make_fault page e size blocks m output from u before now (program.Session session.ReadOnly None) on (inl is) made = cc
+make_fault page e size blocks m output from u before now (program.Session session.ReadOnly None) on (inr is) made = absurd (is.1)
+make_fault page e size blocks m output from u before now (program.Session session.Geometry None) on (inl is) made = cc
+make_fault page e size blocks m output from u before now (program.Session session.Geometry None) on (inr is) made = absurd (is.1)
+make_fault page e size blocks m output from u before now (program.Session session.Sink None) on not made = made
+make_fault page e size blocks m output from u before now (program.Session (session.Refused f) None) on not made = tt
+make_fault page e size blocks m output from u before now (program.Session (session.Full a b) None) on not made = tt
+make_fault page e size blocks m output from u before now (program.Session session.OutOfMemory None) on not made = tt
+make_fault page e size blocks m output from u before now (program.Session session.Broken None) on not made = tt
+make_fault page e size blocks m output from u before now (program.Session f (Some k)) on not made = absurd not
+make_fault page e size blocks m output from u before now (program.Path f) on not made = absurd not
+make_fault page e size blocks m output from u before now program.NotRegular on not made = absurd not
+make_fault page e size blocks m output from u before now program.Output on not made = absurd not
+make_fault page e size blocks m output from u before now program.OutOfMemory on not made = tt
 
 -- a run on it stopped
-pub run_fault : (e : Endian) (size blocks : ℕ) (m : Mount) (ops : List Op) (accepted : ℕ) (places : List Place) (u : Type 0) (before now : ℕ) (f : SessionFault) (line : Option ℕ)
-    → IsMade e size blocks m ops accepted places (Some f) → IsMadeUntil before now (Some f) → BlamesMaker {T = Unit {0}} u before now (Err (program.Session f line))
-run_fault e size blocks m ops accepted places u before now session.ReadOnly line made until = absurd (made.put.emitted.runs.5.stop)
-run_fault e size blocks m ops accepted places u before now session.Geometry line made until = absurd (made.put.emitted.runs.5.stop)
-run_fault e size blocks m ops accepted places u before now session.Sink line made until = inl until
-run_fault e size blocks m ops accepted places u before now (session.Refused f) line made until = tt
-run_fault e size blocks m ops accepted places u before now (session.Full a b) line made until = tt
-run_fault e size blocks m ops accepted places u before now session.OutOfMemory line made until = tt
-run_fault e size blocks m ops accepted places u before now session.Broken line made until = tt
+pub run_fault : (page : Page) (e : Endian) (size blocks : ℕ) (m : Mount) (ops : List Op) (accepted : ℕ) (places : List Place) (u : Type 0) (before now : ℕ) (f : SessionFault) (line : Option ℕ)
+    → IsMade page e size blocks m ops accepted places (Some f) → IsMadeUntil before now (Some f) → BlamesMaker {T = Unit {0}} u before now (Err (program.Session f line))
+run_fault page e size blocks m ops accepted places u before now session.ReadOnly line made until = absurd (made.put.emitted.runs.5.stop)
+run_fault page e size blocks m ops accepted places u before now session.Geometry line made until = absurd (made.put.emitted.runs.5.stop)
+run_fault page e size blocks m ops accepted places u before now session.Sink line made until = inl until
+run_fault page e size blocks m ops accepted places u before now (session.Refused f) line made until = tt
+run_fault page e size blocks m ops accepted places u before now (session.Full a b) line made until = tt
+run_fault page e size blocks m ops accepted places u before now session.OutOfMemory line made until = tt
+run_fault page e size blocks m ops accepted places u before now session.Broken line made until = tt
 
 -- the answer is that fault
 pub maker_fault : (u : Type 0) (before now : ℕ) (f : ProgramFault) (r : Result (Unit {0}) ProgramFault)
@@ -173,11 +174,11 @@ all_read told lines n parts was all = λ name named.
 have_bytes : (told : List ℕ → Option (List ℕ)) (lines : List Line) (parts : Parts) → AreRead told lines parts → HaveBytes told lines (contents parts)
 have_bytes told lines parts are = λ name named. (are name named).1
 
-pub files_of_all : (told : List ℕ → Option (List ℕ)) (e : Endian) (size blocks : ℕ) (base text : List ℕ) (lines : List Line) (parts : Parts) (m : Mount) (accepted : ℕ) (places : List Place) (from : ℕ)
+pub files_of_all : (told : List ℕ → Option (List ℕ)) (page : Page) (e : Endian) (size blocks : ℕ) (base text : List ℕ) (lines : List Line) (parts : Parts) (m : Mount) (accepted : ℕ) (places : List Place) (from : ℕ)
     (old new : Option (List ℕ)) (x : Unit {0}) → from ≡ resume_address e size blocks base → AreRead told lines parts → lines_of text ≡ Ok lines → Answers e size base (Ok m)
-    → IsMade e size blocks m (ops_in (contents parts) lines) accepted places None → Appends old new (accepted_line from accepted places)
-    → RunsFiles {T = Unit {0}} told e size blocks base text old new (Ok x)
-files_of_all told e size blocks base text lines parts m accepted places from old new x is are read mounts made put = (
+    → IsMade page e size blocks m (ops_in (contents parts) lines) accepted places None → Appends old new (accepted_line from accepted places)
+    → RunsFiles {T = Unit {0}} told page e size blocks base text old new (Ok x)
+files_of_all told page e size blocks base text lines parts m accepted places from old new x is are read mounts made put = (
   lines,
   accepted,
   places,
@@ -186,13 +187,13 @@ files_of_all told e size blocks base text lines parts m accepted places from old
   subst (λ (at : ℕ). Appends old new (accepted_line at accepted places)) is put,
 )
 
-pub files_in_part : (told : List ℕ → Option (List ℕ)) (e : Endian) (size blocks : ℕ) (base text : List ℕ) (lines : List Line) (parts : Parts) (m : Mount) (accepted : ℕ) (places : List Place) (from : ℕ)
+pub files_in_part : (told : List ℕ → Option (List ℕ)) (page : Page) (e : Endian) (size blocks : ℕ) (base text : List ℕ) (lines : List Line) (parts : Parts) (m : Mount) (accepted : ℕ) (places : List Place) (from : ℕ)
     (old new : Option (List ℕ)) (r : Result (Unit {0}) ProgramFault) → IsErrAnd r (λ is. is ≡ program.Output) → from ≡ resume_address e size blocks base → AreRead told lines parts → lines_of text ≡ Ok lines
-    → Answers e size base (Ok m) → IsMade e size blocks m (ops_in (contents parts) lines) accepted places None → PutsPart old new (accepted_line from accepted places)
-    → RunsFiles {T = Unit {0}} told e size blocks base text old new r
-files_in_part told e size blocks base text lines parts m accepted places from old new (Ok x) fault is are read mounts made put = absurd fault
-files_in_part told e size blocks base text lines parts m accepted places from old new (Err f) fault is are read mounts made put =
-    subst (λ (z : ProgramFault). RunsFiles {T = Unit {0}} told e size blocks base text old new (Err z)) (sym fault) (
+    → Answers e size base (Ok m) → IsMade page e size blocks m (ops_in (contents parts) lines) accepted places None → PutsPart old new (accepted_line from accepted places)
+    → RunsFiles {T = Unit {0}} told page e size blocks base text old new r
+files_in_part told page e size blocks base text lines parts m accepted places from old new (Ok x) fault is are read mounts made put = absurd fault
+files_in_part told page e size blocks base text lines parts m accepted places from old new (Err f) fault is are read mounts made put =
+    subst (λ (z : ProgramFault). RunsFiles {T = Unit {0}} told page e size blocks base text old new (Err z)) (sym fault) (
       lines,
       accepted,
       places,
@@ -201,22 +202,22 @@ files_in_part told e size blocks base text lines parts m accepted places from ol
       subst (λ (at : ℕ). PutsPart old new (accepted_line at accepted places)) is put,
     )
 
-pub files_until : (told : List ℕ → Option (List ℕ)) (e : Endian) (size blocks : ℕ) (base text : List ℕ) (lines : List Line) (parts : Parts) (m : Mount) (accepted : ℕ) (places : List Place)
+pub files_until : (told : List ℕ → Option (List ℕ)) (page : Page) (e : Endian) (size blocks : ℕ) (base text : List ℕ) (lines : List Line) (parts : Parts) (m : Mount) (accepted : ℕ) (places : List Place)
     (old new : Option (List ℕ)) (f : SessionFault) (line : Option ℕ) → line ≡ option_map (λ l. l.number) (slice_get lines accepted) → AreRead told lines parts → lines_of text ≡ Ok lines
-    → Answers e size base (Ok m) → IsMade e size blocks m (ops_in (contents parts) lines) accepted places (Some f)
-    → RunsFiles {T = Unit {0}} told e size blocks base text old new (Err (program.Session f line))
-files_until told e size blocks base text lines parts m accepted places old new f None is are read mounts made = tt
-files_until told e size blocks base text lines parts m accepted places old new f (Some n) is are read mounts made =
+    → Answers e size base (Ok m) → IsMade page e size blocks m (ops_in (contents parts) lines) accepted places (Some f)
+    → RunsFiles {T = Unit {0}} told page e size blocks base text old new (Err (program.Session f line))
+files_until told page e size blocks base text lines parts m accepted places old new f None is are read mounts made = tt
+files_until told page e size blocks base text lines parts m accepted places old new f (Some n) is are read mounts made =
     (lines, accepted, places, record { mount = m; files = contents parts; read = read; mounts = mounts; made = made }, have_bytes told lines parts are, sym is)
 
 -- no fault of making is one of a line
-pub files_not_made : (told : List ℕ → Option (List ℕ)) (e : Endian) (size blocks : ℕ) (output base text : List ℕ) (m : Mount) (old new : Option (List ℕ)) (f : ProgramFault) (r : Result (Unit {0}) ProgramFault)
-    → IsErrAnd r (λ is. is ≡ f) → IsNotMade e size blocks m output f → RunsFiles {T = Unit {0}} told e size blocks base text old new r
-files_not_made told e size blocks output base text m old new f (Ok x) fault not = absurd fault
-files_not_made told e size blocks output base text m old new f (Err g) fault not =
-    subst (λ (z : ProgramFault). RunsFiles {T = Unit {0}} told e size blocks base text old new (Err z)) (sym fault) (by f not)
+pub files_not_made : (told : List ℕ → Option (List ℕ)) (page : Page) (e : Endian) (size blocks : ℕ) (output base text : List ℕ) (m : Mount) (old new : Option (List ℕ)) (f : ProgramFault) (r : Result (Unit {0}) ProgramFault)
+    → IsErrAnd r (λ is. is ≡ f) → IsNotMade page e size blocks m output f → RunsFiles {T = Unit {0}} told page e size blocks base text old new r
+files_not_made told page e size blocks output base text m old new f (Ok x) fault not = absurd fault
+files_not_made told page e size blocks output base text m old new f (Err g) fault not =
+    subst (λ (z : ProgramFault). RunsFiles {T = Unit {0}} told page e size blocks base text old new (Err z)) (sym fault) (by f not)
   where
-    by : (f : ProgramFault) → IsNotMade e size blocks m output f → RunsFiles {T = Unit {0}} told e size blocks base text old new (Err f)
+    by : (f : ProgramFault) → IsNotMade page e size blocks m output f → RunsFiles {T = Unit {0}} told page e size blocks base text old new (Err f)
     by (program.Load f) not = tt
     by (program.Scan f) not = tt
     by (program.Mount f) not = tt

@@ -4,6 +4,7 @@ use Rattle.std.specs.Io.KnownBytes.{Appends}
 use Rattle.flashbase.specs.Device.{PutsPart, next_count}
 use Rattle.flashbase.specs.declared.source.LoadFault.TheVariants as load
 use Rattle.jlisting.specs.declared.line.Line.{Line}
+use Rattle.jsteps.specs.declared.page.Page.{Page}
 use Rattle.jlog.specs.declared.fault.SessionFault.{SessionFault}
 use Rattle.jlog.specs.declared.fault.SessionFault.TheVariants as session
 use Rattle.jnode.specs.declared.order.Endian.{Endian}
@@ -55,17 +56,17 @@ HaveBytes told lines files = (name : List ℕ) → IsNamed lines name → AreOf 
 
 -- The operations that were run have the bytes of the host's files: those of all lines, told in a line or in a beginning of it;
 -- or those up to the one that stopped them.
-abbrev pub RunsFiles : {T : Type 0} → (List ℕ → Option (List ℕ)) → Endian → ℕ → ℕ → List ℕ → List ℕ → Option (List ℕ) → Option (List ℕ) → Result T ProgramFault → Type 0
-RunsFiles told e size blocks base text old new (Ok _) =
-    (lines : List Line) × (accepted : ℕ) × (places : List Place) × (run : IsRunOn e size blocks base text lines accepted places None)
+abbrev pub RunsFiles : {T : Type 0} → (List ℕ → Option (List ℕ)) → Page → Endian → ℕ → ℕ → List ℕ → List ℕ → Option (List ℕ) → Option (List ℕ) → Result T ProgramFault → Type 0
+RunsFiles told page e size blocks base text old new (Ok _) =
+    (lines : List Line) × (accepted : ℕ) × (places : List Place) × (run : IsRunOn page e size blocks base text lines accepted places None)
     × HaveBytes told lines run.files × Appends old new (accepted_line (resume_address e size blocks base) accepted places)
-RunsFiles told e size blocks base text old new (Err program.Output) =
-    (lines : List Line) × (accepted : ℕ) × (places : List Place) × (run : IsRunOn e size blocks base text lines accepted places None)
+RunsFiles told page e size blocks base text old new (Err program.Output) =
+    (lines : List Line) × (accepted : ℕ) × (places : List Place) × (run : IsRunOn page e size blocks base text lines accepted places None)
     × HaveBytes told lines run.files × PutsPart old new (accepted_line (resume_address e size blocks base) accepted places)
-RunsFiles told e size blocks base text old new (Err (program.Session fault (Some number))) =
-    (lines : List Line) × (accepted : ℕ) × (places : List Place) × (run : IsRunOn e size blocks base text lines accepted places (Some fault))
+RunsFiles told page e size blocks base text old new (Err (program.Session fault (Some number))) =
+    (lines : List Line) × (accepted : ℕ) × (places : List Place) × (run : IsRunOn page e size blocks base text lines accepted places (Some fault))
     × HaveBytes told lines run.files × (option_map (λ l. l.number) (slice_get lines accepted) ≡ Some number)
-RunsFiles told e size blocks base text old new (Err _) = Unit {0}
+RunsFiles told page e size blocks base text old new (Err _) = Unit {0}
 
 -- ---- who is to blame
 
@@ -117,9 +118,9 @@ Blames untouched read_before read_now made_before made_now (Err _) = Unit {0}
 
 -- the same of a request that writes an image; any other touches nothing
 abbrev pub BlamesFor : {T : Type 0} → Parsed → Type 0 → Type 0 → ℕ → ℕ → ℕ → ℕ → Result T ProgramFault → Type 0
-BlamesFor (BuildParsed options blocks listing output) unread untouched read_before read_now made_before made_now result =
+BlamesFor (BuildParsed options blocks page listing output) unread untouched read_before read_now made_before made_now result =
     Blames untouched read_before read_now made_before made_now result
-BlamesFor (AppendParsed options blocks image listing output) unread untouched read_before read_now made_before made_now result =
+BlamesFor (AppendParsed options blocks page image listing output) unread untouched read_before read_now made_before made_now result =
     Blames untouched read_before read_now made_before made_now result
 BlamesFor _ unread untouched read_before read_now made_before made_now result = unread × untouched
 

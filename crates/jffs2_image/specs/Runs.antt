@@ -34,8 +34,8 @@ options_parsed (ScanParsed options image) = options
 options_parsed (CheckParsed options image) = options
 options_parsed (ListParsed options image) = options
 options_parsed (CatParsed options image path) = options
-options_parsed (BuildParsed options blocks listing output) = options
-options_parsed (AppendParsed options blocks image listing output) = options
+options_parsed (BuildParsed options blocks page listing output) = options
+options_parsed (AppendParsed options blocks page image listing output) = options
 
 -- whether `check` found anything, as a number
 abbrev pub number_found : Bool → ℕ
@@ -53,10 +53,10 @@ PutsAnswer e (CheckParsed options name) = PutsJudged e options.geometry.block
 PutsAnswer e (ListParsed options name) = PutsListing e options.geometry.block
 PutsAnswer e (CatParsed options name word) = λ image old new before now answer.
     (path : List ℕ) × (path_of word ≡ Some path) × PutsFile e options.geometry.block image path old new before now answer
-PutsAnswer e (BuildParsed options blocks listing output) = λ image old new before now answer.
-    (image ≡ []) × ((text : List ℕ) × Writes e options.geometry.block blocks output image text old new before now answer)
-PutsAnswer e (AppendParsed options blocks name listing output) = λ image old new before now answer.
-    (text : List ℕ) × Writes e options.geometry.block blocks output image text old new before now answer
+PutsAnswer e (BuildParsed options blocks page listing output) = λ image old new before now answer.
+    (image ≡ []) × ((text : List ℕ) × Writes page e options.geometry.block blocks output image text old new before now answer)
+PutsAnswer e (AppendParsed options blocks page name listing output) = λ image old new before now answer.
+    (text : List ℕ) × Writes page e options.geometry.block blocks output image text old new before now answer
 
 -- its file can't be opened
 abbrev pub IsUnopened : List ℕ → ProgramFault → Type 0
@@ -72,8 +72,8 @@ IsEarlyFault (ListParsed options image) fault = IsUnopened image fault
 IsEarlyFault (CatParsed options image word) (program.Path find.BadPath) = path_of word ≡ None
 IsEarlyFault (CatParsed options image word) program.OutOfMemory = Unit {0}
 IsEarlyFault (CatParsed options image word) fault = IsUnopened image fault
-IsEarlyFault (BuildParsed options blocks listing output) fault = IsUnread listing fault
-IsEarlyFault (AppendParsed options blocks image listing output) fault = IsUnread image fault ⊎ IsUnread listing fault
+IsEarlyFault (BuildParsed options blocks page listing output) fault = IsUnread listing fault
+IsEarlyFault (AppendParsed options blocks page image listing output) fault = IsUnread image fault ⊎ IsUnread listing fault
 
 -- A request is met in the byte order e: there is an image of which the answer is put, or a fault comes before any is read.
 pub record Meets (e : Endian) (parsed : Parsed) (old new : Option (List ℕ)) (before now : ℕ) (answer : Result ℕ ProgramFault) : Type 0 where
@@ -110,8 +110,8 @@ success_of (ScanParsed options image) n = success.Found n
 success_of (CheckParsed options image) n = success.Found n
 success_of (ListParsed options image) n = success.Shown n
 success_of (CatParsed options image path) n = success.Shown n
-success_of (BuildParsed options blocks listing output) n = success.Shown n
-success_of (AppendParsed options blocks image listing output) n = success.Shown n
+success_of (BuildParsed options blocks page listing output) n = success.Shown n
+success_of (AppendParsed options blocks page image listing output) n = success.Shown n
 
 -- the output failed, once or twice
 abbrev pub HasFailed : ℕ → ℕ → Type 0

@@ -8,8 +8,9 @@ use Rattle.jmount.specs.Mounts.{Answers}
 use Rattle.jsteps.specs.declared.op.Op.{Op}
 use Rattle.jlisting.specs.Listing.{file_of, lines_of}
 use Rattle.jlisting.specs.declared.line.Line.{Line}
+use Rattle.jsteps.specs.declared.page.Page.{Page}
 use Rattle.jlog.specs.Headline.{resume_address}
-use Rattle.jlog.specs.Resuming.{resumes_at}
+use Rattle.jlog.specs.Resuming.{resumes_by}
 use Rattle.jlog.specs.declared.fault.SessionFault.{SessionFault}
 use Rattle.jlog.specs.declared.fault.SessionFault.TheVariants as session
 use Rattle.jlog.specs.declared.report.Place.{Place}
@@ -40,28 +41,28 @@ IsPartUnread lines _ = ⊥
 
 -- A base and operations on it were put out, and all that was taken was given on: so many were accepted, their nodes have
 -- these places, and this stopped them.
-pub record IsPut (e : Endian) (size blocks : ℕ) (m : Mount) (ops : List Op) (accepted : ℕ) (places : List Place) (stopped : Option SessionFault) (old given : Option (List ℕ)) (before now : ℕ) : Type 0 where
+pub record IsPut (page : Page) (e : Endian) (size blocks : ℕ) (m : Mount) (ops : List Op) (accepted : ℕ) (places : List Place) (stopped : Option SessionFault) (old given : Option (List ℕ)) (before now : ℕ) : Type 0 where
   pub taken : Option (List ℕ)
-  pub resumes : IsOk (resumes_at e size blocks m)
-  pub emitted : IsEmitted e size blocks m.image ops accepted places stopped old taken before now
+  pub resumes : IsOk (resumes_by page e size blocks m)
+  pub emitted : IsEmitted page e size blocks m.image ops accepted places stopped old taken before now
   pub finished : Keeps taken given
 
 -- there is a file to which they were
-pub record IsMade (e : Endian) (size blocks : ℕ) (m : Mount) (ops : List Op) (accepted : ℕ) (places : List Place) (stopped : Option SessionFault) : Type 0 where
+pub record IsMade (page : Page) (e : Endian) (size blocks : ℕ) (m : Mount) (ops : List Op) (accepted : ℕ) (places : List Place) (stopped : Option SessionFault) : Type 0 where
   pub old : Option (List ℕ)
   pub given : Option (List ℕ)
   pub before : ℕ
   pub now : ℕ
-  pub put : IsPut e size blocks m ops accepted places stopped old given before now
+  pub put : IsPut page e size blocks m ops accepted places stopped old given before now
 
 -- The lines of the listing were run on a base, with some bytes for the files that they name: so many were accepted, their
 -- nodes have these places, and this stopped them. What they did survives a stop of writing at any byte.
-pub record IsRunOn (e : Endian) (size blocks : ℕ) (base text : List ℕ) (lines : List Line) (accepted : ℕ) (places : List Place) (stopped : Option SessionFault) : Type 0 where
+pub record IsRunOn (page : Page) (e : Endian) (size blocks : ℕ) (base text : List ℕ) (lines : List Line) (accepted : ℕ) (places : List Place) (stopped : Option SessionFault) : Type 0 where
   pub mount : Mount
   pub files : List ℕ → List ℕ
   pub read : lines_of text ≡ Ok lines
   pub mounts : Answers e size base (Ok mount)
-  pub made : IsMade e size blocks mount (ops_in files lines) accepted places stopped
+  pub made : IsMade page e size blocks mount (ops_in files lines) accepted places stopped
 
 -- the file that is made failed, or memory ran out
 abbrev pub IsFaultOfMaking : SessionFault → Type 0
@@ -71,40 +72,40 @@ IsFaultOfMaking _ = ⊥
 
 -- Why no operation was run, or not to its end: the image is not gone on from; or it is, and the file that is made failed, or
 -- memory ran out.
-abbrev pub IsNotGoneOn : Endian → ℕ → ℕ → Mount → SessionFault → Type 0
-IsNotGoneOn e size blocks m fault = (resumes_at e size blocks m ≡ Err fault) ⊎ (IsOk (resumes_at e size blocks m) × IsFaultOfMaking fault)
+abbrev pub IsNotGoneOn : Page → Endian → ℕ → ℕ → Mount → SessionFault → Type 0
+IsNotGoneOn page e size blocks m fault = (resumes_by page e size blocks m ≡ Err fault) ⊎ (IsOk (resumes_by page e size blocks m) × IsFaultOfMaking fault)
 
 -- why no file was made, or not to its end
-abbrev pub IsNotMade : Endian → ℕ → ℕ → Mount → List ℕ → ProgramFault → Type 0
-IsNotMade e size blocks m output (program.File name) = name.now ≡ output
-IsNotMade e size blocks m output (program.Session fault None) = IsNotGoneOn e size blocks m fault
-IsNotMade e size blocks m output program.OutOfMemory = Unit {0}
-IsNotMade e size blocks m output _ = ⊥
+abbrev pub IsNotMade : Page → Endian → ℕ → ℕ → Mount → List ℕ → ProgramFault → Type 0
+IsNotMade page e size blocks m output (program.File name) = name.now ≡ output
+IsNotMade page e size blocks m output (program.Session fault None) = IsNotGoneOn page e size blocks m fault
+IsNotMade page e size blocks m output program.OutOfMemory = Unit {0}
+IsNotMade page e size blocks m output _ = ⊥
 
 -- the fault of a session, and the line of the listing that it came to
-abbrev pub IsSessionFault : Endian → ℕ → ℕ → List ℕ → List ℕ → SessionFault → Option ℕ → Type 0
-IsSessionFault e size blocks base text fault line =
-    ((line ≡ None) × ((m : Mount) × Answers e size base (Ok m) × IsNotGoneOn e size blocks m fault))
-    ⊎ ((lines : List Line) × (accepted : ℕ) × (places : List Place) × IsRunOn e size blocks base text lines accepted places (Some fault)
+abbrev pub IsSessionFault : Page → Endian → ℕ → ℕ → List ℕ → List ℕ → SessionFault → Option ℕ → Type 0
+IsSessionFault page e size blocks base text fault line =
+    ((line ≡ None) × ((m : Mount) × Answers e size base (Ok m) × IsNotGoneOn page e size blocks m fault))
+    ⊎ ((lines : List Line) × (accepted : ℕ) × (places : List Place) × IsRunOn page e size blocks base text lines accepted places (Some fault)
     × (line ≡ option_map (λ l. l.number) (slice_get lines accepted)))
 
 -- why an image is not written, or not to its end
-abbrev pub IsWriteFault : Endian → ℕ → ℕ → List ℕ → List ℕ → List ℕ → ProgramFault → Type 0
-IsWriteFault e size blocks output base text (program.Listing n) = lines_of text ≡ Err n
-IsWriteFault e size blocks output base text (program.File name) = (name.now ≡ output) ⊎ ((lines : List Line) × (lines_of text ≡ Ok lines) × IsNamed lines name.now)
-IsWriteFault e size blocks output base text (program.Load fault) = (lines : List Line) × (lines_of text ≡ Ok lines)
-IsWriteFault e size blocks output base text (program.Mount fault) = Answers e size base (Err fault)
-IsWriteFault e size blocks output base text (program.Session fault line) = IsSessionFault e size blocks base text fault line
-IsWriteFault e size blocks output base text program.OutOfMemory = Unit {0}
-IsWriteFault e size blocks output base text _ = ⊥
+abbrev pub IsWriteFault : Page → Endian → ℕ → ℕ → List ℕ → List ℕ → List ℕ → ProgramFault → Type 0
+IsWriteFault page e size blocks output base text (program.Listing n) = lines_of text ≡ Err n
+IsWriteFault page e size blocks output base text (program.File name) = (name.now ≡ output) ⊎ ((lines : List Line) × (lines_of text ≡ Ok lines) × IsNamed lines name.now)
+IsWriteFault page e size blocks output base text (program.Load fault) = (lines : List Line) × (lines_of text ≡ Ok lines)
+IsWriteFault page e size blocks output base text (program.Mount fault) = Answers e size base (Err fault)
+IsWriteFault page e size blocks output base text (program.Session fault line) = IsSessionFault page e size blocks base text fault line
+IsWriteFault page e size blocks output base text program.OutOfMemory = Unit {0}
+IsWriteFault page e size blocks output base text _ = ⊥
 
 -- The operations of a listing's text are run on a base, and what they did is told in a line; or a fault is due, and nothing
 -- is told.
-abbrev pub Writes : {T : Type 0} → Endian → ℕ → ℕ → List ℕ → List ℕ → List ℕ → Option (List ℕ) → Option (List ℕ) → ℕ → ℕ → Result T ProgramFault → Type 0
-Writes e size blocks output base text old new before now (Ok _) =
-    (lines : List Line) × (accepted : ℕ) × (places : List Place) × IsRunOn e size blocks base text lines accepted places None
+abbrev pub Writes : {T : Type 0} → Page → Endian → ℕ → ℕ → List ℕ → List ℕ → List ℕ → Option (List ℕ) → Option (List ℕ) → ℕ → ℕ → Result T ProgramFault → Type 0
+Writes page e size blocks output base text old new before now (Ok _) =
+    (lines : List Line) × (accepted : ℕ) × (places : List Place) × IsRunOn page e size blocks base text lines accepted places None
     × Appends old new (accepted_line (resume_address e size blocks base) accepted places) × (now ≡ before)
-Writes e size blocks output base text old new before now (Err program.Output) =
-    (lines : List Line) × (accepted : ℕ) × (places : List Place) × IsRunOn e size blocks base text lines accepted places None
+Writes page e size blocks output base text old new before now (Err program.Output) =
+    (lines : List Line) × (accepted : ℕ) × (places : List Place) × IsRunOn page e size blocks base text lines accepted places None
     × PutsPart old new (accepted_line (resume_address e size blocks base) accepted places) × (now ≡ next_count before)
-Writes e size blocks output base text old new before now (Err fault) = IsWriteFault e size blocks output base text fault × (new ≡ old) × (now ≡ before)
+Writes page e size blocks output base text old new before now (Err fault) = IsWriteFault page e size blocks output base text fault × (new ≡ old) × (now ≡ before)

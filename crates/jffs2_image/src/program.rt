@@ -113,7 +113,7 @@ fn build<'a, E: Order, L: Loader, M: Maker, T: Sink>(
     sink: &mut T,
 ) -> Result<u64, ProgramFault<'a>>
     ensures meets { (options : Options) → options.geometry ≡ target.entry.geometry
-        → Meets E.order (BuildParsed options target.entry.blocks listing.entry.now target.entry.output.now) (T.taken sink.old) (T.taken sink.new) (T.failures sink.old) (T.failures sink.new) result }
+        → Meets E.order (BuildParsed options target.entry.blocks target.entry.page listing.entry.now target.entry.output.now) (T.taken sink.old) (T.taken sink.new) (T.failures sink.old) (T.failures sink.new) result }
     ensures host { Blames (maker.new ≡ maker.old) (L.failures loader.old) (L.failures loader.new) (M.failures maker.old) (M.failures maker.new) result }
 {
     *text = load_file(loader, listing)?;
@@ -134,7 +134,7 @@ fn append<'a, E: Order, L: Loader, M: Maker, T: Sink>(
     sink: &mut T,
 ) -> Result<u64, ProgramFault<'a>>
     ensures meets { (options : Options) → options.geometry ≡ target.entry.geometry
-        → Meets E.order (AppendParsed options target.entry.blocks image.entry.now listing.entry.now target.entry.output.now) (T.taken sink.old) (T.taken sink.new) (T.failures sink.old) (T.failures sink.new) result }
+        → Meets E.order (AppendParsed options target.entry.blocks target.entry.page image.entry.now listing.entry.now target.entry.output.now) (T.taken sink.old) (T.taken sink.new) (T.failures sink.old) (T.failures sink.new) result }
     ensures host { Blames (maker.new ≡ maker.old) (L.failures loader.old) (L.failures loader.new) (M.failures maker.old) (M.failures maker.new) result }
 {
     let base = load_file(loader, image)?;
@@ -168,12 +168,14 @@ fn run_in_order<'a, E: Order, R: Files + AllocGlobal, L: Loader, M: Maker, T: Si
         Request::Build {
             options,
             blocks,
+            page,
             listing,
             output,
         } => {
             let target = Target {
                 geometry: options.geometry,
                 blocks,
+                page,
                 output,
             };
             build::<E, _, _, _>(rt.alloc(), loader, maker, target, listing, text, sink)
@@ -181,6 +183,7 @@ fn run_in_order<'a, E: Order, R: Files + AllocGlobal, L: Loader, M: Maker, T: Si
         Request::Append {
             options,
             blocks,
+            page,
             image,
             listing,
             output,
@@ -188,6 +191,7 @@ fn run_in_order<'a, E: Order, R: Files + AllocGlobal, L: Loader, M: Maker, T: Si
             let target = Target {
                 geometry: options.geometry,
                 blocks,
+                page,
                 output,
             };
             append::<E, _, _, _>(

@@ -10,8 +10,8 @@ options_are_parsed (request.Scan options image) = refl
 options_are_parsed (request.Check options image) = refl
 options_are_parsed (request.List options image) = refl
 options_are_parsed (request.Cat options image path) = refl
-options_are_parsed (request.Build options blocks listing output) = refl
-options_are_parsed (request.Append options blocks image listing output) = refl
+options_are_parsed (request.Build options blocks page listing output) = refl
+options_are_parsed (request.Append options blocks page image listing output) = refl
 
 pub returns-in-Ok-clause-meets : goal.returns-in-Ok-clause-meets
 returns-in-Ok-clause-meets g c =
