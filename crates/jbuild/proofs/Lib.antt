@@ -1,2 +1,3 @@
 pub mod FrontLemmas
 pub mod EmitLemmas
+pub mod LengthLemmas

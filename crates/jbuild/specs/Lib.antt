@@ -2,3 +2,4 @@ pub mod Operations
 pub mod Parts
 pub mod Emitting
 pub mod Accepted
+pub mod Length

@@ -1,11 +1,12 @@
 //! What goes out for a base and operations on it.
 
-ghost use Rattle.std.specs.Prelude.{◌≡◌, IfOk, IfErr, OnOk, IsOk, option_map};
+ghost use Rattle.std.specs.Prelude.{◌≡◌, None, IfOk, IfErr, OnOk, IsOk, option_map};
 ghost use Rattle.flashbase.specs.Device.{Puts};
 ghost use Rattle.jmount.specs.Mounts.{IsMountOf};
 ghost use Rattle.jlog.specs.Left.{front_of};
 ghost use Rattle.jlog.specs.Resuming.{resumes_by};
 ghost use Rattle.jbuild.specs.Emitting.{IsEmitted, IsNotEmitted};
+ghost use Rattle.jbuild.specs.Length.{TellsLength};
 
 use flashbase::{PutFault, Sink, put_all};
 use jlog::{RunReport, Session, SessionFault, page_fits, put_erased, resume_at};
@@ -46,6 +47,9 @@ pub fn emit<E: Order, S: Sink>(
     ensures resumes { OnOk result (IsOk (resumes_by page E.order geometry.block blocks mounted.now)) }
     ensures emitted { IfOk result (λ done. IsEmitted page E.order geometry.block blocks mounted.now.image ops.now done.1.accepted done.1.places.items done.1.stopped
         (S.taken sink) (S.taken done.0) (S.failures sink) (S.failures done.0)) }
+    // The places end where what went out for all operations does.
+    ensures long { IfOk result (λ done. done.1.stopped ≡ None
+        → TellsLength page E.order geometry.block blocks mounted.now.image ops.now done.1.accepted done.1.places.items) }
     ensures refused { IfErr result (λ refused. IsNotEmitted page E.order geometry.block blocks mounted.now (S.taken sink) (S.failures sink) refused.0
         (option_map (λ back. (S.taken back, S.failures back)) refused.1)) }
 {

@@ -11,6 +11,7 @@
 
 mod accepted;
 mod emitting;
+pub mod laws;
 mod listed;
 mod parts;
 

@@ -22,6 +22,8 @@ use Rattle.jlog.specs.Resuming.{resumes_by}
 use Rattle.jlog.specs.declared.fault.SessionFault.{SessionFault}
 use Rattle.jlog.specs.declared.fault.SessionFault.TheVariants as session
 use Rattle.jlog.specs.declared.report.Place.{Place}
+use Rattle.jbuild.specs.Length.{TellsLength}
+use Rattle.jbuild.proofs.LengthLemmas.{goes_on_flash, line_tells_length}
 use Rattle.jbuild.specs.Accepted.{accepted_line}
 use Rattle.jbuild.specs.Operations.{ops_in}
 use Rattle.jbuild.specs.Parts.{contents, read_of}
@@ -170,21 +172,28 @@ all_read told lines n parts was all = λ name named.
     let is = was.each named.0 named.1 name (let below = named.2 in omega arith) named.3 named.4 in
     (is, got_of (told name) (read_of parts name) is (was.own name))
 
+-- the line tells the length of what went out for them
+tells_on_base : (page : Page) (e : Endian) (size blocks : ℕ) (base : List ℕ) (ops : List Op) (m : Mount) (accepted : ℕ) (places : List Place) → m.image ≡ base
+    → IsMade page e size blocks m ops accepted places None → TellsLength page e size blocks base ops accepted places
+tells_on_base page e size blocks base ops m accepted places same made = subst (λ (image : List ℕ). TellsLength page e size blocks image ops accepted places) same
+    (line_tells_length page e size blocks m.image ops accepted places _ _ _ _ (goes_on_flash page e size blocks m made.put.resumes) made.put.emitted)
+
 -- so they are those of the operations that were run
 have_bytes : (told : List ℕ → Option (List ℕ)) (lines : List Line) (parts : Parts) → AreRead told lines parts → HaveBytes told lines (contents parts)
 have_bytes told lines parts are = λ name named. (are name named).1
 
 pub files_of_all : (told : List ℕ → Option (List ℕ)) (page : Page) (e : Endian) (size blocks : ℕ) (base text : List ℕ) (lines : List Line) (parts : Parts) (m : Mount) (accepted : ℕ) (places : List Place) (from : ℕ)
-    (old new : Option (List ℕ)) (x : Unit {0}) → from ≡ resume_address e size blocks base → AreRead told lines parts → lines_of text ≡ Ok lines → Answers e size base (Ok m)
+    (old new : Option (List ℕ)) (x : Unit {0}) → m.image ≡ base → from ≡ resume_address e size blocks base → AreRead told lines parts → lines_of text ≡ Ok lines → Answers e size base (Ok m)
     → IsMade page e size blocks m (ops_in (contents parts) lines) accepted places None → Appends old new (accepted_line from accepted places)
     → RunsFiles {T = Unit {0}} told page e size blocks base text old new (Ok x)
-files_of_all told page e size blocks base text lines parts m accepted places from old new x is are read mounts made put = (
+files_of_all told page e size blocks base text lines parts m accepted places from old new x same is are read mounts made put = (
   lines,
   accepted,
   places,
   record { mount = m; files = contents parts; read = read; mounts = mounts; made = made },
   have_bytes told lines parts are,
   subst (λ (at : ℕ). Appends old new (accepted_line at accepted places)) is put,
+  tells_on_base page e size blocks base (ops_in (contents parts) lines) m accepted places same made,
 )
 
 pub files_in_part : (told : List ℕ → Option (List ℕ)) (page : Page) (e : Endian) (size blocks : ℕ) (base text : List ℕ) (lines : List Line) (parts : Parts) (m : Mount) (accepted : ℕ) (places : List Place) (from : ℕ)

@@ -11,6 +11,8 @@ use Rattle.jnode.specs.declared.order.Endian.{Endian}
 use Rattle.jlog.specs.Headline.{resume_address}
 use Rattle.jlog.specs.declared.report.Place.{Place}
 use Rattle.jbuild.specs.Accepted.{accepted_line}
+use Rattle.jbuild.specs.Length.{TellsLength}
+use Rattle.jbuild.specs.Operations.{ops_in}
 use Rattle.jbuild.specs.Parts.{contents, read_of}
 use Rattle.jbuild.specs.declared.parts.Parts.{Parts}
 use Rattle.jcommand.specs.Parsed.{Parsed, BuildParsed, AppendParsed, view}
@@ -54,12 +56,13 @@ AreRead told lines parts = (name : List ℕ) → IsNamed lines name → IsTrue (
 abbrev pub HaveBytes : (List ℕ → Option (List ℕ)) → List Line → (List ℕ → List ℕ) → Type 0
 HaveBytes told lines files = (name : List ℕ) → IsNamed lines name → AreOf (told name) (files name)
 
--- The operations that were run have the bytes of the host's files: those of all lines, told in a line or in a beginning of it;
--- or those up to the one that stopped them.
+-- The operations that were run have the bytes of the host's files: those of all lines, told in a line that has the length of
+-- what went out for them, or in a beginning of it; or those up to the one that stopped them.
 abbrev pub RunsFiles : {T : Type 0} → (List ℕ → Option (List ℕ)) → Page → Endian → ℕ → ℕ → List ℕ → List ℕ → Option (List ℕ) → Option (List ℕ) → Result T ProgramFault → Type 0
 RunsFiles told page e size blocks base text old new (Ok _) =
     (lines : List Line) × (accepted : ℕ) × (places : List Place) × (run : IsRunOn page e size blocks base text lines accepted places None)
     × HaveBytes told lines run.files × Appends old new (accepted_line (resume_address e size blocks base) accepted places)
+    × TellsLength page e size blocks base (ops_in run.files lines) accepted places
 RunsFiles told page e size blocks base text old new (Err program.Output) =
     (lines : List Line) × (accepted : ℕ) × (places : List Place) × (run : IsRunOn page e size blocks base text lines accepted places None)
     × HaveBytes told lines run.files × PutsPart old new (accepted_line (resume_address e size blocks base) accepted places)

@@ -5,6 +5,10 @@ use Rattle.std.specs.Io.KnownBytes.{Appends}
 use Rattle.jsteps.specs.Planning.{page_size}
 use Rattle.jlog.specs.Session.{Runs}
 use Rattle.jlog.specs.Left.{front_of}
+use Rattle.std.specs.Prelude.{Option, IsOk}
+use Rattle.jlog.specs.declared.fault.SessionFault.{SessionFault}
+use Rattle.jbuild.specs.Emitting.{IsEmitted}
+use Rattle.jbuild.proofs.LengthLemmas.{goes_on_flash, line_tells_length}
 use Rattle.jbuild.proofs.EmitLemmas.{emitted_by, puts_all, same_number}
 use Rattle.jbuild.proofs.emitting.emit.Goals as goal
 
@@ -30,3 +34,14 @@ returns-clause-emitted g c =
     c.in-Ok-resume_paged.ensures.page c.in-Ok-resume_paged.ensures.block c.in-Ok-resume_paged.ensures.blocks c.in-Ok-resume_paged.ensures.base
     (same_number (resumes_by a.page e a.geometry.block a.blocks a.mounted.now) c.in-Ok.from s.cursor paged c.in-Ok-resume_paged.ensures.cursor)
     c.in-Ok-resume_paged.ensures.resumed c.in-Ok-resume_paged.ensures.whole same front runs (c.run-report.ensures.survives c.in-Ok-resume_paged.ensures.whole c.in-Ok-resume_paged.ensures.resumed)
+
+pub returns-clause-long : goal.returns-clause-long
+returns-clause-long g c = λ all.
+    let e = g.E.Order.order in
+    let a = c.args in
+    let r = c.run-report.result in
+    let resumes : IsOk (resumes_by a.page e a.geometry.block a.blocks a.mounted.now) = search rules in
+    line_tells_length a.page e a.geometry.block a.blocks a.mounted.now.image a.ops.now r.accepted r.places.items (g.S.Sink.taken a.sink) (g.S.Sink.taken c.finish.result) (g.S.Sink.failures a.sink) (g.S.Sink.failures c.finish.result)
+    (goes_on_flash a.page e a.geometry.block a.blocks a.mounted.now resumes)
+    (subst (λ (s : Option SessionFault). IsEmitted a.page e a.geometry.block a.blocks a.mounted.now.image a.ops.now r.accepted r.places.items s (g.S.Sink.taken a.sink) (g.S.Sink.taken c.finish.result)
+    (g.S.Sink.failures a.sink) (g.S.Sink.failures c.finish.result)) all (returns-clause-emitted g c))

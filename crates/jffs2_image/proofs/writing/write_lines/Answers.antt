@@ -137,7 +137,7 @@ returns-clause-files g c = λ known text read are.
     (subst (λ s. IsMade a.target.page e a.target.geometry.block a.target.blocks m c.deref-2.result.now r.accepted r.places.items s) stopped c.in_ok-report.ensures.made) in
     let from = goes_on_from a.target.page e a.target.geometry.block a.target.blocks m c.in_ok-from.from at ∙ ap (λ (l : List ℕ). resume_address e a.target.geometry.block a.target.blocks l) image in
     let put = c.in_ok-put_accepted.ensures in
-    files_of_all known a.target.page e a.target.geometry.block a.target.blocks a.base.now text a.lines.items a.parts.now m r.accepted r.places.items c.in_ok-from.from _ _ _ from are read mounts made
+    files_of_all known a.target.page e a.target.geometry.block a.target.blocks a.base.now text a.lines.items a.parts.now m r.accepted r.places.items c.in_ok-from.from _ _ _ image from are read mounts made
     (subst (λ (l : List Place). Appends (g.T.Sink.taken a.sink.now) (g.T.Sink.taken c.put_accepted.new.sink) (accepted_line c.in_ok-from.from r.accepted l)) c.deref-3.ensures.value put.0)
 
 pub returns-in_err-put_accepted-clause-files : goal.returns-in_err-put_accepted-clause-files

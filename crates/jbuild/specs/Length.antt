@@ -1,0 +1,36 @@
+-- How long what goes out is, by the places that are told.
+use Rattle.std.specs.Prelude.{◌≡◌, ℕ, ◌-◌, ◌%◌, ◌<◌, IsTrue, List, length, map, Option, None}
+use Rattle.jnode.specs.declared.order.Endian.{Endian}
+use Rattle.jsteps.specs.Planning.{page_size}
+use Rattle.jsteps.specs.Refusals.{steps_of_first}
+use Rattle.jsteps.specs.declared.op.Op.{Op}
+use Rattle.jsteps.specs.declared.page.Page.{Page}
+use Rattle.jlog.specs.Headline.{index_of_image, is_flash_of, resume_address}
+use Rattle.jlog.specs.Output.{output}
+use Rattle.jlog.specs.Places.{places}
+use Rattle.jlog.specs.Running.{shown_place, written}
+use Rattle.jlog.specs.declared.report.Place.{Place}
+use Rattle.jbuild.specs.Accepted.{end_of}
+use Rattle.jbuild.specs.Emitting.{IsEmitted}
+
+-- what goes out after the base's front for the first operations
+abbrev pub output_of_first : Page → Endian → ℕ → ℕ → List ℕ → List Op → ℕ → List ℕ
+output_of_first page e size blocks base ops accepted =
+    let index = index_of_image e size base in
+    output e size (resume_address e size blocks base) (written e index (steps_of_first (page_size page) index ops accepted))
+
+-- the number of bytes that the line tells is its length
+abbrev pub TellsLength : Page → Endian → ℕ → ℕ → List ℕ → List Op → ℕ → List Place → Type 0
+TellsLength page e size blocks base ops accepted places =
+    end_of (resume_address e size blocks base) places - resume_address e size blocks base ≡ length (output_of_first page e size blocks base ops accepted)
+
+-- The places of nodes end where what goes out for them ends,
+abbrev pub PlacesTellLength : Type 0
+PlacesTellLength = (e : Endian) (size from : ℕ) (nodes : List (List ℕ)) → size % 4 ≡ 0 → 12 < size
+    → end_of from (map shown_place (places size from nodes)) - from ≡ length (output e size from nodes)
+
+-- so the line tells how long what went out for operations is that were all accepted.
+abbrev pub LineTellsLength : Type 0
+LineTellsLength = (page : Page) (e : Endian) (size blocks : ℕ) (base : List ℕ) (ops : List Op) (accepted : ℕ) (places : List Place) (old new : Option (List ℕ)) (before now : ℕ)
+    → IsTrue (is_flash_of size blocks base) → IsEmitted page e size blocks base ops accepted places None old new before now
+    → TellsLength page e size blocks base ops accepted places
