@@ -23,7 +23,6 @@ ROOT = os.path.dirname(os.path.dirname(os.path.abspath(__file__)))
 PROGRAM = os.path.realpath(sys.argv[1] if len(sys.argv) > 1 else f"{ROOT}/crates/jffs2_image/out/jffs2_image")
 NO_MEMORY = re.compile(rb"jffs2_image: (L3|C5|M7|P6|S5) OutOfMemory( line \d+)?\n")
 NOTE = b"jffs2_image: note: %d findings, see check --scan; a wrong --block or --endian shows as findings too\n"
-FAULT = re.compile(rb"jffs2_image: [A-Z]\d+ .*\n")
 OUTPUT = b"jffs2_image: P5 Output\n"
 SIZES = 10
 # A command is given up after so many seconds.
@@ -403,8 +402,7 @@ def on_images():
 
 
 def on_any(number, image):
-    """Whatever the image is, `check` and `ls` say what the rules say, and the others end by themselves with one of their statuses and
-    at most a line on standard error."""
+    """Whatever the image is, each command says what the rules say."""
     write("any.img", image)
     for size in (65536, 4096):
         lines, status = model.check(image, size)
@@ -414,10 +412,12 @@ def on_any(number, image):
     note = NOTE % findings if findings else b""
     done = run(["ls", "any.img"])
     verdict(f"ls of image {number}", done == (fault(refused) if refused else Done(0, text(lines), note)), done)
-    for words, statuses in (["check", "--scan", "any.img"], (0, 3)), (["cat", "any.img", "/a"], (0, 1)):
-        done = run(words)
-        is_told = FAULT.fullmatch(done.err) if done.status == 1 else done.err in (b"", note)
-        verdict(f"{words[0]} of image {number}", done.status in statuses and is_told, done)
+    for name in (b"a", b"b"):
+        content, why = model.cat(image, name)
+        done = run(["cat", "any.img", f"/{name.decode()}"])
+        verdict(f"cat of image {number}", done == (fault(why) if why else Done(0, content, note)), done)
+    done = run(["check", "--scan", "any.img"])
+    verdict(f"check --scan of image {number}", done.status in (0, 3) and not done.err, done)
     goes_on(number, lines, refused)
 
 
