@@ -3,11 +3,14 @@
 
 Makes images of COUNT (100000, where it is not given) and twice as many names, versions and so on (tests/hostile_images.py has
 them), and runs the program on each. It prints the least processor time of each command over the runs, how many times longer the
-greater image takes, and the greatest memory over the size of the image. The commands of a round run one after the other, so
-that other work on the machine meets them all. The last line says whether each ratio is at most 2.3. The program is the one that
-`rt run` built here, where none is given.
+greater image takes, the greatest memory over the size of the image, and, where valgrind is there, how many times the instructions.
+The commands of a round run one after the other, so that other work on the machine meets them all. The last line has the
+greatest of the ratios, which are to be 2.3 at most. The program is the one that `rt run` built here, where none is given.
 """
 import os
+import re
+import shutil
+import subprocess
 import sys
 
 HERE = os.path.dirname(os.path.abspath(__file__))
@@ -51,22 +54,41 @@ def made(make, count):
         return name, file.write(make(count))
 
 
+def instructions(words):
+    """How many instructions a command takes, by valgrind."""
+    count = ["valgrind", "--tool=cachegrind", "--cache-sim=no", "--cachegrind-out-file=/dev/null", *words]
+    told = subprocess.run(count, cwd=FOLDER, stdout=subprocess.DEVNULL, stderr=subprocess.PIPE, text=True, check=False).stderr
+    return int(re.search(r"I +refs: +([0-9,]+)", told)[1].replace(",", ""))
+
+
+def compare(make, command, sizes, files):
+    """Runs a command on two images in turn, prints what it took, and returns the ratios of time and of instructions."""
+    words = [words_of(command, name, make, count) for count, (name, _) in zip(sizes, files)]
+    runs = [[measured(one, FOLDER, FOLDER) for one in words] for _ in range(RUNS)]
+    once, twice = (min(run[k][0] for run in runs) for k in (0, 1))
+    memory = [max(run[k][1] for run in runs) / 1024 - files[k][1] / (1 << 20) for k in (0, 1)]
+    counts = [instructions(one) for one in words] if shutil.which("valgrind") else [1, 0]
+    time, work = twice / once, counts[1] / counts[0]
+    print(
+        f"{make.__name__:9} {command:7} {sizes[0]:7} {once:6.3f} s {memory[0]:4.0f} MiB  twice {twice:6.3f} s {memory[1]:4.0f} MiB"
+        f" {time:5.2f} times, {work:5.2f} the instructions",
+        flush=True,
+    )
+    return time, work
+
+
 def main():
     os.makedirs(FOLDER, exist_ok=True)
     with open(os.path.join(FOLDER, "one.txt"), "w", encoding="utf-8") as listing:
         print("create 0644 /new", file=listing)
-    worst = 0
+    ratios = []
     for make, part, commands in THINGS:
         sizes = (COUNT // part, 2 * COUNT // part)
         files = [made(make, count) for count in sizes]
-        for command in commands:
-            runs = [[measured(words_of(command, name, make, count), FOLDER, FOLDER) for count, (name, _) in zip(sizes, files)] for _ in range(RUNS)]
-            once, twice = (min(run[k][0] for run in runs) for k in (0, 1))
-            memory = [max(run[k][1] for run in runs) / 1024 - files[k][1] / (1 << 20) for k in (0, 1)]
-            worst = max(worst, twice / once)
-            print(f"{make.__name__:9} {command:7} {sizes[0]:7} {once:7.3f} s {memory[0]:5.0f} MiB  twice {twice:7.3f} s {memory[1]:5.0f} MiB {twice / once:5.2f} times", flush=True)
-    print(f"the greatest ratio is {worst:.2f}: " + ("as it should be" if worst <= MOST else "above 2.3"))
-    return 0 if worst <= MOST else 1
+        ratios += [compare(make, command, sizes, files) for command in commands]
+    time, work = (max(ratio[k] for ratio in ratios) for k in (0, 1))
+    print(f"the greatest ratios: {time:.2f} of time, {work:.2f} of instructions")
+    return 0 if max(time, work) <= MOST else 1
 
 
 if __name__ == "__main__":

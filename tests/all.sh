@@ -1,8 +1,9 @@
 #!/usr/bin/env bash
 # Passes all tests: `rt ci` (every proof from nothing, the tests, the program's stored run), then the wrong bodies that the
-# prover must refuse, the names in docs/TRACE.md, and the finished program as a user meets it, and on what is made to do harm. `rt ci` gets a copy of the
-# tree without the wrong bodies, which it would try one after another: tests/edits.py tries many at once. The last lines are
-# where the processor time of the two went, crate by crate in minutes, and 'N passed, M failed'.
+# prover must refuse, the names in the tables of docs, and the finished program as a user meets it and on what is made to do
+# harm. `rt ci` gets a copy of the tree without the wrong bodies, which it would try one after another: tests/edits.py tries
+# many at once. The last lines are where the processor time of the two went, crate by crate in minutes, and 'N passed, M
+# failed'.
 set -uo pipefail
 cd "$(dirname "$0")/.."
 log=$(mktemp)

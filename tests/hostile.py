@@ -23,7 +23,6 @@ ROOT = os.path.dirname(os.path.dirname(os.path.abspath(__file__)))
 PROGRAM = os.path.realpath(sys.argv[1] if len(sys.argv) > 1 else f"{ROOT}/crates/jffs2_image/out/jffs2_image")
 NO_MEMORY = re.compile(rb"jffs2_image: (L3|C5|M7|P6|S5) OutOfMemory( line \d+)?\n")
 NOTE = b"jffs2_image: note: %d findings, see check --scan; a wrong --block or --endian shows as findings too\n"
-FAULT = re.compile(rb"jffs2_image: [A-Z]\d+ .*\n")
 OUTPUT = b"jffs2_image: P5 Output\n"
 SIZES = 10
 # A command is given up after so many seconds.
@@ -368,11 +367,6 @@ def one_file_twice():
 
 # ---- Images
 
-USES = (
-    (["check", "--scan", "any.img"], (0, 3)),
-    (["cat", "any.img", "/a"], (0, 1)),
-    (["append", "--blocks", "2", "any.img", "one.txt", "out.img"], (0, 1)),
-)
 GREAT = (
     (images.names, 100000, 100001),
     (images.depths, 1000, 1001),
@@ -403,26 +397,41 @@ def on_images():
         verdict(f"ls of {count} {make.__name__}", is_listed, listed)
         is_checked = checked.status == 0 and checked.out.endswith(b"findings 0\nmount ok\n")
         verdict(f"check of {count} {make.__name__}", is_checked, checked)
-    for number, image in enumerate((*images.turned(images.sample()), *images.soups(200, 20), *images.soups(30, 60), images.circles(20))):
+    for number, image in enumerate((*images.turned(images.sample()), *images.soups(200, 20), *images.soups(30, 120), images.circles(40))):
         on_any(number, image)
 
 
 def on_any(number, image):
-    """Whatever the image is, `check` and `ls` say what the rules say, and the others end by themselves with one of their statuses and
-    at most a line on standard error."""
+    """Whatever the image is, each command says what the rules say."""
     write("any.img", image)
-    write("one.txt", "create 0644 /new\n")
-    lines, status = model.check(image)
-    done = run(["check", "any.img"])
-    verdict(f"check of image {number}", done == Done(status, text(lines), b""), done)
+    for size in (65536, 4096):
+        lines, status = model.check(image, size)
+        done = run(["check", "--block", str(size), "any.img"])
+        verdict(f"check of image {number} in blocks of {size}", done == Done(status, text(lines), b""), done)
     lines, refused, findings = model.ls(image)
     note = NOTE % findings if findings else b""
     done = run(["ls", "any.img"])
     verdict(f"ls of image {number}", done == (fault(refused) if refused else Done(0, text(lines), note)), done)
-    for words, statuses in USES:
-        done = run(words)
-        is_told = FAULT.fullmatch(done.err) if done.status == 1 else done.err in (b"", note)
-        verdict(f"{words[0]} of image {number}", done.status in statuses and is_told, done)
+    for name in (b"a", b"b"):
+        content, why = model.cat(image, name)
+        done = run(["cat", "any.img", f"/{name.decode()}"])
+        verdict(f"cat of image {number}", done == (fault(why) if why else Done(0, content, note)), done)
+    done = run(["check", "--scan", "any.img"])
+    verdict(f"check --scan of image {number}", done.status in (0, 3) and not done.err, done)
+    goes_on(number, lines, refused)
+
+
+def goes_on(number, lines, refused):
+    """A file is made in the image, unless that is refused: what was listed stays, and the file is listed."""
+    write("one.txt", "create 0644 /new\n")
+    done, made = tried(["append", "--blocks", "2", "any.img", "one.txt", "out.img"])
+    if done.status == 0:
+        after, _, _ = model.ls(made)
+        is_right = [line for line in after if not line.endswith(" /new")] == lines and len(after) == len(lines) + 1
+        verdict(f"append to image {number}", is_right and run(["ls", "out.img"]).out == text(after), done)
+    else:
+        told = [fault(why) for why in (refused, "S3 ReadOnly", "S1 Refused O12 Exhausted line 1")]
+        verdict(f"append to image {number}", done in told, done)
 
 
 def text(lines):

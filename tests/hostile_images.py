@@ -125,10 +125,10 @@ def soups(count, length):
 
 
 KINDS = ("entry",) * 4 + ("inode",) * 5 + ("zeros", "dead", "header", "other", "compressed", "incompatible")
-MODES = (0o100644, 0o100644, DIRECTORY, DIRECTORY, 0o120777, 0o010600, 0o170000, 0)
+MODES = (0o100644,) * 6 + (DIRECTORY, DIRECTORY, 0o120777, 0o010600, 0o170000, 0)
 TYPES = (0x2003, 0x2004, 0x2006, 0xE008, 0xA0F7, 0x60F7, 0xE001, 0xE002)
 LENGTHS = (0, 11, 12, 13, 40, 68, 300, 4095, LONGEST)
-NAMES = (b"a", b"b", b"/", b".", b"\0", b"\xff\\ ", b"c" * 254)
+NAMES = (b"a", b"a", b"b", b"b", b"/", b".", b"\0", b"\xff\\ ", b"c" * 254)
 
 
 def one_of(chance, kinds):
@@ -139,8 +139,8 @@ def one_of(chance, kinds):
         node = entry(few(1, 1, 1), version, few(0, 1, LONGEST), chance.choice(NAMES))
         return node[:3] + b"\xc0" + node[4:] if kind == "dead" else node
     if kind == "inode":
-        data, size = chance.choice((b"", b"q", b"qwerty", b"\xff" * 9)), chance.choice((0, 3, 9, 5000))
-        at = chance.choice((0, 1, 5, 100, LONGEST - 9))
+        data, size = bytes(chance.choices(b"qwerty\xff", k=chance.choice((0, 1, 6, 9)))), chance.choice((0, 3, 9, 20, 5000))
+        at = chance.choice((0, 0, 1, 5, 10, LONGEST - 9))
         number = few(LONGEST) if chance.randrange(30) else 1
         return inode(number, version, at, size, data, chance.choice(MODES))
     if kind == "zeros":

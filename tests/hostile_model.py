@@ -1,4 +1,4 @@
-"""What `check` and `ls` print of an image, by the rules of docs/FORMAT.md in their plainest form: each byte of a file by itself,
+"""What `check`, `ls` and `cat` print of an image, by the rules of docs/FORMAT.md in their plainest form: each byte of a file by itself,
 each pair of nodes against each other. Little order. It shares no code with the program, and is slow."""
 import struct
 import zlib
@@ -227,3 +227,18 @@ def ls(image, size=65536):
     _, nodes, _, noted = report(image, size)
     fault = refusal(nodes)
     return ([], fault, 0) if fault else (list(listed(nodes, 1, "", *tree(nodes), set())), None, noted)
+
+
+def cat(image, name, size=65536):
+    """The bytes of the file of this name in the root, or why not."""
+    _, nodes, _, _ = report(image, size)
+    fault = refusal(nodes)
+    if fault:
+        return b"", fault
+    objects, names = tree(nodes)
+    ino = dict(names.get(1, [])).get(name)
+    if ino not in objects:
+        return b"", "P3 Path NotFound"
+    if objects[ino][2] >> 12 != 8:
+        return b"", "P4 NotRegular"
+    return content(nodes, ino, objects[ino][5]), None

@@ -1,5 +1,5 @@
 #!/usr/bin/env python3
-"""Looks up each name of docs/TRACE.md in the repository: tests/trace.py. The last line is 'N passed, M failed'.
+"""Looks up each name in the tables of docs/TRACE.md and docs/PROOFS.md: tests/trace.py. The last line is 'N passed, M failed'.
 
 The names stand between backquotes, in three forms: `crate.File.name` is a definition in crates/crate/specs/File.antt,
 `crate::module::name` an item of crates/crate/src/module.rt, and `crate/name` an edit, crates/crate/must-fail/name.edit.
@@ -41,13 +41,14 @@ def is_there(name):
 
 
 def main():
-    with open(os.path.join(HERE, "..", "docs", "TRACE.md"), encoding="utf-8") as file:
-        rows = [line for line in file if line.startswith("|")]
-    names = sorted({name for row in rows for name in re.findall(r"`([^`]+)`", row)})
-    answers = {name: is_there(name) for name in names}
+    names = set()
+    for document in ("TRACE.md", "PROOFS.md"):
+        with open(os.path.join(HERE, "..", "docs", document), encoding="utf-8") as file:
+            names.update(name for row in file if row.startswith("|") for name in re.findall(r"`([^`]+)`", row))
+    answers = {name: is_there(name) for name in sorted(names)}
     missing = [name for name, answer in answers.items() if answer is False]
     for name in missing:
-        print(f"FAILED: docs/TRACE.md names {name}, which is not there")
+        print(f"FAILED: a table of docs names {name}, which is not there")
     passed = sum(answer is True for answer in answers.values())
     print(f"{passed} passed, {len(missing)} failed")
     return 1 if missing or not passed else 0

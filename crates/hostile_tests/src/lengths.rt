@@ -38,10 +38,9 @@ fn header(is_little: bool, totlen: u32) -> [u8; 12] {
 
 /// What is reported of a block that is erased but for such a header at a place.
 fn report(alloc: Global, place: usize, totlen: usize) -> Result<String, Fail> {
-    let is_node = totlen >= 12 && place.saturating_add(totlen) <= BLOCK;
     // The last 8 bytes of a block are one tile: with a part of the header in it, it is dirt as a whole.
     let words = if place == BLOCK - 16 { 16 } else { 12 };
-    let (what, length) = if is_node {
+    let (what, length) = if is_node(place, totlen) {
         ("padding", totlen.div_ceil(4).saturating_mul(4))
     } else {
         ("dirt", words)
@@ -56,14 +55,29 @@ fn report(alloc: Global, place: usize, totlen: usize) -> Result<String, Fail> {
         let left = BLOCK.saturating_sub(end);
         text.push_str(format!(in alloc; "{end:08x} erased {left}\n")?.as_str())?;
     }
-    let findings = if is_node { 0 } else { 1 };
-    text.push_str(format!(in alloc;
-        "total blocks 1 entries 0 inodes 0 findings {findings}\n"
-    )?.as_str())?;
     Ok(text)
 }
 
-/// Whether an image of that block, whole or as long as its header, and of it with an erased block behind, is reported so, and mounts.
+fn is_node(place: usize, totlen: usize) -> bool {
+    totlen >= 12 && place.saturating_add(totlen) <= BLOCK
+}
+
+/// How the report ends for one block, and for one with an erased block behind.
+fn ends(is_node: bool) -> [&'static [u8]; 2] {
+    if is_node {
+        [
+            b"total blocks 1 entries 0 inodes 0 findings 0\n",
+            b"block 1\n00001000 erased 4096\ntotal blocks 2 entries 0 inodes 0 findings 0\n",
+        ]
+    } else {
+        [
+            b"total blocks 1 entries 0 inodes 0 findings 1\n",
+            b"block 1\n00001000 erased 4096\ntotal blocks 2 entries 0 inodes 0 findings 1\n",
+        ]
+    }
+}
+
+/// Whether an image that ends with such a header, one block, and two are reported so, and mount.
 fn is_reported<E: Order>(
     alloc: Global,
     place: usize,
@@ -72,14 +86,14 @@ fn is_reported<E: Order>(
 ) -> Result<bool, Fail> {
     let mut image = vec![in alloc; 0xFF; place]?;
     image.extend_from_slice(header)?;
-    let wanted = report(alloc, place, totlen)?;
+    let front = report(alloc, place, totlen)?;
+    let [one, two] = ends(is_node(place, totlen));
     let mut same = true;
-    for length in [image.len(), BLOCK, BLOCK] {
+    for (length, end) in [(0, one), (BLOCK, one), (2 * BLOCK, two)] {
         image.resize(length.max(image.len()), 0xFF)?;
         let lines = scan_lines::<E>(alloc, &image, GEOMETRY)?;
-        same = same
-            && lines.text.as_slice() == wanted.as_bytes()
-            && mount::<E>(alloc, &image, GEOMETRY).is_ok();
+        let rest = lines.text.strip_prefix(front.as_bytes());
+        same = same && rest == Some(end) && mount::<E>(alloc, &image, GEOMETRY).is_ok();
     }
     Ok(same)
 }

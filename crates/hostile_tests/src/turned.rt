@@ -1,5 +1,5 @@
-//! A small image with each of its bytes changed to each other value: each node that holds a changed byte is passed over, and the
-//! others stand.
+//! A small image with each of its bytes changed to each other value: each node that holds a changed byte is passed
+//! over, and the others stand.
 
 use crate::nodes::GEOMETRY;
 use crate::sessions::{created, run_on, written};
