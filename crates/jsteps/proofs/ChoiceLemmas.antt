@@ -1,11 +1,10 @@
 -- The plan that the refusals leave.
 use Rattle.std.proofs.Common.{◌≡◌, ℕ, Bool, true, false, cond, List, [], ◌∷◌, ◌++◌, Option, Some, None, Result, Ok, Err, refl, ap, ◌∙◌}
 use Rattle.std.specs.Prelude.{is_some}
-use Rattle.std.specs.List.{list_any}
 use Rattle.std.proofs.lemmas.Bool.{true≢false, false≢true}
 use Rattle.jsteps.specs.Nodes.{Indexed}
 use Rattle.jsteps.specs.Planning.{steps_of}
-use Rattle.jsteps.specs.Refusals.{paths, is_bad_path, is_exhausted, unless_refused, planned_by}
+use Rattle.jsteps.specs.Refusals.{has_bad_path, is_exhausted, unless_refused, planned_by}
 use Rattle.jsteps.specs.Tests.{listed, first_of, tests_of, plan_from}
 use Rattle.jsteps.specs.declared.fault.OpFault.{OpFault}
 use Rattle.jsteps.specs.declared.fault.OpFault.TheVariants as refused
@@ -63,6 +62,6 @@ from_none bad tests spent steps e none is =
     ∙ if_false spent (Err refused.Exhausted) (Ok steps) is
 
 -- and the plan of an operation is such
-pub planned_from : (page : ℕ) (x : Indexed) (o : Op) → planned_by page x o ≡ plan_from (list_any is_bad_path (paths o)) (tests_of x.tree o) (is_exhausted page x o) (steps_of page x.tree o)
+pub planned_from : (page : ℕ) (x : Indexed) (o : Op) → planned_by page x o ≡ plan_from (has_bad_path o) (tests_of x.tree o) (is_exhausted page x o) (steps_of page x.tree o)
 unfolding planned_by
 planned_from page x o = refl

@@ -1,6 +1,6 @@
 -- The index of nodes is consistent, and stays so from step to step.
 use Rattle.std.proofs.Common.{◌≡◌, ℕ, ◌+◌, ◌<◌, ◌≤◌, ◌^◌, Bool, true, false, cond, List, [], ◌∷◌, length, Option, Some, None, refl, ap, sym, ◌∙◌, subst, inl, inr, ◌⊎◌, ⊎_elim, arith}
-use Rattle.std.specs.Prelude.{max, min, option_map, is_some, unwrap_or, Contains}
+use Rattle.std.specs.Prelude.{◌==◌, max, min, option_map, is_some, unwrap_or, Contains}
 use Rattle.std.specs.Ordering.{eq_by_cmp, nat_cmp}
 use Rattle.std.specs.Cmp.{nat_cmp_total, unsigned_tied}
 use Rattle.std.specs.FinMap.{FinMap, get, insert, remove, get-insert, get-remove}
@@ -23,14 +23,16 @@ use Rattle.jmount.proofs.LeastLemmas.{next_is_least}
 use Rattle.jmount.proofs.NumbersLemmas.{object-state_of, top_at-tops_of}
 use Rattle.jmount.proofs.OutlineLemmas.{object-outline, is_directory-outline}
 use Rattle.jmount.proofs.UseLemmas.{state_is_numbered, objects_fit, of_inodes}
-use Rattle.jsteps.specs.Steps.{renamed, rewritten, with_body}
+use Rattle.jsteps.specs.Steps.{renamed, rewritten, with_body, with_permissions, with_attributes, reattributed}
 use Rattle.jsteps.specs.Nodes.{Indexed, index_by, no_object, object_at, advanced}
 use Rattle.jsteps.specs.Ready.{IsReady, HasRoom}
 use Rattle.jsteps.specs.Laws as law
-use Rattle.jsteps.specs.Laws.{AttributesFit, IsConsistent}
+use Rattle.jsteps.specs.Laws.{AttributesFit, GivenFit, IsConsistent}
+use Rattle.jsteps.specs.declared.op.Attributes.{Attributes}
 use Rattle.jsteps.specs.declared.step.Step.{Step}
 use Rattle.jsteps.specs.declared.step.Step.TheVariants as step
 use Rattle.jsteps.proofs.IndexLemmas.{some_and, with_some}
+use Rattle.jsteps.proofs.StepsLemmas.{kind_stays, permissions_fit}
 
 -- ---- that of nodes
 
@@ -138,6 +140,20 @@ rewritten_keeps x ino time change tops same there within =
     (record { mode = fits.mode; uid = fits.uid; gid = fits.gid; atime = fits.atime; size = subst (λ n. IsWord (change n)) body within })
     (λ is. sym (ap (has_bits directory_bits) e) ∙ ap (λ i. is_directory x.tree i) (sym is) ∙ same.root)))
 
+reattributed_keeps : (x : Indexed) (ino time : ℕ) (attributes : Attributes) (tops : FinMap nat_cmp ℕ) → IsConsistent x → is_some (object x.tree ino) ≡ true
+    → GivenFit attributes
+    → IsConsistent (record { tree = reattributed x.tree ino time attributes (object x.tree ino); tops = tops })
+reattributed_keeps x ino time attributes tops same there given =
+    with_some (object x.tree ino) there
+    (λ o e.
+    let fits = same.fits ino o e in
+    let mode : o.mode < 2 ^ 32 = fits.mode in
+    let below : ino < x.tree.next = same.numbered ino o e in
+    subst (λ ob. IsConsistent (record { tree = reattributed x.tree ino time attributes ob; tops = tops })) (sym e)
+    (insert_keeps x ino (with_attributes o time attributes) x.tree.next tops same below (omega arith) same.next
+    (record { mode = permissions_fit o.mode attributes.mode mode; uid = given.0; gid = given.1; atime = given.2; size = fits.size })
+    (λ is. ap (λ (kind : ℕ). kind == directory_bits) (kind_stays o.mode attributes.mode) ∙ sym (ap (has_bits directory_bits) e) ∙ ap (λ i. is_directory x.tree i) (sym is) ∙ same.root)))
+
 -- ---- after a step
 
 -- the fields of a step that 32 and 16 bits hold
@@ -148,6 +164,7 @@ StepFits (step.ClearName time directory name) = IsWord time
 StepFits (step.Put time ino offset new) = IsWord time
 StepFits (step.Zero time ino count) = IsWord time
 StepFits (step.Cut time ino size) = IsWord time
+StepFits (step.SetAttributes time ino attributes) = IsWord time × GivenFit attributes
 
 pub root_below : (x : Indexed) → IsConsistent x → 1 < x.tree.next
 root_below x same = with_some (object x.tree 1) (there (object x.tree 1) same.root) (λ o e. same.numbered 1 o e)
@@ -196,3 +213,5 @@ advanced_keeps x (step.Cut time ino size) same ready room fits =
     let left : size ≤ 0xFFFFFFFF = room.size in
     rewritten_keeps x ino time (λ old. min size old) (advanced x (step.Cut time ino size)).tops same
     (some_and (object x.tree ino) (λ o. size ≤ o.body) ready.defined) (omega arith)
+advanced_keeps x (step.SetAttributes time ino attributes) same ready room fits =
+    reattributed_keeps x ino time attributes (advanced x (step.SetAttributes time ino attributes)).tops same ready.defined fits.1

@@ -10,7 +10,7 @@ use Rattle.jmount.specs.StateOf.{default_root, object_of, inodes, state_of, top}
 use Rattle.jmount.proofs.NumbersLemmas.{object-state_of, named-state_of}
 use Rattle.jmount.proofs.OutlineLemmas.{object-outline}
 use Rattle.jsteps.specs.Nodes.{index_of}
-use Rattle.jsteps.specs.Examples.{small, small_nodes, nested, nested_nodes, spent, spent_nodes}
+use Rattle.jsteps.specs.Examples.{small, small_nodes, nested, nested_nodes, spent, spent_nodes, used_up, used_up_nodes}
 use Rattle.jsteps.proofs.IndexLemmas.{get_tops}
 
 object_is : (ns : List NodeRef) (i : ℕ) → object (outline (state_of ns)) i ≡ option_map sized (object_of (inodes ns) i)
@@ -88,6 +88,18 @@ spent_root_top = top_is spent_nodes 1
 
 pub spent_file_top : get spent.tops 2 ≡ Some 4294967294
 spent_file_top = top_is spent_nodes 2
+
+pub used_up_root : object used_up.tree 1 ≡ Some (sized default_root)
+used_up_root = object_is used_up_nodes 1
+
+pub used_up_file : object used_up.tree 2 ≡ Some four_bytes
+used_up_file = object_is used_up_nodes 2
+
+pub used_up_a : named used_up.tree 1 (codes "a") ≡ Some 2
+used_up_a = named-state_of used_up_nodes 1 (codes "a")
+
+pub used_up_file_top : get used_up.tops 2 ≡ Some 4294967295
+used_up_file_top = top_is used_up_nodes 2
 
 -- what is after one more key
 pub top_inserted : (m : FinMap nat_cmp ℕ) (k v q : ℕ) → get (insert m k v) q ≡ cond (eq_by_cmp nat_cmp q k) (Some v) (get m q)

@@ -81,6 +81,7 @@ steps_few page x (op.Truncate time path size) steps is_page e =
 steps_few page x (op.Link time old new) steps is_page e = omega arith
 steps_few page x (op.Remove time path) steps is_page e = omega arith
 steps_few page x (op.Rename time old new) steps is_page e = omega arith
+steps_few page x (op.SetAttributes time path attributes) steps is_page e = omega arith
 
 pub planned_few : (page : ℕ) (x : Indexed) (o : Op) (steps : List Step) → IsPage page → planned_by page x o ≡ Ok steps → length steps ≤ most_steps
 planned_few page x o steps is_page e = subst (λ steps. length steps ≤ most_steps) (accepted page x o steps e).steps_are (steps_few page x o steps is_page e)

@@ -13,7 +13,7 @@ use Rattle.jsteps.specs.Nodes.{Indexed, node_of, nodes_of, advanced}
 use Rattle.jsteps.specs.Planning.{plain_page, spelling_len, piece_puts, page_puts, puts, zeros_to, write_steps, resize_steps}
 use Rattle.jmount.specs.Tree.{Outline}
 use Rattle.jsteps.specs.Planning.{steps_of}
-use Rattle.jsteps.specs.Refusals.{greatest_size, is_past, is_bad_path, is_long, paths, is_exhausted, planned_by}
+use Rattle.jsteps.specs.Refusals.{greatest_size, is_past, has_bad_path, is_bad_path, is_long, is_exhausted, planned_by}
 use Rattle.jsteps.specs.Site.{IsSiteOf}
 use Rattle.jsteps.specs.Tests.{tests_of, kept_tests}
 use Rattle.jsteps.specs.Where.{above, number_there}
@@ -99,14 +99,14 @@ kept_sites t path site large has =
     ∙ ap (λ r. kept_tests t site.is_long r (number_there t path) large) (sym has.above)
     ∙ ap (λ n. kept_tests t site.is_long site.above n large) (sym has.number)
 
-pub file_from : (page : ℕ) (x : Indexed) (o : Op) (path : List ℕ) (site : Site) (large : Bool) (ino : ℕ) (steps : List Step) → IsSiteOf x.tree path site → list_any is_bad_path (paths o) ≡ is_bad_path path
+pub file_from : (page : ℕ) (x : Indexed) (o : Op) (path : List ℕ) (site : Site) (large : Bool) (ino : ℕ) (steps : List Step) → IsSiteOf x.tree path site → has_bad_path o ≡ is_bad_path path
     → tests_of x.tree o ≡ kept_tests x.tree (is_long path) (above x.tree path) (number_there x.tree path) large → steps_of page x.tree o ≡ steps
     → ino ≤ 0xFFFFFFFF → AllByRecursion (IsNext ino) steps → top_at x.tops ino ≤ 0xFFFFFFFF
     → IsFrom (planned_by page x o) (kept_tests x.tree site.is_long site.above site.number large) (nat_lt 0xFFFFFFFF (top_at x.tops ino + length steps)) steps
 file_from page x o path site large ino steps has bad tests are le all top = record {
   is =
       planned_from page x o
-      ∙ plan_same (list_any is_bad_path (paths o)) false (tests_of x.tree o) (kept_tests x.tree site.is_long site.above site.number large) (is_exhausted page x o) (nat_lt 0xFFFFFFFF (top_at x.tops ino + length steps)) (steps_of page x.tree o) steps
+      ∙ plan_same (has_bad_path o) false (tests_of x.tree o) (kept_tests x.tree site.is_long site.above site.number large) (is_exhausted page x o) (nat_lt 0xFFFFFFFF (top_at x.tops ino + length steps)) (steps_of page x.tree o) steps
       (bad ∙ has.good)
       (tests ∙ kept_sites x.tree path site large has)
       (ap (λ ss. list_any is_past (nodes_of x ss)) are ∙ spent_all x ino steps le all top)

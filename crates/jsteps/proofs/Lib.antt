@@ -21,3 +21,4 @@ pub mod ChoiceLemmas
 pub mod PlannedLemmas
 pub mod FileLemmas
 pub mod FewLemmas
+pub mod AttributesLemmas

@@ -8,21 +8,22 @@ use Rattle.std.specs.FinMap.{get, get-insert}
 use Rattle.std.proofs.lemmas.Bool.{or_parts, ltb-false, lt-ltb, true≢false, false≢true}
 use Rattle.flashbase.specs.Ranges.{IsHalf, IsWord}
 use Rattle.jmount.specs.Tree.{ObjectOf, object, directory_bits}
-use Rattle.jsteps.specs.Nodes.{Indexed, advanced}
+use Rattle.jsteps.specs.Nodes.{Indexed, object_at, advanced}
 use Rattle.jsteps.specs.Planning.{IsPage, size_named, make_steps, steps_of}
-use Rattle.jsteps.specs.Refusals.{paths, is_bad_path, is_long, is_not_found, meets_nothing, meets_other, is_wrong_kind, is_too_large, is_bad_mode, is_bad_target, greatest_size, is_exhausted, refusals, unless_refused, planned_by}
-use Rattle.jsteps.specs.Where.{last_name, above, parent, ends_in_directory, number_or_zero, object_named, is_missing, is_unnamed}
+use Rattle.jsteps.specs.Refusals.{paths, has_bad_path, is_bad_path, is_long, is_not_found, meets_nothing, meets_other, is_wrong_kind, is_too_large, is_bad_mode, is_bad_target, greatest_size, is_exhausted, refusals, unless_refused, planned_by}
+use Rattle.jsteps.specs.Where.{last_name, above, parent, ends_in_directory, number_or_zero, object_named, is_missing, is_unnamed, number_reached, is_unreached}
 use Rattle.jsteps.specs.Laws as law
-use Rattle.jsteps.specs.Laws.{IsConsistent, OpFits}
+use Rattle.jsteps.specs.Laws.{IsConsistent, GivenFit, OpFits}
 use Rattle.jsteps.specs.declared.fault.OpFault.{OpFault}
+use Rattle.jsteps.specs.declared.op.Attributes.{Attributes}
 use Rattle.jsteps.specs.declared.op.Op.{Op}
 use Rattle.jsteps.specs.declared.op.Op.TheVariants as op
 use Rattle.jsteps.specs.declared.step.Step.{Step}
 use Rattle.jsteps.specs.declared.step.Step.TheVariants as step
 use Rattle.jsteps.proofs.IndexLemmas.{with_some}
 use Rattle.jsteps.proofs.ConsistentLemmas.{StepFits, root_below}
-use Rattle.jsteps.proofs.WhereLemmas.{HasLength, IsParent, IsTarget, last_name_length, bits_there, parent_is, target_is, not_missing}
-use Rattle.jsteps.proofs.TakenLemmas.{IsFine, Shaped, AllFine, AllTaken, AllFine-one, AllFine-two, all_taken, taken_ready, taken_room, taken_written, taken_keeps_all}
+use Rattle.jsteps.proofs.WhereLemmas.{HasLength, IsParent, IsTarget, IsReachedObject, last_name_length, bits_there, parent_is, target_is, not_missing, reached_is}
+use Rattle.jsteps.proofs.TakenLemmas.{IsFine, Shaped, AllFine, AllTaken, AllFine-one, AllFine-two, all_taken, taken_ready, taken_room, taken_written, taken_keeps_all, object_fits}
 use Rattle.jsteps.proofs.PutsLemmas.{HasSize, resize_fine, write_fine}
 
 -- ---- what is not refused
@@ -43,7 +44,7 @@ none_applies (r ∷ rs) answer steps e =
 
 -- what is known of an operation that is planned
 pub record IsAccepted (page : ℕ) (x : Indexed) (o : Op) (steps : List Step) : Type 0 where
-  bad : list_any is_bad_path (paths o) ≡ false
+  bad : has_bad_path o ≡ false
   long : list_any is_long (paths o) ≡ false
   found : is_not_found x.tree o ≡ false
   directory : list_any (λ path. meets_other x.tree (above x.tree path)) (paths o) ≡ false
@@ -127,6 +128,12 @@ clear_fine : (page : ℕ) (x : Indexed) (time directory : ℕ) (name : List ℕ)
 unfolding Shaped StepFits
 clear_fine page x time directory name now positive long there =
     record { ready = record { defined = there; number = tt }; fits = now; shaped = (positive, long); size = omega arith }
+
+attributes_fine : (page : ℕ) (x : Indexed) (time ino : ℕ) (attributes : Attributes) → IsConsistent x → IsWord time → GivenFit attributes → 0 < ino → is_some (object x.tree ino) ≡ true → IsFine page x (step.SetAttributes time ino attributes)
+unfolding Shaped StepFits
+attributes_fine page x time ino attributes same now given positive there =
+    let size : IsWord (object_at x ino).body = (object_fits x ino same there).size in
+    record { ready = record { defined = there; number = tt }; fits = (now, given); shaped = positive; size = omega arith }
 
 still_some : {X : Type 0} (b : Bool) (v : X) (o : Option X) → is_some o ≡ true → is_some (cond b (Some v) o) ≡ true
 still_some true v o h = refl
@@ -218,6 +225,12 @@ all_fine page x (op.Rename time old new) steps is_page same fits is =
     AllFine-two page x set (step.ClearName time (parent x.tree old) (last_name old))
     (set_fine page x time (parent x.tree new) (last_name new) (number_or_zero x.tree old) fits led_new.parent_there.positive led_new.name (parent_some x new led_new) is_target.positive is_target.below)
     (clear_fine page (advanced x set) time (parent x.tree old) (last_name old) fits led_old.parent_there.positive led_old.name (parent_some x old led_old))
+all_fine page x (op.SetAttributes time path attributes) steps is_page same fits is =
+    let found = or_parts (meets_nothing (above x.tree path)) (is_unreached x.tree path) is.found in
+    let above_it = parent_is x path same found.0 (one_false (meets_other x.tree (above x.tree path)) is.directory) in
+    let reached = reached_is x path same above_it.1 found.1 in
+    AllFine-one page x (step.SetAttributes time (unwrap_or (number_reached x.tree path) 0) attributes)
+    (attributes_fine page x time (unwrap_or (number_reached x.tree path) 0) attributes same fits.0 fits.1 reached.positive reached.there)
 
 pub planned_taken : (page : ℕ) (x : Indexed) (o : Op) (steps : List Step) → IsPage page → IsConsistent x → OpFits o → planned_by page x o ≡ Ok steps → AllTaken page x steps
 planned_taken page x o steps is_page same fits e =

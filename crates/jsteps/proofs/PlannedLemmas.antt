@@ -11,7 +11,7 @@ use Rattle.jmount.specs.Shown.{top_at}
 use Rattle.jmount.specs.Tree.{Outline, object, has_bits, directory_bits}
 use Rattle.jsteps.specs.Nodes.{Indexed, nodes_of}
 use Rattle.jsteps.specs.Planning.{steps_of, make_steps}
-use Rattle.jsteps.specs.Refusals.{paths, is_bad_path, is_long, meets_nothing, meets_other, is_exhausted, is_past, is_bad_target, planned_by}
+use Rattle.jsteps.specs.Refusals.{paths, has_bad_path, is_bad_path, is_long, meets_nothing, meets_other, is_exhausted, is_past, is_bad_target, planned_by}
 use Rattle.jsteps.specs.Site.{IsSiteOf}
 use Rattle.jsteps.specs.Tests.{GivesPlan, listed, first_of, made_plan, full_by, spent_by, into_itself_at, tests_of, plan_from, made_tests, removed_tests, named_tests, unnamed_at}
 use Rattle.jsteps.specs.Where.{above, number_there, number_or_none, parent, last_name, number_or_zero, object_named}
@@ -85,8 +85,8 @@ pub answer_none : {plan : Result (List Step) OpFault} {tests : Tests} {spent : B
 answer_none {plan} {tests} {spent} {steps} from found r b items same is e b_is is_b are =
     from.is ∙ from_none false tests spent steps refl (ap (λ t. first_of (listed t)) (sym same) ∙ sym is ∙ e) (sym b_is ∙ is_b) ∙ ap Ok (sym are)
 
-pub bad_plan : (page : ℕ) (x : Indexed) (o : Op) → list_any is_bad_path (paths o) ≡ true → planned_by page x o ≡ Err refused.BadPath
-bad_plan page x o e = planned_from page x o ∙ from_bad (list_any is_bad_path (paths o)) (tests_of x.tree o) (is_exhausted page x o) (steps_of page x.tree o) e
+pub bad_plan : (page : ℕ) (x : Indexed) (o : Op) → has_bad_path o ≡ true → planned_by page x o ≡ Err refused.BadPath
+bad_plan page x o e = planned_from page x o ∙ from_bad (has_bad_path o) (tests_of x.tree o) (is_exhausted page x o) (steps_of page x.tree o) e
 
 pub bad_first : (old new : List ℕ) → is_bad_path old ≡ true → (is_bad_path old || (is_bad_path new || false)) ≡ true
 bad_first old new e = ap (λ b. b || (is_bad_path new || false)) e
@@ -194,12 +194,12 @@ made_from x time path kind mode uid gid target link site dir whole next has e le
           ∙ ap (λ n. step.MakeObject time whole uid gid target ∷ step.SetName time dir site.last.now n ∷ []) (sym next_is));
     }
 
-made_as : (page : ℕ) (x : Indexed) (o : Op) (path : List ℕ) (mode link : Bool) → list_any is_bad_path (paths o) ≡ is_bad_path path
+made_as : (page : ℕ) (x : Indexed) (o : Op) (path : List ℕ) (mode link : Bool) → has_bad_path o ≡ is_bad_path path
     → tests_of x.tree o ≡ made_tests x.tree (is_long path) (above x.tree path) (number_there x.tree path) mode link
     → planned_by page x o ≡ plan_from (is_bad_path path) (made_tests x.tree (is_long path) (above x.tree path) (number_there x.tree path) mode link) (is_exhausted page x o) (steps_of page x.tree o)
 made_as page x o path mode link e f =
     planned_from page x o
-    ∙ plan_same (list_any is_bad_path (paths o)) (is_bad_path path) (tests_of x.tree o) (made_tests x.tree (is_long path) (above x.tree path) (number_there x.tree path) mode link)
+    ∙ plan_same (has_bad_path o) (is_bad_path path) (tests_of x.tree o) (made_tests x.tree (is_long path) (above x.tree path) (number_there x.tree path) mode link)
     (is_exhausted page x o) (is_exhausted page x o) (steps_of page x.tree o) (steps_of page x.tree o) e f refl refl
 
 pub mkdir_made : (page : ℕ) (x : Indexed) (time : ℕ) (path : List ℕ) (mode uid gid : ℕ) → planned_by page x (op.Mkdir time path mode uid gid) ≡ made_plan x time path 0o040000 mode uid gid [] false

@@ -13,8 +13,8 @@ use Rattle.jmount.proofs.PathLemmas.{walk-turn}
 use Rattle.jmount.proofs.PathNameLemmas.{path_names_exactly}
 use Rattle.jsteps.specs.Nodes.{Indexed}
 use Rattle.jsteps.specs.Laws.{IsConsistent}
-use Rattle.jsteps.specs.Refusals.{is_bad_path, is_long, meets_nothing, meets_other}
-use Rattle.jsteps.specs.Where.{last_of, names_in, names_above, last_name, above, number_or_none, parent, ends_in_directory, named_there, number_there, number_or_zero, object_named, is_missing, met}
+use Rattle.jsteps.specs.Refusals.{is_bad_path, is_no_path, is_long, meets_nothing, meets_other}
+use Rattle.jsteps.specs.Where.{last_of, names_in, names_above, last_name, above, number_or_none, parent, ends_in_directory, named_there, number_there, number_or_zero, object_named, is_missing, number_reached, object_reached, is_unreached, met}
 use Rattle.jsteps.proofs.IndexLemmas.{with_some}
 
 -- ---- names
@@ -146,13 +146,28 @@ target_is x path same there =
     })
 
 -- what is not missing there
+by_both : (a b : Bool) → a ≡ true → (a && not b) ≡ false → b ≡ true
+by_both true true e h = refl
+by_both true false e h = absurd (true≢false h)
+by_both false b e h = absurd (false≢true e)
+
 pub not_missing : (t : Outline) (path : List ℕ) → ends_in_directory t (above t path) ≡ true → is_missing t path ≡ false → is_some (object_named t path) ≡ true
 not_missing t path directory h = by_both (ends_in_directory t (above t path)) (is_some (object_named t path)) directory h
-  where
-    by_both : (a b : Bool) → a ≡ true → (a && not b) ≡ false → b ≡ true
-    by_both true true e h = refl
-    by_both true false e h = absurd (true≢false h)
-    by_both false b e h = absurd (false≢true e)
+
+-- an object that a path leads to, which may be the root
+pub record IsReachedObject (x : Indexed) (path : List ℕ) : Type 0 where
+  pub positive : 0 < unwrap_or (number_reached x.tree path) 0
+  pub there : is_some (object x.tree (unwrap_or (number_reached x.tree path) 0)) ≡ true
+
+reached_by : (x : Indexed) (path : List ℕ) → IsConsistent x → (b : Bool) → is_some (option_and_then (object x.tree) (cond b (Some 1) (number_there x.tree path))) ≡ true
+    → (0 < unwrap_or (cond b (Some 1) (number_there x.tree path)) 0) × (is_some (object x.tree (unwrap_or (cond b (Some 1) (number_there x.tree path)) 0)) ≡ true)
+reached_by x path same true there = (omega arith, there)
+reached_by x path same false there = let is = target_is x path same there in (is.positive, ap is_some is.same ∙ is.there)
+
+pub reached_is : (x : Indexed) (path : List ℕ) → IsConsistent x → ends_in_directory x.tree (above x.tree path) ≡ true → is_unreached x.tree path ≡ false → IsReachedObject x path
+reached_is x path same directory h =
+    let both = reached_by x path same (length (names_in path) == 0) (by_both (ends_in_directory x.tree (above x.tree path)) (is_some (object_reached x.tree path)) directory h) in
+    record { positive = both.0; there = both.1 }
 
 -- ---- the walk over names that are borrowed
 

@@ -15,6 +15,7 @@ use Rattle.jsteps.specs.Nodes.{Indexed, indexed, index_of, node_of, nodes_of, ad
 use Rattle.jsteps.specs.Ready.{IsReady, AllReady, AllRoom}
 use Rattle.jsteps.specs.Planning.{IsPage}
 use Rattle.jsteps.specs.Refusals.{planned_by, steps_of_first}
+use Rattle.jsteps.specs.declared.op.Attributes.{Attributes}
 use Rattle.jsteps.specs.declared.op.Op.{Op}
 use Rattle.jsteps.specs.declared.op.Op.TheVariants as op
 use Rattle.jsteps.specs.declared.step.Step.{Step}
@@ -99,6 +100,10 @@ IndexIsOfNodes = (e : Endian) (size : ℕ) (m : Mount) → IsMountOf e size m �
 
 -- ---- plans
 
+-- the owners and the times of attributes that are given fit their widths
+abbrev pub GivenFit : Attributes → Type 0
+GivenFit attributes = IsHalf attributes.uid × IsHalf attributes.gid × IsWord attributes.atime × IsWord attributes.mtime
+
 -- the time and the owners of an operation fit their widths, as those of the type do
 abbrev pub OpFits : Op → Type 0
 OpFits (op.Mkdir time path mode uid gid) = IsWord time × IsHalf uid × IsHalf gid
@@ -109,6 +114,7 @@ OpFits (op.Truncate time path size) = IsWord time
 OpFits (op.Link time old new) = IsWord time
 OpFits (op.Remove time path) = IsWord time
 OpFits (op.Rename time old new) = IsWord time
+OpFits (op.SetAttributes time path attributes) = IsWord time × GivenFit attributes
 
 -- steps of which each is ready and has room when its turn comes, and an index after them that is consistent again
 pub record AreReady (x : Indexed) (steps : List Step) : Type 0 where

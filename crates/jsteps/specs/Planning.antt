@@ -2,7 +2,7 @@
 use Rattle.std.specs.Prelude.{ℕ, ◌+◌, ◌-◌, ◌*◌, ◌/◌, ◌==◌, ◌≤◌, max, min, nat_lt, List, [], ◌∷◌, ◌++◌, length, take, drop, slice_range, flat_map, option_map, unwrap_or, if◌then◌else◌}
 use Rattle.flashbase.specs.Lists.{below}
 use Rattle.jmount.specs.Tree.{Outline}
-use Rattle.jsteps.specs.Where.{parent, last_name, number_or_zero, object_named}
+use Rattle.jsteps.specs.Where.{parent, last_name, number_or_zero, number_reached, object_named}
 use Rattle.jsteps.specs.declared.op.Op.{Op}
 use Rattle.jsteps.specs.declared.op.Op.TheVariants as op
 use Rattle.jsteps.specs.declared.step.Step.{Step}
@@ -73,6 +73,7 @@ steps_of page t (op.Link time old new) = step.SetName time (parent t new) (last_
 steps_of page t (op.Remove time path) = step.ClearName time (parent t path) (last_name path) ∷ []
 steps_of page t (op.Rename time old new) =
     step.SetName time (parent t new) (last_name new) (number_or_zero t old) ∷ step.ClearName time (parent t old) (last_name old) ∷ []
+steps_of page t (op.SetAttributes time path attributes) = step.SetAttributes time (unwrap_or (number_reached t path) 0) attributes ∷ []
 
 -- No plan has more: two for each 4,096 bytes up to the greatest size of a file, and zeros.
 abbrev pub most_steps : ℕ

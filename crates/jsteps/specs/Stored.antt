@@ -13,6 +13,8 @@ use Rattle.jmount.specs.Mount.{Mount}
 use Rattle.jmount.specs.Shown.{top_at}
 use Rattle.jmount.specs.Tree.{ObjectOf, sized, object}
 use Rattle.jsteps.specs.Nodes.{Indexed}
+use Rattle.jsteps.specs.Steps.{with_permissions}
+use Rattle.jsteps.specs.declared.op.Attributes.{Attributes}
 use Rattle.jsteps.specs.declared.directories.Names.{Names}
 use Rattle.jsteps.specs.declared.stored.Stored.{Stored}
 
@@ -76,12 +78,15 @@ top_in objects i = unwrap_or (option_map (λ stored. stored.top) (get nat_cmp ob
 abbrev pub size_in : Objects → ℕ → ℕ
 size_in objects i = unwrap_or (option_map (λ stored. stored.size) (get nat_cmp objects i)) 0
 
--- an object of which one more version is there, and one that was changed as well
+-- an object of which one more version is there, one that was changed as well, and one that got other attributes
 abbrev pub raised : Stored → Stored
 raised stored = record stored { top = stored.top + 1 }
 
 abbrev pub changed : ℕ → ℕ → Stored → Stored
 changed time size stored = record stored { size = size; mtime = time; ctime = time; top = stored.top + 1 }
+
+abbrev pub attributed : ℕ → Attributes → Stored → Stored
+attributed time attributes stored = record stored { mode = with_permissions stored.mode attributes.mode; uid = attributes.uid; gid = attributes.gid; atime = attributes.atime; mtime = attributes.mtime; ctime = time; top = stored.top + 1 }
 
 -- an object with the greatest version of its number, as it is kept, and of a file system
 abbrev pub with_top : Stored → ObjectOf ℕ × ℕ

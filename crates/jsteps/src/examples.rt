@@ -1,13 +1,13 @@
 //! The worked examples of plans.
 
-ghost use Rattle.std.specs.Prelude.{◌≡◌, ◌++◌, ℕ, List, [], ◌∷◌, codes, replicate, true, false, Ok, Err};
+ghost use Rattle.std.specs.Prelude.{◌≡◌, ◌++◌, ℕ, List, [], ◌∷◌, codes, replicate, true, false, Some, Ok, Err};
 ghost use Rattle.jnode.specs.declared.node.Fill.TheVariants.{Zero, Data};
 ghost use Rattle.jnode.specs.declared.node.NodeRef.TheVariants.{Entry, Inode};
 ghost use Rattle.jnode.specs.Vectors.{new_file, named_a};
-ghost use Rattle.jsteps.specs.Nodes.{index_of, nodes_of};
+ghost use Rattle.jsteps.specs.Nodes.{no_object, index_of, nodes_of};
 ghost use Rattle.jsteps.specs.Planning.{plain_page, write_steps, resize_steps, piece_puts};
-ghost use Rattle.jsteps.specs.Refusals.{planned, is_bad_path, is_long, is_bad_mode, is_bad_target, is_too_large};
-ghost use Rattle.jsteps.specs.Examples.{small, nested, spent};
+ghost use Rattle.jsteps.specs.Refusals.{planned, is_bad_path, is_long, is_bad_mode, is_bad_target, is_too_large, takes_attributes};
+ghost use Rattle.jsteps.specs.Examples.{small, nested, spent, used_up, given};
 ghost use Rattle.jsteps.specs.declared.fault.OpFault.TheVariants as refused;
 ghost use Rattle.jsteps.specs.declared.op.Op.TheVariants as op;
 ghost use Rattle.jsteps.specs.declared.step.Step.TheVariants as step;
@@ -82,11 +82,35 @@ pub fn small_plans()
     ensures same { planned small (op.Truncate 7 (codes "/a") 4) ≡ Ok [] }
 {}
 
+/// Other attributes, of the root too. Only the permission bits of the mode are other.
+pub fn attribute_plans()
+    ensures file { planned small (op.SetAttributes 7 (codes "/a") given) ≡ Ok (step.SetAttributes 7 2 given ∷ []) }
+    ensures root { planned small (op.SetAttributes 7 (codes "/") given) ≡ Ok (step.SetAttributes 7 1 given ∷ []) }
+    ensures node { nodes_of small (step.SetAttributes 7 2 given ∷ [])
+        ≡ Inode (record new_file { version = 2; mode = 0o100600; uid = 5; gid = 6; atime = 1; mtime = 2; ctime = 7; isize = 4 }) ∷ [] }
+    ensures root_node { nodes_of (index_of []) (step.SetAttributes 7 1 given ∷ [])
+        ≡ Inode (record new_file { ino = 1; mode = 0o040600; uid = 5; gid = 6; atime = 1; mtime = 2; ctime = 7 }) ∷ [] }
+{}
+
+/// And where they are refused.
+pub fn refused_attributes()
+    ensures relative { planned small (op.SetAttributes 7 (codes "a") given) ≡ Err refused.BadPath }
+    ensures dangling { planned small (op.SetAttributes 7 (codes "/q") given) ≡ Err refused.NotFound }
+    ensures none { planned small (op.SetAttributes 7 (codes "/n") given) ≡ Err refused.NotFound }
+    ensures below_file { planned small (op.SetAttributes 7 (codes "/a/b") given) ≡ Err refused.NotDirectory }
+    ensures symlink { takes_attributes (Some (record no_object { mode = 0o120777 })) ≡ false }
+    ensures device { takes_attributes (Some (record no_object { mode = 0o020644 })) ≡ false }
+    ensures fifo { takes_attributes (Some (record no_object { mode = 0o010644 })) ≡ true }
+    ensures socket { takes_attributes (Some (record no_object { mode = 0o140755 })) ≡ true }
+    ensures mode { planned small (op.SetAttributes 7 (codes "/a") (record given { mode = 0o10000 })) ≡ Err refused.BadMode }
+{}
+
 /// Numbers and versions that 32 bits do not hold: the last version is given, and none after it.
 pub fn spent_plans()
     ensures number { planned spent (op.Create 0 (codes "/r") 0o644 0 0) ≡ Err refused.Exhausted }
     ensures last { planned spent (op.Write 0 (codes "/a") 4 (9 ∷ [])) ≡ Ok (step.Put 0 2 4 (9 ∷ []) ∷ []) }
     ensures version { planned spent (op.Write 0 (codes "/a") 5 (9 ∷ [])) ≡ Err refused.Exhausted }
+    ensures attributes { planned used_up (op.SetAttributes 0 (codes "/a") given) ≡ Err refused.Exhausted }
 {}
 
 /// The nodes of a new file of an empty image, and of bytes past the end of a file of four.

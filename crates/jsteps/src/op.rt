@@ -1,8 +1,35 @@
 //! What may be done to a file system.
 
-ghost use Rattle.jsteps.specs.Laws.{OpFits};
+ghost use Rattle.jsteps.specs.Laws.{GivenFit, OpFits};
 
 use crate::text::Text;
+
+/// The attributes that an object gets: the permission bits of its mode, at most 0o7777, its owners, and the times in seconds
+/// of its last access and of the last change of its bytes.
+#[derive(Clone, Copy)]
+pub struct Attributes {
+    pub mode: u32,
+    pub uid: u16,
+    pub gid: u16,
+    pub atime: u32,
+    pub mtime: u32,
+}
+
+impl Attributes {
+    /// The owners and the times have the widths of their types.
+    fn known(&self)
+        ensures { GivenFit self.now }
+    {
+        let Attributes {
+            uid,
+            gid,
+            atime,
+            mtime,
+            ..
+        } = self;
+        let _known = (*uid, *gid, *atime, *mtime);
+    }
+}
 
 /// An operation, with its time in seconds. Paths are bytes that begin with a slash and name what they lead to from the root
 /// on; `mode` has the permission bits alone, at most 0o7777; `uid` and `gid` own the new object.
@@ -62,6 +89,13 @@ pub enum Op<'a> {
         old: Text<'a>,
         new: Text<'a>,
     },
+    /// Other attributes of a directory, the root too, a regular file, a FIFO or a socket. Its bytes stay, and the operation's
+    /// time is that of the last change of its attributes.
+    SetAttributes {
+        time: u32,
+        path: Text<'a>,
+        attributes: Attributes,
+    },
 }
 
 impl Op<'_> {
@@ -92,6 +126,14 @@ impl Op<'_> {
                 let _known = *time;
             }
             Op::Rename { time, .. } => {
+                let _known = *time;
+            }
+            Op::SetAttributes {
+                time,
+                attributes,
+                ..
+            } => {
+                attributes.known();
                 let _known = *time;
             }
         }

@@ -12,10 +12,12 @@ ghost use Rattle.jsteps.specs.declared.step.Step.TheVariants as step;
 
 use crate::fault::OpFault;
 use crate::index::Index;
-use crate::op::Op;
+use crate::op::{Attributes, Op};
 use crate::puts::{PLAIN_PAGE, push_resize, push_write};
-use crate::refusal::{tests_of_file, tests_of_name, tests_of_new, tests_of_removed};
-use crate::site::{end_of, look_up, meets_above};
+use crate::refusal::{
+    tests_of_attributes, tests_of_file, tests_of_name, tests_of_new, tests_of_removed,
+};
+use crate::site::{end_of, look_up, meets_above, reach};
 use crate::step::Step;
 use crate::stored::DIRECTORY;
 use crate::text::Text;
@@ -365,6 +367,35 @@ fn symlink<'a>(
     )
 }
 
+/// Other attributes.
+fn set_attributes<'a>(
+    alloc: Global,
+    index: &Index,
+    time: u32,
+    path: &'a [u8],
+    attributes: Attributes,
+) -> Result<Vec<Step<'a>>, OpFault>
+    ensures { (page : ℕ) → GivesPlan result (planned_by page index.now (op.SetAttributes time path.now attributes)) }
+{
+    let Some(site) = reach(alloc, index, path)? else {
+        return Err(OpFault::BadPath);
+    };
+    let ino = site.number.unwrap_or(0);
+    let is_bad_mode = attributes.mode > PERMISSIONS;
+    if let Some(fault) = tests_of_attributes(index, &site, is_bad_mode).first() {
+        return Err(fault);
+    }
+    if is_spent(index, ino, 1) {
+        return Err(OpFault::Exhausted);
+    }
+    let set = Step::SetAttributes {
+        time,
+        ino,
+        attributes,
+    };
+    Ok(one(alloc, set)?)
+}
+
 /// The steps of an operation, or why it is refused, with bytes cut where a page of this length of the file ends.
 ///
 /// # Errors
@@ -414,6 +445,11 @@ pub(crate) fn plan_paged<'a>(
         Op::Rename { time, old, new } => {
             rename(alloc, index, *time, old.as_slice(), new.as_slice())
         }
+        Op::SetAttributes {
+            time,
+            path,
+            attributes,
+        } => { set_attributes(alloc, index, *time, path.as_slice(), *attributes) }
     }
 }
 

@@ -4,8 +4,10 @@ ghost use Rattle.std.specs.Prelude.{◌≡◌, ◌==◌, ◌<◌, ℕ, OnOk, OnE
 ghost use Rattle.std.specs.Ordering.{nat_cmp};
 ghost use Rattle.std.specs.BTreeMap.{get, IsUnchanged, Updates};
 ghost use Rattle.jmount.specs.Shown.{shown_outline};
-ghost use Rattle.jsteps.specs.Stored.{stored_outline, top_in, size_in, raised, changed};
+ghost use Rattle.jsteps.specs.Stored.{stored_outline, top_in, size_in, raised, changed, attributed};
 
+use crate::op::Attributes;
+use crate::step::with_permissions;
 use jmount::{Object, kind_of};
 use std::alloc::AllocError;
 use std::collections::BTreeMap;
@@ -70,6 +72,22 @@ pub fn change(objects: &mut Objects, ino: u32, time: u32, size: u32)
     if let Some(stored) = objects.get_mut(&ino) {
         stored.size = size;
         stored.mtime = time;
+        stored.ctime = time;
+        stored.top += 1;
+    }
+}
+
+/// The object of a number has one more version, of these attributes.
+pub fn set_attributes(objects: &mut Objects, ino: u32, time: u32, attributes: Attributes)
+    requires { top_in objects.old ino < 0xFFFFFFFF }
+    ensures { (i : ℕ) → get nat_cmp objects.new i ≡ (if ino == i then option_map (attributed time attributes) (get nat_cmp objects.old i) else get nat_cmp objects.old i) }
+{
+    if let Some(stored) = objects.get_mut(&ino) {
+        stored.mode = with_permissions(stored.mode, attributes.mode);
+        stored.uid = attributes.uid;
+        stored.gid = attributes.gid;
+        stored.atime = attributes.atime;
+        stored.mtime = attributes.mtime;
         stored.ctime = time;
         stored.top += 1;
     }

@@ -11,7 +11,7 @@ use byteorder::LittleEndian;
 use jmount::{Mounted, mount};
 use jnode::{Dirent, Fill, InodeNode, Part, write_entry, write_inode};
 use jscan::Geometry;
-use jsteps::{Index, Op, OpFault, Step, Text, advance, plan};
+use jsteps::{Attributes, Index, Op, OpFault, Step, Text, advance, plan};
 use std::alloc::{AllocError, Global};
 use std::process::ExitCode;
 
@@ -101,9 +101,10 @@ fn op_of(k: u32) -> Option<Op<'static>> {
         0..=2 => new_object(k),
         3..=5 => other_bytes(k),
         6..=10 => other_name(k),
+        11 => Some(other_attributes()),
         k => Some(Op::Create {
             time: 7,
-            path: text(TWELVE.get(k.checked_sub(11)? as usize)?),
+            path: text(TWELVE.get(k.checked_sub(12)? as usize)?),
             mode: 0o644,
             uid: 0,
             gid: 0,
@@ -190,6 +191,20 @@ fn other_name(k: u32) -> Option<Op<'static>> {
         },
         _ => return None,
     })
+}
+
+fn other_attributes() -> Op<'static> {
+    Op::SetAttributes {
+        time: 7,
+        path: text("/m/d/e"),
+        attributes: Attributes {
+            mode: 0o700,
+            uid: 8,
+            gid: 9,
+            atime: 10,
+            mtime: 11,
+        },
+    }
 }
 
 /// Names enough for a directory, and objects enough for an index, that are no longer one node of a map.
@@ -304,7 +319,7 @@ fn take(alloc: Global, pair: &mut Pair, step: &Step<'_>, refused: &mut Refused) 
 /// Takes all operations, and says how many steps there were; nothing where something is not as it should be.
 fn take_all(alloc: Global, pair: &mut Pair, refused: &mut Refused) -> Option<usize> {
     let mut count = 0usize;
-    for k in 0..23 {
+    for k in 0..24 {
         let op = op_of(k)?;
         let steps = steps_of(alloc, pair, &op, refused)?;
         for step in &steps {

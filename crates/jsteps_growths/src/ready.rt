@@ -51,5 +51,8 @@ pub fn is_ready(index: &Index, step: &Step<'_>) -> bool
             has_version(index, *ino) && *count <= u32::MAX - size_of(index, *ino)
         }
         Step::Cut { ino, size, .. } => { has_version(index, *ino) && *size <= size_of(index, *ino) }
+        Step::SetAttributes { ino, .. } => {
+            has_version(index, *ino) && size_of(index, *ino) <= u32::MAX
+        }
     }
 }

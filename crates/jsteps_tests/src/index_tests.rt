@@ -4,6 +4,7 @@ use crate::lines::answer;
 use crate::taking::take;
 use crate::trees::{ONE_NUMBER_LEFT, SMALL, index_of};
 use jmount::Kind;
+use jsteps::with_permissions;
 use std::test::Fail;
 
 #[test]
@@ -60,6 +61,49 @@ fn what_steps_leave(rt: HostRuntime) -> Result<(), Fail> {
     let times = index.object(2).map(|o| (o.atime, o.mtime, o.ctime));
     assert_eq!(rt; times, Some((1, 7, 7)));
     Ok(())
+}
+
+#[test]
+fn what_attributes_leave(rt: HostRuntime) -> Result<(), Fail> {
+    let alloc = rt.alloc();
+    let mut index = index_of(alloc, SMALL)?;
+    let rows = [
+        ("attr /a 600", 1, 2, 0o100600, 10, 2),
+        ("attr /d 7711", 1, 3, 0o047711, 0, 3),
+        ("attr / 700", 1, 1, 0o040700, 0, 8),
+        ("mkdir /x 755", 2, 1, 0o040700, 0, 9),
+        ("attr /x 0", 1, 58, 0o040000, 0, 2),
+    ];
+    for (line, count, ino, mode, size, top) in rows {
+        assert_eq!(rt; take(alloc, &mut index, line)?, count, "at {line}");
+        let found = index.object(ino).map(|o| (o.mode, o.size));
+        assert_eq!(rt; found, Some((mode, size)), "at {line}");
+        assert_eq!(rt; index.top(ino), top, "at {line}");
+    }
+    for ino in [1, 2, 3, 58] {
+        let found = index
+            .object(ino)
+            .map(|o| (o.uid, o.gid, o.atime, o.mtime, o.ctime));
+        assert_eq!(rt; found, Some((5, 6, 1, 2, 7)), "of {ino}");
+    }
+    assert_eq!(rt;
+        index.object(4).map(|o| (o.mode, o.uid, o.ctime)),
+        Some((0o040755, 3, 2))
+    );
+    Ok(())
+}
+
+#[test]
+fn other_permission_bits(rt: HostRuntime) {
+    let rows = [
+        (0o100644, 0o600, 0o100600),
+        (0o047777, 0, 0o040000),
+        (0, 0o10777, 0o777),
+        (u32::MAX, 0o7776, u32::MAX - 1),
+    ];
+    for (mode, permissions, wanted) in rows {
+        assert_eq!(rt; with_permissions(mode, permissions), wanted, "{mode:o}");
+    }
 }
 
 #[test]

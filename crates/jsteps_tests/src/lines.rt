@@ -1,7 +1,7 @@
 //! Operations and their answers as lines of text.
 
 use jnode::Part;
-use jsteps::{Index, Op, Step, Text, plan};
+use jsteps::{Attributes, Index, Op, Step, Text, plan};
 use std::alloc::Global;
 use std::test::Fail;
 
@@ -16,12 +16,13 @@ fn words(line: &str) -> (&str, &str, &str, &str) {
     (verb, path, second, third)
 }
 
-/// The operation of a line, at time 7 and for owners 5 and 6. A write has a count of bytes.
+/// The operation of a line, at time 7 and for owners 5 and 6. A write has a count of bytes; attributes have the times 1 and 2.
 pub fn op_of(line: &str) -> Option<Op<'_>> {
     let (verb, path, second, third) = words(line);
     match verb {
         "mkdir" | "create" | "symlink" => Some(new_object(verb, path, second)),
         "write" | "truncate" => Some(other_bytes(verb, path, second, third)),
+        "attr" => Some(other_attributes(path, second)),
         _ => other_name(verb, path, second),
     }
 }
@@ -75,6 +76,20 @@ fn other_bytes<'a>(verb: &str, path: &'a str, second: &str, third: &str) -> Op<'
     }
 }
 
+fn other_attributes<'a>(path: &'a str, second: &str) -> Op<'a> {
+    Op::SetAttributes {
+        time: 7,
+        path: Text::lent(path.as_bytes()),
+        attributes: Attributes {
+            mode: u32::from_str_radix(second, 8).unwrap_or(0),
+            uid: 5,
+            gid: 6,
+            atime: 1,
+            mtime: 2,
+        },
+    }
+}
+
 fn other_name<'a>(verb: &str, path: &'a str, second: &'a str) -> Option<Op<'a>> {
     let time = 7;
     let old = Text::lent(path.as_bytes());
@@ -120,6 +135,23 @@ fn put_step(text: &mut String, step: &Step<'_>) -> Result<(), Fail> {
         } => write!(text, "put {ino} {offset} {}", bytes.len())?,
         Step::Zero { ino, count, .. } => write!(text, "zero {ino} {count}")?,
         Step::Cut { ino, size, .. } => write!(text, "cut {ino} {size}")?,
+        Step::SetAttributes {
+            time,
+            ino,
+            attributes,
+        } => {
+            let Attributes {
+                mode,
+                uid,
+                gid,
+                atime,
+                mtime,
+            } = attributes;
+            write!(
+                text,
+                "attr {ino} {mode:o} {uid} {gid} {atime} {mtime} {time}"
+            )?;
+        }
     }
     Ok(())
 }

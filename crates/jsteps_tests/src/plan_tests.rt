@@ -1,7 +1,9 @@
 //! Tables of operations, each with its steps or its refusal.
 
 use crate::lines::answer;
-use crate::trees::{ALMOST_SPENT, DANGLING, LOOP, ONE_NUMBER_LEFT, SMALL, SPENT, Tree, index_of};
+use crate::trees::{
+    ALMOST_SPENT, DANGLING, KINDS, LOOP, ONE_NUMBER_LEFT, SMALL, SPENT, Tree, index_of,
+};
 use std::alloc::Global;
 use std::process::Abort;
 use std::test::Fail;
@@ -194,8 +196,42 @@ const MISSING: [(&str, &str); 20] = [
     ("rename /h/x /y", "O3 NotFound"),
 ];
 
+const ATTRIBUTES: [(&str, &str); 21] = [
+    ("attr / 700", "attr 1 700 5 6 1 2 7"),
+    ("attr /a 600", "attr 2 600 5 6 1 2 7"),
+    ("attr /d 7777", "attr 3 7777 5 6 1 2 7"),
+    ("attr /d/e/g/i 0", "attr 11 0 5 6 1 2 7"),
+    ("attr a 600", "O1 BadPath"),
+    ("attr  600", "O1 BadPath"),
+    ("attr // 600", "O1 BadPath"),
+    ("attr /d/ 10000", "O1 BadPath"),
+    ("attr /none 600", "O3 NotFound"),
+    ("attr /none/x 600", "O3 NotFound"),
+    ("attr /q 600", "O3 NotFound"),
+    ("attr /q/x 600", "O3 NotFound"),
+    ("attr /none 10000", "O3 NotFound"),
+    ("attr /a/b 600", "O4 NotDirectory"),
+    ("attr /s/x 10000", "O4 NotDirectory"),
+    ("attr /s 777", "O6 WrongKind"),
+    ("attr /c 600", "O6 WrongKind"),
+    ("attr /c 10000", "O6 WrongKind"),
+    ("attr /a 10000", "O10 BadMode"),
+    ("attr /a 100644", "O10 BadMode"),
+    ("attr / 10000", "O10 BadMode"),
+];
+
+/// A symlink's and a device's data must be in their newest nodes.
+const OTHER_KINDS: [(&str, &str); 6] = [
+    ("attr /p 600", "attr 2 600 5 6 1 2 7"),
+    ("attr /s 600", "attr 3 600 5 6 1 2 7"),
+    ("attr /b 600", "O6 WrongKind"),
+    ("attr /c 600", "O6 WrongKind"),
+    ("attr /l 600", "O6 WrongKind"),
+    ("attr /o 600", "O6 WrongKind"),
+];
+
 /// No version is left for names of the root and for its file, and no number for a new object.
-const NONE_LEFT: [(&str, &str); 20] = [
+const NONE_LEFT: [(&str, &str); 24] = [
     ("create x 644", "O1 BadPath"),
     ("create /none/x 644", "O3 NotFound"),
     ("create /a/b 644", "O4 NotDirectory"),
@@ -213,13 +249,17 @@ const NONE_LEFT: [(&str, &str); 20] = [
     ("truncate /a 9", "O12 Exhausted"),
     ("remove /z", "O12 Exhausted"),
     ("rename /a /d/y", "O12 Exhausted"),
+    ("attr / 700", "O12 Exhausted"),
+    ("attr /a 600", "O12 Exhausted"),
+    ("attr /a 10000", "O10 BadMode"),
+    ("attr /d 700", "attr 3 700 5 6 1 2 7"),
     ("link /a /d/y", "set 3 y 2"),
     ("truncate /a 10", ""),
     ("write /a 100 0", ""),
 ];
 
 /// One version is left for names of the root and for `/a`, two for `/b` and for names of `/e`.
-const FEW_LEFT: [(&str, &str); 15] = [
+const FEW_LEFT: [(&str, &str); 17] = [
     ("write /a 9 1", "put 2 9 1"),
     ("write /a 10 1", "put 2 10 1"),
     ("write /a 11 1", "O12 Exhausted"),
@@ -229,6 +269,8 @@ const FEW_LEFT: [(&str, &str); 15] = [
     ("write /b 0 8192", "put 3 0 4096, put 3 4096 4096"),
     ("write /b 0 8193", "O12 Exhausted"),
     ("write /b 4095 2", "O12 Exhausted"),
+    ("attr / 700", "attr 1 700 5 6 1 2 7"),
+    ("attr /a 600", "attr 2 600 5 6 1 2 7"),
     ("remove /a", "clear 1 a"),
     ("create /y 644", "make 100644 5 6 [], set 1 y 6"),
     ("link /a /y", "set 1 y 2"),
@@ -245,7 +287,9 @@ fn plans(rt: HostRuntime) -> Result<(), Fail> {
     agree(&rt, alloc, SMALL, &ALONE)?;
     agree(&rt, alloc, SMALL, &ROOT)?;
     agree(&rt, alloc, SMALL, &PAIRS)?;
-    agree(&rt, alloc, SMALL, &MISSING)
+    agree(&rt, alloc, SMALL, &MISSING)?;
+    agree(&rt, alloc, SMALL, &ATTRIBUTES)?;
+    agree(&rt, alloc, KINDS, &OTHER_KINDS)
 }
 
 #[test]
@@ -277,6 +321,7 @@ fn the_root_by_another_name(rt: HostRuntime) -> Result<(), Fail> {
         ("rename /d /d/r/x", "O8 IntoItself"),
         ("link /d/r /x", "O6 WrongKind"),
         ("remove /d/r", "O7 NotEmpty"),
+        ("attr /d/r 700", "attr 1 700 5 6 1 2 7"),
         ("mkdir /d/r/x 755", "make 40755 5 6 [], set 1 x 3"),
     ];
     agree(&rt, rt.alloc(), LOOP, &rows)
@@ -297,7 +342,7 @@ fn lengthened(alloc: Global, line: &str, count: usize) -> Result<String, Fail> {
     Ok(text)
 }
 
-const LONG: [(&str, usize, &str); 17] = [
+const LONG: [(&str, usize, &str); 20] = [
     ("create /* 644", 254, "make 100644 5 6 [], set 1 * 58"),
     ("create /* 644", 255, "O2 NameTooLong"),
     ("create /d/* 644", 255, "O2 NameTooLong"),
@@ -312,6 +357,9 @@ const LONG: [(&str, usize, &str); 17] = [
     ("truncate /* 2147483648", 255, "O2 NameTooLong"),
     ("mkdir /* 10000", 255, "O2 NameTooLong"),
     ("symlink /* ", 255, "O2 NameTooLong"),
+    ("attr /* 10000", 255, "O2 NameTooLong"),
+    ("attr /* 600", 254, "O3 NotFound"),
+    ("attr */x 600", 255, "O1 BadPath"),
     ("symlink /x *", 4095, "make 120777 5 6 [*], set 1 x 58"),
     ("symlink /x *", 4096, "O11 BadTarget"),
     ("symlink /a *", 4096, "O5 Exists"),

@@ -51,6 +51,26 @@ pub const SMALL: Tree = Tree {
     ],
 };
 
+/// An object of each other kind.
+pub const KINDS: Tree = Tree {
+    objects: &[
+        (2, 1, 0o010644, 0),
+        (3, 1, 0o140755, 0),
+        (4, 1, 0o060600, 2),
+        (5, 1, 0o020600, 2),
+        (6, 1, 0o120777, 3),
+        (7, 1, 0o150644, 0),
+    ],
+    names: &[
+        (1, 1, 2, "p"),
+        (1, 2, 3, "s"),
+        (1, 3, 4, "b"),
+        (1, 4, 5, "c"),
+        (1, 5, 6, "l"),
+        (1, 6, 7, "o"),
+    ],
+};
+
 /// A name without an object, and nothing else.
 pub const DANGLING: Tree = Tree {
     objects: &[],

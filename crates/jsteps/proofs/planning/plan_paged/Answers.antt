@@ -25,3 +25,6 @@ returns-in-Remove-clause-few c = few_of c.args.page c.args.index.now c.args.op.n
 
 pub returns-in-Rename-clause-few : goal.returns-in-Rename-clause-few
 returns-in-Rename-clause-few c = few_of c.args.page c.args.index.now c.args.op.now _ c.requires.page (search rules)
+
+pub returns-in-SetAttributes-clause-few : goal.returns-in-SetAttributes-clause-few
+returns-in-SetAttributes-clause-few c = few_of c.args.page c.args.index.now c.args.op.now _ c.requires.page (search rules)
