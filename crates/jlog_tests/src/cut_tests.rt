@@ -7,7 +7,7 @@ use byteorder::{BigEndian, LittleEndian};
 use jmount::mount;
 use jnode::{Damage, Order};
 use jscan::{Finding, FindingKind, Geometry};
-use jsteps::{Op, Text};
+use jsteps::{Attributes, Op, Text};
 use std::alloc::Global;
 use std::test::Fail;
 
@@ -56,6 +56,32 @@ const fn made(time: u32) -> Change {
 
 const fn named(name: &'static [u8], ino: u32) -> Change {
     Change::Name { name, ino }
+}
+
+const ROOT: Attributes = Attributes {
+    mode: 0o700,
+    uid: 5,
+    gid: 6,
+    atime: 1,
+    mtime: 2,
+};
+
+fn set_attributes(time: u32, path: &'static [u8], attributes: Attributes) -> Op<'static> {
+    Op::SetAttributes {
+        time,
+        path: Text::lent(path),
+        attributes,
+    }
+}
+
+fn make_directory(time: u32, path: &'static [u8]) -> Op<'static> {
+    Op::Mkdir {
+        time,
+        path: Text::lent(path),
+        mode: 0o755,
+        uid: 0,
+        gid: 0,
+    }
 }
 
 fn log_of<E: Order>(alloc: Global, case: &Case<'_>) -> Result<Log, Fail> {
@@ -188,13 +214,7 @@ fn a_file_that_is_cut_and_written(rt: HostRuntime) -> Result<(), Fail> {
 #[test]
 fn a_directory_that_is_renamed(rt: HostRuntime) -> Result<(), Fail> {
     let ops = [
-        Op::Mkdir {
-            time: 1,
-            path: Text::lent(b"/d"),
-            mode: 0o755,
-            uid: 0,
-            gid: 0,
-        },
+        make_directory(1, b"/d"),
         Op::Rename {
             time: 2,
             old: Text::lent(b"/d"),
@@ -220,6 +240,102 @@ fn a_directory_that_is_renamed(rt: HostRuntime) -> Result<(), Fail> {
     };
     assert!(rt; survives::<LittleEndian>(rt.alloc(), &case, 212)?);
     assert!(rt; survives::<BigEndian>(rt.alloc(), &case, 212)?);
+    Ok(())
+}
+
+/// The root's first inode node.
+#[test]
+fn a_root_that_gets_attributes(rt: HostRuntime) -> Result<(), Fail> {
+    let case = Case {
+        base: &[],
+        before: &[],
+        blocks: 1,
+        from: 0,
+        ops: &[set_attributes(7, b"/", ROOT)],
+        steps: &[Change::Root {
+            attributes: ROOT,
+            time: 7,
+        }],
+        whole: &[80],
+    };
+    assert!(rt; survives::<LittleEndian>(rt.alloc(), &case, 80)?);
+    assert!(rt; survives::<BigEndian>(rt.alloc(), &case, 80)?);
+    Ok(())
+}
+
+/// A node of the root between two of its names.
+#[test]
+fn a_root_with_names(rt: HostRuntime) -> Result<(), Fail> {
+    let attributes = Attributes {
+        mode: 0o711,
+        uid: 0,
+        gid: 0,
+        atime: 0,
+        mtime: 0,
+    };
+    let made = Change::Make {
+        mode: 0o040755,
+        time: 0,
+    };
+    let case = Case {
+        base: &[],
+        before: &[],
+        blocks: 1,
+        from: 0,
+        ops: &[
+            make_directory(0, b"/d"),
+            set_attributes(0, b"/", attributes),
+            make_directory(0, b"/e"),
+        ],
+        steps: &[
+            made,
+            named(b"d", 2),
+            Change::Root {
+                attributes,
+                time: 0,
+            },
+            made,
+            named(b"e", 3),
+        ],
+        whole: &[80, 121, 192, 260, 301],
+    };
+    assert!(rt; survives::<LittleEndian>(rt.alloc(), &case, 304)?);
+    assert!(rt; survives::<BigEndian>(rt.alloc(), &case, 304)?);
+    Ok(())
+}
+
+/// A file keeps its bytes.
+#[test]
+fn a_file_that_gets_attributes(rt: HostRuntime) -> Result<(), Fail> {
+    let case = Case {
+        base: &[],
+        before: &[],
+        blocks: 1,
+        from: 0,
+        ops: &[
+            create(1, b"/a"),
+            write(2, b"/a", 0, &TEN),
+            set_attributes(3, b"/a", ROOT),
+        ],
+        steps: &[
+            made(1),
+            named(b"a", 2),
+            Change::Put {
+                file: 0,
+                offset: 0,
+                bytes: &TEN,
+                time: 2,
+            },
+            Change::File {
+                file: 0,
+                attributes: ROOT,
+                time: 3,
+            },
+        ],
+        whole: &[80, 121, 202, 272],
+    };
+    assert!(rt; survives::<LittleEndian>(rt.alloc(), &case, 272)?);
+    assert!(rt; survives::<BigEndian>(rt.alloc(), &case, 272)?);
     Ok(())
 }
 

@@ -1,6 +1,6 @@
 //! Operations as lines of text.
 
-use jsteps::{Op, Text};
+use jsteps::{Attributes, Op, Text};
 
 /// What is written.
 const BYTES: [u8; 16_384] = [0x5A; 16_384];
@@ -17,7 +17,7 @@ fn words(line: &str) -> (&str, &str, &str, &str) {
 }
 
 /// The operation of a line, at time 0 and for owners 0. A write has an offset and a count of bytes,
-/// which are 0xFF under the verb `erase`.
+/// which are 0xFF under the verb `erase`. Attributes have owners 5 and 6 and the times 1 and 2.
 pub fn op_of(line: &str) -> Option<Op<'_>> {
     let (verb, path, second, third) = words(line);
     let path = Text::lent(path.as_bytes());
@@ -64,6 +64,17 @@ pub fn op_of(line: &str) -> Option<Op<'_>> {
             new: Text::lent(second.as_bytes()),
         },
         "remove" => Op::Remove { time, path },
+        "attr" => Op::SetAttributes {
+            time,
+            path,
+            attributes: Attributes {
+                mode,
+                uid: 5,
+                gid: 6,
+                atime: 1,
+                mtime: 2,
+            },
+        },
         _ => return None,
     })
 }

@@ -1,6 +1,7 @@
 //! A plain file system: files that have their bytes in a list, and names in the root.
 
 use jmount::{Kind, Mounted, Object};
+use jsteps::Attributes;
 use std::alloc::Global;
 use std::test::Fail;
 
@@ -34,39 +35,38 @@ pub enum Change {
         size: usize,
         time: u32,
     },
+    /// Other attributes of the root.
+    Root {
+        attributes: Attributes,
+        time: u32,
+    },
+    /// Other attributes of a file.
+    File {
+        file: usize,
+        attributes: Attributes,
+        time: u32,
+    },
 }
 
 #[derive(Drop)]
 struct File {
-    mode: u32,
-    made: u32,
-    changed: u32,
+    object: Object,
     bytes: Vec<u8>,
 }
 
-/// Files whose numbers are 2, 3 and so on, and the names that these tests use, in byte order.
+/// The root's attributes, files whose numbers are 2, 3 and so on, and the names that these tests use, in byte order.
 #[derive(Drop)]
 pub struct Plain {
+    root: Object,
     files: Vec<File>,
     names: [(&'static [u8], Option<u32>); 4],
 }
 
 impl File {
     fn object(&self) -> Object {
-        let kind = if self.mode & 0o170000 == 0o040000 {
-            Kind::Directory
-        } else {
-            Kind::Regular
-        };
         Object {
-            kind,
-            mode: self.mode,
-            uid: 0,
-            gid: 0,
             size: self.bytes.len().min(1_000_000) as u32,
-            atime: self.made,
-            mtime: self.changed,
-            ctime: self.changed,
+            ..self.object
         }
     }
 
@@ -81,17 +81,35 @@ impl File {
     }
 }
 
-/// The root of an empty flash.
-fn root() -> Object {
+/// A new object without bytes.
+fn new_object(mode: u32, time: u32) -> Object {
+    let kind = if mode & 0o170000 == 0o040000 {
+        Kind::Directory
+    } else {
+        Kind::Regular
+    };
     Object {
-        kind: Kind::Directory,
-        mode: 0o040755,
+        kind,
+        mode,
         uid: 0,
         gid: 0,
         size: 0,
-        atime: 0,
-        mtime: 0,
-        ctime: 0,
+        atime: time,
+        mtime: time,
+        ctime: time,
+    }
+}
+
+/// The same object with other attributes.
+fn with_attributes(object: Object, attributes: Attributes, time: u32) -> Object {
+    Object {
+        mode: object.mode & 0o170000 | attributes.mode,
+        uid: attributes.uid,
+        gid: attributes.gid,
+        atime: attributes.atime,
+        mtime: attributes.mtime,
+        ctime: time,
+        ..object
     }
 }
 
@@ -99,6 +117,7 @@ impl Plain {
     /// The root alone.
     pub fn new(alloc: Global) -> Plain {
         Plain {
+            root: new_object(0o040755, 0),
             files: Vec::new(alloc),
             names: [(b"a", None), (b"b", None), (b"d", None), (b"e", None)],
         }
@@ -114,7 +133,8 @@ impl Plain {
 
     fn touched(&mut self, file: usize, time: u32) -> Result<&mut File, Fail> {
         let file = self.files.get_mut(file).ok_or("no file")?;
-        file.changed = time;
+        file.object.mtime = time;
+        file.object.ctime = time;
         Ok(file)
     }
 
@@ -122,9 +142,7 @@ impl Plain {
     pub fn take(&mut self, alloc: Global, change: &Change) -> Result<(), Fail> {
         match *change {
             Change::Make { mode, time } => self.files.push(File {
-                mode,
-                made: time,
-                changed: time,
+                object: new_object(mode, time),
                 bytes: Vec::new(alloc),
             })?,
             Change::Name { name, ino } => self.set_name(name, Some(ino)),
@@ -137,6 +155,17 @@ impl Plain {
             } => self.touched(file, time)?.put(offset, bytes)?,
             Change::Zero { file, size, time } => self.touched(file, time)?.bytes.resize(size, 0)?,
             Change::Cut { file, size, time } => self.touched(file, time)?.bytes.truncate(size),
+            Change::Root { attributes, time } => {
+                self.root = with_attributes(self.root, attributes, time);
+            }
+            Change::File {
+                file,
+                attributes,
+                time,
+            } => {
+                let file = self.files.get_mut(file).ok_or("no file")?;
+                file.object = with_attributes(file.object, attributes, time);
+            }
         }
         Ok(())
     }
@@ -149,7 +178,7 @@ impl Plain {
     fn are_files_shown(&self, mounted: &Mounted<'_>, room: &mut [u8]) -> bool {
         let mut shown = mounted.objects();
         let mut ino: u32 = 2;
-        let mut same = shown.next() == Some((1, root()));
+        let mut same = shown.next() == Some((1, self.root));
         for file in &self.files {
             let count = mounted.read_at(ino, 0, room);
             same = same

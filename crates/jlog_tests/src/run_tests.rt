@@ -3,6 +3,7 @@
 use crate::sessions::run_lines;
 use byteorder::{BigEndian, LittleEndian};
 use jlog::Place;
+use jmount::mount;
 use jnode::Order;
 use jscan::Geometry;
 use std::alloc::Global;
@@ -74,6 +75,18 @@ const ROWS: &[Row] = &[
         places: &[(12, 68), (80, 41)],
         len: 124,
     },
+    Row {
+        blocks: 1,
+        lines: &["attr / 700"],
+        places: &[(12, 68)],
+        len: 80,
+    },
+    Row {
+        blocks: 1,
+        lines: &["mkdir /d 755", "attr / 711", "mkdir /e 755"],
+        places: &[(12, 68), (80, 41), (124, 68), (192, 68), (260, 41)],
+        len: 304,
+    },
 ];
 
 fn rows_hold<E: Order>(alloc: Global) -> Result<bool, Fail> {
@@ -131,6 +144,43 @@ fn a_file_that_is_made(rt: HostRuntime) -> Result<(), Fail> {
     assert!(rt; big.output.starts_with(&BIG_MARKER));
     assert_eq!(rt; big.output.get(80..121), Some(BIG_ENTRY.as_slice()));
     assert!(rt; big.output.ends_with(b"\xFF\xFF\xFF"));
+    Ok(())
+}
+
+/// The names of the root and its own nodes take one another's next versions.
+#[test]
+fn attributes_of_the_root(rt: HostRuntime) -> Result<(), Fail> {
+    let lines = ["mkdir /d 755", "attr / 711", "mkdir /e 755"];
+    let run = run_lines::<LittleEndian>(rt.alloc(), &[], GEOMETRY, 1, &lines)?;
+    for (at, version) in [(96, 1), (140, 2), (276, 3)] {
+        let found = run.output.get(at..at + 4);
+        assert_eq!(rt; found, Some([version, 0, 0, 0].as_slice()), "at {at}");
+    }
+    let mounted = mount::<LittleEndian>(rt.alloc(), &run.output, GEOMETRY)?;
+    let root = mounted
+        .object(1)
+        .map(|o| (o.mode, o.uid, o.gid, o.atime, o.mtime, o.ctime));
+    assert_eq!(rt; root, Some((0o040711, 5, 6, 1, 2, 0)));
+    Ok(())
+}
+
+/// A file keeps its bytes when its attributes are set.
+#[test]
+fn attributes_of_a_file(rt: HostRuntime) -> Result<(), Fail> {
+    let lines = [
+        "create /a 644",
+        "write /a 0 10",
+        "truncate /a 4",
+        "write /a 8 1",
+        "attr /a 600",
+    ];
+    let run = run_lines::<BigEndian>(rt.alloc(), &[], GEOMETRY, 1, &lines)?;
+    let mounted = mount::<BigEndian>(rt.alloc(), &run.output, GEOMETRY)?;
+    let file = mounted.object(2).map(|o| (o.mode, o.uid, o.gid, o.size));
+    assert_eq!(rt; file, Some((0o100600, 5, 6, 9)));
+    let mut room = [1u8; 10];
+    assert_eq!(rt; mounted.read_at(2, 0, &mut room), 9);
+    assert_eq!(rt; room, [0x5A, 0x5A, 0x5A, 0x5A, 0, 0, 0, 0, 0x5A, 1]);
     Ok(())
 }
 
