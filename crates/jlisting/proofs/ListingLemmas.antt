@@ -5,10 +5,10 @@ use Rattle.jlisting.specs.declared.line.Line.{Line}
 use Rattle.jlisting.specs.declared.statement.Settings.{Settings}
 use Rattle.jlisting.specs.declared.statement.Statement.{Statement}
 
--- more than four words mean nothing
-pub statement_of_words_many : (s : Settings) (name a b c : List ℕ) (more : List (List ℕ)) → 0 < length more → statement_of_words s (name ∷ a ∷ b ∷ c ∷ more) ≡ None
-statement_of_words_many s name a b c [] some = absurd (omega arith)
-statement_of_words_many s name a b c (d ∷ more) some = refl
+-- more than seven words mean nothing
+pub statement_of_words_many : (s : Settings) (name a b c d e f : List ℕ) (more : List (List ℕ)) → 0 < length more → statement_of_words s (name ∷ a ∷ b ∷ c ∷ d ∷ e ∷ f ∷ more) ≡ None
+statement_of_words_many s name a b c d e f [] some = absurd (omega arith)
+statement_of_words_many s name a b c d e f (g ∷ more) some = refl
 
 pub prepend-nil : (r : Result (List Line) ℕ) → prepend [] r ≡ r
 prepend-nil (Ok lines) = refl

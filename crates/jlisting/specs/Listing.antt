@@ -63,6 +63,11 @@ rename_line s a b = text_of a >>= λ old. text_of b >>= λ new. operation (op.Re
 abbrev pub remove_line : Settings → List ℕ → Option Statement
 remove_line s a = text_of a >>= λ path. operation (op.Remove s.time path)
 
+abbrev pub attr_line : Settings → List ℕ → List ℕ → List ℕ → List ℕ → List ℕ → List ℕ → Option Statement
+attr_line s a b c d e f =
+    mode_of a >>= λ mode. owner b >>= λ uid. owner c >>= λ gid. number d >>= λ atime. number e >>= λ mtime. text_of f >>= λ path.
+    operation (op.SetAttributes s.time path (record { mode = mode; uid = uid; gid = gid; atime = atime; mtime = mtime }))
+
 -- ---- a line
 
 -- the form with this first word and so many after it
@@ -89,10 +94,14 @@ three_operands s name a b c =
     else if bytes_eq name (codes "part") then part_line s a b c
     else None
 
+unfoldable pub six_operands : Settings → List ℕ → List ℕ → List ℕ → List ℕ → List ℕ → List ℕ → List ℕ → Option Statement
+six_operands s name a b c d e f = if bytes_eq name (codes "attr") then attr_line s a b c d e f else None
+
 abbrev pub statement_of_words : Settings → List (List ℕ) → Option Statement
 statement_of_words s (name ∷ a ∷ []) = one_operand s name a
 statement_of_words s (name ∷ a ∷ b ∷ []) = two_operands s name a b
 statement_of_words s (name ∷ a ∷ b ∷ c ∷ []) = three_operands s name a b c
+statement_of_words s (name ∷ a ∷ b ∷ c ∷ d ∷ e ∷ f ∷ []) = six_operands s name a b c d e f
 statement_of_words s _ = None
 
 -- an empty line, or a comment

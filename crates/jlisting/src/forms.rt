@@ -1,12 +1,12 @@
 //! The forms of a line, each by the words after its first.
 
 ghost use Rattle.jword.specs.Words.{IsRead};
-ghost use Rattle.jlisting.specs.Listing.{time_line, owner_line, mkdir_line, create_line, symlink_line, write_line, part_line, truncate_line, link_line, rename_line, remove_line};
+ghost use Rattle.jlisting.specs.Listing.{time_line, owner_line, mkdir_line, create_line, symlink_line, write_line, part_line, truncate_line, link_line, rename_line, remove_line, attr_line};
 
 use crate::line::Action;
 use crate::statement::{Settings, Statement};
 use crate::words::{data_word, decimal_word, file_word, mode_word, owner_word, text_word};
-use jsteps::Op;
+use jsteps::{Attributes, Op};
 use jword::WordFault;
 use std::alloc::Global;
 
@@ -203,5 +203,33 @@ pub fn read_remove<'a>(
     Ok(Statement::Action(Action::Op(Op::Remove {
         time: settings.time,
         path,
+    })))
+}
+
+/// `attr MODE UID GID ATIME MTIME PATH`
+pub fn read_attr<'a>(
+    alloc: Global,
+    settings: Settings,
+    mode: &'a [u8],
+    uid: &'a [u8],
+    gid: &'a [u8],
+    atime: &'a [u8],
+    mtime: &'a [u8],
+    path: &'a [u8],
+) -> Result<Statement<'a>, WordFault>
+    ensures { IsRead (attr_line settings mode.entry.now uid.entry.now gid.entry.now atime.entry.now mtime.entry.now path.entry.now) result }
+{
+    let attributes = Attributes {
+        mode: mode_word(mode)?,
+        uid: owner_word(uid)?,
+        gid: owner_word(gid)?,
+        atime: decimal_word(atime)?,
+        mtime: decimal_word(mtime)?,
+    };
+    let path = text_word(alloc, path)?;
+    Ok(Statement::Action(Action::Op(Op::SetAttributes {
+        time: settings.time,
+        path,
+        attributes,
     })))
 }

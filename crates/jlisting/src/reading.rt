@@ -1,12 +1,12 @@
 //! The form of a line, by its number of words and its first word.
 
-ghost use Rattle.std.specs.Prelude.{◌==◌};
+ghost use Rattle.std.specs.Prelude.{◌==◌, ◌∷◌};
 ghost use Rattle.std.specs.List.{slice_split};
 ghost use Rattle.jword.specs.Words.{IsRead};
-ghost use Rattle.jlisting.specs.Listing.{one_operand, two_operands, three_operands, statement_of, statement_of_words};
+ghost use Rattle.jlisting.specs.Listing.{one_operand, two_operands, three_operands, six_operands, statement_of, statement_of_words};
 
 use crate::forms::{
-    read_create, read_link, read_mkdir, read_owner, read_part, read_remove, read_rename,
+    read_attr, read_create, read_link, read_mkdir, read_owner, read_part, read_remove, read_rename,
     read_symlink, read_time, read_truncate, read_write,
 };
 use crate::split::split_once;
@@ -85,6 +85,52 @@ fn read_three<'a>(
     }
 }
 
+/// A line of seven words.
+#[tactic(auto, unfolding(crate::specs::Listing::six_operands))]
+fn read_six<'a>(
+    alloc: Global,
+    settings: Settings,
+    name: &[u8],
+    a: &'a [u8],
+    b: &'a [u8],
+    c: &'a [u8],
+    d: &'a [u8],
+    e: &'a [u8],
+    f: &'a [u8],
+) -> Result<Statement<'a>, WordFault>
+    ensures { IsRead (six_operands settings name.now a.entry.now b.entry.now c.entry.now d.entry.now e.entry.now f.entry.now) result }
+{
+    if is_word(name, b"attr") {
+        read_attr(alloc, settings, a, b, c, d, e, f)
+    } else {
+        Err(WordFault::Invalid)
+    }
+}
+
+/// What a line of more than four words means, by the first four and the rest of it.
+fn read_many<'a>(
+    alloc: Global,
+    settings: Settings,
+    name: &[u8],
+    a: &'a [u8],
+    b: &'a [u8],
+    c: &'a [u8],
+    line: &'a [u8],
+) -> Result<Statement<'a>, WordFault>
+    ensures { IsRead (statement_of_words settings (name.now ∷ a.entry.now ∷ b.entry.now ∷ c.entry.now ∷ slice_split (λ b. b == 32) line.entry.now)) result }
+{
+    let Some((d, line)) = split_once(line, b' ') else {
+        return Err(WordFault::Invalid);
+    };
+    let Some((e, line)) = split_once(line, b' ') else {
+        return Err(WordFault::Invalid);
+    };
+    match split_once(line, b' ') {
+        None => read_six(alloc, settings, name, a, b, c, d, e, line),
+        Some(_) => Err(WordFault::Invalid),
+    }
+}
+
 /// What the words of a line mean.
 fn read_words<'a>(
     alloc: Global,
@@ -104,7 +150,7 @@ fn read_words<'a>(
     };
     match split_once(line, b' ') {
         None => read_three(alloc, settings, name, a, b, line),
-        Some(_) => Err(WordFault::Invalid),
+        Some((c, line)) => read_many(alloc, settings, name, a, b, c, line),
     }
 }
 

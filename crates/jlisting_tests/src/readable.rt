@@ -5,7 +5,7 @@ use jlisting::{Action, Line, listing};
 use std::test::Fail;
 
 /// Whole listings, each with the lines that are read of it.
-const LISTINGS: [(&[u8], &str); 9] = [
+const LISTINGS: [(&[u8], &str); 10] = [
     (
         b"create 0644 /a\nwrite /a 0 0102030405060708090a\ntruncate /a 4\nwrite /a 8 ff\n",
         "1: 0 create 644 0 0 /a\n2: 0 write 0 /a \\x01\\x02\\x03\\x04\\x05\\x06\\x07\\x08\\x09\\x0a\n\
@@ -33,6 +33,10 @@ const LISTINGS: [(&[u8], &str); 9] = [
     ),
     (b"#\r\nremove /a\r\n", "2: 0 remove /a\\x0d\n"),
     (b"owner 1 2\ncreate 0 /a\n", "2: 0 create 0 1 2 /a\n"),
+    (
+        b"time 7\nowner 8 9\nattr 0700 5 6 1 2 /\nremove /a\n",
+        "3: 7 attr 700 5 6 1 2 /\n4: 7 remove /a\n",
+    ),
 ];
 
 /// Listings of no action.
@@ -48,7 +52,7 @@ const EMPTY: [&[u8]; 8] = [
 ];
 
 /// Words, each in a line of its own, at the limits of what is read.
-const WORDS: [(&[u8], &str); 24] = [
+const WORDS: [(&[u8], &str); 28] = [
     (b"truncate /a 0000000000", "1: 0 truncate 0 /a\n"),
     (b"truncate /a 4294967295", "1: 0 truncate 4294967295 /a\n"),
     (b"truncate /a 0000000042", "1: 0 truncate 42 /a\n"),
@@ -76,6 +80,13 @@ const WORDS: [(&[u8], &str); 24] = [
     (b"part /\\x61 0 a\tb", "1: 0 part 0 /a a\tb\n"),
     (b"part /a 0 \xc3\xa4", "1: 0 part 0 /a \u{e4}\n"),
     (b"link a b", "1: 0 link a b\n"),
+    (b"attr 0 0 0 0 0 /a", "1: 0 attr 0 0 0 0 0 /a\n"),
+    (
+        b"attr 777777 65535 0000065534 4294967295 4294967294 /\x61",
+        "1: 0 attr 777777 65535 65534 4294967295 4294967294 /a\n",
+    ),
+    (b"attr 10000 1 2 3 4 /a", "1: 0 attr 10000 1 2 3 4 /a\n"),
+    (b"attr 600 1 2 3 4 attr", "1: 0 attr 600 1 2 3 4 attr\n"),
 ];
 
 #[test]

@@ -1,7 +1,7 @@
 //! Listings as they are read, as lines of text.
 
 use jlisting::{Action, Line, ListingFault, listing};
-use jsteps::{Op, Text};
+use jsteps::{Attributes, Op, Text};
 use std::alloc::{AllocError, Global};
 use std::fmt::Write;
 
@@ -41,6 +41,24 @@ fn show_names(
     write!(out, "{time} {verb}")?;
     show_bytes(out, old)?;
     show_bytes(out, new)
+}
+
+/// Other attributes: mode, owners and times.
+fn show_attributes(
+    out: &mut String,
+    time: u32,
+    attributes: &Attributes,
+    path: &Text<'_>,
+) -> Result<(), AllocError> {
+    let Attributes {
+        mode,
+        uid,
+        gid,
+        atime,
+        mtime,
+    } = attributes;
+    write!(out, "{time} attr {mode:o} {uid} {gid} {atime} {mtime}")?;
+    show_bytes(out, path)
 }
 
 /// A new object, or what `show_change` shows.
@@ -98,6 +116,11 @@ fn show_change(out: &mut String, op: &Op<'_>) -> Result<(), AllocError> {
             write!(out, "{time} remove")?;
             show_bytes(out, path)
         }
+        Op::SetAttributes {
+            time,
+            path,
+            attributes,
+        } => show_attributes(out, *time, attributes, path),
         _ => Ok(()),
     }
 }

@@ -30,7 +30,7 @@ const NUMBERS: [(&[u8], usize); 14] = [
 ];
 
 /// Lines that mean nothing, each a listing of its own.
-const NOTHING: [&[u8]; 101] = [
+const NOTHING: [&[u8]; 119] = [
     b"truncate /a 00000000000",
     b"truncate /a 4294967296",
     b"truncate /a 9999999999",
@@ -109,7 +109,25 @@ const NOTHING: [&[u8]; 101] = [
     b"remov /a",
     b"REMOVE /a",
     b"copy /a /b",
-    b"attr 644 0 0 0 0 /a",
+    b"attr",
+    b"attr 644",
+    b"attr 644 /a",
+    b"attr 644 0 0 /a",
+    b"attr 644 0 0 0 /a",
+    b"attr 644 0 0 0 0",
+    b"attr 644 0 0 0 0 ",
+    b"attr 644 0 0 0 0 /a ",
+    b"attr 644 0 0 0 0 /a /b",
+    b"attr 644 0 0 0 0 0 /a",
+    b"attr 644 0 0 0 0 /a 0 0",
+    b"attr 644 0 0  0 /a",
+    b"attr 8 0 0 0 0 /a",
+    b"attr 0000644 0 0 0 0 /a",
+    b"attr 644 65536 0 0 0 /a",
+    b"attr 644 0 65536 0 0 /a",
+    b"attr 644 0 0 4294967296 0 /a",
+    b"attr 644 0 0 0 4294967296 /a",
+    b"attr 644 0 0 0 0 \\",
     b"\x00",
     b" ",
     b" #",
