@@ -448,6 +448,27 @@ run cat "${small[@]}" built /d/c; want 0 "hi" ""
 run check "${small[@]}" built; want 0 "*findings 0*mount ok" ""
 rm built
 
+# Other attributes: of the root, between two of its names, and of a file that keeps its bytes
+for order in little big; do
+    flash=("${small[@]}" --endian "$order")
+    lines listing 'time 7' 'attr 0700 5 6 1 2 /'
+    run build "${flash[@]}" --blocks 1 listing built; want 0 "accepted 1 nodes 1 bytes 80" ""
+    run ls "${flash[@]}" built; want 0 "d 0700 5 6 0 2 1 /" ""
+    run check "${flash[@]}" built
+    want 0 $'block 0\n00000000 marker 12\n0000000c inode 68 ino 1 version 1 mode 40700 size 0 offset 0 data 0 none\n00000050 erased 8112\ntotal blocks 1 entries 0 inodes 1 findings 0\nmount ok' ""
+    line="the times of the root"
+    [[ $order == big ]] || { bytes 01 00 00 00 02 00 00 00 07 00 00 00 > piece; head -c 56 built | tail -c 12 > times; same times piece; }
+    lines listing 'mkdir 0755 /d' 'attr 0711 0 0 0 0 /' 'mkdir 0755 /e'
+    run build "${flash[@]}" --blocks 1 listing built; want 0 "accepted 3 nodes 5 bytes 304" ""
+    run ls "${flash[@]}" built; want 0 $'d 0711 0 0 0 0 1 /\nd 0755 0 0 0 0 2 /d\nd 0755 0 0 0 0 3 /e' ""
+    run check "${flash[@]}" built
+    want 0 "*entry 44 pino 1 version 1 ino 2 type 4 name d*inode 68 ino 1 version 2 mode 40711 *entry 44 pino 1 version 3 ino 3 type 4 name e*" ""
+    { cat file_listing; printf 'attr 0600 1 1 0 0 /a\n'; } > listing
+    run build "${flash[@]}" --blocks 1 listing built; want 0 "accepted 5 nodes 7 bytes 480" ""
+    run ls "${flash[@]}" built; want 0 "$root"$'\n- 0600 1 1 9 0 2 /a' ""
+    run cat "${flash[@]}" built /a; whole nine
+done
+
 # Operations that are refused: what was accepted before stands
 lines listing 'mkdir 0755 /d' 'mkdir 0755 /d'
 run build "${small[@]}" --blocks 1 listing built; want 1 "" "jffs2_image: S1 Refused O5 Exists line 2"
@@ -477,6 +498,12 @@ refuse "O9 TooLarge" 'write /f 2147483647 00'
 refuse "O9 TooLarge" 'truncate /f 2147483648'
 refuse "O10 BadMode" 'create 10000 /x'
 refuse "O11 BadTarget" 'symlink /x a\x00'
+refuse "O1 BadPath" 'attr 0600 0 0 0 0 f'
+refuse "O3 NotFound" 'attr 0600 0 0 0 0 /none'
+refuse "O4 NotDirectory" 'attr 0600 0 0 0 0 /f/a'
+refuse "O10 BadMode" 'attr 10000 0 0 0 0 /f'
+lines listing 'symlink /l a' 'attr 0600 0 0 0 0 /l'
+run build "${small[@]}" --blocks 1 listing built; want 1 "" "jffs2_image: S1 Refused O6 WrongKind line 2"
 lines listing 'mkdir 0755 /d' 'create 0644 /d/a' 'remove /d'
 run build "${small[@]}" --blocks 1 listing built; want 1 "" "jffs2_image: S1 Refused O7 NotEmpty line 3"
 lines listing "create 0644 /$name"
@@ -493,7 +520,8 @@ for text in 'paint /a' 'Create 0644 /a' 'create /a' 'create 0644' 'create 0644 /
     'create 0644 /a ' ' ' '\r' 'create 8 /a' 'create 0000644 /a' 'create -1 /a' 'create 0644\t/a' 'write /a 0 0' 'write /a 0 0g' \
     'write /a 0 ' 'write /a 0' 'write /a -1 00' 'write /a 4294967296 00' 'write /a 00000000001 00' 'write /a 0 00 00' \
     'owner 65536 0' 'owner 0' 'time x' 'time 4294967296' 'time 5\r' 'remove /\\' 'remove /\\x6' 'remove /\\X61' \
-    'symlink /b \\\\' 'rename /a' 'link /a' 'truncate /a x' 'part /a 0 \0377'; do
+    'symlink /b \\\\' 'rename /a' 'link /a' 'truncate /a x' 'part /a 0 \0377' 'attr 0600 0 0 0 /a' 'attr 0600 0 0 0 0 0 /a' \
+    'attr 0600 65536 0 0 0 /a' 'attr 0600 0 0 0 4294967296 /a' 'attr 8 0 0 0 0 /a'; do
     wrong_line "$text"
 done
 cp made_little built

@@ -134,6 +134,8 @@ that begin with # are skipped.
   link OLD NEW              gives a file the further name NEW
   rename OLD NEW            moves OLD to NEW, which must not be there yet
   remove PATH               removes a name; a directory must be empty
+  attr MODE UID GID ATIME MTIME PATH
+                            sets permissions, owner and times of what PATH names, or of /
 
 Numbers are decimal, MODE is octal, HEX is pairs of hexadecimal digits, or - for no bytes.
 In a path or a target, \\x and two hexadecimal digits are one byte: a space is \\x20.
