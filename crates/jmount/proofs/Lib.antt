@@ -23,3 +23,8 @@ pub mod VersionsLemmas
 pub mod CollectLemmas
 pub mod StoredStateLemmas
 pub mod MountLemmas
+pub mod ShapeLemmas
+pub mod ShapeFormLemmas
+pub mod ShapeOfLemmas
+pub mod ShapePathLemmas
+pub mod ShapingLemmas

@@ -44,7 +44,7 @@ step-outline s here name =
     ap (λ (b : Bool). cond b (step_to (outline s) (named s here name)) (Err fault.NotDirectory)) (is_directory-outline s here)
     ∙ ap (λ (r : Result ℕ FindFault). cond (is_directory s here) r (Err fault.NotDirectory)) (step_to-outline s (named s here name))
 
-walk-outline : (s : State) (names : List (List ℕ)) (here : Result ℕ FindFault) → walk (outline s) names here ≡ walk s names here
+pub walk-outline : (s : State) (names : List (List ℕ)) (here : Result ℕ FindFault) → walk (outline s) names here ≡ walk s names here
 walk-outline s [] here = refl
 walk-outline s (name ∷ names) (Err f) = refl
 walk-outline s (name ∷ names) (Ok here) = ap (walk (outline s) names) (step-outline s here name) ∙ walk-outline s names (step s here name)

@@ -1,5 +1,5 @@
 -- Laws of the definitions. Each is a statement: it holds since a public function's contract names it.
-use Rattle.std.specs.Prelude.{◌≡◌, ◌≢◌, ◌↔◌, ◌⊎◌, ◌+◌, ◌<◌, ◌≤◌, ◌==◌, true, false, length, None, ℕ, max, List, [], ◌∷◌, ◌++◌, map, flat_map, slice_index, Contains, option_map, Some, unwrap_or, if◌then◌else◌}
+use Rattle.std.specs.Prelude.{◌≡◌, ◌≢◌, ◌↔◌, ◌⊎◌, ◌+◌, ◌<◌, ◌≤◌, ◌==◌, true, false, IsTrue, length, None, Ok, ℕ, max, List, [], ◌∷◌, ◌++◌, map, flat_map, slice_index, Contains, option_map, Some, unwrap_or, if◌then◌else◌}
 use Rattle.std.specs.FinMap.{get}
 use Rattle.flashbase.specs.Lists.{greatest}
 use Rattle.jfrag.specs.Pieces.{end_of, covers, byte_of}
@@ -13,10 +13,12 @@ use Rattle.jnode.specs.declared.node.Dirent.{Dirent}
 use Rattle.jnode.specs.declared.node.NodeRef.{NodeRef}
 use Rattle.jnode.specs.declared.node.NodeRef.TheVariants.{Entry, Inode}
 use Rattle.jmount.specs.Clash.{NodesClash, NoInodesClash}
-use Rattle.jmount.specs.Tree.{ObjectOf, State, sized, outline, object, named}
+use Rattle.jmount.specs.Tree.{ObjectOf, State, Outline, sized, outline, object, named, is_directory}
 use Rattle.jmount.specs.StateOf.{inodes, entries, versions_of, piece_of, contents, default_root, object_by, object_of, objects_of, numbers_in, next_of, owner, version_of, top, tops_of, state_of}
 use Rattle.jmount.specs.Shown.{top_at}
-use Rattle.jmount.specs.Find.{IsPath, path_names, find}
+use Rattle.jmount.specs.Find.{IsPath, path_names, walk, find}
+use Rattle.jmount.specs.Shape.{HasShape}
+use Rattle.jmount.specs.ShapeForm.{shape_of}
 
 -- the same elements, in any order and number
 abbrev pub SameElements : {X : Type 0} → List X → List X → Type 0
@@ -248,3 +250,17 @@ OutlineHasObjects = (s : State) (i : ℕ) → object (outline s) i ≡ option_ma
 -- what a path names is a matter of the outline alone
 abbrev pub FindIsOfOutline : Type 0
 FindIsOfOutline = (s : State) (text : List ℕ) → find (outline s) text ≡ find s text
+
+-- ---- the shape
+
+-- an outline has the shape of what it is of
+abbrev pub ShapeIsOfOutline : Type 0
+ShapeIsOfOutline = (s : State) → HasShape (outline s) ↔ HasShape s
+
+-- it is what is computed
+abbrev pub ShapeIsDecided : Type 0
+ShapeIsDecided = (t : Outline) → IsTrue (shape_of t) ↔ HasShape t
+
+-- where a file system has the shape, one path at most leads to each directory
+abbrev pub OnePathToEach : Type 0
+OnePathToEach = (s : State) (a b : List (List ℕ)) (i : ℕ) → HasShape s → walk s a (Ok 1) ≡ Ok i → walk s b (Ok 1) ≡ Ok i → is_directory s i ≡ true → a ≡ b

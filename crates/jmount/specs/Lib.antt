@@ -14,3 +14,6 @@ pub mod Paths
 pub mod Walk
 pub mod Storing
 pub mod Collected
+pub mod Shape
+pub mod ShapeForm
+pub mod Shaping

@@ -91,3 +91,10 @@ pub fn outline_keeps_find()
     ensures objects { law.OutlineHasObjects }
     ensures find { law.FindIsOfOutline }
 {}
+
+/// The shape of a tree: computed, kept by an outline, and what it gives: one path at most to each directory.
+pub fn shape_is_decided()
+    ensures computed { law.ShapeIsDecided }
+    ensures outline { law.ShapeIsOfOutline }
+    ensures paths { law.OnePathToEach }
+{}

@@ -21,6 +21,7 @@ mod older;
 mod path;
 mod read;
 mod sameness;
+mod shape;
 mod shown;
 mod stored;
 mod storing;

@@ -1,14 +1,16 @@
 //! A mounted image.
 
-ghost use Rattle.std.specs.Prelude.{◌≡◌, ◌-◌, ◌++◌, IfOk, map, option_map, length, min, take, drop};
+ghost use Rattle.std.specs.Prelude.{◌≡◌, ◌-◌, ◌++◌, Decides, IfOk, map, option_map, length, min, take, drop};
 ghost use Rattle.jmount.specs.Tree as tree;
 ghost use Rattle.jmount.specs.Find as walk;
+ghost use Rattle.jmount.specs.Shape.{HasShape};
 ghost use Rattle.jmount.specs.Shown.{shown, objects_in, readable, top_at};
 
 use crate::fault::FindFault;
 use crate::object::Object;
 use crate::path;
 use crate::read::read_stored;
+use crate::shape::has_shape;
 use crate::shown::{self, shown};
 use crate::stored::Stored;
 use crate::walk::Objects;
@@ -198,6 +200,17 @@ impl<'a> Mounted<'a> {
         self.names()
             .filter(|(_, _, ino)| !self.is_there(*ino))
             .collect(alloc)
+    }
+
+    /// Whether the tree has its shape: no directory but the root has two names, and none is reached from itself by names of
+    /// directories. Takes O(n log n) for n names and objects, and memory for the directories.
+    ///
+    /// # Errors
+    /// Out of memory.
+    pub fn shape(&self, alloc: Global) -> Result<bool, AllocError>
+        ensures { IfOk result (λ shape. Decides shape (HasShape self.now.state)) }
+    {
+        has_shape(alloc, self)
     }
 
     /// Reads the bytes of a regular file or a symlink from an offset on: as many as the slice and the size allow, at the

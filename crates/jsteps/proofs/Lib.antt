@@ -22,3 +22,8 @@ pub mod PlannedLemmas
 pub mod FileLemmas
 pub mod FewLemmas
 pub mod AttributesLemmas
+pub mod ShapeMetLemmas
+pub mod ShapeStepLemmas
+pub mod ShapePlanLemmas
+pub mod ShapeStateLemmas
+pub mod ShapeBrokenLemmas

@@ -10,7 +10,7 @@ use Rattle.flashbase.specs.Ranges.{IsHalf, IsWord}
 use Rattle.jmount.specs.Tree.{ObjectOf, object, directory_bits}
 use Rattle.jsteps.specs.Nodes.{Indexed, object_at, advanced}
 use Rattle.jsteps.specs.Planning.{IsPage, size_named, make_steps, steps_of}
-use Rattle.jsteps.specs.Refusals.{paths, has_bad_path, is_bad_path, is_long, is_not_found, meets_nothing, meets_other, is_wrong_kind, is_too_large, is_bad_mode, is_bad_target, greatest_size, is_exhausted, refusals, unless_refused, planned_by}
+use Rattle.jsteps.specs.Refusals.{paths, has_bad_path, is_bad_path, is_long, is_not_found, meets_nothing, meets_other, is_wrong_kind, is_into_itself, is_too_large, is_bad_mode, is_bad_target, greatest_size, is_exhausted, refusals, unless_refused, planned_by}
 use Rattle.jsteps.specs.Where.{last_name, above, parent, ends_in_directory, number_or_zero, object_named, is_missing, is_unnamed, number_reached, is_unreached}
 use Rattle.jsteps.specs.Laws as law
 use Rattle.jsteps.specs.Laws.{IsConsistent, GivenFit, OpFits}
@@ -44,15 +44,16 @@ none_applies (r ∷ rs) answer steps e =
 
 -- what is known of an operation that is planned
 pub record IsAccepted (page : ℕ) (x : Indexed) (o : Op) (steps : List Step) : Type 0 where
-  bad : has_bad_path o ≡ false
-  long : list_any is_long (paths o) ≡ false
-  found : is_not_found x.tree o ≡ false
-  directory : list_any (λ path. meets_other x.tree (above x.tree path)) (paths o) ≡ false
-  kind : is_wrong_kind x.tree o ≡ false
+  pub bad : has_bad_path o ≡ false
+  pub long : list_any is_long (paths o) ≡ false
+  pub found : is_not_found x.tree o ≡ false
+  pub directory : list_any (λ path. meets_other x.tree (above x.tree path)) (paths o) ≡ false
+  pub kind : is_wrong_kind x.tree o ≡ false
+  pub into : is_into_itself x.tree o ≡ false
   pub large : is_too_large o ≡ false
-  mode : is_bad_mode o ≡ false
-  link : is_bad_target o ≡ false
-  room : is_exhausted page x o ≡ false
+  pub mode : is_bad_mode o ≡ false
+  pub link : is_bad_target o ≡ false
+  pub room : is_exhausted page x o ≡ false
   pub steps_are : steps_of page x.tree o ≡ steps
 
 pub accepted : (page : ℕ) (x : Indexed) (o : Op) (steps : List Step) → planned_by page x o ≡ Ok steps → IsAccepted page x o steps
@@ -66,6 +67,7 @@ accepted page x o steps e =
       found = f.1.1.0;
       directory = f.1.1.1.0;
       kind = f.1.1.1.1.1.0;
+      into = f.1.1.1.1.1.1.1.0;
       large = f.1.1.1.1.1.1.1.1.0;
       mode = f.1.1.1.1.1.1.1.1.1.0;
       link = f.1.1.1.1.1.1.1.1.1.1.0;
@@ -73,31 +75,31 @@ accepted page x o steps e =
       steps_are = all.1;
     }
 
-one_false : (b : Bool) → (b || false) ≡ false → b ≡ false
+pub one_false : (b : Bool) → (b || false) ≡ false → b ≡ false
 one_false b h = (or_parts b false h).0
 
-two_false : (a b : Bool) → (a || (b || false)) ≡ false → (a ≡ false) × (b ≡ false)
+pub two_false : (a b : Bool) → (a || (b || false)) ≡ false → (a ≡ false) × (b ≡ false)
 two_false a b h = let parts = or_parts a (b || false) h in (parts.0, one_false b parts.1)
 
-three_false : (a b c : Bool) → (a || b || c) ≡ false → (a ≡ false) × (b ≡ false) × (c ≡ false)
+pub three_false : (a b c : Bool) → (a || b || c) ≡ false → (a ≡ false) × (b ≡ false) × (c ≡ false)
 three_false true b c h = absurd (true≢false h)
 three_false false true c h = absurd (true≢false h)
 three_false false false c h = (refl, refl, h)
 
 -- ---- paths that lead somewhere
 
-record IsLed (x : Indexed) (path : List ℕ) : Type 0 where
-  name : HasLength (last_name path)
-  parent_there : IsParent x.tree (parent x.tree path)
-  ends : ends_in_directory x.tree (above x.tree path) ≡ true
+pub record IsLed (x : Indexed) (path : List ℕ) : Type 0 where
+  pub name : HasLength (last_name path)
+  pub parent_there : IsParent x.tree (parent x.tree path)
+  pub ends : ends_in_directory x.tree (above x.tree path) ≡ true
 
-led : (x : Indexed) (path : List ℕ) → IsConsistent x → is_bad_path path ≡ false → is_long path ≡ false → meets_nothing (above x.tree path) ≡ false → meets_other x.tree (above x.tree path) ≡ false
+pub led : (x : Indexed) (path : List ℕ) → IsConsistent x → is_bad_path path ≡ false → is_long path ≡ false → meets_nothing (above x.tree path) ≡ false → meets_other x.tree (above x.tree path) ≡ false
     → IsLed x path
 led x path same bad long found directory =
     let above_it = parent_is x path same found directory in
     record { name = last_name_length path bad long; parent_there = above_it.0; ends = above_it.1 }
 
-targeted : (x : Indexed) (path : List ℕ) → IsConsistent x → IsLed x path → is_missing x.tree path ≡ false → IsTarget x path
+pub targeted : (x : Indexed) (path : List ℕ) → IsConsistent x → IsLed x path → is_missing x.tree path ≡ false → IsTarget x path
 targeted x path same is_led there = target_is x path same (not_missing x.tree path is_led.ends there)
 
 -- the size of what is named

@@ -11,3 +11,4 @@ pub mod Laws
 pub mod Examples
 pub mod Site
 pub mod Tests
+pub mod ShapeLaws

@@ -1,0 +1,153 @@
+-- A plan keeps the shape of the tree.
+use Rattle.std.proofs.Common.{◌≡◌, ℕ, ◌+◌, ◌<◌, Bool, true, false, List, [], ◌∷◌, ◌++◌, length, Option, Some, None, Result, Ok, Err, refl, ap, sym, ◌∙◌, subst, arith}
+use Rattle.std.specs.Prelude.{is_some, unwrap_or, option_and_then, ◌&&◌, ◌||◌, ◌==◌}
+use Rattle.std.specs.List.{list_any}
+use Rattle.std.proofs.lemmas.Bool.{eqb-false, or_parts, false≢true}
+use Rattle.jmount.specs.Tree.{ObjectOf, Outline, object, named, is_directory, has_bits, directory_bits}
+use Rattle.jmount.specs.declared.fault.FindFault.{FindFault}
+use Rattle.jsteps.specs.Steps.{bytes, sizes, do_step, after}
+use Rattle.jsteps.specs.Nodes.{Indexed}
+use Rattle.jsteps.specs.Planning.{size_named, make_steps, steps_of}
+use Rattle.jsteps.specs.Refusals.{is_bad_path, is_long, meets_nothing, meets_other}
+use Rattle.jsteps.specs.Where.{names_above, last_name, above, number_or_none, parent, ends_in_directory, named_there, number_there, number_or_zero, number_reached, object_named, is_missing, met}
+use Rattle.jsteps.specs.Laws.{IsConsistent}
+use Rattle.jmount.specs.Shape.{HasShape}
+use Rattle.jsteps.specs.ShapeLaws as law
+use Rattle.jsteps.specs.declared.op.Op.{Op}
+use Rattle.jsteps.specs.declared.op.Op.TheVariants as op
+use Rattle.jsteps.specs.declared.step.Step.{Step}
+use Rattle.jsteps.specs.declared.step.Step.TheVariants as step
+use Rattle.jsteps.proofs.IndexLemmas.{with_some}
+use Rattle.jsteps.proofs.WhereLemmas.{bits_there}
+use Rattle.jsteps.proofs.PlanLemmas.{IsAccepted, accepted, led, targeted, one_false, two_false, three_false}
+use Rattle.jmount.proofs.ShapeLemmas.{Leads, IsShaped, leads_none, leads_more, leads_on, leads_to_itself, walk_leads, shaped, has_shape, follows_keeps}
+use Rattle.jsteps.proofs.ShapeMetLemmas.{back_to}
+use Rattle.jsteps.proofs.ShapeStepLemmas.{insert_follows, object_keeps, write_on_object, resize_on_object, attributes_on_object, clear_follows, set_keeps, move_keeps}
+
+-- ---- where a path leads
+
+-- a walk that ends in a directory
+record IsAbove (t : Outline) (path : List ℕ) : Type 0 where
+  ends : above t path ≡ Ok (parent t path)
+  directory : is_directory t (parent t path) ≡ true
+
+above_is : (t : Outline) (path : List ℕ) → ends_in_directory t (above t path) ≡ true → IsAbove t path
+above_is t path h = let both = by_result (above t path) h in record { ends = both.0; directory = both.1 }
+  where
+    by_result : (r : Result ℕ FindFault) → ends_in_directory t r ≡ true → (r ≡ Ok (number_or_none r)) × (is_directory t (number_or_none r) ≡ true)
+    by_result (Ok i) h = (refl, h)
+    by_result (Err f) h = absurd (false≢true h)
+
+-- the name of what a path names
+entry_is : (t : Outline) (path : List ℕ) → IsAbove t path → is_some (object_named t path) ≡ true → named t (parent t path) (last_name path) ≡ Some (number_or_zero t path)
+entry_is t path is there =
+    sym (ap (λ r. named_there t r (last_name path)) is.ends) ∙ by_number (number_there t path) there
+  where
+    by_number : (o : Option ℕ) → is_some (option_and_then (object t) o) ≡ true → o ≡ Some (unwrap_or o 0)
+    by_number None h = absurd (false≢true h)
+    by_number (Some i) h = refl
+
+-- ---- a new object and its name
+
+make_keeps : (x : Indexed) (time : ℕ) (path : List ℕ) (mode uid gid : ℕ) (target : List ℕ) → IsConsistent x → is_directory x.tree (parent x.tree path) ≡ true → IsShaped x.tree
+    → IsShaped (after sizes x.tree (make_steps x.tree time path mode uid gid target))
+make_keeps x time path mode uid gid target same there shape =
+    let t = x.tree in
+    let v : ObjectOf ℕ = record { mode = mode; uid = uid; gid = gid; atime = time; mtime = time; ctime = time; body = length target } in
+    let u : Outline = do_step sizes t (step.MakeObject time mode uid gid target) in
+    let below : parent t path < t.next = with_some (object t (parent t path)) (bits_there directory_bits (object t (parent t path)) there) (λ o e. same.numbered (parent t path) o e) in
+    let kept : IsShaped u =
+    follows_keeps t u
+    (insert_follows t t.next v (t.next + 1) (λ d n i e is. let h : i < t.next = (same.linked d n i e).1 in absurd (omega arith)))
+    shape in
+    set_keeps u (parent t path) (last_name path) t.next
+    (λ directory d n e. let h : t.next < t.next = (same.linked d n t.next e).1 in omega arith)
+    (λ directory ns h.
+    let is : t.next ≡ parent t path = leads_to_itself u t.next (parent t path) ns (λ n i e. let h : t.next < t.next = same.directories t.next n i e in omega arith) h in
+    omega arith)
+    kept
+
+-- ---- a name is moved
+
+-- what a walk from the root meets begins with the root
+meets_root : (t : Outline) (names : List (List ℕ)) (m : ℕ) → list_any (λ i. i == m) (met t names (Some 1)) ≡ false → (1 == m) ≡ false
+meets_root t [] m h = (or_parts (1 == m) false h).0
+meets_root t (name ∷ names) m h = (or_parts (1 == m) (list_any (λ i. i == m) (met t names (named t 1 name))) h).0
+
+both_not : (a b : Bool) → (a && b) ≡ false → a ≡ true → b ≡ false
+both_not true b h e = h
+both_not false b h e = absurd (false≢true e)
+
+not_below : (t : Outline) (old new : List ℕ) → IsShaped t → IsAbove t old → IsAbove t new → named t (parent t old) (last_name old) ≡ Some (number_or_zero t old)
+    → list_any (λ i. i == number_or_zero t old) (met t (names_above new) (Some 1)) ≡ false → (ns : List (List ℕ)) → Leads t (number_or_zero t old) ns (parent t new) → ⊥
+not_below t old new shape is_old is_new entry none ns h =
+    let m = number_or_zero t old in
+    let back = back_to t m (names_above new) 1 (parent t new) [] ns shape (leads_none t 1) is_new.ends none is_new.directory h in
+    let down = walk_leads t (names_above old) 1 (parent t old) is_old.ends in
+    shape.no_loop m (last_name old) (down.0 ++ back.0)
+    (leads_on t m 1 m back.0 (last_name old ∷ down.0) back.1 (leads_more t 1 (parent t old) m (last_name old) down.0 down.2 is_old.directory entry))
+
+-- ---- plans
+
+plan_keeps : (page : ℕ) (x : Indexed) (o : Op) (steps : List Step) → IsConsistent x → IsAccepted page x o steps → IsShaped x.tree → IsShaped (after sizes x.tree (steps_of page x.tree o))
+plan_keeps page x (op.Mkdir time path mode uid gid) steps same is shape =
+    let found = three_false (meets_nothing (above x.tree path) || false) false false is.found in
+    let is_led = led x path same (one_false (is_bad_path path) is.bad) (one_false (is_long path) is.long) (one_false (meets_nothing (above x.tree path)) found.0)
+    (one_false (meets_other x.tree (above x.tree path)) is.directory) in
+    make_keeps x time path (0o040000 + mode) uid gid [] same is_led.parent_there.there shape
+plan_keeps page x (op.Create time path mode uid gid) steps same is shape =
+    let found = three_false (meets_nothing (above x.tree path) || false) false false is.found in
+    let is_led = led x path same (one_false (is_bad_path path) is.bad) (one_false (is_long path) is.long) (one_false (meets_nothing (above x.tree path)) found.0)
+    (one_false (meets_other x.tree (above x.tree path)) is.directory) in
+    make_keeps x time path (0o100000 + mode) uid gid [] same is_led.parent_there.there shape
+plan_keeps page x (op.Symlink time path link uid gid) steps same is shape =
+    let found = three_false (meets_nothing (above x.tree path) || false) false false is.found in
+    let is_led = led x path same (one_false (is_bad_path path) is.bad) (one_false (is_long path) is.long) (one_false (meets_nothing (above x.tree path)) found.0)
+    (one_false (meets_other x.tree (above x.tree path)) is.directory) in
+    make_keeps x time path 0o120777 uid gid link same is_led.parent_there.there shape
+plan_keeps page x (op.Write time path offset bytes) steps same is shape =
+    object_keeps x.tree (steps_of page x.tree (op.Write time path offset bytes)) (write_on_object page time (number_or_zero x.tree path) (size_named x.tree path) offset bytes) shape
+plan_keeps page x (op.Truncate time path size) steps same is shape =
+    object_keeps x.tree (steps_of page x.tree (op.Truncate time path size)) (resize_on_object time (number_or_zero x.tree path) (size_named x.tree path) size) shape
+plan_keeps page x (op.Link time old new) steps same is shape =
+    let found = three_false (meets_nothing (above x.tree old) || (meets_nothing (above x.tree new) || false)) (is_missing x.tree old || false) false is.found in
+    let bad = two_false (is_bad_path old) (is_bad_path new) is.bad in
+    let long = two_false (is_long old) (is_long new) is.long in
+    let nothing = two_false (meets_nothing (above x.tree old)) (meets_nothing (above x.tree new)) found.0 in
+    let other = two_false (meets_other x.tree (above x.tree old)) (meets_other x.tree (above x.tree new)) is.directory in
+    let led_old = led x old same bad.0 long.0 nothing.0 other.0 in
+    let is_target = targeted x old same led_old (one_false (is_missing x.tree old) found.1) in
+    let kind : is_directory x.tree (number_or_zero x.tree old) ≡ false = ap (has_bits directory_bits) is_target.same ∙ is.kind in
+    set_keeps x.tree (parent x.tree new) (last_name new) (number_or_zero x.tree old)
+    (λ there d n e. absurd (false≢true (sym kind ∙ there))) (λ there ns h. absurd (false≢true (sym kind ∙ there))) shape
+plan_keeps page x (op.Remove time path) steps same is shape =
+    follows_keeps x.tree (after sizes x.tree (steps_of page x.tree (op.Remove time path))) (clear_follows x.tree (parent x.tree path, last_name path)) shape
+plan_keeps page x (op.Rename time old new) steps same is shape =
+    let found = three_false (meets_nothing (above x.tree old) || (meets_nothing (above x.tree new) || false)) (is_missing x.tree old || false) false is.found in
+    let bad = two_false (is_bad_path old) (is_bad_path new) is.bad in
+    let long = two_false (is_long old) (is_long new) is.long in
+    let nothing = two_false (meets_nothing (above x.tree old)) (meets_nothing (above x.tree new)) found.0 in
+    let other = two_false (meets_other x.tree (above x.tree old)) (meets_other x.tree (above x.tree new)) is.directory in
+    let led_old = led x old same bad.0 long.0 nothing.0 other.0 in
+    let led_new = led x new same bad.1 long.1 nothing.1 other.1 in
+    let is_target = targeted x old same led_old (one_false (is_missing x.tree old) found.1) in
+    let above_old = above_is x.tree old led_old.ends in
+    let above_new = above_is x.tree new led_new.ends in
+    let entry = entry_is x.tree old above_old is_target.there in
+    let m = number_or_zero x.tree old in
+    let none : is_directory x.tree m ≡ true → list_any (λ i. i == m) (met x.tree (names_above new) (Some 1)) ≡ false =
+    λ there.
+    both_not (has_bits directory_bits (object_named x.tree old)) (list_any (λ i. i == m) (met x.tree (names_above new) (Some 1))) is.into
+    (ap (has_bits directory_bits) (sym is_target.same) ∙ there) in
+    move_keeps x.tree (parent x.tree new) (last_name new) (parent x.tree old) (last_name old) m entry
+    (λ there is_root. eqb-false 1 m (meets_root x.tree (names_above new) m (none there)) (sym is_root))
+    (λ there. not_below x.tree old new shape above_old above_new entry (none there))
+    shape
+plan_keeps page x (op.SetAttributes time path attributes) steps same is shape =
+    object_keeps x.tree (steps_of page x.tree (op.SetAttributes time path attributes)) (attributes_on_object time (unwrap_or (number_reached x.tree path) 0) attributes) shape
+
+pub shape_is_kept : law.ShapeIsKept
+shape_is_kept page x o steps same e has =
+    let is = accepted page x o steps e in
+    subst (λ steps. HasShape (after sizes x.tree steps)) is.steps_are
+    (has_shape (after sizes x.tree (steps_of page x.tree o)) (plan_keeps page x o steps same is (shaped x.tree has)))
