@@ -21,6 +21,7 @@ pub mod ChoiceLemmas
 pub mod PlannedLemmas
 pub mod FileLemmas
 pub mod FewLemmas
+pub mod AttributesLemmas
 pub mod ShapeMetLemmas
 pub mod ShapeStepLemmas
 pub mod ShapePlanLemmas

@@ -145,6 +145,8 @@ plan_keeps page x (op.Rename time old new) steps same is shape =
     (λ there is_root. eqb-false 1 m (meets_root x.tree (names_above new) m (none there)) (sym is_root))
     (λ there. not_below x.tree old new shape above_old above_new entry (none there))
     shape
+plan_keeps page x (op.SetAttributes time path attributes) steps same is shape =
+    object_keeps x.tree (steps_of page x.tree (op.SetAttributes time path attributes)) (attributes_on_object time (unwrap_or (number_reached x.tree path) 0) attributes) shape
 
 pub shape_is_kept : law.ShapeIsKept
 shape_is_kept page x o steps same e has =
