@@ -21,3 +21,4 @@ pub mod RunLemmas
 pub mod RoomCode
 pub mod SurviveLemmas
 pub mod ResumeLemmas
+pub mod ShapeLemmas
