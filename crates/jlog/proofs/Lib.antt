@@ -22,3 +22,4 @@ pub mod RoomCode
 pub mod SurviveLemmas
 pub mod ResumeLemmas
 pub mod WriteLemmas
+pub mod ShapeLemmas

@@ -1,8 +1,10 @@
 -- What contracts see of a session.
-use Rattle.std.specs.Prelude.{ℕ, Bool, List, Option, Result}
+use Rattle.std.specs.Prelude.{ℕ, ◌≤◌, Bool, IsFalse, List, Option, Result}
 use Rattle.byteorder.specs.declared.ByteOrder.{Ghosts as OfByteOrder}
 use Rattle.flashbase.specs.declared.sink.Sink.{Ghosts as OfSink}
 use Rattle.jnode.specs.declared.order.Order.{Ghosts as OfOrder}
+use Rattle.jmount.specs.Shape.{HasShape}
+use Rattle.jsteps.specs.Steps.{sizes, after}
 use Rattle.jsteps.specs.Nodes.{Indexed}
 use Rattle.jsteps.specs.Planning.{page_size}
 use Rattle.jsteps.specs.Refusals.{steps_of_first}
@@ -68,3 +70,12 @@ module _ {E : Type 0} {S : Type 0} {order : OfOrder E} {numbers : OfByteOrder E}
   RunSurvives old ops new accepted =
       Survives order.order (block_size_of old) (blocks_of old) (base_of old)
       (steps_of_first (page_size (page_of old)) (index_of_log old) ops (attempted accepted (is_broken new)))
+
+  -- A tree that had its shape has it again, unless an operation was written in part.
+  abbrev pub KeepsShape : Session E S order numbers sink → Session E S order numbers sink → Type 0
+  KeepsShape old new = IsFalse (is_broken new) → HasShape (index_of_log old).tree → HasShape (index_of_log new).tree
+
+  -- So it is after each whole operation that was accepted, also where the next one broke the session.
+  abbrev pub RunKeepsShape : Session E S order numbers sink → List Op → ℕ → Type 0
+  RunKeepsShape old ops accepted = HasShape (index_of_log old).tree → (n : ℕ) → n ≤ accepted
+      → HasShape (after sizes (index_of_log old).tree (steps_of_first (page_size (page_of old)) (index_of_log old) ops n))

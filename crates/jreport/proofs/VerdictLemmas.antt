@@ -7,23 +7,23 @@ use Rattle.jmount.specs.Mount.{Mount}
 use Rattle.jmount.specs.Mounts.{Answers}
 use Rattle.jmount.specs.declared.fault.MountFault.{MountFault}
 use Rattle.jmount.specs.declared.fault.MountFault.TheVariants as mount
-use Rattle.jreport.specs.Verdict.{IsVerdict, PutsMounted, PutsVerdict, is_dangling, mounted_text, refused_line}
+use Rattle.jreport.specs.Verdict.{IsVerdict, PutsMounted, PutsVerdict, is_wrong, mounted_text, refused_line}
 use Rattle.jreport.specs.declared.faults.ProgramFault.{ProgramFault}
 use Rattle.jreport.specs.declared.faults.ProgramFault.TheVariants as program
 use Rattle.jreport.specs.declared.faults.ProgramFault.TheVariants.{Output}
 
-pub mounted_failed : (m : Mount) (old new : Option (List ℕ)) (before now : ℕ) (r : Result Bool ProgramFault) → IsErrAnd r (λ x. x ≡ Output)
-    → PutsPart old new (mounted_text m) → now ≡ next_count before → PutsMounted m old new before now r
-mounted_failed m old new before now (Ok x) is part failed = absurd is
-mounted_failed m old new before now (Err x) is part failed =
-    subst (λ (y : ProgramFault). PutsMounted m old new before now (Err y)) (sym is) (part, failed)
+pub mounted_failed : (asked : Bool) (m : Mount) (old new : Option (List ℕ)) (before now : ℕ) (r : Result Bool ProgramFault) → IsErrAnd r (λ x. x ≡ Output)
+    → PutsPart old new (mounted_text asked m) → now ≡ next_count before → PutsMounted asked m old new before now r
+mounted_failed asked m old new before now (Ok x) is part failed = absurd is
+mounted_failed asked m old new before now (Err x) is part failed =
+    subst (λ (y : ProgramFault). PutsMounted asked m old new before now (Err y)) (sym is) (part, failed)
 
-pub refused_failed : (e : Endian) (size : ℕ) (image : List ℕ) (fault : MountFault) (old new : Option (List ℕ)) (before now : ℕ) (r : Result Bool ProgramFault)
+pub refused_failed : (e : Endian) (size : ℕ) (image : List ℕ) (asked : Bool) (fault : MountFault) (old new : Option (List ℕ)) (before now : ℕ) (r : Result Bool ProgramFault)
     → IsErrAnd r (λ x. x ≡ Output) → Answers e size image (Err fault) → fault ≢ mount.OutOfMemory
-    → PutsPart old new (refused_line fault) → now ≡ next_count before → PutsVerdict e size image old new before now r
-refused_failed e size image fault old new before now (Ok x) is answers memory part failed = absurd is
-refused_failed e size image fault old new before now (Err x) is answers memory part failed =
-    subst (λ (y : ProgramFault). PutsVerdict e size image old new before now (Err y)) (sym is)
+    → PutsPart old new (refused_line fault) → now ≡ next_count before → PutsVerdict e size image asked old new before now r
+refused_failed e size image asked fault old new before now (Ok x) is answers memory part failed = absurd is
+refused_failed e size image asked fault old new before now (Err x) is answers memory part failed =
+    subst (λ (y : ProgramFault). PutsVerdict e size image asked old new before now (Err y)) (sym is)
     (refused_line fault, true, record { answer = Err fault; answers = answers; memory = λ same. memory (injected fault mount.OutOfMemory (Err fault) (Err mount.OutOfMemory) refl refl same); said = refl; judged = refl }, part, failed)
   where
     injected : (f g : MountFault) (x y : Result Mount MountFault) → x ≡ Err f → y ≡ Err g → x ≡ y → f ≡ g
@@ -32,8 +32,8 @@ refused_failed e size image fault old new before now (Err x) is answers memory p
 ok_is_no_err : (m : Mount) (f : MountFault) (x y : Result Mount MountFault) → x ≡ Ok m → y ≡ Err f → x ≡ y → ⊥
 ok_is_no_err m f x y is_ok is_err same = cc
 
-mounted_verdict : (e : Endian) (size : ℕ) (image : List ℕ) (m : Mount) → Answers e size image (Ok m) → IsVerdict e size image (mounted_text m) (is_dangling m)
-mounted_verdict e size image m answers = record {
+mounted_verdict : (e : Endian) (size : ℕ) (image : List ℕ) (asked : Bool) (m : Mount) → Answers e size image (Ok m) → IsVerdict e size image asked (mounted_text asked m) (is_wrong asked m)
+mounted_verdict e size image asked m answers = record {
   answer = Ok m;
   answers = answers;
   memory = λ same. ok_is_no_err m mount.OutOfMemory (Ok m) (Err mount.OutOfMemory) refl refl same;
@@ -41,18 +41,18 @@ mounted_verdict e size image m answers = record {
   judged = refl;
 }
 
-pub verdict_of_mounted : (e : Endian) (size : ℕ) (image : List ℕ) (m : Mount) (old new : Option (List ℕ)) (before now : ℕ) (r : Result Bool ProgramFault)
-    → Answers e size image (Ok m) → PutsMounted m old new before now r → PutsVerdict e size image old new before now r
-verdict_of_mounted e size image m old new before now (Ok bad) answers put =
-    (mounted_text m, subst (λ (b : Bool). IsVerdict e size image (mounted_text m) b) (sym put.0) (mounted_verdict e size image m answers), put.1, put.2)
-verdict_of_mounted e size image m old new before now (Err program.Output) answers put =
-    (mounted_text m, is_dangling m, mounted_verdict e size image m answers, put.0, put.1)
-verdict_of_mounted e size image m old new before now (Err program.OutOfMemory) answers put = (m, answers, put.0, put.1)
-verdict_of_mounted e size image m old new before now (Err (program.Load f)) answers put = absurd put
-verdict_of_mounted e size image m old new before now (Err (program.Scan f)) answers put = absurd put
-verdict_of_mounted e size image m old new before now (Err (program.Mount f)) answers put = absurd put
-verdict_of_mounted e size image m old new before now (Err (program.File f)) answers put = absurd put
-verdict_of_mounted e size image m old new before now (Err (program.Listing line)) answers put = absurd put
-verdict_of_mounted e size image m old new before now (Err (program.Session fault line)) answers put = absurd put
-verdict_of_mounted e size image m old new before now (Err (program.Path f)) answers put = absurd put
-verdict_of_mounted e size image m old new before now (Err program.NotRegular) answers put = absurd put
+pub verdict_of_mounted : (e : Endian) (size : ℕ) (image : List ℕ) (asked : Bool) (m : Mount) (old new : Option (List ℕ)) (before now : ℕ) (r : Result Bool ProgramFault)
+    → Answers e size image (Ok m) → PutsMounted asked m old new before now r → PutsVerdict e size image asked old new before now r
+verdict_of_mounted e size image asked m old new before now (Ok bad) answers put =
+    (mounted_text asked m, subst (λ (b : Bool). IsVerdict e size image asked (mounted_text asked m) b) (sym put.0) (mounted_verdict e size image asked m answers), put.1, put.2)
+verdict_of_mounted e size image asked m old new before now (Err program.Output) answers put =
+    (mounted_text asked m, is_wrong asked m, mounted_verdict e size image asked m answers, put.0, put.1)
+verdict_of_mounted e size image asked m old new before now (Err program.OutOfMemory) answers put = (m, answers, put.0, put.1)
+verdict_of_mounted e size image asked m old new before now (Err (program.Load f)) answers put = absurd put
+verdict_of_mounted e size image asked m old new before now (Err (program.Scan f)) answers put = absurd put
+verdict_of_mounted e size image asked m old new before now (Err (program.Mount f)) answers put = absurd put
+verdict_of_mounted e size image asked m old new before now (Err (program.File f)) answers put = absurd put
+verdict_of_mounted e size image asked m old new before now (Err (program.Listing line)) answers put = absurd put
+verdict_of_mounted e size image asked m old new before now (Err (program.Session fault line)) answers put = absurd put
+verdict_of_mounted e size image asked m old new before now (Err (program.Path f)) answers put = absurd put
+verdict_of_mounted e size image asked m old new before now (Err program.NotRegular) answers put = absurd put

@@ -1,10 +1,11 @@
 -- What `check` says of a mount.
-use Rattle.std.specs.Prelude.{◌≡◌, ◌≢◌, ℕ, ◌==◌, Bool, true, not, List, length, [], ◌∷◌, ◌++◌, codes, decimal, Option, Result, Ok, Err, if◌then◌else◌}
+use Rattle.std.specs.Prelude.{◌≡◌, ◌≢◌, ℕ, ◌==◌, ◌||◌, Bool, true, false, not, List, length, [], ◌∷◌, ◌++◌, codes, decimal, Option, Some, None, Result, Ok, Err, if◌then◌else◌}
 use Rattle.std.specs.List.{flat_map}
 use Rattle.std.specs.Io.KnownBytes.{Appends}
 use Rattle.flashbase.specs.Device.{PutsPart, next_count}
 use Rattle.jnode.specs.declared.order.Endian.{Endian}
-use Rattle.jmount.specs.Tree.{dangling}
+use Rattle.jmount.specs.Tree.{outline, dangling}
+use Rattle.jmount.specs.ShapeForm.{shape_of}
 use Rattle.jmount.specs.Mount.{Mount}
 use Rattle.jmount.specs.Mounts.{Answers}
 use Rattle.jmount.specs.declared.fault.MountFault.{MountFault}
@@ -30,48 +31,70 @@ ok_line read_only = if read_only then codes "mount ok read-only\n" else codes "m
 unfoldable pub refused_line : MountFault → List ℕ
 refused_line fault = codes "mount refused " ++ (mount_text fault ++ 10 ∷ [])
 
+-- the shape, where it is asked for
+unfoldable pub shape_line : Bool → List ℕ
+shape_line shape = if shape then codes "shape ok\n" else codes "shape broken\n"
+
+abbrev pub shape_text : Option Bool → List ℕ
+shape_text None = []
+shape_text (Some shape) = shape_line shape
+
 -- ---- the verdict on what a mount answered
 
-abbrev pub mounted_text : Mount → List ℕ
-mounted_text m = ok_line m.read_only ++ flat_map dangling_line (dangling m.state)
+-- whether the tree has its shape, in the computed form
+unfoldable pub is_shaped : Mount → Bool
+is_shaped m = shape_of (outline m.state)
 
-abbrev pub verdict_of : Result Mount MountFault → List ℕ
-verdict_of (Ok m) = mounted_text m
-verdict_of (Err fault) = refused_line fault
+abbrev pub shape_if : Bool → Mount → Option Bool
+shape_if asked m = if asked then Some (is_shaped m) else None
+
+abbrev pub mounted_text : Bool → Mount → List ℕ
+mounted_text asked m = ok_line m.read_only ++ (flat_map dangling_line (dangling m.state) ++ shape_text (shape_if asked m))
+
+abbrev pub verdict_of : Bool → Result Mount MountFault → List ℕ
+verdict_of asked (Ok m) = mounted_text asked m
+verdict_of asked (Err fault) = refused_line fault
 
 -- whether it says that something is wrong
 abbrev pub is_dangling : Mount → Bool
 is_dangling m = not (length (dangling m.state) == 0)
 
-abbrev pub is_bad : Result Mount MountFault → Bool
-is_bad (Ok m) = is_dangling m
-is_bad (Err fault) = true
+abbrev pub is_broken : Option Bool → Bool
+is_broken None = false
+is_broken (Some shape) = not shape
 
--- the verdict on an image, and whether it says that something is wrong; out of memory is no verdict
-pub record IsVerdict (e : Endian) (size : ℕ) (image : List ℕ) (text : List ℕ) (bad : Bool) : Type 0 where
+abbrev pub is_wrong : Bool → Mount → Bool
+is_wrong asked m = is_dangling m || is_broken (shape_if asked m)
+
+abbrev pub is_bad : Bool → Result Mount MountFault → Bool
+is_bad asked (Ok m) = is_wrong asked m
+is_bad asked (Err fault) = true
+
+-- the verdict on an image, with its shape where it is asked for, and whether it says that something is wrong; out of memory is no verdict
+pub record IsVerdict (e : Endian) (size : ℕ) (image : List ℕ) (asked : Bool) (text : List ℕ) (bad : Bool) : Type 0 where
   pub answer : Result Mount MountFault
   pub answers : Answers e size image answer
   pub memory : answer ≢ Err mount.OutOfMemory
-  pub said : text ≡ verdict_of answer
-  pub judged : bad ≡ is_bad answer
+  pub said : text ≡ verdict_of asked answer
+  pub judged : bad ≡ is_bad asked answer
 
 -- ---- what a call puts
 
 -- the lines of a mounted image; out of memory comes before the first of them
-abbrev pub PutsMounted : Mount → Option (List ℕ) → Option (List ℕ) → ℕ → ℕ → Result Bool ProgramFault → Type 0
-PutsMounted m old new before now (Ok bad) = (bad ≡ is_dangling m) × Appends old new (mounted_text m) × (now ≡ before)
-PutsMounted m old new before now (Err program.Output) = PutsPart old new (mounted_text m) × (now ≡ next_count before)
-PutsMounted m old new before now (Err program.OutOfMemory) = (new ≡ old) × (now ≡ before)
-PutsMounted m old new before now (Err _) = ⊥
+abbrev pub PutsMounted : Bool → Mount → Option (List ℕ) → Option (List ℕ) → ℕ → ℕ → Result Bool ProgramFault → Type 0
+PutsMounted asked m old new before now (Ok bad) = (bad ≡ is_wrong asked m) × Appends old new (mounted_text asked m) × (now ≡ before)
+PutsMounted asked m old new before now (Err program.Output) = PutsPart old new (mounted_text asked m) × (now ≡ next_count before)
+PutsMounted asked m old new before now (Err program.OutOfMemory) = (new ≡ old) × (now ≡ before)
+PutsMounted asked m old new before now (Err _) = ⊥
 
 -- The verdict on an image. Where the sink fails, a beginning of it went out; where memory runs out, nothing did.
-abbrev pub PutsVerdict : Endian → ℕ → List ℕ → Option (List ℕ) → Option (List ℕ) → ℕ → ℕ → Result Bool ProgramFault → Type 0
-PutsVerdict e size image old new before now (Ok bad) =
-    (text : List ℕ) × IsVerdict e size image text bad × Appends old new text × (now ≡ before)
-PutsVerdict e size image old new before now (Err program.Output) =
-    (text : List ℕ) × (bad : Bool) × IsVerdict e size image text bad × PutsPart old new text × (now ≡ next_count before)
-PutsVerdict e size image old new before now (Err program.OutOfMemory) =
+abbrev pub PutsVerdict : Endian → ℕ → List ℕ → Bool → Option (List ℕ) → Option (List ℕ) → ℕ → ℕ → Result Bool ProgramFault → Type 0
+PutsVerdict e size image asked old new before now (Ok bad) =
+    (text : List ℕ) × IsVerdict e size image asked text bad × Appends old new text × (now ≡ before)
+PutsVerdict e size image asked old new before now (Err program.Output) =
+    (text : List ℕ) × (bad : Bool) × IsVerdict e size image asked text bad × PutsPart old new text × (now ≡ next_count before)
+PutsVerdict e size image asked old new before now (Err program.OutOfMemory) =
     (m : Mount) × Answers e size image (Ok m) × (new ≡ old) × (now ≡ before)
-PutsVerdict e size image old new before now (Err (program.Mount mount.OutOfMemory)) =
+PutsVerdict e size image asked old new before now (Err (program.Mount mount.OutOfMemory)) =
     Answers e size image (Err mount.OutOfMemory) × (new ≡ old) × (now ≡ before)
-PutsVerdict e size image old new before now (Err _) = ⊥
+PutsVerdict e size image asked old new before now (Err _) = ⊥

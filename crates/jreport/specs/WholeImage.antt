@@ -39,35 +39,37 @@ IsFaultOfLoad _ = ⊥
 
 -- ---- `check`
 
--- what it prints of an image, and whether it found anything: the report, and then the verdict
-pub record IsCheck (e : Endian) (size : ℕ) (image : List ℕ) (text : List ℕ) (found : Bool) : Type 0 where
+-- what it prints of an image, and whether it found anything: the report, and then the verdict, with the shape where it is
+-- asked for
+pub record IsCheck (e : Endian) (size : ℕ) (image : List ℕ) (asked : Bool) (text : List ℕ) (found : Bool) : Type 0 where
   pub verdict : List ℕ
   pub bad : Bool
-  pub mount : IsVerdict e size image verdict bad
+  pub mount : IsVerdict e size image asked verdict bad
   pub said : text ≡ scan_text e size image ++ verdict
   pub judged : found ≡ nat_lt 0 (count_in_image is_found e size image) || bad
 
 -- a beginning of it went out: of the report, or of the report and the verdict
-abbrev pub PutsPartOfCheck : Endian → ℕ → List ℕ → Option (List ℕ) → Option (List ℕ) → Type 0
-PutsPartOfCheck e size image old new =
+abbrev pub PutsPartOfCheck : Endian → ℕ → List ℕ → Bool → Option (List ℕ) → Option (List ℕ) → Type 0
+PutsPartOfCheck e size image asked old new =
     PutsPart old new (scan_text e size image)
-    ⊎ ((text : List ℕ) × (found : Bool) × IsCheck e size image text found × PutsPart old new text)
+    ⊎ ((text : List ℕ) × (found : Bool) × IsCheck e size image asked text found × PutsPart old new text)
 
 -- A call puts what `check` prints. Only where the sink is blamed did it fail, once. Memory is wanting in the report only
--- where the last block of the image has a missing tail, and then in the mount, or for the entries that dangle in it.
-abbrev pub PutsCheck : Endian → ℕ → List ℕ → Option (List ℕ) → Option (List ℕ) → ℕ → ℕ → Result Bool ProgramFault → Type 0
-PutsCheck e size image old new before now (Ok found) =
-    (text : List ℕ) × IsCheck e size image text found × Appends old new text × (now ≡ before)
-PutsCheck e size image old new before now (Err program.Output) = PutsPartOfCheck e size image old new × (now ≡ next_count before)
-PutsCheck e size image old new before now (Err (program.Load fault)) = (new ≡ old) × (now ≡ before)
-PutsCheck e size image old new before now (Err (program.Scan scan.BlockSize)) = (new ≡ old) × (now ≡ before)
-PutsCheck e size image old new before now (Err (program.Scan scan.OutOfMemory)) =
+-- where the last block of the image has a missing tail, and then in the mount, or for the entries that dangle in it, or for
+-- its shape.
+abbrev pub PutsCheck : Endian → ℕ → List ℕ → Bool → Option (List ℕ) → Option (List ℕ) → ℕ → ℕ → Result Bool ProgramFault → Type 0
+PutsCheck e size image asked old new before now (Ok found) =
+    (text : List ℕ) × IsCheck e size image asked text found × Appends old new text × (now ≡ before)
+PutsCheck e size image asked old new before now (Err program.Output) = PutsPartOfCheck e size image asked old new × (now ≡ next_count before)
+PutsCheck e size image asked old new before now (Err (program.Load fault)) = (new ≡ old) × (now ≡ before)
+PutsCheck e size image asked old new before now (Err (program.Scan scan.BlockSize)) = (new ≡ old) × (now ≡ before)
+PutsCheck e size image asked old new before now (Err (program.Scan scan.OutOfMemory)) =
     (length image % size ≢ 0) × PutsPart old new (scan_text e size image) × (now ≡ before)
-PutsCheck e size image old new before now (Err (program.Mount mount.OutOfMemory)) =
+PutsCheck e size image asked old new before now (Err (program.Mount mount.OutOfMemory)) =
     Answers e size image (Err mount.OutOfMemory) × Appends old new (scan_text e size image) × (now ≡ before)
-PutsCheck e size image old new before now (Err program.OutOfMemory) =
+PutsCheck e size image asked old new before now (Err program.OutOfMemory) =
     (m : Mount) × Answers e size image (Ok m) × Appends old new (scan_text e size image) × (now ≡ before)
-PutsCheck e size image old new before now (Err _) = ⊥
+PutsCheck e size image asked old new before now (Err _) = ⊥
 
 -- ---- `cat` and `ls`
 

@@ -1,6 +1,6 @@
-//! The verdict of `check`: whether the image mounts, and which entries dangle.
+//! The verdict of `check`: whether the image mounts, which entries dangle, and whether its tree has its shape.
 
-ghost use Rattle.std.specs.Prelude.{◌≡◌, ℕ, List, [], ◌++◌, ◌∷◌, IfSome};
+ghost use Rattle.std.specs.Prelude.{◌≡◌, ℕ, List, [], ◌++◌, ◌∷◌, IfOk, IfSome};
 ghost use Rattle.std.specs.List.{flat_map};
 ghost use Rattle.flashbase.specs.Device.{Puts};
 ghost use Rattle.jnode.specs.declared.order.Endian.{Endian};
@@ -8,7 +8,7 @@ ghost use Rattle.jscan.specs.PartialScans.{IsScanOf};
 ghost use Rattle.jscan.specs.Scans.{IsScannable};
 ghost use Rattle.jmount.specs.Mounts.{Answers};
 ghost use Rattle.jreport.specs.Faults.{mount_text};
-ghost use Rattle.jreport.specs.Verdict.{dangling_line, dangling_start, ok_line, refused_line, PutsMounted, PutsVerdict};
+ghost use Rattle.jreport.specs.Verdict.{dangling_line, dangling_start, ok_line, refused_line, shape_if, shape_text, PutsMounted, PutsVerdict};
 
 use crate::faults::{ProgramFault, push_mount};
 use flashbase::{DeviceFault, Sink};
@@ -16,7 +16,7 @@ use jline::{LineBuffer, put_escaped, put_text};
 use jmount::{MountFault, Mounted, mount, mount_scanned};
 use jnode::Order;
 use jscan::{Geometry, PartialScan};
-use std::alloc::Global;
+use std::alloc::{AllocError, Global};
 
 /// What comes before the name of a dangling entry.
 #[tactic(auto, unfolding(crate::specs::Verdict::dangling_start))]
@@ -87,31 +87,63 @@ fn put_all_dangling<T: Sink>(sink: &mut T, entries: &[(u32, &[u8], u32)]) -> Res
     Ok(())
 }
 
-/// Puts what a mount says, and answers whether an entry dangles.
+/// Whether a tree has its shape, where that is asked.
+fn shape_if(
+    alloc: Global,
+    mounted: &Mounted<'_>,
+    asked: bool,
+) -> Result<Option<bool>, AllocError>
+    ensures { IfOk result (λ shape. shape ≡ shape_if asked mounted.now) }
+{
+    if asked {
+        Ok(Some(mounted.shape(alloc)?))
+    } else {
+        Ok(None)
+    }
+}
+
+/// Puts the line of the shape, where it was asked for.
+#[tactic(auto, unfolding(crate::specs::Verdict::shape_line))]
+fn put_shape<T: Sink>(sink: &mut T, shape: Option<bool>) -> Result<(), DeviceFault>
+    ensures { Puts (T.taken sink.old) (T.taken sink.new) (T.failures sink.old) (T.failures sink.new)
+        (shape_text shape) result }
+{
+    match shape {
+        Some(true) => put_text(sink, b"shape ok\n"),
+        Some(false) => put_text(sink, b"shape broken\n"),
+        None => Ok(()),
+    }
+}
+
+/// Puts what a mount says, and answers whether an entry dangles or the shape, where it is asked for, is broken.
 fn put_mounted<T: Sink>(
     alloc: Global,
     mounted: &Mounted<'_>,
+    asked: bool,
     sink: &mut T,
 ) -> Result<bool, ProgramFault<'static>>
-    ensures { PutsMounted mounted.now (T.taken sink.old) (T.taken sink.new) (T.failures sink.old) (T.failures sink.new) result }
+    ensures { PutsMounted asked mounted.now (T.taken sink.old) (T.taken sink.new) (T.failures sink.old) (T.failures sink.new) result }
 {
     let dangling = mounted.dangling(alloc)?;
+    let shape = shape_if(alloc, mounted, asked)?;
     put_ok(sink, mounted.read_only())?;
     put_all_dangling(sink, &dangling)?;
-    Ok(!dangling.is_empty())
+    put_shape(sink, shape)?;
+    Ok(!dangling.is_empty() || shape == Some(false))
 }
 
-/// Puts the verdict on what a mount answered, and answers whether it was refused or an entry dangles.
+/// Puts the verdict on what a mount answered, and answers whether it says that something is wrong.
 fn put_verdict<T: Sink>(
     alloc: Global,
     answer: Result<Mounted<'_>, MountFault>,
+    asked: bool,
     sink: &mut T,
 ) -> Result<bool, ProgramFault<'static>>
     ensures { (e : Endian) (size : ℕ) (image : List ℕ) → Answers e size image answer.entry
-        → PutsVerdict e size image (T.taken sink.old) (T.taken sink.new) (T.failures sink.old) (T.failures sink.new) result }
+        → PutsVerdict e size image asked (T.taken sink.old) (T.taken sink.new) (T.failures sink.old) (T.failures sink.new) result }
 {
     match answer {
-        Ok(mounted) => put_mounted(alloc, &mounted, sink),
+        Ok(mounted) => put_mounted(alloc, &mounted, asked, sink),
         Err(MountFault::OutOfMemory) => Err(ProgramFault::Mount(MountFault::OutOfMemory)),
         Err(fault) => {
             put_refused(sink, fault)?;
@@ -120,20 +152,22 @@ fn put_verdict<T: Sink>(
     }
 }
 
-/// Puts the verdict on an image, and answers whether the mount was refused or an entry dangles.
+/// Puts the verdict on an image, with its shape where `shape` asks for it. Answers whether the mount was refused, an entry
+/// dangles, or the shape is broken.
 ///
 /// `Mount(OutOfMemory)`: memory ran out in the mount, which is no verdict. `OutOfMemory`: for the list of the dangling
-/// entries.
+/// entries, or for the shape. Nothing was put then.
 pub fn verdict_lines<E: Order, T: Sink>(
     alloc: Global,
     image: &[u8],
     geometry: Geometry,
+    shape: bool,
     sink: &mut T,
 ) -> Result<bool, ProgramFault<'static>>
-    ensures { PutsVerdict E.order geometry.block image.now (T.taken sink.old) (T.taken sink.new)
+    ensures { PutsVerdict E.order geometry.block image.now shape (T.taken sink.old) (T.taken sink.new)
         (T.failures sink.old) (T.failures sink.new) result }
 {
-    put_verdict(alloc, mount::<E>(alloc, image, geometry), sink)
+    put_verdict(alloc, mount::<E>(alloc, image, geometry), shape, sink)
 }
 
 /// Mounts an image by its scan. Where there is none, memory ran out in it.
@@ -157,11 +191,12 @@ pub fn scanned_verdict<T: Sink>(
     alloc: Global,
     image: &[u8],
     partial: Option<PartialScan<'_>>,
+    shape: bool,
     sink: &mut T,
 ) -> Result<bool, ProgramFault<'static>>
     requires scanned { IfSome partial (λ scan. (e : Endian) × (size : ℕ) × IsScanOf e size image.now scan) }
     ensures { (e : Endian) (size : ℕ) → IsScannable size image.now → IfSome partial.entry (IsScanOf e size image.now)
-        → PutsVerdict e size image.now (T.taken sink.old) (T.taken sink.new) (T.failures sink.old) (T.failures sink.new) result }
+        → PutsVerdict e size image.now shape (T.taken sink.old) (T.taken sink.new) (T.failures sink.old) (T.failures sink.new) result }
 {
-    put_verdict(alloc, mount_partial(alloc, image, partial), sink)
+    put_verdict(alloc, mount_partial(alloc, image, partial), shape, sink)
 }

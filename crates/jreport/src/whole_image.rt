@@ -23,11 +23,13 @@ fn is_any(findings: u64, bad: bool) -> bool
     findings > 0 || bad
 }
 
-/// Reads an image and puts its report, and then the verdict on its mount. Answers whether anything was found.
+/// Reads an image and puts its report, and then the verdict on its mount, with the shape of its tree where `shape` asks for
+/// it. Answers whether anything was found.
 pub fn check_lines<E: Order, S: Source, T: Sink>(
     alloc: Global,
     source: &mut S,
     geometry: Geometry,
+    shape: bool,
     sink: &mut T,
 ) -> Result<bool, ProgramFault<'static>>
     // The size of a block is judged before anything is read or put.
@@ -38,7 +40,7 @@ pub fn check_lines<E: Order, S: Source, T: Sink>(
     ensures read { IsTrue (is_block_size geometry.block)
         → ReadsWhole (S.rest source.old) (S.rest source.new) (S.failures source.old) (S.failures source.new) result }
     ensures load { IfErr result (λ fault. IsFaultOfLoad fault → sink.new ≡ sink.old) }
-    ensures put { OfSomeImage (S.rest source.old) (λ image. PutsCheck E.order geometry.block image
+    ensures put { OfSomeImage (S.rest source.old) (λ image. PutsCheck E.order geometry.block image shape
         (T.taken sink.old) (T.taken sink.new) (T.failures sink.old) (T.failures sink.new) result) }
 {
     if !geometry.is_readable() {
@@ -48,7 +50,7 @@ pub fn check_lines<E: Order, S: Source, T: Sink>(
     let bytes = image.as_slice();
     let mut partial = Some(PartialScan::new(alloc));
     let findings = report_and_scan::<E, T>(bytes, geometry, sink, &mut partial)?;
-    let bad = scanned_verdict(alloc, bytes, partial, sink)?;
+    let bad = scanned_verdict(alloc, bytes, partial, shape, sink)?;
     Ok(is_any(findings, bad))
 }
 

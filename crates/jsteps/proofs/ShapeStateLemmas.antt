@@ -27,7 +27,7 @@ after-append : (t : Outline) (xs ys : List Step) → after sizes t (xs ++ ys) �
 after-append t [] ys = refl
 after-append t (s ∷ xs) ys = after-append (do_step sizes t s) xs ys
 
-tree_advanced : (x : Indexed) (steps : List Step) → (advanced_all x steps).tree ≡ after sizes x.tree steps
+pub tree_advanced : (x : Indexed) (steps : List Step) → (advanced_all x steps).tree ≡ after sizes x.tree steps
 tree_advanced x [] = refl
 tree_advanced x (s ∷ steps) = tree_advanced (advanced x s) steps
 
