@@ -25,6 +25,7 @@ suite() {
 
 tar -c --exclude=./.git --exclude=out --exclude=must-fail . | tar -x -C "$copy"
 suite tests/gate_clock.py "$times" bash -c '(cd "$0" && rt ci) && tests/edits.py --built "$0"' "$copy"
+suite tests/growths.py --built "$copy"
 suite tests/trace.py
 suite tests/program.sh "$copy/crates/jffs2_image/out/jffs2_image"
 suite tests/hostile.py "$copy/crates/jffs2_image/out/jffs2_image"

@@ -1,52 +1,97 @@
 #!/usr/bin/env python3
-"""Refuses each growth in turn to `Index::of`, `plan` and `advance`: tests/growths.py
+"""Refuses each growth in turn to every call that takes memory: tests/growths.py [--built DIR]
 
-Runs the program of crates/jsteps_growths, as `rt run` built it, once for each growth that it asks for, with that one refused
-(tests/refuse.c). The program sees to it that the refused call leaves the index as it was, and does when called again what it
-did not; its status says which call that was. Where it is 0 and the output is right, no call answered out of memory: the list
-that `collect` begins asks again for less. The last line is 'N passed, M failed', one for each growth.
+Runs each test of a module `growth`, as `rt test` built it here or `rt ci` in DIR, once for each growth that it asks for, with that
+one refused (tests/refuse.c). The test passes whichever it is: it sees to it that the call answers out of memory by its own number
+or what it answers anyway, that what stands after it is as the contract says, and that the same call then does what it did
+not. The program of crates/jsteps_growths is run likewise; its status says which call the growth was refused to. The last line is
+'N passed, M failed', one for each growth.
 """
+import argparse
 import collections
+import glob
 import os
 import subprocess
 import sys
 import tempfile
 
 ROOT = os.path.dirname(os.path.dirname(os.path.abspath(__file__)))
-PROGRAM = f"{ROOT}/crates/jsteps_growths/out/jsteps_growths"
 CALLS = {31: "Index::of", 32: "plan", 33: "advance", 0: "asked again"}
 # The growths of the image and of the mount of it, which come before.
 BEFORE = (20, 21)
 
 
-def run(shim, number):
-    """Runs the program with this growth refused, or with none for 0."""
-    words = {**os.environ, "LD_PRELOAD": shim, "REFUSE": str(number)}
-    return subprocess.run([PROGRAM], env=words, capture_output=True, text=True, check=False)
+def run(shim, number, words):
+    """Runs a program with this growth refused, or with none for 0."""
+    environment = {**os.environ, "LD_PRELOAD": shim, "REFUSE": str(number)}
+    return subprocess.run(words, env=environment, capture_output=True, text=True, check=False)
+
+
+def growths(shim, words):
+    """How many growths a program asks for, and what it writes where none is refused; it must pass."""
+    plain = run(shim, 0, words)
+    if plain.returncode:
+        return 0, plain
+    return int(plain.stderr.split()[-1]), plain
+
+
+def tests_of(binary):
+    """The names of a crate's tests on growth."""
+    listed = subprocess.run([binary, "--list"], capture_output=True, text=True, check=True).stdout
+    names = [line.removesuffix(": test") for line in listed.split("\n") if line.endswith(": test")]
+    return [name for name in names if name.split("::")[-2] == "growth"]
+
+
+def try_tests(shim, built):
+    """Runs the tests on growth of all crates: how many growths passed, and how many failed."""
+    passed, failed = 0, 0
+    for folder in sorted(glob.glob(f"{ROOT}/crates/*_tests")):
+        crate = os.path.basename(folder)
+        if not os.path.exists(f"{folder}/src/growth.rt"):
+            continue
+        binary = f"{built}/crates/{crate}/out/{crate}_tests"
+        for name in tests_of(binary):
+            count, _ = growths(shim, [binary, name])
+            bad = [number for number in range(1, count + 1) if run(shim, number, [binary, name]).returncode]
+            print(f"{crate} {name}: {count} growths" + (f", not passed at {bad}" if bad else ""))
+            passed += count - len(bad)
+            failed += len(bad) or count == 0
+    return passed, failed
+
+
+def try_program(shim, built):
+    """Runs the program on operations: how many growths passed, and how many failed."""
+    refused, failed = collections.Counter(), 0
+    words = [f"{built}/crates/jsteps_growths/out/jsteps_growths"]
+    count, plain = growths(shim, words)
+    for number in range(1, count + 1):
+        done = run(shim, number, words)
+        if done.returncode in BEFORE:
+            continue
+        call = CALLS.get(done.returncode)
+        if call and done.stdout == plain.stdout:
+            refused[call] += 1
+        else:
+            failed += 1
+            print(f"growth {number}: status {done.returncode}, {done.stdout!r}")
+    for call in CALLS.values():
+        print(f"{call}: {refused[call]} growths")
+    failed += sum(refused[call] == 0 for status, call in CALLS.items() if status)
+    return sum(refused.values()), failed
 
 
 def main():
-    refused, bad = collections.Counter(), 0
+    parser = argparse.ArgumentParser()
+    parser.add_argument("--built", default=ROOT)
+    built = parser.parse_args().built
     with tempfile.TemporaryDirectory(prefix="growths-") as folder:
         shim = f"{folder}/refuse.so"
         words = ["cc", "-O1", "-shared", "-fPIC", "-fno-builtin", "-o", shim, f"{ROOT}/tests/refuse.c", "-ldl"]
         subprocess.run(words, check=True)
-        plain = run(shim, 0)
-        for number in range(1, int(plain.stderr.split()[-1]) + 1):
-            done = run(shim, number)
-            if done.returncode in BEFORE:
-                continue
-            call = CALLS.get(done.returncode)
-            if call and done.stdout == plain.stdout:
-                refused[call] += 1
-            else:
-                bad += 1
-                print(f"growth {number}: status {done.returncode}, {done.stdout!r}")
-    for call in CALLS.values():
-        print(f"{call}: {refused[call]} growths")
-    bad += sum(refused[call] == 0 for status, call in CALLS.items() if status)
-    print(f"{sum(refused.values())} passed, {bad} failed")
-    return 1 if bad else 0
+        counts = [try_tests(shim, built), try_program(shim, built)]
+    passed, failed = (sum(column) for column in zip(*counts))
+    print(f"{passed} passed, {failed} failed")
+    return 1 if failed else 0
 
 
 if __name__ == "__main__":

@@ -4,6 +4,8 @@
 #[cfg(test)]
 mod checksums;
 #[cfg(test)]
+mod growth;
+#[cfg(test)]
 mod parts;
 #[cfg(test)]
 mod sinks;

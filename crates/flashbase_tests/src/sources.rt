@@ -44,18 +44,6 @@ fn a_load_without_a_failure(rt: HostRuntime) -> Result<(), Fail> {
     Ok(())
 }
 
-/// Passes with each allocation failing in turn too: memory is then blamed, and nothing else.
-#[test]
-fn a_load_with_little_memory(rt: HostRuntime) {
-    let text = b"the quick brown fox jumps over the lazy dog".as_slice();
-    let mut source = Giver::failing(text, 1, usize::MAX);
-    match load(rt.alloc(), &mut source, text.len()) {
-        Ok(bytes) => assert!(rt; bytes.as_slice() == text),
-        Err(fault) => assert_eq!(rt; fault, LoadFault::OutOfMemory),
-    }
-    assert_eq!(rt; source.failures, 0);
-}
-
 #[test]
 fn a_load_of_a_reader(rt: HostRuntime) -> Result<(), Fail> {
     let large = vec![in rt.alloc(); 7u8; 200_000]?;

@@ -1,6 +1,6 @@
 //! Listings on bases that hold something.
 
-use crate::runs::{GEOMETRY, Row, holds, is_erased, made, read_files};
+use crate::runs::{GEOMETRY, Row, holds, made, read_files};
 use byteorder::{BigEndian, LittleEndian};
 use flashbase::FromWriter;
 use jbuild::{emit, operations};
@@ -10,7 +10,7 @@ use jmount::{FindFault, mount};
 use jsteps::Page;
 use std::alloc::Global;
 use std::test::Fail;
-use test_support::{FORBIDS, LITTLE_MARKER, MADE};
+use test_support::{FORBIDS, LITTLE_MARKER, MADE, is_erased};
 
 const ROWS: [Row; 6] = [
     Row {

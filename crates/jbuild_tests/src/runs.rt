@@ -102,11 +102,3 @@ pub fn holds<E: Order>(alloc: Global, row: &Row) -> Result<bool, Fail> {
     let is_placed = places.eq(row.places.iter().copied());
     Ok(is_placed && outcome.output.len() == row.len && is_told(alloc, &outcome, row.told)?)
 }
-
-/// Whether all of a range is erased flash.
-pub fn is_erased(bytes: &[u8], from: usize, to: usize) -> bool {
-    match bytes.get(from..to) {
-        Some(bytes) => bytes.iter().all(|byte| *byte == 0xFF),
-        None => false,
-    }
-}

@@ -76,6 +76,35 @@ fn a_sink_that_fails_later(rt: HostRuntime) -> Result<(), Fail> {
     Ok(())
 }
 
+/// The sink fails once, at each of its calls in turn: by an Err, or by taking nothing.
+#[test]
+fn a_sink_that_fails_once(rt: HostRuntime) -> Result<(), Fail> {
+    let whole = made::<LittleEndian>(rt.alloc(), &MADE, 2, TEXT)?;
+    for calls in 0..100usize {
+        let sink = Taker {
+            calls,
+            is_silent: calls % 2 == 0,
+            ..Taker::limited(rt.alloc(), 500, usize::MAX)
+        };
+        let (stopped, sink) = match emitted(rt.alloc(), sink)? {
+            Ok((sink, report)) => (report.stopped, Some(sink)),
+            Err((fault, sink)) => (Some(fault), sink),
+        };
+        let sink = sink.ok_or("the sink is not handed back")?;
+        assert!(rt; whole.output.starts_with(&sink.bytes));
+        if stopped.is_none() {
+            assert!(rt; calls > 20 && sink.took(0, &whole.output));
+            return Ok(());
+        }
+        assert_eq!(rt;
+            (stopped, sink.failures),
+            (Some(SessionFault::Sink), 1),
+            "after {calls}"
+        );
+    }
+    Err(Fail::from("it goes on failing"))
+}
+
 const LINE: &[u8] = b"accepted 3 nodes 2 bytes 112\n";
 
 #[test]

@@ -9,6 +9,8 @@
 #[cfg(test)]
 mod cut_tests;
 #[cfg(test)]
+mod growth;
+#[cfg(test)]
 mod place_tests;
 #[cfg(test)]
 mod plain;

@@ -8,7 +8,7 @@ use jnode::Order;
 use jscan::Geometry;
 use std::alloc::Global;
 use std::test::Fail;
-use test_support::{BIG_ENTRY_A, BIG_MARKER, MADE};
+use test_support::{MADE, are_made, is_erased};
 
 const GEOMETRY: Geometry = Geometry { block: 8192 };
 
@@ -119,11 +119,8 @@ fn nodes_have_their_places(rt: HostRuntime) -> Result<(), Fail> {
 #[test]
 fn a_file_that_is_made(rt: HostRuntime) -> Result<(), Fail> {
     let little = run_lines::<LittleEndian>(rt.alloc(), &[], GEOMETRY, 1, &["create /a 644"])?;
-    assert!(rt; little.output.as_slice() == MADE.as_slice());
     let big = run_lines::<BigEndian>(rt.alloc(), &[], GEOMETRY, 1, &["create /a 644"])?;
-    assert!(rt; big.output.starts_with(&BIG_MARKER));
-    assert_eq!(rt; big.output.get(80..121), Some(BIG_ENTRY_A.as_slice()));
-    assert!(rt; big.output.ends_with(b"\xFF\xFF\xFF"));
+    assert!(rt; are_made(&little.output, &big.output));
     Ok(())
 }
 
@@ -168,8 +165,7 @@ fn attributes_of_a_file(rt: HostRuntime) -> Result<(), Fail> {
 fn the_rest_of_a_block_is_erased(rt: HostRuntime) -> Result<(), Fail> {
     let lines = ["create /a 644", "write /a 0 8192"];
     let run = run_lines::<LittleEndian>(rt.alloc(), &[], GEOMETRY, 2, &lines)?;
-    let rest = run.output.get(4288..8192).ok_or("no rest")?;
-    assert!(rt; rest.iter().all(|byte| *byte == 0xFF));
+    assert!(rt; is_erased(&run.output, 4288, 8192));
     assert_eq!(rt; run.output.get(8192..8204), MADE.get(..12));
     Ok(())
 }

@@ -1,8 +1,8 @@
-//! Sessions whose sink fails.
+//! Sessions whose sink fails, or takes little.
 
 use crate::sessions::BY;
 use byteorder::LittleEndian;
-use jlog::{Session, SessionFault};
+use jlog::{RunReport, Session, SessionFault};
 use jmount::mount;
 use jscan::Geometry;
 use std::alloc::Global;
@@ -12,42 +12,102 @@ use test_support::Taker;
 
 const GEOMETRY: Geometry = Geometry { block: 8192 };
 
-/// How many operations are accepted and how many nodes have a place, where the sink fails after so many bytes.
-fn stopped_after(alloc: Global, limit: usize) -> Result<(usize, usize), Fail> {
-    let lines = ["create /a 644", "write /a 0 10"];
-    let ops = ops_of(alloc, &lines, BY)?;
+/// A file is made, written, cut, and written behind its end.
+const LINES: [&str; 4] = [
+    "create /a 644",
+    "write /a 0 10",
+    "truncate /a 4",
+    "write /a 8 1",
+];
+
+/// Where their nodes go.
+const PLACES: [(u32, u32); 6] = [
+    (12, 68),
+    (80, 41),
+    (124, 78),
+    (204, 68),
+    (272, 68),
+    (340, 69),
+];
+
+/// Where the bytes of each of them end.
+const ENDS: [usize; 4] = [124, 204, 272, 412];
+
+/// What a run onto an empty flash reports, and its sink. A session that the run broke puts nothing more.
+fn run_onto(alloc: Global, sink: Taker) -> Result<(RunReport, Taker), Fail> {
+    let ops = ops_of(alloc, &LINES, BY)?;
     let mounted = mount::<LittleEndian>(alloc, &[], GEOMETRY)?;
-    let sink = Taker::limited(alloc, 7, limit);
     let mut session = Session::<LittleEndian, _>::resume(alloc, &mounted, GEOMETRY, 1, sink)?;
     let report = session.run(alloc, &ops);
-    let again = session.apply(alloc, &op_of("create /b 644", BY).ok_or("no operation")?);
-    let sink = session.finish();
-    let is_broken = report.stopped == Some(SessionFault::Sink)
-        && matches!(again, Err(SessionFault::Broken))
-        && sink.bytes.len() == limit
-        && sink.failures == 1;
-    if !is_broken {
-        return Err(Fail::from("not broken"));
+    if report.stopped.is_some() {
+        let again = session.apply(alloc, &op_of("create /b 644", BY).ok_or("no operation")?);
+        if !matches!(again, Err(SessionFault::Broken)) {
+            return Err(Fail::from("not broken"));
+        }
     }
-    Ok((report.accepted, report.places.len()))
+    Ok((report, session.finish()))
+}
+
+/// Whether so many operations are accepted, and the nodes that have a place are the first ones.
+fn is_reported(report: &RunReport, accepted: usize, nodes: usize) -> bool {
+    let places = report.places.iter().map(|place| (place.addr, place.totlen));
+    report.accepted == accepted && places.eq(PLACES.iter().copied().take(nodes))
 }
 
 #[test]
 fn a_session_breaks_with_its_sink(rt: HostRuntime) -> Result<(), Fail> {
-    let rows = [
-        (0, (0, 0)),
-        (79, (0, 0)),
-        (80, (0, 1)),
-        (120, (0, 1)),
-        (121, (0, 2)),
-        (123, (0, 2)),
-        (124, (1, 2)),
-        (201, (1, 2)),
-        (202, (1, 3)),
-        (203, (1, 3)),
-    ];
-    for (limit, want) in rows {
-        assert_eq!(rt; stopped_after(rt.alloc(), limit)?, want, "after {limit}");
+    for (limit, accepted, nodes) in [
+        (0, 0, 0),
+        (79, 0, 0),
+        (80, 0, 1),
+        (100, 0, 1),
+        (120, 0, 1),
+        (121, 0, 2),
+        (123, 0, 2),
+        (124, 1, 2),
+        (201, 1, 2),
+        (202, 1, 3),
+        (203, 1, 3),
+    ] {
+        let (report, sink) = run_onto(rt.alloc(), Taker::limited(rt.alloc(), 7, limit))?;
+        assert_eq!(rt; report.stopped, Some(SessionFault::Sink));
+        assert!(rt; is_reported(&report, accepted, nodes), "after {limit}");
+        assert_eq!(rt; (sink.bytes.len(), sink.failures), (limit, 1));
+    }
+    Ok(())
+}
+
+/// Whether a sink that failed once holds a beginning of the bytes, and the report tells of the nodes and operations in it.
+fn is_broken_off(report: &RunReport, sink: &Taker, whole: &[u8]) -> bool {
+    let taken = sink.bytes.len();
+    let nodes = PLACES.iter().filter(|(addr, totlen)| addr.wrapping_add(*totlen) as usize <= taken);
+    report.stopped == Some(SessionFault::Sink)
+        && is_reported(
+            report,
+            ENDS.iter().filter(|end| **end <= taken).count(),
+            nodes.count(),
+        )
+        && sink.failures == 1
+        && whole.starts_with(&sink.bytes)
+}
+
+/// The sink takes one byte a call, and fails once, at each of its calls in turn: by an Err, or by taking nothing.
+#[test]
+fn a_sink_that_fails_once(rt: HostRuntime) -> Result<(), Fail> {
+    let (report, whole) = run_onto(rt.alloc(), Taker::limited(rt.alloc(), 1, usize::MAX))?;
+    assert!(rt; report.stopped.is_none() && is_reported(&report, 4, 6));
+    assert_eq!(rt; whole.bytes.len(), 412);
+    for calls in 0..412usize {
+        let sink = Taker {
+            calls,
+            is_silent: calls % 2 == 0,
+            ..Taker::limited(rt.alloc(), 1, usize::MAX)
+        };
+        let (report, sink) = run_onto(rt.alloc(), sink)?;
+        assert!(rt;
+            is_broken_off(&report, &sink, &whole.bytes),
+            "after {calls}"
+        );
     }
     Ok(())
 }

@@ -4,7 +4,11 @@
 #[cfg(test)]
 mod checks;
 #[cfg(test)]
+mod failures;
+#[cfg(test)]
 mod faults;
+#[cfg(test)]
+mod growth;
 #[cfg(test)]
 mod images;
 #[cfg(test)]

@@ -7,7 +7,7 @@ use jmount::mount;
 use jreport::{ProgramFault, put_object, tree_lines};
 use std::alloc::Global;
 use std::test::Fail;
-use test_support::{Matcher, Taker};
+use test_support::Taker;
 
 fn listed<T: Sink>(alloc: Global, image: &[u8], sink: &mut T) -> Result<(), ProgramFault<'static>> {
     let mounted = mount::<LittleEndian>(alloc, image, LARGE)?;
@@ -212,27 +212,4 @@ fn sinks_that_fail_at_each_byte(rt: HostRuntime) -> Result<(), Fail> {
         assert!(rt; is_cut(rt.alloc(), &image, &CIRCLE_LINES[..limit], limit));
     }
     Ok(())
-}
-
-/// Whether a listing puts the lines of the circle, or a beginning of them where memory is refused.
-fn is_beginning(alloc: Global, image: &[u8]) -> bool {
-    let Ok(mounted) = mount::<LittleEndian>(alloc, image, LARGE) else {
-        return true;
-    };
-    let mut sink = Matcher {
-        rest: CIRCLE_LINES,
-        failures: 0,
-    };
-    match tree_lines(alloc, &mounted, &mut sink) {
-        Ok(()) => sink.rest.is_empty(),
-        Err(fault) => fault == ProgramFault::OutOfMemory,
-    }
-}
-
-/// Passes whichever allocation is refused.
-#[test]
-fn memory_that_is_refused(rt: HostRuntime) {
-    if let Ok(image) = image_of(rt.alloc(), CIRCLE) {
-        assert!(rt; is_beginning(rt.alloc(), &image));
-    }
 }

@@ -108,17 +108,17 @@ fn names_that_are_long(rt: HostRuntime) -> Result<(), Fail> {
 
 /// What is asked of an image that is read as a whole.
 #[derive(Clone, Copy)]
-enum Call {
+pub(crate) enum Call {
     Check,
     Content(&'static [u8]),
     Listing,
 }
 
 /// A call of each kind, the second of the file in `TREE`.
-const CALLS: [Call; 3] = [Call::Check, Call::Content(b"/d/f"), Call::Listing];
+pub(crate) const CALLS: [Call; 3] = [Call::Check, Call::Content(b"/d/f"), Call::Listing];
 
 /// The answer of a call: how much it found.
-fn ask<S: Source, T: Sink>(
+pub(crate) fn ask<S: Source, T: Sink>(
     alloc: Global,
     call: Call,
     source: &mut S,
@@ -138,7 +138,7 @@ fn ask<S: Source, T: Sink>(
 }
 
 /// The answer of a call, and what it puts.
-fn answer_and_text(
+pub(crate) fn answer_and_text(
     alloc: Global,
     call: Call,
     image: &[u8],
@@ -150,7 +150,7 @@ fn answer_and_text(
     (answer, sink.into_writer())
 }
 
-const TREE_CHECKED: &[u8] = b"block 0\n\
+pub(crate) const TREE_CHECKED: &[u8] = b"block 0\n\
 00000000 inode 68 ino 1 version 1 mode 40755 size 0 offset 0 data 0 none\n\
 00000044 inode 68 ino 2 version 1 mode 41700 size 0 offset 0 data 0 none\n\
 00000088 inode 72 ino 3 version 1 mode 100644 size 2 offset 0 data 2 none\n\
@@ -164,7 +164,7 @@ total blocks 1 entries 4 inodes 4 findings 0\n\
 mount ok\n\
 dangling pino 1 ino 9 name x\n";
 
-const TREE_LISTED: &[u8] = b"d 0755 7 8 0 1234567890 1 /\n\
+pub(crate) const TREE_LISTED: &[u8] = b"d 0755 7 8 0 1234567890 1 /\n\
 d 1700 0 0 0 0 2 /d\n\
 - 0644 0 0 2 0 3 /d/f\n\
 l 0777 0 0 4 0 4 /s -> \\x2fd\\x2ff\n";

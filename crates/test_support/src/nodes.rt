@@ -74,3 +74,19 @@ pub const FORBIDS: [u8; 24] = [
 pub const INCOMPATIBLE: [u8; 12] = [
     0x85, 0x19, 0xf7, 0xe0, 0x0c, 0x00, 0x00, 0x00, 0x65, 0x03, 0x08, 0x83,
 ];
+
+/// Whether these are the images of that file, in little and in big order.
+pub fn are_made(little: &[u8], big: &[u8]) -> bool {
+    little == MADE.as_slice()
+        && big.starts_with(&BIG_MARKER)
+        && big.get(80..121) == Some(BIG_ENTRY_A.as_slice())
+        && big.ends_with(b"\xFF\xFF\xFF")
+}
+
+/// Whether all of a range is erased flash.
+pub fn is_erased(bytes: &[u8], from: usize, to: usize) -> bool {
+    match bytes.get(from..to) {
+        Some(bytes) => bytes.iter().all(|byte| *byte == 0xFF),
+        None => false,
+    }
+}

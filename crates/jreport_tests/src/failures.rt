@@ -1,0 +1,111 @@
+//! Devices that fail once, at each of their calls in turn, and devices that give or take one byte a call.
+
+use crate::images::{GEOMETRY, TREE, image_of};
+use crate::reads::{CALLS, Call, answer_and_text, ask};
+use byteorder::LittleEndian;
+use flashbase::LoadFault;
+use jreport::{ProgramFault, stream_lines};
+use std::alloc::Global;
+use std::test::Fail;
+use test_support::{Giver, MADE, Taker};
+
+/// A sink that takes so many bytes a call, and fails once after so many calls.
+fn failing(alloc: Global, most: usize, calls: usize, is_silent: bool) -> Taker {
+    Taker {
+        calls,
+        is_silent,
+        ..Taker::limited(alloc, most, usize::MAX)
+    }
+}
+
+/// Whether a sink that failed once is told of, and nothing went out after the beginning that it took.
+fn is_told(answer: &Result<u64, ProgramFault<'static>>, sink: &Taker, text: &[u8]) -> bool {
+    *answer == Err(ProgramFault::Output) && sink.failures == 1 && text.starts_with(&sink.bytes)
+}
+
+/// After how many calls the sink of a call on `image` fails no more, since there are no more. At each one before, its failure is
+/// told of.
+fn count_of_puts(
+    alloc: Global,
+    image: &[u8],
+    call: Call,
+    text: &[u8],
+    is_silent: bool,
+) -> Option<usize> {
+    for calls in 0..100usize {
+        let mut source = Giver::failing(image, 1000, usize::MAX);
+        let mut sink = failing(alloc, 40, calls, is_silent);
+        let answer = ask(alloc, call, &mut source, GEOMETRY, &mut sink);
+        if answer.is_ok() {
+            return if sink.took(0, text) {
+                Some(calls)
+            } else {
+                None
+            };
+        }
+        if !is_told(&answer, &sink, text) {
+            return None;
+        }
+    }
+    None
+}
+
+#[test]
+fn sinks_that_fail_once(rt: HostRuntime) -> Result<(), Fail> {
+    let image = image_of(rt.alloc(), TREE)?;
+    for call in CALLS {
+        let (_, text) = answer_and_text(rt.alloc(), call, &image, GEOMETRY);
+        let count = count_of_puts(rt.alloc(), &image, call, &text, false);
+        assert!(rt; count.is_some_and(|count| count > 0));
+        assert_eq!(rt; count_of_puts(rt.alloc(), &image, call, &text, true), count);
+    }
+    Ok(())
+}
+
+/// The image is 456 bytes long, which are given in five calls, and a sixth tells that there are no more.
+#[test]
+fn sources_that_fail_once(rt: HostRuntime) -> Result<(), Fail> {
+    let image = image_of(rt.alloc(), TREE)?;
+    for call in CALLS {
+        for calls in 0..6usize {
+            let mut source = Giver::failing(&image, 100, calls);
+            let mut sink = Taker::new(rt.alloc());
+            let answer = ask(rt.alloc(), call, &mut source, GEOMETRY, &mut sink);
+            assert_eq!(rt; answer, Err(ProgramFault::Load(LoadFault::Device)));
+            assert!(rt; source.failures == 1 && sink.took(0, b""));
+        }
+    }
+    Ok(())
+}
+
+#[test]
+fn devices_of_one_byte_a_call(rt: HostRuntime) -> Result<(), Fail> {
+    let image = image_of(rt.alloc(), TREE)?;
+    for call in CALLS {
+        let (want, text) = answer_and_text(rt.alloc(), call, &image, GEOMETRY);
+        let mut source = Giver::failing(&image, 1, usize::MAX);
+        let mut sink = Taker::limited(rt.alloc(), 1, usize::MAX);
+        assert_eq!(rt;
+            ask(rt.alloc(), call, &mut source, GEOMETRY, &mut sink),
+            want
+        );
+        assert!(rt; sink.took(0, &text) && source.failures == 0);
+    }
+    Ok(())
+}
+
+/// One block, which is given in two calls, and a third tells that there are no more.
+#[test]
+fn streams_that_fail_once(rt: HostRuntime) {
+    for calls in 0..4usize {
+        let mut sink = Taker::limited(rt.alloc(), 1, usize::MAX);
+        let source = Giver::failing(&MADE, 100, calls);
+        let answer = stream_lines::<LittleEndian, _, _>(rt.alloc(), source, GEOMETRY, &mut sink);
+        if calls < 3 {
+            assert_eq!(rt; answer, Err(ProgramFault::Load(LoadFault::Device)));
+            assert!(rt; sink.took(0, b""));
+        } else {
+            assert_eq!(rt; answer, Ok(0));
+        }
+    }
+}

@@ -1,0 +1,135 @@
+//! A growth that is refused is told as such.
+
+use crate::images::{CIRCLE, CIRCLE_LINES, GEOMETRY, LARGE, TREE, image_of};
+use crate::reads::{Call, TREE_CHECKED, TREE_LISTED, ask};
+use byteorder::LittleEndian;
+use flashbase::LoadFault;
+use jmount::{MountFault, mount};
+use jreport::{ProgramFault, path_word, scan_lines, stream_lines, tree_lines};
+use jscan::ScanFault;
+use std::alloc::Global;
+use test_support::{Giver, MADE, Matcher};
+
+/// What each call answers of `TREE`, and what it puts.
+const WHOLE: [(Call, u64, &[u8]); 3] = [
+    (Call::Check, 1, TREE_CHECKED),
+    (Call::Content(b"/d/f"), 0, b"hi"),
+    (Call::Listing, 0, TREE_LISTED),
+];
+
+/// Why a call is not answered; none where its answer and its text are right.
+fn fault(
+    alloc: Global,
+    image: &[u8],
+    (call, found, text): (Call, u64, &[u8]),
+) -> Option<ProgramFault<'static>> {
+    let mut source = Giver::failing(image, 100, usize::MAX);
+    let mut sink = Matcher {
+        rest: text,
+        failures: 0,
+    };
+    match ask(alloc, call, &mut source, GEOMETRY, &mut sink) {
+        Ok(answer) if answer == found && sink.rest.is_empty() => None,
+        Ok(_) => Some(ProgramFault::Output),
+        Err(fault) => Some(fault),
+    }
+}
+
+/// Passes with each allocation failing in turn too: memory is then blamed, by the number of the step that wanted it, and the same
+/// call answers as if there had been none before.
+#[test]
+fn refused_growth_of_whole_calls(rt: HostRuntime) {
+    let Ok(image) = image_of(rt.alloc(), TREE) else {
+        return;
+    };
+    for row in WHOLE {
+        match fault(rt.alloc(), &image, row) {
+            None => (),
+            Some(
+                ProgramFault::OutOfMemory
+                | ProgramFault::Load(LoadFault::OutOfMemory)
+                | ProgramFault::Mount(MountFault::OutOfMemory),
+            ) => assert_eq!(rt; fault(rt.alloc(), &image, row), None),
+            Some(other) => assert_eq!(rt; Some(other), None),
+        }
+    }
+}
+
+/// Why the lines of the circle are not put; none where they are.
+fn circle_fault(alloc: Global) -> Option<ProgramFault<'static>> {
+    let Ok(image) = image_of(alloc, CIRCLE) else {
+        return Some(ProgramFault::OutOfMemory);
+    };
+    let Ok(mounted) = mount::<LittleEndian>(alloc, &image, LARGE) else {
+        return Some(ProgramFault::OutOfMemory);
+    };
+    let mut sink = Matcher {
+        rest: CIRCLE_LINES,
+        failures: 0,
+    };
+    match tree_lines(alloc, &mounted, &mut sink) {
+        Ok(()) if sink.rest.is_empty() => None,
+        Ok(()) => Some(ProgramFault::Output),
+        Err(fault) => Some(fault),
+    }
+}
+
+const REPORT: &[u8] = b"block 0\n\
+00000000 marker 12\n\
+0000000c inode 68 ino 2 version 1 mode 100644 size 0 offset 0 data 0 none\n\
+00000050 entry 44 pino 1 version 1 ino 2 type 8 name a\n\
+0000007c erased 3972\n\
+total blocks 1 entries 1 inodes 1 findings 0\n";
+
+/// Why the lines of a source are not put; none where they are.
+fn stream_fault(alloc: Global) -> Option<ProgramFault<'static>> {
+    let mut sink = Matcher {
+        rest: REPORT,
+        failures: 0,
+    };
+    let source = Giver::failing(&MADE, 100, usize::MAX);
+    match stream_lines::<LittleEndian, _, _>(alloc, source, GEOMETRY, &mut sink) {
+        Ok(0) if sink.rest.is_empty() => None,
+        Ok(_) => Some(ProgramFault::Output),
+        Err(fault) => Some(fault),
+    }
+}
+
+/// Why the lines of an image are no text; none where they are.
+fn text_fault(alloc: Global) -> Option<ScanFault> {
+    match scan_lines::<LittleEndian>(alloc, &MADE, GEOMETRY) {
+        Ok(lines) if lines.text.as_slice() == REPORT => None,
+        Ok(_) => Some(ScanFault::TooLarge),
+        Err(fault) => Some(fault),
+    }
+}
+
+/// Why a word is not read; none where it is.
+fn word_fault(alloc: Global) -> Option<ProgramFault<'static>> {
+    match path_word(alloc, b"/d\\x2ff") {
+        Ok(path) if path.as_slice() == b"/d/f".as_slice() => None,
+        Ok(_) => Some(ProgramFault::Output),
+        Err(fault) => Some(fault),
+    }
+}
+
+/// Passes with each allocation failing in turn too.
+#[test]
+fn refused_growth_of_lines(rt: HostRuntime) {
+    if let Some(fault) = circle_fault(rt.alloc()) {
+        assert_eq!(rt; fault, ProgramFault::OutOfMemory);
+        assert_eq!(rt; circle_fault(rt.alloc()), None);
+    }
+    if let Some(fault) = stream_fault(rt.alloc()) {
+        assert_eq!(rt; fault, ProgramFault::Load(LoadFault::OutOfMemory));
+        assert_eq!(rt; stream_fault(rt.alloc()), None);
+    }
+    if let Some(fault) = text_fault(rt.alloc()) {
+        assert_eq!(rt; fault, ScanFault::OutOfMemory);
+        assert_eq!(rt; text_fault(rt.alloc()), None);
+    }
+    if let Some(fault) = word_fault(rt.alloc()) {
+        assert_eq!(rt; fault, ProgramFault::OutOfMemory);
+        assert_eq!(rt; word_fault(rt.alloc()), None);
+    }
+}
