@@ -2,7 +2,8 @@
 """Looks up each name in the tables of docs/TRACE.md and docs/PROOFS.md: tests/trace.py. The last line is 'N passed, M failed'.
 
 The names stand between backquotes, in three forms: `crate.File.name` is a definition in crates/crate/specs/File.antt,
-`crate::module::name` an item of crates/crate/src/module.rt, and `crate/name` an edit, crates/crate/must-fail/name.edit.
+`crate::module::name` an item of crates/crate/src/module.rt, and `crate/name` an edit, crates/crate/must-fail/name.edit, or a
+module, crates/crate/src/name.rt.
 """
 import os
 import re
@@ -36,7 +37,8 @@ def is_there(name):
         text = text_of(crate, "src", f"{module}.rt")
         return bool(re.search(rf"\b(?:fn|struct|enum|trait|type|const|impl(?:<[^>]*>)?) {word}\b", text))
     if found := EDIT.fullmatch(name):
-        return os.path.isfile(os.path.join(CRATES, found[1], "must-fail", f"{found[2]}.edit"))
+        places = (("must-fail", f"{found[2]}.edit"), ("src", f"{found[2]}.rt"))
+        return any(os.path.isfile(os.path.join(CRATES, found[1], *place)) for place in places)
     return None
 
 
