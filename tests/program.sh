@@ -176,6 +176,9 @@ want 3 $'block 0\n00000000 other-order 4\n00000004 dirt 8\n0000000c other-order 
 # Images that are mounted: the report, and then the verdict
 run check block; want 0 "*findings 0*mount ok" ""
 run check empty; want 0 "total blocks 0 *mount ok" ""
+run check --shape empty; want 0 "total blocks 0 *mount ok"$'\nshape ok' ""
+run check --shape --scan empty; want 0 "$nothing" ""
+run check --shape --block 4096 "$sample"; want 3 "*mount ok*dangling pino 1 ino 2 name a"$'\nshape ok' ""
 run check --block 4096 "$sample"; want 3 "*findings 0*mount ok*dangling pino 1 ino 2 name a" ""
 run check --endian big --block 4096 "$sample"; want 3 "*findings 4*mount ok" ""
 run check --block 4095 block; want 1 "" "jffs2_image: C1 BlockSize"
@@ -719,6 +722,15 @@ for order in little big; do
         done
     done
 done
+rm built
+
+# The shape of the tree: halfway through a rename of a directory two names of it are there
+lines listing 'mkdir 0755 /d' 'rename /d /e'
+run build "${small[@]}" --blocks 1 listing built; want 0 "accepted 2 nodes 4 bytes *" ""
+run check --shape "${small[@]}" built; want 0 "*findings 0"$'\nmount ok\nshape ok' ""
+head -c 168 built > halfway
+run check --shape "${small[@]}" halfway; want 3 "*findings 0"$'\nmount ok\nshape broken' ""
+run check "${small[@]}" halfway; want 0 "*findings 0"$'\nmount ok' ""
 rm built
 
 # Images that are not extended: nothing is made

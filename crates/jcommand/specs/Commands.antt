@@ -27,9 +27,9 @@ abbrev pub plain : Text → App
 plain name = with_rule (with_rule (new_app name) (option_or (codes "block") (codes "65536")))
     (option_or (codes "endian") (codes "little"))
 
--- `check [--scan] [--block N] [--endian ORDER] IMAGE`
+-- `check [--scan] [--shape] [--block N] [--endian ORDER] IMAGE`
 abbrev pub check_app : App
-check_app = with_rule (with_rule (plain (codes "check")) (flag (codes "scan"))) (word (codes "IMAGE"))
+check_app = with_rule (with_rule (with_rule (plain (codes "check")) (flag (codes "scan"))) (flag (codes "shape"))) (word (codes "IMAGE"))
 
 -- `ls [--block N] [--endian ORDER] IMAGE`
 abbrev pub ls_app : App

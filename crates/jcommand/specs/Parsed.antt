@@ -42,7 +42,7 @@ number_option id rows = option_and_then number_of (first_of id rows)
 
 pub data Parsed : Type 0 where
   ScanParsed : Options → Text → Parsed
-  CheckParsed : Options → Text → Parsed
+  CheckParsed : Options → Bool → Text → Parsed
   ListParsed : Options → Text → Parsed
   CatParsed : Options → Text → Text → Parsed
   BuildParsed : Options → ℕ → Page → Text → Text → Parsed
@@ -50,7 +50,7 @@ pub data Parsed : Type 0 where
 
 abbrev pub view : Request → Parsed
 view (request.Scan options image) = ScanParsed options image.now
-view (request.Check options image) = CheckParsed options image.now
+view (request.Check options shape image) = CheckParsed options shape image.now
 view (request.List options image) = ListParsed options image.now
 view (request.Cat options image path) = CatParsed options image.now path.now
 view (request.Build options blocks page listing output) = BuildParsed options blocks page listing.now output.now
@@ -58,7 +58,7 @@ view (request.Append options blocks page image listing output) = AppendParsed op
 
 abbrev pub options_of : Request → Options
 options_of (request.Scan options image) = options
-options_of (request.Check options image) = options
+options_of (request.Check options shape image) = options
 options_of (request.List options image) = options
 options_of (request.Cat options image path) = options
 options_of (request.Build options blocks page listing output) = options
@@ -85,9 +85,10 @@ abbrev pub is_given : Option Text → Bool
 is_given (Some text) = bytes_eq text (codes "true")
 is_given None = false
 
+-- `--shape` says nothing beside `--scan`, which mounts nothing
 abbrev pub check_in : List Row → Option Parsed
 check_in rows = image_in rows >>= λ p.
-    Some (if is_given (first_of (codes "scan") rows) then ScanParsed p.0 p.1 else CheckParsed p.0 p.1)
+    Some (if is_given (first_of (codes "scan") rows) then ScanParsed p.0 p.1 else CheckParsed p.0 (is_given (first_of (codes "shape") rows)) p.1)
 
 abbrev pub ls_in : List Row → Option Parsed
 ls_in rows = image_in rows >>= λ p. Some (ListParsed p.0 p.1)

@@ -94,9 +94,10 @@ fn make_check<'a>(alloc: Global) -> Made<'a>
     ensures { MakesApp result check_app }
 {
     let scan = make_flag(alloc, "scan", help::SCAN);
+    let shape = make_flag(alloc, "shape", help::SHAPE);
     let image = make_word(alloc, "IMAGE", help::IMAGE);
     let command = make_plain(alloc, "check", help::CHECK, help::CHECK_EPILOGUE);
-    add_arg(add_arg(command, scan), image)
+    add_arg(add_arg(add_arg(command, scan), shape), image)
 }
 
 fn make_ls<'a>(alloc: Global) -> Made<'a>

@@ -25,6 +25,9 @@ pub(crate) const PAGE: &str = "Largest piece of a file in one node, in bytes: 40
 
 pub(crate) const SCAN: &str = "Print the tiles alone, and do not mount";
 
+pub(crate) const SHAPE: &str =
+    "Print last whether each directory has one name and none lies below itself";
+
 pub(crate) const IMAGE: &str = "File with the bytes of the flash";
 
 pub(crate) const PATH: &str =
@@ -71,7 +74,9 @@ The last line has the totals. Findings are damaged, compressed, attribute, read-
 incompatible nodes, and runs of dirt or of words in the other byte order.
 
 Then comes the verdict, unless --scan is given: 'mount ok', 'mount ok read-only', or
-'mount refused' and why. After an ok, 'dangling' tells of a name without an object.
+'mount refused' and why. After an ok, 'dangling' tells of a name without an object. Last
+comes, with --shape and after an ok, 'shape ok', or 'shape broken' where a directory other
+than the root has two names or a directory lies below itself.
 
 Examples:
   jffs2_image check flash.img
@@ -81,7 +86,7 @@ Exit status:
   0  done, and nothing was found
   1  a fault, which standard error names
   2  the command line is wrong
-  3  a finding, an image that does not mount, or a name without an object";
+  3  a finding, an image that does not mount, a name without an object, or a broken shape";
 
 pub(crate) const LIST_EPILOGUE: &str = "\
 The root is the first line. A directory stands before what lies in it, and names are in

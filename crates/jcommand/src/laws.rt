@@ -1,5 +1,5 @@
 //! Worked examples of the definitions that the contracts cite.
-ghost use Rattle.std.specs.Prelude.{◌≡◌, [], ◌∷◌, Some, None, codes};
+ghost use Rattle.std.specs.Prelude.{◌≡◌, true, false, [], ◌∷◌, Some, None, codes};
 ghost use Rattle.clap.specs.Words.{fault_of};
 ghost use Rattle.clap.specs.declared.error.ErrorKind.TheVariants.{DisplayHelp, DisplayVersion, MissingSubcommand, MissingRequiredArgument, UnknownArgument};
 ghost use Rattle.jnode.specs.declared.order.Endian.TheVariants.{Little, Big};
@@ -28,7 +28,9 @@ pub fn known_requests()
         ≡ Some (ScanParsed (record { geometry = record { block = 65536 }; endian = Little }) (codes "a")) }
     ensures given { parsed_from (codes "jffs2_image" ∷ codes "check" ∷ codes "--block" ∷ codes "4096" ∷ codes "--endian=big"
         ∷ codes "a" ∷ [])
-        ≡ Some (CheckParsed (record { geometry = record { block = 4096 }; endian = Big }) (codes "a")) }
+        ≡ Some (CheckParsed (record { geometry = record { block = 4096 }; endian = Big }) false (codes "a")) }
+    ensures shape { parsed_from (codes "jffs2_image" ∷ codes "check" ∷ codes "--shape" ∷ codes "a" ∷ [])
+        ≡ Some (CheckParsed (record { geometry = record { block = 65536 }; endian = Little }) true (codes "a")) }
     ensures tree { parsed_from (codes "jffs2_image" ∷ codes "ls" ∷ codes "a" ∷ codes "--block=8192" ∷ [])
         ≡ Some (ListParsed (record { geometry = record { block = 8192 }; endian = Little }) (codes "a")) }
     ensures content { parsed_from (codes "jffs2_image" ∷ codes "cat" ∷ codes "a" ∷ codes "/b" ∷ [])

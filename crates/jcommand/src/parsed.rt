@@ -23,9 +23,10 @@ pub enum Request<'a> {
         options: Options,
         image: &'a str,
     },
-    /// `check`: the same, and whether the image mounts.
+    /// `check`: the same, and whether the image mounts; with `--shape`, and its tree has its shape.
     Check {
         options: Options,
+        shape: bool,
         image: &'a str,
     },
     /// `ls`: a line for each object of the tree.
@@ -168,7 +169,11 @@ fn check_at<'a>(found: &ArgMatches<'a>) -> Option<Request<'a>>
     if is_given(found, "scan") {
         Some(Request::Scan { options, image })
     } else {
-        Some(Request::Check { options, image })
+        Some(Request::Check {
+            options,
+            shape: is_given(found, "shape"),
+            image,
+        })
     }
 }
 

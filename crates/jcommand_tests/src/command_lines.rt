@@ -17,6 +17,9 @@ fn shown(alloc: Global, request: Request<'_>) -> Result<String, AllocError> {
     };
     match request {
         Request::Scan { image, .. } => format!(in alloc; "scan {block} {order} {image}"),
+        Request::Check {
+            image, shape: true, ..
+        } => format!(in alloc; "check {block} {order} {image} shape"),
         Request::Check { image, .. } => format!(in alloc; "check {block} {order} {image}"),
         Request::List { image, .. } => format!(in alloc; "ls {block} {order} {image}"),
         Request::Cat { image, path, .. } => format!(in alloc; "cat {block} {order} {image} {path}"),
@@ -72,6 +75,9 @@ fn is_text(text: &str, start: &str, parts: [&str; 2]) -> bool {
 fn args_that_ask_for_something(rt: HostRuntime) -> Result<(), Fail> {
     let examples = [
         ("t check --scan a.img", "scan 65536 little a.img"),
+        ("t check a.img", "check 65536 little a.img"),
+        ("t check --shape a.img", "check 65536 little a.img shape"),
+        ("t check --shape --scan a.img", "scan 65536 little a.img"),
         ("t check a.img --scan", "scan 65536 little a.img"),
         (
             "t check --scan --block 4096 a.img",
@@ -171,6 +177,7 @@ fn args_that_are_wrong(rt: HostRuntime) -> Result<(), Fail> {
         ("t ls", "<IMAGE>"),
         ("t ls a.img /a", "'/a'"),
         ("t ls --scan a.img", "--scan"),
+        ("t ls --shape a.img", "--shape"),
         ("t ls --block=many a.img", "'many' for '--block <N>'"),
         ("t ls a.img --endian=", "'' for '--endian <ORDER>'"),
         ("t check", "<IMAGE>"),

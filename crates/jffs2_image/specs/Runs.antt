@@ -31,7 +31,7 @@ use Rattle.jffs2_image.specs.declared.program.Stop.TheVariants as stop
 
 abbrev pub options_parsed : Parsed → Options
 options_parsed (ScanParsed options image) = options
-options_parsed (CheckParsed options image) = options
+options_parsed (CheckParsed options shape image) = options
 options_parsed (ListParsed options image) = options
 options_parsed (CatParsed options image path) = options
 options_parsed (BuildParsed options blocks page listing output) = options
@@ -41,15 +41,15 @@ options_parsed (AppendParsed options blocks page image listing output) = options
 abbrev pub number_found : Bool → ℕ
 number_found found = if found then 1 else 0
 
--- `check`, with that number
-abbrev pub PutsJudged : Endian → ℕ → List ℕ → Option (List ℕ) → Option (List ℕ) → ℕ → ℕ → Result ℕ ProgramFault → Type 0
-PutsJudged e size image old new before now (Ok n) = (found : Bool) × (n ≡ number_found found) × PutsCheck e size image old new before now (Ok found)
-PutsJudged e size image old new before now (Err fault) = PutsCheck e size image old new before now (Err fault)
+-- `check`, with that number; and whether the shape is asked for
+abbrev pub PutsJudged : Endian → ℕ → Bool → List ℕ → Option (List ℕ) → Option (List ℕ) → ℕ → ℕ → Result ℕ ProgramFault → Type 0
+PutsJudged e size asked image old new before now (Ok n) = (found : Bool) × (n ≡ number_found found) × PutsCheck e size image asked old new before now (Ok found)
+PutsJudged e size asked image old new before now (Err fault) = PutsCheck e size image asked old new before now (Err fault)
 
 -- what is put of an image, or why no more of it is
 abbrev pub PutsAnswer : Endian → Parsed → List ℕ → Option (List ℕ) → Option (List ℕ) → ℕ → ℕ → Result ℕ ProgramFault → Type 0
 PutsAnswer e (ScanParsed options name) = PutsStream e options.geometry.block
-PutsAnswer e (CheckParsed options name) = PutsJudged e options.geometry.block
+PutsAnswer e (CheckParsed options shape name) = PutsJudged e options.geometry.block shape
 PutsAnswer e (ListParsed options name) = PutsListing e options.geometry.block
 PutsAnswer e (CatParsed options name word) = λ image old new before now answer.
     (path : List ℕ) × (path_of word ≡ Some path) × PutsFile e options.geometry.block image path old new before now answer
@@ -67,7 +67,7 @@ IsUnopened file _ = ⊥
 -- the listing can't be opened, or not be read to its end
 abbrev pub IsEarlyFault : Parsed → ProgramFault → Type 0
 IsEarlyFault (ScanParsed options image) fault = IsUnopened image fault
-IsEarlyFault (CheckParsed options image) fault = IsUnopened image fault
+IsEarlyFault (CheckParsed options shape image) fault = IsUnopened image fault
 IsEarlyFault (ListParsed options image) fault = IsUnopened image fault
 IsEarlyFault (CatParsed options image word) (program.Path find.BadPath) = path_of word ≡ None
 IsEarlyFault (CatParsed options image word) program.OutOfMemory = Unit {0}
@@ -107,7 +107,7 @@ pub record MeetsWhole (parsed : Parsed) (old given : Option (List ℕ)) (before 
 -- what it comes to that the work found so much
 abbrev pub success_of : Parsed → ℕ → Success
 success_of (ScanParsed options image) n = success.Found n
-success_of (CheckParsed options image) n = success.Found n
+success_of (CheckParsed options shape image) n = success.Found n
 success_of (ListParsed options image) n = success.Shown n
 success_of (CatParsed options image path) n = success.Shown n
 success_of (BuildParsed options blocks page listing output) n = success.Shown n

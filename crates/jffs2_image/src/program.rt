@@ -63,13 +63,14 @@ fn scan<'a, E: Order, R: Files + AllocGlobal, T: Sink>(
 fn check<'a, E: Order, R: Files + AllocGlobal, T: Sink>(
     rt: &R,
     options: Options,
+    shape: bool,
     image: &'a str,
     sink: &mut T,
 ) -> Result<u64, ProgramFault<'a>>
-    ensures { Meets E.order (CheckParsed options image.now) (T.taken sink.old) (T.taken sink.new) (T.failures sink.old) (T.failures sink.new) result }
+    ensures { Meets E.order (CheckParsed options shape image.now) (T.taken sink.old) (T.taken sink.new) (T.failures sink.old) (T.failures sink.new) result }
 {
     let mut source = open(rt, image)?;
-    let found = check_lines::<E, _, _>(rt.alloc(), &mut source, options.geometry, sink)?;
+    let found = check_lines::<E, _, _>(rt.alloc(), &mut source, options.geometry, shape, sink)?;
     Ok(u64::from(found))
 }
 
@@ -158,7 +159,11 @@ fn run_in_order<'a, E: Order, R: Files + AllocGlobal, L: Loader, M: Maker, T: Si
 {
     match request {
         Request::Scan { options, image } => scan::<E, _, _>(rt, options, image, sink),
-        Request::Check { options, image } => check::<E, _, _>(rt, options, image, sink),
+        Request::Check {
+            options,
+            shape,
+            image,
+        } => check::<E, _, _>(rt, options, shape, image, sink),
         Request::List { options, image } => list::<E, _, _>(rt, options, image, sink),
         Request::Cat {
             options,

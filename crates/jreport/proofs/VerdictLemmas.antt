@@ -1,13 +1,19 @@
 -- A verdict that ends early.
 use Rattle.std.proofs.Common.{◌≡◌, ◌≢◌, ℕ, Bool, true, List, sym, refl, subst, Option, Result, Ok, Err}
-use Rattle.std.specs.Prelude.{IsErrAnd}
+use Rattle.std.specs.Prelude.{IsErrAnd, Decides}
+use Rattle.std.specs.Bool.{one_answer}
 use Rattle.flashbase.specs.Device.{PutsPart, next_count}
 use Rattle.jnode.specs.declared.order.Endian.{Endian}
 use Rattle.jmount.specs.Mount.{Mount}
+use Rattle.jmount.specs.Tree.{outline}
+use Rattle.jmount.specs.Shape.{HasShape}
+use Rattle.jmount.specs.ShapeForm.{shape_of}
 use Rattle.jmount.specs.Mounts.{Answers}
 use Rattle.jmount.specs.declared.fault.MountFault.{MountFault}
 use Rattle.jmount.specs.declared.fault.MountFault.TheVariants as mount
-use Rattle.jreport.specs.Verdict.{IsVerdict, PutsMounted, PutsVerdict, is_wrong, mounted_text, refused_line}
+use Rattle.jmount.proofs.ShapeOfLemmas.{shape_is_decided}
+use Rattle.jmount.proofs.ShapePathLemmas.{shape_is_of_outline}
+use Rattle.jreport.specs.Verdict.{IsVerdict, PutsMounted, PutsVerdict, is_shaped, is_wrong, mounted_text, refused_line}
 use Rattle.jreport.specs.declared.faults.ProgramFault.{ProgramFault}
 use Rattle.jreport.specs.declared.faults.ProgramFault.TheVariants as program
 use Rattle.jreport.specs.declared.faults.ProgramFault.TheVariants.{Output}
@@ -56,3 +62,13 @@ verdict_of_mounted e size image asked m old new before now (Err (program.Listing
 verdict_of_mounted e size image asked m old new before now (Err (program.Session fault line)) answers put = absurd put
 verdict_of_mounted e size image asked m old new before now (Err (program.Path f)) answers put = absurd put
 verdict_of_mounted e size image asked m old new before now (Err program.NotRegular) answers put = absurd put
+
+-- ---- the shape
+
+-- what decides whether a tree has its shape is the computed form
+pub is_shaped_by : (m : Mount) (shape : Bool) → Decides shape (HasShape m.state) → shape ≡ is_shaped m
+unfolding is_shaped
+is_shaped_by m shape decides =
+    let computed = shape_is_decided (outline m.state) in
+    let of = shape_is_of_outline m.state in
+    one_answer shape (shape_of (outline m.state)) decides (λ h. of.0 (computed.0 h), λ has. computed.1 (of.1 has))

@@ -99,10 +99,10 @@ on_mounted e size image m a b before now puts r no_load no_mount answers put = (
 
 -- ---- `check`
 
-pub check_unread : (e : Endian) (size : ℕ) (image : List ℕ) (f : LoadFault) (a : Option (List ℕ)) (n : ℕ) (r : Result Bool ProgramFault)
-    → IsErrAnd r (λ x. x ≡ program.Load f) → PutsCheck e size image a a n n r
-check_unread e size image f a n (Ok x) is = absurd is
-check_unread e size image f a n (Err x) is = subst (λ (y : ProgramFault). PutsCheck e size image a a n n (Err y)) (sym is) (refl, refl)
+pub check_unread : (e : Endian) (size : ℕ) (asked : Bool) (image : List ℕ) (f : LoadFault) (a : Option (List ℕ)) (n : ℕ) (r : Result Bool ProgramFault)
+    → IsErrAnd r (λ x. x ≡ program.Load f) → PutsCheck e size image asked a a n n r
+check_unread e size asked image f a n (Ok x) is = absurd is
+check_unread e size asked image f a n (Err x) is = subst (λ (y : ProgramFault). PutsCheck e size image asked a a n n (Err y)) (sym is) (refl, refl)
 
 -- the scan that a report made
 pub scan_of : (e : Endian) (size : ℕ) (image : List ℕ) (partial : Option PartialScan) → IsScannable size image → IfSome partial (HasScanned (image_extents e size image))
@@ -116,15 +116,15 @@ some_scan e size image None is = tt
 some_scan e size image (Some scan) is = (e, size, is)
 
 -- the report ended early
-pub report_failed : (e : Endian) (size : ℕ) (items present : List ℕ) (f : ReportFault) (a b : Option (List ℕ)) (before now : ℕ) (r : Result Bool ProgramFault)
+pub report_failed : (e : Endian) (size : ℕ) (asked : Bool) (items present : List ℕ) (f : ReportFault) (a b : Option (List ℕ)) (before now : ℕ) (r : Result Bool ProgramFault)
     → IsErrAnd r (λ x. x ≡ fault_of_report f) → present ≡ items → length items ≤ greatest_image
-    → PutsReport e size present a b before now (Err f) → PutsCheck e size items a b before now r
-report_failed e size items present f a b before now (Ok x) is same short put = absurd is
-report_failed e size items present f a b before now (Err x) is same short put =
-    subst (λ (y : ProgramFault). PutsCheck e size items a b before now (Err y)) (sym is)
+    → PutsReport e size present a b before now (Err f) → PutsCheck e size items asked a b before now r
+report_failed e size asked items present f a b before now (Ok x) is same short put = absurd is
+report_failed e size asked items present f a b before now (Err x) is same short put =
+    subst (λ (y : ProgramFault). PutsCheck e size items asked a b before now (Err y)) (sym is)
     (by f (subst (λ (image : List ℕ). PutsReport e size image a b before now (Err f)) same put))
   where
-    by : (g : ReportFault) → PutsReport e size items a b before now (Err g) → PutsCheck e size items a b before now (Err (fault_of_report g))
+    by : (g : ReportFault) → PutsReport e size items a b before now (Err g) → PutsCheck e size items asked a b before now (Err (fault_of_report g))
     by report.Output p = (inl p.1, p.2)
     by (report.Scan scan.OutOfMemory) p = absurd p
     by (report.Scan scan.BlockSize) p = (p.1, p.2)
@@ -141,12 +141,12 @@ report_is_read f (Err x) is = subst (λ (y : ProgramFault). IsFaultOfLoad y → 
     by report.Output none = none
     by (report.Scan fault) none = none
 
-pub check_done : (e : Endian) (size : ℕ) (items present again : List ℕ) (a b c : Option (List ℕ)) (before mid now findings : ℕ) (bad found : Bool)
-    → present ≡ items → again ≡ items → PutsReport e size present a b before mid (Ok findings) → PutsVerdict e size again b c mid now (Ok bad)
-    → found ≡ nat_lt 0 findings || bad → PutsCheck e size items a c before now (Ok found)
-check_done e size items present again a b c before mid now findings bad found same same_again report verdict judged =
+pub check_done : (e : Endian) (size : ℕ) (asked : Bool) (items present again : List ℕ) (a b c : Option (List ℕ)) (before mid now findings : ℕ) (bad found : Bool)
+    → present ≡ items → again ≡ items → PutsReport e size present a b before mid (Ok findings) → PutsVerdict e size again asked b c mid now (Ok bad)
+    → found ≡ nat_lt 0 findings || bad → PutsCheck e size items asked a c before now (Ok found)
+check_done e size asked items present again a b c before mid now findings bad found same same_again report verdict judged =
     let put = subst (λ (image : List ℕ). PutsReport e size image a b before mid (Ok findings)) same report in
-    let said = subst (λ (image : List ℕ). PutsVerdict e size image b c mid now (Ok bad)) same_again verdict in (
+    let said = subst (λ (image : List ℕ). PutsVerdict e size image asked b c mid now (Ok bad)) same_again verdict in (
       scan_text e size items ++ said.0,
       record {
         verdict = said.0;
@@ -160,9 +160,9 @@ check_done e size items present again a b c before mid now findings bad found sa
     )
 
 -- the report went out, and the verdict did not, or a beginning of it
-verdict_ends : (e : Endian) (size : ℕ) (image : List ℕ) (a b c : Option (List ℕ)) (before mid now findings : ℕ) (f : ProgramFault)
-    → PutsReport e size image a b before mid (Ok findings) → PutsVerdict e size image b c mid now (Err f) → PutsCheck e size image a c before now (Err f)
-verdict_ends e size image a b c before mid now findings program.Output report put = (
+verdict_ends : (e : Endian) (size : ℕ) (asked : Bool) (image : List ℕ) (a b c : Option (List ℕ)) (before mid now findings : ℕ) (f : ProgramFault)
+    → PutsReport e size image a b before mid (Ok findings) → PutsVerdict e size image asked b c mid now (Err f) → PutsCheck e size image asked a c before now (Err f)
+verdict_ends e size asked image a b c before mid now findings program.Output report put = (
   inr (
     scan_text e size image ++ put.0,
     nat_lt 0 (count_in_image is_found e size image) || put.1,
@@ -171,42 +171,42 @@ verdict_ends e size image a b c before mid now findings program.Output report pu
   ),
   put.4 ∙ ap next_count report.3,
 )
-verdict_ends e size image a b c before mid now findings program.OutOfMemory report put =
+verdict_ends e size asked image a b c before mid now findings program.OutOfMemory report put =
     (put.0, put.1, subst (λ (new : Option (List ℕ)). Appends a new (scan_text e size image)) (sym put.2) report.2, put.3 ∙ report.3)
-verdict_ends e size image a b c before mid now findings (program.Mount mount.OutOfMemory) report put =
+verdict_ends e size asked image a b c before mid now findings (program.Mount mount.OutOfMemory) report put =
     (put.0, subst (λ (new : Option (List ℕ)). Appends a new (scan_text e size image)) (sym put.1) report.2, put.2 ∙ report.3)
-verdict_ends e size image a b c before mid now findings (program.Mount mount.BlockSize) report put = absurd put
-verdict_ends e size image a b c before mid now findings (program.Mount mount.TooLarge) report put = absurd put
-verdict_ends e size image a b c before mid now findings (program.Mount (mount.Incompatible addr nodetype)) report put = absurd put
-verdict_ends e size image a b c before mid now findings (program.Mount (mount.Compressed addr compr)) report put = absurd put
-verdict_ends e size image a b c before mid now findings (program.Mount (mount.Clash addr)) report put = absurd put
-verdict_ends e size image a b c before mid now findings (program.Mount mount.RootKind) report put = absurd put
-verdict_ends e size image a b c before mid now findings (program.Load f) report put = absurd put
-verdict_ends e size image a b c before mid now findings (program.Scan f) report put = absurd put
-verdict_ends e size image a b c before mid now findings (program.File f) report put = absurd put
-verdict_ends e size image a b c before mid now findings (program.Listing line) report put = absurd put
-verdict_ends e size image a b c before mid now findings (program.Session fault line) report put = absurd put
-verdict_ends e size image a b c before mid now findings (program.Path f) report put = absurd put
-verdict_ends e size image a b c before mid now findings program.NotRegular report put = absurd put
+verdict_ends e size asked image a b c before mid now findings (program.Mount mount.BlockSize) report put = absurd put
+verdict_ends e size asked image a b c before mid now findings (program.Mount mount.TooLarge) report put = absurd put
+verdict_ends e size asked image a b c before mid now findings (program.Mount (mount.Incompatible addr nodetype)) report put = absurd put
+verdict_ends e size asked image a b c before mid now findings (program.Mount (mount.Compressed addr compr)) report put = absurd put
+verdict_ends e size asked image a b c before mid now findings (program.Mount (mount.Clash addr)) report put = absurd put
+verdict_ends e size asked image a b c before mid now findings (program.Mount mount.RootKind) report put = absurd put
+verdict_ends e size asked image a b c before mid now findings (program.Load f) report put = absurd put
+verdict_ends e size asked image a b c before mid now findings (program.Scan f) report put = absurd put
+verdict_ends e size asked image a b c before mid now findings (program.File f) report put = absurd put
+verdict_ends e size asked image a b c before mid now findings (program.Listing line) report put = absurd put
+verdict_ends e size asked image a b c before mid now findings (program.Session fault line) report put = absurd put
+verdict_ends e size asked image a b c before mid now findings (program.Path f) report put = absurd put
+verdict_ends e size asked image a b c before mid now findings program.NotRegular report put = absurd put
 
-pub verdict_failed : (e : Endian) (size : ℕ) (items present again : List ℕ) (a b c : Option (List ℕ)) (before mid now findings : ℕ) (f : ProgramFault) (r : Result Bool ProgramFault)
+pub verdict_failed : (e : Endian) (size : ℕ) (asked : Bool) (items present again : List ℕ) (a b c : Option (List ℕ)) (before mid now findings : ℕ) (f : ProgramFault) (r : Result Bool ProgramFault)
     → IsErrAnd r (λ x. x ≡ f) → present ≡ items → again ≡ items
-    → PutsReport e size present a b before mid (Ok findings) → PutsVerdict e size again b c mid now (Err f) → PutsCheck e size items a c before now r
-verdict_failed e size items present again a b c before mid now findings f (Ok x) is same same_again report put = absurd is
-verdict_failed e size items present again a b c before mid now findings f (Err x) is same same_again report put =
-    subst (λ (y : ProgramFault). PutsCheck e size items a c before now (Err y)) (sym is)
-    (verdict_ends e size items a b c before mid now findings f
+    → PutsReport e size present a b before mid (Ok findings) → PutsVerdict e size again asked b c mid now (Err f) → PutsCheck e size items asked a c before now r
+verdict_failed e size asked items present again a b c before mid now findings f (Ok x) is same same_again report put = absurd is
+verdict_failed e size asked items present again a b c before mid now findings f (Err x) is same same_again report put =
+    subst (λ (y : ProgramFault). PutsCheck e size items asked a c before now (Err y)) (sym is)
+    (verdict_ends e size asked items a b c before mid now findings f
     (subst (λ (image : List ℕ). PutsReport e size image a b before mid (Ok findings)) same report)
-    (subst (λ (image : List ℕ). PutsVerdict e size image b c mid now (Err f)) same_again put))
+    (subst (λ (image : List ℕ). PutsVerdict e size image asked b c mid now (Err f)) same_again put))
 
 -- no verdict is a fault of loading
-pub verdict_is_read : {T : Type 0} (e : Endian) (size : ℕ) (image : List ℕ) (a b : Option (List ℕ)) (before now : ℕ) (f : ProgramFault) (r : Result T ProgramFault)
-    → IsErrAnd r (λ x. x ≡ f) → PutsVerdict e size image a b before now (Err f) → IsRead r
-verdict_is_read e size image a b before now f (Ok x) is put = absurd is
-verdict_is_read e size image a b before now f (Err x) is put =
+pub verdict_is_read : {T : Type 0} (e : Endian) (size : ℕ) (asked : Bool) (image : List ℕ) (a b : Option (List ℕ)) (before now : ℕ) (f : ProgramFault) (r : Result T ProgramFault)
+    → IsErrAnd r (λ x. x ≡ f) → PutsVerdict e size image asked a b before now (Err f) → IsRead r
+verdict_is_read e size asked image a b before now f (Ok x) is put = absurd is
+verdict_is_read e size asked image a b before now f (Err x) is put =
     subst (λ (y : ProgramFault). IsFaultOfLoad y → ⊥) (sym is) (by f put)
   where
-    by : (g : ProgramFault) → PutsVerdict e size image a b before now (Err g) → IsFaultOfLoad g → ⊥
+    by : (g : ProgramFault) → PutsVerdict e size image asked a b before now (Err g) → IsFaultOfLoad g → ⊥
     by (program.Load f) p is_load = p
     by g p is_load = is_load
 
@@ -215,13 +215,13 @@ not_of_load X (Ok x) read = tt
 not_of_load X (Err x) read = λ is_load. absurd (read is_load)
 
 -- nor is it the size of a block
-pub verdict_has_size : (e : Endian) (size : ℕ) (image : List ℕ) (a b : Option (List ℕ)) (before now : ℕ) (f : ProgramFault) (r : Result Bool ProgramFault)
-    → IsErrAnd r (λ x. x ≡ f) → IsTrue (is_block_size size) → PutsVerdict e size image a b before now (Err f)
+pub verdict_has_size : (e : Endian) (size : ℕ) (asked : Bool) (image : List ℕ) (a b : Option (List ℕ)) (before now : ℕ) (f : ProgramFault) (r : Result Bool ProgramFault)
+    → IsErrAnd r (λ x. x ≡ f) → IsTrue (is_block_size size) → PutsVerdict e size image asked a b before now (Err f)
     → (IsErrOf r (program.Scan scan.BlockSize) → IsFalse (is_block_size size)) × (IsFalse (is_block_size size) → IsErrOf r (program.Scan scan.BlockSize))
-verdict_has_size e size image a b before now f (Ok x) is sized put = absurd is
-verdict_has_size e size image a b before now f (Err x) is sized put = (
-  λ same. absurd (subst (λ (q : Result Bool ProgramFault). PutsVerdict e size image a b before now q) same
-      (subst (λ (y : ProgramFault). PutsVerdict e size image a b before now (Err y)) (sym is) put)),
+verdict_has_size e size asked image a b before now f (Ok x) is sized put = absurd is
+verdict_has_size e size asked image a b before now f (Err x) is sized put = (
+  λ same. absurd (subst (λ (q : Result Bool ProgramFault). PutsVerdict e size image asked a b before now q) same
+      (subst (λ (y : ProgramFault). PutsVerdict e size image asked a b before now (Err y)) (sym is) put)),
   λ unsized. let bad : true ≡ false = sym sized ∙ unsized in cc,
 )
 

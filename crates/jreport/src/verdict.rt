@@ -1,6 +1,6 @@
 //! The verdict of `check`: whether the image mounts, which entries dangle, and whether its tree has its shape.
 
-ghost use Rattle.std.specs.Prelude.{◌≡◌, ℕ, List, [], ◌++◌, ◌∷◌, IfOk, IfSome};
+ghost use Rattle.std.specs.Prelude.{◌≡◌, ◌||◌, ℕ, List, [], ◌++◌, ◌∷◌, IfOk, IfSome};
 ghost use Rattle.std.specs.List.{flat_map};
 ghost use Rattle.flashbase.specs.Device.{Puts};
 ghost use Rattle.jnode.specs.declared.order.Endian.{Endian};
@@ -8,7 +8,7 @@ ghost use Rattle.jscan.specs.PartialScans.{IsScanOf};
 ghost use Rattle.jscan.specs.Scans.{IsScannable};
 ghost use Rattle.jmount.specs.Mounts.{Answers};
 ghost use Rattle.jreport.specs.Faults.{mount_text};
-ghost use Rattle.jreport.specs.Verdict.{dangling_line, dangling_start, ok_line, refused_line, shape_if, shape_text, PutsMounted, PutsVerdict};
+ghost use Rattle.jreport.specs.Verdict.{dangling_line, dangling_start, is_broken, ok_line, refused_line, shape_if, shape_line, shape_text, PutsMounted, PutsVerdict};
 
 use crate::faults::{ProgramFault, push_mount};
 use flashbase::{DeviceFault, Sink};
@@ -88,11 +88,7 @@ fn put_all_dangling<T: Sink>(sink: &mut T, entries: &[(u32, &[u8], u32)]) -> Res
 }
 
 /// Whether a tree has its shape, where that is asked.
-fn shape_if(
-    alloc: Global,
-    mounted: &Mounted<'_>,
-    asked: bool,
-) -> Result<Option<bool>, AllocError>
+fn shape_if(alloc: Global, mounted: &Mounted<'_>, asked: bool) -> Result<Option<bool>, AllocError>
     ensures { IfOk result (λ shape. shape ≡ shape_if asked mounted.now) }
 {
     if asked {
@@ -102,17 +98,35 @@ fn shape_if(
     }
 }
 
-/// Puts the line of the shape, where it was asked for.
+/// Puts the line of a shape.
 #[tactic(auto, unfolding(crate::specs::Verdict::shape_line))]
+fn put_shape_line<T: Sink>(sink: &mut T, shape: bool) -> Result<(), DeviceFault>
+    ensures { Puts (T.taken sink.old) (T.taken sink.new) (T.failures sink.old) (T.failures sink.new)
+        (shape_line shape) result }
+{
+    if shape {
+        put_text(sink, b"shape ok\n")
+    } else {
+        put_text(sink, b"shape broken\n")
+    }
+}
+
+/// The same where the shape was asked for, and else nothing.
 fn put_shape<T: Sink>(sink: &mut T, shape: Option<bool>) -> Result<(), DeviceFault>
     ensures { Puts (T.taken sink.old) (T.taken sink.new) (T.failures sink.old) (T.failures sink.new)
         (shape_text shape) result }
 {
     match shape {
-        Some(true) => put_text(sink, b"shape ok\n"),
-        Some(false) => put_text(sink, b"shape broken\n"),
+        Some(shape) => put_shape_line(sink, shape),
         None => Ok(()),
     }
+}
+
+/// Whether an entry dangles, or the shape was asked for and is broken.
+fn is_wrong(dangles: bool, shape: Option<bool>) -> bool
+    ensures { result ≡ dangles || is_broken shape }
+{
+    dangles || matches!(shape, Some(false))
 }
 
 /// Puts what a mount says, and answers whether an entry dangles or the shape, where it is asked for, is broken.
@@ -129,7 +143,7 @@ fn put_mounted<T: Sink>(
     put_ok(sink, mounted.read_only())?;
     put_all_dangling(sink, &dangling)?;
     put_shape(sink, shape)?;
-    Ok(!dangling.is_empty() || shape == Some(false))
+    Ok(is_wrong(!dangling.is_empty(), shape))
 }
 
 /// Puts the verdict on what a mount answered, and answers whether it says that something is wrong.

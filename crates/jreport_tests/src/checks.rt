@@ -15,16 +15,16 @@ use test_support::{ATTRIBUTE, INCOMPATIBLE, INODE_2, LITTLE_MARKER, READ_ONLY};
 fn checked(alloc: Global, image: &[u8]) -> Result<(Vec<u8>, bool), &'static str> {
     let mut sink = FromWriter::new(Vec::new(alloc));
     let mut source = FromReader::new(image);
-    match check_lines::<LittleEndian, _, _>(alloc, &mut source, GEOMETRY, &mut sink) {
+    match check_lines::<LittleEndian, _, _>(alloc, &mut source, GEOMETRY, false, &mut sink) {
         Ok(found) => Ok((sink.into_writer(), found)),
         Err(_) => Err("no verdict"),
     }
 }
 
-/// The verdict on an image, and whether it is bad.
-fn verdict(alloc: Global, image: &[u8]) -> Result<(Vec<u8>, bool), &'static str> {
+/// The verdict on an image, with its shape where that is asked for, and whether it is bad.
+fn verdict(alloc: Global, image: &[u8], shape: bool) -> Result<(Vec<u8>, bool), &'static str> {
     let mut sink = FromWriter::new(Vec::new(alloc));
-    match verdict_lines::<LittleEndian, _>(alloc, image, GEOMETRY, &mut sink) {
+    match verdict_lines::<LittleEndian, _>(alloc, image, GEOMETRY, shape, &mut sink) {
         Ok(bad) => Ok((sink.into_writer(), bad)),
         Err(_) => Err("no verdict"),
     }
@@ -144,7 +144,30 @@ const VERDICTS: [(&[Node<'static>], &str, bool); 4] = [
 fn verdicts(rt: HostRuntime) -> Result<(), Fail> {
     for (nodes, text, is_bad) in VERDICTS {
         let image = image_of(rt.alloc(), nodes)?;
-        let (answer_and_text, bad) = verdict(rt.alloc(), &image)?;
+        let (answer_and_text, bad) = verdict(rt.alloc(), &image, false)?;
+        assert_eq!(rt; answer_and_text.as_slice(), text.as_bytes());
+        assert_eq!(rt; bad, is_bad);
+    }
+    Ok(())
+}
+
+/// Images of nodes with the verdict on them and on their shape.
+const SHAPES: [(&[Node<'static>], &str, bool); 4] = [
+    (&[], "mount ok\nshape ok\n", false),
+    (
+        &[Node::Entry(1, 2, b"a")],
+        "mount ok\ndangling pino 1 ino 2 name a\nshape ok\n",
+        true,
+    ),
+    (&[Node::Entry(1, 1, b"r")], "mount ok\nshape broken\n", true),
+    (CLASH, "mount refused M5 Clash at 00000044\n", true),
+];
+
+#[test]
+fn verdicts_with_shapes(rt: HostRuntime) -> Result<(), Fail> {
+    for (nodes, text, is_bad) in SHAPES {
+        let image = image_of(rt.alloc(), nodes)?;
+        let (answer_and_text, bad) = verdict(rt.alloc(), &image, true)?;
         assert_eq!(rt; answer_and_text.as_slice(), text.as_bytes());
         assert_eq!(rt; bad, is_bad);
     }

@@ -127,7 +127,7 @@ pub(crate) fn ask<S: Source, T: Sink>(
 ) -> Result<u64, ProgramFault<'static>> {
     match call {
         Call::Check => {
-            let found = check_lines::<LittleEndian, S, T>(alloc, source, geometry, sink)?;
+            let found = check_lines::<LittleEndian, S, T>(alloc, source, geometry, false, sink)?;
             Ok(u64::from(found))
         }
         Call::Content(path) => {

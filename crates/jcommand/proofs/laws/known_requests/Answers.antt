@@ -27,3 +27,7 @@ returns-clause-made c = refl
 pub returns-clause-extended : goal.returns-clause-extended
 unfolding clap_on_literals program parsed parsed_from
 returns-clause-extended c = refl
+
+pub returns-clause-shape : goal.returns-clause-shape
+unfolding clap_on_literals program parsed parsed_from
+returns-clause-shape c = refl

@@ -7,7 +7,7 @@ use Rattle.jffs2_image.proofs.program.run_whole.Goals as goal
 
 options_are_parsed : (r : Request) → options_parsed (view r) ≡ options_of r
 options_are_parsed (request.Scan options image) = refl
-options_are_parsed (request.Check options image) = refl
+options_are_parsed (request.Check options shape image) = refl
 options_are_parsed (request.List options image) = refl
 options_are_parsed (request.Cat options image path) = refl
 options_are_parsed (request.Build options blocks page listing output) = refl

@@ -12,7 +12,7 @@ returns-in_err-image-clause-read g c sized =
 pub returns-in_err-image-clause-put : goal.returns-in_err-image-clause-put
 returns-in_err-image-clause-put g c =
     of_unread (g.S.Source.rest c.args.source.now)
-    (λ image. check_unread g.E.Order.order c.args.geometry.block image c.in_err-image.field-0.0 _ _ _ c.from_residual.ensures.1)
+    (λ image. check_unread g.E.Order.order c.args.geometry.block c.args.shape image c.in_err-image.field-0.0 _ _ _ c.from_residual.ensures.1)
 
 pub returns-in_err-findings-clause-read : goal.returns-in_err-findings-clause-read
 returns-in_err-findings-clause-read g c sized =
@@ -24,7 +24,7 @@ pub returns-in_err-findings-clause-put : goal.returns-in_err-findings-clause-put
 returns-in_err-findings-clause-put g c = (
   c.in_ok-image.image.items,
   c.in_ok-image.ensures.whole,
-  report_failed g.E.Order.order c.args.geometry.block c.in_ok-image.image.items c.as_slice-bytes.result.now c.in_err-findings.field-0.0
+  report_failed g.E.Order.order c.args.geometry.block c.args.shape c.in_ok-image.image.items c.as_slice-bytes.result.now c.in_err-findings.field-0.0
       (g.T.Sink.taken c.args.sink.now) (g.T.Sink.taken c.report_and_scan.new.sink) (g.T.Sink.failures c.args.sink.now) (g.T.Sink.failures c.report_and_scan.new.sink) _
       c.from_residual-in_err-findings.ensures.1 c.as_slice-bytes.ensures.value (omega (arith, c.in_ok-image.ensures.within, c.in_ok-image.image.ok.0)) c.in_err-findings.ensures.puts,
 )
@@ -37,25 +37,25 @@ scanned_verdict-requires g c = record {
 
 pub returns-in_err-bad-clause-block_size : goal.returns-in_err-bad-clause-block_size
 returns-in_err-bad-clause-block_size g c =
-    verdict_has_size g.E.Order.order c.args.geometry.block c.as_slice-bytes.result.now _ _ _ _ c.in_err-bad.field-0.0 _ c.from_residual-in_err-bad.ensures.1 c.in_ok-findings.ensures.puts.0.0
+    verdict_has_size g.E.Order.order c.args.geometry.block c.args.shape c.as_slice-bytes.result.now _ _ _ _ c.in_err-bad.field-0.0 _ c.from_residual-in_err-bad.ensures.1 c.in_ok-findings.ensures.puts.0.0
     (c.in_err-bad.ensures g.E.Order.order c.args.geometry.block c.in_ok-findings.ensures.puts.0 (scan_of g.E.Order.order c.args.geometry.block c.as_slice-bytes.result.now c.report_and_scan.new.partial c.in_ok-findings.ensures.puts.0 c.in_ok-findings.ensures.scan))
 
 pub returns-in_err-bad-clause-load : goal.returns-in_err-bad-clause-load
 returns-in_err-bad-clause-load g c =
-    not_of_load _ _ (verdict_is_read g.E.Order.order c.args.geometry.block c.as_slice-bytes.result.now _ _ _ _ c.in_err-bad.field-0.0 _ c.from_residual-in_err-bad.ensures.1
+    not_of_load _ _ (verdict_is_read g.E.Order.order c.args.geometry.block c.args.shape c.as_slice-bytes.result.now _ _ _ _ c.in_err-bad.field-0.0 _ c.from_residual-in_err-bad.ensures.1
     (c.in_err-bad.ensures g.E.Order.order c.args.geometry.block c.in_ok-findings.ensures.puts.0 (scan_of g.E.Order.order c.args.geometry.block c.as_slice-bytes.result.now c.report_and_scan.new.partial c.in_ok-findings.ensures.puts.0 c.in_ok-findings.ensures.scan)))
 
 pub returns-in_err-bad-clause-read : goal.returns-in_err-bad-clause-read
 returns-in_err-bad-clause-read g c sized =
     let load = c.in_ok-image.ensures in
-    read_whole _ _ _ _ _ (verdict_is_read g.E.Order.order c.args.geometry.block c.as_slice-bytes.result.now _ _ _ _ c.in_err-bad.field-0.0 _ c.from_residual-in_err-bad.ensures.1 (c.in_err-bad.ensures g.E.Order.order c.args.geometry.block c.in_ok-findings.ensures.puts.0 (scan_of g.E.Order.order c.args.geometry.block c.as_slice-bytes.result.now c.report_and_scan.new.partial c.in_ok-findings.ensures.puts.0 c.in_ok-findings.ensures.scan)))
+    read_whole _ _ _ _ _ (verdict_is_read g.E.Order.order c.args.geometry.block c.args.shape c.as_slice-bytes.result.now _ _ _ _ c.in_err-bad.field-0.0 _ c.from_residual-in_err-bad.ensures.1 (c.in_err-bad.ensures g.E.Order.order c.args.geometry.block c.in_ok-findings.ensures.puts.0 (scan_of g.E.Order.order c.args.geometry.block c.as_slice-bytes.result.now c.report_and_scan.new.partial c.in_ok-findings.ensures.puts.0 c.in_ok-findings.ensures.scan)))
     load.end (is_short _ c.in_ok-image.image.items load.whole (omega (arith, load.within, c.in_ok-image.image.ok.0))) load.count
 
 pub returns-in_err-bad-clause-put : goal.returns-in_err-bad-clause-put
 returns-in_err-bad-clause-put g c = (
   c.in_ok-image.image.items,
   c.in_ok-image.ensures.whole,
-  verdict_failed g.E.Order.order c.args.geometry.block c.in_ok-image.image.items c.as_slice-bytes.result.now c.as_slice-bytes.result.now
+  verdict_failed g.E.Order.order c.args.geometry.block c.args.shape c.in_ok-image.image.items c.as_slice-bytes.result.now c.as_slice-bytes.result.now
       (g.T.Sink.taken c.args.sink.now) (g.T.Sink.taken c.report_and_scan.new.sink) (g.T.Sink.taken c.scanned_verdict.new.sink)
       (g.T.Sink.failures c.args.sink.now) (g.T.Sink.failures c.report_and_scan.new.sink) (g.T.Sink.failures c.scanned_verdict.new.sink)
       c.in_ok-findings.findings c.in_err-bad.field-0.0 _ c.from_residual-in_err-bad.ensures.1
@@ -71,7 +71,7 @@ pub returns-clause-put : goal.returns-clause-put
 returns-clause-put g c = (
   c.in_ok-image.image.items,
   c.in_ok-image.ensures.whole,
-  check_done g.E.Order.order c.args.geometry.block c.in_ok-image.image.items c.as_slice-bytes.result.now c.as_slice-bytes.result.now
+  check_done g.E.Order.order c.args.geometry.block c.args.shape c.in_ok-image.image.items c.as_slice-bytes.result.now c.as_slice-bytes.result.now
       (g.T.Sink.taken c.args.sink.now) (g.T.Sink.taken c.report_and_scan.new.sink) (g.T.Sink.taken c.scanned_verdict.new.sink)
       (g.T.Sink.failures c.args.sink.now) (g.T.Sink.failures c.report_and_scan.new.sink) (g.T.Sink.failures c.scanned_verdict.new.sink)
       c.in_ok-findings.findings c.in_ok-bad.bad c.is_any.result c.as_slice-bytes.ensures.value c.as_slice-bytes.ensures.value

@@ -1,0 +1,9 @@
+use Rattle.std.proofs.Common.{Bool, Some, None, ap, sym, ◌∙◌, cond}
+use Rattle.jreport.specs.Verdict.{is_shaped}
+use Rattle.jreport.proofs.VerdictLemmas.{is_shaped_by}
+use Rattle.jreport.proofs.verdict.shape_if.Goals as goal
+
+pub returns-in_ok-shape : goal.returns-in_ok-shape
+returns-in_ok-shape c =
+    ap Some (is_shaped_by c.args.mounted.now c.in_ok-shape.field-0 c.in_ok-shape.ensures)
+    ∙ sym (ap (λ (b : Bool). cond b (Some (is_shaped c.args.mounted.now)) None) c.if-asked.true)
