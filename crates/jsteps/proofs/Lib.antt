@@ -27,4 +27,3 @@ pub mod ShapeStepLemmas
 pub mod ShapePlanLemmas
 pub mod ShapeStateLemmas
 pub mod ShapeBrokenLemmas
-pub mod AttributesLemmas

@@ -109,8 +109,6 @@ plan_keeps page x (op.Write time path offset bytes) steps same is shape =
     object_keeps x.tree (steps_of page x.tree (op.Write time path offset bytes)) (write_on_object page time (number_or_zero x.tree path) (size_named x.tree path) offset bytes) shape
 plan_keeps page x (op.Truncate time path size) steps same is shape =
     object_keeps x.tree (steps_of page x.tree (op.Truncate time path size)) (resize_on_object time (number_or_zero x.tree path) (size_named x.tree path) size) shape
-plan_keeps page x (op.SetAttributes time path attributes) steps same is shape =
-    object_keeps x.tree (steps_of page x.tree (op.SetAttributes time path attributes)) (attributes_on_object time (unwrap_or (number_reached x.tree path) 0) attributes) shape
 plan_keeps page x (op.Link time old new) steps same is shape =
     let found = three_false (meets_nothing (above x.tree old) || (meets_nothing (above x.tree new) || false)) (is_missing x.tree old || false) false is.found in
     let bad = two_false (is_bad_path old) (is_bad_path new) is.bad in
