@@ -1,8 +1,8 @@
 -- How long what goes out is.
-use Rattle.std.proofs.Common.{◌≡◌, ℕ, suc, ◌+◌, ◌-◌, ◌*◌, ◌/◌, ◌%◌, ◌<◌, ◌≤◌, max, leb, cond, Bool, true, false, List, [], ◌∷◌, ◌++◌, length, map, refl, sym, ap, subst, ◌∙◌, arith, inl, inr, ⊎_elim, length-append}
+use Rattle.std.proofs.Common.{◌≡◌, ℕ, suc, ◌+◌, ◌-◌, ◌*◌, ◌/◌, ◌%◌, ◌<◌, ◌≤◌, max, leb, Bool, true, false, List, [], ◌∷◌, ◌++◌, length, map, refl, sym, ap, subst, ◌∙◌, arith, inl, inr, length-append}
 use Rattle.std.proofs.lemmas.Bool.{cond-true, cond-false, le-leb, lt-leb, cases_lt, and_parts, eqb-true}
 use Rattle.std.proofs.lemmas.List.{length-replicate}
-use Rattle.std.specs.Prelude.{◌&&◌, ◌==◌, IsTrue, nat_le, nat_lt, slice_get, Option, Ok, Err, IsOk, if◌then◌else◌}
+use Rattle.std.specs.Prelude.{◌&&◌, ◌==◌, IsTrue, nat_le, nat_lt, slice_get, Ok, Err, IsOk, if◌then◌else◌}
 use Rattle.std.specs.Option.{option_map_or}
 use Rattle.jscan.specs.Image.{is_block_size, greatest_image}
 use Rattle.jsteps.specs.Planning.{page_size}
@@ -26,7 +26,6 @@ use Rattle.jlog.proofs.CodeLemmas.{flash_limits}
 use Rattle.jlog.proofs.PlaceLemmas.{block_floor, div_at, pad4_behind, times_words}
 use Rattle.jlog.proofs.SightLemmas.{marker_long}
 use Rattle.jbuild.specs.Accepted.{end_of}
-use Rattle.jbuild.specs.Emitting.{IsEmitted}
 use Rattle.jbuild.specs.Length.{LineTellsLength, PlacesTellLength, TellsLength}
 
 -- ---- one node

@@ -1,5 +1,5 @@
 -- What goes out for a base and operations on it.
-use Rattle.std.specs.Prelude.{◌≡◌, ℕ, Bool, false, List, Option, Some, None, Ok, Err, IsOk}
+use Rattle.std.specs.Prelude.{◌≡◌, ℕ, Bool, false, List, Option, Some, None, Err, IsOk}
 use Rattle.std.specs.Io.KnownBytes.{Appends}
 use Rattle.flashbase.specs.Device.{PutsPart, next_count}
 use Rattle.jnode.specs.declared.order.Endian.{Endian}

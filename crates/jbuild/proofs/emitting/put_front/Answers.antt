@@ -1,4 +1,4 @@
-use Rattle.std.proofs.Common.{◌≡◌, ◌≤◌, ◌-◌, ◌++◌, length, List, ℕ, arith, subst}
+use Rattle.std.proofs.Common.{◌≤◌, ◌-◌, length, List, ℕ, arith, subst}
 use Rattle.flashbase.specs.Bytes.{erased}
 use Rattle.flashbase.specs.Device.{Puts}
 use Rattle.jlog.proofs.PutLemmas.{first_failed, then_puts}

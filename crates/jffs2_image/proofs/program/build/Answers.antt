@@ -1,4 +1,4 @@
-use Rattle.std.proofs.Common.{◌≡◌, ℕ, [], List, Ok, Err, ap, subst, sym}
+use Rattle.std.proofs.Common.{◌≡◌, ℕ, [], Ok, Err, ap, subst, sym}
 use Rattle.jffs2_image.proofs.WritingLemmas.{builds, build_fault}
 use Rattle.jffs2_image.specs.Writes.{Writes}
 use Rattle.jffs2_image.proofs.program.build.Goals as goal

@@ -1,4 +1,4 @@
-use Rattle.std.proofs.Common.{rules, arith}
+use Rattle.std.proofs.Common.{rules}
 use Rattle.jffs2_image.proofs.HostLemmas.{all_read}
 use Rattle.jffs2_image.proofs.writing.load_parts.Goals as goal
 

@@ -1,4 +1,4 @@
-use Rattle.std.proofs.Common.{◌≡◌, ◌≤◌, ℕ, List, length}
+use Rattle.std.proofs.Common.{◌≡◌, ℕ, List}
 use Rattle.jffs2_image.proofs.HostLemmas.{IsReading}
 use Rattle.jffs2_image.proofs.writing.load_parts.Given as goal
 

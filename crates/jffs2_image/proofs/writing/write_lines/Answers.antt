@@ -1,5 +1,5 @@
 use Rattle.std.proofs.Common.{rules, ◌≡◌, ℕ, List, Some, None, Ok, Err, ap, sym, subst, ◌∙◌}
-use Rattle.std.specs.Prelude.{slice_get, option_map, map}
+use Rattle.std.specs.Prelude.{slice_get, map}
 use Rattle.std.specs.Io.KnownBytes.{Appends}
 use Rattle.flashbase.specs.Device.{PutsPart}
 use Rattle.jlog.specs.declared.report.Place.{Place}
