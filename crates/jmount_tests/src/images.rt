@@ -2,7 +2,6 @@
 
 use jnode::{Fill, InodeNode, Order, Part, WriteFault, write_entry, write_inode, write_marker};
 use std::alloc::Global;
-use std::test::Fail;
 use test_support::{entry, fill_up};
 
 pub const FILE: u32 = 0o100644;
@@ -34,11 +33,11 @@ pub enum Item {
 }
 
 /// The image of these items.
-pub fn image_of<E: Order>(alloc: Global, items: &[Item]) -> Result<Vec<u8>, Fail> {
+pub fn image_of<E: Order>(alloc: Global, items: &[Item]) -> Result<Vec<u8>, WriteFault> {
     let mut image = Vec::new(alloc);
     for &item in items {
         append::<E>(&mut image, item)?;
-        fill_up(&mut image)?;
+        fill_up(&mut image).map_err(|_| WriteFault::OutOfMemory)?;
     }
     Ok(image)
 }

@@ -10,6 +10,8 @@ mod calls;
 #[cfg(test)]
 mod facts;
 #[cfg(test)]
+mod growth;
+#[cfg(test)]
 mod images;
 #[cfg(test)]
 mod mounts;

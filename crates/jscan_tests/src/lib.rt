@@ -10,6 +10,8 @@ mod bytes;
 #[cfg(test)]
 mod fault_tests;
 #[cfg(test)]
+mod growth;
+#[cfg(test)]
 mod scan_tests;
 #[cfg(test)]
 mod stream_tests;

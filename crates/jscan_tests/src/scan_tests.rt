@@ -185,21 +185,3 @@ fn sightings_in_order(rt: HostRuntime) -> Result<(), Fail> {
     assert_eq!(rt; sightings.as_slice(), want.as_slice());
     Ok(())
 }
-
-/// Passes with each allocation after that of the image failing in turn too: memory is then blamed, and nothing else.
-/// Sightings take none.
-#[test]
-fn scans_with_little_memory(rt: HostRuntime) -> Result<(), Fail> {
-    let pieces: Pieces = &[(12, &ENTRY_A), (64, &[0]), (4096, &ENTRY_A)];
-    let image = flash(rt.alloc(), 4137, pieces)?;
-    match scan::<LittleEndian>(rt.alloc(), &image, GEOMETRY) {
-        Ok(scan) => assert_eq!(rt; (scan.nodes.len(), scan.findings.len()), (2, 1)),
-        Err(fault) => assert_eq!(rt; fault, ScanFault::OutOfMemory),
-    }
-    match scan_to_refusal::<LittleEndian>(rt.alloc(), &image, GEOMETRY) {
-        Ok(partial) => assert_eq!(rt; partial.nodes.len(), 2),
-        Err(fault) => assert_eq!(rt; fault, ScanFault::OutOfMemory),
-    }
-    assert!(rt; Sightings::<LittleEndian>::new(&image, GEOMETRY).is_ok());
-    Ok(())
-}

@@ -98,6 +98,31 @@ fn a_device_fails_in_the_second_block(rt: HostRuntime) -> Result<(), Fail> {
     Ok(())
 }
 
+/// The first block is given in two calls, the second in one, and a fourth tells that there are no more.
+#[test]
+fn a_device_fails_once(rt: HostRuntime) -> Result<(), Fail> {
+    let image = flash(rt.alloc(), 4137, TWO_ENTRIES)?;
+    for (calls, blocks) in [(0, 0), (1, 0), (2, 1), (3, 1)] {
+        let failing = || Giver::failing(&image, 2048, calls);
+        let mut reader = BlockReader::new(rt.alloc(), failing(), SMALL)?;
+        for _ in 0..blocks {
+            assert!(rt; reader.next()?.is_some());
+        }
+        for _ in 0..2 {
+            assert!(rt; reader.next() == Err(StreamFault::Device), "after {calls}");
+        }
+        assert_eq!(rt; reader.into_source().failures, 1);
+        let answer = streamed(rt.alloc(), failing(), SMALL);
+        assert_eq!(rt;
+            answer,
+            (Err(StreamFault::Device), counts([blocks, blocks, 0, 0]))
+        );
+    }
+    let whole = streamed(rt.alloc(), Giver::failing(&image, 2048, 4), SMALL);
+    assert_eq!(rt; whole, (Ok(()), counts([2, 2, 0, 0])));
+    Ok(())
+}
+
 #[test]
 fn a_source_is_too_large(rt: HostRuntime) -> Result<(), Fail> {
     let (end, too_large) = (Ok(None), Err(StreamFault::TooLarge));

@@ -1,0 +1,45 @@
+//! A growth that is refused is told as such.
+
+use jcommand::{Request, RequestFault, request};
+use std::alloc::Global;
+
+/// Words, and what they ask for.
+const LINES: [(&[&str], &str); 7] = [
+    (&["t", "check", "--scan", "--block=4096", "a.img"], "scan"),
+    (&["t", "check", "--endian", "big", "a.img"], "check"),
+    (&["t", "ls", "a.img"], "ls"),
+    (&["t", "cat", "a.img", "/b"], "cat"),
+    (
+        &["t", "append", "a.img", "b.txt", "c.img", "--blocks=8"],
+        "append",
+    ),
+    (&["t", "check", "--help"], "help"),
+    (&["t", "check", "--block", "x", "a.img"], "wrong"),
+];
+
+/// What the words ask for.
+fn asked(alloc: Global, words: &[&str]) -> &'static str {
+    match request(alloc, words) {
+        Ok(Request::Scan { .. }) => "scan",
+        Ok(Request::Check { .. }) => "check",
+        Ok(Request::List { .. }) => "ls",
+        Ok(Request::Cat { .. }) => "cat",
+        Ok(Request::Build { .. }) => "build",
+        Ok(Request::Append { .. }) => "append",
+        Err(RequestFault::Help { .. }) => "help",
+        Err(RequestFault::Usage { .. }) => "wrong",
+        Err(RequestFault::OutOfMemory) => "no memory",
+    }
+}
+
+/// Passes with each allocation failing in turn too: memory is then blamed, and the same words ask for what they ask for.
+#[test]
+fn refused_growth_is_want_of_memory(rt: HostRuntime) {
+    for (words, want) in LINES {
+        let mut first = asked(rt.alloc(), words);
+        if first == "no memory" {
+            first = asked(rt.alloc(), words);
+        }
+        assert_eq!(rt; first, want);
+    }
+}

@@ -1,0 +1,45 @@
+//! A growth that is refused appends nothing.
+
+use crate::nodes::{entry_of, new_file};
+use crate::vectors::{entry_a, inode_2, little_marker, padding_16};
+use byteorder::LittleEndian;
+use jnode::{WriteFault, write_entry, write_inode, write_marker, write_padding};
+
+/// What is written.
+#[derive(Clone, Copy, Debug)]
+enum What {
+    Marker,
+    Inode,
+    Entry,
+    Padding,
+}
+
+fn write(out: &mut Vec<u8>, what: What) -> Result<(), WriteFault> {
+    match what {
+        What::Marker => write_marker::<LittleEndian>(out),
+        What::Inode => write_inode::<LittleEndian>(out, &new_file()),
+        What::Entry => write_entry::<LittleEndian>(out, &entry_of(1, b"a")),
+        What::Padding => write_padding::<LittleEndian>(out, 16),
+    }
+}
+
+/// Passes with each allocation failing in turn too: memory is then blamed, nothing was appended, and the same write succeeds.
+#[test]
+fn refused_writes_append_nothing(rt: HostRuntime) {
+    let entry = entry_a();
+    for (what, want) in [
+        (What::Marker, little_marker().as_slice()),
+        (What::Inode, inode_2().as_slice()),
+        (What::Entry, &entry[..41]),
+        (What::Padding, padding_16().as_slice()),
+    ] {
+        let mut out = Vec::new(rt.alloc());
+        let first = write(&mut out, what);
+        if first.is_err() {
+            assert!(rt; matches!(first, Err(WriteFault::OutOfMemory)));
+            assert!(rt; out.is_empty());
+            assert!(rt; write(&mut out, what).is_ok());
+        }
+        assert!(rt; out.as_slice() == want, "{what:?}");
+    }
+}
