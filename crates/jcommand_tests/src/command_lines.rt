@@ -18,7 +18,9 @@ fn shown(alloc: Global, request: Request<'_>) -> Result<String, AllocError> {
     match request {
         Request::Scan { image, .. } => format!(in alloc; "scan {block} {order} {image}"),
         Request::Check {
-            image, shape: true, ..
+            image,
+            shape: true,
+            ..
         } => format!(in alloc; "check {block} {order} {image} shape"),
         Request::Check { image, .. } => format!(in alloc; "check {block} {order} {image}"),
         Request::List { image, .. } => format!(in alloc; "ls {block} {order} {image}"),

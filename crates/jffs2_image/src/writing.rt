@@ -80,10 +80,7 @@ fn number_at(numbers: &[usize], i: usize) -> Option<usize>
 }
 
 /// Where writing goes on, by the target's page.
-fn resumed_from<E: Order>(
-    mounted: &Mounted<'_>,
-    target: Target<'_>,
-) -> Result<u32, SessionFault>
+fn resumed_from<E: Order>(mounted: &Mounted<'_>, target: Target<'_>) -> Result<u32, SessionFault>
     requires { IsMountOf E.order target.geometry.block mounted.now }
     ensures { result ≡ resumes_by target.entry.page E.order target.entry.geometry.block target.entry.blocks mounted.now }
 {
@@ -109,7 +106,15 @@ fn put_image<E: Order, S: Output>(
     ensures fault { IfErr result (λ refused. IsNotGoneOn target.entry.page E.order target.entry.geometry.block target.entry.blocks mounted.now refused.0) }
     ensures back { IfErr result (λ refused. IsHandedBack (S.failures output) refused.0 (option_map (λ back. S.failures back) refused.1)) }
 {
-    match emit::<E, S>(alloc, mounted, target.geometry, target.blocks, target.page, ops, output) {
+    match emit::<E, S>(
+        alloc,
+        mounted,
+        target.geometry,
+        target.blocks,
+        target.page,
+        ops,
+        output,
+    ) {
         Ok((mut output, report)) => match output.finish() {
             Ok(()) => Ok((output, report)),
             Err(_) => Err((SessionFault::Sink, Some(output))),

@@ -1,9 +1,7 @@
 //! Tables of operations, each with its steps or its refusal.
 
 use crate::lines::answer;
-use crate::trees::{
-    ALMOST_SPENT, DANGLING, KINDS, LOOP, ONE_NUMBER_LEFT, SMALL, SPENT, index_of,
-};
+use crate::trees::{ALMOST_SPENT, DANGLING, KINDS, LOOP, ONE_NUMBER_LEFT, SMALL, SPENT, index_of};
 use std::alloc::Global;
 use std::process::Abort;
 use std::test::Fail;
