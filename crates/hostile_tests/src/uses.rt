@@ -26,7 +26,7 @@ pub enum Use {
 fn checked<E: Order>(alloc: Global, image: &[u8]) -> Result<(Vec<u8>, bool), Fail> {
     let mut sink = FromWriter::new(Vec::new(alloc));
     let mut source = FromReader::new(image);
-    let found = check_lines::<E, _, _>(alloc, &mut source, GEOMETRY, &mut sink)?;
+    let found = check_lines::<E, _, _>(alloc, &mut source, GEOMETRY, false, &mut sink)?;
     Ok((sink.into_writer(), found))
 }
 
@@ -58,6 +58,7 @@ fn agrees(alloc: Global, mounted: &Mounted<'_>) -> Result<bool, Fail> {
             dangling = dangling.wrapping_add(1);
         }
     }
+    let _ = mounted.shape(alloc)?;
     Ok(same && mounted.dangling(alloc)?.len() == dangling && reads(mounted))
 }
 
