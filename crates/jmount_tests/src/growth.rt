@@ -70,3 +70,32 @@ fn refused_mounts_are_want_of_memory(rt: HostRuntime) {
         assert_eq!(rt; first, want);
     }
 }
+
+/// Directories in one another, and one that has the name `r` of a number, which may be its own.
+const fn chain(last: u32) -> [Item; 7] {
+    [
+        Item::Data(Version(2, 1, DIRECTORY, 0), 0, b""),
+        Item::Data(Version(3, 1, DIRECTORY, 0), 0, b""),
+        Item::Data(Version(4, 1, DIRECTORY, 0), 0, b""),
+        Item::Entry(1, 1, 2, b"a"),
+        Item::Entry(2, 1, 3, b"b"),
+        Item::Entry(5, 1, 4, b"c"),
+        Item::Entry(4, 1, last, b"r"),
+    ]
+}
+
+/// Passes with each allocation failing in turn too: then there is no answer, and asked again it is right.
+#[test]
+fn refused_shapes_are_no_answer(rt: HostRuntime) {
+    let alloc = rt.alloc();
+    for (last, want) in [(57, true), (4, false)] {
+        let Ok(image) = image_of::<LittleEndian>(alloc, &chain(last)) else {
+            return;
+        };
+        let Ok(mounted) = mount::<LittleEndian>(alloc, &image, GEOMETRY) else {
+            return;
+        };
+        let shape = mounted.shape(alloc).or_else(|_| mounted.shape(alloc));
+        assert!(rt; matches!(shape, Ok(shape) if shape == want));
+    }
+}

@@ -2,9 +2,8 @@
 
 use crate::images::{DIRECTORY, FILE, Item, Version, image_of};
 use byteorder::LittleEndian;
-use jmount::{Mounted, mount};
+use jmount::mount;
 use jscan::Geometry;
-use std::alloc::Global;
 use std::test::Fail;
 
 const GEOMETRY: Geometry = Geometry { block: 4096 };
@@ -138,26 +137,6 @@ fn trees_have_their_shape_or_not(rt: HostRuntime) -> Result<(), Fail> {
         let mounted = mount::<LittleEndian>(rt.alloc(), &image, GEOMETRY)?;
         let shape = mounted.shape(rt.alloc())?;
         assert_eq!(rt; shape, wanted, "{about}");
-    }
-    Ok(())
-}
-
-/// Whether the answer is right, if need be the second time, after a growth was refused.
-fn answers(alloc: Global, mounted: &Mounted<'_>, wanted: bool) -> bool {
-    match mounted.shape(alloc) {
-        Ok(shape) => shape == wanted,
-        Err(_) => matches!(mounted.shape(alloc), Ok(shape) if shape == wanted),
-    }
-}
-
-/// One growth is refused under `rt try --test --fail-alloc N`: then the test fails, in words of its own only where the
-/// answer is wrong.
-#[test]
-fn a_refused_growth_is_no_answer(rt: HostRuntime) -> Result<(), Fail> {
-    for (about, items, wanted) in TREES {
-        let image = image_of::<LittleEndian>(rt.alloc(), items)?;
-        let mounted = mount::<LittleEndian>(rt.alloc(), &image, GEOMETRY)?;
-        assert!(rt; answers(rt.alloc(), &mounted, wanted), "{about}");
     }
     Ok(())
 }
