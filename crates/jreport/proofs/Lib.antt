@@ -1,6 +1,7 @@
 pub mod BlockLemmas
 pub mod FaultLemmas
 pub mod GrowingLemmas
+pub mod ListedOnceLemmas
 pub mod ListingLemmas
 pub mod WholeImageLemmas
 pub mod PathTextLemmas

@@ -1,6 +1,7 @@
 pub mod Content
 pub mod Faults
 pub mod WholeImage
+pub mod ListedOnce
 pub mod Notes
 pub mod Paths
 pub mod Puts

@@ -1,5 +1,6 @@
 //! Laws of the listing, each the contract of an empty function.
 
+ghost use Rattle.jreport.specs.ListedOnce as once;
 ghost use Rattle.jreport.specs.TreeLaws as law;
 
 /// However the names of a file system lead, also in a circle, there is one text of its tree.
@@ -10,4 +11,9 @@ pub fn every_tree_has_one_text()
 /// The text begins with the root's line, which does not say that the root was met before.
 pub fn root_comes_first()
     ensures { law.RootComesFirst }
+{}
+
+/// In the text of a tree that has its shape, no directory is listed again.
+pub fn shape_is_listed_once()
+    ensures { once.ShapeIsListedOnce }
 {}
