@@ -1,5 +1,5 @@
 -- Where a tree has the shape, no directory is listed again: what is still to print lies apart, and above nothing that was met.
-use Rattle.std.proofs.Common.{◌≡◌, ◌≢◌, ℕ, ◌&&◌, ◌||◌, ◌==◌, not, cond, Bool, true, false, List, [], ◌∷◌, ◌++◌, map, refl, sym, ap, ◌∙◌, subst, Some, inl, inr, ◌⊎◌, ⊎_elim}
+use Rattle.std.proofs.Common.{◌≡◌, ◌≢◌, ℕ, ◌&&◌, ◌||◌, ◌==◌, not, cond, Bool, true, false, List, [], ◌∷◌, ◌++◌, map, refl, sym, ap, ◌∙◌, subst, Some, Ok, Err, inl, inr, ◌⊎◌, ⊎_elim}
 use Rattle.std.specs.Prelude.{⊤, T, Contains, filter, option_map}
 use Rattle.std.specs.declared.cmp.Ordering.{Ordering}
 use Rattle.std.specs.declared.cmp.Ordering.TheVariants.{Less, Equal, Greater}
@@ -12,8 +12,10 @@ use Rattle.jname.proofs.MemberLemmas.{Contains-none, Contains-here, Contains-the
 use Rattle.jname.proofs.NamingLemmas.{key_cmp_total}
 use Rattle.jname.proofs.SortedLemmas.{T_first, T_second, find-from_Contains}
 use Rattle.jmount.specs.Tree.{State, object, named, is_there, is_directory, entries_in}
+use Rattle.jmount.specs.Find.{step_to, step, walk}
+use Rattle.jmount.specs.declared.fault.FindFault.TheVariants as find
 use Rattle.jmount.specs.Shown.{shown}
-use Rattle.jmount.proofs.ShapeLemmas.{Leads, IsShaped, leads_nowhere, leads_none, leads_more, leads_on, last_step, shaped}
+use Rattle.jmount.proofs.ShapeLemmas.{Leads, IsShaped, leads_nowhere, leads_none, leads_more, leads_on, last_step, walk_begins, shaped}
 use Rattle.jreport.specs.ListedOnce.{IsNotAgain, ShapeIsListedOnce}
 use Rattle.jreport.specs.TreeText.{Item, Met, none_met, items_of, line_if, met_after, todo_after, is_entered, AreLinesOf}
 
@@ -217,6 +219,49 @@ names_fresh s met dir path (n ∷ names) todo is are away fresh =
     by true rest = (named_fresh s met dir n.1 n.0 is are.0, away_from_names s met dir n.1 n.0 path names todo is are.0 are.1 are.2 away, rest)
     by false rest = rest
 
+-- ---- what paths lead to
+
+abbrev AreReached : State → List Item → Type 0
+AreReached s [] = ⊤
+AreReached s (item ∷ todo) = (walk s item.0 (Ok 1) ≡ Ok item.1) × AreReached s todo
+
+walk_append : (s : State) (xs ys : List (List ℕ)) (a b : ℕ) → walk s xs (Ok a) ≡ Ok b → walk s (xs ++ ys) (Ok a) ≡ walk s ys (Ok b)
+walk_append s [] ys a b e = ap (walk s ys) e
+walk_append s (x ∷ xs) ys a b e =
+    let begins = walk_begins s xs (step s a x) b e in
+    ap (walk s (xs ++ ys)) begins.1 ∙ walk_append s xs ys begins.0 b begins.2
+
+step_there : (s : State) (dir i : ℕ) (name : List ℕ) → is_directory s dir ≡ true → named s dir name ≡ Some i → is_there s i ≡ true → step s dir name ≡ Ok i
+step_there s dir i name d e there =
+    ap (λ (x : Bool). cond x (step_to s (named s dir name)) (Err find.NotDirectory)) d
+    ∙ ap (step_to s) e
+    ∙ ap (λ (x : Bool). cond x (Ok i) (Err find.NotFound)) there
+
+names_reached : (s : State) (dir : ℕ) (path : List (List ℕ)) (names : List (List ℕ × ℕ)) (todo : List Item) → is_directory s dir ≡ true → walk s path (Ok 1) ≡ Ok dir
+    → AreNames s dir names → AreReached s todo → AreReached s (items_of s path names ++ todo)
+names_reached s dir path [] todo d at are reached = reached
+names_reached s dir path (n ∷ names) todo d at are reached = by (is_there s n.1) refl (names_reached s dir path names todo d at are.2 reached)
+  where
+    by : (b : Bool) → is_there s n.1 ≡ b → AreReached s (items_of s path names ++ todo)
+        → AreReached s (map (λ e. (path ++ e.0 ∷ [], e.1)) (cond b (n ∷ filter (λ e. is_there s e.1) names) (filter (λ e. is_there s e.1) names)) ++ todo)
+    by true there rest = (walk_append s path (n.0 ∷ []) 1 dir at ∙ step_there s dir n.1 n.0 d are.0 there, rest)
+    by false gone rest = rest
+
+entered_there : (s : State) (met : Met) (dir : ℕ) → is_entered s met dir ≡ true → is_directory s dir ≡ true
+entered_there s met dir entered = first (is_directory s dir) (not (met dir)) entered
+  where
+    first : (a b : Bool) → (a && b) ≡ true → a ≡ true
+    first true b h = refl
+    first false b h = absurd (false≢true h)
+
+reached_after : (s : State) (met : Met) (item : Item) (todo : List Item) → AreReached s (item ∷ todo) → AreReached s (todo_after s met item todo)
+reached_after s met item todo reached = by (is_entered s met item.1) refl
+  where
+    by : (b : Bool) → is_entered s met item.1 ≡ b → AreReached s (cond b (items_of s item.0 (entries_in s item.1) ++ todo) todo)
+    by true entered =
+        names_reached s item.1 item.0 (entries_in s item.1) todo (entered_there s met item.1 entered) reached.0 (names_of_directory s item.1) reached.1
+    by false entered = reached.1
+
 -- ---- the walk
 
 fresh_after : (s : State) (met : Met) (item : Item) (todo : List Item) → IsShaped s → AreFresh s met (item ∷ todo) → AreFresh s (met_after s met item.1) (todo_after s met item todo)
@@ -225,13 +270,9 @@ fresh_after s met item todo shape fresh = by (is_entered s met item.1) refl
     rest : AreFresh s (met_after s met item.1) todo
     rest = still_fresh s met item.1 todo fresh.1 fresh.2
 
-    first : (a b : Bool) → (a && b) ≡ true → a ≡ true
-    first true b h = refl
-    first false b h = absurd (false≢true h)
-
     by : (b : Bool) → is_entered s met item.1 ≡ b → AreFresh s (met_after s met item.1) (cond b (items_of s item.0 (entries_in s item.1) ++ todo) todo)
     by true entered =
-        let d : is_directory s item.1 ≡ true = first (is_directory s item.1) (not (met item.1)) entered in
+        let d : is_directory s item.1 ≡ true = entered_there s met item.1 entered in
         names_fresh s met item.1 item.0 (entries_in s item.1) todo (record { shape = shape; there = d; root = (fresh.0 d).0; fresh = (fresh.0 d).1 })
         (names_of_directory s item.1) fresh.1 rest
     by false entered = rest
@@ -244,22 +285,23 @@ no_mark s met i fresh = by (is_directory s i) (met i) (λ d m. (fresh d).1 i m (
     by true false h = refl
     by false m h = refl
 
-lines_are_not_again : (s : State) (met : Met) (todo : List Item) (lines : List (List ℕ)) → IsShaped s → AreFresh s met todo → AreLinesOf s met todo lines
+lines_are_not_again : (s : State) (met : Met) (todo : List Item) (lines : List (List ℕ)) → IsShaped s → AreFresh s met todo → AreReached s todo → AreLinesOf s met todo lines
     → (line : List ℕ) → Contains lines line → IsNotAgain s line
-lines_are_not_again s met [] lines shape fresh are line there = absurd (Contains-none line (subst (λ (ls : List (List ℕ)). Contains ls line) are there))
-lines_are_not_again s met (item ∷ todo) [] shape fresh are line there = absurd are
-lines_are_not_again s met (item ∷ todo) (first ∷ lines) shape fresh are line there =
+lines_are_not_again s met [] lines shape fresh reached are line there = absurd (Contains-none line (subst (λ (ls : List (List ℕ)). Contains ls line) are there))
+lines_are_not_again s met (item ∷ todo) [] shape fresh reached are line there = absurd are
+lines_are_not_again s met (item ∷ todo) (first ∷ lines) shape fresh reached are line there =
     ⊎_elim
     (λ (is : first ≡ line). (
       item.0,
       item.1,
+      reached.0,
       sym is ∙ are.0 ∙ ap (λ (b : Bool). line_if s item.0 item.1 (option_map shown (object s item.1)) b) (no_mark s met item.1 fresh.0),
     ))
     (λ (later : Contains lines line).
-    lines_are_not_again s (met_after s met item.1) (todo_after s met item todo) lines shape (fresh_after s met item todo shape fresh) are.1 line later)
+    lines_are_not_again s (met_after s met item.1) (todo_after s met item todo) lines shape (fresh_after s met item todo shape fresh) (reached_after s met item todo reached) are.1 line later)
     (Contains-cases first lines line there)
 
 pub shape_is_listed_once : ShapeIsListedOnce
 shape_is_listed_once s lines has are =
     lines_are_not_again s none_met (([], 1) ∷ []) lines (shaped s has)
-    (λ d. (([], leads_none s 1), λ k m below. false≢true m), tt, tt) are
+    (λ d. (([], leads_none s 1), λ k m below. false≢true m), tt, tt) (refl, tt) are
