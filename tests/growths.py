@@ -11,6 +11,7 @@ import argparse
 import collections
 import glob
 import os
+import shutil
 import subprocess
 import sys
 import tempfile
@@ -84,6 +85,10 @@ def main():
     parser = argparse.ArgumentParser()
     parser.add_argument("--built", default=ROOT)
     built = parser.parse_args().built
+    if not shutil.which("cc"):
+        print("left out: cc is missing, which builds tests/refuse.c")
+        print("0 passed, 0 failed")
+        return 0
     with tempfile.TemporaryDirectory(prefix="growths-") as folder:
         shim = f"{folder}/refuse.so"
         words = ["cc", "-O1", "-shared", "-fPIC", "-fno-builtin", "-o", shim, f"{ROOT}/tests/refuse.c", "-ldl"]
