@@ -22,7 +22,7 @@ FOLDER = os.path.abspath(sys.argv[1])
 RUNS = int(sys.argv[2]) if len(sys.argv) > 2 else 5
 CRATES = sys.argv[3] if len(sys.argv) > 3 else os.path.join(HERE, "../crates")
 PROGRAM = os.path.abspath(os.path.join(CRATES, "jffs2_image/out/jffs2_image"))
-BLOCK, BLOCKS = 65536, ["--blocks", "1100"]
+BLOCK, BLOCKS = 65536, ["--blocks", "1400"]
 GREATEST = 256 << 20
 
 
