@@ -1,6 +1,6 @@
 -- The walk over what a write left: what is told from a cursor on, for a node in the block of the cursor.
-use Rattle.std.proofs.Common.{◌≡◌, ◌≢◌, ℕ, suc, ◌+◌, ◌-◌, ◌*◌, ◌%◌, ◌<◌, ◌≤◌, true, false, List, [], ◌∷◌, ◌++◌, length, take, drop, get_or, map, sym, ap, ap₂, subst, ◌∙◌, arith, inl, inr, length-append}
-use Rattle.std.specs.Prelude.{◌⊎◌, IsTrue, bytes_eq}
+use Rattle.std.proofs.Common.{◌≡◌, ◌≢◌, ℕ, suc, ◌+◌, ◌-◌, ◌*◌, ◌%◌, ◌<◌, ◌≤◌, true, false, List, [], ◌∷◌, ◌++◌, length, take, drop, get_or, map, refl, sym, ap, ap₂, subst, ◌∙◌, arith, inl, inr, length-append}
+use Rattle.std.specs.Prelude.{IsTrue, bytes_eq}
 use Rattle.std.proofs.lemmas.Bool.{cases_Bool, cases_lt, cond-true, cond-false, and_parts, both_ways}
 use Rattle.std.proofs.lemmas.List.{get_or-take, drop-drop, take-append-drop, take-append-le, take_all, append-nil, length-take-le, length-replicate, ext_get_or}
 use Rattle.std.proofs.lemmas.Slice.Eq.{bytes_eq-Decides}
@@ -31,9 +31,49 @@ bytes_of e xs = map (canonical e) xs
 abbrev pub Gives : Endian → ℕ → (ℕ → List ℕ) → ℕ → ℕ → ℕ → ℕ → ℕ → List NodeRef → Type 0
 Gives e size flash c d p n k xs = met e size flash d p n ≡ map sighting_of (take (intact size c k (bytes_of e xs)) (placed e size c xs))
 
--- No node is weak, or none is cut.
-abbrev pub Sure : Endian → ℕ → ℕ → ℕ → List NodeRef → Type 0
-Sure e size c k xs = NoneWeak e xs ⊎ (length (output e size c (bytes_of e xs)) ≤ k)
+-- None of the first nodes is cut, and none of those after them is weak.
+pub record Sure (e : Endian) (size c k : ℕ) (xs : List NodeRef) : Type 0 where
+  pub first : List NodeRef
+  pub rest : List NodeRef
+  pub both : xs ≡ first ++ rest
+  pub uncut : length (output e size c (bytes_of e first)) ≤ k
+  pub none : NoneWeak e rest
+
+pub none_weak : (e : Endian) (size c k : ℕ) (xs : List NodeRef) → NoneWeak e xs → Sure e size c k xs
+none_weak e size c k xs none = record { first = []; rest = xs; both = refl; uncut = omega arith; none = none }
+
+pub none_cut : (e : Endian) (size c k : ℕ) (xs : List NodeRef) → length (output e size c (bytes_of e xs)) ≤ k → Sure e size c k xs
+none_cut e size c k xs all = record { first = xs; rest = []; both = sym (append-nil xs); uncut = all; none = tt }
+
+-- after the first node
+sure_on : (e : Endian) (size c c' m k : ℕ) (x : NodeRef) (xs first rest : List NodeRef)
+    → ((ys : List NodeRef) → length (output e size c (bytes_of e (x ∷ ys))) ≡ m + length (output e size c' (bytes_of e ys)))
+    → x ∷ xs ≡ first ++ rest → length (output e size c (bytes_of e first)) ≤ k → NoneWeak e rest → Sure e size c' (k - m) xs
+sure_on e size c c' m k x xs [] rest len both uncut none = none_weak e size c' (k - m) xs (subst (NoneWeak e) (sym both) none).1
+sure_on e size c c' m k x xs (y ∷ first) rest len both uncut none =
+    let head : y ≡ x = cc in
+    let tail : xs ≡ first ++ rest = cc in
+    let long : length (output e size c (bytes_of e (x ∷ first))) ≤ k = subst (λ (z : NodeRef). length (output e size c (bytes_of e (z ∷ first))) ≤ k) head uncut in
+    record { first = first; rest = rest; both = tail; uncut = omega (arith, long, len first); none = none }
+
+-- and from an address up to which no node begins
+pub sure_skips : (e : Endian) (size c c' k : ℕ) (front : List ℕ) (x : NodeRef) (xs : List NodeRef)
+    → ((ys : List NodeRef) → output e size c (bytes_of e (x ∷ ys)) ≡ front ++ output e size c' (bytes_of e (x ∷ ys)))
+    → Sure e size c k (x ∷ xs) → Sure e size c' (k - length front) (x ∷ xs)
+sure_skips e size c c' k front x xs out_is sure = by sure.first sure.rest sure.both sure.uncut sure.none
+  where
+    by : (first rest : List NodeRef) → x ∷ xs ≡ first ++ rest → length (output e size c (bytes_of e first)) ≤ k → NoneWeak e rest → Sure e size c' (k - length front) (x ∷ xs)
+    by [] rest both uncut none = none_weak e size c' (k - length front) (x ∷ xs) (subst (NoneWeak e) (sym both) none)
+    by (y ∷ first) rest both uncut none =
+        let head : y ≡ x = cc in
+        let long : length (output e size c (bytes_of e (x ∷ first))) ≤ k = subst (λ (z : NodeRef). length (output e size c (bytes_of e (z ∷ first))) ≤ k) head uncut in
+        record {
+          first = x ∷ first;
+          rest = rest;
+          both = subst (λ (z : NodeRef). x ∷ xs ≡ z ∷ (first ++ rest)) head both;
+          uncut = omega (arith, long, ap length (out_is first), length-append front (output e size c' (bytes_of e (x ∷ first))));
+          none = none;
+        }
 
 -- n blocks follow the cursor's, these nodes fit there, and the flash is as a stop after k of their bytes leaves it
 pub record Stands (e : Endian) (size blocks : ℕ) (flash : ℕ → List ℕ) (c d p n k : ℕ) (xs : List NodeRef) : Type 0 where
@@ -144,8 +184,9 @@ stands_on e size blocks flash c d p n k x xs behind room at =
     let out_is : output e size c (node ∷ bytes_of e xs) ≡ filled node ++ next = output_here e size c d node (bytes_of e xs) words low high some in
     let cursor : Cursor size (c + m) d (p + m) = cursor_on size c d p (length node) at.cursor behind room in
     let sum : c + length (filled node) ≡ c + m = ap (λ (n : ℕ). c + n) (length-filled node) in
-    let len : length (output e size c (node ∷ bytes_of e xs)) ≡ m + length next =
-    ap length out_is ∙ (length-append (filled node) next ∙ ap (λ (n : ℕ). n + length next) (length-filled node)) in
+    let len : (ys : List NodeRef) → length (output e size c (bytes_of e (x ∷ ys))) ≡ m + length (output e size (c + m) (bytes_of e ys)) = λ ys.
+    ap length (output_here e size c d node (bytes_of e ys) words low high some)
+    ∙ (length-append (filled node) (output e size (c + m) (bytes_of e ys)) ∙ ap (λ (n : ℕ). n + length (output e size (c + m) (bytes_of e ys))) (length-filled node)) in
     let moved : Flash e size (c + m) blocks flash next (k - length (filled node)) =
     flash_moves e size c (c + m) d (p + m) k blocks flash (filled node) next cursor sum (subst (λ (o : List ℕ). Flash e size c blocks flash o k) out_is at.left) in
     let fits : IsTrue (fit size blocks (place_after size c (length node) + m) (bytes_of e xs)) = room_on size blocks c node (bytes_of e xs) at.room in
@@ -153,16 +194,19 @@ stands_on e size blocks flash c d p n k x xs behind room at =
       cursor = cursor;
       ends = at.ends;
       room = subst (λ (q : ℕ). IsTrue (fit size blocks (q + m) (bytes_of e xs))) (place_here size c d (length node) words low high some) fits;
-      sure = elim at.sure [
-        | inl none ↦ inl none.1
-        | inr all ↦ inr (omega (arith, all, len))
-      ];
+      sure = sure_on e size c (c + m) m k x xs at.sure.first at.sure.rest (λ ys. len ys) at.sure.both at.sure.uncut at.sure.none;
       left = subst (λ (n : ℕ). Flash e size (c + m) blocks flash next (k - n)) (length-filled node) moved;
     }
 
-not_weak : (e : Endian) (size c k : ℕ) (x : NodeRef) (xs : List NodeRef) → Sure e size c k (x ∷ xs) → (length (output e size c (bytes_of e (x ∷ xs))) ≤ k → ⊥) → is_weak e (canonical e x) k ≡ false
-not_weak e size c k x xs (inl none) cut = none.0 k
-not_weak e size c k x xs (inr all) cut = absurd (cut all)
+not_weak : (e : Endian) (size c k : ℕ) (x : NodeRef) (xs : List NodeRef) → Sure e size c k (x ∷ xs) → ((ys : List NodeRef) → length (output e size c (bytes_of e (x ∷ ys))) ≤ k → ⊥)
+    → is_weak e (canonical e x) k ≡ false
+not_weak e size c k x xs sure cut = by sure.first sure.rest sure.both sure.uncut sure.none
+  where
+    by : (first rest : List NodeRef) → x ∷ xs ≡ first ++ rest → length (output e size c (bytes_of e first)) ≤ k → NoneWeak e rest → is_weak e (canonical e x) k ≡ false
+    by [] rest both uncut none = (subst (NoneWeak e) (sym both) none).0 k
+    by (y ∷ first) rest both uncut none =
+        let head : y ≡ x = cc in
+        absurd (cut first (subst (λ (z : NodeRef). length (output e size c (bytes_of e (z ∷ first))) ≤ k) head uncut))
 
 -- it is intact, and the walk goes on after it
 here_whole : (e : Endian) (size blocks : ℕ) (flash : ℕ → List ℕ) (c d p n k : ℕ) (x : NodeRef) (xs : List NodeRef) → IsLoggable e size x → Walks e size blocks flash xs
@@ -214,7 +258,8 @@ here_cut e size blocks flash c d p n k x xs ok behind room at differs =
     let changed : torn node k ≢ node = λ is. both_ways _ differs ((bytes_eq-Decides _ _).1 is) in
     let cut : k < length node = elim (cases_lt k (length node)) [ inl less ↦ less | inr all ↦ absurd (changed (torn_all node k all)) ] in
     let weak : is_weak e node k ≡ false =
-    not_weak e size c k x xs at.sure (λ all. omega (arith, all, ap length out_is, length-append (filled node) next, length-filled node, le_pad4 (length node))) in
+    not_weak e size c k x xs at.sure (λ ys all.
+    omega (arith, all, ap length (output_here e size c d node (bytes_of e ys) words low high some), length-append (filled node) (output e size (c + m) (bytes_of e ys)), length-filled node, le_pad4 (length node))) in
     let shown : drop p (flash d) ≡ take k node ++ erased (size - p - k) =
     rest_cut size c k d p node next (flash d) at.cursor.at (left.long d (omega arith)) cut room holds in
     let none : told e (d * size) p (drop p (flash d)) ≡ [] =

@@ -15,14 +15,14 @@ use Rattle.jscan.specs.Blank.{marked}
 use Rattle.jlog.specs.Places.{place_after, end_after, places}
 use Rattle.jlog.specs.Output.{output}
 use Rattle.jlog.specs.Left.{HoldsWritten, HoldsMarker, IsLeft, intact}
-use Rattle.jlog.specs.LeftLaws.{IsLoggable, AreLogged, placed, tells, sighting_of, BaseStays, PlacedAreNew, LeftSightings, LeftNodes, LeftRefuses, WholeNodes, WholeRefuses, LeftIsWithin, intact_of, IsLeftOf, IsUncut}
+use Rattle.jlog.specs.LeftLaws.{IsLoggable, AreLogged, placed, tells, sighting_of, BaseStays, PlacedAreNew, LeftSightings, LeftNodes, LeftRefuses, WholeNodes, WholeRefuses, LeftIsWithin, RefusesAs, intact_of, IsLeftOf, IsUncut}
 use Rattle.jlog.proofs.IntactLemmas.{all_is_intact, has_room}
 use Rattle.jlog.proofs.TellLemmas.{nodes_told, refuses_as}
 use Rattle.jlog.proofs.ByteLemmas.{erased_end, block_long, block_byte}
 use Rattle.jlog.proofs.PlaceLemmas.{place_front}
 use Rattle.jlog.proofs.SightLemmas.{marker_long}
 use Rattle.jlog.proofs.FlashLemmas.{BlockLeft, up}
-use Rattle.jlog.proofs.HereLemmas.{Sure}
+use Rattle.jlog.proofs.HereLemmas.{Sure, none_weak, none_cut}
 use Rattle.jlog.proofs.FlashLemmas.{Flash}
 use Rattle.jlog.proofs.WalkLemmas.{walks_all}
 use Rattle.jlog.proofs.ImageLemmas.{count_within, told_below, below_up, below_same, told_image, blank_up, block_size}
@@ -98,7 +98,7 @@ new_told e size blocks block (suc n) k base image new sum logged sure left =
 
 -- ---- the whole
 
--- where no node is weak, or none is cut
+-- where none of the first nodes is cut, and none of the others is weak
 pub left_sightings : (e : Endian) (size blocks block k : ℕ) (base image : List ℕ) (new : List NodeRef) → AreLogged e size blocks base block new
     → Sure e size (block * size) k new
     → IsLeftOf e size blocks base block new k image
@@ -143,17 +143,26 @@ pub placed_are_new : PlacedAreNew
 placed_are_new e size from new = record { places = placed_places e size from new; nodes = placed_nodes e size from new }
 
 pub left_sightings_told : LeftSightings
-left_sightings_told e size blocks block k base image new logged none left = left_sightings e size blocks block k base image new logged (inl none) left
+left_sightings_told e size blocks block k base image new logged none left =
+    left_sightings e size blocks block k base image new logged (none_weak e size (block * size) k new none) left
+
+pub sure_nodes : (e : Endian) (size blocks block k : ℕ) (base image : List ℕ) (new : List NodeRef) → AreLogged e size blocks base block new → Sure e size (block * size) k new
+    → IsLeftOf e size blocks base block new k image → nodes e size image ≡ nodes e size base ++ intact_of e size block new k
+sure_nodes e size blocks block k base image new logged sure left =
+    nodes_told e size base image (intact_of e size block new k) (left_sightings e size blocks block k base image new logged sure left)
+
+pub sure_refuses : (e : Endian) (size blocks block k : ℕ) (base image : List ℕ) (new : List NodeRef) → AreLogged e size blocks base block new → Sure e size (block * size) k new
+    → IsLeftOf e size blocks base block new k image → RefusesAs e size base image
+sure_refuses e size blocks block k base image new logged sure left =
+    refuses_as e size base image (intact_of e size block new k) (left_sightings e size blocks block k base image new logged sure left)
 
 pub left_nodes : LeftNodes
 left_nodes e size blocks block k base image new logged none left =
-    nodes_told e size base image (intact_of e size block new k)
-    (left_sightings e size blocks block k base image new logged (inl none) left)
+    sure_nodes e size blocks block k base image new logged (none_weak e size (block * size) k new none) left
 
 pub left_refuses : LeftRefuses
 left_refuses e size blocks block k base image new logged none left =
-    refuses_as e size base image (intact_of e size block new k)
-    (left_sightings e size blocks block k base image new logged (inl none) left)
+    sure_refuses e size blocks block k base image new logged (none_weak e size (block * size) k new none) left
 
 -- without a cut all are kept
 all_placed : (e : Endian) (size blocks block k : ℕ) (base : List ℕ) (new : List NodeRef) → AreLogged e size blocks base block new
@@ -168,11 +177,9 @@ all_placed e size blocks block k base new logged all =
 
 pub whole_nodes : WholeNodes
 whole_nodes e size blocks block k base image new logged all left =
-    nodes_told e size base image (intact_of e size block new k)
-    (left_sightings e size blocks block k base image new logged (inr all) left)
+    sure_nodes e size blocks block k base image new logged (none_cut e size (block * size) k new all) left
     ∙ ap (λ (ns : List (ℕ × NodeRef)). nodes e size base ++ ns) (all_placed e size blocks block k base new logged all)
 
 pub whole_refuses : WholeRefuses
 whole_refuses e size blocks block k base image new logged all left =
-    refuses_as e size base image (intact_of e size block new k)
-    (left_sightings e size blocks block k base image new logged (inr all) left)
+    sure_refuses e size blocks block k base image new logged (none_cut e size (block * size) k new all) left

@@ -19,12 +19,13 @@ use Rattle.jsteps.specs.Laws.{NoneClash}
 use Rattle.jlog.specs.Places.{places}
 use Rattle.jlog.specs.Output.{output}
 use Rattle.jlog.specs.Left.{count_whole, intact}
-use Rattle.jlog.specs.LeftLaws.{RefusesAs, placed, intact_of}
-use Rattle.jlog.specs.MountLaws.{SoundNodesAreApart, LeftIsSound, WholeIsSound}
+use Rattle.jlog.specs.LeftLaws.{RefusesAs, IsLeftOf, placed, intact_of}
+use Rattle.jlog.specs.MountLaws.{SoundNodesAreApart, GoesOnSoundly, IsSoundWith, LeftIsSound, WholeIsSound}
 use Rattle.jlog.proofs.ImageLemmas.{block_size}
 use Rattle.jlog.proofs.TellLemmas.{cons_cases}
 use Rattle.jlog.proofs.IntactLemmas.{intact_is_counted, has_room}
-use Rattle.jlog.proofs.LeftLemmas.{placed_are_new, left_nodes, left_refuses, whole_nodes, whole_refuses}
+use Rattle.jlog.proofs.HereLemmas.{Sure, none_weak}
+use Rattle.jlog.proofs.LeftLemmas.{placed_are_new, sure_nodes, sure_refuses, whole_nodes, whole_refuses}
 
 -- ---- clashes go both ways, and no node clashes with itself
 
@@ -138,21 +139,30 @@ intact_nodes e size block k new =
     let n : ℕ = intact size (block * size) k (map (canonical e) new) in
     sym (take-map (λ n. n.1) n (placed e size (block * size) new)) ∙ ap (take n) (placed_are_new e size (block * size) new).nodes
 
-pub left_is_sound : LeftIsSound
-left_is_sound e size blocks block k base image new on none left =
+-- where none of the first nodes is cut, and none of the others is weak
+pub sure_is_sound : (e : Endian) (size blocks block k : ℕ) (base image : List ℕ) (new : List NodeRef) → GoesOnSoundly e size blocks base block new → Sure e size (block * size) k new
+    → IsLeftOf e size blocks base block new k image
+    → let bytes = map (canonical e) new in
+    let out = output e size (block * size) bytes in
+    IsSoundWith e size image (plain_nodes e size base ++ take (count_whole (block * size) out k (places size (block * size) bytes)) new)
+sure_is_sound e size blocks block k base image new on sure left =
     let bytes : List (List ℕ) = map (canonical e) new in
     let from : ℕ = block * size in
     let out : List ℕ = output e size from bytes in
     let n : ℕ = count_whole from out k (places size from bytes) in
     let count : n ≡ intact size from k bytes = intact_is_counted e size from k bytes (block_size size on.logged.size_is).words (has_room e size new on.logged.nodes) in
     let are : plain_nodes e size image ≡ plain_nodes e size base ++ take n new =
-    plain_from e size base image (intact_of e size block new k) (left_nodes e size blocks block k base image new on.logged none left)
+    plain_from e size base image (intact_of e size block new k) (sure_nodes e size blocks block k base image new on.logged sure left)
     ∙ (ap (λ (ns : List NodeRef). plain_nodes e size base ++ ns) (intact_nodes e size block k new) ∙ ap (λ (i : ℕ). plain_nodes e size base ++ take i new) (sym count)) in
     record {
-      sound = sound_from e size base image on.sound (left_refuses e size blocks block k base image new on.logged none left)
+      sound = sound_from e size base image on.sound (sure_refuses e size blocks block k base image new on.logged sure left)
           (subst NoneClash (sym are) (first_apart (plain_nodes e size base) new n on.apart)) (omega (arith, left.no_longer, on.small));
       nodes = are;
     }
+
+pub left_is_sound : LeftIsSound
+left_is_sound e size blocks block k base image new on none left =
+    sure_is_sound e size blocks block k base image new on (none_weak e size (block * size) k new none) left
 
 pub whole_is_sound : WholeIsSound
 whole_is_sound e size blocks block k base image new on all left =

@@ -22,7 +22,7 @@ use Rattle.jlog.proofs.PlaceLemmas.{place_here, place_front, place_over}
 use Rattle.jlog.proofs.OutputLemmas.{output_front, output_over, intact_skips, places_skip, placed_skip}
 use Rattle.jlog.proofs.SightLemmas.{told, erased_told, marked_told, marker_long, marker_then}
 use Rattle.jlog.proofs.FlashLemmas.{Cursor, Flash, BlockLeft, Holds, flash_moves, holds_behind, nothing_out, rest_byte, rest_long, up}
-use Rattle.jlog.proofs.HereLemmas.{Stands, Gives, Sure, Walks, bytes_of, cursor_words, here, walks_none}
+use Rattle.jlog.proofs.HereLemmas.{Stands, Gives, Sure, Walks, bytes_of, cursor_words, here, sure_skips, walks_none}
 
 -- ---- at the front of a block
 
@@ -88,13 +88,6 @@ gives_skips : (e : Endian) (size c c' k : ℕ) (x : NodeRef) (xs : List NodeRef)
 gives_skips e size c c' k x xs up before same =
     ap₂ (λ (i : ℕ) (ns : List (ℕ × NodeRef)). map sighting_of (take i ns)) (intact_skips size c c' k (canonical e x) (bytes_of e xs) up before same) (placed_skip e size c c' x xs same)
 
-sure_skips : (e : Endian) (size c c' k : ℕ) (front : List ℕ) (x : NodeRef) (xs : List NodeRef)
-    → output e size c (bytes_of e (x ∷ xs)) ≡ front ++ output e size c' (bytes_of e (x ∷ xs))
-    → Sure e size c k (x ∷ xs) → Sure e size c' (k - length front) (x ∷ xs)
-sure_skips e size c c' k front x xs out_is (inl none) = inl none
-sure_skips e size c c' k front x xs out_is (inr all) =
-    inr (omega (arith, all, ap length out_is, length-append front (output e size c' (bytes_of e (x ∷ xs)))))
-
 -- the marker goes out, and then the node after it
 front : (e : Endian) (size blocks : ℕ) (flash : ℕ → List ℕ) (c d n k : ℕ) (x : NodeRef) (xs : List NodeRef) → IsLoggable e size x → Walks e size blocks flash xs
     → Stands e size blocks flash c d 0 n k (x ∷ xs) → Gives e size flash c d 0 n k (x ∷ xs)
@@ -118,15 +111,16 @@ front e size blocks flash c d n k x xs ok walks at =
     let here_is : place_after size c (length node) ≡ d * size + 12 = place_front size c d (length node) sized start room some in
     let there_is : place_after size (c + 12) (length node) ≡ c + 12 = place_here size (c + 12) d (length node) words (omega arith) (omega arith) some in
     let same : place_after size c (length node) ≡ place_after size (c + 12) (length node) = omega arith in
-    let out_is : output e size c (bytes_of e (x ∷ xs)) ≡ clean_marker e ++ output e size (c + 12) (bytes_of e (x ∷ xs)) =
-    output_front e size c d node (bytes_of e xs) sized start words room some in
+    let out_by : (ys : List NodeRef) → output e size c (bytes_of e (x ∷ ys)) ≡ clean_marker e ++ output e size (c + 12) (bytes_of e (x ∷ ys)) =
+    λ ys. output_front e size c d node (bytes_of e ys) sized start words room some in
+    let out_is : output e size c (bytes_of e (x ∷ xs)) ≡ clean_marker e ++ output e size (c + 12) (bytes_of e (x ∷ xs)) = out_by xs in
     let marker : length (clean_marker e) ≡ 12 = marker_long e in
     let left : Flash e size c blocks flash (clean_marker e ++ output e size (c + 12) (bytes_of e (x ∷ xs))) k = subst (λ (o : List ℕ). Flash e size c blocks flash o k) out_is at.left in
     let on : Stands e size blocks flash (c + 12) d 12 n (k - 12) (x ∷ xs) = record {
       cursor = behind_it;
       ends = ends;
       room = room_skips e size blocks c (c + 12) x xs same at.room;
-      sure = subst (λ (i : ℕ). Sure e size (c + 12) (k - i) (x ∷ xs)) marker (sure_skips e size c (c + 12) k (clean_marker e) x xs out_is at.sure);
+      sure = subst (λ (i : ℕ). Sure e size (c + 12) (k - i) (x ∷ xs)) marker (sure_skips e size c (c + 12) k (clean_marker e) x xs out_by at.sure);
       left = subst (λ (i : ℕ). Flash e size (c + 12) blocks flash (output e size (c + 12) (bytes_of e (x ∷ xs))) (k - i)) marker
           (flash_moves e size c (c + 12) d 12 k blocks flash (clean_marker e) (output e size (c + 12) (bytes_of e (x ∷ xs))) behind_it (ap (λ (i : ℕ). c + i) marker) left);
     } in
@@ -170,8 +164,9 @@ over e size blocks flash c d p n k x xs ok walks behind_marker outside at =
       | inl less ↦ less
       | inr not ↦ let small : blocks * size ≤ suc d * size = mul-le-mul_right size not in absurd (omega (arith, fits, here_is))
     ] in
-    let out_is : output e size c (bytes_of e (x ∷ xs)) ≡ erased z ++ output e size c' (bytes_of e (x ∷ xs)) =
-    output_over e size c d node (bytes_of e xs) sized words low high past room some in
+    let out_by : (ys : List NodeRef) → output e size c (bytes_of e (x ∷ ys)) ≡ erased z ++ output e size c' (bytes_of e (x ∷ ys)) =
+    λ ys. output_over e size c d node (bytes_of e ys) sized words low high past room some in
+    let out_is : output e size c (bytes_of e (x ∷ xs)) ≡ erased z ++ output e size c' (bytes_of e (x ∷ xs)) = out_by xs in
     let left : Flash e size c blocks flash (erased z ++ output e size c' (bytes_of e (x ∷ xs))) k = subst (λ (o : List ℕ). Flash e size c blocks flash o k) out_is at.left in
     let len : length (erased z) ≡ z = length-replicate {A = ℕ} z 0xFF in
     let cursor : Cursor size c' (suc d) 0 = record {
@@ -187,7 +182,7 @@ over e size blocks flash c d p n k x xs ok walks behind_marker outside at =
       cursor = cursor;
       ends = omega arith;
       room = room_skips e size blocks c c' x xs same at.room;
-      sure = subst (λ (i : ℕ). Sure e size c' (k - i) (x ∷ xs)) len (sure_skips e size c c' k (erased z) x xs out_is at.sure);
+      sure = subst (λ (i : ℕ). Sure e size c' (k - i) (x ∷ xs)) len (sure_skips e size c c' k (erased z) x xs out_by at.sure);
       left = subst (λ (i : ℕ). Flash e size c' blocks flash (output e size c' (bytes_of e (x ∷ xs))) (k - i)) len
           (flash_moves e size c c' (suc d) 0 k blocks flash (erased z) (output e size c' (bytes_of e (x ∷ xs))) cursor (omega (arith, len)) left);
     } in

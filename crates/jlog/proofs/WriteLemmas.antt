@@ -1,5 +1,5 @@
 -- A node that may be written is refused for want of room alone.
-use Rattle.std.proofs.Common.{◌≡◌, ℕ, ◌≤◌, Result, Ok, Err, refl, arith}
+use Rattle.std.proofs.Common.{◌≡◌, ◌≤◌, Result, Ok, Err, refl, arith}
 use Rattle.std.specs.Prelude.{◌↔◌, ◌≢◌, IfErr, IsTrue}
 use Rattle.jnode.specs.Writing.{HasNameLength, IsWritableInode, is_writable}
 use Rattle.jnode.specs.declared.node.Dirent.{Dirent}

@@ -8,5 +8,6 @@ pub mod MountLaws
 pub mod Headline
 pub mod Running
 pub mod Session
+pub mod Done
 pub mod Resuming
 pub mod View

@@ -1,5 +1,5 @@
 -- What contracts see of a session.
-use Rattle.std.specs.Prelude.{ℕ, ◌≤◌, Bool, IsFalse, List, Option, Result}
+use Rattle.std.specs.Prelude.{ℕ, ◌≤◌, Bool, IsFalse, List, ◌++◌, take, Option, Result}
 use Rattle.byteorder.specs.declared.ByteOrder.{Ghosts as OfByteOrder}
 use Rattle.flashbase.specs.declared.sink.Sink.{Ghosts as OfSink}
 use Rattle.jnode.specs.declared.order.Order.{Ghosts as OfOrder}
@@ -10,8 +10,8 @@ use Rattle.jsteps.specs.Planning.{page_size}
 use Rattle.jsteps.specs.Refusals.{steps_of_first}
 use Rattle.jsteps.specs.declared.op.Op.{Op}
 use Rattle.jsteps.specs.declared.page.Page.{Page}
-use Rattle.jlog.specs.Headline.{Survives}
 use Rattle.jlog.specs.Session.{Applies, Runs, IsFresh, attempted}
+use Rattle.jlog.specs.Done.{GoesOnBy, SurvivesAfter, steps_on}
 use Rattle.jlog.specs.declared.fault.SessionFault.{SessionFault}
 use Rattle.jlog.specs.declared.report.Place.{Place}
 use Rattle.jlog.specs.declared.session.Session.{Session}
@@ -65,11 +65,21 @@ module _ {E : Type 0} {S : Type 0} {order : OfOrder E} {numbers : OfByteOrder E}
       accepted (cursor_of new) (index_of_log new) (is_broken new)
       (sink.taken (sink_of old)) (sink.taken (sink_of new)) (sink.failures (sink_of old)) (sink.failures (sink_of new)) places stopped
 
-  -- the steps of the operations that were attempted survive on the session's base
+  -- since it was resumed these operations were done, and the session goes on after them
+  abbrev pub HasDone : Session E S order numbers sink → List Op → Type 0
+  HasDone session done =
+      GoesOnBy (page_size (page_of session)) order.order (block_size_of session) (blocks_of session) (base_of session) done (cursor_of session) (index_of_log session)
+
+  -- Whatever was done before, the steps of the operations that were attempted survive after its steps on the session's base.
   abbrev pub RunSurvives : Session E S order numbers sink → List Op → Session E S order numbers sink → ℕ → Type 0
-  RunSurvives old ops new accepted =
-      Survives order.order (block_size_of old) (blocks_of old) (base_of old)
+  RunSurvives old ops new accepted = (done : List Op) → HasDone old done
+      → SurvivesAfter order.order (block_size_of old) (blocks_of old) (base_of old)
+      (steps_on (page_size (page_of old)) order.order (block_size_of old) (base_of old) done)
       (steps_of_first (page_size (page_of old)) (index_of_log old) ops (attempted accepted (is_broken new)))
+
+  -- What was accepted is done, after what was done before.
+  abbrev pub HasDoneMore : Session E S order numbers sink → List Op → Session E S order numbers sink → ℕ → Type 0
+  HasDoneMore old ops new accepted = (done : List Op) → HasDone old done → HasDone new (done ++ take accepted ops)
 
   -- A tree that had its shape has it again, unless an operation was written in part.
   abbrev pub KeepsShape : Session E S order numbers sink → Session E S order numbers sink → Type 0

@@ -1,4 +1,4 @@
-use Rattle.std.proofs.Common.{rules, ◌≡◌, sym, subst}
+use Rattle.std.proofs.Common.{rules, ◌≡◌, subst}
 use Rattle.std.specs.Prelude.{IsTrue}
 use Rattle.jnode.specs.Writing.{is_writable}
 use Rattle.jnode.specs.declared.node.NodeRef.{NodeRef}

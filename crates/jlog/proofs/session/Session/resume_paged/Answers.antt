@@ -1,9 +1,10 @@
-use Rattle.std.proofs.Common.{rules, ◌≡◌, ◌≤◌, ◌+◌, Ok, subst, true}
+use Rattle.std.proofs.Common.{rules, ◌≡◌, ◌+◌, Ok, subst, true}
 use Rattle.std.proofs.lemmas.Bool.{leb-true}
 use Rattle.flashbase.specs.Ranges.{AreBytes}
 use Rattle.jsteps.specs.Planning.{page_size}
 use Rattle.jlog.specs.Resuming.{resumes_at, page_fits}
 use Rattle.jlog.proofs.ResumeLemmas.{resumed_by, fresh_by}
+use Rattle.jlog.proofs.SurviveLemmas.{fresh_has_done}
 use Rattle.jlog.proofs.session.Session.resume_paged.Goals as goal
 
 pub invariant_of-result : goal.invariant_of-result
@@ -22,3 +23,8 @@ returns-clause-resumed g c =
     let e = g.E.Order.order in
     let at : resumes_at e a.geometry.block a.blocks a.mounted.now ≡ Ok c.in_ok-cursor.cursor = search rules in
     fresh_by e a.geometry.block a.blocks a.mounted.now c.image-base.result.now c.in_ok-cursor.cursor c.in_ok-index.index at c.requires c.image-base.ensures c.in_ok-index.ensures
+
+pub returns-clause-begins : goal.returns-clause-begins
+returns-clause-begins g c =
+    let a = c.args in
+    fresh_has_done (page_size a.page) g.E.Order.order a.geometry.block a.blocks c.in_ok-cursor.cursor c.image-base.result.now c.in_ok-index.index (returns-clause-resumed g c)
