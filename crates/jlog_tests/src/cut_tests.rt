@@ -1,7 +1,7 @@
 //! What mounts after writing stopped, at each byte: the plain file system after the steps whose nodes are whole.
 
 use crate::plain::{Change, Plain};
-use crate::sessions::{Flash, run_ops, run_paged};
+use crate::sessions::{Flash, Outcome, run_in_turn, run_ops, run_paged};
 use crate::stopped::Log;
 use byteorder::{BigEndian, LittleEndian};
 use jmount::mount;
@@ -102,8 +102,7 @@ fn make_directory(time: u32, path: &'static [u8]) -> Op<'static> {
     }
 }
 
-fn log_of<E: Order>(alloc: Global, case: &Case<'_>) -> Result<Log, Fail> {
-    let run = run_paged::<E>(alloc, case.base, case.flash, case.ops)?;
+fn log_of(alloc: Global, case: &Case<'_>, run: Outcome) -> Result<Log, Fail> {
     if run.report.accepted != case.ops.len() {
         return Err(Fail::from("an operation was refused"));
     }
@@ -147,8 +146,12 @@ fn marker_lens(blocks: u32, k: usize) -> (usize, usize) {
 }
 
 /// The first number of bytes after which an image mounts otherwise than as the steps whose nodes are whole say.
-fn first_wrong<E: Order>(alloc: Global, case: &Case<'_>) -> Result<Option<usize>, Fail> {
-    let log = log_of::<E>(alloc, case)?;
+fn first_wrong<E: Order>(
+    alloc: Global,
+    case: &Case<'_>,
+    run: Outcome,
+) -> Result<Option<usize>, Fail> {
+    let log = log_of(alloc, case, run)?;
     let states = states_of(alloc, case)?;
     let mut image = Vec::new(alloc);
     let mut room = vec![in alloc; 0u8; 20_000]?;
@@ -171,7 +174,7 @@ fn first_wrong<E: Order>(alloc: Global, case: &Case<'_>) -> Result<Option<usize>
 /// Whether each image that is left mounts as it is to, in an order.
 fn survives<E: Order>(alloc: Global, case: &Case<'_>, len: usize) -> Result<bool, Fail> {
     let run = run_paged::<E>(alloc, case.base, case.flash, case.ops)?;
-    Ok(run.output.len() == len && first_wrong::<E>(alloc, case)?.is_none())
+    Ok(run.output.len() == len && first_wrong::<E>(alloc, case, run)?.is_none())
 }
 
 const TEN: [u8; 10] = [1, 2, 3, 4, 5, 6, 7, 8, 9, 10];
@@ -377,6 +380,69 @@ fn goes_on<E: Order>(alloc: Global) -> Result<bool, Fail> {
 fn a_base_that_was_cut(rt: HostRuntime) -> Result<(), Fail> {
     assert!(rt; goes_on::<LittleEndian>(rt.alloc())?);
     assert!(rt; goes_on::<BigEndian>(rt.alloc())?);
+    Ok(())
+}
+
+fn goes_on_in_turn<E: Order>(alloc: Global) -> Result<bool, Fail> {
+    let made_file = run_ops::<E>(alloc, &[], GEOMETRY, 1, &[create(0, b"/a")])?;
+    let case = Case {
+        base: made_file.output.get(..100).ok_or("too short")?,
+        before: &[made(0)],
+        flash: small(2),
+        from: 8192,
+        ops: &[
+            create(1, b"/b"),
+            write(2, b"/b", 0, &TEN),
+            Op::Truncate {
+                time: 3,
+                path: Text::lent(b"/b"),
+                size: 4,
+            },
+            write(4, b"/b", 8, b"\xFF"),
+            make_directory(5, b"/c"),
+        ],
+        steps: &[
+            made(1),
+            named(b"b", 3),
+            Change::Put {
+                file: 1,
+                offset: 0,
+                bytes: &TEN,
+                time: 2,
+            },
+            Change::Cut {
+                file: 1,
+                size: 4,
+                time: 3,
+            },
+            Change::Zero {
+                file: 1,
+                size: 8,
+                time: 4,
+            },
+            Change::Put {
+                file: 1,
+                offset: 8,
+                bytes: b"\xFF",
+                time: 4,
+            },
+            Change::Make {
+                mode: 0o040755,
+                time: 5,
+            },
+            named(b"c", 4),
+        ],
+        whole: &[80, 121, 202, 272, 340, 408, 480, 521],
+    };
+    let run = run_in_turn::<E>(alloc, case.base, case.flash, case.ops)?;
+    Ok(run.output.len() == 524 && first_wrong::<E>(alloc, &case, run)?.is_none())
+}
+
+/// Two runs and an operation between them, in one session: where a later call stops, what the earlier ones put stands.
+#[test]
+fn a_session_of_three_calls(rt: HostRuntime) -> Result<(), Fail> {
+    assert!(rt; goes_on_in_turn::<LittleEndian>(rt.alloc())?);
+    assert!(rt; goes_on_in_turn::<BigEndian>(rt.alloc())?);
     Ok(())
 }
 

@@ -83,6 +83,38 @@ pub fn run_paged<E: Order>(
     run_in::<E>(alloc, image, session, ops)
 }
 
+/// Runs operations onto an image in three calls of one session: the first two, the next one alone, and the others.
+pub fn run_in_turn<E: Order>(
+    alloc: Global,
+    image: &[u8],
+    flash: Flash,
+    ops: &[Op<'_>],
+) -> Result<Outcome, Fail> {
+    let mounted = mount::<E>(alloc, image, flash.geometry)?;
+    let sink = FromWriter::new(Vec::new(alloc));
+    let mut session = Session::<E, _>::resume_paged(
+        alloc,
+        &mounted,
+        flash.geometry,
+        flash.blocks,
+        flash.page,
+        sink,
+    )?;
+    let mut report = session.run(alloc, ops.get(..2).ok_or("too few")?);
+    let applied = session.apply(alloc, ops.get(2).ok_or("too few")?)?;
+    report.places.extend_from_slice(&applied.places)?;
+    let rest = session.run(alloc, ops.get(3..).ok_or("too few")?);
+    report.places.extend_from_slice(&rest.places)?;
+    report.accepted = report
+        .accepted
+        .saturating_add(1)
+        .saturating_add(rest.accepted);
+    Ok(Outcome {
+        output: session.finish().into_writer(),
+        report,
+    })
+}
+
 /// Runs the operations of lines onto an image.
 pub fn run_lines<E: Order>(
     alloc: Global,

@@ -1,4 +1,4 @@
-use Rattle.std.proofs.Common.{rules, ◌≡◌, Ok, subst, sym, ap, ◌∙◌}
+use Rattle.std.proofs.Common.{rules, ◌≡◌, [], Ok, subst, sym, ap, ◌∙◌}
 use Rattle.jlog.specs.Resuming.{resumes_at, resumes_by}
 use Rattle.std.proofs.Common.{List, ℕ}
 use Rattle.std.specs.Io.KnownBytes.{Appends}
@@ -33,7 +33,7 @@ returns-clause-emitted g c =
     (g.S.Sink.taken a.sink) (g.S.Sink.taken s.sink) (g.S.Sink.taken c.finish.result) (g.S.Sink.failures a.sink) (g.S.Sink.failures s.sink) (g.S.Sink.failures c.finish.result) r.places.items r.stopped
     c.in-Ok-resume_paged.ensures.page c.in-Ok-resume_paged.ensures.block c.in-Ok-resume_paged.ensures.blocks c.in-Ok-resume_paged.ensures.base
     (same_number (resumes_by a.page e a.geometry.block a.blocks a.mounted.now) c.in-Ok.from s.cursor paged c.in-Ok-resume_paged.ensures.cursor)
-    c.in-Ok-resume_paged.ensures.resumed c.in-Ok-resume_paged.ensures.whole same front runs (c.run-report.ensures.survives c.in-Ok-resume_paged.ensures.whole c.in-Ok-resume_paged.ensures.resumed)
+    c.in-Ok-resume_paged.ensures.resumed c.in-Ok-resume_paged.ensures.whole same front runs (c.run-report.ensures.survives c.in-Ok-resume_paged.ensures.whole [] c.in-Ok-resume_paged.ensures.begins).all
 
 pub returns-clause-long : goal.returns-clause-long
 returns-clause-long g c = λ all.
