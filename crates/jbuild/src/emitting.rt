@@ -32,8 +32,8 @@ fn put_front<S: Sink>(sink: &mut S, base: &[u8], from: usize) -> Result<(), PutF
 /// and of the geometry that the image was mounted with.
 ///
 /// # Errors
-/// Nothing was run. `ReadOnly` and `Geometry` as [`Session::resume_paged`] answers them, before a byte is put, and out of
-/// memory: the sink is dropped. `Sink`: it failed at the image's bytes, and is handed back.
+/// Nothing was run. `ReadOnly` and `Geometry` as [`Session::resume_paged`] answers them, before a byte is put: the sink is
+/// dropped. `Sink`: it failed at the image's bytes, and is handed back. Out of memory: after all of them, and it is handed back.
 pub fn emit<E: Order, S: Sink>(
     alloc: Global,
     mounted: &Mounted<'_>,
@@ -63,11 +63,11 @@ pub fn emit<E: Order, S: Sink>(
     if put_front(&mut sink, mounted.image(), from as usize).is_err() {
         return Err((SessionFault::Sink, Some(sink)));
     }
-    let mut session = match Session::<E, S>::resume_paged(
+    let mut session = match Session::<E, S>::resume_or_return(
         alloc, mounted, geometry, blocks, page, sink,
     ) {
         Ok(session) => session,
-        Err(fault) => return Err((fault, None)),
+        Err((fault, sink)) => return Err((fault, Some(sink))),
     };
     let report = session.run(alloc, ops);
     Ok((session.finish(), report))

@@ -41,8 +41,8 @@ fn fault(alloc: Global) -> Option<(SessionFault, u64)> {
         Counter { taken: 0 },
     ) {
         Ok((sink, report)) => report.stopped.map(|fault| (fault, sink.taken)),
-        Err((fault, None)) => Some((fault, 0)),
-        Err((_, Some(sink))) => Some((SessionFault::Broken, sink.taken)),
+        Err((fault, Some(sink))) => Some((fault, sink.taken)),
+        Err((_, None)) => Some((SessionFault::Broken, 0)),
     }
 }
 

@@ -22,7 +22,8 @@ abbrev pub steps_on : ℕ → Endian → ℕ → List ℕ → List Op → List S
 steps_on page e size base done = steps_of_first page (index_of_image e size base) done (length done)
 
 -- A log goes on from a base by way of operations: they were accepted one after the other, and their steps lead to this
--- address and this index. By way of none it is as resuming gives it.
+-- address and this index. By way of none it is as resuming gives it. The operations' times and owners have the widths of
+-- their types.
 pub record GoesOnBy (page : ℕ) (e : Endian) (size blocks : ℕ) (base : List ℕ) (done : List Op) (from : ℕ) (x : Indexed) : Type 0 where
   pub is_base : IsBase e size blocks base
   pub widths : AllByRecursion OpFits done
@@ -36,8 +37,8 @@ accepted_by (Ok _) = 1
 accepted_by (Err _) = 0
 
 -- A stop while the nodes of more steps were being written, after all bytes of the earlier ones and k more, leaves an image
--- that mounts as the file system after all earlier steps, and after those of the others whose nodes stand whole. Only a
--- node that was being written then may be weak.
+-- that mounts as the file system after all earlier steps, and after those of the others whose nodes stand whole. No node
+-- of the others is weak; an earlier one may be, since no stop cuts it then.
 abbrev pub EarlierStand : Endian → ℕ → ℕ → List ℕ → List Step → List Step → Type 0
 EarlierStand e size blocks base earlier steps =
     let start = resume_address e size blocks base in

@@ -65,12 +65,12 @@ module _ {E : Type 0} {S : Type 0} {order : OfOrder E} {numbers : OfByteOrder E}
       accepted (cursor_of new) (index_of_log new) (is_broken new)
       (sink.taken (sink_of old)) (sink.taken (sink_of new)) (sink.failures (sink_of old)) (sink.failures (sink_of new)) places stopped
 
-  -- since it was resumed these operations were done, and the session goes on after them
+  -- Since it was resumed these operations were done, in whatever calls, and the session goes on after them.
   abbrev pub HasDone : Session E S order numbers sink → List Op → Type 0
   HasDone session done =
       GoesOnBy (page_size (page_of session)) order.order (block_size_of session) (blocks_of session) (base_of session) done (cursor_of session) (index_of_log session)
 
-  -- Whatever was done before, the steps of the operations that were attempted survive after its steps on the session's base.
+  -- Whatever was done before: its steps, and then those of the operations that were attempted, survive on the session's base.
   abbrev pub RunSurvives : Session E S order numbers sink → List Op → Session E S order numbers sink → ℕ → Type 0
   RunSurvives old ops new accepted = (done : List Op) → HasDone old done
       → SurvivesAfter order.order (block_size_of old) (blocks_of old) (base_of old)

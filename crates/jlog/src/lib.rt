@@ -5,7 +5,8 @@
 //! of its base and those of the new ones that stand whole, a beginning of them, and nothing else but markers and damage.
 //!
 //! `specs/Places.antt` says where nodes go, `specs/Output.antt` what goes out, `specs/Left.antt` what may be left of it
-//! and which nodes stand whole. `laws` has what follows from them, and `examples` has worked logs.
+//! and which nodes stand whole, `specs/Done.antt` what a session has done and what survives of that. `laws` has what
+//! follows from them, and `examples` has worked logs.
 #![tactic(auto)]
 
 pub mod examples;

@@ -399,7 +399,7 @@ fn goes_on_in_turn<E: Order>(alloc: Global) -> Result<bool, Fail> {
                 size: 4,
             },
             write(4, b"/b", 8, b"\xFF"),
-            make_directory(5, b"/c"),
+            make_directory(5, b"/d"),
         ],
         steps: &[
             made(1),
@@ -430,7 +430,7 @@ fn goes_on_in_turn<E: Order>(alloc: Global) -> Result<bool, Fail> {
                 mode: 0o040755,
                 time: 5,
             },
-            named(b"c", 4),
+            named(b"d", 4),
         ],
         whole: &[80, 121, 202, 272, 340, 408, 480, 521],
     };

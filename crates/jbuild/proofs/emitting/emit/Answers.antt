@@ -1,4 +1,4 @@
-use Rattle.std.proofs.Common.{rules, ◌≡◌, [], Ok, subst, sym, ap, ◌∙◌}
+use Rattle.std.proofs.Common.{rules, ◌≡◌, [], Ok, subst, sym, ◌∙◌}
 use Rattle.jlog.specs.Resuming.{resumes_at, resumes_by}
 use Rattle.std.proofs.Common.{List, ℕ}
 use Rattle.std.specs.Io.KnownBytes.{Appends}
@@ -16,13 +16,13 @@ pub returns-clause-emitted : goal.returns-clause-emitted
 returns-clause-emitted g c =
     let e = g.E.Order.order in
     let a = c.args in
-    let s = c.in-Ok-resume_paged.session in
+    let s = c.in-Ok-resume_or_return.session in
     let t = c.run-report.new.self in
     let r = c.run-report.result in
     let at : resumes_at e a.geometry.block a.blocks a.mounted.now ≡ Ok c.in-Ok.from = search rules in
     let paged : resumes_by a.page e a.geometry.block a.blocks a.mounted.now ≡ Ok c.in-Ok.from = search rules in
     let put = puts_all _ _ _ _ _ c.put_front.result (sym c.is_err.ensures.value ∙ c.if-is_err.false) c.put_front.ensures in
-    let sink = sym c.in-Ok-resume_paged.ensures.sink in
+    let sink = sym c.in-Ok-resume_or_return.ensures.sink in
     let same : g.S.Sink.failures s.sink ≡ g.S.Sink.failures a.sink = subst (λ k. g.S.Sink.failures k ≡ g.S.Sink.failures a.sink) sink put.1 in
     let front : Appends (g.S.Sink.taken a.sink) (g.S.Sink.taken s.sink) (front_of a.mounted.now.image c.in-Ok.from) =
     subst (λ k. Appends (g.S.Sink.taken a.sink) (g.S.Sink.taken k) (front_of a.mounted.now.image c.in-Ok.from)) sink
@@ -31,9 +31,9 @@ returns-clause-emitted g c =
     (g.S.Sink.failures s.sink) (g.S.Sink.failures k) r.places.items r.stopped) (sym c.finish.ensures) c.run-report.ensures.runs in
     emitted_by a.page s.page e a.geometry.block s.block a.blocks s.blocks a.mounted.now.image s.base.now s.cursor c.in-Ok.from s.index a.ops.now s.broken r.accepted t.cursor t.index t.broken
     (g.S.Sink.taken a.sink) (g.S.Sink.taken s.sink) (g.S.Sink.taken c.finish.result) (g.S.Sink.failures a.sink) (g.S.Sink.failures s.sink) (g.S.Sink.failures c.finish.result) r.places.items r.stopped
-    c.in-Ok-resume_paged.ensures.page c.in-Ok-resume_paged.ensures.block c.in-Ok-resume_paged.ensures.blocks c.in-Ok-resume_paged.ensures.base
-    (same_number (resumes_by a.page e a.geometry.block a.blocks a.mounted.now) c.in-Ok.from s.cursor paged c.in-Ok-resume_paged.ensures.cursor)
-    c.in-Ok-resume_paged.ensures.resumed c.in-Ok-resume_paged.ensures.whole same front runs (c.run-report.ensures.survives c.in-Ok-resume_paged.ensures.whole [] c.in-Ok-resume_paged.ensures.begins).all
+    c.in-Ok-resume_or_return.ensures.page c.in-Ok-resume_or_return.ensures.block c.in-Ok-resume_or_return.ensures.blocks c.in-Ok-resume_or_return.ensures.base
+    (same_number (resumes_by a.page e a.geometry.block a.blocks a.mounted.now) c.in-Ok.from s.cursor paged c.in-Ok-resume_or_return.ensures.cursor)
+    c.in-Ok-resume_or_return.ensures.resumed c.in-Ok-resume_or_return.ensures.whole same front runs (c.run-report.ensures.survives c.in-Ok-resume_or_return.ensures.whole [] c.in-Ok-resume_or_return.ensures.begins).all
 
 pub returns-clause-long : goal.returns-clause-long
 returns-clause-long g c = λ all.
