@@ -1,4 +1,5 @@
 pub mod EntriesLemmas
+pub mod FewLemmas
 pub mod GainLemmas
 pub mod ContentsByNameLemmas
 pub mod LawLemmas

@@ -1,6 +1,7 @@
 pub mod Clash
 pub mod Directories
 pub mod Entries
+pub mod Few
 pub mod ContentsByName
 pub mod NameMaps
 pub mod Live

@@ -1,6 +1,6 @@
 // What is stored of one directory: its names, and the greatest version of its entries.
 
-ghost use Rattle.std.specs.Prelude.{◌≡◌, ◌≤◌, ◌==◌, ◌&&◌, ℕ, List, Some, None, IsSome, OnOk, OnErr, if◌then◌else◌, bytes_eq};
+ghost use Rattle.std.specs.Prelude.{◌≡◌, ◌≤◌, ◌==◌, ◌&&◌, ℕ, List, Some, None, IsSome, IfOk, OnOk, OnErr, if◌then◌else◌, bytes_eq};
 ghost use Rattle.std.specs.Cow.{cow_slice_items};
 ghost use Rattle.jname.specs.Versions.{Agrees, Differs};
 ghost use Rattle.jname.specs.ContentsByName.{content_in, HasSameContents};
@@ -9,7 +9,7 @@ ghost use Rattle.jname.specs.NameMaps.{names_in};
 use crate::NameFault;
 use crate::name_map::NameMap;
 use crate::versions::{Content, Versions};
-use std::alloc::Global;
+use std::alloc::{AllocError, Global};
 use std::borrow::CowSlice;
 
 /// The entries of one directory, which has one at least.
@@ -24,14 +24,20 @@ pub struct Directory<'a> {
 impl<'a> Directory<'a> {
     ghost use Rattle.jname.specs.Directories.{content_under};
 
-    /// One content, under a name at a version. Takes no memory.
-    pub fn of_one(alloc: Global, name: CowSlice<'a, u8>, version: u32, content: Content) -> Self
-        ensures { (n : List ℕ) (v : ℕ) → content_under result n v ≡ (if bytes_eq (cow_slice_items name.entry) n && version == v then Some content else None) }
+    /// One content, under a name at a version.
+    pub fn of_one(
+        alloc: Global,
+        name: CowSlice<'a, u8>,
+        version: u32,
+        content: Content,
+    ) -> Result<Self, AllocError>
+        ensures { IfOk result (λ directory. (n : List ℕ) (v : ℕ) → content_under directory n v ≡ (if bytes_eq (cow_slice_items name.entry) n && version == v then Some content else None)) }
     {
-        Directory {
-            names: NameMap::of_one(alloc, name, Versions::of_one(alloc, version, content)),
+        let names = NameMap::of_one(alloc, name, Versions::of_one(alloc, version, content))?;
+        Ok(Directory {
+            names,
             highest: version,
-        }
+        })
     }
 
     /// Holds a content under a name at a version.

@@ -9,6 +9,7 @@
 
 mod directory;
 mod fault;
+mod few;
 pub mod laws;
 mod name_map;
 mod names;

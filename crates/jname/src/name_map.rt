@@ -1,59 +1,73 @@
 // The names of a directory.
 
-ghost use Rattle.std.specs.Prelude.{◌≡◌, ◌≢◌, ◌==◌, ◌&&◌, ℕ, List, [], ◌∷◌, Some, None, IsSome, OnOk, OnErr, if◌then◌else◌, bytes_eq, option_map};
-ghost use Rattle.std.specs.Ordering.{nat_cmp};
+ghost use Rattle.std.specs.Prelude.{◌≡◌, ◌≢◌, ◌==◌, ◌&&◌, ◌++◌, ℕ, List, [], ◌∷◌, Some, None, IfOk, OnOk, OnErr, if◌then◌else◌, bytes_eq, option_map};
 ghost use Rattle.std.specs.Cow.{cow_slice_items};
+ghost use Rattle.std.specs.List.Sorted.{IsStrictlySortedBy};
+ghost use Rattle.std.specs.Map.{keys_of};
 ghost use Rattle.std.specs.BTreeMap.{IsOrdered};
 ghost use Rattle.std.proofs.Props.{props};
 ghost use Rattle.jname.specs.Versions.{Agrees, Differs};
 ghost use Rattle.jname.specs.ContentsByName.{content_in, name_cmp, versions_of_name, HasSameContents};
 
 use crate::NameFault;
+use crate::few::{Few, place_of, put, spread};
 use crate::versions::{Content, Versions};
-use std::alloc::Global;
+use std::alloc::{AllocError, Global};
 use std::borrow::CowSlice;
 use std::collections::BTreeMap;
 use std::collections::btree_map::Iter;
+use std::slice;
 
 /// Names in byte order. One that lies whole in its image is borrowed.
 pub type ByName<'a> = BTreeMap<CowSlice<'a, u8>, Versions>;
 
-/// The names of a directory, each with its versions. An only name is apart, since many directories have no other: a
-/// map takes memory only from the second one on.
+/// The most names that are held without a map.
+const FEW: usize = 8;
+
+/// The names of a directory, each with its versions. A few are held in a row, since most directories have no more: a map
+/// takes room for fifteen at once. Between the two they may be in both, those of the row before those of the map.
 #[derive(Drop)]
 pub struct NameMap<'a> {
-    pub only: Option<(CowSlice<'a, u8>, Versions)>,
+    pub few: Few<'a>,
     pub map: ByName<'a>,
-    ghost ordered: { IsOrdered name_cmp map } by { Prim.hlevel props },
-    ghost alone: { IsSome only → map.entries ≡ [] },
+    ghost ordered: { IsStrictlySortedBy name_cmp (keys_of (few.items ++ map.entries)) } by { Prim.hlevel props },
 }
 
 impl<'a> NameMap<'a> {
-    ghost use Rattle.std.specs.Prelude.{true};
-    ghost use Rattle.jname.specs.declared.versions.Versions.{Versions};
-    ghost use Rattle.jname.specs.ContentsByName.{Name};
     ghost use Rattle.jname.specs.NameMaps.{names_in, names_left};
 
-    /// One name. Takes no memory.
-    pub fn of_one(alloc: Global, name: CowSlice<'a, u8>, versions: Versions) -> Self
-        ensures { names_in result ≡ (name.entry, versions) ∷ [] }
+    /// No names.
+    pub fn new(alloc: Global) -> Self
+        ensures { names_in result ≡ [] }
     {
         NameMap {
-            only: Some((name, versions)),
+            few: Vec::new(alloc),
             map: BTreeMap::new(alloc),
         }
+    }
+
+    /// One name.
+    pub fn of_one(
+        alloc: Global,
+        name: CowSlice<'a, u8>,
+        versions: Versions,
+    ) -> Result<Self, AllocError>
+        ensures { IfOk result (λ names. names_in names ≡ (name.entry, versions) ∷ []) }
+    {
+        let mut few = Vec::with_capacity(alloc, 1)?;
+        few.push_reserved((name, versions));
+        Ok(NameMap {
+            few,
+            map: BTreeMap::new(alloc),
+        })
     }
 
     /// The names in byte order, with their versions.
     pub fn iter(&self) -> NameIter<'_, 'a>
         ensures { names_left result ≡ names_in self.now }
     {
-        let only = match &self.only {
-            Some((name, versions)) => Some((name, versions)),
-            None => None,
-        };
         NameIter {
-            only,
+            few: self.few.iter(),
             left: self.map.iter(),
         }
     }
@@ -62,10 +76,9 @@ impl<'a> NameMap<'a> {
     pub fn get(&self, name: &[u8]) -> Option<&Versions>
         ensures { option_map (λ versions. versions.now) result ≡ versions_of_name (names_in self.now) name.now }
     {
-        match &self.only {
-            None => self.map.get(name),
-            Some((only, versions)) if only.as_slice() == name => Some(versions),
-            Some(_) => None,
+        match place_of(&self.few, name) {
+            Ok(place) => Some(&self.few[place].1),
+            Err(_) => self.map.get(name),
         }
     }
 
@@ -82,39 +95,19 @@ impl<'a> NameMap<'a> {
         ensures ok { OnOk result ((n : List ℕ) (v : ℕ) → content_in (names_in self.new) n v ≡ (if bytes_eq (cow_slice_items name.entry) n && version == v then Some content else content_in (names_in self.old) n v)) }
         ensures err { OnErr result (HasSameContents (names_in self.old) (names_in self.new)) }
     {
-        if self.is_only(name.as_slice()) {
-            if let Some((_, versions)) = &mut self.only {
-                return versions.add(version, content);
-            }
-        }
-        self.spread()?;
-        add_name(alloc, &mut self.map, name, version, content)
-    }
-
-    /// Whether this is an only name.
-    fn is_only(&self, name: &[u8]) -> bool
-        ensures { result ≡ true → (e : Name × Versions) → self.now.only ≡ Some e → cow_slice_items e.0 ≡ name.now }
-    {
-        match &self.only {
-            Some((only, _)) => only.as_slice() == name,
-            None => false,
-        }
-    }
-
-    /// Moves an only name into the map.
-    fn spread(&mut self) -> Result<(), NameFault>
-        ensures same { names_in self.new ≡ names_in self.old }
-        ensures none { OnOk result (self.new.only ≡ None) }
-        ensures memory { result ≢ Err NameFault.Clash }
-    {
-        let Some((name, versions)) = self.only.take() else {
-            return Ok(());
-        };
-        match self.map.insert(name, versions) {
-            Ok(_) => Ok(()),
-            Err(refused) => {
-                self.only = Some(refused.value);
-                Err(NameFault::OutOfMemory)
+        match place_of(&self.few, name.as_slice()) {
+            Ok(place) => self.few[place].1.add(version, content),
+            Err(place) => {
+                if self.few.len() < FEW && self.map.is_empty() {
+                    return put(
+                        &mut self.few,
+                        place,
+                        name,
+                        Versions::of_one(alloc, version, content),
+                    );
+                }
+                spread(alloc, &mut self.few, &mut self.map)?;
+                add_name(alloc, &mut self.map, name, version, content)
             }
         }
     }
@@ -123,23 +116,8 @@ impl<'a> NameMap<'a> {
 /// The names of a directory with their versions, in byte order.
 #[derive(Drop)]
 pub struct NameIter<'n, 'a> {
-    only: Option<(&'n CowSlice<'a, u8>, &'n Versions)>,
+    few: slice::Iter<'n, (CowSlice<'a, u8>, Versions)>,
     left: Iter<'n, CowSlice<'a, u8>, Versions>,
-}
-
-impl<'n, 'a> NameIter<'n, 'a> {
-    ghost use Rattle.jname.specs.NameMaps.{names_left};
-
-    /// Those of a map that has none.
-    pub fn none(none: &'n ByName<'a>) -> Self
-        requires { none.now.entries ≡ [] }
-        ensures { names_left result ≡ [] }
-    {
-        NameIter {
-            only: None,
-            left: none.iter(),
-        }
-    }
 }
 
 impl<'n, 'a> Iterator for NameIter<'n, 'a> {
@@ -153,8 +131,8 @@ impl<'n, 'a> Iterator for NameIter<'n, 'a> {
     ghost remaining = { item_count names_left };
 
     fn next(&mut self) -> Option<(&'n CowSlice<'a, u8>, &'n Versions)> {
-        match self.only.take() {
-            Some(only) => Some(only),
+        match self.few.next() {
+            Some((name, versions)) => Some((name, versions)),
             None => self.left.next(),
         }
     }

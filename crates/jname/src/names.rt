@@ -10,7 +10,7 @@ ghost use Rattle.jname.specs.Entries.{entries_of};
 
 use crate::NameFault;
 use crate::directory::Directory;
-use crate::name_map::ByName;
+use crate::name_map::NameMap;
 use crate::versions::Content;
 use crate::walk::{All, Of};
 use flashbase::Part;
@@ -30,7 +30,7 @@ type DirectoriesByNumber<'a> = BTreeMap<u32, Directory<'a>>;
 pub struct Names<'a> {
     directories: DirectoriesByNumber<'a>,
     // Always empty: the names of a directory that has no entries.
-    none: ByName<'a>,
+    none: NameMap<'a>,
     alloc: Global,
 }
 
@@ -39,13 +39,14 @@ impl<'a> Model for Names<'a> {
     ghost use Rattle.std.specs.Ordering.{nat_cmp};
     ghost use Rattle.std.specs.BTreeMap.{IsOrdered};
     ghost use Rattle.jnode.specs.declared.node.Dirent.{Dirent};
+    ghost use Rattle.jname.specs.NameMaps.{names_in};
     ghost use Rattle.jname.specs.Entries.{entries_of};
 
     ghost Value = { List Dirent };
 
     ghost view = { λ names. entries_of names.directories };
 
-    ghost invariant = { λ names. IsOrdered nat_cmp names.directories × (names.none.entries ≡ []) };
+    ghost invariant = { λ names. IsOrdered nat_cmp names.directories × (names_in names.none ≡ []) };
 }
 
 impl<'a> Names<'a> {
@@ -59,7 +60,7 @@ impl<'a> Names<'a> {
     {
         Names {
             directories: BTreeMap::new(alloc),
-            none: BTreeMap::new(alloc),
+            none: NameMap::new(alloc),
             alloc,
         }
     }
@@ -103,7 +104,7 @@ impl<'a> Names<'a> {
     {
         match self.directories.get(&dir) {
             Some(directory) => Of::new(&directory.names),
-            None => Of::none(&self.none),
+            None => Of::new(&self.none),
         }
     }
 
@@ -154,7 +155,8 @@ fn add_entry<'a>(
     if let Some(directory) = directories.get_mut(&pino) {
         return directory.add(alloc, name, version, content);
     }
-    directories.insert(pino, Directory::of_one(alloc, name, version, content))?;
+    let directory = Directory::of_one(alloc, name, version, content)?;
+    directories.insert(pino, directory)?;
     Ok(())
 }
 

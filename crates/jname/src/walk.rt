@@ -3,7 +3,7 @@
 ghost use Rattle.std.specs.Prelude.{◌≡◌, ℕ, List};
 
 use crate::directory::Directory;
-use crate::name_map::{ByName, NameIter, NameMap};
+use crate::name_map::{NameIter, NameMap};
 use std::collections::BTreeMap;
 use std::collections::btree_map::Iter;
 use std::marker::Model;
@@ -25,7 +25,7 @@ impl<'n, 'a> Model for Of<'n, 'a> {
 }
 
 impl<'n, 'a> Of<'n, 'a> {
-    ghost use Rattle.std.specs.Prelude.{◌≡◌, []};
+    ghost use Rattle.std.specs.Prelude.{◌≡◌};
     ghost use Rattle.jname.specs.NameMaps.{names_in};
     ghost use Rattle.jname.specs.Walk.{names_under};
 
@@ -33,16 +33,6 @@ impl<'n, 'a> Of<'n, 'a> {
         ensures { result ≡ names_under (names_in names.now) }
     {
         Of { left: names.iter() }
-    }
-
-    /// No names; `none` is a map without any.
-    pub(crate) fn none(none: &'n ByName<'a>) -> Self
-        requires { none.now.entries ≡ [] }
-        ensures { result ≡ [] }
-    {
-        Of {
-            left: NameIter::none(none),
-        }
     }
 }
 
@@ -86,16 +76,17 @@ impl<'n, 'a> Model for All<'n, 'a> {
 impl<'n, 'a> All<'n, 'a> {
     ghost use Rattle.std.specs.Prelude.{◌≡◌, []};
     ghost use Rattle.jname.specs.Walk.{names_under, names_within};
+    ghost use Rattle.jname.specs.NameMaps.{names_in};
 
     /// The names of these directories; `none` is a directory without names.
-    pub(crate) fn new(directories: &'n BTreeMap<u32, Directory<'a>>, none: &'n ByName<'a>) -> Self
-        requires { none.now.entries ≡ [] }
+    pub(crate) fn new(directories: &'n BTreeMap<u32, Directory<'a>>, none: &'n NameMap<'a>) -> Self
+        requires { names_in none.now ≡ [] }
         ensures { result ≡ names_within directories.now.entries }
     {
         All {
             directories: directories.iter(),
             pino: 0,
-            names: Of::none(none),
+            names: Of::new(none),
         }
     }
 }

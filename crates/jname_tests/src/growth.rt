@@ -43,3 +43,36 @@ fn refused_growth_changes_nothing(rt: HostRuntime) {
     }
     assert!(rt; are_all(&names, &[a_4, b_3, c_5, d_6]));
 }
+
+/// More names than stand in a row.
+#[test]
+fn refused_growth_of_many_names_changes_nothing(rt: HostRuntime) {
+    let mut names = Names::new(rt.alloc());
+    let all: [(u32, &[u8], u32); 10] = [
+        (1, b"a", 2),
+        (1, b"b", 3),
+        (1, b"c", 4),
+        (1, b"d", 5),
+        (1, b"e", 6),
+        (1, b"f", 7),
+        (1, b"g", 8),
+        (1, b"h", 9),
+        (1, b"i", 10),
+        (1, b"j", 11),
+    ];
+    for (added, before) in [
+        (entry(1, 1, 2, b"a"), 0),
+        (entry(1, 2, 3, b"b"), 1),
+        (entry(1, 3, 4, b"c"), 2),
+        (entry(1, 4, 5, b"d"), 3),
+        (entry(1, 5, 6, b"e"), 4),
+        (entry(1, 6, 7, b"f"), 5),
+        (entry(1, 7, 8, b"g"), 6),
+        (entry(1, 8, 9, b"h"), 7),
+        (entry(1, 9, 10, b"i"), 8),
+        (entry(1, 10, 11, b"j"), 9),
+    ] {
+        assert!(rt; add_again(&mut names, &added, &all[..before]));
+    }
+    assert!(rt; are_all(&names, &all));
+}

@@ -33,15 +33,15 @@ pub returns-in_err-insert-clause-err : goal.returns-in_err-insert-clause-err
 returns-in_err-insert-clause-err c =
     let unchanged : c.get_mut.follows.lender-at-none ≡ c.args.directories.now = search rules in
     let same : c.insert.new.self.entries ≡ c.get_mut.follows.lender-at-none.entries = c.in_err-insert.ensures.err in
-    err_always c.from_residual.result
+    err_always c.from_residual-in_err-insert.result
     (entries_of-unchanged c.args.directories.now c.insert.new.self (same ∙ ap (λ (m : DirectoriesByNumber). m.entries) unchanged))
 
 pub returns-clause-ok : goal.returns-clause-ok
 returns-clause-ok c =
     let unchanged : c.get_mut.follows.lender-at-none ≡ c.args.directories.now = search rules in
     let absent : get nat_cmp c.args.directories.now c.args.pino ≡ None = search rules in
-    let updates : Updates nat_cmp c.args.directories.now c.insert.new.self c.args.pino (Some c.of_one.result) =
-    subst (λ (m : DirectoriesByNumber). Updates nat_cmp m c.insert.new.self c.args.pino (Some c.of_one.result)) unchanged c.in_ok-insert.ensures.updates in
-    content_at-replaced c.args.directories.now c.insert.new.self c.args.pino c.of_one.result (cow_slice_items c.args.name) c.args.version c.args.content updates
-    (λ n v. c.of_one.ensures n v
+    let updates : Updates nat_cmp c.args.directories.now c.insert.new.self c.args.pino (Some c.in_ok-directory.directory) =
+    subst (λ (m : DirectoriesByNumber). Updates nat_cmp m c.insert.new.self c.args.pino (Some c.in_ok-directory.directory)) unchanged c.in_ok-insert.ensures.updates in
+    content_at-replaced c.args.directories.now c.insert.new.self c.args.pino c.in_ok-directory.directory (cow_slice_items c.args.name) c.args.version c.args.content updates
+    (λ n v. c.in_ok-directory.ensures n v
     ∙ ap (λ (o : Option Directory). if bytes_eq (cow_slice_items c.args.name) n && c.args.version == v then Some c.args.content else option_and_then (λ (d : Directory). content_under d n v) o) (sym absent))

@@ -1,15 +1,25 @@
-use Rattle.std.proofs.Common.{rules, ◌≡◌, true, false}
-use Rattle.std.specs.Prelude.{bytes_eq}
-use Rattle.std.specs.Cow.{cow_slice_items}
-use Rattle.jname.proofs.NameMapLemmas.{only_found, other_not_found}
+use Rattle.std.proofs.Common.{rules, ◌≡◌, ◌∙◌, ap, sym, Ok, Err, Some}
+use Rattle.jname.specs.declared.versions.Versions.{Versions}
+use Rattle.jname.specs.ContentsByName.{Name}
+use Rattle.jname.specs.Few.{place_in}
+use Rattle.jname.proofs.FewLemmas.{place_within, found_at, absent, behind}
 use Rattle.jname.proofs.name_map.NameMap.get.Goals as goal
 
-pub returns-in-Some : goal.returns-in-Some
-returns-in-Some c =
-    let same : bytes_eq (cow_slice_items c.in-Some.only) c.args.name.now ≡ true = search rules in
-    only_found c.args.self.now (c.in-Some.only, c.in-Some.versions) c.args.name.now c.in-Some.is same
+pub index-requires : goal.index-requires
+index-requires c =
+    let at : place_in c.args.self.now.few.items c.args.name.now ≡ Ok c.in-Ok.place = search rules in
+    let within = place_within c.args.self.now.few.items c.args.name.now c.in-Ok.place at in
+    search rules
 
-pub returns-in-Some-2 : goal.returns-in-Some-2
-returns-in-Some-2 c =
-    let other : bytes_eq (cow_slice_items c.in-Some.only) c.args.name.now ≡ false = search rules in
-    other_not_found c.args.self.now (c.in-Some.only, c.in-Some.versions) c.args.name.now c.in-Some.is other
+pub returns-in-Ok : goal.returns-in-Ok
+returns-in-Ok c =
+    let at : place_in c.args.self.now.few.items c.args.name.now ≡ Ok c.in-Ok.place = search rules in
+    ap (λ (e : Name × Versions). Some e.1) c.index.ensures
+    ∙ sym (found_at c.args.self.now.few.items c.args.self.now.map.entries c.args.name.now c.in-Ok.place c.index.result.now at)
+
+pub returns-in-Err : goal.returns-in-Err
+returns-in-Err c =
+    let gap : place_in c.args.self.now.few.items c.args.name.now ≡ Err c.in-Err.field-0 = search rules in
+    c.get.ensures.value
+    ∙ sym (behind c.args.self.now.few.items c.args.self.now.map.entries c.args.name.now
+    (absent c.args.self.now.few.items c.args.self.now.map.entries c.args.name.now c.in-Err.field-0 c.args.self.now.ordered gap))

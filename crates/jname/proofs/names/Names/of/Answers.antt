@@ -2,7 +2,10 @@ use Rattle.std.proofs.Common.{rules, ◌≡◌, ◌∙◌, ap, List, Some, None}
 use Rattle.std.specs.Ordering.{nat_cmp}
 use Rattle.std.specs.BTreeMap.{get}
 use Rattle.jnode.specs.declared.node.Dirent.{Dirent}
+use Rattle.jname.specs.declared.versions.Versions.{Versions}
+use Rattle.jname.specs.ContentsByName.{Name}
 use Rattle.jname.specs.Live.{names_of}
+use Rattle.jname.specs.Walk.{names_under}
 use Rattle.jname.proofs.OrderLemmas.{names_under-is, names_of-none}
 use Rattle.jname.proofs.names.Names.of.Goals as goal
 
@@ -15,6 +18,6 @@ returns-in-Some c =
 pub returns-in-None : goal.returns-in-None
 returns-in-None c =
     let none : get nat_cmp c.self.inside.directories c.args.dir ≡ None = search rules in
-    c.none.ensures
+    c.new-in-None.ensures ∙ ap (λ (es : List (Name × Versions)). names_under es) c.self.invariant.1
     ∙ names_of-none c.self.inside.directories c.self.invariant.0 c.args.dir none
     ∙ ap (λ (given : List Dirent). names_of given c.args.dir) c.self.view_is
