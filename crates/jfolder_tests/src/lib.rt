@@ -1,0 +1,2 @@
+//! Tests of `jfolder`.
+#![tactic(auto)]
