@@ -1,1 +1,5 @@
 pub mod WordLemmas
+pub mod SeenLemmas
+pub mod LineLemmas
+pub mod ReadLemmas
+pub mod ListingLemmas
