@@ -3,3 +3,4 @@ pub mod SeenLemmas
 pub mod LineLemmas
 pub mod ReadLemmas
 pub mod ListingLemmas
+pub mod PutLemmas

@@ -1,11 +1,12 @@
 -- The text of pieces of a line.
-use Rattle.std.specs.Prelude.{ℕ, List, [], ◌∷◌, ◌++◌, map, codes, decimal}
+use Rattle.std.specs.Prelude.{ℕ, List, [], ◌∷◌, ◌++◌, map, codes, decimal, if◌then◌else◌}
 use Rattle.std.specs.List.{flat_map}
 use Rattle.flashbase.specs.Lists.{below}
 use Rattle.jline.specs.Words.{octal}
-use Rattle.jfolder.specs.Text.{content_words, hex_of, line_of, lines_text, piece_count, word_of, write_words}
-use Rattle.jfolder.specs.declared.tree.Attributes.{Attributes}
+use Rattle.jfolder.specs.Text.{content_words, hex_of, is_link, line_of, lines_text, owner_words, piece_count, word_of, write_words}
+use Rattle.jfolder.specs.declared.settings.Settings.{Settings}
 use Rattle.jfolder.specs.declared.tree.Content.{Content}
+use Rattle.jfolder.specs.declared.tree.Item.{Item}
 use Rattle.jfolder.specs.declared.words.Piece.{Piece}
 use Rattle.jfolder.specs.declared.words.Piece.TheVariants.{Plain, Decimal, Octal, Escaped, Hex}
 
@@ -33,8 +34,9 @@ part_line path file = line_of (codes "part" ∷ word_of path ∷ codes "0" ∷ f
 abbrev pub write_line : List ℕ → ℕ → List ℕ → List ℕ
 write_line path offset bytes = line_of (codes "write" ∷ word_of path ∷ decimal offset ∷ hex_of bytes ∷ [])
 
-abbrev pub attr_line : Attributes → List ℕ
-attr_line a = line_of (codes "attr" ∷ octal a.mode ∷ decimal a.uid ∷ decimal a.gid ∷ decimal a.time ∷ decimal a.time ∷ codes "/" ∷ [])
+-- the owner of an item, which a link has already
+abbrev pub own_owner_text : Settings → Item → List ℕ
+own_owner_text s i = lines_text (if is_link i.what then [] else owner_words s i.attributes)
 
 abbrev pub bytes_text : List ℕ → List ℕ → List ℕ
 bytes_text path bytes = lines_text (map (write_words path bytes) (below (piece_count bytes)))

@@ -86,9 +86,11 @@ items_words s [] = []
 items_words s (i ∷ is) = item_words s i ++ items_words (settings_with s i) is
 
 -- the root's attributes, under its time
+abbrev pub attr_words : Attributes → List (List (List ℕ))
+attr_words a = (codes "attr" ∷ octal a.mode ∷ decimal a.uid ∷ decimal a.gid ∷ decimal a.time ∷ decimal a.time ∷ codes "/" ∷ []) ∷ []
+
 abbrev pub root_words : Attributes → List (List (List ℕ))
-root_words a = time_words 0 a.time
-    ++ (codes "attr" ∷ octal a.mode ∷ decimal a.uid ∷ decimal a.gid ∷ decimal a.time ∷ decimal a.time ∷ codes "/" ∷ []) ∷ []
+root_words a = time_words 0 a.time ++ attr_words a
 
 abbrev pub settings_of_root : Attributes → Settings
 settings_of_root a = record { time = a.time; uid = 0; gid = 0 }

@@ -1,10 +1,10 @@
 //! The listing of a tree.
 
-ghost use Rattle.std.specs.Prelude.{◌≡◌, ◌*◌, ◌<◌};
+ghost use Rattle.std.specs.Prelude.{◌≡◌, ◌*◌, ◌<◌, length};
 ghost use Rattle.std.specs.String.{string_bytes};
 ghost use Rattle.flashbase.specs.Device.{Puts};
-ghost use Rattle.jfolder.specs.Pieces.{attr_line, bytes_text, moded_line, part_line, paths_line, regular_text, write_line};
-ghost use Rattle.jfolder.specs.Text.{content_words, item_words, lines_text, listing_text, object_words, owner_words, root_words, setting_words, settings_with, time_words};
+ghost use Rattle.jfolder.specs.Pieces.{bytes_text, moded_line, own_owner_text, part_line, paths_line, regular_text, write_line};
+ghost use Rattle.jfolder.specs.Text.{attr_words, content_words, is_link, item_words, line_of, lines_text, listing_text, object_words, owner_words, root_words, setting_words, settings_with, time_words, write_words};
 
 use crate::settings::Settings;
 use crate::tree::{Attributes, Content, Item, What};
@@ -54,15 +54,29 @@ fn put_owner<T: Sink>(
     )
 }
 
+/// Whether an item is a further name.
+fn is_link(what: &What) -> bool
+    ensures { result ≡ is_link what.now }
+{
+    matches!(what, What::Link { .. })
+}
+
+/// The owner of an item, which a link has already.
+fn put_own_owner<T: Sink>(sink: &mut T, before: Settings, item: &Item) -> Result<(), DeviceFault>
+    ensures { Puts (T.taken sink.old) (T.taken sink.new) (T.failures sink.old) (T.failures sink.new) (own_owner_text before item.now) result }
+{
+    if is_link(&item.what) {
+        return Ok(());
+    }
+    put_owner(sink, before, &item.attributes)
+}
+
 /// What is set before an item.
 fn put_settings<T: Sink>(sink: &mut T, before: Settings, item: &Item) -> Result<(), DeviceFault>
     ensures { Puts (T.taken sink.old) (T.taken sink.new) (T.failures sink.old) (T.failures sink.new) (lines_text (setting_words before item.now)) result }
 {
     put_time(sink, before.time, item.attributes.time)?;
-    match &item.what {
-        What::Link { .. } => Ok(()),
-        _ => put_owner(sink, before, &item.attributes),
-    }
+    put_own_owner(sink, before, item)
 }
 
 /// A line with a mode and a path.
@@ -148,19 +162,23 @@ fn put_write<'a, T: Sink>(
     )
 }
 
+/// The k-th piece of a file.
+fn put_piece_at<T: Sink>(sink: &mut T, path: &[u8], bytes: &[u8], k: usize) -> Result<(), DeviceFault>
+    requires { PAGE * k < length bytes.now }
+    ensures { Puts (T.taken sink.old) (T.taken sink.new) (T.failures sink.old) (T.failures sink.new) (line_of (write_words path.now bytes.now k)) result }
+{
+    let start = PAGE * k;
+    let end = bytes.len().min(start + PAGE);
+    put_write(sink, path, start as u64, &bytes[start..end])
+}
+
 /// The bytes of a file, by pieces.
 fn put_bytes<T: Sink>(sink: &mut T, path: &[u8], bytes: &[u8]) -> Result<(), DeviceFault>
     ensures { Puts (T.taken sink.old) (T.taken sink.new) (T.failures sink.old) (T.failures sink.new) (bytes_text path.now bytes.now) result }
 {
-    let mut start = 0;
-    while start < bytes.len() {
-        let end = if bytes.len() - start > PAGE {
-            start + PAGE
-        } else {
-            bytes.len()
-        };
-        put_write(sink, path, start as u64, &bytes[start..end])?;
-        start = end;
+    let count = (bytes.len() + (PAGE - 1)) / PAGE;
+    for k in 0..count {
+        put_piece_at(sink, path, bytes, k)?;
     }
     Ok(())
 }
@@ -216,19 +234,19 @@ fn settings_after(before: Settings, item: &Item) -> Settings
     ensures { result ≡ settings_with before item.now }
 {
     let time = item.attributes.time;
-    match &item.what {
-        What::Link { .. } => Settings { time, ..before },
-        _ => Settings {
-            time,
-            uid: item.attributes.uid,
-            gid: item.attributes.gid,
-        },
+    if is_link(&item.what) {
+        return Settings { time, ..before };
+    }
+    Settings {
+        time,
+        uid: item.attributes.uid,
+        gid: item.attributes.gid,
     }
 }
 
 /// The line of the root.
 fn put_attr<T: Sink>(sink: &mut T, root: &Attributes) -> Result<(), DeviceFault>
-    ensures { Puts (T.taken sink.old) (T.taken sink.new) (T.failures sink.old) (T.failures sink.new) (attr_line root.now) result }
+    ensures { Puts (T.taken sink.old) (T.taken sink.new) (T.failures sink.old) (T.failures sink.new) (lines_text (attr_words root.now)) result }
 {
     put_pieces(
         sink,

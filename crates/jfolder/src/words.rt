@@ -1,13 +1,12 @@
 //! Pieces of a line, and putting them.
 
-ghost use Rattle.std.specs.Prelude.{◌≡◌, ◌*◌, ◌≤◌, length};
-ghost use Rattle.std.specs.List.{flat_map};
+ghost use Rattle.std.specs.Prelude.{◌≡◌, ◌+◌, ◌++◌, ◌≤◌, length};
 ghost use Rattle.flashbase.specs.Device.{Puts};
 ghost use Rattle.jfolder.specs.Pieces.{piece_text, pieces_text};
-ghost use Rattle.jfolder.specs.Text.{hex_of, word_of};
+ghost use Rattle.jfolder.specs.Text.{hex_of, word_byte, word_of};
 
 use flashbase::{DeviceFault, Part, Sink};
-use jline::{LineBuffer, put_text};
+use jline::{LineBuffer, MAX_LINE, put_text};
 
 /// So many bytes go out at a time.
 const STEP: usize = 256;
@@ -25,6 +24,19 @@ pub enum Piece<'a> {
     Hex(&'a [u8]),
 }
 
+/// A byte of a path or a target.
+fn push_word_byte(line: &mut LineBuffer, byte: u8)
+    requires { length line.old + 4 ≤ MAX_LINE }
+    ensures text { line.new ≡ line.old ++ word_byte byte }
+    ensures grows { length line.new ≤ length line.old + 4 }
+{
+    if byte == b'/' {
+        line.push(b'/');
+    } else {
+        line.push_escaped(&Part::new(&[byte], 0));
+    }
+}
+
 /// Few bytes, escaped but for slashes.
 fn write_escaped(line: &mut LineBuffer, bytes: &[u8])
     requires { length bytes.now ≤ STEP }
@@ -32,11 +44,7 @@ fn write_escaped(line: &mut LineBuffer, bytes: &[u8])
 {
     line.clear();
     for byte in bytes {
-        if *byte == b'/' {
-            line.push(b'/');
-        } else {
-            line.push_escaped(&Part::new(&[*byte], 0));
-        }
+        push_word_byte(line, *byte);
     }
 }
 
