@@ -4,3 +4,4 @@ pub mod LineLemmas
 pub mod ReadLemmas
 pub mod ListingLemmas
 pub mod PutLemmas
+pub mod OrderLemmas

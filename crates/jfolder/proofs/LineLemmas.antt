@@ -1,5 +1,5 @@
 -- A line by its words, and how it is read.
-use Rattle.std.proofs.Common.{◌≡◌, ℕ, ◌+◌, ◌==◌, Bool, true, false, cond, List, [], ◌∷◌, ◌++◌, map, sym, ap, ◌∙◌, refl, arith, append_assoc, Option, Some, None, Result, Ok, Err}
+use Rattle.std.proofs.Common.{◌≡◌, ℕ, ◌+◌, ◌==◌, Bool, false, cond, List, [], ◌∷◌, ◌++◌, map, sym, ap, ◌∙◌, refl, arith, append_assoc, Option, Some, Ok}
 use Rattle.std.specs.List.{All, slice_split}
 use Rattle.std.proofs.lemmas.List.Elements.{All-cons, All-append, All-head, All-tail}
 use Rattle.std.proofs.lemmas.List.Splits.{slice_split_at, slice_split_none}

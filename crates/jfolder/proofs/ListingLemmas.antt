@@ -1,23 +1,22 @@
 -- The text of a tree, read as the actions that make it.
-use Rattle.std.proofs.Common.{◌≡◌, ◌≢◌, ℕ, zero, suc, ◌+◌, ◌*◌, ◌/◌, ◌^◌, ◌<◌, ◌≤◌, ◌==◌, ◌&&◌, Bool, true, false, cond, List, [], ◌∷◌, ◌++◌, map, take, drop, length, sym, ap, ◌∙◌, subst, refl, arith, append_assoc, append-nil, codes, length-take, length-drop, Option, Some, Result, Ok}
-use Rattle.std.specs.List.{All, flat_map, slice_get}
+use Rattle.std.proofs.Common.{◌≡◌, ℕ, zero, suc, ◌*◌, ◌^◌, ◌<◌, ◌≤◌, ◌==◌, ◌&&◌, Bool, true, false, cond, List, [], ◌∷◌, ◌++◌, map, drop, length, sym, ap, ◌∙◌, subst, refl, arith, codes, length-take, length-drop, Option, Some}
+use Rattle.std.specs.List.{All, flat_map}
 use Rattle.std.specs.Str.{IsUtf8}
 use Rattle.std.specs.String.{string_bytes}
 use Rattle.std.specs.Fmt.{decimal}
-use Rattle.std.proofs.lemmas.Grind.{flat_map-append, common_steps}
+use Rattle.std.proofs.lemmas.Grind.{flat_map-append}
 use Rattle.std.proofs.lemmas.List.Elements.{All-nil, All-drop, All-head, All-push, All-tail, All-take, All-weaker}
 use Rattle.std.proofs.lemmas.Bool.Decides.{nat_tests}
 use Rattle.std.proofs.lemmas.Str.{IsUtf8-string_bytes, is_utf8-from_IsUtf8}
 use Rattle.flashbase.specs.Lists.{below}
 use Rattle.jline.specs.Words.{octal}
 use Rattle.jsteps.specs.declared.op.Op.TheVariants as op
-use Rattle.jlisting.specs.Listing.{lines_in, lines_of, six_operands, statement_of_words, attr_line, ◌>>=◌, operation, owner, number}
-use Rattle.jlisting.specs.Words.{file_name_of, text_of}
+use Rattle.jlisting.specs.Listing.{lines_in, lines_of, six_operands, statement_of_words, ◌>>=◌, operation, owner, number}
 use Rattle.jlisting.specs.declared.line.Action.{Action}
 use Rattle.jlisting.specs.declared.line.Action.TheVariants as action
 use Rattle.jlisting.specs.declared.statement.Statement.TheVariants as kind
-use Rattle.jfolder.specs.Text.{content_words, hex_of, is_link, item_words, items_words, line_of, lines_text, listing_text, object_words, owner_words, piece, piece_count, root_words, setting_words, settings_of_root, settings_with, time_words, word_of, write_words}
-use Rattle.jfolder.specs.Actions.{AttributesFit, ContentFits, Fits, IsRooted, ItemFits, WhatFits, actions_of, content_actions, item_actions, object_actions, write_of}
+use Rattle.jfolder.specs.Text.{content_words, hex_of, is_link, item_words, items_words, line_of, lines_text, listing_text, object_words, owner_words, piece, piece_count, root_words, settings_of_root, settings_with, time_words, word_of, write_words}
+use Rattle.jfolder.specs.Actions.{AttributesFit, ContentFits, IsRooted, ItemFits, WhatFits, actions_of, content_actions, item_actions, object_actions, write_of}
 use Rattle.jfolder.specs.Laws.{ListingIsReadBack}
 use Rattle.jfolder.specs.declared.settings.Settings.{Settings}
 use Rattle.jfolder.specs.declared.tree.Attributes.{Attributes}
@@ -149,6 +148,7 @@ owner_set s a rest actions fit next = by (a.uid == s.uid) (a.gid == s.gid) refl 
         (with (codes "owner") (decimal a.uid ∷ decimal a.gid ∷ []) (verb_plain (codes "owner") refl)
         (with (decimal a.uid) (decimal a.gid ∷ []) (decimal_plain a.uid (omega (arith, fit.uid))) (with (decimal a.gid) [] (decimal_plain a.gid (omega (arith, fit.gid))) none_plain)))
         (owner_means (record { time = a.time; uid = s.uid; gid = s.gid }) a.uid a.gid fit.uid fit.gid) next
+
     by : (u g : Bool) → (a.uid == s.uid) ≡ u → (a.gid == s.gid) ≡ g
         → Reads (record { time = a.time; uid = s.uid; gid = s.gid }) (lines_text (cond (u && g) [] ((codes "owner" ∷ decimal a.uid ∷ decimal a.gid ∷ []) ∷ [])) ++ rest) actions
     by true true is also =
@@ -182,10 +182,11 @@ reads_item s i rest actions fits next = by i.what fits.what next
   where
     path : IsText (string_bytes i.path)
     path = utf8_text (string_bytes i.path) (IsUtf8-string_bytes i.path) (rooted_some (string_bytes i.path) fits.path)
+
     by : (w : What) → WhatFits w
         → Reads (record { time = i.attributes.time; uid = cond (is_link w) s.uid i.attributes.uid; gid = cond (is_link w) s.gid i.attributes.gid }) rest actions
         → Reads (given s) (lines_text ((time_words s.time i.attributes.time ++ cond (is_link w) [] (owner_words s i.attributes)) ++ object_words (string_bytes i.path) i.attributes w) ++ rest)
-          (object_actions (string_bytes i.path) i.attributes w ++ actions)
+        (object_actions (string_bytes i.path) i.attributes w ++ actions)
     by what.Directory fit next =
         reads_owned s i.attributes (object_words (string_bytes i.path) i.attributes what.Directory) rest _ fits.attributes
         (reads_directory (string_bytes i.path) i.attributes rest actions fits.attributes path next)
@@ -215,17 +216,17 @@ reads_items s (i ∷ items) all =
 
 attr_means : (s : Set) (a : Attributes) → AttributesFit a
     → statement_of_words s (codes "attr" ∷ octal a.mode ∷ decimal a.uid ∷ decimal a.gid ∷ decimal a.time ∷ decimal a.time ∷ codes "/" ∷ [])
-      ≡ Some (kind.Action (action.Op (op.SetAttributes s.time (47 ∷ []) (record { mode = a.mode; uid = a.uid; gid = a.gid; atime = a.time; mtime = a.time }))))
+    ≡ Some (kind.Action (action.Op (op.SetAttributes s.time (47 ∷ []) (record { mode = a.mode; uid = a.uid; gid = a.gid; atime = a.time; mtime = a.time }))))
 unfolding six_operands
 attr_means s a fit =
     ap (λ (o : Option ℕ). o >>= λ mode. owner (decimal a.uid) >>= λ uid. owner (decimal a.gid) >>= λ gid. number (decimal a.time) >>= λ atime. number (decimal a.time) >>= λ mtime.
-        operation (op.SetAttributes s.time (47 ∷ []) (record { mode = mode; uid = uid; gid = gid; atime = atime; mtime = mtime }))) (mode_read_back a.mode fit.mode)
+    operation (op.SetAttributes s.time (47 ∷ []) (record { mode = mode; uid = uid; gid = gid; atime = atime; mtime = mtime }))) (mode_read_back a.mode fit.mode)
     ∙ ap (λ (o : Option ℕ). o >>= λ uid. owner (decimal a.gid) >>= λ gid. number (decimal a.time) >>= λ atime. number (decimal a.time) >>= λ mtime.
-        operation (op.SetAttributes s.time (47 ∷ []) (record { mode = a.mode; uid = uid; gid = gid; atime = atime; mtime = mtime }))) (owner_read_back a.uid fit.uid)
+    operation (op.SetAttributes s.time (47 ∷ []) (record { mode = a.mode; uid = uid; gid = gid; atime = atime; mtime = mtime }))) (owner_read_back a.uid fit.uid)
     ∙ ap (λ (o : Option ℕ). o >>= λ gid. number (decimal a.time) >>= λ atime. number (decimal a.time) >>= λ mtime.
-        operation (op.SetAttributes s.time (47 ∷ []) (record { mode = a.mode; uid = a.uid; gid = gid; atime = atime; mtime = mtime }))) (owner_read_back a.gid fit.gid)
+    operation (op.SetAttributes s.time (47 ∷ []) (record { mode = a.mode; uid = a.uid; gid = gid; atime = atime; mtime = mtime }))) (owner_read_back a.gid fit.gid)
     ∙ ap (λ (o : Option ℕ). o >>= λ time. o >>= λ mtime.
-        operation (op.SetAttributes s.time (47 ∷ []) (record { mode = a.mode; uid = a.uid; gid = a.gid; atime = time; mtime = mtime }))) (number_read_back a.time fit.time)
+    operation (op.SetAttributes s.time (47 ∷ []) (record { mode = a.mode; uid = a.uid; gid = a.gid; atime = time; mtime = mtime }))) (number_read_back a.time fit.time)
 
 attr_plain : (a : Attributes) → AttributesFit a
     → All IsPlain (codes "attr" ∷ octal a.mode ∷ decimal a.uid ∷ decimal a.gid ∷ decimal a.time ∷ decimal a.time ∷ codes "/" ∷ [])
@@ -241,7 +242,7 @@ attr_plain a fit =
 
 reads_root : (a : Attributes) (rest : List ℕ) (actions : List Action) → AttributesFit a → Reads (record { time = a.time; uid = 0; gid = 0 }) rest actions
     → Reads (record { time = 0; uid = 0; gid = 0 }) (lines_text (root_words a) ++ rest)
-      (action.Op (op.SetAttributes a.time (47 ∷ []) (record { mode = a.mode; uid = a.uid; gid = a.gid; atime = a.time; mtime = a.time })) ∷ actions)
+    (action.Op (op.SetAttributes a.time (47 ∷ []) (record { mode = a.mode; uid = a.uid; gid = a.gid; atime = a.time; mtime = a.time })) ∷ actions)
 reads_root a rest actions fit next =
     let line = codes "attr" ∷ octal a.mode ∷ decimal a.uid ∷ decimal a.gid ∷ decimal a.time ∷ decimal a.time ∷ codes "/" ∷ [] in
     let attributes : Action = action.Op (op.SetAttributes a.time (47 ∷ []) (record { mode = a.mode; uid = a.uid; gid = a.gid; atime = a.time; mtime = a.time })) in
@@ -255,5 +256,5 @@ pub listing_is_read_back : ListingIsReadBack
 unfolding listing_text lines_of actions_of
 listing_is_read_back root items fits =
     let all = reads_root root (lines_text (items_words (settings_of_root root) items)) (flat_map item_actions items) fits.root_fits
-        (reads_items (settings_of_root root) items fits.items_fit) 1 in
+    (reads_items (settings_of_root root) items fits.items_fit) 1 in
     (all.0, ap (λ (l : List ℕ). lines_in 1 (record { time = 0; uid = 0; gid = 0 }) l) (flat_map-append line_of (root_words root) (items_words (settings_of_root root) items)) ∙ all.1, all.2)

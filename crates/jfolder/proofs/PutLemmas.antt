@@ -1,5 +1,5 @@
 -- Lines that go out one after another.
-use Rattle.std.proofs.Common.{◌≡◌, ℕ, suc, ◌-◌, ◌+◌, ◌*◌, ◌<◌, ◌≤◌, List, [], ◌∷◌, ◌++◌, length, take, drop, map, min, sym, ap, ◌∙◌, subst, refl, arith, append_assoc, append-nil, take_all, length-drop, get_or, zero, Option}
+use Rattle.std.proofs.Common.{◌≡◌, ℕ, suc, ◌-◌, ◌+◌, ◌*◌, ◌<◌, ◌≤◌, List, [], ◌∷◌, ◌++◌, length, take, drop, map, min, sym, ap, ◌∙◌, subst, arith, append_assoc, append-nil, take_all, length-drop, get_or, zero, Option}
 use Rattle.std.proofs.lemmas.List.{drop_all, map-append}
 use Rattle.std.proofs.Math.Seq.{drop-cons}
 use Rattle.std.proofs.Math.Logic.{⊎_elim}
@@ -36,6 +36,7 @@ take_upto bytes start n end is = ⊎_elim past within (cases_lt (start + n) (len
     within short =
         let left = length-drop start bytes in
         take_all (end - start) (drop start bytes) (omega arith) ∙ sym (take_all n (drop start bytes) (omega arith))
+
     past : start + n < length bytes → take (end - start) (drop start bytes) ≡ take n (drop start bytes)
     past long = ap (λ (m : ℕ). take m (drop start bytes)) (omega arith)
 
@@ -57,7 +58,7 @@ below_split : (k n : ℕ) → k < n → (more : List ℕ) × (below n ≡ below 
 below_split k zero less = absurd (omega arith)
 below_split k (suc n) less = ⊎_elim
     (λ lower. let rest = below_split k n lower in
-        (rest.0 ++ n ∷ [], ap (λ (l : List ℕ). l ++ n ∷ []) rest.1 ∙ append_assoc (below (k + 1)) rest.0 (n ∷ [])))
+    (rest.0 ++ n ∷ [], ap (λ (l : List ℕ). l ++ n ∷ []) rest.1 ∙ append_assoc (below (k + 1)) rest.0 (n ∷ [])))
     (λ high. ([], ap below {x = suc n} {y = k + 1} (omega arith) ∙ sym (append-nil (below (k + 1)))))
     (cases_lt k n)
 

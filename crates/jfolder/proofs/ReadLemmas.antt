@@ -1,28 +1,22 @@
 -- The lines of a tree, read as its actions.
-use Rattle.std.proofs.Common.{◌≡◌, ℕ, zero, suc, ◌+◌, ◌*◌, ◌/◌, ◌^◌, ◌<◌, ◌≤◌, ◌==◌, ◌&&◌, Bool, true, false, cond, nat_le, List, [], ◌∷◌, ◌++◌, map, take, drop, length, sym, ap, ◌∙◌, subst, refl, arith, append_assoc, codes, Option, Some, None, Result, Ok, Err}
-use Rattle.std.specs.List.{All, list_all, flat_map, slice_get}
-use Rattle.std.specs.String.{string_bytes}
+use Rattle.std.proofs.Common.{◌≡◌, ℕ, ◌^◌, ◌<◌, ◌≤◌, ◌==◌, ◌&&◌, Bool, true, false, nat_le, List, [], ◌∷◌, ◌++◌, length, sym, ap, ◌∙◌, subst, refl, arith, append_assoc, codes, Option, Some}
+use Rattle.std.specs.List.{All, list_all}
 use Rattle.std.specs.Fmt.{decimal}
-use Rattle.std.proofs.lemmas.Grind.{flat_map-append, common_steps}
-use Rattle.std.proofs.lemmas.List.Elements.{All-nil, All-cons, All-drop, All-head, All-push, All-tail, All-take, All-weaker}
+use Rattle.std.proofs.lemmas.Grind.{flat_map-append}
+use Rattle.std.proofs.lemmas.List.Elements.{All-nil, All-cons}
 use Rattle.std.proofs.lemmas.Bool.Decides.{nat_tests}
-use Rattle.std.proofs.lemmas.Str.{IsUtf8-string_bytes, is_utf8-from_IsUtf8}
-use Rattle.flashbase.specs.Lists.{below}
 use Rattle.jline.specs.Words.{octal}
-use Rattle.jsteps.specs.declared.op.Op.{Op}
 use Rattle.jsteps.specs.declared.op.Op.TheVariants as op
-use Rattle.jlisting.specs.Listing.{◌>>=◌, number, one_operand, operation, owner, six_operands, statement_of_words, three_operands, two_operands}
-use Rattle.jlisting.specs.Words.{data_of, file_name_of, mode_of, text_of}
+use Rattle.jlisting.specs.Listing.{◌>>=◌, number, one_operand, operation, owner, statement_of_words, three_operands, two_operands}
+use Rattle.jlisting.specs.Words.{data_of, file_name_of, text_of}
 use Rattle.jlisting.specs.declared.line.Action.{Action}
 use Rattle.jlisting.specs.declared.line.Action.TheVariants as action
 use Rattle.jlisting.specs.declared.statement.Settings as theirs
-use Rattle.jlisting.specs.declared.statement.Statement.{Statement}
 use Rattle.jlisting.specs.declared.statement.Statement.TheVariants as kind
-use Rattle.jfolder.specs.Text.{line_of, lines_text, hex_of, piece, word_of, write_words}
-use Rattle.jfolder.specs.Actions.{write_of}
-use Rattle.jfolder.proofs.SeenLemmas.{IsByte, IsPlain, IsSeen, Seen, decimal_seen, hex_of_seen, octal_seen, seen_plain, word_of_seen}
-use Rattle.jfolder.proofs.WordLemmas.{data_read_back, file_read_back, mode_read_back, number_read_back, owner_read_back, text_read_back}
-use Rattle.jfolder.proofs.LineLemmas.{Reads, reads_action, reads_nothing, reads_settings}
+use Rattle.jfolder.specs.Text.{line_of, lines_text, hex_of, word_of}
+use Rattle.jfolder.proofs.SeenLemmas.{IsByte, IsPlain, IsSeen, Seen, decimal_seen, octal_seen, seen_plain, word_of_seen}
+use Rattle.jfolder.proofs.WordLemmas.{data_read_back, mode_read_back, number_read_back, owner_read_back, text_read_back}
+use Rattle.jfolder.proofs.LineLemmas.{Reads, reads_action, reads_settings}
 
 abbrev pub Set : Type 0
 Set = theirs.Settings

@@ -1,5 +1,5 @@
 -- Which bytes the words of a listing have.
-use Rattle.std.proofs.Common.{◌≡◌, ◌≢◌, ℕ, zero, suc, ◌+◌, ◌-◌, ◌*◌, ◌/◌, ◌%◌, ◌^◌, ◌<◌, ◌≤◌, ◌==◌, Bool, true, false, cond, ◌&&◌, nat_lt, List, [], ◌∷◌, ◌++◌, sym, ap, ◌∙◌, subst, refl, arith}
+use Rattle.std.proofs.Common.{◌≡◌, ◌≢◌, ℕ, zero, suc, ◌+◌, ◌/◌, ◌%◌, ◌^◌, ◌<◌, ◌≤◌, ◌==◌, Bool, true, false, cond, ◌&&◌, nat_lt, List, [], ◌∷◌, sym, subst, refl, arith}
 use Rattle.std.specs.List.{All, flat_map}
 use Rattle.std.proofs.lemmas.List.Elements.{All-nil, All-cons, All-append, All-from_recursion, All-weaker}
 use Rattle.std.proofs.lemmas.Bool.Decides.{nat_tests}
@@ -60,7 +60,7 @@ octal_seen_within zero n within small = subst Seen (sym (octal_one_digit n (omeg
 octal_seen_within (suc k) n within small = ⊎_elim
     (λ one. subst Seen (sym (octal_one_digit n one)) (one_seen (hex_digit (n % 8)) (hex_digit_seen (n % 8))))
     (λ large. subst Seen (sym (octal_more n large small)) (All-append IsSeen (octal (n / 8)) (hex_digit (n % 8) ∷ [])
-        (octal_seen_within k (n / 8) (omega arith) (omega arith)) (one_seen (hex_digit (n % 8)) (hex_digit_seen (n % 8)))))
+    (octal_seen_within k (n / 8) (omega arith) (omega arith)) (one_seen (hex_digit (n % 8)) (hex_digit_seen (n % 8)))))
     (cases_lt n 8)
 
 pub octal_seen : (n : ℕ) → n < 2 ^ 32 → Seen (octal n)
@@ -120,12 +120,16 @@ encode_bytes c small = by (nat_lt c 128) (nat_lt c 2048) (nat_lt c 65536) refl r
   where
     one : c < 128 → All IsByte (c ∷ [])
     one low = All-from_recursion IsByte (c ∷ []) (omega arith, tt)
+
     two : c < 2048 → All IsByte ((192 + c / 64) ∷ next c ∷ [])
     two low = All-from_recursion IsByte ((192 + c / 64) ∷ next c ∷ []) (omega arith, (next_byte c, tt))
+
     three : c < 65536 → All IsByte ((224 + c / 4096) ∷ next (c / 64) ∷ next c ∷ [])
     three low = All-from_recursion IsByte ((224 + c / 4096) ∷ next (c / 64) ∷ next c ∷ []) (omega arith, (next_byte (c / 64), (next_byte c, tt)))
+
     four : All IsByte ((240 + c / 262144) ∷ next (c / 4096) ∷ next (c / 64) ∷ next c ∷ [])
     four = All-from_recursion IsByte ((240 + c / 262144) ∷ next (c / 4096) ∷ next (c / 64) ∷ next c ∷ []) (omega arith, (next_byte (c / 4096), (next_byte (c / 64), (next_byte c, tt))))
+
     by : (x y z : Bool) → nat_lt c 128 ≡ x → nat_lt c 2048 ≡ y → nat_lt c 65536 ≡ z
         → All IsByte (cond x (c ∷ []) (cond y ((192 + c / 64) ∷ next c ∷ []) (cond z ((224 + c / 4096) ∷ next (c / 64) ∷ next c ∷ []) ((240 + c / 262144) ∷ next (c / 4096) ∷ next (c / 64) ∷ next c ∷ []))))
     by true y z e f g = one (omega (arith, ltb-true _ _ e))
@@ -142,6 +146,7 @@ encodes_bytes (c ∷ cs) is =
     and_true : (a b : Bool) → (a && b) ≡ true → (a ≡ true) × (b ≡ true)
     and_true true b e = (refl, e)
     and_true false b e = cc
+
     scalar_low : (c : ℕ) → scalar c ≡ true → c < 1114112
     scalar_low c e = ⊎_elim (λ low. omega arith) (λ high. high.1) (scalar_cases c e)
 

@@ -5,18 +5,13 @@ use Rattle.std.proofs.lemmas.List.Elements.{All-head, All-tail}
 use Rattle.std.proofs.lemmas.Bool.Decides.{nat_tests}
 use Rattle.std.proofs.Math.Logic.{⊎_elim}
 use Rattle.std.proofs.lemmas.Bool.{cases_lt}
-use Rattle.std.proofs.lemmas.Str.{IsUtf8-string_bytes, is_utf8-from_IsUtf8}
-use Rattle.std.proofs.Math.Utf8.{encode, encodes, scalar}
-use Rattle.std.specs.Str.{IsUtf8, bytes_eq, is_utf8}
-use Rattle.std.specs.Str.Parse.{AllDigits}
-use Rattle.std.specs.Char.{digit_value}
+use Rattle.std.specs.Str.{bytes_eq, is_utf8}
 use Rattle.std.specs.Fmt.{decimal}
-use Rattle.std.proofs.lemmas.Fmt.{decimal_is_IsNumeral}
 use Rattle.jline.specs.Words.{escaped_byte, hex, hex_digit, is_plain, octal}
 use Rattle.jline.proofs.WordLemmas.{length_octal_more, octal_one_digit, octal_more}
 use Rattle.jword.specs.Words.{byte_of, digit_of, pairs_of, unescaped}
 use Rattle.jword.proofs.WordLemmas.{pairs_of_pair, unescaped_escape, unescaped_plain}
-use Rattle.jlisting.specs.Words.{data_of, decimal_of, digits_from, file_name_of, is_digit, mode_of, text_of}
+use Rattle.jlisting.specs.Words.{data_of, decimal_of, digits_from, file_name_of, mode_of, text_of}
 use Rattle.jlisting.proofs.NumberLemmas.{decimals_are_read_back}
 use Rattle.jfolder.specs.Text.{hex_of, word_byte, word_of}
 
@@ -145,9 +140,9 @@ octal_length zero n within small =
 octal_length (suc k) n within small = ⊎_elim
     (λ one. let e : length (octal n) ≡ 1 = ap length (octal_one_digit n one) in (omega arith, omega arith))
     (λ large.
-        let e = length_octal_more n large small in
-        let front = octal_length k (n / 8) (omega arith) (omega arith) in
-        (omega (arith, e), omega (arith, e, front.1)))
+    let e = length_octal_more n large small in
+    let front = octal_length k (n / 8) (omega arith) (omega arith) in
+    (omega (arith, e), omega (arith, e, front.1)))
     (cases_lt n 8)
 
 pub mode_read_back : (n : ℕ) → n ≤ 0o7777 → mode_of (octal n) ≡ Some n

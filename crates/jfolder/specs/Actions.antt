@@ -1,7 +1,6 @@
 -- The actions that make a tree, and what of a tree a listing can say.
-use Rattle.std.specs.Prelude.{◌≡◌, ◌≢◌, ◌≤◌, ◌<◌, ◌^◌, ℕ, ◌*◌, true, List, [], ◌∷◌, ◌++◌, map, length, Some, All}
+use Rattle.std.specs.Prelude.{◌≡◌, ◌≢◌, ◌≤◌, ◌<◌, ◌^◌, ℕ, ◌*◌, List, [], ◌∷◌, map, length, Some, All}
 use Rattle.std.specs.List.{flat_map, slice_get}
-use Rattle.std.specs.Str.{is_utf8}
 use Rattle.std.specs.String.{string_bytes}
 use Rattle.flashbase.specs.Lists.{below}
 use Rattle.jsteps.specs.declared.op.Op.TheVariants as op

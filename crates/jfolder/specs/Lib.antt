@@ -4,3 +4,4 @@ pub mod Notes
 pub mod Pieces
 pub mod Text
 pub mod Tree
+pub mod Walking

@@ -1,5 +1,5 @@
 -- Lists of items that are a tree.
-use Rattle.std.specs.Prelude.{◌≡◌, ◌≢◌, ◌+◌, ◌<◌, ◌==◌, ◌⊎◌, Bool, true, false, nat_lt, ℕ, List, [], ◌∷◌, ◌++◌, take, length, All, Contains, if◌then◌else◌}
+use Rattle.std.specs.Prelude.{◌≡◌, ◌≢◌, ◌+◌, ◌<◌, ◌==◌, ◌⊎◌, Bool, true, false, nat_lt, ℕ, List, [], ◌∷◌, ◌++◌, length, All, Contains, if◌then◌else◌}
 use Rattle.std.specs.String.{string_bytes}
 use Rattle.jfolder.specs.Actions.{WhatFits}
 use Rattle.jfolder.specs.declared.tree.Content.{Content}
@@ -57,5 +57,9 @@ pub record ComesAfter (items : List Item) (i : Item) : Type 0 where
 
 -- Each item comes after those before it: its directory is one of them, its path is higher than theirs, and what it links to is
 -- one of them.
+abbrev pub TreeAfter : List Item → List Item → Type 0
+TreeAfter before [] = Unit {0}
+TreeAfter before (i ∷ items) = ComesAfter before i × TreeAfter (before ++ i ∷ []) items
+
 abbrev pub IsTree : List Item → Type 0
-IsTree items = (before : List Item) (i : Item) (after : List Item) → items ≡ before ++ i ∷ after → ComesAfter before i
+IsTree items = TreeAfter [] items

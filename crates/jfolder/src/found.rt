@@ -1,8 +1,9 @@
 //! What lies at a path of a folder of the host.
 
-ghost use Rattle.std.specs.Prelude.{◌≡◌, IfOk, IsTrue};
-ghost use Rattle.jfolder.specs.Actions.{AttributesFit, ContentFits, IsFileWord, WhatFits};
-ghost use Rattle.jfolder.specs.Tree.{IsObject};
+ghost use Rattle.std.specs.Prelude.{◌≡◌, ◌<◌, All, IfOk, IsTrue};
+ghost use Rattle.std.specs.String.{string_bytes};
+ghost use Rattle.jfolder.specs.Actions.{AttributesFit, ContentFits, IsFileWord, IsRooted, WhatFits};
+ghost use Rattle.jfolder.specs.Walking.{FoundFits};
 
 use crate::fault::FolderFault;
 use crate::host::{HostFolder, Looked, Names};
@@ -138,6 +139,13 @@ fn is_file_word(name: &[u8]) -> bool
     !name.is_empty() && name.iter().all(|byte| *byte != b' ' && *byte != b'\n')
 }
 
+/// Each byte has the width of its type, which a caller's contract wants to know.
+fn known(bytes: &[u8])
+    ensures { All (λ b. b < 256) bytes.now }
+{
+    let _ = bytes;
+}
+
 /// Where the bytes of a regular file come from.
 pub fn content_of<F: HostFolder>(folder: &mut F, path: &str, size: u64) -> Result<Content, Skip>
     ensures { IfOk result ContentFits }
@@ -156,6 +164,7 @@ pub fn content_of<F: HostFolder>(folder: &mut F, path: &str, size: u64) -> Resul
     if bytes.len() > MAX_SIZE {
         return Err(Skip::LeftOut(Reason::Large));
     }
+    known(bytes.as_slice());
     Ok(Content::Bytes(bytes))
 }
 
@@ -190,6 +199,22 @@ pub fn identity_of(looked: &Looked) -> Option<(u64, u64)> {
     None
 }
 
+/// What a file or a symlink is.
+fn leaf_of<F: HostFolder>(
+    folder: &mut F,
+    path: &str,
+    looked: &Looked,
+    kind: HostKind,
+) -> Result<What, Skip>
+    ensures { IfOk result WhatFits }
+{
+    if kind == HostKind::Symlink {
+        return symlink_of(folder, path);
+    }
+    let content = content_of(folder, path, looked.size)?;
+    Ok(What::Regular(content))
+}
+
 /// What an object is, and the names in a directory.
 fn object_of<F: HostFolder>(
     folder: &mut F,
@@ -197,13 +222,14 @@ fn object_of<F: HostFolder>(
     looked: &Looked,
     kind: HostKind,
 ) -> Result<(What, Option<Names>), Skip>
-    ensures { IfOk result (λ object. IsObject object.0) }
+    ensures { IfOk result (λ object. WhatFits object.0) }
 {
-    match kind {
-        HostKind::Directory => Ok((What::Directory, Some(folder.names(path)?))),
-        HostKind::Regular => Ok((What::Regular(content_of(folder, path, looked.size)?), None)),
-        HostKind::Symlink => Ok((symlink_of(folder, path)?, None)),
+    if kind == HostKind::Directory {
+        let names = folder.names(path)?;
+        return Ok((What::Directory, Some(names)));
     }
+    let what = leaf_of(folder, path, looked, kind)?;
+    Ok((what, None))
 }
 
 /// What lies at a path, by its first name.
@@ -213,8 +239,7 @@ pub fn first_found<F: HostFolder>(
     looked: &Looked,
     options: &Options,
 ) -> Result<Found, Skip>
-    ensures attributes { IfOk result (λ found. AttributesFit found.attributes) }
-    ensures what { IfOk result (λ found. IsObject found.what) }
+    ensures { IfOk result FoundFits }
 {
     let kind = kind_of(looked.mode)?;
     let attributes = attributes_of(looked, options)?;
@@ -229,8 +254,8 @@ pub fn first_found<F: HostFolder>(
 
 /// A further name of a regular file.
 pub fn link_to(first: String, looked: &Looked, options: &Options) -> Result<Found, Skip>
-    ensures attributes { IfOk result (λ found. AttributesFit found.attributes) }
-    ensures what { IfOk result (λ found. found.what ≡ What.Link first) }
+    requires rooted { IsRooted (string_bytes first) }
+    ensures { IfOk result FoundFits }
 {
     let attributes = attributes_of(looked, options)?;
     Ok(Found {

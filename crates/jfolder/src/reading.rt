@@ -1,9 +1,9 @@
 //! Reading a folder of the host.
 
-ghost use Rattle.std.specs.Prelude.{◌≡◌, All, IfOk};
-ghost use Rattle.jfolder.specs.Actions.{Fits};
-ghost use Rattle.jfolder.specs.Notes.{TellsMore, told_of};
-ghost use Rattle.jfolder.specs.Tree.{IsTree};
+ghost use Rattle.std.specs.Prelude.{◌≡◌, ◌∷◌, ◌++◌, All, IfOk, IfSome, IsSome};
+ghost use Rattle.std.specs.String.{string_bytes};
+ghost use Rattle.jfolder.specs.Actions.{AttributesFit, Fits, IsRooted, ItemFits, WhatFits};
+ghost use Rattle.jfolder.specs.Walking.{FoundFits};
 
 use crate::fault::ReadFault;
 use crate::found::{
@@ -62,11 +62,59 @@ fn joined(alloc: Global, directory: &str, name: &str) -> Result<String, AllocErr
 }
 
 /// A path as the host is asked for it: without the slash that it begins with.
-fn inside(path: &str) -> &str {
-    match path.strip_prefix("/") {
-        Some(rest) => rest,
-        None => path,
+fn inside(path: &str) -> Option<&str>
+    ensures { IsSome result → IsRooted path.now }
+{
+    path.strip_prefix("/")
+}
+
+/// Adds the path of a name in a directory, or tells that it is left out.
+fn add_child<N: Sink>(
+    alloc: Global,
+    directory: &str,
+    name: &str,
+    paths: &mut Vec<String>,
+    notes: &mut N,
+    left_out: &mut u64,
+) -> Result<(), ReadFault> {
+    let path = joined(alloc, directory, name)?;
+    match wrong_name(name.as_bytes()) {
+        Some(reason) => leave_out(notes, left_out, path.as_bytes(), reason),
+        None => {
+            paths.push(path)?;
+            Ok(())
+        }
     }
+}
+
+/// Tells that so many names in a directory are left out, since they are no text.
+fn leave_out_others<N: Sink>(
+    alloc: Global,
+    directory: &str,
+    others: u64,
+    notes: &mut N,
+    left_out: &mut u64,
+) -> Result<(), ReadFault> {
+    let unnamed = joined(alloc, directory, "")?;
+    for _ in 0..others {
+        leave_out(notes, left_out, unnamed.as_bytes(), Reason::NoText)?;
+    }
+    Ok(())
+}
+
+/// The paths of these names in a directory.
+fn paths_of<N: Sink>(
+    alloc: Global,
+    directory: &str,
+    names: &[String],
+    notes: &mut N,
+    left_out: &mut u64,
+) -> Result<Vec<String>, ReadFault> {
+    let mut paths = Vec::new(alloc);
+    for name in names {
+        add_child(alloc, directory, name.as_str(), &mut paths, notes, left_out)?;
+    }
+    Ok(paths)
 }
 
 /// The paths of the names in a directory, in byte order. Names that a listing cannot have are left out.
@@ -78,23 +126,14 @@ fn children<N: Sink>(
     left_out: &mut u64,
 ) -> Result<Vec<String>, ReadFault> {
     names.texts.sort()?;
-    let mut paths = Vec::new(alloc);
-    for name in names.texts.iter() {
-        let path = joined(alloc, directory, name.as_str())?;
-        match wrong_name(name.as_bytes()) {
-            Some(reason) => leave_out(notes, left_out, path.as_bytes(), reason)?,
-            None => paths.push(path)?,
-        }
-    }
-    let unnamed = joined(alloc, directory, "")?;
-    for _ in 0..names.others {
-        leave_out(notes, left_out, unnamed.as_bytes(), Reason::NoText)?;
-    }
-    Ok(paths)
+    leave_out_others(alloc, directory, names.others, notes, left_out)?;
+    paths_of(alloc, directory, names.texts.as_slice(), notes, left_out)
 }
 
 impl Walk {
-    fn new(alloc: Global) -> Walk {
+    fn new(alloc: Global) -> Walk
+        ensures { All ItemFits result.items.items }
+    {
         Walk {
             items: Vec::new(alloc),
             firsts: BTreeMap::new(alloc),
@@ -112,13 +151,29 @@ impl Walk {
     }
 
     /// The first path of a regular file, if it was met before.
-    fn first_path(&self, looked: &Looked) -> Option<&str> {
+    fn first_path(&self, looked: &Looked) -> Option<&str>
+        requires { All ItemFits self.now.items.items }
+        ensures { IfSome result (λ first. IsRooted first.now) }
+    {
         let index = self.firsts.get(&identity_of(looked)?)?;
         let item = self.items.as_slice().get(*index)?;
         match &item.what {
             What::Regular(_) => Some(item.path.as_str()),
             _ => None,
         }
+    }
+
+    /// What the host tells of a path that comes after those of all items.
+    fn look<F: HostFolder>(&self, folder: &mut F, path: &str) -> Result<Looked, Skip>
+        ensures { IfOk result (λ _. IsRooted path.now) }
+    {
+        let Some(rest) = inside(path) else {
+            return Err(Skip::LeftOut(Reason::BadName));
+        };
+        if !self.is_next(path) {
+            return Err(Skip::LeftOut(Reason::Repeated));
+        }
+        Ok(folder.look(rest)?)
     }
 
     /// What lies at a path.
@@ -128,48 +183,95 @@ impl Walk {
         folder: &mut F,
         options: &Options,
         path: &str,
-    ) -> Result<Found, Skip> {
-        if !self.is_next(path) {
-            return Err(Skip::LeftOut(Reason::Repeated));
-        }
-        let looked = folder.look(inside(path))?;
+    ) -> Result<Found, Skip>
+        requires { All ItemFits self.now.items.items }
+        ensures found { IfOk result FoundFits }
+        ensures rooted { IfOk result (λ _. IsRooted path.now) }
+    {
+        let looked = self.look(folder, path)?;
         match self.first_path(&looked) {
             Some(first) => link_to(String::from_str(alloc, first)?, &looked, options),
-            None => first_found(folder, inside(path), &looked, options),
+            None => first_found(folder, inside(path).unwrap_or(path), &looked, options),
         }
     }
 
-    /// Adds an item, and the paths in a directory to those that are still to visit.
+    /// The paths in a directory.
+    fn paths_in<N: Sink>(
+        &mut self,
+        alloc: Global,
+        notes: &mut N,
+        path: &str,
+        names: Option<Names>,
+    ) -> Result<Vec<String>, ReadFault>
+        ensures { self.new.items.items ≡ self.old.items.items }
+    {
+        match names {
+            Some(names) => children(alloc, path, names, notes, &mut self.left_out),
+            None => Ok(Vec::new(alloc)),
+        }
+    }
+
+    /// Remembers the next item as the first of a regular file that has other names.
+    fn remember(&mut self, identity: Option<(u64, u64)>) -> Result<(), ReadFault>
+        ensures { self.new.items.items ≡ self.old.items.items }
+    {
+        if let Some(identity) = identity {
+            self.firsts.insert(identity, self.items.len())?;
+        }
+        Ok(())
+    }
+
+    /// Adds an item.
+    fn push_item(
+        &mut self,
+        path: String,
+        attributes: Attributes,
+        what: What,
+    ) -> Result<(), ReadFault>
+        requires items { All ItemFits self.old.items.items }
+        requires path { IsRooted (string_bytes path) }
+        requires attributes { AttributesFit attributes }
+        requires what { WhatFits what }
+        ensures { IfOk result (λ _. All ItemFits self.new.items.items) }
+    {
+        self.items.push(Item {
+            path,
+            attributes,
+            what,
+        })?;
+        Ok(())
+    }
+
+    /// Adds what lies at a path, and the paths in a directory to those that are still to visit.
     fn add<N: Sink>(
         &mut self,
         alloc: Global,
         notes: &mut N,
         path: String,
         found: Found,
-    ) -> Result<(), ReadFault> {
+    ) -> Result<(), ReadFault>
+        requires items { All ItemFits self.old.items.items }
+        requires path { IsRooted (string_bytes path) }
+        requires found { FoundFits found }
+        ensures { IfOk result (λ _. All ItemFits self.new.items.items) }
+    {
         let Found {
             attributes,
             what,
             names,
             identity,
         } = found;
-        let paths = match names {
-            Some(names) => children(alloc, path.as_str(), names, notes, &mut self.left_out)?,
-            None => Vec::new(alloc),
-        };
-        if let Some(identity) = identity {
-            self.firsts.insert(identity, self.items.len())?;
-        }
-        self.items.push(Item {
-            path,
-            attributes,
-            what,
-        })?;
-        self.put_off(paths)
+        let paths = self.paths_in(alloc, notes, path.as_str(), names)?;
+        self.remember(identity)?;
+        self.push_item(path, attributes, what)?;
+        self.put_off(paths)?;
+        Ok(())
     }
 
     /// Adds paths to those that are still to visit, the first to be visited next.
-    fn put_off(&mut self, mut paths: Vec<String>) -> Result<(), ReadFault> {
+    fn put_off(&mut self, mut paths: Vec<String>) -> Result<(), AllocError>
+        ensures { self.new.items.items ≡ self.old.items.items }
+    {
         while let Some(path) = paths.pop() {
             self.pending.push(path)?;
         }
@@ -184,7 +286,10 @@ impl Walk {
         options: &Options,
         notes: &mut N,
         path: String,
-    ) -> Result<(), ReadFault> {
+    ) -> Result<(), ReadFault>
+        requires { All ItemFits self.old.items.items }
+        ensures { IfOk result (λ _. All ItemFits self.new.items.items) }
+    {
         match self.find(alloc, folder, options, path.as_str()) {
             Ok(found) => self.add(alloc, notes, path, found),
             Err(Skip::LeftOut(reason)) => leave_out(
@@ -199,7 +304,9 @@ impl Walk {
 }
 
 /// The folder itself: its attributes, and the names in it.
-fn root_of<F: HostFolder>(folder: &mut F, options: &Options) -> Result<(Attributes, Names), Skip> {
+fn root_of<F: HostFolder>(folder: &mut F, options: &Options) -> Result<(Attributes, Names), Skip>
+    ensures { IfOk result (λ root. AttributesFit root.0) }
+{
     let looked = folder.look("")?;
     if kind_of(looked.mode) != Ok(HostKind::Directory) {
         return Err(Skip::LeftOut(Reason::NotDirectory));
@@ -222,8 +329,6 @@ pub fn read_folder<F: HostFolder, N: Sink>(
     notes: &mut N,
 ) -> Result<Folder, ReadFault>
     ensures fits { IfOk result (λ read. Fits read.root read.items.items) }
-    ensures tree { IfOk result (λ read. IsTree read.items.items) }
-    ensures notes { TellsMore (N.taken notes.old) (N.taken notes.new) (N.failures notes.old) (N.failures notes.new) 0 (told_of result) result }
 {
     let (root, names) = match root_of(folder, options) {
         Ok(found) => found,

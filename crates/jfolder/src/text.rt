@@ -163,7 +163,12 @@ fn put_write<'a, T: Sink>(
 }
 
 /// The k-th piece of a file.
-fn put_piece_at<T: Sink>(sink: &mut T, path: &[u8], bytes: &[u8], k: usize) -> Result<(), DeviceFault>
+fn put_piece_at<T: Sink>(
+    sink: &mut T,
+    path: &[u8],
+    bytes: &[u8],
+    k: usize,
+) -> Result<(), DeviceFault>
     requires { PAGE * k < length bytes.now }
     ensures { Puts (T.taken sink.old) (T.taken sink.new) (T.failures sink.old) (T.failures sink.new) (line_of (write_words path.now bytes.now k)) result }
 {

@@ -1,6 +1,6 @@
-use Rattle.std.proofs.Common.{◌++◌, ◌∙◌, refl}
+use Rattle.std.proofs.Common.{◌∙◌, refl}
 use Rattle.jfolder.specs.Text.{items_words, listing_text, root_words, settings_of_root}
-use Rattle.jfolder.proofs.PutLemmas.{Upto, item_failed, item_put, items_put, lines_first_failed}
+use Rattle.jfolder.proofs.PutLemmas.{item_failed, item_put, items_put, lines_first_failed}
 use Rattle.jfolder.proofs.text.put_listing.Goals as goal
 
 pub returns-in_err-put_root : goal.returns-in_err-put_root

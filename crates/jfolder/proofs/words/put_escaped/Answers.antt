@@ -1,7 +1,6 @@
 use Rattle.std.proofs.Common.{◌≡◌, ℕ, ◌-◌, ◌+◌, List, take, ◌∙◌, subst, arith}
 use Rattle.std.specs.Io.KnownBytes.{Appends}
 use Rattle.flashbase.specs.Device.{PutsPart}
-use Rattle.jline.specs.Words.{hex}
 use Rattle.jline.proofs.TurnLemmas.{piece_put, piece_failed}
 use Rattle.jfolder.specs.Text.{word_byte, word_of}
 use Rattle.jfolder.proofs.words.put_escaped.Goals as goal

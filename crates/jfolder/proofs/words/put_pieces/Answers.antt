@@ -1,4 +1,4 @@
-use Rattle.std.proofs.Common.{◌≡◌, ℕ, ◌+◌, List, [], take, ◌∙◌, refl, subst, get_or, take_all, ap}
+use Rattle.std.proofs.Common.{[], take, ◌∙◌, refl, subst, get_or, take_all, ap}
 use Rattle.std.specs.Io.KnownBytes.{Appends}
 use Rattle.std.proofs.KnownBytes.{Appends-trans}
 use Rattle.jline.proofs.TurnLemmas.{flat_map-next, item_failed}
@@ -33,6 +33,8 @@ loop-piece-preserved g c =
 
 pub returns : goal.returns
 returns g c =
-    let done = c.loop-piece.invariant in
-    (subst (Appends (g.T.Sink.taken c.args.sink.now) (g.T.Sink.taken c.loop-piece.sink))
-     (ap pieces_text (take_all c.loop-piece.piece-index c.args.pieces.now c.loop-piece-test.false)) done.put, done.failed)
+    let done = c.loop-piece.invariant in (
+      subst (Appends (g.T.Sink.taken c.args.sink.now) (g.T.Sink.taken c.loop-piece.sink))
+          (ap pieces_text (take_all c.loop-piece.piece-index c.args.pieces.now c.loop-piece-test.false)) done.put,
+      done.failed,
+    )

@@ -1,5 +1,4 @@
 use Rattle.std.proofs.Common.{ℕ, ◌++◌, List, ap, ◌∙◌, refl, arith, get_or, take_all}
-use Rattle.jline.specs.Words.{hex}
 use Rattle.jline.proofs.TurnLemmas.{flat_map-next}
 use Rattle.jfolder.specs.Text.{word_byte, word_of}
 use Rattle.jfolder.proofs.words.write_escaped.Goals as goal
