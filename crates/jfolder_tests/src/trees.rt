@@ -92,7 +92,7 @@ fn names_that_are_none_are_left_out(rt: HostRuntime) {
         make_object("b", 0o100644, (0, 0), 0, ""),
     ];
     let notes =
-        "left out /..: a name that no file has\nleft out /a\\x00: a name that no file has\nleft out /: no text\nleft out /: no text\nleft out /b: a name that was told before\n";
+        "left out /: no text\nleft out /: no text\nleft out /..: a name that no file has\nleft out /a\\x00: a name that no file has\nleft out /b: a name that was told before\n";
     let text = "attr 755 0 0 0 0 /\ncreate 644 /b\n";
     assert!(rt; is_read(alloc, &objects, &AS_TOLD, text, notes, 5));
 }
