@@ -1,0 +1,7 @@
+pub mod WordLemmas
+pub mod SeenLemmas
+pub mod LineLemmas
+pub mod ReadLemmas
+pub mod ListingLemmas
+pub mod PutLemmas
+pub mod OrderLemmas

@@ -1,0 +1,158 @@
+-- The words of a listing, and what is read of them.
+use Rattle.std.proofs.Common.{◌≡◌, ◌≢◌, ℕ, zero, suc, ◌+◌, ◌-◌, ◌*◌, ◌/◌, ◌%◌, ◌^◌, ◌<◌, ◌≤◌, Bool, true, false, cond, List, [], ◌∷◌, ◌++◌, length, ap, sym, ◌∙◌, subst, Option, Some, None, option_map, option_and_then, refl, arith, codes, append_assoc, append-nil, length-append, ◌==◌}
+use Rattle.std.specs.List.{All}
+use Rattle.std.proofs.lemmas.List.Elements.{All-head, All-tail}
+use Rattle.std.proofs.lemmas.Bool.Decides.{nat_tests}
+use Rattle.std.proofs.Math.Logic.{⊎_elim}
+use Rattle.std.proofs.lemmas.Bool.{cases_lt}
+use Rattle.std.specs.Str.{bytes_eq, is_utf8}
+use Rattle.std.specs.Fmt.{decimal}
+use Rattle.jline.specs.Words.{escaped_byte, hex, hex_digit, is_plain, octal}
+use Rattle.jline.proofs.WordLemmas.{length_octal_more, octal_one_digit, octal_more}
+use Rattle.jword.specs.Words.{byte_of, digit_of, pairs_of, unescaped}
+use Rattle.jword.proofs.WordLemmas.{pairs_of_pair, unescaped_escape, unescaped_plain}
+use Rattle.jlisting.specs.Words.{data_of, decimal_of, digits_from, file_name_of, mode_of, text_of}
+use Rattle.jlisting.proofs.NumberLemmas.{decimals_are_read_back}
+use Rattle.jfolder.specs.Text.{hex_of, word_byte, word_of}
+
+-- ---- digits
+
+pub digit_of_hex_digit : (d : ℕ) → d < 16 → digit_of (hex_digit d) ≡ Some d
+digit_of_hex_digit d small = grind (arith, nat_tests)
+
+pub byte_of_hex_digits : (b : ℕ) → b < 256 → byte_of (hex_digit (b / 16)) (hex_digit (b % 16)) ≡ Some b
+byte_of_hex_digits b small =
+    let high = digit_of_hex_digit (b / 16) (omega arith) in
+    let low = digit_of_hex_digit (b % 16) (omega arith) in
+    let whole : 16 * (b / 16) + b % 16 ≡ b = omega arith in
+    ap (λ (o : Option ℕ). option_and_then (λ h. option_map (λ l. 16 * h + l) (digit_of (hex_digit (b % 16)))) o) high
+    ∙ ap (λ (o : Option ℕ). option_map (λ l. 16 * (b / 16) + l) o) low
+    ∙ ap (λ (n : ℕ). Some n) whole
+
+-- ---- paths and targets
+
+byte_read_back : (b : ℕ) (rest : List ℕ) → b < 256 → unescaped (escaped_byte b ++ rest) ≡ option_map (λ (bytes : List ℕ). b ∷ bytes) (unescaped rest)
+byte_read_back b rest small = by_kind (is_plain b) refl
+  where
+    by_kind : (plain : Bool) → is_plain b ≡ plain → unescaped (escaped_byte b ++ rest) ≡ option_map (λ (bytes : List ℕ). b ∷ bytes) (unescaped rest)
+    by_kind true is =
+        let no_backslash : b ≢ 92 = λ e. grind (arith, nat_tests) in
+        ap (λ (t : Bool). unescaped (cond t (b ∷ []) (92 ∷ 120 ∷ hex_digit (b / 16) ∷ hex_digit (b % 16) ∷ []) ++ rest)) is
+        ∙ unescaped_plain b rest no_backslash
+    by_kind false is =
+        ap (λ (t : Bool). unescaped (cond t (b ∷ []) (92 ∷ 120 ∷ hex_digit (b / 16) ∷ hex_digit (b % 16) ∷ []) ++ rest)) is
+        ∙ unescaped_escape (hex_digit (b / 16)) (hex_digit (b % 16)) b rest (byte_of_hex_digits b small)
+
+word_byte_read_back : (b : ℕ) (rest : List ℕ) → b < 256 → unescaped (word_byte b ++ rest) ≡ option_map (λ (bytes : List ℕ). b ∷ bytes) (unescaped rest)
+word_byte_read_back b rest small = by_kind (b == 47) refl
+  where
+    by_kind : (slash : Bool) → (b == 47) ≡ slash → unescaped (word_byte b ++ rest) ≡ option_map (λ (bytes : List ℕ). b ∷ bytes) (unescaped rest)
+    by_kind true is =
+        let no_backslash : b ≢ 92 = λ e. grind (arith, nat_tests) in
+        ap (λ (t : Bool). unescaped (cond t (b ∷ []) (escaped_byte b) ++ rest)) is ∙ unescaped_plain b rest no_backslash
+    by_kind false is =
+        ap (λ (t : Bool). unescaped (cond t (b ∷ []) (escaped_byte b) ++ rest)) is ∙ byte_read_back b rest small
+
+word_unescaped : (bytes : List ℕ) → All (λ b. b < 256) bytes → unescaped (word_of bytes) ≡ Some bytes
+word_unescaped [] all = refl
+word_unescaped (b ∷ bytes) all =
+    word_byte_read_back b (word_of bytes) (All-head (λ b. b < 256) b bytes all)
+    ∙ ap (option_map (λ (more : List ℕ). b ∷ more)) (word_unescaped bytes (All-tail (λ b. b < 256) b bytes all))
+
+-- some text is never a word of no bytes
+read_of_some : (word : List ℕ) (read : Option (List ℕ)) → 0 < length word → cond (length word == 0) None read ≡ read
+read_of_some word read some = grind (arith, nat_tests)
+
+word_byte_some : (b : ℕ) → 0 < length (word_byte b)
+word_byte_some b = grind (arith, nat_tests)
+
+word_some : (bytes : List ℕ) → 0 < length bytes → 0 < length (word_of bytes)
+word_some [] some = absurd (omega arith)
+word_some (b ∷ bytes) some = subst (λ (n : ℕ). 0 < n) (sym (length-append (word_byte b) (word_of bytes))) (omega (arith, word_byte_some b))
+
+pub text_read_back : (bytes : List ℕ) → All (λ b. b < 256) bytes → 0 < length bytes → text_of (word_of bytes) ≡ Some bytes
+text_read_back bytes all some = read_of_some (word_of bytes) (unescaped (word_of bytes)) (word_some bytes some) ∙ word_unescaped bytes all
+
+-- ---- bytes
+
+pair_read_back : (b : ℕ) (rest : List ℕ) → b < 256 → pairs_of (hex 2 b ++ rest) ≡ option_map (λ (bytes : List ℕ). b ∷ bytes) (pairs_of rest)
+unfolding hex
+pair_read_back b rest small =
+    let high : (b / 16) % 16 ≡ b / 16 = omega arith in
+    ap (λ (d : ℕ). pairs_of (hex_digit d ∷ hex_digit (b % 16) ∷ rest)) high
+    ∙ pairs_of_pair (hex_digit (b / 16)) (hex_digit (b % 16)) b rest (byte_of_hex_digits b small)
+
+pairs_read_back : (bytes : List ℕ) → All (λ b. b < 256) bytes → pairs_of (hex_of bytes) ≡ Some bytes
+pairs_read_back [] all = refl
+pairs_read_back (b ∷ bytes) all =
+    pair_read_back b (hex_of bytes) (All-head (λ b. b < 256) b bytes all)
+    ∙ ap (option_map (λ (more : List ℕ). b ∷ more)) (pairs_read_back bytes (All-tail (λ b. b < 256) b bytes all))
+
+-- two digits are no dash
+pair_is_no_dash : (b : ℕ) (rest : List ℕ) → bytes_eq (hex 2 b ++ rest) (codes "-") ≡ false
+unfolding hex
+pair_is_no_dash b rest = grind (arith, nat_tests)
+
+pair_some : (b : ℕ) (rest : List ℕ) → 0 < length (hex 2 b ++ rest)
+unfolding hex
+pair_some b rest = omega arith
+
+pub data_read_back : (bytes : List ℕ) → All (λ b. b < 256) bytes → 0 < length bytes → data_of (hex_of bytes) ≡ Some bytes
+data_read_back [] all some = absurd (omega arith)
+data_read_back (b ∷ bytes) all some =
+    read_of_some (hex_of (b ∷ bytes)) _ (pair_some b (hex_of bytes))
+    ∙ ap (λ (t : Bool). cond t (Some []) (pairs_of (hex_of (b ∷ bytes)))) (pair_is_no_dash b (hex_of bytes))
+    ∙ pairs_read_back (b ∷ bytes) all
+
+-- ---- numbers
+
+pub number_read_back : (n : ℕ) → n < 2 ^ 32 → decimal_of 4294967295 (decimal n) ≡ Some n
+number_read_back n small = decimals_are_read_back 4294967295 n (omega arith) (omega arith)
+
+pub owner_read_back : (n : ℕ) → n < 2 ^ 16 → decimal_of 65535 (decimal n) ≡ Some n
+owner_read_back n small = decimals_are_read_back 65535 n (omega arith) (omega arith)
+
+digit_read : (d n : ℕ) (ds : List ℕ) → d < 8 → 8 * n + d ≤ 0o777777 → digits_from 8 0o777777 n (hex_digit d ∷ ds) ≡ digits_from 8 0o777777 (8 * n + d) ds
+digit_read d n ds small fits =
+    let is : hex_digit d ≡ 48 + d = grind (arith, nat_tests) in
+    let low : (48 + d) - 48 ≡ d = omega arith in
+    subst (λ (b : ℕ). digits_from 8 0o777777 n (b ∷ ds) ≡ digits_from 8 0o777777 (8 * n + d) ds) (sym is) (grind (arith, nat_tests, low))
+
+octal_one : (n : ℕ) (ds : List ℕ) → n < 8 → digits_from 8 0o777777 0 (octal n ++ ds) ≡ digits_from 8 0o777777 n ds
+octal_one n ds small =
+    let same : 8 * 0 + n % 8 ≡ n = omega arith in
+    ap (λ (l : List ℕ). digits_from 8 0o777777 0 (l ++ ds)) (octal_one_digit n small)
+    ∙ digit_read (n % 8) 0 ds (omega arith) (omega arith) ∙ ap (λ (m : ℕ). digits_from 8 0o777777 m ds) same
+
+octal_read : (k n : ℕ) (ds : List ℕ) → n < 8 ^ suc k → n ≤ 0o7777 → digits_from 8 0o777777 0 (octal n ++ ds) ≡ digits_from 8 0o777777 n ds
+octal_read zero n ds within fits = octal_one n ds (omega arith)
+octal_read (suc k) n ds within fits = ⊎_elim (λ small. octal_one n ds small) (λ large.
+    let same : 8 * (n / 8) + n % 8 ≡ n = omega arith in
+    ap (λ (l : List ℕ). digits_from 8 0o777777 0 (l ++ ds)) (octal_more n large (omega arith))
+    ∙ ap (digits_from 8 0o777777 0) (append_assoc (octal (n / 8)) (hex_digit (n % 8) ∷ []) ds)
+    ∙ octal_read k (n / 8) (hex_digit (n % 8) ∷ ds) (omega arith) (omega arith)
+    ∙ digit_read (n % 8) (n / 8) ds (omega arith) (omega arith)
+    ∙ ap (λ (m : ℕ). digits_from 8 0o777777 m ds) same) (cases_lt n 8)
+
+octal_length : (k n : ℕ) → n < 8 ^ suc k → n < 2 ^ 32 → (1 ≤ length (octal n)) × (length (octal n) ≤ suc k)
+octal_length zero n within small =
+    let e : length (octal n) ≡ 1 = ap length (octal_one_digit n (omega arith)) in (omega arith, omega arith)
+octal_length (suc k) n within small = ⊎_elim
+    (λ one. let e : length (octal n) ≡ 1 = ap length (octal_one_digit n one) in (omega arith, omega arith))
+    (λ large.
+    let e = length_octal_more n large small in
+    let front = octal_length k (n / 8) (omega arith) (omega arith) in
+    (omega (arith, e), omega (arith, e, front.1)))
+    (cases_lt n 8)
+
+pub mode_read_back : (n : ℕ) → n ≤ 0o7777 → mode_of (octal n) ≡ Some n
+mode_read_back n fits =
+    let few = octal_length 3 n (omega arith) (omega arith) in
+    let step : mode_of (octal n) ≡ digits_from 8 0o777777 0 (octal n) = grind (arith, nat_tests, few.0, few.1) in
+    step ∙ ap (digits_from 8 0o777777 0) (sym (append-nil (octal n))) ∙ octal_read 3 n [] (omega arith) fits
+
+-- ---- names of files of the host
+
+pub file_read_back : (file : List ℕ) → is_utf8 file ≡ true → 0 < length file → file_name_of file ≡ Some file
+file_read_back file text some =
+    read_of_some file (cond (is_utf8 file) (Some file) None) some ∙ ap (λ (t : Bool). cond t (Some file) None) text

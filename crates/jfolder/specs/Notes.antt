@@ -1,0 +1,50 @@
+-- What is told of what a listing leaves out.
+use Rattle.std.specs.Prelude.{◌≡◌, ◌+◌, ◌%◌, ◌^◌, ℕ, List, ◌++◌, length, codes, Option, Result, Ok, Err}
+use Rattle.std.specs.List.{flat_map}
+use Rattle.std.specs.Io.KnownBytes.{Appends}
+use Rattle.flashbase.specs.Device.{PutsPart, next_count}
+use Rattle.jfolder.specs.Text.{word_of}
+use Rattle.jfolder.specs.declared.fault.ReadFault.{ReadFault}
+use Rattle.jfolder.specs.declared.fault.ReadFault.TheVariants as fault
+use Rattle.jfolder.specs.declared.reading.Folder.{Folder}
+use Rattle.jfolder.specs.declared.reason.Reason.{Reason}
+use Rattle.jfolder.specs.declared.reason.Reason.TheVariants as reason
+
+unfoldable pub reason_text : Reason → List ℕ
+reason_text reason.Refused = codes "the host refused it"
+reason_text reason.NoText = codes "no text"
+reason_text reason.BadName = codes "a name that no file has"
+reason_text reason.LongName = codes "a name of more than 254 bytes"
+reason_text reason.Repeated = codes "a name that was told before"
+reason_text reason.Socket = codes "socket"
+reason_text reason.Fifo = codes "FIFO"
+reason_text reason.CharacterDevice = codes "character device"
+reason_text reason.BlockDevice = codes "block device"
+reason_text reason.UnknownKind = codes "a kind that is not known"
+reason_text reason.Large = codes "more than 2147483647 bytes"
+reason_text reason.Owner = codes "an owner above 65535"
+reason_text reason.Time = codes "a time before 1970 or after 2106"
+reason_text reason.Target = codes "a target of no bytes, of more than 4095, or with a zero byte"
+reason_text reason.NotDirectory = codes "no directory"
+
+-- a path that is left out, and why
+abbrev pub LeftOut : Type 0
+LeftOut = List ℕ × Reason
+
+unfoldable pub left_out_line : LeftOut → List ℕ
+left_out_line left = codes "left out " ++ word_of left.0 ++ codes ": " ++ reason_text left.1 ++ codes "\n"
+
+abbrev pub left_out_text : List LeftOut → List ℕ
+left_out_text lefts = flat_map left_out_line lefts
+
+-- A call tells of some paths that are left out, and counts them modulo 2^64. Where the sink failed, a beginning of the lines went out.
+abbrev pub TellsMore : {X : Type 0} → Option (List ℕ) → Option (List ℕ) → ℕ → ℕ → ℕ → ℕ → Result X ReadFault → Type 0
+TellsMore old new before now count total (Ok _) = (lefts : List LeftOut) × Appends old new (left_out_text lefts) × (now ≡ before)
+    × (total ≡ (count + length lefts) % 2 ^ 64)
+TellsMore old new before now count total (Err fault.Notes) = ((lefts : List LeftOut) × PutsPart old new (left_out_text lefts)) × (now ≡ next_count before)
+TellsMore old new before now count total (Err _) = ((lefts : List LeftOut) × Appends old new (left_out_text lefts)) × (now ≡ before)
+
+-- how many paths a reading says were left out
+abbrev pub told_of : Result Folder ReadFault → ℕ
+told_of (Ok folder) = folder.left_out
+told_of (Err e) = 0

@@ -1,0 +1,267 @@
+//! What lies at a path of a folder of the host.
+
+ghost use Rattle.std.specs.Prelude.{◌≡◌, ◌<◌, All, IfOk, IsTrue};
+ghost use Rattle.std.specs.String.{string_bytes};
+ghost use Rattle.jfolder.specs.Actions.{AttributesFit, ContentFits, IsFileWord, IsRooted, WhatFits};
+ghost use Rattle.jfolder.specs.Walking.{FoundFits};
+
+use crate::fault::FolderFault;
+use crate::host::{HostFolder, Looked, Names};
+use crate::reason::Reason;
+use crate::tree::{Attributes, Content, What};
+use std::alloc::{AllocError, AllocFailed};
+
+/// The most bytes of a regular file.
+const MAX_SIZE: usize = 0x7FFF_FFFF;
+
+/// The most bytes of a symlink's target.
+const MAX_TARGET: usize = 4095;
+
+/// An owner and a group.
+#[derive(Clone, Copy)]
+pub struct Owner {
+    pub uid: u16,
+    pub gid: u16,
+}
+
+/// What takes the place of what the host tells: one owner, and one time in seconds since 1970.
+#[derive(Clone, Copy)]
+pub struct Options {
+    pub owner: Option<Owner>,
+    pub time: Option<u32>,
+}
+
+/// Why a path gives no item.
+#[derive(Clone, Copy)]
+pub enum Skip {
+    LeftOut(Reason),
+    OutOfMemory,
+}
+
+impl From<Reason> for Skip {
+    ghost use Rattle.jfolder.specs.declared.found.Skip.TheVariants.{LeftOut};
+
+    ghost from_gives = { λ reason skip. skip ≡ LeftOut reason };
+
+    fn from(reason: Reason) -> Skip {
+        Skip::LeftOut(reason)
+    }
+}
+
+impl From<FolderFault> for Skip {
+    fn from(fault: FolderFault) -> Skip {
+        match fault {
+            FolderFault::Refused => Skip::LeftOut(Reason::Refused),
+            FolderFault::NoText => Skip::LeftOut(Reason::NoText),
+            FolderFault::OutOfMemory => Skip::OutOfMemory,
+        }
+    }
+}
+
+impl From<AllocError> for Skip {
+    fn from(_error: AllocError) -> Skip {
+        Skip::OutOfMemory
+    }
+}
+
+impl<T: Drop> From<AllocFailed<T>> for Skip {
+    fn from(_error: AllocFailed<T>) -> Skip {
+        Skip::OutOfMemory
+    }
+}
+
+/// The kinds of objects that a listing has.
+#[derive(Clone, Copy, PartialEq, Eq)]
+pub enum HostKind {
+    Directory,
+    Regular,
+    Symlink,
+}
+
+/// The kind that bits 12 to 15 of a mode say.
+pub fn kind_of(mode: u32) -> Result<HostKind, Reason> {
+    match (mode >> 12) & 0xF {
+        4 => Ok(HostKind::Directory),
+        8 => Ok(HostKind::Regular),
+        10 => Ok(HostKind::Symlink),
+        1 => Err(Reason::Fifo),
+        2 => Err(Reason::CharacterDevice),
+        6 => Err(Reason::BlockDevice),
+        12 => Err(Reason::Socket),
+        _ => Err(Reason::UnknownKind),
+    }
+}
+
+/// The owner and the group that an object gets.
+fn owner_of(looked: &Looked, options: &Options) -> Result<Owner, Reason> {
+    if let Some(owner) = options.owner {
+        return Ok(owner);
+    }
+    if looked.uid > 65535 || looked.gid > 65535 {
+        return Err(Reason::Owner);
+    }
+    Ok(Owner {
+        uid: looked.uid as u16,
+        gid: looked.gid as u16,
+    })
+}
+
+/// The time that an object gets.
+fn time_of(looked: &Looked, options: &Options) -> Result<u32, Reason> {
+    if let Some(time) = options.time {
+        return Ok(time);
+    }
+    let time = looked.time;
+    if time < 0 || time > 4294967295 {
+        return Err(Reason::Time);
+    }
+    Ok(time as u32)
+}
+
+/// The attributes that an object gets.
+pub fn attributes_of(looked: &Looked, options: &Options) -> Result<Attributes, Reason>
+    ensures { IfOk result AttributesFit }
+{
+    let owner = owner_of(looked, options)?;
+    let time = time_of(looked, options)?;
+    Ok(Attributes {
+        mode: looked.mode & 0o7777,
+        uid: owner.uid,
+        gid: owner.gid,
+        time,
+    })
+}
+
+/// Whether a listing can have the name of a file of the host.
+fn is_file_word(name: &[u8]) -> bool
+    ensures { IsTrue result → IsFileWord name.now }
+{
+    !name.is_empty() && name.iter().all(|byte| *byte != b' ' && *byte != b'\n')
+}
+
+/// Each byte has the width of its type, which a caller's contract wants to know.
+fn known(bytes: &[u8])
+    ensures { All (λ b. b < 256) bytes.now }
+{
+    let _ = bytes;
+}
+
+/// Where the bytes of a regular file come from.
+pub fn content_of<F: HostFolder>(folder: &mut F, path: &str, size: u64) -> Result<Content, Skip>
+    ensures { IfOk result ContentFits }
+{
+    if size > MAX_SIZE as u64 {
+        return Err(Skip::LeftOut(Reason::Large));
+    }
+    if size == 0 {
+        return Ok(Content::Empty);
+    }
+    let name = folder.host_path(path)?;
+    if is_file_word(name.as_bytes()) {
+        return Ok(Content::File(name));
+    }
+    let bytes = folder.bytes(path, MAX_SIZE)?;
+    if bytes.len() > MAX_SIZE {
+        return Err(Skip::LeftOut(Reason::Large));
+    }
+    known(bytes.as_slice());
+    Ok(Content::Bytes(bytes))
+}
+
+/// A symlink.
+fn symlink_of<F: HostFolder>(folder: &mut F, path: &str) -> Result<What, Skip>
+    ensures { IfOk result WhatFits }
+{
+    let target = folder.target(path)?;
+    let bytes = target.as_bytes();
+    if bytes.is_empty() || bytes.len() > MAX_TARGET || bytes.iter().any(|byte| *byte == 0) {
+        return Err(Skip::LeftOut(Reason::Target));
+    }
+    Ok(What::Symlink { target })
+}
+
+/// What lies at a path.
+#[derive(Drop)]
+pub struct Found {
+    pub attributes: Attributes,
+    pub what: What,
+    /// The names in a directory.
+    pub names: Option<Names>,
+    /// By what other names of a regular file are known.
+    pub identity: Option<(u64, u64)>,
+}
+
+/// What other names of a regular file are known by, if there are any.
+pub fn identity_of(looked: &Looked) -> Option<(u64, u64)> {
+    if looked.links > 1 && kind_of(looked.mode) == Ok(HostKind::Regular) {
+        return Some((looked.device, looked.number));
+    }
+    None
+}
+
+/// What a file or a symlink is.
+fn leaf_of<F: HostFolder>(
+    folder: &mut F,
+    path: &str,
+    looked: &Looked,
+    kind: HostKind,
+) -> Result<What, Skip>
+    ensures { IfOk result WhatFits }
+{
+    if kind == HostKind::Symlink {
+        return symlink_of(folder, path);
+    }
+    let content = content_of(folder, path, looked.size)?;
+    Ok(What::Regular(content))
+}
+
+/// What an object is, and the names in a directory.
+fn object_of<F: HostFolder>(
+    folder: &mut F,
+    path: &str,
+    looked: &Looked,
+    kind: HostKind,
+) -> Result<(What, Option<Names>), Skip>
+    ensures { IfOk result (λ object. WhatFits object.0) }
+{
+    if kind == HostKind::Directory {
+        let names = folder.names(path)?;
+        return Ok((What::Directory, Some(names)));
+    }
+    let what = leaf_of(folder, path, looked, kind)?;
+    Ok((what, None))
+}
+
+/// What lies at a path, by its first name.
+pub fn first_found<F: HostFolder>(
+    folder: &mut F,
+    path: &str,
+    looked: &Looked,
+    options: &Options,
+) -> Result<Found, Skip>
+    ensures { IfOk result FoundFits }
+{
+    let kind = kind_of(looked.mode)?;
+    let attributes = attributes_of(looked, options)?;
+    let (what, names) = object_of(folder, path, looked, kind)?;
+    Ok(Found {
+        attributes,
+        what,
+        names,
+        identity: identity_of(looked),
+    })
+}
+
+/// A further name of a regular file.
+pub fn link_to(first: String, looked: &Looked, options: &Options) -> Result<Found, Skip>
+    requires rooted { IsRooted (string_bytes first) }
+    ensures { IfOk result FoundFits }
+{
+    let attributes = attributes_of(looked, options)?;
+    Ok(Found {
+        attributes,
+        what: What::Link { first },
+        names: None,
+        identity: None,
+    })
+}

@@ -1,0 +1,44 @@
+//! A folder of the host, as it is read.
+
+use crate::fault::FolderFault;
+
+/// What the host tells of an object, as `lstat` does. The bits 12 to 15 of the mode are its kind, and the time is that of the
+/// last change of its bytes, in seconds since 1970. Names of one object have the same device and number.
+#[derive(Clone, Copy)]
+pub struct Looked {
+    pub mode: u32,
+    pub uid: u32,
+    pub gid: u32,
+    pub time: i64,
+    pub size: u64,
+    pub links: u64,
+    pub device: u64,
+    pub number: u64,
+}
+
+/// The names in a directory, without `.` and `..`: those that are UTF-8, in any order, and how many others there are.
+#[derive(Drop)]
+pub struct Names {
+    pub texts: Vec<String>,
+    pub others: u64,
+}
+
+/// A folder of the host that is read. A path is that of an object in it, names with a slash between two; the empty path is the
+/// folder itself. No call follows a symlink that a path ends in.
+pub trait HostFolder {
+    /// What the host tells of an object.
+    fn look(&mut self, path: &str) -> Result<Looked, FolderFault>;
+
+    /// The names in a directory.
+    fn names(&mut self, path: &str) -> Result<Names, FolderFault>;
+
+    /// The target of a symlink.
+    fn target(&mut self, path: &str) -> Result<String, FolderFault>;
+
+    /// The bytes of a regular file, or its first ones if it has more than `limit`: then at least `limit + 1` of them. It is asked
+    /// only where the name of the file is no word of a listing.
+    fn bytes(&mut self, path: &str, limit: usize) -> Result<Vec<u8>, FolderFault>;
+
+    /// The name by which another program opens the file.
+    fn host_path(&mut self, path: &str) -> Result<String, FolderFault>;
+}

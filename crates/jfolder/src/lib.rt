@@ -1,0 +1,42 @@
+//! A folder of the host as a listing, which `build` makes an image from.
+//!
+//! `read_folder` walks through a folder, a directory before what lies in it and each name in byte order, and follows no symlink.
+//! What a listing cannot say is left out, and a line of the notes tells it. A regular file that was met by another path is a
+//! link to that path. `put_listing` puts the text of the tree:
+//!
+//! | Line | For |
+//! |---|---|
+//! | `attr MODE UID GID TIME TIME /` | the folder itself, first |
+//! | `time T`, `owner UID GID` | what follows, where they are others than before |
+//! | `mkdir MODE PATH`, `create MODE PATH`, `symlink PATH TARGET` | a directory, a regular file, a symlink |
+//! | `part PATH 0 FILE` | the bytes of a file, by its name on the host |
+//! | `write PATH OFFSET HEX` | bytes of a file whose name on the host is no word, at most 4,096 a line |
+//! | `link FIRST PATH` | a further name of a file |
+//!
+//! It is built on `jlisting` (what the lines of a listing mean) and `jline` (escapes). Its promise: the text is read as the
+//! actions that make the tree.
+//!
+//! `specs/Text.antt` has the text of a tree, `specs/Actions.antt` the actions that make it, `specs/Tree.antt` which items are a
+//! tree, and `specs/Notes.antt` what is told of what is left out. `laws` has the law.
+#![tactic(auto)]
+
+mod fault;
+mod found;
+mod host;
+pub mod laws;
+mod notes;
+mod order;
+mod reading;
+mod reason;
+mod settings;
+mod text;
+mod tree;
+mod words;
+
+pub use crate::fault::{FolderFault, ReadFault};
+pub use crate::found::{Options, Owner};
+pub use crate::host::{HostFolder, Looked, Names};
+pub use crate::reading::{Folder, read_folder};
+pub use crate::reason::Reason;
+pub use crate::text::put_listing;
+pub use crate::tree::{Attributes, Content, Item, What};

@@ -1,0 +1,352 @@
+//! Reading a folder of the host.
+
+ghost use Rattle.std.specs.Prelude.{◌≡◌, ◌∷◌, ◌++◌, All, IfOk, IfSome, IsSome};
+ghost use Rattle.std.specs.String.{string_bytes};
+ghost use Rattle.jfolder.specs.Actions.{AttributesFit, Fits, IsRooted, ItemFits, WhatFits};
+ghost use Rattle.jfolder.specs.Walking.{FoundFits};
+
+use crate::fault::ReadFault;
+use crate::found::{
+    Found, HostKind, Options, Skip, attributes_of, first_found, identity_of, kind_of, link_to,
+};
+use crate::host::{HostFolder, Looked, Names};
+use crate::notes::leave_out;
+use crate::order::is_before;
+use crate::reason::Reason;
+use crate::tree::{Attributes, Item, What};
+use flashbase::Sink;
+use std::alloc::{AllocError, Global};
+use std::collections::BTreeMap;
+
+/// The most bytes of a name.
+const MAX_NAME: usize = 254;
+
+/// A folder that was read: its own attributes, what lies in it, and how many paths were left out, modulo 2^64.
+#[derive(Drop)]
+pub struct Folder {
+    pub root: Attributes,
+    pub items: Vec<Item>,
+    pub left_out: u64,
+}
+
+/// A walk through a folder.
+#[derive(Drop)]
+struct Walk {
+    items: Vec<Item>,
+    /// The first item of each regular file that has other names.
+    firsts: BTreeMap<(u64, u64), usize>,
+    /// The paths that are still to visit, the next one last.
+    pending: Vec<String>,
+    left_out: u64,
+}
+
+/// Why a name is none of a listing.
+fn wrong_name(name: &[u8]) -> Option<Reason> {
+    if name.len() > MAX_NAME {
+        return Some(Reason::LongName);
+    }
+    let is_dots = name == b".".as_slice() || name == b"..".as_slice();
+    if name.is_empty() || is_dots || name.iter().any(|byte| *byte == b'/' || *byte == 0) {
+        return Some(Reason::BadName);
+    }
+    None
+}
+
+/// The path of a name in a directory.
+fn joined(alloc: Global, directory: &str, name: &str) -> Result<String, AllocError> {
+    let mut path = String::new(alloc);
+    path.push_str(directory)?;
+    path.push_str("/")?;
+    path.push_str(name)?;
+    Ok(path)
+}
+
+/// A path as the host is asked for it: without the slash that it begins with.
+fn inside(path: &str) -> Option<&str>
+    ensures { IsSome result → IsRooted path.now }
+{
+    path.strip_prefix("/")
+}
+
+/// Adds the path of a name in a directory, or tells that it is left out.
+fn add_child<N: Sink>(
+    alloc: Global,
+    directory: &str,
+    name: &str,
+    paths: &mut Vec<String>,
+    notes: &mut N,
+    left_out: &mut u64,
+) -> Result<(), ReadFault> {
+    let path = joined(alloc, directory, name)?;
+    match wrong_name(name.as_bytes()) {
+        Some(reason) => leave_out(notes, left_out, path.as_bytes(), reason),
+        None => {
+            paths.push(path)?;
+            Ok(())
+        }
+    }
+}
+
+/// Tells that so many names in a directory are left out, since they are no text.
+fn leave_out_others<N: Sink>(
+    alloc: Global,
+    directory: &str,
+    others: u64,
+    notes: &mut N,
+    left_out: &mut u64,
+) -> Result<(), ReadFault> {
+    let unnamed = joined(alloc, directory, "")?;
+    for _ in 0..others {
+        leave_out(notes, left_out, unnamed.as_bytes(), Reason::NoText)?;
+    }
+    Ok(())
+}
+
+/// The paths of these names in a directory.
+fn paths_of<N: Sink>(
+    alloc: Global,
+    directory: &str,
+    names: &[String],
+    notes: &mut N,
+    left_out: &mut u64,
+) -> Result<Vec<String>, ReadFault> {
+    let mut paths = Vec::new(alloc);
+    for name in names {
+        add_child(alloc, directory, name.as_str(), &mut paths, notes, left_out)?;
+    }
+    Ok(paths)
+}
+
+/// The paths of the names in a directory, in byte order. Names that a listing cannot have are left out.
+fn children<N: Sink>(
+    alloc: Global,
+    directory: &str,
+    mut names: Names,
+    notes: &mut N,
+    left_out: &mut u64,
+) -> Result<Vec<String>, ReadFault> {
+    names.texts.sort()?;
+    leave_out_others(alloc, directory, names.others, notes, left_out)?;
+    paths_of(alloc, directory, names.texts.as_slice(), notes, left_out)
+}
+
+impl Walk {
+    fn new(alloc: Global) -> Walk
+        ensures { All ItemFits result.items.items }
+    {
+        Walk {
+            items: Vec::new(alloc),
+            firsts: BTreeMap::new(alloc),
+            pending: Vec::new(alloc),
+            left_out: 0,
+        }
+    }
+
+    /// Whether a path comes after those of all items.
+    fn is_next(&self, path: &str) -> bool {
+        match self.items.as_slice().last() {
+            Some(item) => is_before(item.path.as_bytes(), path.as_bytes()),
+            None => true,
+        }
+    }
+
+    /// The first path of a regular file, if it was met before.
+    fn first_path(&self, looked: &Looked) -> Option<&str>
+        requires { All ItemFits self.now.items.items }
+        ensures { IfSome result (λ first. IsRooted first.now) }
+    {
+        let index = self.firsts.get(&identity_of(looked)?)?;
+        let item = self.items.as_slice().get(*index)?;
+        match &item.what {
+            What::Regular(_) => Some(item.path.as_str()),
+            _ => None,
+        }
+    }
+
+    /// What the host tells of a path that comes after those of all items.
+    fn look<F: HostFolder>(&self, folder: &mut F, path: &str) -> Result<Looked, Skip>
+        ensures { IfOk result (λ _. IsRooted path.now) }
+    {
+        let Some(rest) = inside(path) else {
+            return Err(Skip::LeftOut(Reason::BadName));
+        };
+        if !self.is_next(path) {
+            return Err(Skip::LeftOut(Reason::Repeated));
+        }
+        Ok(folder.look(rest)?)
+    }
+
+    /// What lies at a path.
+    fn find<F: HostFolder>(
+        &self,
+        alloc: Global,
+        folder: &mut F,
+        options: &Options,
+        path: &str,
+    ) -> Result<Found, Skip>
+        requires { All ItemFits self.now.items.items }
+        ensures found { IfOk result FoundFits }
+        ensures rooted { IfOk result (λ _. IsRooted path.now) }
+    {
+        let looked = self.look(folder, path)?;
+        match self.first_path(&looked) {
+            Some(first) => link_to(String::from_str(alloc, first)?, &looked, options),
+            None => first_found(folder, inside(path).unwrap_or(path), &looked, options),
+        }
+    }
+
+    /// The paths in a directory.
+    fn paths_in<N: Sink>(
+        &mut self,
+        alloc: Global,
+        notes: &mut N,
+        path: &str,
+        names: Option<Names>,
+    ) -> Result<Vec<String>, ReadFault>
+        ensures { self.new.items.items ≡ self.old.items.items }
+    {
+        match names {
+            Some(names) => children(alloc, path, names, notes, &mut self.left_out),
+            None => Ok(Vec::new(alloc)),
+        }
+    }
+
+    /// Remembers the next item as the first of a regular file that has other names.
+    fn remember(&mut self, identity: Option<(u64, u64)>) -> Result<(), ReadFault>
+        ensures { self.new.items.items ≡ self.old.items.items }
+    {
+        if let Some(identity) = identity {
+            self.firsts.insert(identity, self.items.len())?;
+        }
+        Ok(())
+    }
+
+    /// Adds an item.
+    fn push_item(
+        &mut self,
+        path: String,
+        attributes: Attributes,
+        what: What,
+    ) -> Result<(), ReadFault>
+        requires items { All ItemFits self.old.items.items }
+        requires path { IsRooted (string_bytes path) }
+        requires attributes { AttributesFit attributes }
+        requires what { WhatFits what }
+        ensures { IfOk result (λ _. All ItemFits self.new.items.items) }
+    {
+        self.items.push(Item {
+            path,
+            attributes,
+            what,
+        })?;
+        Ok(())
+    }
+
+    /// Adds what lies at a path, and the paths in a directory to those that are still to visit.
+    fn add<N: Sink>(
+        &mut self,
+        alloc: Global,
+        notes: &mut N,
+        path: String,
+        found: Found,
+    ) -> Result<(), ReadFault>
+        requires items { All ItemFits self.old.items.items }
+        requires path { IsRooted (string_bytes path) }
+        requires found { FoundFits found }
+        ensures { IfOk result (λ _. All ItemFits self.new.items.items) }
+    {
+        let Found {
+            attributes,
+            what,
+            names,
+            identity,
+        } = found;
+        let paths = self.paths_in(alloc, notes, path.as_str(), names)?;
+        self.remember(identity)?;
+        self.push_item(path, attributes, what)?;
+        self.put_off(paths)?;
+        Ok(())
+    }
+
+    /// Adds paths to those that are still to visit, the first to be visited next.
+    fn put_off(&mut self, mut paths: Vec<String>) -> Result<(), AllocError>
+        ensures { self.new.items.items ≡ self.old.items.items }
+    {
+        while let Some(path) = paths.pop() {
+            self.pending.push(path)?;
+        }
+        Ok(())
+    }
+
+    /// Adds what lies at a path, or tells that it is left out.
+    fn visit<F: HostFolder, N: Sink>(
+        &mut self,
+        alloc: Global,
+        folder: &mut F,
+        options: &Options,
+        notes: &mut N,
+        path: String,
+    ) -> Result<(), ReadFault>
+        requires { All ItemFits self.old.items.items }
+        ensures { IfOk result (λ _. All ItemFits self.new.items.items) }
+    {
+        match self.find(alloc, folder, options, path.as_str()) {
+            Ok(found) => self.add(alloc, notes, path, found),
+            Err(Skip::LeftOut(reason)) => leave_out(
+                notes,
+                &mut self.left_out,
+                path.as_bytes(),
+                reason,
+            ),
+            Err(Skip::OutOfMemory) => Err(ReadFault::OutOfMemory),
+        }
+    }
+}
+
+/// The folder itself: its attributes, and the names in it.
+fn root_of<F: HostFolder>(folder: &mut F, options: &Options) -> Result<(Attributes, Names), Skip>
+    ensures { IfOk result (λ root. AttributesFit root.0) }
+{
+    let looked = folder.look("")?;
+    if kind_of(looked.mode) != Ok(HostKind::Directory) {
+        return Err(Skip::LeftOut(Reason::NotDirectory));
+    }
+    let attributes = attributes_of(&looked, options)?;
+    Ok((attributes, folder.names("")?))
+}
+
+/// Reads a folder: a directory before what lies in it, and the names in it in byte order. A regular file that was met before is
+/// a link to its first path. Symlinks are not followed. What a listing cannot say is left out, with a line of the notes for each
+/// path. `options` say what takes the place of all owners and times.
+///
+/// # Errors
+/// `Folder`: the folder itself can't be read, is no directory, or has an owner or a time that a listing cannot say. `Notes`: the
+/// notes failed. `OutOfMemory`.
+pub fn read_folder<F: HostFolder, N: Sink>(
+    alloc: Global,
+    folder: &mut F,
+    options: &Options,
+    notes: &mut N,
+) -> Result<Folder, ReadFault>
+    ensures fits { IfOk result (λ read. Fits read.root read.items.items) }
+{
+    let (root, names) = match root_of(folder, options) {
+        Ok(found) => found,
+        Err(Skip::LeftOut(reason)) => return Err(ReadFault::Folder(reason)),
+        Err(Skip::OutOfMemory) => return Err(ReadFault::OutOfMemory),
+    };
+    let mut walk = Walk::new(alloc);
+    let paths = children(alloc, "", names, notes, &mut walk.left_out)?;
+    walk.put_off(paths)?;
+    for _ in 0..u64::MAX {
+        let Some(path) = walk.pending.pop() else {
+            break;
+        };
+        walk.visit(alloc, folder, options, notes, path)?;
+    }
+    Ok(Folder {
+        root,
+        items: walk.items,
+        left_out: walk.left_out,
+    })
+}

@@ -1,0 +1,86 @@
+//! Folders, and the texts that are known of them.
+
+use crate::memory::{Memory, Object, make_object};
+use jfolder::{Folder, Options, Owner, ReadFault, put_listing, read_folder};
+use jlisting::listing;
+use std::alloc::Global;
+use test_support::Taker;
+
+/// What is taken as it is told.
+pub const AS_TOLD: Options = Options {
+    owner: None,
+    time: None,
+};
+
+/// What takes the place of all owners and times.
+pub const GIVEN: Options = Options {
+    owner: Some(Owner { uid: 1, gid: 2 }),
+    time: Some(3),
+};
+
+/// A regular file with two names.
+fn shared(path: &'static str) -> Object {
+    let mut object = make_object(path, 0o100644, (5, 6), 100, "abc");
+    object.looked.links = 2;
+    object.looked.number = 9;
+    object
+}
+
+/// A folder with most of what there is.
+pub fn tree() -> [Object; 10] {
+    [
+        make_object("", 0o040755, (0, 0), 100, ""),
+        shared("b"),
+        make_object("a", 0o040700, (0, 0), 100, ""),
+        make_object("a/x", 0o104755, (0, 0), 100, ""),
+        make_object("a/l", 0o120777, (0, 0), 7, "../b c/\\"),
+        shared("a.c"),
+        make_object("d", 0o010644, (0, 0), 0, ""),
+        make_object("e f", 0o100600, (0, 0), 0, "\0~A"),
+        make_object("g", 0o040755, (70000, 0), 0, ""),
+        make_object("g/h", 0o040755, (0, 0), 0, ""),
+    ]
+}
+
+pub const TREE_TEXT: &str =
+    "time 100\nattr 755 0 0 100 100 /\nmkdir 700 /a\ntime 7\nsymlink /a/l ../b\\x20c/\\x5c\ntime 100\ncreate 4755 /a/x\nowner 5 6\ncreate 644 /a.c\npart /a.c 0 host/a.c\nlink /a.c /b\ntime 0\nowner 0 0\ncreate 600 /e\\x20f\nwrite /e\\x20f 0 007e41\n";
+
+pub const TREE_NOTES: &str = "left out /d: FIFO\nleft out /g: an owner above 65535\n";
+
+/// The same folder, with one owner and one time.
+pub const GIVEN_TEXT: &str =
+    "time 3\nattr 755 1 2 3 3 /\nowner 1 2\nmkdir 700 /a\nsymlink /a/l ../b\\x20c/\\x5c\ncreate 4755 /a/x\ncreate 644 /a.c\npart /a.c 0 host/a.c\nlink /a.c /b\ncreate 600 /e\\x20f\nwrite /e\\x20f 0 007e41\nmkdir 755 /g\nmkdir 755 /g/h\n";
+
+/// Whether a folder is read as this listing, with these notes.
+pub fn is_read(
+    alloc: Global,
+    objects: &[Object],
+    options: &Options,
+    text: &str,
+    notes: &str,
+    left_out: u64,
+) -> bool {
+    let mut told = Taker::new(alloc);
+    let Ok(folder) = read_folder(alloc, &mut Memory::new(alloc, objects), options, &mut told) else {
+        return false;
+    };
+    told.took(0, notes.as_bytes())
+        && folder.left_out == left_out
+        && is_text_of(alloc, &folder, text.as_bytes())
+}
+
+/// Whether a folder has this listing, which can be read.
+pub fn is_text_of(alloc: Global, folder: &Folder, text: &[u8]) -> bool {
+    let mut sink = Taker::new(alloc);
+    let put = put_listing(&folder.root, folder.items.as_slice(), &mut sink);
+    put.is_ok() && sink.took(0, text) && listing(alloc, text).is_ok()
+}
+
+/// Why a folder is not read.
+pub fn fault_of(alloc: Global, objects: &[Object], options: &Options) -> Option<ReadFault> {
+    let mut told = Taker::new(alloc);
+    match read_folder(alloc, &mut Memory::new(alloc, objects), options, &mut told) {
+        Ok(_) => None,
+        Err(fault) => Some(fault),
+    }
+}

@@ -1,0 +1,234 @@
+//! Folders as listings.
+
+use crate::folders::{AS_TOLD, GIVEN, GIVEN_TEXT, TREE_NOTES, TREE_TEXT, fault_of, is_read, tree};
+use crate::memory::{Memory, Object, make_object};
+use jfolder::{
+    Attributes, Content, Item, Looked, ReadFault, Reason, What, put_listing, read_folder,
+};
+use jlisting::{Action, listing};
+use jsteps::Op;
+use std::alloc::Global;
+use test_support::Taker;
+
+#[test]
+fn a_folder_is_listed(rt: HostRuntime) {
+    let alloc = rt.alloc();
+    assert!(rt; is_read(alloc, &tree(), &AS_TOLD, TREE_TEXT, TREE_NOTES, 2));
+    assert!(rt; is_read(alloc, &tree(), &GIVEN, GIVEN_TEXT, "left out /d: FIFO\n", 1));
+}
+
+/// An object of this kind beside the folder itself.
+fn with_other(kind: u32, time: i64, size: u64, text: &'static str) -> [Object; 2] {
+    let mut other = make_object("o", kind, (0, 0), time, text);
+    other.looked.size = size;
+    [make_object("", 0o040755, (0, 0), 0, ""), other]
+}
+
+const ROOT_TEXT: &str = "attr 755 0 0 0 0 /\n";
+
+#[test]
+fn what_no_listing_says_is_left_out(rt: HostRuntime) {
+    let alloc = rt.alloc();
+    let rows: [([Object; 2], &str); 12] = [
+        (with_other(0o140000, 0, 0, ""), "left out /o: socket\n"),
+        (
+            with_other(0o020000, 0, 0, ""),
+            "left out /o: character device\n",
+        ),
+        (
+            with_other(0o060000, 0, 0, ""),
+            "left out /o: block device\n",
+        ),
+        (
+            with_other(0o150000, 0, 0, ""),
+            "left out /o: a kind that is not known\n",
+        ),
+        (
+            with_other(0o100000, 0, 2147483648, ""),
+            "left out /o: more than 2147483647 bytes\n",
+        ),
+        (
+            with_other(0o100000, -1, 0, ""),
+            "left out /o: a time before 1970 or after 2106\n",
+        ),
+        (
+            with_other(0o100000, 4294967296, 0, ""),
+            "left out /o: a time before 1970 or after 2106\n",
+        ),
+        (
+            with_other(0o120000, 0, 0, ""),
+            "left out /o: a target of no bytes, of more than 4095, or with a zero byte\n",
+        ),
+        (
+            with_other(0o120000, 0, 1, "a\0"),
+            "left out /o: a target of no bytes, of more than 4095, or with a zero byte\n",
+        ),
+        (with_other(0o120000, 0, 1, "?"), "left out /o: no text\n"),
+        (with_other(0o100000, 0, 2147483647, "abc"), ""),
+        (with_other(0o100000, 4294967295, 0, ""), ""),
+    ];
+    for (objects, notes) in rows.iter() {
+        if notes.is_empty() {
+            continue;
+        }
+        assert!(rt; is_read(alloc, objects, &AS_TOLD, ROOT_TEXT, notes, 1));
+    }
+    let text = "attr 755 0 0 0 0 /\ncreate 0 /o\npart /o 0 host/o\n";
+    assert!(rt; is_read(alloc, &rows[10].0, &AS_TOLD, text, "", 0));
+    let text = "attr 755 0 0 0 0 /\ntime 4294967295\ncreate 0 /o\n";
+    assert!(rt; is_read(alloc, &rows[11].0, &AS_TOLD, text, "", 0));
+}
+
+#[test]
+fn names_that_are_none_are_left_out(rt: HostRuntime) {
+    let alloc = rt.alloc();
+    let mut root = make_object("", 0o040755, (0, 0), 0, "");
+    root.others = 2;
+    let objects = [
+        root,
+        make_object("..", 0o040755, (0, 0), 0, ""),
+        make_object("a\0", 0o100644, (0, 0), 0, ""),
+        make_object("b", 0o100644, (0, 0), 0, ""),
+        make_object("b", 0o100644, (0, 0), 0, ""),
+    ];
+    let notes =
+        "left out /: no text\nleft out /: no text\nleft out /..: a name that no file has\nleft out /a\\x00: a name that no file has\nleft out /b: a name that was told before\n";
+    let text = "attr 755 0 0 0 0 /\ncreate 644 /b\n";
+    assert!(rt; is_read(alloc, &objects, &AS_TOLD, text, notes, 5));
+}
+
+#[test]
+fn the_folder_itself_is_a_directory(rt: HostRuntime) {
+    let alloc = rt.alloc();
+    let rows = [
+        (
+            make_object("", 0o100644, (0, 0), 0, ""),
+            Reason::NotDirectory,
+        ),
+        (make_object("x", 0o040755, (0, 0), 0, ""), Reason::Refused),
+        (make_object("", 0o040755, (0, 65536), 0, ""), Reason::Owner),
+        (make_object("", 0o040755, (0, 0), -1, ""), Reason::Time),
+    ];
+    for (root, reason) in rows.iter() {
+        assert_eq!(rt;
+            fault_of(alloc, &[*root], &AS_TOLD),
+            Some(ReadFault::Folder(*reason))
+        );
+    }
+}
+
+/// How many lines a text has.
+fn lines_in(text: &[u8]) -> u64 {
+    let mut count = 0u64;
+    for byte in text {
+        if *byte == b'\n' {
+            count = count.wrapping_add(1);
+        }
+    }
+    count
+}
+
+/// What is refused is left out, and the rest is a listing still.
+#[test]
+fn a_host_that_refuses_a_call(rt: HostRuntime) {
+    let alloc = rt.alloc();
+    let objects = tree();
+    for calls in 0..25 {
+        let mut folder = Memory::new(alloc, &objects);
+        folder.calls = calls;
+        let mut notes = Taker::new(alloc);
+        match read_folder(alloc, &mut folder, &AS_TOLD, &mut notes) {
+            Ok(read) => {
+                assert!(rt; calls >= 2);
+                assert_eq!(rt; read.left_out, lines_in(notes.bytes.as_slice()));
+                let mut sink = Taker::new(alloc);
+                assert!(rt; put_listing(&read.root, read.items.as_slice(), &mut sink).is_ok());
+                assert!(rt; listing(alloc, sink.bytes.as_slice()).is_ok());
+            }
+            Err(fault) => {
+                assert!(rt; calls < 2);
+                assert_eq!(rt; fault, ReadFault::Folder(Reason::Refused));
+            }
+        }
+    }
+}
+
+#[test]
+fn notes_that_fail(rt: HostRuntime) {
+    let alloc = rt.alloc();
+    let objects = tree();
+    for limit in 0..TREE_NOTES.len() {
+        let mut notes = Taker::limited(alloc, 3, limit);
+        match read_folder(
+            alloc,
+            &mut Memory::new(alloc, &objects),
+            &AS_TOLD,
+            &mut notes,
+        ) {
+            Ok(_) => assert!(rt; false),
+            Err(fault) => assert_eq!(rt; fault, ReadFault::Notes),
+        }
+        assert!(rt; notes.took(1, &TREE_NOTES.as_bytes()[..limit]));
+    }
+}
+
+#[test]
+fn a_sink_that_fails(rt: HostRuntime) {
+    let alloc = rt.alloc();
+    let objects = tree();
+    let mut notes = Taker::new(alloc);
+    let Ok(read) = read_folder(
+        alloc,
+        &mut Memory::new(alloc, &objects),
+        &AS_TOLD,
+        &mut notes,
+    ) else {
+        return assert!(rt; false);
+    };
+    for limit in 0..TREE_TEXT.len() {
+        let mut sink = Taker::limited(alloc, 7, limit);
+        assert!(rt; put_listing(&read.root, read.items.as_slice(), &mut sink).is_err());
+        assert!(rt; sink.took(1, &TREE_TEXT.as_bytes()[..limit]));
+    }
+}
+
+/// Whether a line is a write of so many bytes 7 from an offset on.
+fn is_write(action: &Action<'_>, from: u32, count: usize) -> bool {
+    match action {
+        Action::Op(Op::Write { offset, bytes, .. }) => {
+            *offset == from
+                && bytes.as_slice().len() == count
+                && bytes.as_slice().iter().all(|byte| *byte == 7)
+        }
+        _ => false,
+    }
+}
+
+/// Whether 5,000 bytes are two lines, of 4,096 and 904.
+fn are_pieces(alloc: Global) -> Option<bool> {
+    let attributes = Attributes {
+        mode: 0o600,
+        uid: 0,
+        gid: 0,
+        time: 0,
+    };
+    let item = Item {
+        path: String::from_str(alloc, "/a").ok()?,
+        attributes,
+        what: What::Regular(Content::Bytes(Vec::from_slice(alloc, &[7; 5000]).ok()?)),
+    };
+    let mut sink = Taker::new(alloc);
+    put_listing(&attributes, &[item], &mut sink).ok()?;
+    let lines = listing(alloc, sink.bytes.as_slice()).ok()?;
+    let lines = lines.as_slice();
+    Some(
+        lines.len() == 4
+            && is_write(&lines[2].action, 0, 4096)
+            && is_write(&lines[3].action, 4096, 904),
+    )
+}
+
+#[test]
+fn bytes_go_by_pieces(rt: HostRuntime) {
+    assert_eq!(rt; are_pieces(rt.alloc()), Some(true));
+}
