@@ -61,18 +61,18 @@ fn refused_growth_of_many_names_changes_nothing(rt: HostRuntime) {
         (1, b"j", 11),
     ];
     for (added, before) in [
-        (entry(1, 1, 2, b"a"), 0),
-        (entry(1, 2, 3, b"b"), 1),
-        (entry(1, 3, 4, b"c"), 2),
-        (entry(1, 4, 5, b"d"), 3),
-        (entry(1, 5, 6, b"e"), 4),
-        (entry(1, 6, 7, b"f"), 5),
-        (entry(1, 7, 8, b"g"), 6),
-        (entry(1, 8, 9, b"h"), 7),
-        (entry(1, 9, 10, b"i"), 8),
-        (entry(1, 10, 11, b"j"), 9),
+        (entry(1, 1, 2, b"a"), &all[..0]),
+        (entry(1, 2, 3, b"b"), &all[..1]),
+        (entry(1, 3, 4, b"c"), &all[..2]),
+        (entry(1, 4, 5, b"d"), &all[..3]),
+        (entry(1, 5, 6, b"e"), &all[..4]),
+        (entry(1, 6, 7, b"f"), &all[..5]),
+        (entry(1, 7, 8, b"g"), &all[..6]),
+        (entry(1, 8, 9, b"h"), &all[..7]),
+        (entry(1, 9, 10, b"i"), &all[..8]),
+        (entry(1, 10, 11, b"j"), &all[..9]),
     ] {
-        assert!(rt; add_again(&mut names, &added, &all[..before]));
+        assert!(rt; add_again(&mut names, &added, before));
     }
     assert!(rt; are_all(&names, &all));
 }
