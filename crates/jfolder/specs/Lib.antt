@@ -1,7 +1,7 @@
 pub mod Actions
 pub mod Laws
 pub mod Notes
+pub mod Order
 pub mod Pieces
 pub mod Text
-pub mod Tree
 pub mod Walking

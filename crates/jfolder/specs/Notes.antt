@@ -6,7 +6,6 @@ use Rattle.flashbase.specs.Device.{PutsPart, next_count}
 use Rattle.jfolder.specs.Text.{word_of}
 use Rattle.jfolder.specs.declared.fault.ReadFault.{ReadFault}
 use Rattle.jfolder.specs.declared.fault.ReadFault.TheVariants as fault
-use Rattle.jfolder.specs.declared.reading.Folder.{Folder}
 use Rattle.jfolder.specs.declared.reason.Reason.{Reason}
 use Rattle.jfolder.specs.declared.reason.Reason.TheVariants as reason
 
@@ -43,8 +42,3 @@ TellsMore old new before now count total (Ok _) = (lefts : List LeftOut) × Appe
     × (total ≡ (count + length lefts) % 2 ^ 64)
 TellsMore old new before now count total (Err fault.Notes) = ((lefts : List LeftOut) × PutsPart old new (left_out_text lefts)) × (now ≡ next_count before)
 TellsMore old new before now count total (Err _) = ((lefts : List LeftOut) × Appends old new (left_out_text lefts)) × (now ≡ before)
-
--- how many paths a reading says were left out
-abbrev pub told_of : Result Folder ReadFault → ℕ
-told_of (Ok folder) = folder.left_out
-told_of (Err e) = 0

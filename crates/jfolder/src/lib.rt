@@ -16,8 +16,8 @@
 //! It is built on `jlisting` (what the lines of a listing mean) and `jline` (escapes). Its promise: the text is read as the
 //! actions that make the tree.
 //!
-//! `specs/Text.antt` has the text of a tree, `specs/Actions.antt` the actions that make it, `specs/Tree.antt` which items are a
-//! tree, and `specs/Notes.antt` what is told of what is left out. `laws` has the law.
+//! `specs/Text.antt` has the text of a tree, `specs/Actions.antt` the actions that make it, `specs/Order.antt` the order of paths,
+//! and `specs/Notes.antt` what is told of what is left out. `laws` has the law.
 #![tactic(auto)]
 
 mod fault;

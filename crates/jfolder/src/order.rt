@@ -1,7 +1,7 @@
 //! The order in which a folder is walked through.
 
 ghost use Rattle.std.specs.Prelude.{◌≡◌, ◌+◌, ◌==◌};
-ghost use Rattle.jfolder.specs.Tree.{is_before, rank};
+ghost use Rattle.jfolder.specs.Order.{is_before, rank};
 
 /// A slash is lower than any other byte.
 fn rank(byte: u8) -> u16

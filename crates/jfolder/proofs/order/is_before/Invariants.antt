@@ -1,5 +1,5 @@
 use Rattle.std.proofs.Common.{◌≡◌, ◌≤◌, ◌-◌, drop, length}
-use Rattle.jfolder.specs.Tree.{is_before}
+use Rattle.jfolder.specs.Order.{is_before}
 use Rattle.jfolder.proofs.order.is_before.Given as goal
 
 abbrev pub invariant-loop-i : goal.invariant-loop-i
