@@ -1,0 +1,4 @@
+pub mod Extracts
+pub mod Folders
+pub mod Outcomes
+pub mod Paths
