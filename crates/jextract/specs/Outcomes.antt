@@ -37,26 +37,31 @@ is_target target = nat_lt 0 (length target) && nat_le (length target) 4095 && is
 abbrev pub plan_symlink : List ℕ → Attributes → Plan
 plan_symlink target attributes = if is_target target then Do (Symlink target attributes ∷ []) else LeaveOut reason.BadTarget
 
--- a directory that was made before is not made again
-abbrev pub plan_directory : Option (List ℕ) → Plan
-plan_directory None = Do (Directory ∷ [])
-plan_directory (Some first) = LeaveOut reason.Again
+-- why an object that is no directory, file or symlink is left out
+abbrev pub reason_of : Kind → Reason
+reason_of kind.CharacterDevice = reason.CharacterDevice
+reason_of kind.BlockDevice = reason.BlockDevice
+reason_of kind.Fifo = reason.Fifo
+reason_of kind.Socket = reason.Socket
+reason_of _ = reason.UnknownKind
 
--- a further name of what was made at this path
-abbrev pub plan_link : Option (List ℕ) → Plan → Plan
-plan_link None plan = plan
-plan_link (Some first) plan = Do (Link first ∷ [])
+-- what is done with an object that was not made before, by its kind, its bytes and its attributes
+abbrev pub plan_anew : Kind → List ℕ → Attributes → Plan
+plan_anew kind.Directory bytes attributes = Do (Directory ∷ [])
+plan_anew kind.Regular bytes attributes = Do (File ∷ Content bytes attributes ∷ [])
+plan_anew kind.Symlink bytes attributes = plan_symlink bytes attributes
+plan_anew other bytes attributes = LeaveOut (reason_of other)
 
--- what is done with an object of this kind, by where it was made first, its bytes and its attributes
-abbrev pub plan_of : Kind → Option (List ℕ) → List ℕ → Attributes → Plan
-plan_of kind.Directory first bytes attributes = plan_directory first
-plan_of kind.Regular first bytes attributes = plan_link first (Do (File ∷ Content bytes attributes ∷ []))
-plan_of kind.Symlink first bytes attributes = plan_link first (plan_symlink bytes attributes)
-plan_of kind.CharacterDevice first bytes attributes = LeaveOut reason.CharacterDevice
-plan_of kind.BlockDevice first bytes attributes = LeaveOut reason.BlockDevice
-plan_of kind.Fifo first bytes attributes = LeaveOut reason.Fifo
-plan_of kind.Socket first bytes attributes = LeaveOut reason.Socket
-plan_of kind.Other first bytes attributes = LeaveOut reason.UnknownKind
+-- what is done with an object that was made at this path before: a file or a symlink gets a further name
+abbrev pub plan_again : Kind → List ℕ → Plan
+plan_again kind.Directory first = LeaveOut reason.Again
+plan_again kind.Regular first = Do (Link first ∷ [])
+plan_again kind.Symlink first = Do (Link first ∷ [])
+plan_again other first = LeaveOut (reason_of other)
+
+abbrev pub plan_of : Option (List ℕ) → Kind → List ℕ → Attributes → Plan
+plan_of None kind bytes attributes = plan_anew kind bytes attributes
+plan_of (Some first) kind bytes attributes = plan_again kind first
 
 -- ---- the walk: what is still to be done
 
@@ -87,7 +92,7 @@ tasks_in s path i = tasks_of s path (entries_in s i) ++ Complete path i ∷ []
 
 abbrev pub plan_made : State → Bool → Firsts → ℕ → Option Object → Plan
 plan_made s owners firsts i None = Do []
-plan_made s owners firsts i (Some o) = plan_of o.kind (firsts i) (readable s i) (attributes_of owners o)
+plan_made s owners firsts i (Some o) = plan_of (firsts i) o.kind (readable s i) (attributes_of owners o)
 
 abbrev pub plan_completed : Bool → Option Object → Plan
 plan_completed owners None = Do []
@@ -183,7 +188,7 @@ reason_text reason.BadTarget = codes "bad target"
 reason_text reason.Refused = codes "refused by the host"
 
 unfoldable pub left_out_line : List (List ℕ) → Reason → List ℕ
-left_out_line path why = codes "left out " ++ path_shown path ++ codes ": " ++ reason_text why ++ 10 ∷ []
+left_out_line path why = codes "left out " ++ (path_shown path ++ (codes ": " ++ (reason_text why ++ 10 ∷ [])))
 
 abbrev pub line_if : List (List ℕ) → Option Reason → List ℕ
 line_if path None = []

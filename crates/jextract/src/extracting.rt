@@ -1,12 +1,166 @@
 //! The tree of a mounted image, written into a folder of the host.
 
+ghost use Rattle.std.specs.Prelude.{map};
 ghost use Rattle.jextract.specs.Extracts.{Extracts};
+ghost use Rattle.jextract.specs.Walking.{Tells};
 
 use crate::fault::ExtractFault;
 use crate::folder::{Folder, FolderFault};
+use crate::making::{MakeFault, complete, make};
+use crate::notes::tell;
 use flashbase::Sink;
-use jmount::Mounted;
+use jmount::{Kind, Mounted};
+use jname::Of;
 use std::alloc::Global;
+use std::collections::BTreeMap;
+use std::mem;
+
+const ROOT: u32 = 1;
+
+/// Tells why a task was left out, if it was, and counts it. Answers whether it was done.
+fn settle<N: Sink>(
+    done: Result<(), MakeFault>,
+    path: &[&[u8]],
+    left_out: &mut u64,
+    notes: &mut N,
+) -> Result<bool, ExtractFault>
+    ensures { Tells done (map (λ name. name.now) path.now) (N.taken notes.old) (N.taken notes.new)
+        (N.failures notes.old) (N.failures notes.new) left_out.old left_out.new result }
+{
+    match done {
+        Ok(()) => Ok(true),
+        Err(MakeFault::LeftOut(reason)) => {
+            *left_out = left_out.saturating_add(1);
+            match tell(notes, path, reason) {
+                Ok(()) => Ok(false),
+                Err(_) => Err(ExtractFault::Notes),
+            }
+        }
+        Err(MakeFault::OutOfMemory) => Err(ExtractFault::OutOfMemory),
+    }
+}
+
+/// A walk through a tree, a directory before what lies in it.
+#[derive(Drop)]
+struct Walk<'m, 'a> {
+    /// The names that lead to the directory that is read.
+    path: Vec<&'m [u8]>,
+    /// Its number.
+    ino: u32,
+    /// What is left of it.
+    left: Of<'m, 'a>,
+    /// The directories above it, from the root on, and what is left of each.
+    above: Vec<(u32, Of<'m, 'a>)>,
+    /// The path at which each object was made first.
+    firsts: BTreeMap<u32, String>,
+    /// How many objects were left out.
+    left_out: u64,
+}
+
+impl<'m, 'a> Walk<'m, 'a> {
+    /// Makes the object that the path leads to, if there is one. Answers whether it is a directory that was made.
+    fn visit<F: Folder, N: Sink>(
+        &mut self,
+        alloc: Global,
+        mounted: &'m Mounted<'a>,
+        owners: bool,
+        ino: u32,
+        folder: &mut F,
+        notes: &mut N,
+    ) -> Result<bool, ExtractFault> {
+        let Some(object) = mounted.object(ino) else {
+            return Ok(false);
+        };
+        let done = make(
+            alloc,
+            mounted,
+            owners,
+            &self.path,
+            ino,
+            &object,
+            &mut self.firsts,
+            folder,
+        );
+        let is_made = settle(done, &self.path, &mut self.left_out, notes)?;
+        Ok(is_made && object.kind == Kind::Directory)
+    }
+
+    /// Completes the directory that was read, and goes back to the one above it. Answers whether there is one.
+    fn leave<F: Folder, N: Sink>(
+        &mut self,
+        alloc: Global,
+        mounted: &'m Mounted<'a>,
+        owners: bool,
+        folder: &mut F,
+        notes: &mut N,
+    ) -> Result<bool, ExtractFault> {
+        let done = complete(alloc, mounted, owners, &self.path, self.ino, folder);
+        settle(done, &self.path, &mut self.left_out, notes)?;
+        Ok(self.go_up())
+    }
+
+    /// Goes back to the directory above, if there is one.
+    fn go_up(&mut self) -> bool {
+        let Some((ino, left)) = self.above.pop() else {
+            return false;
+        };
+        self.ino = ino;
+        self.left = left;
+        self.path.pop();
+        true
+    }
+
+    /// Visits what the next name leads to, or leaves the directory where there is none. Answers whether the walk goes on.
+    fn step<F: Folder, N: Sink>(
+        &mut self,
+        alloc: Global,
+        mounted: &'m Mounted<'a>,
+        owners: bool,
+        folder: &mut F,
+        notes: &mut N,
+    ) -> Result<bool, ExtractFault> {
+        let Some((name, ino)) = self.left.next() else {
+            return self.leave(alloc, mounted, owners, folder, notes);
+        };
+        self.path.push(name)?;
+        if self.visit(alloc, mounted, owners, ino, folder, notes)? {
+            self.enter(mounted, ino)?;
+        } else {
+            self.path.pop();
+        }
+        Ok(true)
+    }
+
+    /// Goes to the directory that the path leads to.
+    fn enter(&mut self, mounted: &'m Mounted<'a>, ino: u32) -> Result<(), ExtractFault> {
+        let left = mem::replace(&mut self.left, mounted.entries(ino));
+        self.above.push((self.ino, left))?;
+        self.ino = ino;
+        Ok(())
+    }
+}
+
+/// Makes the tree of a mounted image in a folder that was made.
+fn fill<F: Folder, N: Sink>(
+    alloc: Global,
+    mounted: &Mounted<'_>,
+    owners: bool,
+    folder: &mut F,
+    notes: &mut N,
+) -> Result<u64, ExtractFault> {
+    let mut firsts = BTreeMap::new(alloc);
+    firsts.insert(ROOT, String::new(alloc))?;
+    let mut walk = Walk {
+        path: Vec::new(alloc),
+        ino: ROOT,
+        left: mounted.entries(ROOT),
+        above: Vec::new(alloc),
+        firsts,
+        left_out: 0,
+    };
+    while walk.step(alloc, mounted, owners, folder, notes)? {}
+    Ok(walk.left_out)
+}
 
 /// Makes the folder, and in it the tree of a mounted image: a directory before what lies in it, and names in byte order.
 /// Answers how many objects were left out, up to the greatest `u64`; each of them is told as a line of the notes.
@@ -29,12 +183,8 @@ pub fn extract<F: Folder, N: Sink>(
     ensures { Extracts mounted.now.state owners (F.made folder.old) (F.made folder.new) (F.failures folder.old) (F.failures folder.new)
         (N.taken notes.old) (N.taken notes.new) (N.failures notes.old) (N.failures notes.new) result }
 {
-    let _ = alloc;
-    let _ = mounted;
-    let _ = owners;
-    let _ = notes;
     match folder.make_directory("") {
-        Ok(()) => Ok(0),
+        Ok(()) => fill(alloc, mounted, owners, folder, notes),
         Err(FolderFault::Refused) => Err(ExtractFault::Folder),
         Err(FolderFault::OutOfMemory) => Err(ExtractFault::OutOfMemory),
     }

@@ -11,6 +11,9 @@
 mod extracting;
 mod fault;
 mod folder;
+mod making;
+mod notes;
+mod paths;
 mod reason;
 
 pub use crate::extracting::extract;
