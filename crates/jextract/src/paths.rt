@@ -1,6 +1,6 @@
 //! The paths of the host.
 
-ghost use Rattle.std.specs.Prelude.{◌≡◌, ◌==◌, ◌&&◌, not, map, IfOk};
+ghost use Rattle.std.specs.Prelude.{◌≡◌, ◌==◌, ◌&&◌, not, ◌++◌, ◌∷◌, flat_map, map, IfOk, OnOk};
 ghost use Rattle.std.specs.List.{list_all};
 ghost use Rattle.jmount.specs.Find.{is_name};
 ghost use Rattle.jextract.specs.Making.{IsPathOf};
@@ -34,18 +34,25 @@ fn are_names(names: &[&[u8]]) -> bool
     names.iter().all(|name| is_name(name))
 }
 
+/// Appends these names, a slash before each.
+fn push_names(text: &mut Vec<u8>, names: &[&[u8]]) -> Result<(), AllocError>
+    ensures { OnOk result (text.new.items ≡ text.old.items ++ flat_map (λ name. 47 ∷ name.now) names.now) }
+{
+    for name in names {
+        text.push(b'/')?;
+        text.extend_from_slice(name)?;
+    }
+    Ok(())
+}
+
 /// The text of a path.
 fn path_text(alloc: Global, names: &[&[u8]]) -> Result<Vec<u8>, AllocError>
     ensures { IfOk result (λ text. text.items ≡ path_text (map (λ name. name.now) names.now)) }
 {
     let mut text = Vec::new(alloc);
-    let Some((first, rest)) = names.split_first() else {
-        return Ok(text);
-    };
-    text.extend_from_slice(first)?;
-    for name in rest {
-        text.push(b'/')?;
-        text.extend_from_slice(name)?;
+    if let Some((first, rest)) = names.split_first() {
+        text.extend_from_slice(first)?;
+        push_names(&mut text, rest)?;
     }
     Ok(text)
 }
