@@ -1,6 +1,7 @@
 //! Making one object.
 
-ghost use Rattle.std.specs.Prelude.{◌≡◌, ◌%◌, [], ◌∷◌, Some, None, MatchOption, false, true, length, map, option_map};
+ghost use Rattle.std.specs.Prelude.{◌≡◌, ◌==◌, not, ◌%◌, [], ◌∷◌, Some, None, MatchOption, false, true, length, map, option_map};
+ghost use Rattle.std.specs.List.{list_all};
 ghost use Rattle.flashbase.specs.Device.{Puts};
 ghost use Rattle.jmount.specs.Shown.{readable, shown};
 ghost use Rattle.jmount.specs.Tree as tree;
@@ -122,14 +123,23 @@ fn make_file<F: Folder>(
     folder.finish_file(path, file, attributes)
 }
 
+fn has_no_zero(bytes: &[u8]) -> bool
+    ensures { result ≡ list_all (λ b. not (b == 0)) bytes.now }
+{
+    bytes.iter().all(|b| *b != 0)
+}
+
 /// The target that a symlink of the host may have.
 fn target_of(bytes: &[u8]) -> Option<&str>
     ensures { MatchOption result (is_target bytes.now ≡ false) (λ target. (target.now ≡ bytes.now) × (is_target bytes.now ≡ true)) }
 {
-    if bytes.is_empty() || bytes.len() > GREATEST_TARGET || bytes.contains(&0) {
+    if bytes.is_empty() || bytes.len() > GREATEST_TARGET || !has_no_zero(bytes) {
         return None;
     }
-    str::from_utf8(bytes).ok()
+    match str::from_utf8(bytes) {
+        Ok(target) => Some(target),
+        Err(_) => None,
+    }
 }
 
 /// Makes a symlink.

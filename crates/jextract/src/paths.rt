@@ -50,10 +50,11 @@ fn path_text(alloc: Global, names: &[&[u8]]) -> Result<Vec<u8>, AllocError>
     ensures { IfOk result (λ text. text.items ≡ path_text (map (λ name. name.now) names.now)) }
 {
     let mut text = Vec::new(alloc);
-    if let Some((first, rest)) = names.split_first() {
-        text.extend_from_slice(first)?;
-        push_names(&mut text, rest)?;
-    }
+    let Some((first, rest)) = names.split_first() else {
+        return Ok(text);
+    };
+    text.extend_from_slice(first)?;
+    push_names(&mut text, rest)?;
     Ok(text)
 }
 
@@ -70,7 +71,11 @@ pub(crate) fn host_path(alloc: Global, names: &[&[u8]]) -> Result<String, MakeFa
         return Err(MakeFault::LeftOut(Reason::LongPath));
     }
     match String::from_utf8(text) {
-        Ok(path) => Ok(path),
+        Ok(path) => {
+            // It tells the proof that the text is UTF-8.
+            let _text = path.as_str();
+            Ok(path)
+        }
         Err(_) => Err(MakeFault::LeftOut(Reason::NoText)),
     }
 }

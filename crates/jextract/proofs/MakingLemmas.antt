@@ -1,0 +1,147 @@
+-- Making one object: what a call of the folder does of a plan.
+use Rattle.std.proofs.Common.{◌≡◌, ℕ, ◌<◌, ◌≤◌, ◌&&◌, Bool, true, false, not, ◌==◌, nat_lt, nat_le, List, [], ◌∷◌, ◌++◌, length, take, append-nil, refl, sym, ap, ◌∙◌, subst, arith, inl, inr, ◌⊎◌, Option, Some, None, Result, Ok, Err, if◌then◌else◌}
+use Rattle.std.specs.Prelude.{IsErrAnd, IsUtf8}
+use Rattle.std.specs.List.{list_all}
+use Rattle.std.specs.Str.{is_utf8}
+use Rattle.std.proofs.lemmas.Grind.{common_steps}
+use Rattle.std.proofs.lemmas.Bool.Decides.{nat_tests}
+use Rattle.std.proofs.lemmas.Str.{is_utf8-from_IsUtf8}
+use Rattle.flashbase.specs.Device.{next_count}
+use Rattle.jmount.specs.Find.{is_name}
+use Rattle.jmount.specs.Tree.{State}
+use Rattle.jmount.specs.declared.object.Kind.{Kind}
+use Rattle.jmount.specs.declared.object.Kind.TheVariants as k
+use Rattle.jextract.specs.Folders.{Made, Deed, Link, Symlink, Adds, Counts}
+use Rattle.jextract.specs.Making.{Does, Follows, IsPathOf, Works, fault_of}
+use Rattle.jextract.specs.Outcomes.{Plan, Do, LeaveOut, Task, path_of, Outcome, Firsts, FollowsPlan, made_at, is_refusal, is_target, plan_again, plan_at, plan_symlink}
+use Rattle.jextract.specs.Paths.{greatest_path, host_path, path_text, text_if}
+use Rattle.jextract.specs.declared.folder.Attributes.{Attributes}
+use Rattle.jextract.specs.declared.folder.FolderFault.{FolderFault}
+use Rattle.jextract.specs.declared.folder.FolderFault.TheVariants.{Refused, OutOfMemory}
+use Rattle.jextract.specs.declared.making.MakeFault.{MakeFault}
+use Rattle.jextract.specs.declared.making.MakeFault.TheVariants as make
+use Rattle.jextract.specs.declared.reason.Reason.{Reason}
+use Rattle.jextract.specs.declared.reason.Reason.TheVariants as reason
+
+-- the deeds of a plan were not all done
+pub does_fail : (S : Type 0) {T : Type 0} (old new : Option (List Made)) (before now : ℕ) (path : List ℕ) (plan : Plan) (deeds : List Deed) (e : FolderFault) (r : Result T MakeFault)
+    → plan ≡ Do deeds → Does {T = S} old new before now (made_at path deeds) (Err e) → IsErrAnd r (λ x. x ≡ fault_of e) → Follows old new before now path plan r
+does_fail S old new before now path plan deeds e (Ok x) is does err = absurd err
+does_fail S {T} old new before now path plan deeds Refused (Err f) is does err =
+    subst (λ (y : MakeFault). Follows {T = T} old new before now path plan (Err y)) (sym err) (inr (deeds, is, does.0, does.1, refl))
+does_fail S {T} old new before now path plan deeds OutOfMemory (Err f) is does err =
+    subst (λ (y : MakeFault). Follows {T = T} old new before now path plan (Err y)) (sym err) (deeds, is, does.0)
+
+-- the one deed of a plan was not done
+pub one_fails : (S : Type 0) {T : Type 0} (old new : Option (List Made)) (before now : ℕ) (path : List ℕ) (plan : Plan) (deed : Deed) (e : FolderFault) (r : Result T MakeFault)
+    → plan ≡ Do (deed ∷ []) → Adds old new [] → Counts {T = S} before now (Err e) → IsErrAnd r (λ x. x ≡ fault_of e) → Follows old new before now path plan r
+one_fails S old new before now path plan deed Refused r is adds counts err =
+    does_fail S old new before now path plan (deed ∷ []) Refused r is ((0, omega arith, adds), counts) err
+one_fails S old new before now path plan deed OutOfMemory r is adds counts err =
+    does_fail S old new before now path plan (deed ∷ []) OutOfMemory r is ((0, omega arith, adds), counts) err
+
+-- ---- targets
+
+pub target_is_text : (bytes : List ℕ) → IsUtf8 bytes → 0 < length bytes → length bytes ≤ 4095 → list_all (λ b. not (b == 0)) bytes ≡ true → is_target bytes ≡ true
+target_is_text bytes text some short plain =
+    let u : is_utf8 bytes ≡ true = is_utf8-from_IsUtf8 bytes text in
+    let a : nat_lt 0 (length bytes) ≡ true = grind (arith, nat_tests) in
+    let b : nat_le (length bytes) 4095 ≡ true = grind (arith, nat_tests) in
+    join a b u plain
+  where
+    join : {a b u p : Bool} → a ≡ true → b ≡ true → u ≡ true → p ≡ true → a && b && u && p ≡ true
+    join ha hb hu hp = grind (arith, common_steps)
+
+pub symlink_planned : (bytes : List ℕ) (attributes : Attributes) → is_target bytes ≡ true → plan_symlink bytes attributes ≡ Do (Symlink bytes attributes ∷ [])
+symlink_planned bytes attributes is = ap (λ (b : Bool). if b then Do (Symlink bytes attributes ∷ []) else LeaveOut reason.BadTarget) is
+
+-- ---- a further name
+
+pub again_links : (kind : Kind) (first : List ℕ) → (kind ≡ k.Regular) ⊎ (kind ≡ k.Symlink) → plan_again kind first ≡ Do (Link first ∷ [])
+again_links kind first (inl is) = ap (λ (x : Kind). plan_again x first) is
+again_links kind first (inr is) = ap (λ (x : Kind). plan_again x first) is
+
+-- ---- a task, from its plan
+
+pub Adds-nil : (made : Option (List Made)) → Adds made made []
+Adds-nil None = tt
+Adds-nil (Some made) = sym (append-nil made)
+
+-- the plan of a task whose path the host may have
+follows_plan : (path : Result (List ℕ) Reason) (text : List ℕ) (plan planned : Plan) (o : Outcome) → path ≡ Ok text → plan ≡ planned
+    → FollowsPlan (Ok text) planned o → FollowsPlan path plan o
+follows_plan path text plan planned o at is follows =
+    subst (λ (p : Result (List ℕ) Reason). FollowsPlan p plan o) (sym at) (subst (λ (q : Plan). FollowsPlan (Ok text) q o) (sym is) follows)
+
+pub works_as_planned : {T : Type 0} (s : State) (owners : Bool) (firsts : Firsts) (task : Task) (text : List ℕ) (old new : Option (List Made)) (before now : ℕ) (r : Result T MakeFault)
+    → host_path (path_of task) ≡ Ok text → Follows old new before now text (plan_at s owners firsts task) r → Works s owners firsts task old new before now r
+works_as_planned s owners firsts task text old new before now (Ok x) at follows =
+    let o : Outcome = record { path = path_of task; deeds = made_at text follows.0; left_out = None } in
+    (o, (refl, follows_plan (host_path (path_of task)) text (plan_at s owners firsts task) (Do follows.0) o at follows.1 (inl (refl, refl))), refl, follows.2, follows.3)
+works_as_planned s owners firsts task text old new before now (Err (make.LeftOut why)) at (inl left) =
+    let o : Outcome = record { path = path_of task; deeds = []; left_out = Some why } in (
+      o,
+      (refl, follows_plan (host_path (path_of task)) text (plan_at s owners firsts task) (LeaveOut why) o at left.0 (refl, refl)),
+      refl,
+      left.1,
+      left.2 ∙ ap (λ (b : Bool). if b then next_count before else before) (sym left.3),
+    )
+works_as_planned s owners firsts task text old new before now (Err (make.LeftOut why)) at (inr refused) =
+    let some = refused.2 in
+    let o : Outcome = record { path = path_of task; deeds = take some.0 (made_at text refused.0); left_out = Some why } in (
+      o,
+      (
+        refl,
+        follows_plan (host_path (path_of task)) text (plan_at s owners firsts task) (Do refused.0) o at refused.1 (inr (some.0, some.1, refl, ap Some refused.4)),
+      ),
+      refl,
+      some.2,
+      refused.3 ∙ ap (λ (x : Reason). if is_refusal (Some x) then next_count before else before) (sym refused.4),
+    )
+works_as_planned s owners firsts task text old new before now (Err make.OutOfMemory) at follows =
+    let some = follows.2 in
+    let o : Outcome = record { path = path_of task; deeds = take some.0 (made_at text follows.0); left_out = Some reason.Refused } in
+    inr (
+      o,
+      (refl, follows_plan (host_path (path_of task)) text (plan_at s owners firsts task) (Do follows.0) o at follows.1 (inr (some.0, some.1, refl, refl))),
+      some.2,
+    )
+
+-- all of a plan was done, and then memory ran out
+pub works_then_fails : {T : Type 0} (s : State) (owners : Bool) (firsts : Firsts) (task : Task) (text : List ℕ) (old new : Option (List Made)) (before now : ℕ) (r : Result T MakeFault) (S : Type 0) (x : S)
+    → host_path (path_of task) ≡ Ok text → Follows old new before now text (plan_at s owners firsts task) (Ok x) → IsErrAnd r (λ e. e ≡ make.OutOfMemory)
+    → Works s owners firsts task old new before now r
+works_then_fails s owners firsts task text old new before now (Ok y) S x at follows err = absurd err
+works_then_fails {T} s owners firsts task text old new before now (Err e) S x at follows err =
+    let done = works_as_planned s owners firsts task text old new before now (Ok x) at follows in
+    subst (λ (f : MakeFault). Works {T = T} s owners firsts task old new before now (Err f)) (sym err) (inr (done.0, done.1, done.3))
+
+-- a reason that lies in the path is no refusal of the host
+pub no_path_is_no_refusal : (path : List (List ℕ)) (why : Reason) → host_path path ≡ Err why → is_refusal (Some why) ≡ false
+unfolding host_path
+no_path_is_no_refusal path why is = names (list_all is_name path) is
+  where
+    text : (long utf8 : Bool) → (if long then Err reason.LongPath else if utf8 then Ok (path_text path) else Err reason.NoText) ≡ Err why → is_refusal (Some why) ≡ false
+    text true utf8 is = let e : reason.LongPath ≡ why = cc in ap (λ (x : Reason). is_refusal (Some x)) (sym e)
+    text false true is = absurd (cc)
+    text false false is = let e : reason.NoText ≡ why = cc in ap (λ (x : Reason). is_refusal (Some x)) (sym e)
+
+    names : (all : Bool) → (if all then text_if (path_text path) else Err reason.BadName) ≡ Err why → is_refusal (Some why) ≡ false
+    names true is = text (nat_lt greatest_path (length (path_text path))) (is_utf8 (path_text path)) is
+    names false is = let e : reason.BadName ≡ why = cc in ap (λ (x : Reason). is_refusal (Some x)) (sym e)
+
+-- there is no path, or no memory for it
+pub works_without_path : {T : Type 0} (s : State) (owners : Bool) (firsts : Firsts) (task : Task) (made : Option (List Made)) (before : ℕ) (fault : MakeFault) (r : Result T MakeFault)
+    → IsPathOf (host_path (path_of task)) (Err fault) → IsErrAnd r (λ e. e ≡ fault) → Works s owners firsts task made made before before r
+works_without_path s owners firsts task made before fault (Ok x) no err = absurd err
+works_without_path {T} s owners firsts task made before (make.LeftOut why) (Err e) no err =
+    let o : Outcome = record { path = path_of task; deeds = []; left_out = Some why } in
+    subst (λ (f : MakeFault). Works {T = T} s owners firsts task made made before before (Err f)) (sym err) (
+      o,
+      (refl, subst (λ (p : Result (List ℕ) Reason). FollowsPlan p (plan_at s owners firsts task) o) (sym no) (refl, refl)),
+      refl,
+      Adds-nil made,
+      ap (λ (b : Bool). if b then next_count before else before) (sym (no_path_is_no_refusal (path_of task) why no)),
+    )
+works_without_path {T} s owners firsts task made before make.OutOfMemory (Err e) no err =
+    subst (λ (f : MakeFault). Works {T = T} s owners firsts task made made before before (Err f)) (sym err) (inl (Adds-nil made))
