@@ -1,19 +1,26 @@
 -- Making one object: what a call of the folder does of a plan.
-use Rattle.std.proofs.Common.{◌≡◌, ℕ, ◌<◌, ◌≤◌, ◌&&◌, Bool, true, false, not, ◌==◌, nat_lt, nat_le, List, [], ◌∷◌, ◌++◌, length, take, append-nil, refl, sym, ap, ◌∙◌, subst, arith, inl, inr, ◌⊎◌, Option, Some, None, Result, Ok, Err, if◌then◌else◌}
+use Rattle.std.proofs.Common.{◌≡◌, ℕ, ◌<◌, ◌≤◌, ◌&&◌, Bool, true, false, not, ◌==◌, nat_lt, nat_le, List, [], ◌∷◌, ◌++◌, length, take, append-nil, refl, sym, ap, ◌∙◌, subst, arith, inl, inr, ◌⊎◌, Option, Some, None, Result, Ok, Err, Bor, if◌then◌else◌}
 use Rattle.std.specs.Prelude.{IsErrAnd, IsUtf8}
 use Rattle.std.specs.List.{list_all}
 use Rattle.std.specs.Str.{is_utf8}
+use Rattle.std.specs.Prelude.{String, string_bytes, option_map, option_copied}
+use Rattle.std.specs.Ordering.{nat_cmp}
+use Rattle.std.specs.BTreeMap.{BTreeMap, get}
+use Rattle.std.specs.declared.alloc.Global.{Global}
+use Rattle.std.specs.Option.{option_or}
 use Rattle.std.proofs.lemmas.Grind.{common_steps}
 use Rattle.std.proofs.lemmas.Bool.Decides.{nat_tests}
 use Rattle.std.proofs.lemmas.Str.{is_utf8-from_IsUtf8}
 use Rattle.flashbase.specs.Device.{next_count}
 use Rattle.jmount.specs.Find.{is_name}
-use Rattle.jmount.specs.Tree.{State}
+use Rattle.jmount.specs.Tree.{State, object}
+use Rattle.jmount.specs.Shown.{readable, shown}
+use Rattle.jmount.specs.declared.object.Object.{Object}
 use Rattle.jmount.specs.declared.object.Kind.{Kind}
 use Rattle.jmount.specs.declared.object.Kind.TheVariants as k
 use Rattle.jextract.specs.Folders.{Made, Deed, Link, Symlink, Adds, Counts}
-use Rattle.jextract.specs.Making.{Does, Follows, IsPathOf, Works, fault_of}
-use Rattle.jextract.specs.Outcomes.{Plan, Do, LeaveOut, Task, path_of, Outcome, Firsts, FollowsPlan, made_at, is_refusal, is_target, plan_again, plan_at, plan_symlink}
+use Rattle.jextract.specs.Making.{Does, Follows, IsPathOf, Works, fault_of, firsts_of}
+use Rattle.jextract.specs.Outcomes.{Plan, Do, LeaveOut, Task, Make, path_of, Outcome, Firsts, FollowsPlan, firsts_if, firsts_with, made_at, is_refusal, is_target, plan_again, plan_anew, plan_at, plan_made, plan_of, plan_symlink, attributes_of}
 use Rattle.jextract.specs.Paths.{greatest_path, host_path, path_text, text_if}
 use Rattle.jextract.specs.declared.folder.Attributes.{Attributes}
 use Rattle.jextract.specs.declared.folder.FolderFault.{FolderFault}
@@ -133,15 +140,65 @@ no_path_is_no_refusal path why is = names (list_all is_name path) is
 -- there is no path, or no memory for it
 pub works_without_path : {T : Type 0} (s : State) (owners : Bool) (firsts : Firsts) (task : Task) (made : Option (List Made)) (before : ℕ) (fault : MakeFault) (r : Result T MakeFault)
     → IsPathOf (host_path (path_of task)) (Err fault) → IsErrAnd r (λ e. e ≡ fault) → Works s owners firsts task made made before before r
-works_without_path s owners firsts task made before fault (Ok x) no err = absurd err
-works_without_path {T} s owners firsts task made before (make.LeftOut why) (Err e) no err =
+works_without_path s owners firsts task made before fault (Ok x) gone err = absurd err
+works_without_path {T} s owners firsts task made before (make.LeftOut why) (Err e) gone err =
     let o : Outcome = record { path = path_of task; deeds = []; left_out = Some why } in
     subst (λ (f : MakeFault). Works {T = T} s owners firsts task made made before before (Err f)) (sym err) (
       o,
-      (refl, subst (λ (p : Result (List ℕ) Reason). FollowsPlan p (plan_at s owners firsts task) o) (sym no) (refl, refl)),
+      (refl, subst (λ (p : Result (List ℕ) Reason). FollowsPlan p (plan_at s owners firsts task) o) (sym gone) (refl, refl)),
       refl,
       Adds-nil made,
-      ap (λ (b : Bool). if b then next_count before else before) (sym (no_path_is_no_refusal (path_of task) why no)),
+      ap (λ (b : Bool). if b then next_count before else before) (sym (no_path_is_no_refusal (path_of task) why gone)),
     )
-works_without_path {T} s owners firsts task made before make.OutOfMemory (Err e) no err =
+works_without_path {T} s owners firsts task made before make.OutOfMemory (Err e) gone err =
     subst (λ (f : MakeFault). Works {T = T} s owners firsts task made made before before (Err f)) (sym err) (inl (Adds-nil made))
+
+pub works_at_fault : {T : Type 0} (s : State) (owners : Bool) (firsts : Firsts) (task : Task) (old new : Option (List Made)) (before now : ℕ) (S : Type 0) (fault : MakeFault) (r : Result T MakeFault)
+    → IsErrAnd r (λ e. e ≡ fault) → Works {T = S} s owners firsts task old new before now (Err fault) → Works s owners firsts task old new before now r
+works_at_fault s owners firsts task old new before now S fault (Ok x) err works = absurd err
+works_at_fault {T} s owners firsts task old new before now S fault (Err e) err works =
+    subst (λ (f : MakeFault). Works {T = T} s owners firsts task old new before now (Err f)) (sym err) (same fault works)
+  where
+    same : (f : MakeFault) → Works {T = S} s owners firsts task old new before now (Err f) → Works {T = T} s owners firsts task old new before now (Err f)
+    same (make.LeftOut why) works = works
+    same make.OutOfMemory works = works
+
+pub planned_again : (s : State) (owners : Bool) (firsts : Firsts) (path : List (List ℕ)) (i : ℕ) (o : Object) (first : List ℕ) → option_map shown (object s i) ≡ Some o
+    → firsts i ≡ Some first → plan_at s owners firsts (Make path i) ≡ plan_again o.kind first
+planned_again s owners firsts path i o first there known =
+    ap (plan_made s owners firsts i) there ∙ ap (λ (f : Option (List ℕ)). plan_of f o.kind (readable s i) (attributes_of owners o)) known
+
+pub planned_anew : (s : State) (owners : Bool) (firsts : Firsts) (path : List (List ℕ)) (i : ℕ) (o : Object) → option_map shown (object s i) ≡ Some o
+    → firsts i ≡ None → plan_at s owners firsts (Make path i) ≡ plan_anew o.kind (readable s i) (attributes_of owners o)
+planned_anew s owners firsts path i o there known =
+    ap (plan_made s owners firsts i) there ∙ ap (λ (f : Option (List ℕ)). plan_of f o.kind (readable s i) (attributes_of owners o)) known
+
+-- ---- the paths at which objects were made first
+
+pub first_known : (firsts : BTreeMap ℕ (String Global)) (i : ℕ) (found : Option (Bor (String Global))) (first : Bor (String Global)) → option_copied found ≡ get nat_cmp firsts i
+    → found ≡ Some first → firsts_of firsts i ≡ Some (string_bytes first.now)
+first_known firsts i found first is some = ap (option_map string_bytes) (sym is ∙ ap option_copied some)
+
+pub first_unknown : (firsts : BTreeMap ℕ (String Global)) (i : ℕ) (found : Option (Bor (String Global))) → option_copied found ≡ get nat_cmp firsts i
+    → found ≡ None → firsts_of firsts i ≡ None
+first_unknown firsts i found is none = ap (option_map string_bytes) (sym is ∙ ap option_copied none)
+
+
+pub link_keeps_firsts : (firsts : Firsts) (path : List (List ℕ)) (text first : List ℕ) (i : ℕ) → host_path path ≡ Ok text → firsts i ≡ Some first → firsts ≡ firsts_if firsts path i None
+link_keeps_firsts firsts path text first i at there =
+    sym (ap (λ (p : Result (List ℕ) Reason). firsts_with firsts p i) at ∙ (λ t j. one j (i == j) refl t))
+  where
+    flip : (j : ℕ) → i == j ≡ true → firsts j ≡ Some first
+    flip j is = ap firsts (grind (arith, nat_tests)) ∙ there
+
+    known : (o : Option (List ℕ)) → o ≡ Some first → option_or o (Some text) ≡ o
+    known None is = absurd (cc)
+    known (Some x) is = refl
+
+    other : (o : Option (List ℕ)) → option_or o None ≡ o
+    other None = refl
+    other (Some x) = refl
+
+    one : (j : ℕ) (same : Bool) → i == j ≡ same → option_or (firsts j) (if i == j then Some text else None) ≡ firsts j
+    one j true is = ap (λ (b : Bool). option_or (firsts j) (if b then Some text else None)) is ∙ known (firsts j) (flip j is)
+    one j false is = ap (λ (b : Bool). option_or (firsts j) (if b then Some text else None)) is ∙ other (firsts j)

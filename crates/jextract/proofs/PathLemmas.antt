@@ -39,10 +39,10 @@ path_is_text path text names is short utf8 =
     ∙ ap (λ (b : Bool). let r : Result (List ℕ) Reason = if b then Ok text else Err reason.NoText in r) (is_utf8-from_IsUtf8 text utf8)
 
 pub path_is_no_text : (path : List (List ℕ)) (text : List ℕ) → list_all is_name path ≡ true → text ≡ path_text path → length text ≤ 4095 → (IsUtf8 text → ⊥) → host_path path ≡ Err reason.NoText
-path_is_no_text path text names is short no = by (is_utf8 text) refl
+path_is_no_text path text names is short other = by (is_utf8 text) refl
   where
     by : (b : Bool) → is_utf8 text ≡ b → host_path path ≡ Err reason.NoText
-    by true e = absurd (no (IsUtf8-from_is_utf8 text e))
+    by true e = absurd (other (IsUtf8-from_is_utf8 text e))
     by false e =
         short_path path text names is short ∙ ap (λ (b : Bool). let r : Result (List ℕ) Reason = if b then Ok text else Err reason.NoText in r) e
 

@@ -7,7 +7,7 @@ ghost use Rattle.jmount.specs.Shown.{readable, shown};
 ghost use Rattle.jmount.specs.Tree as tree;
 ghost use Rattle.jextract.specs.Folders.{Content, File};
 ghost use Rattle.jextract.specs.Making.{Does, FirstsAfter, Follows, Works, firsts_of};
-ghost use Rattle.jextract.specs.Outcomes.{Complete, Make, attributes_of, is_target, made_at, plan_again, plan_anew, plan_symlink, reason_of};
+ghost use Rattle.jextract.specs.Outcomes.{Complete, Make, attributes_of, is_target, made_at, plan_again, plan_anew, plan_completed, plan_symlink, reason_of};
 
 use crate::folder::{Attributes, Folder, FolderFault, Owner};
 use crate::paths::host_path;
@@ -247,6 +247,24 @@ pub(crate) fn make<F: Folder>(
 }
 
 /// Gives a directory its attributes.
+fn complete_at<F: Folder>(
+    mounted: &Mounted<'_>,
+    owners: bool,
+    ino: u32,
+    path: &str,
+    folder: &mut F,
+) -> Result<(), MakeFault>
+    ensures { Follows (F.made folder.old) (F.made folder.new) (F.failures folder.old) (F.failures folder.new)
+        path.now (plan_completed owners (option_map shown (tree.object mounted.now.state ino))) result }
+{
+    let Some(object) = mounted.object(ino) else {
+        return Ok(());
+    };
+    folder.finish_directory(path, attributes_of(&object, owners))?;
+    Ok(())
+}
+
+/// Gives the directory that a path leads to its attributes.
 pub(crate) fn complete<F: Folder>(
     alloc: Global,
     mounted: &Mounted<'_>,
@@ -259,8 +277,5 @@ pub(crate) fn complete<F: Folder>(
         (F.made folder.old) (F.made folder.new) (F.failures folder.old) (F.failures folder.new) result }
 {
     let path = host_path(alloc, names)?;
-    if let Some(object) = mounted.object(ino) {
-        folder.finish_directory(path.as_str(), attributes_of(&object, owners))?;
-    }
-    Ok(())
+    complete_at(mounted, owners, ino, path.as_str(), folder)
 }

@@ -1,0 +1,34 @@
+use Rattle.std.proofs.Common.{◌≡◌, List, ℕ, map, None, ap, ◌∙◌, sym, subst, Ok, Err, Some}
+use Rattle.jmount.specs.Shown.{readable}
+use Rattle.jextract.specs.Folders.{Adds}
+use Rattle.jextract.specs.Making.{Follows, firsts_of}
+use Rattle.jextract.specs.Outcomes.{Make, Plan, attributes_of, plan_anew}
+use Rattle.jextract.proofs.MakingLemmas.{works_without_path, works_as_planned, works_at_fault, works_then_fails, planned_again, planned_anew, first_known, first_unknown}
+use Rattle.jextract.proofs.making.make.Goals as goal
+
+pub returns-in_err-path-clause-works : goal.returns-in_err-path-clause-works
+returns-in_err-path-clause-works g c =
+    works_without_path c.args.mounted.now.state c.args.owners (firsts_of c.args.firsts.now) (Make (map (λ name. name.now) c.args.names.now) c.args.ino) (g.F.Folder.made c.args.folder.now)
+    (g.F.Folder.failures c.args.folder.now) c.in_err-path.field-0.0 c.from_residual.result c.in_err-path.ensures c.from_residual.ensures.1
+
+pub returns-in-Some-clause-works : goal.returns-in-Some-clause-works
+returns-in-Some-clause-works g c =
+    let s = c.args.mounted.now.state in
+    let path = map (λ name. name.now) c.args.names.now in
+    let known = first_known c.args.firsts.now c.args.ino c.get.result c.in-Some.first c.get.ensures.value c.in-Some.is ∙ ap Some (sym c.as_str-in-Some.ensures.value) in
+    works_as_planned s c.args.owners (firsts_of c.args.firsts.now) (Make path c.args.ino) c.as_str.result.now
+    (g.F.Folder.made c.args.folder.now) (g.F.Folder.made c.make_again.new.folder) (g.F.Folder.failures c.args.folder.now) (g.F.Folder.failures c.make_again.new.folder)
+    c.make_again.result (c.in_ok-path.ensures ∙ ap Ok (sym c.as_str.ensures.value))
+    (subst (λ (p : Plan). Follows (g.F.Folder.made c.args.folder.now) (g.F.Folder.made c.make_again.new.folder) (g.F.Folder.failures c.args.folder.now)
+    (g.F.Folder.failures c.make_again.new.folder) c.as_str.result.now p c.make_again.result)
+    (sym (planned_again s c.args.owners (firsts_of c.args.firsts.now) path c.args.ino c.args.object.now c.as_str-in-Some.result.now c.requires known)) c.make_again.ensures)
+
+pub returns-in_err-make_anew-clause-works : goal.returns-in_err-make_anew-clause-works
+returns-in_err-make_anew-clause-works g c =
+    let a = c.in_err-make_anew.ensures in let b = c.as_str-2.ensures in let d = c.in_default in ?
+
+pub returns-in_err-insert-clause-works : goal.returns-in_err-insert-clause-works
+returns-in_err-insert-clause-works g c = ?
+
+pub returns-clause-works : goal.returns-clause-works
+returns-clause-works g c = let a = c.in_ok-insert.ensures.updates in ?
