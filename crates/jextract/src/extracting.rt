@@ -1,15 +1,16 @@
 //! The tree of a mounted image, written into a folder of the host.
 
-ghost use Rattle.std.specs.Prelude.{map};
+ghost use Rattle.std.specs.Prelude.{◌≡◌, map};
 ghost use Rattle.jextract.specs.Extracts.{Extracts};
-ghost use Rattle.jextract.specs.Walking.{Tells};
+ghost use Rattle.jextract.specs.Making.{firsts_of};
+ghost use Rattle.jextract.specs.Walking.{Completes, GoesUp, Steps, Tells, Visits, is_directory_kind};
 
 use crate::fault::ExtractFault;
 use crate::folder::{Folder, FolderFault};
 use crate::making::{MakeFault, complete, make};
 use crate::notes::tell;
 use flashbase::Sink;
-use jmount::{Kind, Mounted};
+use jmount::{Kind, Mounted, Object};
 use jname::Of;
 use std::alloc::Global;
 use std::collections::BTreeMap;
@@ -40,6 +41,56 @@ fn settle<N: Sink>(
     }
 }
 
+/// Whether this object is a directory.
+fn is_directory(object: &Object) -> bool
+    ensures { result ≡ is_directory_kind object.now.kind }
+{
+    object.kind == Kind::Directory
+}
+
+/// Makes the object that a path leads to, if there is one. Answers whether it is a directory that was made.
+fn visit<F: Folder, N: Sink>(
+    alloc: Global,
+    mounted: &Mounted<'_>,
+    owners: bool,
+    path: &[&[u8]],
+    ino: u32,
+    firsts: &mut BTreeMap<u32, String>,
+    left_out: &mut u64,
+    folder: &mut F,
+    notes: &mut N,
+) -> Result<bool, ExtractFault>
+    ensures { Visits mounted.now.state owners (firsts_of firsts.old) (firsts_of firsts.new) (map (λ name. name.now) path.now) ino
+        (record { made = F.made folder.old; failures = F.failures folder.old; told = N.taken notes.old; told_failures = N.failures notes.old; left_out = left_out.old })
+        (record { made = F.made folder.new; failures = F.failures folder.new; told = N.taken notes.new; told_failures = N.failures notes.new; left_out = left_out.new }) result }
+{
+    let Some(object) = mounted.object(ino) else {
+        return Ok(false);
+    };
+    let done = make(alloc, mounted, owners, path, ino, &object, firsts, folder);
+    let is_made = settle(done, path, left_out, notes)?;
+    Ok(is_made && is_directory(&object))
+}
+
+/// Completes the directory that a path leads to.
+fn leave<F: Folder, N: Sink>(
+    alloc: Global,
+    mounted: &Mounted<'_>,
+    owners: bool,
+    path: &[&[u8]],
+    ino: u32,
+    left_out: &mut u64,
+    folder: &mut F,
+    notes: &mut N,
+) -> Result<bool, ExtractFault>
+    ensures { Completes mounted.now.state owners (map (λ name. name.now) path.now) ino
+        (record { made = F.made folder.old; failures = F.failures folder.old; told = N.taken notes.old; told_failures = N.failures notes.old; left_out = left_out.old })
+        (record { made = F.made folder.new; failures = F.failures folder.new; told = N.taken notes.new; told_failures = N.failures notes.new; left_out = left_out.new }) result }
+{
+    let done = complete(alloc, mounted, owners, path, ino, folder);
+    settle(done, path, left_out, notes)
+}
+
 /// A walk through a tree, a directory before what lies in it.
 #[derive(Drop)]
 struct Walk<'m, 'a> {
@@ -58,49 +109,10 @@ struct Walk<'m, 'a> {
 }
 
 impl<'m, 'a> Walk<'m, 'a> {
-    /// Makes the object that the path leads to, if there is one. Answers whether it is a directory that was made.
-    fn visit<F: Folder, N: Sink>(
-        &mut self,
-        alloc: Global,
-        mounted: &'m Mounted<'a>,
-        owners: bool,
-        ino: u32,
-        folder: &mut F,
-        notes: &mut N,
-    ) -> Result<bool, ExtractFault> {
-        let Some(object) = mounted.object(ino) else {
-            return Ok(false);
-        };
-        let done = make(
-            alloc,
-            mounted,
-            owners,
-            &self.path,
-            ino,
-            &object,
-            &mut self.firsts,
-            folder,
-        );
-        let is_made = settle(done, &self.path, &mut self.left_out, notes)?;
-        Ok(is_made && object.kind == Kind::Directory)
-    }
-
-    /// Completes the directory that was read, and goes back to the one above it. Answers whether there is one.
-    fn leave<F: Folder, N: Sink>(
-        &mut self,
-        alloc: Global,
-        mounted: &'m Mounted<'a>,
-        owners: bool,
-        folder: &mut F,
-        notes: &mut N,
-    ) -> Result<bool, ExtractFault> {
-        let done = complete(alloc, mounted, owners, &self.path, self.ino, folder);
-        settle(done, &self.path, &mut self.left_out, notes)?;
-        Ok(self.go_up())
-    }
-
     /// Goes back to the directory above, if there is one.
-    fn go_up(&mut self) -> bool {
+    fn go_up(&mut self) -> bool
+        ensures { GoesUp self.old self.new result }
+    {
         let Some((ino, left)) = self.above.pop() else {
             return false;
         };
@@ -118,12 +130,36 @@ impl<'m, 'a> Walk<'m, 'a> {
         owners: bool,
         folder: &mut F,
         notes: &mut N,
-    ) -> Result<bool, ExtractFault> {
+    ) -> Result<bool, ExtractFault>
+        ensures { Steps mounted.now.state owners self.old self.new
+            (record { made = F.made folder.old; failures = F.failures folder.old; told = N.taken notes.old; told_failures = N.failures notes.old; left_out = self.old.left_out })
+            (record { made = F.made folder.new; failures = F.failures folder.new; told = N.taken notes.new; told_failures = N.failures notes.new; left_out = self.new.left_out }) result }
+    {
         let Some((name, ino)) = self.left.next() else {
-            return self.leave(alloc, mounted, owners, folder, notes);
+            leave(
+                alloc,
+                mounted,
+                owners,
+                &self.path,
+                self.ino,
+                &mut self.left_out,
+                folder,
+                notes,
+            )?;
+            return Ok(self.go_up());
         };
         self.path.push(name)?;
-        if self.visit(alloc, mounted, owners, ino, folder, notes)? {
+        if visit(
+            alloc,
+            mounted,
+            owners,
+            &self.path,
+            ino,
+            &mut self.firsts,
+            &mut self.left_out,
+            folder,
+            notes,
+        )? {
             self.enter(mounted, ino)?;
         } else {
             self.path.pop();
