@@ -1,5 +1,5 @@
 -- The walk through a tree that is extracted: what is still to be done, and what a step of it does.
-use Rattle.std.specs.Prelude.{◌≡◌, ℕ, ◌+◌, ◌-◌, ◌*◌, ◌<◌, ◌≤◌, ◌^◌, ◌&&◌, min, Bool, true, false, not, List, [], ◌∷◌, ◌++◌, length, map, take, reverse, sum_by, count_by, flat_map, Option, Some, None, is_some, is_none, Result, Ok, Err, if◌then◌else◌}
+use Rattle.std.specs.Prelude.{◌≡◌, ℕ, ◌+◌, ◌-◌, ◌*◌, ◌<◌, ◌≤◌, ◌^◌, ◌&&◌, ◌==◌, min, Bool, true, false, not, List, [], ◌∷◌, ◌++◌, length, map, take, reverse, sum_by, count_by, flat_map, Option, Some, None, is_some, is_none, Result, Ok, Err, if◌then◌else◌}
 use Rattle.std.specs.FinMap.{entries}
 use Rattle.std.specs.Io.KnownBytes.{Appends}
 use Rattle.flashbase.specs.Device.{PutsPart, next_count}
@@ -19,7 +19,7 @@ use Rattle.jextract.specs.declared.fault.ExtractFault.TheVariants.{Folder, Notes
 
 -- one more that was left out, if it was, up to the greatest u64
 abbrev pub counted : ℕ → ℕ → ℕ
-counted n more = min (n + more) (2 ^ 64 - 1)
+counted n more = if more == 0 then n else min (n + more) (2 ^ 64 - 1)
 
 -- A call tells of a task what is to be told, and counts it. The answer is whether the task was done.
 abbrev pub Tells : {T : Type 0} → Result T MakeFault → List (List ℕ) → Option (List ℕ) → Option (List ℕ) → ℕ → ℕ → ℕ → ℕ → Result Bool ExtractFault → Type 0
