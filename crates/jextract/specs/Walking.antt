@@ -8,7 +8,8 @@ use Rattle.jmount.specs.declared.object.Kind.{Kind}
 use Rattle.jmount.specs.declared.object.Kind.TheVariants as kind
 use Rattle.jextract.specs.Folders.{Made, Adds}
 use Rattle.jextract.specs.Making.{firsts_of, count_after, HasBegun}
-use Rattle.jextract.specs.Outcomes.{Task, Make, Complete, Outcome, Firsts, IsOutcomeOf, AreOutcomes, AreFirstOutcomes, tasks_in, tasks_of, firsts_after, all_lines, failures_after, line_of, line_if}
+use Rattle.jextract.specs.Extracts.{AreTreeOutcomes}
+use Rattle.jextract.specs.Outcomes.{root_alone, Task, Make, Complete, Outcome, Firsts, IsOutcomeOf, AreOutcomes, AreFirstOutcomes, tasks_in, tasks_of, firsts_after, all_lines, failures_after, line_of, line_if}
 use Rattle.jextract.specs.declared.extracting.Walk.{Walk}
 use Rattle.jextract.specs.declared.making.MakeFault.{MakeFault}
 use Rattle.jextract.specs.declared.making.MakeFault.TheVariants as make
@@ -123,6 +124,12 @@ abbrev pub GoesUp : Walk → Walk → Bool → Type 0
 GoesUp w w_after true = (w.above.items ≡ w_after.above.items ++ (w_after.ino, w_after.left) ∷ []) × (way_of w_after ≡ way_up (way_of w)) × (w_after.firsts ≡ w.firsts) × (w_after.left_out ≡ w.left_out)
 GoesUp w w_after false = (w.above.items ≡ []) × (w_after.firsts ≡ w.firsts) × (w_after.left_out ≡ w.left_out)
 
+-- the walk went on to the directory of a number, which its path leads to already
+abbrev pub Enters : {T : Type 0} → State → ℕ → Walk → Walk → Result T ExtractFault → Type 0
+Enters s i w w_after (Ok _) = (w_after.left ≡ entries_in s i) × (w_after.ino ≡ i) × (w_after.above.items ≡ w.above.items ++ (w.ino, w.left) ∷ [])
+    × (w_after.path ≡ w.path) × (w_after.firsts ≡ w.firsts) × (w_after.left_out ≡ w.left_out)
+Enters s i w w_after (Err fault) = fault ≡ OutOfMemory
+
 -- `false`: nothing is still to be done.
 abbrev pub Steps : State → Bool → Walk → Walk → Sight → Sight → Result Bool ExtractFault → Type 0
 Steps s owners w w_after old new (Ok true) =
@@ -135,3 +142,9 @@ Steps s owners w w_after old new (Err fault) = StopsBy s owners (firsts_of w.fir
 abbrev pub is_directory_kind : Kind → Bool
 is_directory_kind kind.Directory = true
 is_directory_kind _ = false
+
+-- the tree is made in a folder that was made
+abbrev pub Fills : State → Bool → Sight → Sight → Result ℕ ExtractFault → Type 0
+Fills s owners old new (Ok n) = (outcomes : List Outcome) × AreTreeOutcomes s owners outcomes
+    × Had old (record { made = new.made; failures = new.failures; told = new.told; told_failures = new.told_failures; left_out = n }) outcomes
+Fills s owners old new (Err fault) = StopsBy s owners root_alone (tasks_in s [] 1) old new fault

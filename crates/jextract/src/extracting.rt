@@ -3,7 +3,7 @@
 ghost use Rattle.std.specs.Prelude.{◌≡◌, map};
 ghost use Rattle.jextract.specs.Extracts.{Extracts};
 ghost use Rattle.jextract.specs.Making.{firsts_of};
-ghost use Rattle.jextract.specs.Walking.{Completes, GoesUp, Steps, Tells, Visits, is_directory_kind};
+ghost use Rattle.jextract.specs.Walking.{Completes, Enters, Fills, GoesUp, Steps, Tells, Visits, is_directory_kind};
 
 use crate::fault::ExtractFault;
 use crate::folder::{Folder, FolderFault};
@@ -168,7 +168,9 @@ impl<'m, 'a> Walk<'m, 'a> {
     }
 
     /// Goes to the directory that the path leads to.
-    fn enter(&mut self, mounted: &'m Mounted<'a>, ino: u32) -> Result<(), ExtractFault> {
+    fn enter(&mut self, mounted: &'m Mounted<'a>, ino: u32) -> Result<(), ExtractFault>
+        ensures { Enters mounted.now.state ino self.old self.new result }
+    {
         let left = mem::replace(&mut self.left, mounted.entries(ino));
         self.above.push((self.ino, left))?;
         self.ino = ino;
@@ -183,7 +185,11 @@ fn fill<F: Folder, N: Sink>(
     owners: bool,
     folder: &mut F,
     notes: &mut N,
-) -> Result<u64, ExtractFault> {
+) -> Result<u64, ExtractFault>
+    ensures { Fills mounted.now.state owners
+        (record { made = F.made folder.old; failures = F.failures folder.old; told = N.taken notes.old; told_failures = N.failures notes.old; left_out = 0 })
+        (record { made = F.made folder.new; failures = F.failures folder.new; told = N.taken notes.new; told_failures = N.failures notes.new; left_out = 0 }) result }
+{
     let mut firsts = BTreeMap::new(alloc);
     firsts.insert(ROOT, String::new(alloc))?;
     let mut walk = Walk {
