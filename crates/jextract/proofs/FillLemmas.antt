@@ -1,6 +1,6 @@
 -- The whole walk.
-use Rattle.std.proofs.Common.{◌≡◌, ℕ, ◌+◌, ◌-◌, ◌==◌, ◌≤◌, cond, Bool, true, false, List, [], ◌∷◌, ◌++◌, length, take, append_assoc, append-nil, refl, sym, ap, ◌∙◌, subst, arith, Option, Some, None, Result, Ok, Err, if◌then◌else◌}
-use Rattle.std.specs.Prelude.{min, ◌^◌, count_by, flat_map, is_some, option_map, String, string_bytes, IsErrAnd}
+use Rattle.std.proofs.Common.{◌≡◌, ℕ, ◌+◌, ◌-◌, ◌==◌, ◌≤◌, cond, Bool, true, false, List, [], ◌∷◌, ◌++◌, length, take, append_assoc, append-nil, refl, sym, ap, ◌∙◌, subst, arith, Option, Some, None, Result, Ok, Err, Bor, map, if◌then◌else◌}
+use Rattle.std.specs.Prelude.{min, ◌^◌, count_by, flat_map, is_some, option_map, String, string_bytes, reverse, IsErrAnd}
 use Rattle.std.specs.Ordering.{nat_cmp}
 use Rattle.std.specs.BTreeMap.{BTreeMap, get, is_at}
 use Rattle.std.specs.declared.alloc.Global.{Global}
@@ -15,7 +15,7 @@ use Rattle.jextract.specs.Extracts.{AreTreeOutcomes, Extracts, DoesPart}
 use Rattle.jextract.specs.Folders.{Made, Adds}
 use Rattle.jextract.specs.Making.{firsts_of}
 use Rattle.jextract.specs.Outcomes.{Task, Outcome, Firsts, AreOutcomes, AreFirstOutcomes, all_lines, all_made, root_made, failures_after, is_refusal, line_of, root_alone, tasks_in}
-use Rattle.jextract.specs.Walking.{Advances, Sight, Had, Stopped, StopsBy, Steps, Fills, counted, todo_of}
+use Rattle.jextract.specs.Walking.{Advances, Sight, Had, Stopped, StopsBy, Steps, Fills, counted, tasks_up, todo_of}
 use Rattle.jextract.specs.declared.extracting.Walk.{Walk}
 use Rattle.jextract.specs.declared.fault.ExtractFault.{ExtractFault}
 use Rattle.jextract.specs.declared.fault.ExtractFault.TheVariants as fault
@@ -131,3 +131,43 @@ extracts s owners a b c before mid now told new_told told_before told_now (Ok n)
 extracts s owners a b c before mid now told new_told told_before told_now (Err fault.Folder) first same fills = absurd fills
 extracts s owners a b c before mid now told new_told told_before told_now (Err fault.Notes) first same fills = (part_made s owners a b c told new_told fills.0.0 first fills.0.1 fills.0.2 fills.0.3, fills.1)
 extracts s owners a b c before mid now told new_told told_before told_now (Err fault.OutOfMemory) first same fills = (part_made s owners a b c told new_told fills.0.0 first fills.0.1 fills.0.2 fills.0.3, fills.1)
+
+-- ---- the walk from its start
+
+pub fills_at_fault : (s : State) (owners : Bool) (old new : Sight) (f : ExtractFault) (r : Result ℕ ExtractFault) → IsErrAnd r (λ e. e ≡ f)
+    → StopsBy s owners root_alone (tasks_in s [] 1) old new f → Fills s owners old new r
+fills_at_fault s owners old new f (Ok x) err stops = absurd err
+fills_at_fault s owners old new f (Err e) err stops = subst (λ (x : ExtractFault). StopsBy s owners root_alone (tasks_in s [] 1) old new x) (sym err) stops
+
+pub root_known : (empty first : BTreeMap ℕ (String Global)) (text : String Global) → ((q : ℕ) → get nat_cmp empty q ≡ None) → string_bytes text ≡ []
+    → ((q : ℕ) → get nat_cmp first q ≡ cond (is_at (nat_cmp 1) q) (Some text) (get nat_cmp empty q)) → firsts_of first ≡ root_alone
+root_known empty first text none blank updates = λ t j. one j t
+  where
+    is_one : (q : ℕ) → is_at (nat_cmp 1) q ≡ (1 == q)
+    is_one q = grind (arith, nat_tests)
+
+    by : (b : Bool) → option_map string_bytes (cond b (Some text) None) ≡ (if b then Some [] else None)
+    by true = ap Some blank
+    by false = refl
+
+    one : (j : ℕ) → firsts_of first j ≡ root_alone j
+    one j =
+        ap (option_map string_bytes) (updates j ∙ ap (λ (o : Option (String Global)). cond (is_at (nat_cmp 1) j) (Some text) o) (none j))
+        ∙ ap (λ (b : Bool). option_map string_bytes (cond b (Some text) None)) (is_one j)
+        ∙ by (1 == j)
+
+pub reached_first : (s : State) (owners : Bool) (w : Walk) (old : Sight) → w.path.items ≡ [] → w.ino ≡ 1 → w.left ≡ entries_in s 1 → w.above.items ≡ [] → firsts_of w.firsts ≡ root_alone
+    → Reached s owners w old old
+reached_first s owners w old path ino left above firsts =
+    let todo : todo_of s w ≡ tasks_in s [] 1 =
+    ap (λ (p : List (Bor (List ℕ))). tasks_up s ((w.ino, w.left) ∷ reverse w.above.items) (map (λ n. n.now) p)) path
+    ∙ ap (λ (a : List (ℕ × List (List ℕ × ℕ))). tasks_up s ((w.ino, w.left) ∷ reverse a) []) above
+    ∙ ap (λ (i : ℕ). tasks_up s ((i, w.left) ∷ []) []) ino
+    ∙ ap (λ (l : List (List ℕ × ℕ)). tasks_up s ((1, l) ∷ []) []) left in (
+      [],
+      had_none old,
+      (
+        λ rest are. subst (λ (f : Firsts). AreOutcomes s owners f (tasks_in s [] 1) rest) firsts (subst (λ (t : List Task). AreOutcomes s owners (firsts_of w.firsts) t rest) todo are),
+        λ rest are. subst (λ (f : Firsts). AreFirstOutcomes s owners f (tasks_in s [] 1) rest) firsts (subst (λ (t : List Task). AreFirstOutcomes s owners (firsts_of w.firsts) t rest) todo are),
+      ),
+    )
