@@ -3,6 +3,7 @@ use Rattle.std.proofs.Common.{◌≡◌, ℕ, ◌+◌, ◌-◌, ◌==◌, ◌≤
 use Rattle.std.specs.Prelude.{min, ◌^◌, count_by, flat_map, is_some, option_map, String, string_bytes, reverse, IsErrAnd}
 use Rattle.std.specs.Ordering.{nat_cmp}
 use Rattle.std.specs.BTreeMap.{BTreeMap, get, is_at}
+use Rattle.std.specs.Map.{lookup}
 use Rattle.std.specs.declared.alloc.Global.{Global}
 use Rattle.std.specs.Io.KnownBytes.{Appends}
 use Rattle.std.proofs.KnownBytes.{Appends-nil, Appends-trans}
@@ -112,7 +113,7 @@ part_made s owners a b c told new_told outcomes first are adds part =
 pub extracts : (s : State) (owners : Bool) (a b c : Option (List Made)) (before mid now : ℕ) (told new_told : Option (List ℕ)) (told_before told_now : ℕ) (r : Result ℕ ExtractFault)
     → Adds a b (root_made ∷ []) → mid ≡ before
     → Fills s owners (record { made = b; failures = mid; told = told; told_failures = told_before; left_out = 0 })
-      (record { made = c; failures = now; told = new_told; told_failures = told_now; left_out = 0 }) r
+    (record { made = c; failures = now; told = new_told; told_failures = told_now; left_out = 0 }) r
     → Extracts s owners a c before now told new_told told_before told_now r
 extracts s owners a b c before mid now told new_told told_before told_now (Ok n) first same fills =
     let outcomes = fills.0 in
@@ -171,3 +172,6 @@ reached_first s owners w old path ino left above firsts =
         λ rest are. subst (λ (f : Firsts). AreFirstOutcomes s owners f (tasks_in s [] 1) rest) firsts (subst (λ (t : List Task). AreFirstOutcomes s owners (firsts_of w.firsts) t rest) todo are),
       ),
     )
+
+pub none_in : (empty : BTreeMap ℕ (String Global)) → empty.entries ≡ [] → (q : ℕ) → get nat_cmp empty q ≡ None
+none_in empty none q = ap (λ (es : List (ℕ × String Global)). lookup (is_at (nat_cmp q)) es) none

@@ -183,7 +183,6 @@ pub first_unknown : (firsts : BTreeMap ℕ (String Global)) (i : ℕ) (found : O
     → found ≡ None → firsts_of firsts i ≡ None
 first_unknown firsts i found is none = ap (option_map string_bytes) (sym is ∙ ap option_copied none)
 
-
 pub link_keeps_firsts : (firsts : Firsts) (path : List (List ℕ)) (text first : List ℕ) (i : ℕ) → host_path path ≡ Ok text → firsts i ≡ Some first → firsts ≡ firsts_if firsts path i None
 link_keeps_firsts firsts path text first i at there =
     sym (ap (λ (p : Result (List ℕ) Reason). firsts_with firsts p i) at ∙ (λ t j. one j (i == j) refl t))

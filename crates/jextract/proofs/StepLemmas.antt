@@ -175,7 +175,7 @@ leaves s owners w n old new done false none completes up =
       completes.0,
       completes.1,
       subst (λ (f : Firsts). Advances s owners (firsts_of w.firsts) (todo_of s w) f [] completes.0) (sym (ap firsts_of up.1))
-      (advances_to s owners (firsts_of w.firsts) (firsts_of w.firsts) (more_of s w) (todo_of s w) rest [] completes.0 (todo_left s w none) empty (completes.2 (firsts_of w.firsts) rest)),
+          (advances_to s owners (firsts_of w.firsts) (firsts_of w.firsts) (more_of s w) (todo_of s w) rest [] completes.0 (todo_left s w none) empty (completes.2 (firsts_of w.firsts) rest)),
     )
 leaves s owners w n old new done true none completes up =
     let rest = tasks_up s (reverse w.above.items) (way_up (way_of w)) in
@@ -191,7 +191,7 @@ leaves s owners w n old new done true none completes up =
       completes.0,
       completes.1,
       subst (λ (f : Firsts). Advances s owners (firsts_of w.firsts) (todo_of s w) f (todo_of s n) completes.0) (sym (ap firsts_of up.2))
-      (advances_to s owners (firsts_of w.firsts) (firsts_of w.firsts) (more_of s w) (todo_of s w) rest (todo_of s n) completes.0 (todo_left s w none) todo (completes.2 (firsts_of w.firsts) rest)),
+          (advances_to s owners (firsts_of w.firsts) (firsts_of w.firsts) (more_of s w) (todo_of s w) rest (todo_of s n) completes.0 (todo_left s w none) todo (completes.2 (firsts_of w.firsts) rest)),
       omega arith,
     )
 
@@ -224,4 +224,3 @@ way_back w name pushed popped is cut =
 pub visit_at : (s : State) (owners : Bool) (firsts firsts_then : Firsts) (path way : List (List ℕ)) (i : ℕ) (old new : Sight) (r : Result Bool ExtractFault)
     → path ≡ way → Visits s owners firsts firsts_then path i old new r → Visits s owners firsts firsts_then way i old new r
 visit_at s owners firsts firsts_then path way i old new r is visits = subst (λ (p : List (List ℕ)). Visits s owners firsts firsts_then p i old new r) is visits
-

@@ -44,7 +44,7 @@ had_one old new o path why left at adds failures told same count = (
   subst (Adds old.made new.made) (sym (append-nil o.deeds)) adds,
   failures ∙ ap (count_after old.failures) (sym left),
   subst (Appends old.told new.told)
-  (ap (λ (p : List (List ℕ)). line_if p why) (sym at) ∙ ap (line_if o.path) (sym left) ∙ sym (append-nil (line_of o))) told,
+      (ap (λ (p : List (List ℕ)). line_if p why) (sym at) ∙ ap (line_if o.path) (sym left) ∙ sym (append-nil (line_of o))) told,
   same,
   count ∙ ap (λ (w : Option Reason). counted old.left_out (cond (is_some w) 1 0)) (sym left) ∙ ap (counted old.left_out) (sym (count_one o)),
 )
@@ -76,7 +76,7 @@ stops_told s owners firsts task todo old new o why is left adds part = (
   (is, tt {0}),
   subst (Adds old.made new.made) (sym (append-nil o.deeds)) adds,
   subst (PutsPart old.told new.told)
-  (ap (λ (p : List (List ℕ)). line_if p (Some why)) (sym is.0) ∙ ap (line_if o.path) (sym left) ∙ sym (append-nil (line_of o))) part,
+      (ap (λ (p : List (List ℕ)). line_if p (Some why)) (sym is.0) ∙ ap (line_if o.path) (sym left) ∙ sym (append-nil (line_of o))) part,
 )
 
 pub stops : {T : Type 0} (s : State) (owners : Bool) (firsts : Firsts) (task : Task) (todo : List Task) (old new : Sight) (r : Result T MakeFault) (f : ExtractFault)
@@ -275,7 +275,7 @@ visit_made {T} s owners firsts firsts_then path i o old new (Ok x) done there wo
           (ap (λ (w : Option Reason). todo_if s path i w todo) by.3 ∙ ap (λ (b : Bool). todo_then s path i b todo) (directory ∙ sym entered))
           (one_advances s owners firsts (Make path i) by.0 todo by.1),
       subst (λ (b : Bool). unmade s firsts_then + (if b then length (entries_in s i) else 0) ≤ unmade s firsts) (sym entered)
-      (subst (λ (f : Firsts). unmade s f + (if is_directory_kind o.kind then length (entries_in s i) else 0) ≤ unmade s firsts) (sym after) (fewer by.0 by.1 by.3 (is_directory_kind o.kind) refl)),
+          (subst (λ (f : Firsts). unmade s f + (if is_directory_kind o.kind then length (entries_in s i) else 0) ≤ unmade s firsts) (sym after) (fewer by.0 by.1 by.3 (is_directory_kind o.kind) refl)),
     )
   where
     fewer : (u : Outcome) → IsOutcomeOf s owners firsts (Make path i) u → u.left_out ≡ None → (b : Bool) → is_directory_kind o.kind ≡ b

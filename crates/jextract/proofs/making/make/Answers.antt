@@ -30,7 +30,7 @@ returns-in_err-make_anew-clause-works g c =
     let path = map (λ name. name.now) c.args.names.now in
     let firsts = firsts_of c.args.firsts.now in
     let plan = planned_anew s c.args.owners firsts path c.args.ino c.args.object.now c.requires (first_unknown c.args.firsts.now c.args.ino c.get.result c.get.ensures.value c.in_default.is)
-        ∙ ap (plan_anew c.args.object.now.kind (readable s c.args.ino)) (sym c.attributes_of-attributes.ensures) in
+    ∙ ap (plan_anew c.args.object.now.kind (readable s c.args.ino)) (sym c.attributes_of-attributes.ensures) in
     let fault = c.in_err-make_anew.field-0.0 in
     works_at_fault s c.args.owners firsts (Make path c.args.ino)
     (g.F.Folder.made c.args.folder.now) (g.F.Folder.made c.make_anew.new.folder) (g.F.Folder.failures c.args.folder.now) (g.F.Folder.failures c.make_anew.new.folder)
@@ -47,7 +47,7 @@ returns-in_err-insert-clause-works g c =
     let path = map (λ name. name.now) c.args.names.now in
     let firsts = firsts_of c.args.firsts.now in
     let plan = planned_anew s c.args.owners firsts path c.args.ino c.args.object.now c.requires (first_unknown c.args.firsts.now c.args.ino c.get.result c.get.ensures.value c.in_default.is)
-        ∙ ap (plan_anew c.args.object.now.kind (readable s c.args.ino)) (sym c.attributes_of-attributes.ensures) in
+    ∙ ap (plan_anew c.args.object.now.kind (readable s c.args.ino)) (sym c.attributes_of-attributes.ensures) in
     works_then_fails s c.args.owners firsts (Make path c.args.ino) c.as_str-2.result.now
     (g.F.Folder.made c.args.folder.now) (g.F.Folder.made c.make_anew.new.folder) (g.F.Folder.failures c.args.folder.now) (g.F.Folder.failures c.make_anew.new.folder)
     c.from_residual-in_err-insert.result (Unit {0}) (tt {0}) (c.in_ok-path.ensures ∙ ap Ok (sym c.as_str-2.ensures.value))
@@ -61,7 +61,7 @@ returns-clause-works g c =
     let path = map (λ name. name.now) c.args.names.now in
     let firsts = firsts_of c.args.firsts.now in
     let plan = planned_anew s c.args.owners firsts path c.args.ino c.args.object.now c.requires (first_unknown c.args.firsts.now c.args.ino c.get.result c.get.ensures.value c.in_default.is)
-        ∙ ap (plan_anew c.args.object.now.kind (readable s c.args.ino)) (sym c.attributes_of-attributes.ensures) in
+    ∙ ap (plan_anew c.args.object.now.kind (readable s c.args.ino)) (sym c.attributes_of-attributes.ensures) in
     works_as_planned s c.args.owners firsts (Make path c.args.ino) c.as_str-2.result.now
     (g.F.Folder.made c.args.folder.now) (g.F.Folder.made c.make_anew.new.folder) (g.F.Folder.failures c.args.folder.now) (g.F.Folder.failures c.make_anew.new.folder)
     (Ok (tt {0})) (c.in_ok-path.ensures ∙ ap Ok (sym c.as_str-2.ensures.value))

@@ -22,6 +22,6 @@ returns g c =
       Symlink bytes c.args.attributes ∷ [],
       symlink_planned bytes c.args.attributes (ap is_target (sym same) ∙ c.in-Some.ensures.1),
       subst (λ (t : List ℕ). Adds (g.F.Folder.made c.args.folder.now) (g.F.Folder.made c.make_symlink.new.self) (record { path = c.args.path.now; deed = Symlink t c.args.attributes } ∷ []))
-      (c.in-Some.ensures.0 ∙ same) put.adds,
+          (c.in-Some.ensures.0 ∙ same) put.adds,
       put.counts,
     )
