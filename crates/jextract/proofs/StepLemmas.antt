@@ -1,18 +1,17 @@
 -- The steps of the walk.
-use Rattle.std.proofs.Common.{◌≡◌, ℕ, zero, suc, ◌+◌, ◌-◌, ◌*◌, ◌<◌, ◌≤◌, ◌==◌, cond, Bool, true, false, not, List, [], ◌∷◌, ◌++◌, length, map, take, append_assoc, append-nil, refl, sym, ap, ◌∙◌, subst, arith, Option, Some, None, Result, Ok, Err, Bor, if◌then◌else◌}
-use Rattle.std.specs.Prelude.{min, filter, reverse, sum_by, count_by, flat_map, is_some, IsErrAnd}
+use Rattle.std.proofs.Common.{◌≡◌, ℕ, ◌+◌, ◌-◌, cond, Bool, true, false, List, [], ◌∷◌, ◌++◌, length, map, take, append_assoc, append-nil, refl, sym, ap, ◌∙◌, subst, arith, Option, Result, Ok, Err, Bor, if◌then◌else◌}
+use Rattle.std.specs.Prelude.{filter, reverse, sum_by, IsErrAnd}
 use Rattle.std.specs.Io.KnownBytes.{Appends}
-use Rattle.std.proofs.KnownBytes.{Appends-nil, Appends-trans}
-use Rattle.std.proofs.lemmas.Grind.{common_steps, flat_map-append}
+use Rattle.std.proofs.KnownBytes.{Appends-nil}
+use Rattle.std.proofs.lemmas.Grind.{common_steps}
 use Rattle.std.proofs.lemmas.List.Sums.{sum_by_push}
 use Rattle.std.proofs.lemmas.List.{map-append, reverse-append, length_push}
 use Rattle.std.proofs.Math.Seq.{take-append_seam}
 use Rattle.flashbase.specs.Device.{PutsPart}
 use Rattle.jmount.specs.Tree.{State, is_there, entries_in}
-use Rattle.jextract.specs.Folders.{Made, Adds}
 use Rattle.jextract.specs.Making.{firsts_of}
-use Rattle.jextract.specs.Outcomes.{Task, Make, Complete, Outcome, Firsts, AreOutcomes, AreFirstOutcomes, tasks_of, tasks_in, all_lines}
-use Rattle.jextract.specs.Walking.{Advances, Sight, Had, Stopped, StopsBy, Visits, Completes, GoesUp, Steps, task_if, todo_then, todo_of, tasks_up, way_of, way_up, unmade, names_left, steps_left}
+use Rattle.jextract.specs.Outcomes.{Task, Make, Complete, Outcome, Firsts, AreFirstOutcomes, tasks_of, tasks_in, all_lines}
+use Rattle.jextract.specs.Walking.{Advances, Sight, Had, StopsBy, Visits, Completes, GoesUp, Steps, task_if, todo_then, todo_of, tasks_up, way_of, way_up, unmade}
 use Rattle.jextract.specs.declared.extracting.Walk.{Walk}
 use Rattle.jextract.specs.declared.fault.ExtractFault.{ExtractFault}
 use Rattle.jextract.specs.declared.fault.ExtractFault.TheVariants as fault

@@ -1,24 +1,23 @@
 -- The walk through a tree that is extracted.
-use Rattle.std.proofs.Common.{◌≡◌, ℕ, zero, suc, ◌+◌, ◌-◌, ◌*◌, ◌<◌, ◌≤◌, ◌&&◌, ◌==◌, cond, Bool, true, false, not, List, [], ◌∷◌, ◌++◌, length, map, take, append_assoc, append-nil, refl, sym, ap, ◌∙◌, subst, arith, inl, inr, Option, Some, None, Result, Ok, Err, if◌then◌else◌}
-use Rattle.std.specs.Prelude.{min, is_some, is_none, count_by, option_map, IsErrAnd, ◌^◌}
+use Rattle.std.proofs.Common.{◌≡◌, ℕ, ◌+◌, ◌≤◌, ◌&&◌, ◌==◌, cond, Bool, true, false, List, [], ◌∷◌, ◌++◌, length, append-nil, refl, sym, ap, ◌∙◌, subst, arith, inl, inr, Option, Some, None, Result, Ok, Err, if◌then◌else◌}
+use Rattle.std.specs.Prelude.{is_some, is_none, count_by, option_map, IsErrAnd}
 use Rattle.std.specs.Option.{option_or}
 use Rattle.std.specs.Io.KnownBytes.{Appends}
-use Rattle.std.proofs.KnownBytes.{Appends-nil, Appends-trans}
-use Rattle.std.proofs.lemmas.Grind.{common_steps}
+use Rattle.std.proofs.KnownBytes.{Appends-nil}
 use Rattle.std.proofs.lemmas.Bool.Decides.{nat_tests}
 use Rattle.std.specs.FinMap.{entries}
 use Rattle.std.specs.Prelude.{filter}
 use Rattle.std.proofs.lemmas.List.{length-map}
 use Rattle.std.proofs.lemmas.List.Sums.{sum_by-cons, length-filter}
-use Rattle.flashbase.specs.Device.{PutsPart, next_count}
-use Rattle.jmount.specs.Tree.{State, ObjectOf, object, is_there, is_directory, has_bits, directory_bits, entries_in}
+use Rattle.flashbase.specs.Device.{PutsPart}
+use Rattle.jmount.specs.Tree.{State, ObjectOf, object, has_bits, directory_bits, entries_in}
 use Rattle.jmount.specs.Shown.{kind_of, readable, shown}
 use Rattle.jmount.specs.declared.object.Kind.{Kind}
 use Rattle.jmount.specs.declared.object.Kind.TheVariants as kind
 use Rattle.jmount.specs.declared.object.Object.{Object}
-use Rattle.jextract.specs.Folders.{Made, Adds}
+use Rattle.jextract.specs.Folders.{Adds}
 use Rattle.jextract.specs.Making.{Works, FirstsAfter, count_after}
-use Rattle.jextract.specs.Outcomes.{Task, Make, Complete, path_of, Outcome, Firsts, Plan, FollowsPlan, IsOutcomeOf, AreOutcomes, AreFirstOutcomes, attributes_of, plan_of, plan_made, tasks_in, todo_after, todo_if, firsts_after, firsts_if, firsts_with, line_if, line_of, all_lines, failures_after, is_refusal}
+use Rattle.jextract.specs.Outcomes.{Task, Make, Complete, path_of, Outcome, Firsts, Plan, FollowsPlan, IsOutcomeOf, AreOutcomes, AreFirstOutcomes, attributes_of, plan_of, plan_made, todo_after, todo_if, firsts_after, firsts_if, firsts_with, line_if, line_of}
 use Rattle.jextract.specs.Paths.{host_path}
 use Rattle.jextract.specs.Walking.{Tells, counted, Advances, Sight, Had, Stopped, StopsBy, Visits, Completes, task_if, todo_then, unmade, is_directory_kind}
 use Rattle.jextract.specs.declared.fault.ExtractFault.{ExtractFault}

@@ -1,10 +1,10 @@
 -- What a call that extracts a file system does to the folder and to the notes.
-use Rattle.std.specs.Prelude.{◌≡◌, ℕ, Bool, List, [], ◌∷◌, ◌++◌, take, Option, Result, Ok, Err}
+use Rattle.std.specs.Prelude.{◌≡◌, ℕ, Bool, List, [], take, Option, Result, Ok, Err}
 use Rattle.std.specs.Io.KnownBytes.{Appends}
 use Rattle.flashbase.specs.Device.{PutsPart, next_count}
 use Rattle.jmount.specs.Tree.{State}
 use Rattle.jextract.specs.Folders.{Made, Adds}
-use Rattle.jextract.specs.Outcomes.{Task, Outcome, Firsts, root_alone, tasks_in, AreOutcomes, AreFirstOutcomes, all_made, all_lines, failures_after, count_left_out}
+use Rattle.jextract.specs.Outcomes.{Outcome, root_alone, tasks_in, AreOutcomes, AreFirstOutcomes, all_made, all_lines, failures_after, count_left_out}
 use Rattle.jextract.specs.declared.fault.ExtractFault.{ExtractFault}
 use Rattle.jextract.specs.declared.fault.ExtractFault.TheVariants.{Folder, Notes, OutOfMemory}
 

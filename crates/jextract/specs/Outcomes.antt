@@ -1,11 +1,11 @@
 -- What is made of a file system in a folder of the host, as far as the host lets it.
-use Rattle.std.specs.Prelude.{min, count_by, ◌^◌, ◌-◌, ◌≡◌, ℕ, ◌+◌, ◌%◌, ◌<◌, ◌==◌, ◌&&◌, ◌||◌, not, Bool, true, false, nat_lt, nat_le, List, [], ◌∷◌, ◌++◌, length, take, map, filter, flat_map, codes, Option, Some, None, option_map, Result, Ok, Err, ◌⊎◌, is_some, if◌then◌else◌}
+use Rattle.std.specs.Prelude.{min, count_by, ◌^◌, ◌-◌, ◌≡◌, ℕ, ◌%◌, ◌<◌, ◌==◌, ◌&&◌, not, Bool, true, false, nat_lt, nat_le, List, [], ◌∷◌, ◌++◌, length, take, map, filter, flat_map, codes, Option, Some, None, option_map, Result, Ok, Err, ◌⊎◌, is_some, if◌then◌else◌}
 use Rattle.std.specs.List.{list_all}
 use Rattle.std.specs.Option.{option_or}
 use Rattle.flashbase.specs.Device.{next_count}
 use Rattle.std.specs.Str.{is_utf8}
-use Rattle.jmount.specs.Tree.{State, ObjectOf, object, is_there, is_directory, entries_in}
-use Rattle.jmount.specs.Shown.{readable, kind_of, shown}
+use Rattle.jmount.specs.Tree.{State, object, is_there, is_directory, entries_in}
+use Rattle.jmount.specs.Shown.{readable, shown}
 use Rattle.jmount.specs.declared.object.Kind.{Kind}
 use Rattle.jmount.specs.declared.object.Kind.TheVariants as kind
 use Rattle.jmount.specs.declared.object.Object.{Object}

@@ -1,15 +1,15 @@
 -- The walk through a tree that is extracted: what is still to be done, and what a step of it does.
-use Rattle.std.specs.Prelude.{◌≡◌, ℕ, ◌+◌, ◌-◌, ◌*◌, ◌<◌, ◌≤◌, ◌^◌, ◌&&◌, ◌==◌, min, Bool, true, false, not, List, [], ◌∷◌, ◌++◌, length, map, take, reverse, sum_by, count_by, flat_map, Option, Some, None, is_some, is_none, Result, Ok, Err, if◌then◌else◌}
+use Rattle.std.specs.Prelude.{◌≡◌, ℕ, ◌+◌, ◌-◌, ◌*◌, ◌<◌, ◌≤◌, ◌^◌, ◌==◌, min, Bool, true, false, List, [], ◌∷◌, ◌++◌, length, map, take, reverse, sum_by, count_by, flat_map, Option, Some, is_some, is_none, Result, Ok, Err, if◌then◌else◌}
 use Rattle.std.specs.FinMap.{entries}
 use Rattle.std.specs.Io.KnownBytes.{Appends}
 use Rattle.flashbase.specs.Device.{PutsPart, next_count}
-use Rattle.jmount.specs.Tree.{State, is_directory, is_there, entries_in}
+use Rattle.jmount.specs.Tree.{State, is_there, entries_in}
 use Rattle.jmount.specs.declared.object.Kind.{Kind}
 use Rattle.jmount.specs.declared.object.Kind.TheVariants as kind
 use Rattle.jextract.specs.Folders.{Made, Adds}
-use Rattle.jextract.specs.Making.{firsts_of, count_after, HasBegun}
+use Rattle.jextract.specs.Making.{firsts_of}
 use Rattle.jextract.specs.Extracts.{AreTreeOutcomes}
-use Rattle.jextract.specs.Outcomes.{root_alone, Task, Make, Complete, Outcome, Firsts, IsOutcomeOf, AreOutcomes, AreFirstOutcomes, tasks_in, tasks_of, firsts_after, all_lines, failures_after, line_of, line_if}
+use Rattle.jextract.specs.Outcomes.{root_alone, Task, Make, Complete, Outcome, Firsts, AreOutcomes, AreFirstOutcomes, tasks_in, tasks_of, all_lines, failures_after, line_if}
 use Rattle.jextract.specs.declared.extracting.Walk.{Walk}
 use Rattle.jextract.specs.declared.making.MakeFault.{MakeFault}
 use Rattle.jextract.specs.declared.making.MakeFault.TheVariants as make

@@ -1,4 +1,4 @@
-use Rattle.std.proofs.Common.{ℕ, Bool, false, true, [], ◌∷◌, refl, sym, ap, subst, Ok, Err}
+use Rattle.std.proofs.Common.{Bool, [], refl, subst, Ok}
 use Rattle.jextract.specs.Outcomes.{root_alone, tasks_in}
 use Rattle.jextract.specs.Walking.{Sight, Steps}
 use Rattle.jextract.specs.declared.extracting.Walk.{Walk}

@@ -1,4 +1,4 @@
-use Rattle.jextract.specs.Walking.{Sight, steps_left}
+use Rattle.jextract.specs.Walking.{steps_left}
 use Rattle.jextract.proofs.FillLemmas.{Reached}
 use Rattle.jextract.proofs.extracting.fill.Given as goal
 

@@ -1,4 +1,4 @@
-use Rattle.std.proofs.Common.{Bool, ◌&&◌, ap, ◌∙◌, map, Ok, Err, sym, subst}
+use Rattle.std.proofs.Common.{Bool, ◌&&◌, ap, ◌∙◌, map, Ok, sym, subst}
 use Rattle.jextract.specs.Making.{firsts_of}
 use Rattle.jextract.specs.Walking.{Sight, Visits, is_directory_kind}
 use Rattle.jextract.proofs.WalkLemmas.{visit_gone, visit_made, visit_stops, visits_at_fault}

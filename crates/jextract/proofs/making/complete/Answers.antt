@@ -1,4 +1,4 @@
-use Rattle.std.proofs.Common.{List, ℕ, map, None, ap, ◌∙◌, sym, Ok}
+use Rattle.std.proofs.Common.{map, None, ap, ◌∙◌, sym, Ok}
 use Rattle.jextract.specs.Outcomes.{Complete}
 use Rattle.jextract.proofs.MakingLemmas.{works_without_path, works_as_planned}
 use Rattle.jextract.proofs.making.complete.Goals as goal

@@ -1,7 +1,5 @@
-use Rattle.std.proofs.Common.{◌≡◌, Bool, List, ℕ, [], ◌∷◌, ap, ◌∙◌, sym, refl, subst, Option, Some}
-use Rattle.std.specs.Prelude.{option_map}
-use Rattle.jmount.specs.declared.object.Object.{Object}
-use Rattle.jextract.specs.Folders.{Adds, Attributed}
+use Rattle.std.proofs.Common.{[], ◌∷◌, ap, ◌∙◌, sym, refl}
+use Rattle.jextract.specs.Folders.{Attributed}
 use Rattle.jextract.specs.Outcomes.{Do, attributes_of, plan_completed}
 use Rattle.jextract.proofs.MakingLemmas.{Adds-nil, one_fails}
 use Rattle.jextract.proofs.making.complete_at.Goals as goal

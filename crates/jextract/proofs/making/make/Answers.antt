@@ -1,9 +1,8 @@
-use Rattle.std.proofs.Common.{◌≡◌, List, ℕ, map, None, ap, ◌∙◌, sym, subst, Ok, Err, Some}
+use Rattle.std.proofs.Common.{map, ap, ◌∙◌, sym, subst, Ok, Err, Some}
 use Rattle.std.specs.Prelude.{string_bytes}
 use Rattle.jmount.specs.Shown.{readable}
-use Rattle.jextract.specs.Folders.{Adds}
 use Rattle.jextract.specs.Making.{Follows, firsts_of}
-use Rattle.jextract.specs.Outcomes.{Make, Plan, attributes_of, plan_anew}
+use Rattle.jextract.specs.Outcomes.{Make, Plan, plan_anew}
 use Rattle.jextract.proofs.MakingLemmas.{works_without_path, works_as_planned, works_at_fault, works_then_fails, planned_again, planned_anew, first_added, first_known, first_unknown, firsts_kept}
 use Rattle.jextract.proofs.making.make.Goals as goal
 

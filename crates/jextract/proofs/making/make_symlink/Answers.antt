@@ -1,7 +1,7 @@
-use Rattle.std.proofs.Common.{◌≡◌, true, ℕ, List, [], ◌∷◌, ap, ◌∙◌, sym, subst, arith, if◌then◌else◌, Bool}
+use Rattle.std.proofs.Common.{ℕ, List, [], ◌∷◌, ap, ◌∙◌, sym, subst, arith}
 use Rattle.jmount.specs.Shown.{readable}
 use Rattle.jextract.specs.Folders.{Adds, Symlink}
-use Rattle.jextract.specs.Outcomes.{Do, LeaveOut, is_target, plan_symlink}
+use Rattle.jextract.specs.Outcomes.{is_target}
 use Rattle.jextract.proofs.PathLemmas.{target_read}
 use Rattle.jextract.proofs.MakingLemmas.{one_fails, symlink_planned}
 use Rattle.jextract.proofs.making.make_symlink.Goals as goal

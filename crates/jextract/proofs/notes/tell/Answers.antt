@@ -1,4 +1,4 @@
-use Rattle.std.proofs.Common.{ℕ, List, [], ◌∷◌, ◌++◌, map}
+use Rattle.std.proofs.Common.{[], ◌∷◌, ◌++◌, map}
 use Rattle.std.specs.Prelude.{codes}
 use Rattle.flashbase.proofs.DeviceLemmas.{part_before}
 use Rattle.jextract.specs.Outcomes.{left_out_line, reason_text}

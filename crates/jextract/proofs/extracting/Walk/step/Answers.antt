@@ -1,7 +1,7 @@
-use Rattle.std.proofs.Common.{◌≡◌, map, ℕ, Bool, false, true, List, [], ◌∷◌, ◌++◌, ◌-◌, refl, sym, ap, ◌∙◌, subst, take, Ok, Err}
+use Rattle.std.proofs.Common.{◌≡◌, map, ℕ, Bool, true, List, [], ◌∷◌, ◌++◌, ◌-◌, refl, sym, ap, ◌∙◌, subst, take, Ok, Err}
 use Rattle.std.specs.Prelude.{IsErrAnd}
 use Rattle.jextract.specs.Making.{firsts_of}
-use Rattle.jextract.specs.Walking.{Sight, Steps, todo_of, Visits, Completes, way_of}
+use Rattle.jextract.specs.Walking.{Sight, todo_of, Visits, Completes, way_of}
 use Rattle.jextract.specs.declared.extracting.Walk.{Walk}
 use Rattle.jextract.specs.declared.fault.ExtractFault.{ExtractFault}
 use Rattle.jextract.specs.declared.fault.ExtractFault.TheVariants.{OutOfMemory}
