@@ -1,0 +1,5 @@
+pub mod FillLemmas
+pub mod MakingLemmas
+pub mod PathLemmas
+pub mod StepLemmas
+pub mod WalkLemmas

@@ -1,0 +1,225 @@
+-- The steps of the walk.
+use Rattle.std.proofs.Common.{◌≡◌, ℕ, ◌+◌, ◌-◌, cond, Bool, true, false, List, [], ◌∷◌, ◌++◌, length, map, take, append_assoc, append-nil, refl, sym, ap, ◌∙◌, subst, arith, Option, Result, Ok, Err, Bor, if◌then◌else◌}
+use Rattle.std.specs.Prelude.{filter, reverse, sum_by, IsErrAnd}
+use Rattle.std.specs.Io.KnownBytes.{Appends}
+use Rattle.std.proofs.KnownBytes.{Appends-nil}
+use Rattle.std.proofs.lemmas.Grind.{common_steps}
+use Rattle.std.proofs.lemmas.List.Sums.{sum_by_push}
+use Rattle.std.proofs.lemmas.List.{map-append, reverse-append, length_push}
+use Rattle.std.proofs.Math.Seq.{take-append_seam}
+use Rattle.flashbase.specs.Device.{PutsPart}
+use Rattle.jmount.specs.Tree.{State, is_there, entries_in}
+use Rattle.jextract.specs.Making.{firsts_of}
+use Rattle.jextract.specs.Outcomes.{Task, Make, Complete, Outcome, Firsts, AreFirstOutcomes, tasks_of, tasks_in, all_lines}
+use Rattle.jextract.specs.Walking.{Advances, Sight, Had, StopsBy, Visits, Completes, GoesUp, Steps, task_if, todo_then, todo_of, tasks_up, way_of, way_up, unmade}
+use Rattle.jextract.specs.declared.extracting.Walk.{Walk}
+use Rattle.jextract.specs.declared.fault.ExtractFault.{ExtractFault}
+use Rattle.jextract.specs.declared.fault.ExtractFault.TheVariants as fault
+use Rattle.jextract.proofs.MakingLemmas.{Adds-nil}
+
+-- ---- the tasks of a name
+
+tasks_more : (s : State) (path : List (List ℕ)) (name : List ℕ) (i : ℕ) (names : List (List ℕ × ℕ))
+    → tasks_of s path ((name, i) ∷ names) ≡ task_if s (path ++ name ∷ []) i ++ tasks_of s path names
+tasks_more s path name i names = by (is_there s i) refl
+  where
+    by : (there : Bool) → is_there s i ≡ there → tasks_of s path ((name, i) ∷ names) ≡ task_if s (path ++ name ∷ []) i ++ tasks_of s path names
+    by true is =
+        ap (λ b. map (λ e. Make (path ++ e.0 ∷ []) e.1) (cond b ((name, i) ∷ filter (λ e. is_there s e.1) names) (filter (λ e. is_there s e.1) names))) is
+        ∙ sym (ap (λ (b : Bool). (if b then Make (path ++ name ∷ []) i ∷ [] else []) ++ tasks_of s path names) is)
+    by false is =
+        ap (λ b. map (λ e. Make (path ++ e.0 ∷ []) e.1) (cond b ((name, i) ∷ filter (λ e. is_there s e.1) names) (filter (λ e. is_there s e.1) names))) is
+        ∙ sym (ap (λ (b : Bool). (if b then Make (path ++ name ∷ []) i ∷ [] else []) ++ tasks_of s path names) is)
+
+-- what a walk has left, beside the names of the directory that it reads
+abbrev pub more_of : State → Walk → List Task
+more_of s w = Complete (way_of w) w.ino ∷ tasks_up s (reverse w.above.items) (way_up (way_of w))
+
+-- what it has left, where it read a name
+todo_read : (s : State) (w : Walk) (name : List ℕ) (i : ℕ) (names : List (List ℕ × ℕ)) → w.left ≡ (name, i) ∷ names
+    → task_if s (way_of w ++ name ∷ []) i ++ (tasks_of s (way_of w) names ++ more_of s w) ≡ todo_of s w
+todo_read s w name i names read =
+    sym (append_assoc (task_if s (way_of w ++ name ∷ []) i) (tasks_of s (way_of w) names) (more_of s w))
+    ∙ ap (λ (t : List Task). t ++ more_of s w) (sym (tasks_more s (way_of w) name i names))
+    ∙ ap (λ (left : List (List ℕ × ℕ)). tasks_of s (way_of w) left ++ more_of s w) (sym read)
+
+-- ---- the walk goes on in the same directory, or in the one that the name leads to
+
+stays_todo : (s : State) (w n : Walk) (names : List (List ℕ × ℕ)) → n.left ≡ names → n.ino ≡ w.ino → n.above.items ≡ w.above.items → way_of n ≡ way_of w
+    → tasks_of s (way_of w) names ++ more_of s w ≡ todo_of s n
+stays_todo s w n names left ino above way =
+    ap (λ (l : List (List ℕ × ℕ)). tasks_of s (way_of w) l ++ more_of s w) (sym left)
+    ∙ ap (λ (i : ℕ). tasks_of s (way_of w) n.left ++ Complete (way_of w) i ∷ tasks_up s (reverse w.above.items) (way_up (way_of w))) (sym ino)
+    ∙ ap (λ (a : List (ℕ × List (List ℕ × ℕ))). tasks_of s (way_of w) n.left ++ Complete (way_of w) n.ino ∷ tasks_up s (reverse a) (way_up (way_of w))) (sym above)
+    ∙ ap (tasks_up s ((n.ino, n.left) ∷ reverse n.above.items)) (sym way)
+
+advances_to : (s : State) (owners : Bool) (firsts then_ : Firsts) (todo other todo_ todo_other : List Task) (outcomes : List Outcome)
+    → todo ≡ other → todo_ ≡ todo_other → Advances s owners firsts todo then_ todo_ outcomes → Advances s owners firsts other then_ todo_other outcomes
+advances_to s owners firsts then_ todo other todo_ todo_other outcomes a c advances =
+    subst (λ (t : List Task). Advances s owners firsts t then_ todo_other outcomes) a
+    (subst (λ (t : List Task). Advances s owners firsts todo then_ t outcomes) c advances)
+
+pub stays : (s : State) (owners : Bool) (w n : Walk) (name : List ℕ) (i : ℕ) (old new : Sight) → w.left ≡ (name, i) ∷ n.left → n.ino ≡ w.ino
+    → n.above.items ≡ w.above.items → way_of n ≡ way_of w → Visits s owners (firsts_of w.firsts) (firsts_of n.firsts) (way_of w ++ name ∷ []) i old new (Ok false)
+    → Steps s owners w n old new (Ok true)
+stays s owners w n name i old new read ino above way visits =
+    let left : length w.left ≡ length n.left + 1 = ap (λ l. length l) read ∙ omega arith in
+    let sum : sum_by (λ (d : ℕ × List (List ℕ × ℕ)). length d.1) n.above.items ≡ sum_by (λ (d : ℕ × List (List ℕ × ℕ)). length d.1) w.above.items = ap (sum_by (λ d. length d.1)) above in
+    let deep : length n.above.items ≡ length w.above.items = ap (λ l. length l) above in
+    let fewer = visits.3 in (
+      visits.0,
+      visits.1,
+      advances_to s owners (firsts_of w.firsts) (firsts_of n.firsts) (task_if s (way_of w ++ name ∷ []) i ++ (tasks_of s (way_of w) n.left ++ more_of s w)) (todo_of s w)
+          (tasks_of s (way_of w) n.left ++ more_of s w) (todo_of s n) visits.0 (todo_read s w name i n.left read) (stays_todo s w n n.left refl ino above way)
+          (visits.2 (tasks_of s (way_of w) n.left ++ more_of s w)),
+      omega arith,
+    )
+
+pub enters : (s : State) (owners : Bool) (w n : Walk) (name : List ℕ) (i : ℕ) (names : List (List ℕ × ℕ)) (old new : Sight) → w.left ≡ (name, i) ∷ names → n.ino ≡ i
+    → n.left ≡ entries_in s i → n.above.items ≡ w.above.items ++ (w.ino, names) ∷ [] → way_of n ≡ way_of w ++ name ∷ []
+    → Visits s owners (firsts_of w.firsts) (firsts_of n.firsts) (way_of w ++ name ∷ []) i old new (Ok true) → Steps s owners w n old new (Ok true)
+enters s owners w n name i names old new read ino left above way visits =
+    let rest = tasks_of s (way_of w) names ++ more_of s w in
+    let back : way_up (way_of n) ≡ way_of w =
+    ap way_up way
+    ∙ ap (λ (k : ℕ). take k (way_of w ++ name ∷ [])) {x = length (way_of w ++ name ∷ []) - 1} {y = length (way_of w)} (omega (arith, length_push (way_of w) name))
+    ∙ take-append_seam (way_of w) (name ∷ []) in
+    let reversed : reverse n.above.items ≡ (w.ino, names) ∷ reverse w.above.items = ap reverse above ∙ reverse-append w.above.items ((w.ino, names) ∷ []) in
+    let up : rest ≡ tasks_up s (reverse n.above.items) (way_up (way_of n)) =
+    ap (λ (p : List (List ℕ)). tasks_up s ((w.ino, names) ∷ reverse w.above.items) p) (sym back)
+    ∙ ap (λ (l : List (ℕ × List (List ℕ × ℕ))). tasks_up s l (way_up (way_of n))) (sym reversed) in
+    let todo : tasks_in s (way_of w ++ name ∷ []) i ++ rest ≡ todo_of s n =
+    append_assoc (tasks_of s (way_of w ++ name ∷ []) (entries_in s i)) (Complete (way_of w ++ name ∷ []) i ∷ []) rest
+    ∙ ap (λ (p : List (List ℕ)). tasks_of s p (entries_in s i) ++ Complete p i ∷ rest) (sym way)
+    ∙ ap (λ (l : List (List ℕ × ℕ)). tasks_of s (way_of n) l ++ Complete (way_of n) i ∷ rest) (sym left)
+    ∙ ap (λ (j : ℕ). tasks_of s (way_of n) n.left ++ Complete (way_of n) j ∷ rest) (sym ino)
+    ∙ ap (λ (t : List Task). tasks_of s (way_of n) n.left ++ Complete (way_of n) n.ino ∷ t) up in
+    let own : length n.left ≡ length (entries_in s i) = ap (λ l. length l) left in
+    let one : length w.left ≡ length names + 1 = ap (λ l. length l) read ∙ omega arith in
+    let sum : sum_by (λ (d : ℕ × List (List ℕ × ℕ)). length d.1) n.above.items ≡ sum_by (λ (d : ℕ × List (List ℕ × ℕ)). length d.1) w.above.items + length names =
+    ap (sum_by (λ d. length d.1)) above ∙ sum_by_push (λ (d : ℕ × List (List ℕ × ℕ)). length d.1) w.above.items (w.ino, names) in
+    let deep : length n.above.items ≡ length w.above.items + 1 = ap (λ l. length l) above ∙ length_push w.above.items (w.ino, names) in
+    let fewer = visits.3 in (
+      visits.0,
+      visits.1,
+      advances_to s owners (firsts_of w.firsts) (firsts_of n.firsts) (task_if s (way_of w ++ name ∷ []) i ++ rest) (todo_of s w) (tasks_in s (way_of w ++ name ∷ []) i ++ rest) (todo_of s n) visits.0
+          (todo_read s w name i names read) todo (visits.2 rest),
+      omega arith,
+    )
+
+-- ---- faults
+
+pub step_at_fault : (s : State) (owners : Bool) (w n : Walk) (old new : Sight) (f : ExtractFault) (r : Result Bool ExtractFault) → IsErrAnd r (λ e. e ≡ f)
+    → StopsBy s owners (firsts_of w.firsts) (todo_of s w) old new f → Steps s owners w n old new r
+step_at_fault s owners w n old new f (Ok x) err stops = absurd err
+step_at_fault s owners w n old new f (Err e) err stops = subst (λ (x : ExtractFault). StopsBy s owners (firsts_of w.firsts) (todo_of s w) old new x) (sym err) stops
+
+pub stops_before : (s : State) (owners : Bool) (firsts : Firsts) (todo : List Task) (old : Sight) → StopsBy s owners firsts todo old old fault.OutOfMemory
+stops_before s owners firsts todo old = (([], tt {0}, Adds-nil old.made, (0, Appends-nil old.told)), refl)
+
+pub visit_failed : (s : State) (owners : Bool) (w n : Walk) (name : List ℕ) (i : ℕ) (names : List (List ℕ × ℕ)) (firsts_then : Firsts) (old new : Sight) (f : ExtractFault)
+    → w.left ≡ (name, i) ∷ names → Visits s owners (firsts_of w.firsts) firsts_then (way_of w ++ name ∷ []) i old new (Err f)
+    → StopsBy s owners (firsts_of w.firsts) (todo_of s w) old new f
+visit_failed s owners w n name i names firsts_then old new f read visits =
+    subst (λ (t : List Task). StopsBy s owners (firsts_of w.firsts) t old new f) (todo_read s w name i names read) (visits (tasks_of s (way_of w) names ++ more_of s w))
+
+whole_part : (old new : Option (List ℕ)) (line : List ℕ) → Appends old new line → PutsPart old new line
+whole_part old new line put = (length line, subst (Appends old new) (sym (take_whole line)) put)
+  where
+    take_whole : (xs : List ℕ) → take (length xs) xs ≡ xs
+    take_whole xs = grind (arith, common_steps)
+
+-- memory ran out after what was had
+pub stops_after : (s : State) (owners : Bool) (firsts firsts_then : Firsts) (todo todo_ : List Task) (outcomes : List Outcome) (old new : Sight) → Had old new outcomes
+    → Advances s owners firsts todo firsts_then todo_ outcomes → StopsBy s owners firsts todo old new fault.OutOfMemory
+stops_after s owners firsts firsts_then todo todo_ outcomes old new had advances = (
+  (
+    outcomes,
+    subst (AreFirstOutcomes s owners firsts todo) (append-nil outcomes) (advances.1 [] (tt {0})),
+    had.0,
+    whole_part old.told new.told (all_lines outcomes) had.2,
+  ),
+  had.3,
+)
+
+pub visited_then_stops : (s : State) (owners : Bool) (w : Walk) (name : List ℕ) (i : ℕ) (names : List (List ℕ × ℕ)) (firsts_then : Firsts) (old new : Sight) (entered : Bool)
+    → w.left ≡ (name, i) ∷ names → Visits s owners (firsts_of w.firsts) firsts_then (way_of w ++ name ∷ []) i old new (Ok entered)
+    → StopsBy s owners (firsts_of w.firsts) (todo_of s w) old new fault.OutOfMemory
+visited_then_stops s owners w name i names firsts_then old new entered read visits =
+    let rest = tasks_of s (way_of w) names ++ more_of s w in
+    subst (λ (t : List Task). StopsBy s owners (firsts_of w.firsts) t old new fault.OutOfMemory) (todo_read s w name i names read)
+    (stops_after s owners (firsts_of w.firsts) firsts_then (task_if s (way_of w ++ name ∷ []) i ++ rest) (todo_then s (way_of w ++ name ∷ []) i entered rest) visits.0 old new visits.1 (visits.2 rest))
+
+-- ---- where no name is left
+
+todo_left : (s : State) (w : Walk) → w.left ≡ [] → more_of s w ≡ todo_of s w
+todo_left s w none = ap (λ (left : List (List ℕ × ℕ)). tasks_of s (way_of w) left ++ more_of s w) (sym none)
+
+pub leave_failed : (s : State) (owners : Bool) (w : Walk) (old new : Sight) (f : ExtractFault) → w.left ≡ [] → Completes s owners (way_of w) w.ino old new (Err f)
+    → StopsBy s owners (firsts_of w.firsts) (todo_of s w) old new f
+leave_failed s owners w old new f none completes =
+    subst (λ (t : List Task). StopsBy s owners (firsts_of w.firsts) t old new f) (todo_left s w none)
+    (completes (firsts_of w.firsts) (tasks_up s (reverse w.above.items) (way_up (way_of w))))
+
+-- the walk went up, whatever it counts
+abbrev pub Up : Walk → Walk → Bool → Type 0
+Up w n true = (w.above.items ≡ n.above.items ++ (n.ino, n.left) ∷ []) × (way_of n ≡ way_up (way_of w)) × (n.firsts ≡ w.firsts)
+Up w n false = (w.above.items ≡ []) × (n.firsts ≡ w.firsts)
+
+pub leaves : (s : State) (owners : Bool) (w n : Walk) (old new : Sight) (done up : Bool) → w.left ≡ [] → Completes s owners (way_of w) w.ino old new (Ok done)
+    → Up w n up → Steps s owners w n old new (Ok up)
+leaves s owners w n old new done false none completes up =
+    let rest = tasks_up s (reverse w.above.items) (way_up (way_of w)) in
+    let empty : rest ≡ [] = ap (λ (above : List (ℕ × List (List ℕ × ℕ))). tasks_up s (reverse above) (way_up (way_of w))) up.0 in (
+      completes.0,
+      completes.1,
+      subst (λ (f : Firsts). Advances s owners (firsts_of w.firsts) (todo_of s w) f [] completes.0) (sym (ap firsts_of up.1))
+          (advances_to s owners (firsts_of w.firsts) (firsts_of w.firsts) (more_of s w) (todo_of s w) rest [] completes.0 (todo_left s w none) empty (completes.2 (firsts_of w.firsts) rest)),
+    )
+leaves s owners w n old new done true none completes up =
+    let rest = tasks_up s (reverse w.above.items) (way_up (way_of w)) in
+    let todo : rest ≡ todo_of s n =
+    ap (λ (above : List (ℕ × List (List ℕ × ℕ))). tasks_up s (reverse above) (way_up (way_of w))) up.0
+    ∙ ap (λ (above : List (ℕ × List (List ℕ × ℕ))). tasks_up s above (way_up (way_of w))) (reverse-append n.above.items ((n.ino, n.left) ∷ []))
+    ∙ ap (tasks_up s ((n.ino, n.left) ∷ reverse n.above.items)) (sym up.1) in
+    let left : length w.left ≡ 0 = ap (λ l. length l) none in
+    let sum : sum_by (λ (d : ℕ × List (List ℕ × ℕ)). length d.1) w.above.items ≡ sum_by (λ (d : ℕ × List (List ℕ × ℕ)). length d.1) n.above.items + length n.left =
+    ap (sum_by (λ d. length d.1)) up.0 ∙ sum_by_push (λ (d : ℕ × List (List ℕ × ℕ)). length d.1) n.above.items (n.ino, n.left) in
+    let deep : length w.above.items ≡ length n.above.items + 1 = ap (λ l. length l) up.0 ∙ length_push n.above.items (n.ino, n.left) in
+    let made : unmade s (firsts_of n.firsts) ≡ unmade s (firsts_of w.firsts) = ap (λ m. unmade s (firsts_of m)) up.2 in (
+      completes.0,
+      completes.1,
+      subst (λ (f : Firsts). Advances s owners (firsts_of w.firsts) (todo_of s w) f (todo_of s n) completes.0) (sym (ap firsts_of up.2))
+          (advances_to s owners (firsts_of w.firsts) (firsts_of w.firsts) (more_of s w) (todo_of s w) rest (todo_of s n) completes.0 (todo_left s w none) todo (completes.2 (firsts_of w.firsts) rest)),
+      omega arith,
+    )
+
+-- a step that ends with this count
+pub step_left : (s : State) (owners : Bool) (w n : Walk) (old seen : Sight) (on : Bool) → n.left_out ≡ seen.left_out → Steps s owners w n old seen (Ok on)
+    → Steps s owners w n old (record { made = seen.made; failures = seen.failures; told = seen.told; told_failures = seen.told_failures; left_out = n.left_out }) (Ok on)
+step_left s owners w n old seen on is steps =
+    subst (λ (k : ℕ). Steps s owners w n old (record { made = seen.made; failures = seen.failures; told = seen.told; told_failures = seen.told_failures; left_out = k }) (Ok on)) (sym is) steps
+
+-- the same, of a walk that knows another count before it goes up
+pub leaves_as : (s : State) (owners : Bool) (w m n : Walk) (old new : Sight) (done up : Bool) → w.left ≡ [] → way_of m ≡ way_of w → m.above.items ≡ w.above.items → m.firsts ≡ w.firsts
+    → Completes s owners (way_of w) w.ino old new (Ok done) → GoesUp m n up → m.left_out ≡ new.left_out
+    → Steps s owners w n old (record { made = new.made; failures = new.failures; told = new.told; told_failures = new.told_failures; left_out = n.left_out }) (Ok up)
+leaves_as s owners w m n old new done false none way above firsts completes up count =
+    step_left s owners w n old new false (up.2 ∙ count) (leaves s owners w n old new done false none completes (sym above ∙ up.0, up.1 ∙ firsts))
+leaves_as s owners w m n old new done true none way above firsts completes up count =
+    step_left s owners w n old new true (up.3 ∙ count) (leaves s owners w n old new done true none completes (sym above ∙ up.0, up.1 ∙ ap way_up way, up.2 ∙ firsts))
+
+-- ---- the way to an object
+
+pub way_on : (w : Walk) (name : Bor (List ℕ)) (path pushed : List (Bor (List ℕ))) → path ≡ pushed → pushed ≡ w.path.items ++ name ∷ [] → map (λ n. n.now) path ≡ way_of w ++ name.now ∷ []
+way_on w name path pushed same is = ap (map (λ n. n.now)) (same ∙ is) ∙ map-append (λ n. n.now) w.path.items (name ∷ [])
+
+pub way_back : (w : Walk) (name : Bor (List ℕ)) (pushed popped : List (Bor (List ℕ))) → pushed ≡ w.path.items ++ name ∷ [] → popped ≡ take (length pushed - 1) pushed
+    → map (λ n. n.now) popped ≡ way_of w
+way_back w name pushed popped is cut =
+    let one : length pushed - 1 ≡ length w.path.items = omega (arith, ap (λ l. length l) is ∙ length_push w.path.items name) in
+    ap (map (λ n. n.now)) (cut ∙ ap (λ (k : ℕ). take k pushed) one ∙ ap (take (length w.path.items)) is ∙ take-append_seam w.path.items (name ∷ []))
+
+pub visit_at : (s : State) (owners : Bool) (firsts firsts_then : Firsts) (path way : List (List ℕ)) (i : ℕ) (old new : Sight) (r : Result Bool ExtractFault)
+    → path ≡ way → Visits s owners firsts firsts_then path i old new r → Visits s owners firsts firsts_then way i old new r
+visit_at s owners firsts firsts_then path way i old new r is visits = subst (λ (p : List (List ℕ)). Visits s owners firsts firsts_then p i old new r) is visits

@@ -1,0 +1,301 @@
+-- The walk through a tree that is extracted.
+use Rattle.std.proofs.Common.{◌≡◌, ℕ, ◌+◌, ◌≤◌, ◌&&◌, ◌==◌, cond, Bool, true, false, List, [], ◌∷◌, ◌++◌, length, append-nil, refl, sym, ap, ◌∙◌, subst, arith, inl, inr, Option, Some, None, Result, Ok, Err, if◌then◌else◌}
+use Rattle.std.specs.Prelude.{is_some, is_none, count_by, option_map, IsErrAnd}
+use Rattle.std.specs.Option.{option_or}
+use Rattle.std.specs.Io.KnownBytes.{Appends}
+use Rattle.std.proofs.KnownBytes.{Appends-nil}
+use Rattle.std.proofs.lemmas.Bool.Decides.{nat_tests}
+use Rattle.std.specs.FinMap.{entries}
+use Rattle.std.specs.Prelude.{filter}
+use Rattle.std.proofs.lemmas.List.{length-map}
+use Rattle.std.proofs.lemmas.List.Sums.{sum_by-cons, length-filter}
+use Rattle.flashbase.specs.Device.{PutsPart}
+use Rattle.jmount.specs.Tree.{State, ObjectOf, object, has_bits, directory_bits, entries_in}
+use Rattle.jmount.specs.Shown.{kind_of, readable, shown}
+use Rattle.jmount.specs.declared.object.Kind.{Kind}
+use Rattle.jmount.specs.declared.object.Kind.TheVariants as kind
+use Rattle.jmount.specs.declared.object.Object.{Object}
+use Rattle.jextract.specs.Folders.{Adds}
+use Rattle.jextract.specs.Making.{Works, FirstsAfter, count_after}
+use Rattle.jextract.specs.Outcomes.{Task, Make, Complete, path_of, Outcome, Firsts, Plan, FollowsPlan, IsOutcomeOf, AreOutcomes, AreFirstOutcomes, attributes_of, plan_of, plan_made, todo_after, todo_if, firsts_after, firsts_if, firsts_with, line_if, line_of}
+use Rattle.jextract.specs.Paths.{host_path}
+use Rattle.jextract.specs.Walking.{Tells, counted, Advances, Sight, Had, Stopped, StopsBy, Visits, Completes, task_if, todo_then, unmade, is_directory_kind}
+use Rattle.jextract.specs.declared.fault.ExtractFault.{ExtractFault}
+use Rattle.jextract.specs.declared.fault.ExtractFault.TheVariants as fault
+use Rattle.jextract.specs.declared.making.MakeFault.{MakeFault}
+use Rattle.jextract.specs.declared.making.MakeFault.TheVariants as make
+use Rattle.jextract.specs.declared.reason.Reason.{Reason}
+use Rattle.jextract.proofs.MakingLemmas.{Adds-nil}
+
+-- ---- one outcome
+
+pub one_advances : (s : State) (owners : Bool) (firsts : Firsts) (task : Task) (o : Outcome) (todo : List Task) → IsOutcomeOf s owners firsts task o
+    → Advances s owners firsts (task ∷ todo) (firsts_after firsts task o) (todo_after s task o todo) (o ∷ [])
+one_advances s owners firsts task o todo is = (λ rest are. (is, are), λ rest are. (is, are))
+
+count_one : (o : Outcome) → count_by (λ (x : Outcome). is_some x.left_out) (o ∷ []) ≡ cond (is_some o.left_out) 1 0
+count_one o = omega (arith, sum_by-cons (λ (x : Outcome). cond (is_some x.left_out) 1 0) o [])
+
+had_one : (old new : Sight) (o : Outcome) (path : List (List ℕ)) (why : Option Reason) → o.left_out ≡ why → o.path ≡ path → Adds old.made new.made o.deeds
+    → new.failures ≡ count_after old.failures why → Appends old.told new.told (line_if path why) → new.told_failures ≡ old.told_failures
+    → new.left_out ≡ counted old.left_out (cond (is_some why) 1 0) → Had old new (o ∷ [])
+had_one old new o path why left at adds failures told same count = (
+  subst (Adds old.made new.made) (sym (append-nil o.deeds)) adds,
+  failures ∙ ap (count_after old.failures) (sym left),
+  subst (Appends old.told new.told)
+      (ap (λ (p : List (List ℕ)). line_if p why) (sym at) ∙ ap (line_if o.path) (sym left) ∙ sym (append-nil (line_of o))) told,
+  same,
+  count ∙ ap (λ (w : Option Reason). counted old.left_out (cond (is_some w) 1 0)) (sym left) ∙ ap (counted old.left_out) (sym (count_one o)),
+)
+
+-- a task that was settled
+abbrev pub Settled : State → Bool → Firsts → Task → Sight → Sight → Bool → Option Reason → Type 0
+Settled s owners firsts task old new done why =
+    (o : Outcome) × IsOutcomeOf s owners firsts task o × Had old new (o ∷ []) × (o.left_out ≡ why) × (done ≡ is_none why)
+
+abbrev pub left_of : {T : Type 0} → Result T MakeFault → Option Reason
+left_of (Ok x) = None
+left_of (Err (make.LeftOut why)) = Some why
+left_of (Err make.OutOfMemory) = None
+
+pub settled : {T : Type 0} (s : State) (owners : Bool) (firsts : Firsts) (task : Task) (old new : Sight) (r : Result T MakeFault) (done : Bool)
+    → Works s owners firsts task old.made new.made old.failures new.failures r
+    → Tells r (path_of task) old.told new.told old.told_failures new.told_failures old.left_out new.left_out (Ok done) → Settled s owners firsts task old new done (left_of r)
+settled s owners firsts task old new (Ok x) done works tells =
+    (works.0, works.1, had_one old new works.0 (path_of task) None works.2 works.1.0 works.3 works.4 tells.1 tells.2 tells.3, works.2, tells.0)
+settled s owners firsts task old new (Err (make.LeftOut why)) done works tells =
+    (works.0, works.1, had_one old new works.0 (path_of task) (Some why) works.2 works.1.0 works.3 works.4 tells.1 tells.2 tells.3, works.2, tells.0)
+settled s owners firsts task old new (Err make.OutOfMemory) done works tells = absurd tells
+
+-- a task at which the walk stops
+stops_told : (s : State) (owners : Bool) (firsts : Firsts) (task : Task) (todo : List Task) (old new : Sight) (o : Outcome) (why : Reason) → IsOutcomeOf s owners firsts task o
+    → o.left_out ≡ Some why → Adds old.made new.made o.deeds → PutsPart old.told new.told (line_if (path_of task) (Some why)) → Stopped s owners firsts (task ∷ todo) old new
+stops_told s owners firsts task todo old new o why is left adds part = (
+  o ∷ [],
+  (is, tt {0}),
+  subst (Adds old.made new.made) (sym (append-nil o.deeds)) adds,
+  subst (PutsPart old.told new.told)
+      (ap (λ (p : List (List ℕ)). line_if p (Some why)) (sym is.0) ∙ ap (line_if o.path) (sym left) ∙ sym (append-nil (line_of o))) part,
+)
+
+pub stops : {T : Type 0} (s : State) (owners : Bool) (firsts : Firsts) (task : Task) (todo : List Task) (old new : Sight) (r : Result T MakeFault) (f : ExtractFault)
+    → Works s owners firsts task old.made new.made old.failures new.failures r
+    → Tells r (path_of task) old.told new.told old.told_failures new.told_failures old.left_out new.left_out (Err f) → StopsBy s owners firsts (task ∷ todo) old new f
+stops s owners firsts task todo old new (Ok x) f works tells = absurd tells
+stops s owners firsts task todo old new (Err (make.LeftOut why)) fault.Folder works tells = absurd tells
+stops s owners firsts task todo old new (Err (make.LeftOut why)) fault.Notes works tells =
+    (stops_told s owners firsts task todo old new works.0 why works.1 works.2 works.3 tells.0, tells.1)
+stops s owners firsts task todo old new (Err (make.LeftOut why)) fault.OutOfMemory works tells = absurd tells
+stops s owners firsts task todo old new (Err make.OutOfMemory) fault.Folder works tells = absurd tells
+stops s owners firsts task todo old new (Err make.OutOfMemory) fault.Notes works tells = absurd tells
+stops s owners firsts task todo old new (Err make.OutOfMemory) fault.OutOfMemory (inl adds) tells = (([], tt {0}, adds, (0, tells.0)), tells.1)
+stops s owners firsts task todo old new (Err make.OutOfMemory) fault.OutOfMemory (inr begun) tells = (
+  (begun.0 ∷ [], (begun.1, tt {0}), subst (Adds old.made new.made) (sym (append-nil begun.0.deeds)) begun.2, (0, tells.0)),
+  tells.1,
+)
+
+-- ---- a directory that is completed
+
+pub completes : {T : Type 0} (s : State) (owners : Bool) (path : List (List ℕ)) (i : ℕ) (old new : Sight) (r : Result T MakeFault) (t : Result Bool ExtractFault)
+    → Works s owners (λ j. None) (Complete path i) old.made new.made old.failures new.failures r
+    → Tells r path old.told new.told old.told_failures new.told_failures old.left_out new.left_out t → Completes s owners path i old new t
+completes {T} s owners path i old new r (Ok done) works tells =
+    let by = settled s owners (λ j. None) (Complete path i) old new r done works tells in
+    (by.0 ∷ [], by.2, λ firsts todo. one_advances s owners firsts (Complete path i) by.0 todo by.1)
+completes {T} s owners path i old new r (Err f) works tells = λ firsts todo. stops s owners firsts (Complete path i) todo old new r f (anywhere firsts r works) tells
+  where
+    anywhere : (firsts : Firsts) (x : Result T MakeFault) → Works s owners (λ j. None) (Complete path i) old.made new.made old.failures new.failures x
+        → Works s owners firsts (Complete path i) old.made new.made old.failures new.failures x
+    anywhere firsts (Ok y) works = works
+    anywhere firsts (Err (make.LeftOut why)) works = works
+    anywhere firsts (Err make.OutOfMemory) works = works
+
+-- ---- the names whose directory was not made
+
+count_apart : {X : Type 0} (p q r : X → Bool) → ((x : X) → cond (p x) 1 0 + cond (q x) 1 0 ≡ cond (r x) 1 0)
+    → (xs : List X) → count_by p xs + count_by q xs ≡ count_by r xs
+count_apart p q r apart [] = refl
+count_apart p q r apart (x ∷ xs) = omega (
+  arith,
+  apart x,
+  count_apart p q r apart xs,
+  sum_by-cons (λ y. cond (p y) 1 0) x xs,
+  sum_by-cons (λ y. cond (q y) 1 0) x xs,
+  sum_by-cons (λ y. cond (r y) 1 0) x xs,
+)
+
+count_fewer : {X : Type 0} (p r : X → Bool) → ((x : X) → cond (p x) 1 0 ≤ cond (r x) 1 0) → (xs : List X) → count_by p xs ≤ count_by r xs
+count_fewer p r fewer [] = omega arith
+count_fewer p r fewer (x ∷ xs) =
+    omega (arith, fewer x, count_fewer p r fewer xs, sum_by-cons (λ y. cond (p y) 1 0) x xs, sum_by-cons (λ y. cond (r y) 1 0) x xs)
+
+length_entries : (s : State) (d : ℕ) → length (entries_in s d) ≡ count_by (λ e. e.0.0 == d) (entries s.names)
+length_entries s d =
+    length-map (filter (λ e. e.0.0 == d) (entries s.names)) (λ e. (e.0.1, e.1)) ∙ length-filter (λ e. e.0.0 == d) (entries s.names)
+
+-- a directory that is made for the first time takes its names along
+unmade_entered : (s : State) (firsts : Firsts) (text : List ℕ) (i : ℕ) → firsts i ≡ None
+    → unmade s (firsts_with firsts (Ok text) i) + length (entries_in s i) ≡ unmade s firsts
+unmade_entered s firsts text i new =
+    ap (λ n. unmade s (firsts_with firsts (Ok text) i) + n) (length_entries s i)
+    ∙ count_apart (λ e. is_none (firsts_with firsts (Ok text) i e.0.0)) (λ e. e.0.0 == i) (λ e. is_none (firsts e.0.0)) (λ e. one (firsts e.0.0) (i == e.0.0) (e.0.0 == i) (flip i e.0.0) (same e.0.0)) (entries s.names)
+  where
+    flip : (a b : ℕ) → (a == b) ≡ (b == a)
+    flip a b = grind (arith, nat_tests)
+
+    same : (d : ℕ) → d == i ≡ true → firsts d ≡ None
+    same d is = ap firsts (grind (arith, nat_tests)) ∙ new
+
+    one : (there : Option (List ℕ)) (at from : Bool) → at ≡ from → (from ≡ true → there ≡ None)
+        → cond (is_none (option_or there (if at then Some text else None))) 1 0 + cond from 1 0 ≡ cond (is_none there) 1 0
+    one None true true e gone = refl
+    one None true false e gone = absurd (cc)
+    one None false true e gone = absurd (cc)
+    one None false false e gone = refl
+    one (Some x) at true e gone = let none = gone refl in absurd (cc)
+    one (Some x) at false e gone = refl
+
+unmade_after : (s : State) (firsts : Firsts) (path : Result (List ℕ) Reason) (i : ℕ) → unmade s (firsts_with firsts path i) ≤ unmade s firsts
+unmade_after s firsts (Err why) i = omega arith
+unmade_after s firsts (Ok text) i =
+    count_fewer (λ e. is_none (firsts_with firsts (Ok text) i e.0.0)) (λ e. is_none (firsts e.0.0)) (λ e. one (firsts e.0.0) (i == e.0.0)) (entries s.names)
+  where
+    one : (there : Option (List ℕ)) (at : Bool) → cond (is_none (option_or there (if at then Some text else None))) 1 0 ≤ cond (is_none there) 1 0
+    one None true = omega arith
+    one None false = omega arith
+    one (Some x) at = omega arith
+
+-- ---- an object that is visited
+
+-- a directory that was made was not made before
+made_is_new : (known : Option (List ℕ)) (path : Result (List ℕ) Reason) (bytes : List ℕ) (o : Outcome) (object : Object) (owners : Bool)
+    → FollowsPlan path (plan_of known kind.Directory bytes (attributes_of owners object)) o → o.left_out ≡ None → (known ≡ None) × ((text : List ℕ) × (path ≡ Ok text))
+made_is_new None (Ok text) bytes o object owners follows left = (refl, (text, refl))
+made_is_new None (Err why) bytes o object owners follows left = let other = follows.1 in absurd (cc)
+made_is_new (Some first) (Ok text) bytes o object owners follows left = let other = follows.1 in absurd (cc)
+made_is_new (Some first) (Err why) bytes o object owners follows left = let other = follows.1 in absurd (cc)
+
+-- the kind of an object, and whether it is there
+kind_is : (bits : ℕ) → (bits == 4) ≡ is_directory_kind (kind_of bits)
+kind_is bits = by (bits == 4) refl
+  where
+    other : (a b c d e f : Bool)
+        → is_directory_kind (if a then kind.Fifo else if b then kind.CharacterDevice else if false then kind.Directory else if c then kind.BlockDevice else if d then kind.Regular else if e then kind.Symlink else if f then kind.Socket else kind.Other) ≡ false
+    other true b c d e f = refl
+    other false true c d e f = refl
+    other false false true d e f = refl
+    other false false false true e f = refl
+    other false false false false true f = refl
+    other false false false false false true = refl
+    other false false false false false false = refl
+
+    by : (b : Bool) → bits == 4 ≡ b → (bits == 4) ≡ is_directory_kind (kind_of bits)
+    by true is = let four : bits ≡ 4 = grind (arith, nat_tests) in is ∙ ap (λ n. is_directory_kind (kind_of n)) (sym four)
+    by false is =
+        is
+        ∙ sym (other (bits == 1) (bits == 2) (bits == 6) (bits == 8) (bits == 10) (bits == 12))
+        ∙ ap (λ (x : Bool). is_directory_kind (if bits == 1 then kind.Fifo else if bits == 2 then kind.CharacterDevice else if x then kind.Directory else if bits == 6 then kind.BlockDevice else if bits == 8 then kind.Regular else if bits == 10 then kind.Symlink else if bits == 12 then kind.Socket else kind.Other)) (sym is)
+
+directory_is : (x : Option (ObjectOf (List ℕ))) (o : Object) → option_map shown x ≡ Some o → has_bits directory_bits x ≡ is_directory_kind o.kind
+directory_is None o is = absurd (cc)
+directory_is (Some x) o is = let same : shown x ≡ o = cc in kind_is _ ∙ ap (λ (y : Object). is_directory_kind y.kind) same
+
+there_is : (x : Option (ObjectOf (List ℕ))) (o : Object) → option_map shown x ≡ Some o → is_some x ≡ true
+there_is None o is = absurd (cc)
+there_is (Some x) o is = refl
+
+kind_directory : (k : Kind) → is_directory_kind k ≡ true → k ≡ kind.Directory
+kind_directory kind.Directory is = refl
+kind_directory kind.Fifo is = absurd (cc)
+kind_directory kind.CharacterDevice is = absurd (cc)
+kind_directory kind.BlockDevice is = absurd (cc)
+kind_directory kind.Regular is = absurd (cc)
+kind_directory kind.Symlink is = absurd (cc)
+kind_directory kind.Socket is = absurd (cc)
+kind_directory kind.Other is = absurd (cc)
+
+pub had_none : (old : Sight) → Had old old []
+had_none old = (Adds-nil old.made, refl, Appends-nil old.told, refl, refl)
+
+gone_is : (x : Option (ObjectOf (List ℕ))) → option_map shown x ≡ None → is_some x ≡ false
+gone_is None is = refl
+gone_is (Some x) is = absurd (cc)
+
+pub visit_gone : (s : State) (owners : Bool) (firsts : Firsts) (path : List (List ℕ)) (i : ℕ) (old : Sight) → option_map shown (object s i) ≡ None
+    → Visits s owners firsts firsts path i old old (Ok false)
+visit_gone s owners firsts path i old gone =
+    let same : (todo : List Task) → todo ≡ task_if s path i ++ todo = λ todo. ap (λ (b : Bool). (if b then Make path i ∷ [] else []) ++ todo) (sym (gone_is (object s i) gone)) in (
+      [],
+      had_none old,
+      λ todo. (
+        λ rest are. subst (λ (t : List Task). AreOutcomes s owners firsts t rest) (same todo) are,
+        λ rest are. subst (λ (t : List Task). AreFirstOutcomes s owners firsts t rest) (same todo) are,
+      ),
+      omega arith,
+    )
+
+-- the same way, told with equal words
+advances_as : (s : State) (owners : Bool) (firsts : Firsts) (todo other : List Task) (then_ then_other : Firsts) (todo_ todo_other : List Task) (outcomes : List Outcome)
+    → todo ≡ other → then_ ≡ then_other → todo_ ≡ todo_other → Advances s owners firsts todo then_ todo_ outcomes → Advances s owners firsts other then_other todo_other outcomes
+advances_as s owners firsts todo other then_ then_other todo_ todo_other outcomes a b c advances =
+    subst (λ (t : List Task). Advances s owners firsts t then_other todo_other outcomes) a
+    (subst (λ (f : Firsts). Advances s owners firsts todo f todo_other outcomes) b
+    (subst (λ (t : List Task). Advances s owners firsts todo then_ t outcomes) c advances))
+
+there_task : (s : State) (path : List (List ℕ)) (i : ℕ) (o : Object) (todo : List Task) → option_map shown (object s i) ≡ Some o → Make path i ∷ todo ≡ task_if s path i ++ todo
+there_task s path i o todo there = ap (λ (b : Bool). (if b then Make path i ∷ [] else []) ++ todo) (sym (there_is (object s i) o there))
+
+pub visit_made : {T : Type 0} (s : State) (owners : Bool) (firsts firsts_then : Firsts) (path : List (List ℕ)) (i : ℕ) (o : Object) (old new : Sight) (r : Result T MakeFault) (done : Bool)
+    → option_map shown (object s i) ≡ Some o
+    → Works s owners firsts (Make path i) old.made new.made old.failures new.failures r → FirstsAfter firsts firsts_then path i r
+    → Tells r path old.told new.told old.told_failures new.told_failures old.left_out new.left_out (Ok done)
+    → Visits s owners firsts firsts_then path i old new (Ok (done && is_directory_kind o.kind))
+visit_made {T} s owners firsts firsts_then path i o old new (Err make.OutOfMemory) done there works after tells = absurd tells
+visit_made {T} s owners firsts firsts_then path i o old new (Err (make.LeftOut why)) done there works after tells =
+    let by = settled {T = T} s owners firsts (Make path i) old new (Err (make.LeftOut why)) done works tells in
+    let entered : done && is_directory_kind o.kind ≡ false = ap (λ (b : Bool). b && is_directory_kind o.kind) by.4 in
+    let fewer : unmade s firsts_then ≡ unmade s firsts = ap (unmade s) after in (
+      by.0 ∷ [],
+      by.2,
+      λ todo. advances_as s owners firsts (Make path i ∷ todo) (task_if s path i ++ todo) (firsts_if firsts path i by.0.left_out) firsts_then (todo_if s path i by.0.left_out todo)
+          (todo_then s path i (done && is_directory_kind o.kind) todo) (by.0 ∷ []) (there_task s path i o todo there) (ap (firsts_if firsts path i) by.3 ∙ sym after)
+          (ap (λ (w : Option Reason). todo_if s path i w todo) by.3 ∙ ap (λ (b : Bool). todo_then s path i b todo) (sym entered))
+          (one_advances s owners firsts (Make path i) by.0 todo by.1),
+      subst (λ (b : Bool). unmade s firsts_then + (if b then length (entries_in s i) else 0) ≤ unmade s firsts) (sym entered) (omega arith),
+    )
+visit_made {T} s owners firsts firsts_then path i o old new (Ok x) done there works after tells =
+    let by = settled {T = T} s owners firsts (Make path i) old new (Ok x) done works tells in
+    let entered : done && is_directory_kind o.kind ≡ is_directory_kind o.kind = ap (λ (b : Bool). b && is_directory_kind o.kind) by.4 in
+    let directory = directory_is (object s i) o there in (
+      by.0 ∷ [],
+      by.2,
+      λ todo. advances_as s owners firsts (Make path i ∷ todo) (task_if s path i ++ todo) (firsts_if firsts path i by.0.left_out) firsts_then (todo_if s path i by.0.left_out todo)
+          (todo_then s path i (done && is_directory_kind o.kind) todo) (by.0 ∷ []) (there_task s path i o todo there) (ap (firsts_if firsts path i) by.3 ∙ sym after)
+          (ap (λ (w : Option Reason). todo_if s path i w todo) by.3 ∙ ap (λ (b : Bool). todo_then s path i b todo) (directory ∙ sym entered))
+          (one_advances s owners firsts (Make path i) by.0 todo by.1),
+      subst (λ (b : Bool). unmade s firsts_then + (if b then length (entries_in s i) else 0) ≤ unmade s firsts) (sym entered)
+          (subst (λ (f : Firsts). unmade s f + (if is_directory_kind o.kind then length (entries_in s i) else 0) ≤ unmade s firsts) (sym after) (fewer by.0 by.1 by.3 (is_directory_kind o.kind) refl)),
+    )
+  where
+    fewer : (u : Outcome) → IsOutcomeOf s owners firsts (Make path i) u → u.left_out ≡ None → (b : Bool) → is_directory_kind o.kind ≡ b
+        → unmade s (firsts_with firsts (host_path path) i) + (if b then length (entries_in s i) else 0) ≤ unmade s firsts
+    fewer u is left false other = omega (arith, unmade_after s firsts (host_path path) i)
+    fewer u is left true dir =
+        let plan : plan_made s owners firsts i (option_map shown (object s i)) ≡ plan_of (firsts i) kind.Directory (readable s i) (attributes_of owners o) =
+        ap (plan_made s owners firsts i) there ∙ ap (λ (k : Kind). plan_of (firsts i) k (readable s i) (attributes_of owners o)) (kind_directory o.kind dir) in
+        let is_new = made_is_new (firsts i) (host_path path) (readable s i) u o owners (subst (λ (p : Plan). FollowsPlan (host_path path) p u) plan is.1) left in
+        let count = unmade_entered s firsts is_new.1.0 i is_new.0 in
+        subst (λ (p : Result (List ℕ) Reason). unmade s (firsts_with firsts p i) + length (entries_in s i) ≤ unmade s firsts) (sym is_new.1.1) (omega (arith, count))
+
+pub visit_stops : {T : Type 0} (s : State) (owners : Bool) (firsts firsts_then : Firsts) (path : List (List ℕ)) (i : ℕ) (o : Object) (old new : Sight) (r : Result T MakeFault) (f : ExtractFault)
+    → option_map shown (object s i) ≡ Some o → Works s owners firsts (Make path i) old.made new.made old.failures new.failures r
+    → Tells r path old.told new.told old.told_failures new.told_failures old.left_out new.left_out (Err f)
+    → Visits s owners firsts firsts_then path i old new (Err f)
+visit_stops s owners firsts firsts_then path i o old new r f there works tells =
+    λ todo. subst (λ (t : List Task). StopsBy s owners firsts t old new f) (there_task s path i o todo there) (stops s owners firsts (Make path i) todo old new r f works tells)
+
+pub visits_at_fault : (s : State) (owners : Bool) (firsts firsts_then : Firsts) (path : List (List ℕ)) (i : ℕ) (old new : Sight) (f : ExtractFault) (r : Result Bool ExtractFault)
+    → IsErrAnd r (λ e. e ≡ f) → Visits s owners firsts firsts_then path i old new (Err f) → Visits s owners firsts firsts_then path i old new r
+visits_at_fault s owners firsts firsts_then path i old new f (Ok x) err visits = absurd err
+visits_at_fault s owners firsts firsts_then path i old new f (Err e) err visits =
+    subst (λ (x : ExtractFault). Visits s owners firsts firsts_then path i old new (Err x)) (sym err) visits

@@ -1,0 +1,8 @@
+use Rattle.jextract.proofs.FillLemmas.{extracts}
+use Rattle.jextract.proofs.extracting.extract.Goals as goal
+
+pub returns-in-Ok : goal.returns-in-Ok
+returns-in-Ok g c =
+    extracts c.args.mounted.now.state c.args.owners (g.F.Folder.made c.args.folder.now) (g.F.Folder.made c.make_directory.new.self) (g.F.Folder.made c.fill.new.folder)
+    (g.F.Folder.failures c.args.folder.now) (g.F.Folder.failures c.make_directory.new.self) (g.F.Folder.failures c.fill.new.folder) (g.N.Sink.taken c.args.notes.now) (g.N.Sink.taken c.fill.new.notes)
+    (g.N.Sink.failures c.args.notes.now) (g.N.Sink.failures c.fill.new.notes) c.fill.result c.in-Ok.ensures.adds c.in-Ok.ensures.counts c.fill.ensures

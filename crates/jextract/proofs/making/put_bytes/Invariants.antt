@@ -1,0 +1,14 @@
+use Rattle.std.proofs.Common.{◌≡◌, ◌≤◌, ◌-◌, take}
+use Rattle.std.specs.Io.KnownBytes.{Appends}
+use Rattle.jmount.specs.Shown.{readable}
+use Rattle.jextract.proofs.making.put_bytes.Given as goal
+
+abbrev pub invariant-loop-offset : goal.invariant-loop-offset
+invariant-loop-offset g l = record {
+  within : l.offset ≤ l.size;
+  put : Appends (g.T.Sink.taken l.fn.sink) (g.T.Sink.taken l.sink) (take l.offset (readable l.mounted.state l.ino));
+  failed : g.T.Sink.failures l.sink ≡ g.T.Sink.failures l.fn.sink;
+}
+
+abbrev pub decreases-loop-offset : goal.decreases-loop-offset
+decreases-loop-offset g l = l.size - l.offset

@@ -1,0 +1,22 @@
+//! The tree of a mounted image, written into a folder of the host.
+//!
+//! It is built on `jmount` (the file system) and `jline` (how names are told). Its promise to the program: whatever the image
+//! says, each path that is made has names alone that are names of one object each, and all before its last is a
+//! directory that was made before; so nothing is made outside the folder, nor through a symlink.
+//!
+//! `specs/Folders.antt` says what a folder is made to hold, `specs/Paths.antt` which paths a host may have,
+//! `specs/Outcomes.antt` what comes of each object, and `specs/Extracts.antt` what the call does. `laws` has what follows.
+#![tactic(auto)]
+
+mod extracting;
+mod fault;
+mod folder;
+mod making;
+mod notes;
+mod paths;
+mod reason;
+
+pub use crate::extracting::extract;
+pub use crate::fault::ExtractFault;
+pub use crate::folder::{Attributes, Folder, FolderFault, Owner};
+pub use crate::reason::Reason;

@@ -1,0 +1,281 @@
+//! Making one object.
+
+ghost use Rattle.std.specs.Prelude.{◌≡◌, ◌==◌, not, ◌%◌, [], ◌∷◌, Some, None, MatchOption, false, true, length, map, option_map};
+ghost use Rattle.std.specs.List.{list_all};
+ghost use Rattle.flashbase.specs.Device.{Puts};
+ghost use Rattle.jmount.specs.Shown.{readable, shown};
+ghost use Rattle.jmount.specs.Tree as tree;
+ghost use Rattle.jextract.specs.Folders.{Content, File};
+ghost use Rattle.jextract.specs.Making.{Does, FirstsAfter, Follows, Works, firsts_of};
+ghost use Rattle.jextract.specs.Outcomes.{Complete, Make, attributes_of, is_target, made_at, plan_again, plan_anew, plan_completed, plan_symlink, reason_of};
+
+use crate::folder::{Attributes, Folder, FolderFault, Owner};
+use crate::paths::host_path;
+use crate::reason::Reason;
+use flashbase::{DeviceFault, Sink};
+use jline::put_text;
+use jmount::{Kind, Mounted, Object};
+use std::alloc::{AllocError, AllocFailed, Global};
+use std::collections::BTreeMap;
+
+/// A file goes out in pieces of this many bytes.
+const PIECE: usize = 4096;
+
+/// No host takes a longer target.
+const GREATEST_TARGET: usize = 4095;
+
+/// Why an object is not made.
+#[derive(Clone, Copy, Debug, PartialEq, Eq)]
+pub(crate) enum MakeFault {
+    LeftOut(Reason),
+    OutOfMemory,
+}
+
+impl From<FolderFault> for MakeFault {
+    ghost use Rattle.jextract.specs.Making.{fault_of};
+
+    ghost from_gives = { λ fault e. e ≡ fault_of fault };
+
+    fn from(fault: FolderFault) -> MakeFault {
+        match fault {
+            FolderFault::Refused => MakeFault::LeftOut(Reason::Refused),
+            FolderFault::OutOfMemory => MakeFault::OutOfMemory,
+        }
+    }
+}
+
+impl From<AllocError> for MakeFault {
+    ghost use Rattle.jextract.specs.declared.making.MakeFault.TheVariants.{OutOfMemory};
+
+    ghost from_gives = { λ _ e. e ≡ OutOfMemory };
+
+    fn from(_error: AllocError) -> MakeFault {
+        MakeFault::OutOfMemory
+    }
+}
+
+impl<T: Drop> From<AllocFailed<T>> for MakeFault {
+    ghost use Rattle.jextract.specs.declared.making.MakeFault.TheVariants.{OutOfMemory};
+
+    ghost from_gives = { λ _ e. e ≡ OutOfMemory };
+
+    fn from(_error: AllocFailed<T>) -> MakeFault {
+        MakeFault::OutOfMemory
+    }
+}
+
+/// What an object of the host gets of an object.
+fn attributes_of(object: &Object, owners: bool) -> Attributes
+    ensures { result ≡ attributes_of owners object.now }
+{
+    let owner = Owner {
+        uid: u32::from(object.uid),
+        gid: u32::from(object.gid),
+    };
+    Attributes {
+        mode: object.mode % 4096,
+        mtime: object.mtime,
+        atime: object.atime,
+        owner: owners.then_some(owner),
+    }
+}
+
+/// Puts the bytes of a file of this size, piece by piece.
+fn put_bytes<T: Sink>(
+    mounted: &Mounted<'_>,
+    ino: u32,
+    size: u32,
+    sink: &mut T,
+) -> Result<(), DeviceFault>
+    requires { length (readable mounted.now.state ino) ≡ size }
+    ensures { Puts (T.taken sink.old) (T.taken sink.new) (T.failures sink.old) (T.failures sink.new)
+        (readable mounted.now.state ino) result }
+{
+    let size = u64::from(size);
+    let mut piece = [0u8; PIECE];
+    let mut offset = 0u64;
+    while offset < size {
+        let count = mounted.read_at(ino, offset, &mut piece);
+        put_text(sink, &piece[..count])?;
+        offset += count as u64;
+    }
+    Ok(())
+}
+
+/// Makes a file with its bytes and its attributes.
+fn make_file<F: Folder>(
+    mounted: &Mounted<'_>,
+    ino: u32,
+    size: u32,
+    path: &str,
+    attributes: Attributes,
+    folder: &mut F,
+) -> Result<(), FolderFault>
+    requires { length (readable mounted.now.state ino) ≡ size }
+    ensures { Does (F.made folder.old) (F.made folder.new) (F.failures folder.old) (F.failures folder.new)
+        (made_at path.now (File ∷ Content (readable mounted.now.state ino) attributes ∷ [])) result }
+{
+    let mut file = folder.make_file(path)?;
+    if put_bytes(mounted, ino, size, &mut file).is_err() {
+        folder.give_up_file(path, file);
+        return Err(FolderFault::Refused);
+    }
+    folder.finish_file(path, file, attributes)
+}
+
+fn has_no_zero(bytes: &[u8]) -> bool
+    ensures { result ≡ list_all (λ b. not (b == 0)) bytes.now }
+{
+    bytes.iter().all(|b| *b != 0)
+}
+
+/// The target that a symlink of the host may have.
+fn target_of(bytes: &[u8]) -> Option<&str>
+    ensures { MatchOption result (is_target bytes.now ≡ false) (λ target. (target.now ≡ bytes.now) × (is_target bytes.now ≡ true)) }
+{
+    if bytes.is_empty() || bytes.len() > GREATEST_TARGET || !has_no_zero(bytes) {
+        return None;
+    }
+    match str::from_utf8(bytes) {
+        Ok(target) => Some(target),
+        Err(_) => None,
+    }
+}
+
+/// Makes a symlink.
+fn make_symlink<F: Folder>(
+    mounted: &Mounted<'_>,
+    ino: u32,
+    size: u32,
+    path: &str,
+    attributes: Attributes,
+    folder: &mut F,
+) -> Result<(), MakeFault>
+    requires { length (readable mounted.now.state ino) ≡ size }
+    ensures { Follows (F.made folder.old) (F.made folder.new) (F.failures folder.old) (F.failures folder.new)
+        path.now (plan_symlink (readable mounted.now.state ino) attributes) result }
+{
+    if size as usize > GREATEST_TARGET {
+        return Err(MakeFault::LeftOut(Reason::BadTarget));
+    }
+    let mut bytes = [0u8; GREATEST_TARGET];
+    let count = mounted.read_at(ino, 0, &mut bytes);
+    let Some(target) = target_of(&bytes[..count]) else {
+        return Err(MakeFault::LeftOut(Reason::BadTarget));
+    };
+    folder.make_symlink(path, target, attributes)?;
+    Ok(())
+}
+
+/// Why an object that is no directory, file or symlink is left out.
+fn reason_of(kind: Kind) -> Reason
+    ensures { result ≡ reason_of kind }
+{
+    match kind {
+        Kind::CharacterDevice => Reason::CharacterDevice,
+        Kind::BlockDevice => Reason::BlockDevice,
+        Kind::Fifo => Reason::Fifo,
+        Kind::Socket => Reason::Socket,
+        _ => Reason::UnknownKind,
+    }
+}
+
+/// Makes an object that was not made before.
+fn make_anew<F: Folder>(
+    mounted: &Mounted<'_>,
+    ino: u32,
+    object: &Object,
+    path: &str,
+    attributes: Attributes,
+    folder: &mut F,
+) -> Result<(), MakeFault>
+    requires { option_map shown (tree.object mounted.now.state ino) ≡ Some object.now }
+    ensures { Follows (F.made folder.old) (F.made folder.new) (F.failures folder.old) (F.failures folder.new)
+        path.now (plan_anew object.now.kind (readable mounted.now.state ino) attributes) result }
+{
+    match object.kind {
+        Kind::Directory => folder.make_directory(path)?,
+        Kind::Regular => make_file(mounted, ino, object.size, path, attributes, folder)?,
+        Kind::Symlink => make_symlink(mounted, ino, object.size, path, attributes, folder)?,
+        kind => return Err(MakeFault::LeftOut(reason_of(kind))),
+    }
+    Ok(())
+}
+
+/// Makes a further name of an object that was made at `first`.
+fn make_again<F: Folder>(
+    kind: Kind,
+    path: &str,
+    first: &str,
+    folder: &mut F,
+) -> Result<(), MakeFault>
+    ensures { Follows (F.made folder.old) (F.made folder.new) (F.failures folder.old) (F.failures folder.new)
+        path.now (plan_again kind first.now) result }
+{
+    match kind {
+        Kind::Directory => return Err(MakeFault::LeftOut(Reason::Again)),
+        Kind::Regular | Kind::Symlink => folder.make_link(path, first)?,
+        kind => return Err(MakeFault::LeftOut(reason_of(kind))),
+    }
+    Ok(())
+}
+
+/// Makes the object that a path leads to.
+pub(crate) fn make<F: Folder>(
+    alloc: Global,
+    mounted: &Mounted<'_>,
+    owners: bool,
+    names: &[&[u8]],
+    ino: u32,
+    object: &Object,
+    firsts: &mut BTreeMap<u32, String>,
+    folder: &mut F,
+) -> Result<(), MakeFault>
+    requires { option_map shown (tree.object mounted.now.state ino) ≡ Some object.now }
+    ensures works { Works mounted.now.state owners (firsts_of firsts.old) (Make (map (λ name. name.now) names.now) ino)
+        (F.made folder.old) (F.made folder.new) (F.failures folder.old) (F.failures folder.new) result }
+    ensures firsts { FirstsAfter (firsts_of firsts.old) (firsts_of firsts.new) (map (λ name. name.now) names.now) ino result }
+{
+    let path = host_path(alloc, names)?;
+    if let Some(first) = firsts.get(&ino) {
+        return make_again(object.kind, path.as_str(), first.as_str(), folder);
+    }
+    let attributes = attributes_of(object, owners);
+    make_anew(mounted, ino, object, path.as_str(), attributes, folder)?;
+    firsts.insert(ino, path)?;
+    Ok(())
+}
+
+/// Gives a directory its attributes.
+fn complete_at<F: Folder>(
+    mounted: &Mounted<'_>,
+    owners: bool,
+    ino: u32,
+    path: &str,
+    folder: &mut F,
+) -> Result<(), MakeFault>
+    ensures { Follows (F.made folder.old) (F.made folder.new) (F.failures folder.old) (F.failures folder.new)
+        path.now (plan_completed owners (option_map shown (tree.object mounted.now.state ino))) result }
+{
+    let Some(object) = mounted.object(ino) else {
+        return Ok(());
+    };
+    folder.finish_directory(path, attributes_of(&object, owners))?;
+    Ok(())
+}
+
+/// Gives the directory that a path leads to its attributes.
+pub(crate) fn complete<F: Folder>(
+    alloc: Global,
+    mounted: &Mounted<'_>,
+    owners: bool,
+    names: &[&[u8]],
+    ino: u32,
+    folder: &mut F,
+) -> Result<(), MakeFault>
+    ensures { Works mounted.now.state owners (λ i. None) (Complete (map (λ name. name.now) names.now) ino)
+        (F.made folder.old) (F.made folder.new) (F.failures folder.old) (F.failures folder.new) result }
+{
+    let path = host_path(alloc, names)?;
+    complete_at(mounted, owners, ino, path.as_str(), folder)
+}

@@ -1,0 +1,139 @@
+//! A folder that keeps a record of what is made in it.
+
+use jextract::{Attributes, Folder, FolderFault};
+use std::alloc::{AllocError, Global};
+use test_support::Taker;
+
+/// Keeps a line for each thing that is made. It refuses one call, after `calls` others.
+#[derive(Drop)]
+pub(crate) struct Recorder {
+    pub(crate) lines: String,
+    pub(crate) calls: u64,
+    /// How many bytes a file takes before it fails.
+    pub(crate) room: usize,
+    pub(crate) failures: u64,
+    alloc: Global,
+}
+
+impl Recorder {
+    pub(crate) fn new(alloc: Global, calls: u64, room: usize) -> Recorder {
+        Recorder {
+            lines: String::new(alloc),
+            calls,
+            room,
+            failures: 0,
+            alloc,
+        }
+    }
+
+    /// Keeps a line, or refuses.
+    fn keep(&mut self, line: Result<String, AllocError>) -> Result<(), FolderFault> {
+        if self.calls == 0 {
+            self.calls = u64::MAX;
+            self.failures = self.failures.wrapping_add(1);
+            return Err(FolderFault::Refused);
+        }
+        self.calls = self.calls.wrapping_sub(1);
+        let line = line.map_err(|_| FolderFault::OutOfMemory)?;
+        self.lines
+            .push_str(&line)
+            .map_err(|_| FolderFault::OutOfMemory)
+    }
+}
+
+/// The attributes, as a record has them.
+fn shown(alloc: Global, attributes: Attributes) -> Result<String, AllocError> {
+    let Attributes {
+        mode,
+        mtime,
+        atime,
+        owner,
+    } = attributes;
+    match owner {
+        Some(owner) => { format!(in alloc; "{mode:o} {mtime} {atime} {}:{}", owner.uid, owner.gid) }
+        None => format!(in alloc; "{mode:o} {mtime} {atime}"),
+    }
+}
+
+/// The bytes, as a record has them.
+fn text_of(bytes: &[u8]) -> &str {
+    str::from_utf8(bytes).unwrap_or("?")
+}
+
+fn content_line(
+    alloc: Global,
+    path: &str,
+    bytes: &[u8],
+    attributes: Attributes,
+) -> Result<String, AllocError> {
+    let shown = shown(alloc, attributes)?;
+    format!(in alloc; "content {path} [{}] {shown}\n", text_of(bytes))
+}
+
+fn symlink_line(
+    alloc: Global,
+    path: &str,
+    target: &str,
+    attributes: Attributes,
+) -> Result<String, AllocError> {
+    let shown = shown(alloc, attributes)?;
+    format!(in alloc; "symlink {path} {target} {shown}\n")
+}
+
+fn attributes_line(
+    alloc: Global,
+    path: &str,
+    attributes: Attributes,
+) -> Result<String, AllocError> {
+    let shown = shown(alloc, attributes)?;
+    format!(in alloc; "attributes {path} {shown}\n")
+}
+
+impl Folder for Recorder {
+    type File = Taker;
+
+    ghost use Rattle.std.specs.Prelude.{None};
+
+    ghost made = { λ _. None };
+
+    ghost failures = { λ r. r.failures };
+
+    fn make_directory(&mut self, path: &str) -> Result<(), FolderFault> {
+        self.keep(format!(in self.alloc; "directory {path}\n"))
+    }
+
+    fn make_file(&mut self, path: &str) -> Result<Taker, FolderFault> {
+        self.keep(format!(in self.alloc; "file {path}\n"))?;
+        Ok(Taker::limited(self.alloc, 5, self.room))
+    }
+
+    fn finish_file(
+        &mut self,
+        path: &str,
+        file: Taker,
+        attributes: Attributes,
+    ) -> Result<(), FolderFault> {
+        self.keep(content_line(self.alloc, path, &file.bytes, attributes))
+    }
+
+    fn give_up_file(&mut self, _path: &str, _file: Taker) {
+        self.failures = self.failures.wrapping_add(1);
+    }
+
+    fn make_symlink(
+        &mut self,
+        path: &str,
+        target: &str,
+        attributes: Attributes,
+    ) -> Result<(), FolderFault> {
+        self.keep(symlink_line(self.alloc, path, target, attributes))
+    }
+
+    fn make_link(&mut self, path: &str, first: &str) -> Result<(), FolderFault> {
+        self.keep(format!(in self.alloc; "link {path} {first}\n"))
+    }
+
+    fn finish_directory(&mut self, path: &str, attributes: Attributes) -> Result<(), FolderFault> {
+        self.keep(attributes_line(self.alloc, path, attributes))
+    }
+}

@@ -1,0 +1,151 @@
+//! Folders that refuse, files that take little, and notes that fail.
+
+use crate::images::{FILE, LARGE, Node, PLAIN, image_of};
+use crate::recorder::Recorder;
+use byteorder::LittleEndian;
+use flashbase::FromWriter;
+use jextract::{ExtractFault, extract};
+use jmount::mount;
+use std::test::Fail;
+use test_support::Taker;
+
+/// The call that is refused, what is made, and what is told.
+const ROWS: [(u64, &str, &str); 9] = [
+    (
+        1,
+        "directory \nsymlink s /d/f 777 7 5\nfile t\ncontent t [hi] 4755 7 5\nlink u s\nattributes  755 0 0\n",
+        "left out /d: refused by the host\n",
+    ),
+    (
+        2,
+        "directory \ndirectory d\nattributes d 1700 7 5\nsymlink s /d/f 777 7 5\nfile t\ncontent t [hi] 4755 7 5\nlink u s\nattributes  755 0 0\n",
+        "left out /d/f: refused by the host\n",
+    ),
+    (
+        3,
+        "directory \ndirectory d\nfile d/f\nattributes d 1700 7 5\nsymlink s /d/f 777 7 5\nfile t\ncontent t [hi] 4755 7 5\nlink u s\nattributes  755 0 0\n",
+        "left out /d/f: refused by the host\n",
+    ),
+    (
+        4,
+        "directory \ndirectory d\nfile d/f\ncontent d/f [hi] 4755 7 5\nsymlink s /d/f 777 7 5\nlink t d/f\nlink u s\nattributes  755 0 0\n",
+        "left out /d: refused by the host\n",
+    ),
+    (
+        5,
+        "directory \ndirectory d\nfile d/f\ncontent d/f [hi] 4755 7 5\nattributes d 1700 7 5\nlink t d/f\nsymlink u /d/f 777 7 5\nattributes  755 0 0\n",
+        "left out /s: refused by the host\n",
+    ),
+    (
+        6,
+        "directory \ndirectory d\nfile d/f\ncontent d/f [hi] 4755 7 5\nattributes d 1700 7 5\nsymlink s /d/f 777 7 5\nlink u s\nattributes  755 0 0\n",
+        "left out /t: refused by the host\n",
+    ),
+    (
+        7,
+        "directory \ndirectory d\nfile d/f\ncontent d/f [hi] 4755 7 5\nattributes d 1700 7 5\nsymlink s /d/f 777 7 5\nlink t d/f\nattributes  755 0 0\n",
+        "left out /u: refused by the host\n",
+    ),
+    (
+        8,
+        "directory \ndirectory d\nfile d/f\ncontent d/f [hi] 4755 7 5\nattributes d 1700 7 5\nsymlink s /d/f 777 7 5\nlink t d/f\nlink u s\n",
+        "left out /: refused by the host\n",
+    ),
+    (
+        9,
+        "directory \ndirectory d\nfile d/f\ncontent d/f [hi] 4755 7 5\nattributes d 1700 7 5\nsymlink s /d/f 777 7 5\nlink t d/f\nlink u s\nattributes  755 0 0\n",
+        "",
+    ),
+];
+
+#[test]
+fn a_refusal_at_each_call(rt: HostRuntime) -> Result<(), Fail> {
+    let image = image_of(rt.alloc(), PLAIN)?;
+    let mounted = mount::<LittleEndian>(rt.alloc(), &image, LARGE).map_err(|_| "no mount")?;
+    for (calls, made, told) in ROWS {
+        let mut folder = Recorder::new(rt.alloc(), calls, usize::MAX);
+        let mut notes = FromWriter::new(Vec::new(rt.alloc()));
+        let answer = extract(rt.alloc(), &mounted, false, &mut folder, &mut notes);
+        let refused = u64::from(!told.is_empty());
+        assert_eq!(rt; answer, Ok(refused));
+        assert_eq!(rt; folder.failures, refused);
+        assert_eq!(rt; folder.lines.as_str(), made);
+        assert_eq!(rt; notes.into_writer().as_slice(), told.as_bytes());
+    }
+    Ok(())
+}
+
+/// What comes of a folder that refuses itself.
+#[test]
+fn a_folder_that_is_refused(rt: HostRuntime) -> Result<(), Fail> {
+    let image = image_of(rt.alloc(), PLAIN)?;
+    let mounted = mount::<LittleEndian>(rt.alloc(), &image, LARGE).map_err(|_| "no mount")?;
+    let mut folder = Recorder::new(rt.alloc(), 0, usize::MAX);
+    let mut notes = FromWriter::new(Vec::new(rt.alloc()));
+    let answer = extract(rt.alloc(), &mounted, false, &mut folder, &mut notes);
+    assert_eq!(rt; answer, Err(ExtractFault::Folder));
+    assert!(rt; folder.lines.is_empty() && folder.failures == 1);
+    assert!(rt; notes.into_writer().is_empty());
+    Ok(())
+}
+
+#[test]
+fn a_file_that_fails(rt: HostRuntime) -> Result<(), Fail> {
+    let nodes = [
+        Node::Inode(2, FILE, b"1234567"),
+        Node::Inode(3, FILE, b"123456"),
+        Node::Entry(1, 2, b"a"),
+        Node::Entry(1, 3, b"b"),
+    ];
+    let image = image_of(rt.alloc(), &nodes)?;
+    let mounted = mount::<LittleEndian>(rt.alloc(), &image, LARGE).map_err(|_| "no mount")?;
+    let mut folder = Recorder::new(rt.alloc(), u64::MAX, 6);
+    let mut notes = FromWriter::new(Vec::new(rt.alloc()));
+    let answer = extract(rt.alloc(), &mounted, false, &mut folder, &mut notes);
+    assert_eq!(rt; answer, Ok(1));
+    assert_eq!(rt; folder.failures, 1);
+    assert_eq!(rt;
+        folder.lines.as_str(),
+        "directory \nfile a\nfile b\ncontent b [123456] 644 7 5\nattributes  755 0 0\n"
+    );
+    assert_eq!(rt;
+        notes.into_writer().as_slice(),
+        b"left out /a: refused by the host\n".as_slice()
+    );
+    Ok(())
+}
+
+/// Notes that fail after so many bytes took exactly them.
+#[test]
+fn notes_that_fail(rt: HostRuntime) -> Result<(), Fail> {
+    let nodes = [Node::Inode(2, 0o010600, b""), Node::Entry(1, 2, b"p")];
+    let image = image_of(rt.alloc(), &nodes)?;
+    let mounted = mount::<LittleEndian>(rt.alloc(), &image, LARGE).map_err(|_| "no mount")?;
+    let told = b"left out /p: FIFO\n";
+    for limit in 0..told.len() {
+        let mut folder = Recorder::new(rt.alloc(), u64::MAX, usize::MAX);
+        let mut notes = Taker::limited(rt.alloc(), 1, limit);
+        let answer = extract(rt.alloc(), &mounted, false, &mut folder, &mut notes);
+        assert_eq!(rt; answer, Err(ExtractFault::Notes));
+        assert!(rt; notes.took(1, &told[..limit]));
+        assert_eq!(rt; folder.lines.as_str(), "directory \n");
+    }
+    Ok(())
+}
+
+/// A file of 4 GiB that is one hole goes out in constant memory; here, its beginning.
+#[test]
+fn a_long_hole(rt: HostRuntime) -> Result<(), Fail> {
+    let nodes = [Node::Hole(2, u32::MAX), Node::Entry(1, 2, b"h")];
+    let image = image_of(rt.alloc(), &nodes)?;
+    let mounted = mount::<LittleEndian>(rt.alloc(), &image, LARGE).map_err(|_| "no mount")?;
+    let mut folder = Recorder::new(rt.alloc(), u64::MAX, 20000);
+    let mut notes = FromWriter::new(Vec::new(rt.alloc()));
+    let answer = extract(rt.alloc(), &mounted, false, &mut folder, &mut notes);
+    assert_eq!(rt; answer, Ok(1));
+    assert_eq!(rt;
+        folder.lines.as_str(),
+        "directory \nfile h\nattributes  755 0 0\n"
+    );
+    Ok(())
+}

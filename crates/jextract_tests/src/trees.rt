@@ -1,0 +1,206 @@
+//! Worked trees: what is made of them, and what is told.
+
+use crate::images::{DIRECTORY, FILE, HUGE, LARGE, Node, PLAIN, SYMLINK, image_of};
+use crate::recorder::Recorder;
+use byteorder::LittleEndian;
+use flashbase::FromWriter;
+use jextract::extract;
+use jmount::mount;
+use std::alloc::Global;
+use std::test::Fail;
+
+/// What is made of an image, how many objects are left out, and what is told.
+fn extracted(
+    alloc: Global,
+    nodes: &[Node<'_>],
+    owners: bool,
+) -> Result<(String, u64, Vec<u8>), &'static str> {
+    let image = image_of(alloc, nodes)?;
+    let mounted = mount::<LittleEndian>(alloc, &image, LARGE).map_err(|_| "no mount")?;
+    let mut folder = Recorder::new(alloc, u64::MAX, usize::MAX);
+    let mut notes = FromWriter::new(Vec::new(alloc));
+    let left_out = extract(alloc, &mounted, owners, &mut folder, &mut notes).map_err(
+        |_| "not extracted",
+    )?;
+    Ok((folder.lines, left_out, notes.into_writer()))
+}
+
+/// Nodes, what is made of them, how many objects are left out, and what is told.
+type Row = (&'static [Node<'static>], &'static str, u64, &'static str);
+
+const PLAIN_TREE: Row = (
+    PLAIN,
+    "directory \n\
+directory d\n\
+file d/f\n\
+content d/f [hi] 4755 7 5\n\
+attributes d 1700 7 5\n\
+symlink s /d/f 777 7 5\n\
+link t d/f\n\
+link u s\n\
+attributes  755 0 0\n",
+    0,
+    "",
+);
+
+const BAD_NAMES: Row = (
+    &[
+        Node::Inode(1, DIRECTORY, b""),
+        Node::Inode(2, DIRECTORY, b""),
+        Node::Inode(3, FILE, b"x"),
+        Node::Inode(4, FILE, b"x"),
+        Node::Entry(1, 2, b".."),
+        Node::Entry(2, 3, b"passwd"),
+        Node::Entry(1, 4, b"."),
+        Node::Entry(1, 4, b"a/b"),
+        Node::Entry(1, 4, b"a\0b"),
+        Node::Entry(1, 4, b"\xff"),
+        Node::Entry(1, 4, b"..."),
+    ],
+    "directory \n\
+file ...\n\
+content ... [x] 644 7 5\n\
+attributes  755 7 5\n",
+    5,
+    "left out /.: bad name\n\
+left out /..: bad name\n\
+left out /a\\x00b: bad name\n\
+left out /a\\x2fb: bad name\n\
+left out /\\xff: path is no text\n",
+);
+
+/// A directory that would be reached through a symlink out of the folder.
+const TWINS: Row = (
+    &[
+        Node::Inode(2, SYMLINK, b"/tmp"),
+        Node::Inode(3, DIRECTORY, b""),
+        Node::Inode(4, FILE, b"x"),
+        Node::Entry(1, 2, b"x"),
+        Node::Entry(2, 4, b"f"),
+        Node::Entry(1, 3, b"y"),
+        Node::Entry(3, 2, b"x"),
+    ],
+    "directory \n\
+symlink x /tmp 777 7 5\n\
+directory y\n\
+link y/x x\n\
+attributes y 755 7 5\n\
+attributes  755 0 0\n",
+    0,
+    "",
+);
+
+const CIRCLE: Row = (
+    &[
+        Node::Inode(2, DIRECTORY, b""),
+        Node::Entry(1, 2, b"d"),
+        Node::Entry(2, 1, b"x"),
+        Node::Entry(2, 2, b"y"),
+        Node::Entry(1, 2, b"z"),
+    ],
+    "directory \n\
+directory d\n\
+attributes d 755 7 5\n\
+attributes  755 0 0\n",
+    3,
+    "left out /d/x: directory again\n\
+left out /d/y: directory again\n\
+left out /z: directory again\n",
+);
+
+const OTHER_KINDS: Row = (
+    &[
+        Node::Inode(2, 0o010600, b""),
+        Node::Inode(3, 0o020600, b""),
+        Node::Inode(4, 0o060600, b""),
+        Node::Inode(5, 0o140600, b""),
+        Node::Inode(6, 0o150600, b""),
+        Node::Inode(7, SYMLINK, b""),
+        Node::Inode(8, SYMLINK, b"a\0b"),
+        Node::Inode(9, SYMLINK, b"\xff"),
+        Node::Entry(1, 2, b"a"),
+        Node::Entry(1, 3, b"b"),
+        Node::Entry(1, 4, b"c"),
+        Node::Entry(1, 5, b"d"),
+        Node::Entry(1, 6, b"e"),
+        Node::Entry(1, 7, b"f"),
+        Node::Entry(1, 8, b"g"),
+        Node::Entry(1, 9, b"h"),
+    ],
+    "directory \n\
+attributes  755 0 0\n",
+    8,
+    "left out /a: FIFO\n\
+left out /b: character device\n\
+left out /c: block device\n\
+left out /d: socket\n\
+left out /e: unknown kind\n\
+left out /f: bad target\n\
+left out /g: bad target\n\
+left out /h: bad target\n",
+);
+
+const ROWS: [Row; 5] = [PLAIN_TREE, BAD_NAMES, TWINS, CIRCLE, OTHER_KINDS];
+
+#[test]
+fn worked_trees(rt: HostRuntime) -> Result<(), Fail> {
+    for (nodes, made, left_out, told) in ROWS {
+        let (lines, count, notes) = extracted(rt.alloc(), nodes, false)?;
+        assert_eq!(rt; lines.as_str(), made);
+        assert_eq!(rt; count, left_out);
+        assert_eq!(rt; notes.as_slice(), told.as_bytes());
+    }
+    Ok(())
+}
+
+#[test]
+fn owners_where_they_are_asked_for(rt: HostRuntime) -> Result<(), Fail> {
+    let nodes = [Node::Inode(2, FILE, b"x"), Node::Entry(1, 2, b"f")];
+    let (lines, _, _) = extracted(rt.alloc(), &nodes, true)?;
+    assert_eq!(rt;
+        lines.as_str(),
+        "directory \nfile f\ncontent f [x] 644 7 5 1000:1001\nattributes  755 0 0 0:0\n"
+    );
+    Ok(())
+}
+
+/// An image of so many directories, each in the one before, with names of this many bytes.
+fn deep(alloc: Global, levels: u32, name: &[u8]) -> Result<Vec<u8>, &'static str> {
+    let mut nodes = Vec::new(alloc);
+    for level in 0..levels {
+        let ino = level.wrapping_add(2);
+        nodes
+            .push(Node::Inode(ino, DIRECTORY, b""))
+            .map_err(|_| "no memory")?;
+        nodes
+            .push(Node::Entry(ino.wrapping_sub(1), ino, name))
+            .map_err(|_| "no memory")?;
+    }
+    image_of(alloc, &nodes)
+}
+
+/// How many directories are made of so many levels, how many objects are left out, and how many bytes are told.
+fn depth(alloc: Global, levels: u32, name: &[u8]) -> Result<(usize, u64, usize), &'static str> {
+    let image = deep(alloc, levels, name)?;
+    let mounted = mount::<LittleEndian>(alloc, &image, HUGE).map_err(|_| "no mount")?;
+    let mut folder = Recorder::new(alloc, u64::MAX, usize::MAX);
+    let mut notes = FromWriter::new(Vec::new(alloc));
+    let left_out = extract(alloc, &mounted, false, &mut folder, &mut notes).map_err(
+        |_| "not extracted",
+    )?;
+    let made = folder
+        .lines
+        .split('\n')
+        .filter(|line| line.starts_with("directory "))
+        .count();
+    Ok((made, left_out, notes.into_writer().len()))
+}
+
+#[test]
+fn many_levels(rt: HostRuntime) -> Result<(), Fail> {
+    assert_eq!(rt; depth(rt.alloc(), 1000, b"dir")?, (1001, 0, 0));
+    // 16 names of 254 bytes with the slashes between them have 4,079 bytes.
+    let name = [b'n'; 254];
+    assert_eq!(rt; depth(rt.alloc(), 20, &name)?, (17, 1, 9 + 17 * 255 + 16));
+    Ok(())
+}
