@@ -1,4 +1,5 @@
 pub mod FillLemmas
+pub mod InsideLemmas
 pub mod MakingLemmas
 pub mod PathLemmas
 pub mod StepLemmas

@@ -1,5 +1,6 @@
 pub mod Extracts
 pub mod Folders
+pub mod Laws
 pub mod Making
 pub mod Outcomes
 pub mod Paths

@@ -1,0 +1,20 @@
+-- Laws of what is made in a folder. Each is a statement: it holds since a public function's contract names it.
+use Rattle.std.specs.Prelude.{◌≡◌, ◌≤◌, Bool, true, ℕ, List, length, Contains}
+use Rattle.std.specs.List.{list_all}
+use Rattle.std.specs.Str.{is_utf8}
+use Rattle.jmount.specs.Tree.{State}
+use Rattle.jmount.specs.Find.{is_name}
+use Rattle.jextract.specs.Extracts.{AreFirstTreeOutcomes}
+use Rattle.jextract.specs.Folders.{Made}
+use Rattle.jextract.specs.Outcomes.{Outcome, all_made}
+use Rattle.jextract.specs.Paths.{greatest_path, path_text}
+
+-- a path of the host with these names, none of which is empty, `.` or `..`, or has a slash; no names are the folder itself
+abbrev pub HasNames : List ℕ → List (List ℕ) → Type 0
+HasNames path names = (path ≡ path_text names) × (list_all is_name names ≡ true) × (length path ≤ greatest_path) × (is_utf8 path ≡ true)
+
+-- whatever a file system says, each path at which something is made has names that lead into the folder, and is UTF-8 of at
+-- most 4,095 bytes
+abbrev pub MakesInside : Type 0
+MakesInside = (s : State) (owners : Bool) (outcomes : List Outcome) (made : Made) → AreFirstTreeOutcomes s owners outcomes
+    → Contains (all_made outcomes) made → (names : List (List ℕ)) × HasNames made.path names

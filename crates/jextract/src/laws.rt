@@ -1,0 +1,8 @@
+//! Laws of what is made in a folder, each the contract of an empty function.
+
+ghost use Rattle.jextract.specs.Laws as law;
+
+/// Whatever an image says, each path at which something is made has names that lead into the folder.
+pub fn makes_inside()
+    ensures { law.MakesInside }
+{}
