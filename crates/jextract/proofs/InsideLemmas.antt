@@ -30,7 +30,7 @@ text_has names text path at are is = by (nat_lt greatest_path (length text)) ref
         let short : length text ≤ greatest_path = grind (arith, nat_tests) in
         subst (λ p. HasNames p names) same (at, are, short, u)
 
-host_has : (names : List (List ℕ)) (path : List ℕ) → host_path names ≡ Ok path → HasNames path names
+pub host_has : (names : List (List ℕ)) (path : List ℕ) → host_path names ≡ Ok path → HasNames path names
 unfolding host_path
 host_has names path is = by (list_all is_name names) refl is
   where
@@ -53,7 +53,7 @@ plan_there (Ok path) (Do deeds) o made (inl all) there = ap Ok (made_there path 
 plan_there (Ok path) (Do deeds) o made (inr part) there =
     ap Ok (made_there path deeds made (in_beginning part.0 (made_at path deeds) made (subst (λ (l : List Made). Contains l made) part.2 there)))
 
-outcome_there : (s : State) (owners : Bool) (firsts : Firsts) (task : Task) (o : Outcome) (made : Made) → IsOutcomeOf s owners firsts task o → Contains o.deeds made
+pub outcome_there : (s : State) (owners : Bool) (firsts : Firsts) (task : Task) (o : Outcome) (made : Made) → IsOutcomeOf s owners firsts task o → Contains o.deeds made
     → HasNames made.path (path_of task)
 outcome_there s owners firsts task o made is there =
     host_has (path_of task) made.path (plan_there (host_path (path_of task)) (plan_at s owners firsts task) o made is.1 there)
@@ -67,7 +67,7 @@ outcomes_there s owners firsts (task ∷ todo) (o ∷ outcomes) made are there =
     (λ later. outcomes_there s owners (firsts_after firsts task o) (todo_after s task o todo) outcomes made are.1 later)
     (Contains-append_cases o.deeds (flat_map (λ (x : Outcome). x.deeds) outcomes) made there)
 
-root_has : HasNames [] []
+pub root_has : HasNames [] []
 root_has = (refl, refl, omega arith, is_utf8-from_IsUtf8 [] ([], (refl, refl)))
 
 pub makes_inside : MakesInside

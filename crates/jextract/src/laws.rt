@@ -6,3 +6,8 @@ ghost use Rattle.jextract.specs.Laws as law;
 pub fn makes_inside()
     ensures { law.MakesInside }
 {}
+
+/// The directories on the way to what is made were made before it, the folder itself first.
+pub fn makes_below()
+    ensures { law.MakesBelow }
+{}
