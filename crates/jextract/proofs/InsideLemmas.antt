@@ -10,8 +10,8 @@ use Rattle.jname.proofs.MemberLemmas.{Contains-none, Contains-cases, Contains-ma
 use Rattle.jmount.specs.Tree.{State}
 use Rattle.jmount.specs.Find.{is_name}
 use Rattle.jextract.specs.Folders.{Made, Deed}
-use Rattle.jextract.specs.Laws.{HasNames, MakesInside}
-use Rattle.jextract.specs.Outcomes.{Task, path_of, Outcome, Firsts, Plan, Do, LeaveOut, FollowsPlan, IsOutcomeOf, AreFirstOutcomes, plan_at, firsts_after, todo_after, made_at, root_made, root_alone, tasks_in}
+use Rattle.jextract.specs.Laws.{HasNames, MakesInside, WholeIsFirst}
+use Rattle.jextract.specs.Outcomes.{Task, path_of, Outcome, Firsts, Plan, Do, LeaveOut, FollowsPlan, IsOutcomeOf, AreOutcomes, AreFirstOutcomes, plan_at, firsts_after, todo_after, made_at, root_made, root_alone, tasks_in}
 use Rattle.jextract.specs.Paths.{greatest_path, host_path, path_text, text_if}
 use Rattle.jextract.specs.declared.reason.Reason.{Reason}
 use Rattle.jextract.specs.declared.reason.Reason.TheVariants as reason
@@ -75,3 +75,16 @@ makes_inside s owners outcomes made are there =
     ⊎_elim (λ (here : root_made ≡ made). ([], subst (λ (m : Made). HasNames m.path []) here root_has))
     (λ later. outcomes_there s owners root_alone (tasks_in s [] 1) outcomes made are later)
     (Contains-cases root_made (flat_map (λ (x : Outcome). x.deeds) outcomes) made there)
+
+-- ---- the whole is a first part
+
+all_are_first : (s : State) (owners : Bool) (firsts : Firsts) (todo : List Task) (outcomes : List Outcome) → AreOutcomes s owners firsts todo outcomes
+    → AreFirstOutcomes s owners firsts todo outcomes
+all_are_first s owners firsts [] [] are = tt {0}
+all_are_first s owners firsts [] (o ∷ outcomes) are = absurd (cc)
+all_are_first s owners firsts (task ∷ todo) [] are = absurd are
+all_are_first s owners firsts (task ∷ todo) (o ∷ outcomes) are =
+    (are.0, all_are_first s owners (firsts_after firsts task o) (todo_after s task o todo) outcomes are.1)
+
+pub whole_is_first : WholeIsFirst
+whole_is_first s owners outcomes are = all_are_first s owners root_alone (tasks_in s [] 1) outcomes are

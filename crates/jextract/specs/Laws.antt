@@ -4,10 +4,14 @@ use Rattle.std.specs.List.{list_all}
 use Rattle.std.specs.Str.{is_utf8}
 use Rattle.jmount.specs.Tree.{State}
 use Rattle.jmount.specs.Find.{is_name}
-use Rattle.jextract.specs.Extracts.{AreFirstTreeOutcomes}
+use Rattle.jextract.specs.Extracts.{AreTreeOutcomes, AreFirstTreeOutcomes}
 use Rattle.jextract.specs.Folders.{Made, Directory}
 use Rattle.jextract.specs.Outcomes.{Outcome, all_made}
 use Rattle.jextract.specs.Paths.{greatest_path, path_text}
+
+-- what comes of a whole tree is also a first part of it, so that the laws on such parts hold of it
+abbrev pub WholeIsFirst : Type 0
+WholeIsFirst = (s : State) (owners : Bool) (outcomes : List Outcome) → AreTreeOutcomes s owners outcomes → AreFirstTreeOutcomes s owners outcomes
 
 -- a path of the host with these names, none of which is empty, `.` or `..`, or has a slash; no names are the folder itself
 abbrev pub HasNames : List ℕ → List (List ℕ) → Type 0
