@@ -1,5 +1,5 @@
 -- Where what is made lies.
-use Rattle.std.proofs.Common.{◌≡◌, ℕ, ◌≤◌, Bool, true, false, nat_lt, List, [], ◌∷◌, ◌++◌, map, length, take, drop, refl, sym, ap, ◌∙◌, subst, arith, inl, inr, ⊎_elim, Result, Ok, Err, if◌then◌else◌, Contains}
+use Rattle.std.proofs.Common.{◌≡◌, ℕ, ◌≤◌, Bool, true, false, nat_lt, List, [], ◌∷◌, length, take, drop, refl, ap, subst, arith, inl, inr, ⊎_elim, Result, Ok, Err, if◌then◌else◌, Contains}
 use Rattle.std.specs.List.{flat_map, list_all}
 use Rattle.std.specs.Str.{is_utf8}
 use Rattle.std.proofs.lemmas.Bool.Decides.{nat_tests}
@@ -10,8 +10,8 @@ use Rattle.jname.proofs.MemberLemmas.{Contains-none, Contains-cases, Contains-ma
 use Rattle.jmount.specs.Tree.{State}
 use Rattle.jmount.specs.Find.{is_name}
 use Rattle.jextract.specs.Folders.{Made, Deed}
-use Rattle.jextract.specs.Laws.{HasNames, MakesInside}
-use Rattle.jextract.specs.Outcomes.{Task, path_of, Outcome, Firsts, Plan, Do, LeaveOut, FollowsPlan, IsOutcomeOf, AreFirstOutcomes, plan_at, firsts_after, todo_after, made_at, root_made, root_alone, tasks_in}
+use Rattle.jextract.specs.Laws.{HasNames, MakesInside, WholeIsFirst}
+use Rattle.jextract.specs.Outcomes.{Task, path_of, Outcome, Firsts, Plan, Do, LeaveOut, FollowsPlan, IsOutcomeOf, AreOutcomes, AreFirstOutcomes, plan_at, firsts_after, todo_after, made_at, root_made, root_alone, tasks_in}
 use Rattle.jextract.specs.Paths.{greatest_path, host_path, path_text, text_if}
 use Rattle.jextract.specs.declared.reason.Reason.{Reason}
 use Rattle.jextract.specs.declared.reason.Reason.TheVariants as reason
@@ -30,7 +30,7 @@ text_has names text path at are is = by (nat_lt greatest_path (length text)) ref
         let short : length text ≤ greatest_path = grind (arith, nat_tests) in
         subst (λ p. HasNames p names) same (at, are, short, u)
 
-host_has : (names : List (List ℕ)) (path : List ℕ) → host_path names ≡ Ok path → HasNames path names
+pub host_has : (names : List (List ℕ)) (path : List ℕ) → host_path names ≡ Ok path → HasNames path names
 unfolding host_path
 host_has names path is = by (list_all is_name names) refl is
   where
@@ -53,7 +53,7 @@ plan_there (Ok path) (Do deeds) o made (inl all) there = ap Ok (made_there path 
 plan_there (Ok path) (Do deeds) o made (inr part) there =
     ap Ok (made_there path deeds made (in_beginning part.0 (made_at path deeds) made (subst (λ (l : List Made). Contains l made) part.2 there)))
 
-outcome_there : (s : State) (owners : Bool) (firsts : Firsts) (task : Task) (o : Outcome) (made : Made) → IsOutcomeOf s owners firsts task o → Contains o.deeds made
+pub outcome_there : (s : State) (owners : Bool) (firsts : Firsts) (task : Task) (o : Outcome) (made : Made) → IsOutcomeOf s owners firsts task o → Contains o.deeds made
     → HasNames made.path (path_of task)
 outcome_there s owners firsts task o made is there =
     host_has (path_of task) made.path (plan_there (host_path (path_of task)) (plan_at s owners firsts task) o made is.1 there)
@@ -67,7 +67,7 @@ outcomes_there s owners firsts (task ∷ todo) (o ∷ outcomes) made are there =
     (λ later. outcomes_there s owners (firsts_after firsts task o) (todo_after s task o todo) outcomes made are.1 later)
     (Contains-append_cases o.deeds (flat_map (λ (x : Outcome). x.deeds) outcomes) made there)
 
-root_has : HasNames [] []
+pub root_has : HasNames [] []
 root_has = (refl, refl, omega arith, is_utf8-from_IsUtf8 [] ([], (refl, refl)))
 
 pub makes_inside : MakesInside
@@ -75,3 +75,16 @@ makes_inside s owners outcomes made are there =
     ⊎_elim (λ (here : root_made ≡ made). ([], subst (λ (m : Made). HasNames m.path []) here root_has))
     (λ later. outcomes_there s owners root_alone (tasks_in s [] 1) outcomes made are later)
     (Contains-cases root_made (flat_map (λ (x : Outcome). x.deeds) outcomes) made there)
+
+-- ---- the whole is a first part
+
+all_are_first : (s : State) (owners : Bool) (firsts : Firsts) (todo : List Task) (outcomes : List Outcome) → AreOutcomes s owners firsts todo outcomes
+    → AreFirstOutcomes s owners firsts todo outcomes
+all_are_first s owners firsts [] [] are = tt {0}
+all_are_first s owners firsts [] (o ∷ outcomes) are = absurd (cc)
+all_are_first s owners firsts (task ∷ todo) [] are = absurd are
+all_are_first s owners firsts (task ∷ todo) (o ∷ outcomes) are =
+    (are.0, all_are_first s owners (firsts_after firsts task o) (todo_after s task o todo) outcomes are.1)
+
+pub whole_is_first : WholeIsFirst
+whole_is_first s owners outcomes are = all_are_first s owners root_alone (tasks_in s [] 1) outcomes are

@@ -1,3 +1,4 @@
+pub mod BelowLemmas
 pub mod FillLemmas
 pub mod InsideLemmas
 pub mod MakingLemmas

@@ -196,7 +196,7 @@ kind_is bits = by (bits == 4) refl
         ∙ sym (other (bits == 1) (bits == 2) (bits == 6) (bits == 8) (bits == 10) (bits == 12))
         ∙ ap (λ (x : Bool). is_directory_kind (if bits == 1 then kind.Fifo else if bits == 2 then kind.CharacterDevice else if x then kind.Directory else if bits == 6 then kind.BlockDevice else if bits == 8 then kind.Regular else if bits == 10 then kind.Symlink else if bits == 12 then kind.Socket else kind.Other)) (sym is)
 
-directory_is : (x : Option (ObjectOf (List ℕ))) (o : Object) → option_map shown x ≡ Some o → has_bits directory_bits x ≡ is_directory_kind o.kind
+pub directory_is : (x : Option (ObjectOf (List ℕ))) (o : Object) → option_map shown x ≡ Some o → has_bits directory_bits x ≡ is_directory_kind o.kind
 directory_is None o is = absurd (cc)
 directory_is (Some x) o is = let same : shown x ≡ o = cc in kind_is _ ∙ ap (λ (y : Object). is_directory_kind y.kind) same
 
@@ -204,7 +204,7 @@ there_is : (x : Option (ObjectOf (List ℕ))) (o : Object) → option_map shown 
 there_is None o is = absurd (cc)
 there_is (Some x) o is = refl
 
-kind_directory : (k : Kind) → is_directory_kind k ≡ true → k ≡ kind.Directory
+pub kind_directory : (k : Kind) → is_directory_kind k ≡ true → k ≡ kind.Directory
 kind_directory kind.Directory is = refl
 kind_directory kind.Fifo is = absurd (cc)
 kind_directory kind.CharacterDevice is = absurd (cc)

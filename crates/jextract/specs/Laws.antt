@@ -1,13 +1,17 @@
 -- Laws of what is made in a folder. Each is a statement: it holds since a public function's contract names it.
-use Rattle.std.specs.Prelude.{◌≡◌, ◌≤◌, Bool, true, ℕ, List, length, Contains}
+use Rattle.std.specs.Prelude.{◌≡◌, ◌≤◌, Bool, true, ℕ, List, [], ◌∷◌, ◌++◌, length, Contains, ⊤}
 use Rattle.std.specs.List.{list_all}
 use Rattle.std.specs.Str.{is_utf8}
 use Rattle.jmount.specs.Tree.{State}
 use Rattle.jmount.specs.Find.{is_name}
-use Rattle.jextract.specs.Extracts.{AreFirstTreeOutcomes}
-use Rattle.jextract.specs.Folders.{Made}
+use Rattle.jextract.specs.Extracts.{AreTreeOutcomes, AreFirstTreeOutcomes}
+use Rattle.jextract.specs.Folders.{Made, Directory}
 use Rattle.jextract.specs.Outcomes.{Outcome, all_made}
 use Rattle.jextract.specs.Paths.{greatest_path, path_text}
+
+-- what comes of a whole tree is also a first part of it, so that the laws on such parts hold of it
+abbrev pub WholeIsFirst : Type 0
+WholeIsFirst = (s : State) (owners : Bool) (outcomes : List Outcome) → AreTreeOutcomes s owners outcomes → AreFirstTreeOutcomes s owners outcomes
 
 -- a path of the host with these names, none of which is empty, `.` or `..`, or has a slash; no names are the folder itself
 abbrev pub HasNames : List ℕ → List (List ℕ) → Type 0
@@ -18,3 +22,19 @@ HasNames path names = (path ≡ path_text names) × (list_all is_name names ≡ 
 abbrev pub MakesInside : Type 0
 MakesInside = (s : State) (owners : Bool) (outcomes : List Outcome) (made : Made) → AreFirstTreeOutcomes s owners outcomes
     → Contains (all_made outcomes) made → (names : List (List ℕ)) × HasNames made.path names
+
+-- the directory with these names, as it is made
+abbrev pub directory_at : List (List ℕ) → Made
+directory_at names = record { path = path_text names; deed = Directory }
+
+-- each directory on the way to a path with these names is among what was made
+abbrev pub HasWay : List Made → List (List ℕ) → Type 0
+HasWay before names = (way : List (List ℕ)) (name : List ℕ) (rest : List (List ℕ)) → names ≡ way ++ name ∷ rest → Contains before (directory_at way)
+
+abbrev pub AreMadeBelow : List Made → List Made → Type 0
+AreMadeBelow before [] = ⊤
+AreMadeBelow before (made ∷ more) = ((names : List (List ℕ)) × HasNames made.path names × HasWay before names) × AreMadeBelow (before ++ made ∷ []) more
+
+-- whatever a file system says, the directories on the way to what is made were made before it, the folder itself first
+abbrev pub MakesBelow : Type 0
+MakesBelow = (s : State) (owners : Bool) (outcomes : List Outcome) → AreFirstTreeOutcomes s owners outcomes → AreMadeBelow [] (all_made outcomes)

@@ -1,16 +1,17 @@
 //! The tree of a mounted image, written into a folder of the host.
 //!
-//! It is built on `jmount` (the file system) and `jline` (how names are told). Its promise to the program: what is made, in which
-//! order and with which bytes, and what is told as left out, is that of the outcomes of the tree, and only the host's refusals
-//! are open.
+//! It is built on `jmount` (the file system) and `jline` (how names are told). Its promise to the program: whatever the image
+//! says, each path at which something is made has names that lead into the folder (none of them is empty, `.` or `..`, or has
+//! a slash), and each directory on the way to it was made before.
 //!
 //! `specs/Folders.antt` says what a folder is made to hold, `specs/Paths.antt` which paths a host may have,
-//! `specs/Outcomes.antt` what comes of each object, and `specs/Extracts.antt` what the call does.
+//! `specs/Outcomes.antt` what comes of each object, and `specs/Extracts.antt` what the call does. `laws` has what follows.
 #![tactic(auto)]
 
 mod extracting;
 mod fault;
 mod folder;
+pub mod laws;
 mod making;
 mod notes;
 mod paths;
