@@ -1,5 +1,7 @@
 //! A growth that is refused is told as such.
 
+ghost use Rattle.jextract.specs.Folders.{Counts};
+
 use crate::images::{LARGE, PLAIN, image_of};
 use byteorder::LittleEndian;
 use jextract::{Attributes, ExtractFault, Folder, FolderFault, extract};
@@ -15,7 +17,9 @@ struct Tally {
 }
 
 impl Tally {
-    fn count(&mut self) -> Result<(), FolderFault> {
+    fn count(&mut self) -> Result<(), FolderFault>
+        ensures { Counts self.old.failures self.new.failures result }
+    {
         self.calls = self.calls.wrapping_add(1);
         Ok(())
     }

@@ -1,5 +1,7 @@
 //! A folder that keeps a record of what is made in it.
 
+ghost use Rattle.jextract.specs.Folders.{Counts};
+
 use jextract::{Attributes, Folder, FolderFault};
 use std::alloc::{AllocError, Global};
 use test_support::Taker;
@@ -27,17 +29,22 @@ impl Recorder {
     }
 
     /// Keeps a line, or refuses.
-    fn keep(&mut self, line: Result<String, AllocError>) -> Result<(), FolderFault> {
+    fn keep(&mut self, line: Result<String, AllocError>) -> Result<(), FolderFault>
+        ensures { Counts self.old.failures self.new.failures result }
+    {
         if self.calls == 0 {
             self.calls = u64::MAX;
             self.failures = self.failures.wrapping_add(1);
             return Err(FolderFault::Refused);
         }
         self.calls = self.calls.wrapping_sub(1);
-        let line = line.map_err(|_| FolderFault::OutOfMemory)?;
-        self.lines
-            .push_str(&line)
-            .map_err(|_| FolderFault::OutOfMemory)
+        let Ok(line) = line else {
+            return Err(FolderFault::OutOfMemory);
+        };
+        match self.lines.push_str(line.as_str()) {
+            Ok(()) => Ok(()),
+            Err(_) => Err(FolderFault::OutOfMemory),
+        }
     }
 }
 
