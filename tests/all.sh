@@ -29,6 +29,7 @@ suite tests/growths.py --built "$copy"
 suite tests/trace.py
 suite tests/program.sh "$copy/crates/jffs2_image/out/jffs2_image"
 suite tests/hostile.py "$copy/crates/jffs2_image/out/jffs2_image"
+suite tests/folders.py "$copy/crates/jffs2_image/out/jffs2_image"
 cat "$times"
 echo "$passed passed, $failed failed"
 [ "$failed" -eq 0 ]

@@ -18,6 +18,13 @@ option_or id default = record (new_rule id) { long = Some id; value_names = 1; d
 abbrev pub required_option : Text → Rule
 required_option id = record (new_rule id) { long = Some id; value_names = 1; required = true }
 
+-- an option with a value that may be left out, and one with two
+abbrev pub option_of : Text → Rule
+option_of id = record (new_rule id) { long = Some id; value_names = 1 }
+
+abbrev pub option_of_two : Text → Rule
+option_of_two id = record (new_rule id) { long = Some id; value_names = 2 }
+
 -- a flag that may be left out
 abbrev pub flag : Text → Rule
 flag id = record (new_rule id) { long = Some id; action = Some SetTrue }
@@ -52,13 +59,21 @@ abbrev pub append_app : App
 append_app = with_rule (with_rule (with_rule (writer (codes "append")) (word (codes "IMAGE"))) (word (codes "LISTING")))
     (word (codes "OUT"))
 
+-- `extract [--block N] [--endian ORDER] [--owners] [--quiet] IMAGE DIR`
+abbrev pub extract_app : App
+extract_app = with_rule (with_rule (with_rule (with_rule (plain (codes "extract")) (flag (codes "owners"))) (flag (codes "quiet"))) (word (codes "IMAGE"))) (word (codes "DIR"))
+
+-- `listing [--owner UID GID] [--time T] [--quiet] DIR`
+abbrev pub listing_app : App
+listing_app = with_rule (with_rule (with_rule (with_rule (new_app (codes "listing")) (option_of_two (codes "owner"))) (option_of (codes "time"))) (flag (codes "quiet"))) (word (codes "DIR"))
+
 -- the program without its subcommands, of which one has to be named; it tells its version
 abbrev pub bare : App
 bare = let app = new_app (codes "jffs2_image") in record app { top = record app.top { has_version = true; subcommand_required = true } }
 
 unfoldable pub program : App
-program = with_subcommand (with_subcommand (with_subcommand (with_subcommand (with_subcommand bare check_app.top) ls_app.top)
-    cat_app.top) build_app.top) append_app.top
+program = with_subcommand (with_subcommand (with_subcommand (with_subcommand (with_subcommand (with_subcommand (with_subcommand bare
+    check_app.top) ls_app.top) cat_app.top) build_app.top) append_app.top) extract_app.top) listing_app.top
 
 -- ---- what is made
 

@@ -1,8 +1,8 @@
 -- What a command line asks for, by clap's matches of its words.
-use Rattle.std.specs.Prelude.{◌≡◌, ◌≢◌, ◌⊎◌, ◌+◌, ◌-◌, ◌*◌, ◌^◌, ◌&&◌, ℕ, Bool, false, List, [], ◌∷◌, Option, Some, None, if◌then◌else◌, nat_lt, codes, option_and_then}
+use Rattle.std.specs.Prelude.{◌≡◌, ◌≢◌, ◌⊎◌, ◌+◌, ◌-◌, ◌*◌, ◌^◌, ◌&&◌, ℕ, Bool, false, List, [], ◌∷◌, Option, Some, None, if◌then◌else◌, nat_lt, codes, option_and_then, option_map}
 use Rattle.std.specs.Char.{is_ascii_digit}
 use Rattle.std.specs.Str.{bytes_eq}
-use Rattle.clap.specs.Words.{Row, Text, IsAmong, fault_of, first_of, subcommand_of, takes}
+use Rattle.clap.specs.Words.{Row, Text, IsAmong, all_of, fault_of, first_of, subcommand_of, takes}
 use Rattle.clap.specs.declared.error.ErrorKind.{ErrorKind}
 use Rattle.clap.specs.declared.error.ErrorKind.TheVariants.{DisplayHelp, DisplayVersion}
 use Rattle.jnode.specs.declared.order.Endian.{Endian}
@@ -11,8 +11,11 @@ use Rattle.jsteps.specs.declared.page.Page.{Page}
 use Rattle.jsteps.specs.declared.page.Page.TheVariants.{P4096, P8192, P16384}
 use Rattle.jcommand.specs.Commands.{program}
 use Rattle.jcommand.specs.declared.parsed.Options.{Options}
+use Rattle.jcommand.specs.declared.parsed.Owner.{Owner}
 use Rattle.jcommand.specs.declared.parsed.Request.{Request}
 use Rattle.jcommand.specs.declared.parsed.Request.TheVariants as request
+use Rattle.jcommand.specs.declared.parsed.Task.{Task}
+use Rattle.jcommand.specs.declared.parsed.Task.TheVariants as task
 
 -- ---- values
 
@@ -35,6 +38,19 @@ page_of text =
     else if bytes_eq text (codes "16384") then Some P16384
     else None
 
+-- the number of a user or a group, which has 16 bits
+abbrev pub owner_number : Text → Option ℕ
+owner_number text = option_and_then (λ n. if nat_lt 65535 n then None else Some n) (number_of text)
+
+abbrev pub owner_of : List Text → Option Owner
+owner_of (uid ∷ gid ∷ []) = option_and_then (λ u. option_and_then (λ g. Some (record { uid = u; gid = g })) (owner_number gid)) (owner_number uid)
+owner_of _ = None
+
+-- what is read of what may be left out, where it is given
+abbrev pub if_given : {A B : Type 0} → Option A → (A → Option B) → Option (Option B)
+if_given None read = Some None
+if_given (Some value) read = option_and_then (λ x. Some (Some x)) (read value)
+
 abbrev pub number_option : Text → List Row → Option ℕ
 number_option id rows = option_and_then number_of (first_of id rows)
 
@@ -55,6 +71,17 @@ view (request.List options image) = ListParsed options image.now
 view (request.Cat options image path) = CatParsed options image.now path.now
 view (request.Build options blocks page listing output) = BuildParsed options blocks page listing.now output.now
 view (request.Append options blocks page image listing output) = AppendParsed options blocks page image.now listing.now output.now
+
+-- the same of a task: a request of an image, or one that works with a folder of the host
+pub data TaskParsed : Type 0 where
+  ImageParsed : Parsed → TaskParsed
+  ExtractParsed : Options → Bool → Bool → Text → Text → TaskParsed
+  ListingParsed : Option Owner → Option ℕ → Bool → Text → TaskParsed
+
+abbrev pub task_view : Task → TaskParsed
+task_view (task.Image r) = ImageParsed (view r)
+task_view (task.Extract options owners quiet image folder) = ExtractParsed options owners quiet image.now folder.now
+task_view (task.Listing owner time quiet folder) = ListingParsed owner time quiet folder.now
 
 abbrev pub options_of : Request → Options
 options_of (request.Scan options image) = options
@@ -107,22 +134,32 @@ build_in rows = options_in rows >>= λ options. writing_in rows >>= λ w. Some (
 abbrev pub append_in : List Row → Option Parsed
 append_in rows = image_in rows >>= λ p. writing_in rows >>= λ w. Some (AppendParsed p.0 w.0 w.1 p.1 w.2 w.3)
 
+abbrev pub extract_in : List Row → Option TaskParsed
+extract_in rows = image_in rows >>= λ p. first_of (codes "DIR") rows >>= λ folder.
+    Some (ExtractParsed p.0 (is_given (first_of (codes "owners") rows)) (is_given (first_of (codes "quiet") rows)) p.1 folder)
+
+abbrev pub listing_in : List Row → Option TaskParsed
+listing_in rows = if_given (all_of (codes "owner") rows) owner_of >>= λ owner. if_given (first_of (codes "time") rows) number_of >>= λ time.
+    first_of (codes "DIR") rows >>= λ folder. Some (ListingParsed owner time (is_given (first_of (codes "quiet") rows)) folder)
+
 -- what the subcommand of this name asks for, with these rows; None where it is no subcommand or a value can't be read
-unfoldable pub parsed : Text → List Row → Option Parsed
+unfoldable pub parsed : Text → List Row → Option TaskParsed
 parsed name rows =
-    if bytes_eq name (codes "check") then check_in rows
-    else if bytes_eq name (codes "ls") then ls_in rows
-    else if bytes_eq name (codes "cat") then cat_in rows
-    else if bytes_eq name (codes "build") then build_in rows
-    else if bytes_eq name (codes "append") then append_in rows
+    if bytes_eq name (codes "check") then option_map ImageParsed (check_in rows)
+    else if bytes_eq name (codes "ls") then option_map ImageParsed (ls_in rows)
+    else if bytes_eq name (codes "cat") then option_map ImageParsed (cat_in rows)
+    else if bytes_eq name (codes "build") then option_map ImageParsed (build_in rows)
+    else if bytes_eq name (codes "append") then option_map ImageParsed (append_in rows)
+    else if bytes_eq name (codes "extract") then extract_in rows
+    else if bytes_eq name (codes "listing") then listing_in rows
     else None
 
-abbrev pub parsed_by : Option (Text × List Row) → Option Parsed
+abbrev pub parsed_by : Option (Text × List Row) → Option TaskParsed
 parsed_by (Some p) = parsed p.0 p.1
 parsed_by None = None
 
 -- what the words ask for, by clap's matches of them
-unfoldable pub parsed_from : List Text → Option Parsed
+unfoldable pub parsed_from : List Text → Option TaskParsed
 parsed_from args = parsed_by (subcommand_of program args)
 
 -- ---- words that ask for nothing

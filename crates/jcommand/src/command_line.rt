@@ -2,12 +2,12 @@
 ghost use Rattle.std.specs.Prelude.{◌≡◌, ◌≢◌, ◌⊎◌, [], true, map, IfOk, IfErr, IsSome, OnOk, Some, option_map};
 ghost use Rattle.clap.specs.Words.{HasKind, fault_of, kind_of, subcommand_of, subcommand_rows_of, takes};
 ghost use Rattle.jcommand.specs.Commands.{program};
-ghost use Rattle.jcommand.specs.Parsed.{view, parsed_by, parsed_from, is_taken, IsFaultless, IsHelpRequested, IsHelpKind, IsRefusedByClap, IsUnreadable};
+ghost use Rattle.jcommand.specs.Parsed.{task_view, parsed_by, parsed_from, is_taken, IsFaultless, IsHelpRequested, IsHelpKind, IsRefusedByClap, IsUnreadable};
 ghost use Rattle.jcommand.specs.Refused.{IsHelp, IsUsage};
 ghost use Rattle.jcommand.specs.declared.command_line.RequestFault.TheVariants.{OutOfMemory};
 
 use crate::commands::make_program;
-use crate::parsed::{Request, endian, number, page, parsed_of, text_at};
+use crate::parsed::{Task, endian, number, owner_number, page, parsed_of, text_at, texts_at};
 use clap::error::ErrorKind;
 use clap::{ArgMatches, Error};
 use std::alloc::{AllocError, Global};
@@ -75,15 +75,31 @@ fn matched<'a>(alloc: Global, args: &'a [&'a str]) -> Result<ArgMatches<'a>, Req
     }
 }
 
-fn parsed_in<'a>(matches: &ArgMatches<'a>) -> Option<Request<'a>>
-    ensures { option_map view result ≡ parsed_by (subcommand_rows_of matches.now) }
+fn parsed_in<'a>(matches: &ArgMatches<'a>) -> Option<Task<'a>>
+    ensures { option_map task_view result ≡ parsed_by (subcommand_rows_of matches.now) }
 {
     let (name, found) = matches.subcommand()?;
     parsed_of(name, found)
 }
 
+/// Of a subcommand that reads a folder, the first value that can't be read, its option, and what is wanted there.
+fn unreadable_setting<'a>(found: &ArgMatches<'a>) -> (&'a str, &'a str, &'a str) {
+    let wanted = "two numbers in decimal digits, below 65536";
+    for value in texts_at(found, "owner").unwrap_or(&[]) {
+        if owner_number(value).is_none() {
+            return (value, "--owner <UID> <GID>", wanted);
+        }
+    }
+    let time = text_at(found, "time").unwrap_or("");
+    let wanted = "a number of seconds in decimal digits, below 4294967296";
+    (time, "--time <T>", wanted)
+}
+
 /// The first value that can't be read, its option, and what is wanted there.
-fn unreadable_value<'a>(found: &ArgMatches<'a>) -> (&'a str, &'a str, &'a str) {
+fn unreadable_value<'a>(name: &str, found: &ArgMatches<'a>) -> (&'a str, &'a str, &'a str) {
+    if name == "listing" {
+        return unreadable_setting(found);
+    }
     let block = text_at(found, "block").unwrap_or("");
     if number(block).is_none() {
         let wanted = "a number of bytes in decimal digits, below 4294967296";
@@ -107,7 +123,7 @@ fn unreadable(alloc: Global, matches: &ArgMatches<'_>) -> Result<String, AllocEr
     let Some((name, found)) = matches.subcommand() else {
         return String::from_str(alloc, "error: no subcommand; try '--help'\n");
     };
-    let (value, option, wanted) = unreadable_value(found);
+    let (value, option, wanted) = unreadable_value(name, found);
     format!(in alloc;
         "error: invalid value '{value}' for '{option}': wanted {wanted}\n\n\
          For more information, try 'jffs2_image {name} --help'.\n"
@@ -116,9 +132,9 @@ fn unreadable(alloc: Global, matches: &ArgMatches<'_>) -> Result<String, AllocEr
 
 /// What the words of a command line ask for. The first word is the program's own name.
 #[tactic(auto, unfolding(crate::specs::Parsed::parsed_from, crate::specs::Parsed::is_taken, crate::specs::Parsed::IsFaultless, crate::specs::Parsed::IsUnreadable))]
-pub fn request<'a>(alloc: Global, args: &'a [&'a str]) -> Result<Request<'a>, RequestFault>
+pub fn task<'a>(alloc: Global, args: &'a [&'a str]) -> Result<Task<'a>, RequestFault>
     // The subcommand and its values are clap's own function of the words.
-    ensures ok { IfOk result (λ r. parsed_from (map (λ w. w.now) args.entry.now) ≡ Some (view r)) }
+    ensures ok { IfOk result (λ r. parsed_from (map (λ w. w.now) args.entry.now) ≡ Some (task_view r)) }
 
     // Words that clap refuses, or answers by help, ask for nothing.
     ensures faultless { OnOk result (IsFaultless (map (λ w. w.now) args.entry.now)) }
@@ -136,7 +152,7 @@ pub fn request<'a>(alloc: Global, args: &'a [&'a str]) -> Result<Request<'a>, Re
 {
     let matches = matched(alloc, args)?;
     match parsed_in(&matches) {
-        Some(request) => Ok(request),
+        Some(task) => Ok(task),
         None => Err(usage(unreadable(alloc, &matches))),
     }
 }

@@ -1,7 +1,7 @@
 //! The command line, built with clap: the program, its subcommands, and the words that each one takes.
 ghost use Rattle.std.specs.Prelude.{◌≡◌, Ok};
 ghost use Rattle.clap.specs.Words.{App, Rule, new_app, with_rule, with_subcommand};
-ghost use Rattle.jcommand.specs.Commands.{IsApp, IsRule, MakesApp, word, option_or, required_option, flag, plain, writer, check_app, ls_app, cat_app, build_app, append_app, bare, program};
+ghost use Rattle.jcommand.specs.Commands.{IsApp, IsRule, MakesApp, word, option_or, required_option, option_of, option_of_two, flag, plain, writer, check_app, ls_app, cat_app, build_app, append_app, extract_app, listing_app, bare, program};
 
 use crate::help;
 use clap::{Arg, ArgAction, Command};
@@ -45,6 +45,25 @@ fn make_required_option<'a>(alloc: Global, id: &'a str, value: &'a str, help: &'
         .value_name(value)
         .required(true)
         .help(help)
+}
+
+/// An option with a value that may be left out, and has none then.
+fn make_optional<'a>(alloc: Global, id: &'a str, value: &'a str, help: &'a str) -> Arg<'a>
+    ensures { IsRule result (option_of id.now) }
+{
+    Arg::new(alloc, id).long(id).value_name(value).help(help)
+}
+
+/// The same with two values.
+fn make_optional_two<'a>(
+    alloc: Global,
+    id: &'a str,
+    values: &'a [&'a str; 2],
+    help: &'a str,
+) -> Arg<'a>
+    ensures { IsRule result (option_of_two id.now) }
+{
+    Arg::new(alloc, id).long(id).value_names(values).help(help)
 }
 
 /// A flag that may be left out.
@@ -147,6 +166,34 @@ fn make_append<'a>(alloc: Global) -> Made<'a>
     add_arg(add_arg(add_arg(command, image), listing), output)
 }
 
+fn make_extract<'a>(alloc: Global) -> Made<'a>
+    ensures { MakesApp result extract_app }
+{
+    let owners = make_flag(alloc, "owners", help::OWNERS);
+    let quiet = make_flag(alloc, "quiet", help::QUIET);
+    let image = make_word(alloc, "IMAGE", help::IMAGE);
+    let folder = make_word(alloc, "DIR", help::NEW_FOLDER);
+    let command = make_plain(alloc, "extract", help::EXTRACT, help::EXTRACT_EPILOGUE);
+    add_arg(
+        add_arg(add_arg(add_arg(command, owners), quiet), image),
+        folder,
+    )
+}
+
+fn make_listing<'a>(alloc: Global) -> Made<'a>
+    ensures { MakesApp result listing_app }
+{
+    let owner = make_optional_two(alloc, "owner", &["UID", "GID"], help::OWNER);
+    let time = make_optional(alloc, "time", "T", help::TIME);
+    let quiet = make_flag(alloc, "quiet", help::QUIET);
+    let folder = make_word(alloc, "DIR", help::FOLDER);
+    let command = make_named(alloc, "listing", help::LISTING_OF, help::LISTING_EPILOGUE);
+    add_arg(
+        add_arg(add_arg(add_arg(Ok(command), owner), time), quiet),
+        folder,
+    )
+}
+
 /// The program without its subcommands.
 fn make_bare<'a>(alloc: Global) -> Command<'a>
     ensures { IsApp result bare }
@@ -164,5 +211,7 @@ pub(crate) fn make_program<'a>(alloc: Global) -> Made<'a>
     let command = add_subcommand(command, make_ls(alloc));
     let command = add_subcommand(command, make_cat(alloc));
     let command = add_subcommand(command, make_build(alloc));
-    add_subcommand(command, make_append(alloc))
+    let command = add_subcommand(command, make_append(alloc));
+    let command = add_subcommand(command, make_extract(alloc));
+    add_subcommand(command, make_listing(alloc))
 }

@@ -15,6 +15,10 @@ pub(crate) const BUILD: &str = "Make an image by a listing of operations";
 
 pub(crate) const APPEND: &str = "Copy an image, and extend the copy by a listing of operations";
 
+pub(crate) const EXTRACT: &str = "Write the tree of an image into a new folder of this host";
+
+pub(crate) const LISTING_OF: &str = "Print the listing that builds a folder of this host";
+
 pub(crate) const BLOCK: &str = "Size of a block in bytes: a multiple of 4 from 4096 to 4194304";
 
 pub(crate) const ENDIAN: &str = "Byte order of the image: little or big";
@@ -35,12 +39,25 @@ pub(crate) const PATH: &str =
 
 pub(crate) const LISTING: &str = "File with the operations, a line each";
 
+pub(crate) const FOLDER: &str = "Folder that is read";
+
+pub(crate) const NEW_FOLDER: &str = "Folder that is made, which must not be there yet";
+
+pub(crate) const OWNERS: &str = "Give what is made the owners that it has in the image";
+
+pub(crate) const OWNER: &str = "Owner and group of everything, in place of those of the folder";
+
+pub(crate) const TIME: &str =
+    "Time of everything, in seconds since 1970, in place of those of the folder";
+
+pub(crate) const QUIET: &str = "Tell no progress";
+
 pub(crate) const OUT: &str = "File that is made, or written over, with the bytes of the flash";
 
 /// What is at the end of the program's help.
 pub(crate) const EPILOGUE: &str = "\
-Each command takes --block, the size of an erase block, and --endian, the byte order.
-build and append need --blocks too, the number of blocks; the others only read.
+Each command but listing takes --block, the size of an erase block, and --endian, the
+byte order. build and append need --blocks too, the number of blocks; the others only read.
 'jffs2_image help build' tells what a listing is, 'jffs2_image help check' what check
 prints, and so for the others.
 
@@ -50,12 +67,14 @@ Examples:
   jffs2_image cat --endian big flash.img /etc/passwd
   jffs2_image build --blocks 64 tree.txt flash.img
   jffs2_image append --blocks 64 flash.img more.txt new.img
+  jffs2_image extract flash.img tree
+  jffs2_image listing tree > tree.txt
 
 Exit status:
   0  done, and nothing was found
   1  a fault, which standard error names
   2  the command line is wrong
-  3  check found something
+  3  check found something, or extract or listing left something out
 
 A fault is one line, as 'jffs2_image: M6 RootKind'. Its letter says what gave up: C the
 report, L reading a file, M the mount, S the session that writes, P the program. P2 is a
@@ -193,3 +212,47 @@ Exit status:
   0  done
   1  a fault, which standard error names
   2  the command line is wrong";
+
+pub(crate) const EXTRACT_EPILOGUE: &str = "\
+DIR is made, and in it each directory, regular file and symlink of the image, with its
+permissions and times; --owners gives owners too, for which this host asks a privilege.
+A further name of a file becomes a hard link. Symlinks are made and never followed.
+
+Whatever the image says, nothing is made outside DIR: each thing is made anew, below
+directories that were made before it. What this host can't hold is left out, each with a
+line 'left out PATH: REASON' on standard error: devices, FIFOs and sockets, names that are
+no text, that are . or .. or have a slash or a zero byte, directories that were met
+before, and what the host refuses. The rest goes on.
+
+Example:
+  jffs2_image extract --block 131072 flash.img tree
+
+Exit status:
+  0  done, and nothing was left out
+  1  a fault, which standard error names
+  2  the command line is wrong
+  3  something was left out";
+
+pub(crate) const LISTING_EPILOGUE: &str = "\
+The listing goes to standard output. 'jffs2_image build' reads it, and 'jffs2_image help
+build' tells what it means. Names are in byte order, so one folder has one listing, which
+can be edited and kept. The content of a file is not in it: a line 'part' names the file,
+from the working directory where DIR is no path from /. A file whose path has a space or
+a line feed, which no such line can name, has its bytes in lines 'write'.
+
+Hard links become lines 'link'. Symlinks are never followed. With --owner and --time the
+listing is the same whoever makes it and whenever. What a listing can't say is left out,
+each with a line 'left out PATH: REASON' on standard error: sockets, FIFOs and devices,
+names above 254 bytes or that are no text, files above 2147483647 bytes, owners above
+65535 and times that 32 bits do not hold. The rest goes on.
+
+Examples:
+  jffs2_image listing tree > tree.txt
+  jffs2_image listing --owner 0 0 --time 1000000000 tree > tree.txt
+  jffs2_image build --blocks 64 tree.txt flash.img
+
+Exit status:
+  0  done, and nothing was left out
+  1  a fault, which standard error names
+  2  the command line is wrong
+  3  something was left out";

@@ -1,9 +1,9 @@
 //! Worked examples of the definitions that the contracts cite.
 ghost use Rattle.std.specs.Prelude.{◌≡◌, true, false, [], ◌∷◌, Some, None, codes};
 ghost use Rattle.clap.specs.Words.{fault_of};
-ghost use Rattle.clap.specs.declared.error.ErrorKind.TheVariants.{DisplayHelp, DisplayVersion, MissingSubcommand, MissingRequiredArgument, UnknownArgument};
+ghost use Rattle.clap.specs.declared.error.ErrorKind.TheVariants.{DisplayHelp, DisplayVersion, MissingSubcommand, MissingRequiredArgument, UnknownArgument, WrongNumberOfValues};
 ghost use Rattle.jnode.specs.declared.order.Endian.TheVariants.{Little, Big};
-ghost use Rattle.jcommand.specs.Parsed.{ScanParsed, CheckParsed, ListParsed, CatParsed, BuildParsed, AppendParsed, parsed_from, endian_of, number_of, page_of};
+ghost use Rattle.jcommand.specs.Parsed.{ScanParsed, CheckParsed, ListParsed, CatParsed, BuildParsed, AppendParsed, ImageParsed, ExtractParsed, ListingParsed, parsed_from, endian_of, number_of, owner_of, page_of};
 ghost use Rattle.jsteps.specs.declared.page.Page.TheVariants.{P4096, P8192, P16384};
 ghost use Rattle.jcommand.specs.Commands.{program};
 
@@ -20,26 +20,34 @@ pub fn known_values()
     ensures page { page_of (codes "8192") ≡ Some P8192 }
     ensures padded_page { page_of (codes "08192") ≡ None }
     ensures other_page { page_of (codes "32768") ≡ None }
+    ensures owner { owner_of (codes "1000" ∷ codes "65535" ∷ []) ≡ Some (record { uid = 1000; gid = 65535 }) }
+    ensures past_owner { owner_of (codes "0" ∷ codes "65536" ∷ []) ≡ None }
 {}
 
 /// What words ask for.
 pub fn known_requests()
     ensures defaults { parsed_from (codes "jffs2_image" ∷ codes "check" ∷ codes "--scan" ∷ codes "a" ∷ [])
-        ≡ Some (ScanParsed (record { geometry = record { block = 65536 }; endian = Little }) (codes "a")) }
+        ≡ Some (ImageParsed (ScanParsed (record { geometry = record { block = 65536 }; endian = Little }) (codes "a"))) }
     ensures given { parsed_from (codes "jffs2_image" ∷ codes "check" ∷ codes "--block" ∷ codes "4096" ∷ codes "--endian=big"
         ∷ codes "a" ∷ [])
-        ≡ Some (CheckParsed (record { geometry = record { block = 4096 }; endian = Big }) false (codes "a")) }
+        ≡ Some (ImageParsed (CheckParsed (record { geometry = record { block = 4096 }; endian = Big }) false (codes "a"))) }
     ensures shape { parsed_from (codes "jffs2_image" ∷ codes "check" ∷ codes "--shape" ∷ codes "a" ∷ [])
-        ≡ Some (CheckParsed (record { geometry = record { block = 65536 }; endian = Little }) true (codes "a")) }
+        ≡ Some (ImageParsed (CheckParsed (record { geometry = record { block = 65536 }; endian = Little }) true (codes "a"))) }
     ensures tree { parsed_from (codes "jffs2_image" ∷ codes "ls" ∷ codes "a" ∷ codes "--block=8192" ∷ [])
-        ≡ Some (ListParsed (record { geometry = record { block = 8192 }; endian = Little }) (codes "a")) }
+        ≡ Some (ImageParsed (ListParsed (record { geometry = record { block = 8192 }; endian = Little }) (codes "a"))) }
     ensures content { parsed_from (codes "jffs2_image" ∷ codes "cat" ∷ codes "a" ∷ codes "/b" ∷ [])
-        ≡ Some (CatParsed (record { geometry = record { block = 65536 }; endian = Little }) (codes "a") (codes "/b")) }
+        ≡ Some (ImageParsed (CatParsed (record { geometry = record { block = 65536 }; endian = Little }) (codes "a") (codes "/b"))) }
     ensures made { parsed_from (codes "jffs2_image" ∷ codes "build" ∷ codes "--blocks" ∷ codes "2" ∷ codes "a" ∷ codes "b" ∷ [])
-        ≡ Some (BuildParsed (record { geometry = record { block = 65536 }; endian = Little }) 2 P4096 (codes "a") (codes "b")) }
+        ≡ Some (ImageParsed (BuildParsed (record { geometry = record { block = 65536 }; endian = Little }) 2 P4096 (codes "a") (codes "b"))) }
     ensures extended { parsed_from (codes "jffs2_image" ∷ codes "append" ∷ codes "a" ∷ codes "--block" ∷ codes "8192" ∷ codes "b"
         ∷ codes "--endian=big" ∷ codes "--page=16384" ∷ codes "c" ∷ codes "--blocks=3" ∷ [])
-        ≡ Some (AppendParsed (record { geometry = record { block = 8192 }; endian = Big }) 3 P16384 (codes "a") (codes "b") (codes "c")) }
+        ≡ Some (ImageParsed (AppendParsed (record { geometry = record { block = 8192 }; endian = Big }) 3 P16384 (codes "a") (codes "b") (codes "c"))) }
+    ensures extracted { parsed_from (codes "jffs2_image" ∷ codes "extract" ∷ codes "--owners" ∷ codes "a" ∷ codes "b" ∷ [])
+        ≡ Some (ExtractParsed (record { geometry = record { block = 65536 }; endian = Little }) true false (codes "a") (codes "b")) }
+    ensures listed { parsed_from (codes "jffs2_image" ∷ codes "listing" ∷ codes "--quiet" ∷ codes "a" ∷ [])
+        ≡ Some (ListingParsed None None true (codes "a")) }
+    ensures listed_for { parsed_from (codes "jffs2_image" ∷ codes "listing" ∷ codes "--owner" ∷ codes "0" ∷ codes "7" ∷ codes "--time=9" ∷ codes "a" ∷ [])
+        ≡ Some (ListingParsed (Some (record { uid = 0; gid = 7 })) (Some 9) false (codes "a")) }
 {}
 
 /// Words that ask for nothing.
@@ -55,6 +63,8 @@ pub fn known_refusals()
         ≡ MissingRequiredArgument ∷ [] }
     ensures not_of_cat { fault_of program (codes "jffs2_image" ∷ codes "cat" ∷ codes "--blocks=2" ∷ codes "a" ∷ codes "/b" ∷ [])
         ≡ UnknownArgument ∷ [] }
+    ensures one_owner { fault_of program (codes "jffs2_image" ∷ codes "listing" ∷ codes "a" ∷ codes "--owner" ∷ codes "1" ∷ []) ≡ WrongNumberOfValues ∷ [] }
+    ensures no_folder { fault_of program (codes "jffs2_image" ∷ codes "extract" ∷ codes "a" ∷ []) ≡ MissingRequiredArgument ∷ [] }
     ensures unreadable_blocks { parsed_from (codes "jffs2_image" ∷ codes "build" ∷ codes "--blocks=x" ∷ codes "a" ∷ codes "b" ∷ []) ≡ None }
     ensures unreadable { parsed_from (codes "jffs2_image" ∷ codes "check" ∷ codes "--block=x" ∷ codes "--scan" ∷ codes "a" ∷ []) ≡ None }
 {}

@@ -1,7 +1,7 @@
 //! What the matches of the program's command line ask for.
-ghost use Rattle.std.specs.Prelude.{◌≡◌, option_map};
-ghost use Rattle.clap.specs.Words.{found_of, rows_of, first_of};
-ghost use Rattle.jcommand.specs.Parsed.{number_of, endian_of, page_of, number_option, options_in, image_in, is_given, check_in, ls_in, cat_in, writing_in, build_in, append_in, parsed, options_of, view};
+ghost use Rattle.std.specs.Prelude.{◌≡◌, codes, map, option_map};
+ghost use Rattle.clap.specs.Words.{found_of, rows_of, all_of, first_of};
+ghost use Rattle.jcommand.specs.Parsed.{number_of, endian_of, page_of, number_option, options_in, image_in, is_given, check_in, ls_in, cat_in, writing_in, build_in, append_in, extract_in, listing_in, owner_number, owner_of, if_given, parsed, options_of, task_view, view};
 
 use clap::ArgMatches;
 use jnode::Endian;
@@ -13,6 +13,13 @@ use jsteps::Page;
 pub struct Options {
     pub geometry: Geometry,
     pub endian: Endian,
+}
+
+/// The user and the group that own what a folder holds.
+#[derive(Clone, Copy)]
+pub struct Owner {
+    pub uid: u16,
+    pub gid: u16,
 }
 
 /// A subcommand with its values.
@@ -75,6 +82,28 @@ impl Request<'_> {
     }
 }
 
+/// What is asked for.
+#[derive(Clone, Copy)]
+pub enum Task<'a> {
+    /// Of an image alone.
+    Image(Request<'a>),
+    /// `extract`: the tree of an image in a new folder of the host; with `--owners`, its owners too.
+    Extract {
+        options: Options,
+        owners: bool,
+        quiet: bool,
+        image: &'a str,
+        folder: &'a str,
+    },
+    /// `listing`: the listing that builds a folder of the host, with one owner or one time for all of it where they are given.
+    Listing {
+        owner: Option<Owner>,
+        time: Option<u32>,
+        quiet: bool,
+        folder: &'a str,
+    },
+}
+
 /// A number below 2^32 in decimal digits.
 pub(crate) fn number(text: &str) -> Option<u32>
     ensures { result ≡ number_of text.now }
@@ -117,6 +146,14 @@ pub(crate) fn page(text: &str) -> Option<Page>
         "16384" => Some(Page::P16384),
         _ => None,
     }
+}
+
+/// The number of a user or a group.
+pub(crate) fn owner_number(text: &str) -> Option<u16>
+    ensures { result ≡ owner_number text.now }
+{
+    let n = number(text)?;
+    if n > 65535 { None } else { Some(n as u16) }
 }
 
 /// The value of an option or a word.
@@ -236,17 +273,87 @@ fn append_at<'a>(found: &ArgMatches<'a>) -> Option<Request<'a>>
     })
 }
 
+fn extract_at<'a>(found: &ArgMatches<'a>) -> Option<Task<'a>>
+    ensures { option_map task_view result ≡ extract_in (rows_of (found_of found.now)) }
+{
+    let (options, image) = image_at(found)?;
+    let folder = text_at(found, "DIR")?;
+    Some(Task::Extract {
+        options,
+        owners: is_given(found, "owners"),
+        quiet: is_given(found, "quiet"),
+        image,
+        folder,
+    })
+}
+
+/// The values of an option, if it is given.
+pub(crate) fn texts_at<'f, 'a>(found: &'f ArgMatches<'a>, id: &str) -> Option<&'f [&'a str]>
+    ensures { option_map (λ s. map (λ v. v.now) s.now) result ≡ all_of id.now (rows_of (found_of found.now)) }
+{
+    found.get_strs(id)
+}
+
+/// An owner by its two numbers.
+fn owner_from(numbers: &[&str]) -> Option<Owner>
+    ensures { result ≡ owner_of (map (λ n. n.now) numbers.now) }
+{
+    match numbers {
+        [uid, gid] => Some(Owner {
+            uid: owner_number(uid)?,
+            gid: owner_number(gid)?,
+        }),
+        _ => None,
+    }
+}
+
+/// The owner, where one is given.
+fn owner_at(found: &ArgMatches<'_>) -> Option<Option<Owner>>
+    ensures { result ≡ if_given (all_of (codes "owner") (rows_of (found_of found.now))) owner_of }
+{
+    match texts_at(found, "owner") {
+        None => Some(None),
+        Some(numbers) => Some(Some(owner_from(numbers)?)),
+    }
+}
+
+/// The time, where one is given.
+fn time_at(found: &ArgMatches<'_>) -> Option<Option<u32>>
+    ensures { result ≡ if_given (first_of (codes "time") (rows_of (found_of found.now))) number_of }
+{
+    match text_at(found, "time") {
+        None => Some(None),
+        Some(text) => Some(Some(number(text)?)),
+    }
+}
+
+fn listing_at<'a>(found: &ArgMatches<'a>) -> Option<Task<'a>>
+    ensures { option_map task_view result ≡ listing_in (rows_of (found_of found.now)) }
+{
+    let owner = owner_at(found)?;
+    let time = time_at(found)?;
+    let folder = text_at(found, "DIR")?;
+    Some(Task::Listing {
+        owner,
+        time,
+        quiet: is_given(found, "quiet"),
+        folder,
+    })
+}
+
 /// What the subcommand asks for, or nothing where a value can't be read.
 #[tactic(auto, unfolding(crate::specs::Parsed::parsed))]
-pub(crate) fn parsed_of<'a>(name: &str, found: &ArgMatches<'a>) -> Option<Request<'a>>
-    ensures { option_map view result ≡ parsed name.now (rows_of (found_of found.now)) }
+pub(crate) fn parsed_of<'a>(name: &str, found: &ArgMatches<'a>) -> Option<Task<'a>>
+    ensures { option_map task_view result ≡ parsed name.now (rows_of (found_of found.now)) }
 {
     match name {
-        "check" => check_at(found),
-        "ls" => ls_at(found),
-        "cat" => cat_at(found),
-        "build" => build_at(found),
-        "append" => append_at(found),
+        "check" => Some(Task::Image(check_at(found)?)),
+        "ls" => Some(Task::Image(ls_at(found)?)),
+        "cat" => Some(Task::Image(cat_at(found)?)),
+        "build" => Some(Task::Image(build_at(found)?)),
+        "append" => Some(Task::Image(append_at(found)?)),
+        "extract" => extract_at(found),
+        "listing" => listing_at(found),
         _ => None,
     }
 }

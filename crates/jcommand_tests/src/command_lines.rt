@@ -1,7 +1,7 @@
 //! Command lines with what they ask for or are answered. The words of a line are between spaces, and the first is the
 //! program's own name.
 
-use jcommand::{Options, Outcome, Request, RequestFault, request, status};
+use jcommand::{Options, Outcome, Owner, Request, RequestFault, Task, status, task};
 use jnode::Endian;
 use std::alloc::{AllocError, Global};
 use std::test::Fail;
@@ -49,17 +49,45 @@ fn shown(alloc: Global, request: Request<'_>) -> Result<String, AllocError> {
     }
 }
 
-/// The request that the words make, or `help` or `wrong` and the text that answers them.
+/// A task of a folder in the same way.
+fn shown_task(alloc: Global, task: Task<'_>) -> Result<String, AllocError> {
+    match task {
+        Task::Image(request) => shown(alloc, request),
+        Task::Extract {
+            options,
+            owners,
+            quiet,
+            image,
+            folder,
+        } => {
+            let block = options.geometry.block;
+            let is_big = options.endian == Endian::Big;
+            format!(in alloc; "extract {block} {is_big} {owners} {quiet} {image} {folder}")
+        }
+        Task::Listing {
+            owner,
+            time,
+            quiet,
+            folder,
+        } => {
+            let Owner { uid, gid } = owner.unwrap_or(Owner { uid: 1, gid: 1 });
+            let time = time.unwrap_or(1);
+            format!(in alloc; "listing {uid} {gid} {time} {quiet} {folder}")
+        }
+    }
+}
+
+/// What the words ask for, or `help` or `wrong` and the text that answers them.
 fn answer(alloc: Global, args: &[&str]) -> Result<String, AllocError> {
-    match request(alloc, args) {
-        Ok(request) => shown(alloc, request),
+    match task(alloc, args) {
+        Ok(task) => shown_task(alloc, task),
         Err(RequestFault::Help { text }) => format!(in alloc; "help {text}"),
         Err(RequestFault::Usage { text }) => format!(in alloc; "wrong {text}"),
         Err(RequestFault::OutOfMemory) => String::from_str(alloc, "no memory"),
     }
 }
 
-fn answer_to(alloc: Global, line: &str) -> Result<String, AllocError> {
+pub fn answer_to(alloc: Global, line: &str) -> Result<String, AllocError> {
     let args: Vec<&str> = line.split_whitespace().collect(alloc)?;
     answer(alloc, args.as_slice())
 }

@@ -1,10 +1,10 @@
 //! A growth that is refused is told as such.
 
-use jcommand::{Request, RequestFault, request};
+use jcommand::{Request, RequestFault, Task, task};
 use std::alloc::Global;
 
 /// Words, and what they ask for.
-const LINES: [(&[&str], &str); 7] = [
+const LINES: [(&[&str], &str); 9] = [
     (&["t", "check", "--scan", "--block=4096", "a.img"], "scan"),
     (&["t", "check", "--endian", "big", "a.img"], "check"),
     (&["t", "ls", "a.img"], "ls"),
@@ -13,19 +13,26 @@ const LINES: [(&[&str], &str); 7] = [
         &["t", "append", "a.img", "b.txt", "c.img", "--blocks=8"],
         "append",
     ),
+    (&["t", "extract", "--owners", "a.img", "b"], "extract"),
+    (
+        &["t", "listing", "--owner", "1", "2", "--time=3", "a"],
+        "listing",
+    ),
     (&["t", "check", "--help"], "help"),
     (&["t", "check", "--block", "x", "a.img"], "wrong"),
 ];
 
 /// What the words ask for.
 fn asked(alloc: Global, words: &[&str]) -> &'static str {
-    match request(alloc, words) {
-        Ok(Request::Scan { .. }) => "scan",
-        Ok(Request::Check { .. }) => "check",
-        Ok(Request::List { .. }) => "ls",
-        Ok(Request::Cat { .. }) => "cat",
-        Ok(Request::Build { .. }) => "build",
-        Ok(Request::Append { .. }) => "append",
+    match task(alloc, words) {
+        Ok(Task::Image(Request::Scan { .. })) => "scan",
+        Ok(Task::Image(Request::Check { .. })) => "check",
+        Ok(Task::Image(Request::List { .. })) => "ls",
+        Ok(Task::Image(Request::Cat { .. })) => "cat",
+        Ok(Task::Image(Request::Build { .. })) => "build",
+        Ok(Task::Image(Request::Append { .. })) => "append",
+        Ok(Task::Extract { .. }) => "extract",
+        Ok(Task::Listing { .. }) => "listing",
         Err(RequestFault::Help { .. }) => "help",
         Err(RequestFault::Usage { .. }) => "wrong",
         Err(RequestFault::OutOfMemory) => "no memory",

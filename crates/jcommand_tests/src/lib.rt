@@ -3,5 +3,6 @@
 
 #[cfg(test)]
 mod command_lines;
+mod folders;
 #[cfg(test)]
 mod growth;

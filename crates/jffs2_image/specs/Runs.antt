@@ -13,7 +13,7 @@ use Rattle.jreport.specs.Stream.{PutsStream}
 use Rattle.jreport.specs.Paths.{path_of}
 use Rattle.jreport.specs.declared.faults.ProgramFault.{ProgramFault}
 use Rattle.jreport.specs.declared.faults.ProgramFault.TheVariants as program
-use Rattle.jcommand.specs.Parsed.{Parsed, ScanParsed, CheckParsed, ListParsed, CatParsed, BuildParsed, AppendParsed, IsFaultless, IsHelpRequested, IsRefusedByClap, IsUnreadable, parsed_from, view}
+use Rattle.jcommand.specs.Parsed.{Parsed, ScanParsed, CheckParsed, ListParsed, CatParsed, BuildParsed, AppendParsed, ImageParsed, IsFaultless, IsHelpRequested, IsRefusedByClap, IsUnreadable, parsed_from, view}
 use Rattle.jcommand.specs.declared.parsed.Options.{Options}
 use Rattle.jcommand.specs.declared.parsed.Request.{Request}
 use Rattle.jcommand.specs.declared.command_line.RequestFault.{RequestFault}
@@ -131,7 +131,7 @@ MeetsCommand _ old given before now _ = ⊥
 
 -- what the words make of a command line
 abbrev pub IsCommand : List (List ℕ) → Result Request RequestFault → Type 0
-IsCommand args (Ok request) = (parsed_from args ≡ Some (view request)) × IsFaultless args
+IsCommand args (Ok request) = (parsed_from args ≡ Some (ImageParsed (view request))) × IsFaultless args
 IsCommand args (Err (refused.Help text)) = IsHelpRequested args
 IsCommand args (Err (refused.Usage text)) = IsRefusedByClap args ⊎ IsUnreadable args
 IsCommand args (Err refused.OutOfMemory) = Unit {0}
@@ -158,11 +158,9 @@ abbrev pub Says : Type 0 → Option (List ℕ) → Option (List ℕ) → ℕ →
 Says untouched old new before now None = untouched
 Says untouched old new before now (Some text) = now ≡ before → Appends old new text
 
--- A run on these words: what they make of a command line, what that is answered, and how it ends.
-pub record Runs (args : List (List ℕ)) (old given : Option (List ℕ)) (before now : ℕ) (says : Option (List ℕ) → Type 0) (result : Outcome) : Type 0 where
-  pub command : Result Request RequestFault
+-- A run of a command line that asks for no folder: what it is answered, and how it ends.
+pub record RunsCommand (command : Result Request RequestFault) (old given : Option (List ℕ)) (before now : ℕ) (says : Option (List ℕ) → Type 0) (result : Outcome) : Type 0 where
   pub answer : Result Success Stop
-  pub is : IsCommand args command
   pub meets : MeetsCommand command old given before now answer
   pub ends : result ≡ outcome_after answer
   pub said : says (said_after answer)

@@ -4,9 +4,11 @@
 //! images by `jbuild`. `main` hands over the process's arguments and streams.
 #![tactic(auto)]
 
+pub mod folders;
 pub mod host;
 pub mod output;
 pub mod program;
+pub mod system;
 pub mod writing;
 
 use flashbase::FromWriter;
@@ -15,8 +17,9 @@ use jcommand::{Outcome, status};
 use jreport::ProgramFault;
 use output::BufferedOutput;
 use program::{report_fault, report_usage};
+use system::SystemFolders;
 use std::alloc::{AllocError, Global};
-use std::io::ErrorKind;
+use std::io::{ErrorKind, IsTerminal};
 use std::process::ExitCode;
 use std::rt::Env;
 use std::{env, io};
@@ -53,10 +56,12 @@ fn run(rt: &HostRuntime) -> Outcome {
     };
     let mut loader = FileLoader::new(rt);
     let mut maker = FileMaker::new(rt);
+    let mut folders = SystemFolders::new(rt, rt.stderr().is_terminal());
     program::run(
         rt,
         &mut loader,
         &mut maker,
+        &mut folders,
         texts.as_slice(),
         &mut output,
         &mut errors,

@@ -4,14 +4,16 @@ ghost use Rattle.std.specs.Io.KnownBytes.{Appends};
 ghost use Rattle.jcommand.specs.Parsed.{Parsed, ScanParsed, CheckParsed, ListParsed, CatParsed, BuildParsed, AppendParsed, options_of, view};
 ghost use Rattle.jreport.specs.Faults.{fault_line_of};
 ghost use Rattle.jffs2_image.specs.Host.{Blames, BlamesCommand, BlamesFor};
-ghost use Rattle.jffs2_image.specs.Runs.{HasFailed, Meets, MeetsCommand, MeetsWhole, Runs, Says, note_after, success_of};
+ghost use Rattle.jffs2_image.specs.FolderRuns.{RunsExtract, RunsListing, RunsTask};
+ghost use Rattle.jffs2_image.specs.Runs.{HasFailed, IsCommand, Meets, MeetsCommand, MeetsWhole, RunsCommand, Says, note_after, success_of};
 
+use crate::folders::{Folders, run_extract, run_listing};
 use crate::host::{Loader, Maker};
 use crate::output::Output;
 use crate::writing::{Target, load_file, write_image};
 use byteorder::{BigEndian, LittleEndian};
 use flashbase::{FromReader, Sink, put_all};
-use jcommand::{Options, Outcome, Request, RequestFault, request};
+use jcommand::{Options, Outcome, Request, RequestFault, Task, task};
 use jnode::{Endian, Order};
 use jreport::{
     ProgramFault, check_lines, fault_line, file_bytes, list_lines, note_line, path_word,
@@ -332,7 +334,7 @@ pub fn report_usage<E: Sink>(text: &str, errors: &mut E) -> Outcome
 }
 
 /// Notes that an image that was shown has findings.
-fn note<E: Sink>(findings: u64, errors: &mut E) -> Outcome
+pub fn note<E: Sink>(findings: u64, errors: &mut E) -> Outcome
     ensures done { result ≡ Outcome.Done }
     ensures noted { Says (errors.new ≡ errors.old) (E.taken errors.old) (E.taken errors.new) (E.failures errors.old) (E.failures errors.new) (note_after findings) }
 {
@@ -342,37 +344,71 @@ fn note<E: Sink>(findings: u64, errors: &mut E) -> Outcome
     Outcome::Done
 }
 
-/// Runs the program on its arguments, of which the first is its own name.
-pub fn run<R: Files + AllocGlobal, L: Loader, M: Maker, T: Output, E: Sink>(
+/// Runs a command line that asks for no folder.
+fn run_image<R: Files + AllocGlobal, L: Loader, M: Maker, T: Output, E: Sink>(
     rt: &R,
     loader: &mut L,
     maker: &mut M,
-    args: &[&str],
+    command: Result<Request<'_>, RequestFault>,
     output: &mut T,
     errors: &mut E,
 ) -> Outcome
-    // The words make a request, whose answer goes out, or are answered by a text. A fault is one that is due, and is told
-    // in one line; `ls` and `cat` note what they passed over.
-    ensures runs { Runs (map (λ w. w.now) args.now) (T.taken output.old) (T.given output.new) (T.failures output.old) (T.failures output.new)
-        (Says (errors.new ≡ errors.old) (E.taken errors.old) (E.taken errors.new) (E.failures errors.old) (E.failures errors.new)) result }
-    // What is told of the host's files is so.
-    ensures host { (ran : Runs (map (λ w. w.now) args.now) (T.taken output.old) (T.given output.new) (T.failures output.old) (T.failures output.new)
+    // A fault is one that is due, and is told in one line; `ls` and `cat` note what they passed over. What is told of the
+    // host's files is so.
+    ensures { (ran : RunsCommand command.entry (T.taken output.old) (T.given output.new) (T.failures output.old) (T.failures output.new)
         (Says (errors.new ≡ errors.old) (E.taken errors.old) (E.taken errors.new) (E.failures errors.old) (E.failures errors.new)) result)
-        × BlamesCommand ran.command (loader.new ≡ loader.old) (maker.new ≡ maker.old) (L.failures loader.old) (L.failures loader.new)
+        × BlamesCommand command.entry (loader.new ≡ loader.old) (maker.new ≡ maker.old) (L.failures loader.old) (L.failures loader.new)
         (M.failures maker.old) (M.failures maker.new) ran.answer }
 {
     let mut text = Vec::new(rt.alloc());
-    match run_command(
-        rt,
-        loader,
-        maker,
-        request(rt.alloc(), args),
-        &mut text,
-        output,
-    ) {
+    match run_command(rt, loader, maker, command, &mut text, output) {
         Ok(Success::Found(findings)) => Outcome::of(findings),
         Ok(Success::Shown(findings)) => note(findings, errors),
         Err(Stop::Usage { text }) => report_usage(text.as_str(), errors),
         Err(Stop::Fault(fault)) => report_fault(&fault, errors),
+    }
+}
+
+/// Runs the program on its arguments, of which the first is its own name.
+pub fn run<R: Files + AllocGlobal, L: Loader, M: Maker, D: Folders, T: Output, E: Sink>(
+    rt: &R,
+    loader: &mut L,
+    maker: &mut M,
+    folders: &mut D,
+    args: &[&str],
+    output: &mut T,
+    errors: &mut E,
+) -> Outcome
+    // The words make a request, whose answer goes out, or are answered by a text; or they ask to fill or to read a folder.
+    ensures runs { RunsTask (map (λ w. w.now) args.now)
+        (λ command. (ran : RunsCommand command (T.taken output.old) (T.given output.new) (T.failures output.old) (T.failures output.new)
+            (Says (errors.new ≡ errors.old) (E.taken errors.old) (E.taken errors.new) (E.failures errors.old) (E.failures errors.new)) result)
+            × BlamesCommand command (loader.new ≡ loader.old) (maker.new ≡ maker.old) (L.failures loader.old) (L.failures loader.new)
+            (M.failures maker.old) (M.failures maker.new) ran.answer)
+        ((output.new ≡ output.old) × (maker.new ≡ maker.old) × RunsExtract (map (λ w. w.now) args.now) (L.told loader.old) (D.made folders.old) (D.made folders.new)
+            (E.taken errors.old) (E.taken errors.new) (E.failures errors.old) (E.failures errors.new) result)
+        ((loader.new ≡ loader.old) × (maker.new ≡ maker.old) × RunsListing (map (λ w. w.now) args.now) (T.taken output.old) (T.given output.new) (T.failures output.old) (T.failures output.new)
+            (E.taken errors.new) (E.failures errors.new) result) }
+{
+    match task(rt.alloc(), args) {
+        Ok(Task::Image(request)) => run_image(rt, loader, maker, Ok(request), output, errors),
+        Ok(Task::Extract {
+            options,
+            owners,
+            quiet,
+            image,
+            folder,
+        }) => run_extract(
+            rt.alloc(), loader, folders, options, owners, quiet, image, folder, errors,
+        ),
+        Ok(Task::Listing {
+            owner,
+            time,
+            quiet,
+            folder,
+        }) => run_listing(
+            rt.alloc(), folders, owner, time, quiet, folder, output, errors,
+        ),
+        Err(fault) => run_image(rt, loader, maker, Err(fault), output, errors),
     }
 }

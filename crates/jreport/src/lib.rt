@@ -33,7 +33,7 @@ mod whole_image;
 pub use crate::faults::{ProgramFault, fault_line, fault_text};
 pub use crate::files::content;
 pub use crate::listing::tree_lines;
-pub use crate::notes::note_line;
+pub use crate::notes::{note_line, noted};
 pub use crate::paths::path_word;
 pub use crate::report::{Lines, put_report, scan_lines};
 pub use crate::report_fault::ReportFault;

@@ -47,3 +47,11 @@ returns-clause-not_of_cat c = refl
 pub returns-clause-unreadable_blocks : goal.returns-clause-unreadable_blocks
 unfolding clap_on_literals program parsed parsed_from
 returns-clause-unreadable_blocks c = refl
+
+pub returns-clause-one_owner : goal.returns-clause-one_owner
+unfolding clap_on_literals program parsed parsed_from
+returns-clause-one_owner c = refl
+
+pub returns-clause-no_folder : goal.returns-clause-no_folder
+unfolding clap_on_literals program parsed parsed_from
+returns-clause-no_folder c = refl

@@ -31,3 +31,15 @@ returns-clause-extended c = refl
 pub returns-clause-shape : goal.returns-clause-shape
 unfolding clap_on_literals program parsed parsed_from
 returns-clause-shape c = refl
+
+pub returns-clause-extracted : goal.returns-clause-extracted
+unfolding clap_on_literals program parsed parsed_from
+returns-clause-extracted c = refl
+
+pub returns-clause-listed : goal.returns-clause-listed
+unfolding clap_on_literals program parsed parsed_from
+returns-clause-listed c = refl
+
+pub returns-clause-listed_for : goal.returns-clause-listed_for
+unfolding clap_on_literals program parsed parsed_from
+returns-clause-listed_for c = refl

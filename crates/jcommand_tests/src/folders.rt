@@ -1,0 +1,63 @@
+//! Command lines that ask for a folder.
+
+use crate::command_lines::answer_to;
+use std::test::Fail;
+
+#[test]
+fn args_that_ask_for_a_folder(rt: HostRuntime) -> Result<(), Fail> {
+    let examples = [
+        (
+            "t extract a.img b",
+            "extract 65536 false false false a.img b",
+        ),
+        (
+            "t extract --owners a.img --quiet b --endian=big --block 8192",
+            "extract 8192 true true true a.img b",
+        ),
+        ("t listing a", "listing 1 1 1 false a"),
+        (
+            "t listing --owner 0 65535 --time 4294967295 a",
+            "listing 0 65535 4294967295 false a",
+        ),
+        ("t listing a --quiet --owner 007 8", "listing 7 8 1 true a"),
+        ("t listing --time=0 -- --time", "listing 1 1 0 false --time"),
+    ];
+    for (line, wanted) in examples {
+        let answer = answer_to(rt.alloc(), line)?;
+        assert_eq!(rt; answer.as_str(), wanted, "{line}");
+    }
+    Ok(())
+}
+
+#[test]
+fn args_that_are_wrong_of_a_folder(rt: HostRuntime) -> Result<(), Fail> {
+    let examples = [
+        ("t listing", "DIR"),
+        ("t listing a b", "b"),
+        ("t listing --owner 1 a", "--owner"),
+        ("t listing --owner 1 2 3 a", "a"),
+        (
+            "t listing --owner 65536 2 a",
+            "invalid value '65536' for '--owner <UID> <GID>'",
+        ),
+        (
+            "t listing --owner 1 x a",
+            "invalid value 'x' for '--owner <UID> <GID>'",
+        ),
+        ("t listing --time x a", "invalid value 'x' for '--time <T>'"),
+        ("t listing --time 4294967296 a", "below 4294967296"),
+        ("t listing --block 4096 a", "--block"),
+        ("t extract a.img", "DIR"),
+        ("t extract --owner 1 2 a.img b", "--owner"),
+        (
+            "t extract --block x a.img b",
+            "invalid value 'x' for '--block <N>'",
+        ),
+    ];
+    for (line, part) in examples {
+        let answer = answer_to(rt.alloc(), line)?;
+        let is_right = answer.starts_with("wrong error: ") && answer.contains(part);
+        assert!(rt; is_right, "{line}: {answer}");
+    }
+    Ok(())
+}

@@ -1,0 +1,95 @@
+-- What a run of the program does that works with a folder of the host.
+use Rattle.std.specs.Prelude.{◌≡◌, ◌⊎◌, ℕ, Bool, List, Option, Some, None, Result, Ok, Err}
+use Rattle.jextract.specs.Folders.{Made}
+use Rattle.jreport.specs.Faults.{fault_line_of}
+use Rattle.jreport.specs.declared.faults.ProgramFault.{ProgramFault}
+use Rattle.jreport.specs.declared.faults.ProgramFault.TheVariants as program
+use Rattle.jcommand.specs.Parsed.{ExtractParsed, ListingParsed, IsFaultless, parsed_from}
+use Rattle.jcommand.specs.declared.parsed.Options.{Options}
+use Rattle.jcommand.specs.declared.parsed.Owner.{Owner}
+use Rattle.jcommand.specs.declared.parsed.Request.{Request}
+use Rattle.jcommand.specs.declared.command_line.RequestFault.{RequestFault}
+use Rattle.jcommand.specs.Status.{outcome_of}
+use Rattle.jcommand.specs.declared.outcome.Outcome.{Outcome}
+use Rattle.jcommand.specs.declared.outcome.Outcome.TheVariants as outcome
+use Rattle.jffs2_image.specs.Folders.{ExtractsImage, ListsFolder}
+use Rattle.jffs2_image.specs.Runs.{Finishes, IsCommand, Says, answer_finished, note_after}
+use Rattle.jffs2_image.specs.declared.folders.Extracted.{Extracted}
+
+-- The command line asks for no folder, or for an extraction, or for a listing, and that is done.
+abbrev pub RunsTask : List (List ℕ) → (Result Request RequestFault → Type 0) → Type 0 → Type 0 → Type 0
+RunsTask args runs extracts lists = ((command : Result Request RequestFault) × IsCommand args command × runs command) ⊎ (extracts ⊎ lists)
+
+-- what is said after all that was left out was told: a note on the findings of the image, or the fault
+abbrev pub said_after_extraction : Result Extracted ProgramFault → Option (List ℕ)
+said_after_extraction (Ok done) = note_after done.findings
+said_after_extraction (Err fault) = Some (fault_line_of fault)
+
+abbrev pub outcome_of_extraction : Result Extracted ProgramFault → Outcome
+outcome_of_extraction (Ok done) = outcome_of done.left_out
+outcome_of_extraction (Err fault) = outcome.Fault
+
+-- The image of a name is extracted into the folder of a name, and what was left out is told before what else is said. `told` are
+-- the files of the host, and `made` is what is made in its folders.
+pub record EndsExtraction (options : Options) (owners : Bool) (image folder : List ℕ) (told : List ℕ → Option (List ℕ)) (made_old made_new : Option (List Made))
+    (old new : Option (List ℕ)) (before now : ℕ) (result : Outcome) : Type 0 where
+  pub refused_before : ℕ
+  pub refused_now : ℕ
+  pub between : Option (List ℕ)
+  pub count : ℕ
+  pub answer : Result Extracted ProgramFault
+  pub extracts : ExtractsImage options.endian options.geometry.block owners (told image) image folder made_old made_new refused_before refused_now
+      old between before count answer
+  pub said : Says ((new ≡ between) × (now ≡ count)) between new count now (said_after_extraction answer)
+  pub ends : result ≡ outcome_of_extraction answer
+
+-- `extract`, of what is given
+pub record RunsExtract (args : List (List ℕ)) (told : List ℕ → Option (List ℕ)) (made_old made_new : Option (List Made))
+    (old new : Option (List ℕ)) (before now : ℕ) (result : Outcome) : Type 0 where
+  pub options : Options
+  pub owners : Bool
+  pub quiet : Bool
+  pub image : List ℕ
+  pub folder : List ℕ
+  pub parsed : parsed_from args ≡ Some (ExtractParsed options owners quiet image folder)
+  pub faultless : IsFaultless args
+  pub ends : EndsExtraction options owners image folder told made_old made_new old new before now result
+
+abbrev pub said_after_listing : Result ℕ ProgramFault → Option (List ℕ)
+said_after_listing (Ok n) = None
+said_after_listing (Err fault) = Some (fault_line_of fault)
+
+abbrev pub outcome_of_listing : Result ℕ ProgramFault → Outcome
+outcome_of_listing (Ok n) = outcome_of n
+outcome_of_listing (Err fault) = outcome.Fault
+
+-- The listing of the folder of a name goes out, and all that was put is given on.
+pub record FinishesListing (folder : List ℕ) (old given : Option (List ℕ)) (before now : ℕ) (result : Result ℕ ProgramFault) : Type 0 where
+  pub taken : Option (List ℕ)
+  pub count : ℕ
+  pub answer : Result ℕ ProgramFault
+  pub finished : Bool
+  pub lists : ListsFolder folder old taken before count answer
+  pub finishes : Finishes taken given count now finished
+  pub comes_to : result ≡ answer_finished answer finished
+
+-- What it leaves out is told, and then a fault; or there is no memory to begin with.
+pub record EndsListing (folder : List ℕ) (output_old output_given : Option (List ℕ)) (output_before output_now : ℕ)
+    (new : Option (List ℕ)) (now : ℕ) (result : Outcome) : Type 0 where
+  pub between : Option (List ℕ)
+  pub count : ℕ
+  pub answer : Result ℕ ProgramFault
+  pub lists : FinishesListing folder output_old output_given output_before output_now answer ⊎ (answer ≡ Err program.OutOfMemory)
+  pub said : Says ((new ≡ between) × (now ≡ count)) between new count now (said_after_listing answer)
+  pub ends : result ≡ outcome_of_listing answer
+
+-- `listing`, of what is given
+pub record RunsListing (args : List (List ℕ)) (output_old output_given : Option (List ℕ)) (output_before output_now : ℕ)
+    (new : Option (List ℕ)) (now : ℕ) (result : Outcome) : Type 0 where
+  pub owner : Option Owner
+  pub time : Option ℕ
+  pub quiet : Bool
+  pub folder : List ℕ
+  pub parsed : parsed_from args ≡ Some (ListingParsed owner time quiet folder)
+  pub faultless : IsFaultless args
+  pub ends : EndsListing folder output_old output_given output_before output_now new now result

@@ -1,0 +1,78 @@
+-- What the commands do that work with a folder of the host.
+use Rattle.std.specs.Prelude.{◌≡◌, ◌⊎◌, ℕ, Bool, List, [], map, Option, Result, Ok, Err}
+use Rattle.std.specs.Io.KnownBytes.{Appends, Keeps}
+use Rattle.flashbase.specs.Device.{PutsPart, next_count}
+use Rattle.jnode.specs.declared.order.Endian.{Endian}
+use Rattle.jmount.specs.Mount.{Mount}
+use Rattle.jmount.specs.Mounts.{Answers}
+use Rattle.jextract.specs.Folders.{Made}
+use Rattle.jextract.specs.Extracts.{Extracts}
+use Rattle.jextract.specs.declared.fault.ExtractFault.{ExtractFault}
+use Rattle.jextract.specs.declared.fault.ExtractFault.TheVariants as extract
+use Rattle.jfolder.specs.Actions.{Fits}
+use Rattle.jfolder.specs.Text.{listing_text}
+use Rattle.jfolder.specs.declared.fault.ReadFault.{ReadFault}
+use Rattle.jfolder.specs.declared.fault.ReadFault.TheVariants as read
+use Rattle.jfolder.specs.declared.reading.Folder.{Folder}
+use Rattle.jreport.specs.Notes.{noted}
+use Rattle.jreport.specs.declared.faults.ProgramFault.{ProgramFault}
+use Rattle.jreport.specs.declared.faults.ProgramFault.TheVariants as program
+use Rattle.jffs2_image.specs.Host.{AreOf}
+use Rattle.jffs2_image.specs.Writes.{IsUnread}
+use Rattle.jffs2_image.specs.declared.folders.Extracted.{Extracted}
+
+-- ---- extract
+
+-- what an extraction says by its fault, where the folder has this name
+abbrev pub IsExtractFault : List ℕ → ExtractFault → ProgramFault → Type 0
+IsExtractFault name extract.Folder (program.File file) = file.now ≡ name
+IsExtractFault name extract.Notes program.Output = Unit {0}
+IsExtractFault name extract.OutOfMemory program.OutOfMemory = Unit {0}
+IsExtractFault name _ _ = ⊥
+
+-- An image that mounts was extracted. `Ok` has how many objects were left out, and how many findings the image has.
+pub record IsExtraction (e : Endian) (size : ℕ) (owners : Bool) (told : Option (List ℕ)) (old new : Option (List Made)) (before now : ℕ)
+    (told_old told_new : Option (List ℕ)) (told_before told_now : ℕ) (mount : Mount) (answer : Result ℕ ExtractFault) : Type 0 where
+  pub image : List ℕ
+  pub bytes : AreOf told image
+  pub mounts : Answers e size image (Ok mount)
+  pub extracts : Extracts mount.state owners old new before now told_old told_new told_before told_now answer
+
+-- why nothing was extracted: the image is not read, or does not mount
+abbrev pub IsUnextracted : Endian → ℕ → Option (List ℕ) → List ℕ → ProgramFault → Type 0
+IsUnextracted e size told name (program.Mount fault) = (image : List ℕ) × AreOf told image × Answers e size image (Err fault)
+IsUnextracted e size told name program.OutOfMemory = Unit {0}
+IsUnextracted e size told name fault = IsUnread name fault
+
+-- `extract` of the image of a name into the folder of a name
+abbrev pub ExtractsImage : Endian → ℕ → Bool → Option (List ℕ) → List ℕ → List ℕ → Option (List Made) → Option (List Made) → ℕ → ℕ → Option (List ℕ) → Option (List ℕ) → ℕ → ℕ → Result Extracted ProgramFault → Type 0
+ExtractsImage e size owners told image folder old new before now told_old told_new told_before told_now (Ok done) =
+    (mount : Mount) × IsExtraction e size owners told old new before now told_old told_new told_before told_now mount (Ok done.left_out)
+    × (done.findings ≡ noted mount)
+ExtractsImage e size owners told image folder old new before now told_old told_new told_before told_now (Err fault) =
+    ((mount : Mount) × (refused : ExtractFault) × IsExtraction e size owners told old new before now told_old told_new told_before told_now mount (Err refused)
+    × IsExtractFault folder refused fault)
+    ⊎ (IsUnextracted e size told image fault × (new ≡ old) × (now ≡ before) × (told_new ≡ told_old) × (told_now ≡ told_before))
+
+-- ---- listing
+
+-- what a reading says by its fault, where the folder has this name
+abbrev pub IsReadingFault : List ℕ → ReadFault → ProgramFault → Type 0
+IsReadingFault name (read.Folder reason) (program.File file) = file.now ≡ name
+IsReadingFault name read.Notes program.Output = Unit {0}
+IsReadingFault name read.OutOfMemory program.OutOfMemory = Unit {0}
+IsReadingFault name _ _ = ⊥
+
+-- why the folder of a name is not listed
+abbrev pub IsUnlisted : List ℕ → ProgramFault → Type 0
+IsUnlisted name fault = (refused : ReadFault) × IsReadingFault name refused fault
+
+-- `listing` of the folder of a name: that of a tree which a listing can say, and which is read back
+abbrev pub ListsFolder : List ℕ → Option (List ℕ) → Option (List ℕ) → ℕ → ℕ → Result ℕ ProgramFault → Type 0
+ListsFolder name old new before now (Ok n) =
+    (folder : Folder) × Fits folder.root folder.items.items × (n ≡ folder.left_out)
+    × Appends old new (listing_text folder.root folder.items.items) × (now ≡ before)
+ListsFolder name old new before now (Err fault) =
+    ((folder : Folder) × Fits folder.root folder.items.items × (fault ≡ program.Output)
+    × PutsPart old new (listing_text folder.root folder.items.items) × (now ≡ next_count before))
+    ⊎ (IsUnlisted name fault × (new ≡ old) × (now ≡ before))

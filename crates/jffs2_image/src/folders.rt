@@ -1,0 +1,264 @@
+//! The commands that work with a folder of the host: `extract` and `listing`.
+ghost use Rattle.std.specs.Prelude.{◌≡◌, ℕ, List, IfErr, IfOk, OnErr, Option};
+ghost use Rattle.flashbase.specs.Device.{Puts};
+ghost use Rattle.jfolder.specs.Text.{listing_text};
+ghost use Rattle.jcommand.specs.Parsed.{ExtractParsed, ListingParsed, IsFaultless};
+ghost use Rattle.jextract.specs.Folders.{Made};
+ghost use Rattle.jfolder.specs.Actions.{Fits};
+ghost use Rattle.jffs2_image.specs.Folders.{ExtractsImage, IsExtractFault, IsReadingFault, IsUnlisted, ListsFolder};
+ghost use Rattle.jffs2_image.specs.FolderRuns.{EndsExtraction, EndsListing, FinishesListing};
+
+use crate::host::Loader;
+use crate::output::Output;
+use crate::program::{note, report_fault};
+use crate::writing::load_file;
+use byteorder::{BigEndian, LittleEndian};
+use flashbase::{DeviceFault, Sink};
+use jcommand::{Options, Outcome, Owner};
+use jextract::{ExtractFault, Folder, extract};
+use jfolder::{HostFolder, ReadFault, put_listing, read_folder};
+use jmount::mount;
+use jnode::{Endian, Order};
+use jreport::{ProgramFault, noted};
+use jscan::Geometry;
+use std::alloc::{AllocError, Global};
+
+/// What an extraction came to: how many objects were left out, and how many findings the image has.
+#[derive(Clone, Copy)]
+pub struct Extracted {
+    pub left_out: u64,
+    pub findings: u64,
+}
+
+/// Gives folders of the host by their names, and takes them back.
+pub trait Folders {
+    type Filled: Folder;
+    type Read: HostFolder + Drop;
+
+    /// What was made in all folders, in order, where it is told.
+    ghost made: { Self → Option (List Made) };
+
+    /// The folder of a name, which is to be made and filled. How far that is is told unless it is `quiet`. It goes on with
+    /// what was made.
+    fn filled(&mut self, name: &str, quiet: bool) -> Result<Self::Filled, AllocError>
+        ensures filled { IfOk result (λ folder. Self.Filled.made folder ≡ made self.old) }
+        ensures unchanged { OnErr result (made self.new ≡ made self.old) };
+
+    /// Takes back a folder that was filled.
+    fn take_filled(&mut self, folder: Self::Filled)
+        ensures { made self.new ≡ Self.Filled.made folder };
+
+    /// The folder of a name, which is to be read. How far that is is told unless it is `quiet`.
+    fn read(&mut self, name: &str, quiet: bool) -> Result<Self::Read, AllocError>;
+
+    /// Takes back a folder that was read.
+    fn take_read(&mut self, folder: Self::Read);
+}
+
+/// What an extraction into the folder of a name gives up for.
+fn extract_fault(fault: ExtractFault, name: &str) -> ProgramFault<'_>
+    ensures { IsExtractFault name.now fault result }
+{
+    match fault {
+        ExtractFault::Folder => ProgramFault::File(name),
+        ExtractFault::Notes => ProgramFault::Output,
+        ExtractFault::OutOfMemory => ProgramFault::OutOfMemory,
+    }
+}
+
+/// `extract`: the tree of the image of a name is made in a folder, whose name is told where it can't be made.
+pub fn extract_image<'a, E: Order, L: Loader, X: Folder, N: Sink>(
+    alloc: Global,
+    loader: &mut L,
+    geometry: Geometry,
+    owners: bool,
+    image: &'a str,
+    name: &'a str,
+    folder: &mut X,
+    notes: &mut N,
+) -> Result<Extracted, ProgramFault<'a>>
+    ensures { ExtractsImage E.order geometry.block owners (L.told loader.old image.entry.now) image.entry.now name.entry.now
+        (X.made folder.old) (X.made folder.new) (X.failures folder.old) (X.failures folder.new)
+        (N.taken notes.old) (N.taken notes.new) (N.failures notes.old) (N.failures notes.new) result }
+{
+    let bytes = load_file(loader, image)?;
+    let mounted = match mount::<E>(alloc, bytes.as_slice(), geometry) {
+        Ok(mounted) => mounted,
+        Err(fault) => return Err(ProgramFault::Mount(fault)),
+    };
+    match extract(alloc, &mounted, owners, folder, notes) {
+        Ok(left_out) => Ok(Extracted {
+            left_out,
+            findings: noted(&mounted),
+        }),
+        Err(fault) => Err(extract_fault(fault, name)),
+    }
+}
+
+/// What a reading of the folder of a name gives up for.
+fn read_fault(fault: ReadFault, name: &str) -> ProgramFault<'_>
+    ensures { IsReadingFault name.now fault result }
+{
+    match fault {
+        ReadFault::Folder(_) => ProgramFault::File(name),
+        ReadFault::Notes => ProgramFault::Output,
+        ReadFault::OutOfMemory => ProgramFault::OutOfMemory,
+    }
+}
+
+/// The folder of a name as it is read.
+fn read_whole<'a, H: HostFolder, N: Sink>(
+    alloc: Global,
+    options: jfolder::Options,
+    name: &'a str,
+    folder: &mut H,
+    notes: &mut N,
+) -> Result<jfolder::Folder, ProgramFault<'a>>
+    ensures fits { IfOk result (λ read. Fits read.root read.items.items) }
+    ensures unread { IfErr result (IsUnlisted name.entry.now) }
+{
+    match read_folder(alloc, folder, &options, notes) {
+        Ok(read) => Ok(read),
+        Err(fault) => Err(read_fault(fault, name)),
+    }
+}
+
+/// Puts the listing of a folder that was read.
+fn put_read<T: Sink>(read: &jfolder::Folder, sink: &mut T) -> Result<(), DeviceFault>
+    ensures { Puts (T.taken sink.old) (T.taken sink.new) (T.failures sink.old) (T.failures sink.new) (listing_text read.now.root read.now.items.items) result }
+{
+    put_listing(&read.root, read.items.as_slice(), sink)
+}
+
+/// `listing`: the listing that builds a folder is put. Answers how many objects were left out.
+pub fn list_folder<'a, H: HostFolder, T: Sink, N: Sink>(
+    alloc: Global,
+    options: jfolder::Options,
+    name: &'a str,
+    folder: &mut H,
+    sink: &mut T,
+    notes: &mut N,
+) -> Result<u64, ProgramFault<'a>>
+    ensures { ListsFolder name.entry.now (T.taken sink.old) (T.taken sink.new) (T.failures sink.old) (T.failures sink.new) result }
+{
+    let read = match read_whole(alloc, options, name, folder, notes) {
+        Ok(read) => read,
+        Err(fault) => return Err(fault),
+    };
+    match put_read(&read, sink) {
+        Ok(()) => Ok(read.left_out),
+        Err(DeviceFault) => Err(ProgramFault::Output),
+    }
+}
+
+/// The same in the byte order that is given.
+fn extract_in_order<'a, L: Loader, X: Folder, N: Sink>(
+    alloc: Global,
+    loader: &mut L,
+    options: Options,
+    owners: bool,
+    image: &'a str,
+    name: &'a str,
+    folder: &mut X,
+    notes: &mut N,
+) -> Result<Extracted, ProgramFault<'a>>
+    ensures { ExtractsImage options.endian options.geometry.block owners (L.told loader.old image.entry.now) image.entry.now name.entry.now
+        (X.made folder.old) (X.made folder.new) (X.failures folder.old) (X.failures folder.new)
+        (N.taken notes.old) (N.taken notes.new) (N.failures notes.old) (N.failures notes.new) result }
+{
+    let geometry = options.geometry;
+    match options.endian {
+        Endian::Little => extract_image::<LittleEndian, L, X, N>(
+            alloc, loader, geometry, owners, image, name, folder, notes,
+        ),
+        Endian::Big => extract_image::<BigEndian, L, X, N>(
+            alloc, loader, geometry, owners, image, name, folder, notes,
+        ),
+    }
+}
+
+/// `extract` as a command: the image of a name in the folder of a name.
+pub fn run_extract<L: Loader, D: Folders, E: Sink>(
+    alloc: Global,
+    loader: &mut L,
+    folders: &mut D,
+    options: Options,
+    owners: bool,
+    quiet: bool,
+    image: &str,
+    name: &str,
+    errors: &mut E,
+) -> Outcome
+    ensures { EndsExtraction options owners image.now name.now (L.told loader.old) (D.made folders.old) (D.made folders.new)
+        (E.taken errors.old) (E.taken errors.new) (E.failures errors.old) (E.failures errors.new) result }
+{
+    let Ok(mut folder) = folders.filled(name, quiet) else {
+        return report_fault(&ProgramFault::OutOfMemory, errors);
+    };
+    let answer = extract_in_order(
+        alloc, loader, options, owners, image, name, &mut folder, errors,
+    );
+    folders.take_filled(folder);
+    match answer {
+        Ok(done) => {
+            note(done.findings, errors);
+            Outcome::of(done.left_out)
+        }
+        Err(fault) => report_fault(&fault, errors),
+    }
+}
+
+/// What takes the place of owners and times of a folder.
+fn settings_of(owner: Option<Owner>, time: Option<u32>) -> jfolder::Options {
+    let owner = match owner {
+        Some(Owner { uid, gid }) => Some(jfolder::Owner { uid, gid }),
+        None => None,
+    };
+    jfolder::Options { owner, time }
+}
+
+/// `listing` to the last byte.
+fn list_whole<'a, H: HostFolder, T: Output, N: Sink>(
+    alloc: Global,
+    options: jfolder::Options,
+    name: &'a str,
+    folder: &mut H,
+    output: &mut T,
+    notes: &mut N,
+) -> Result<u64, ProgramFault<'a>>
+    ensures { FinishesListing name.entry.now (T.taken output.old) (T.given output.new) (T.failures output.old) (T.failures output.new) result }
+{
+    let answer = list_folder(alloc, options, name, folder, output, notes);
+    let finished = output.finish();
+    let left_out = answer?;
+    match finished {
+        Ok(()) => Ok(left_out),
+        Err(_) => Err(ProgramFault::Output),
+    }
+}
+
+/// `listing` as a command: that of the folder of a name.
+pub fn run_listing<D: Folders, T: Output, E: Sink>(
+    alloc: Global,
+    folders: &mut D,
+    owner: Option<Owner>,
+    time: Option<u32>,
+    quiet: bool,
+    name: &str,
+    output: &mut T,
+    errors: &mut E,
+) -> Outcome
+    ensures { EndsListing name.now (T.taken output.old) (T.given output.new) (T.failures output.old) (T.failures output.new)
+        (E.taken errors.new) (E.failures errors.new) result }
+{
+    let Ok(mut folder) = folders.read(name, quiet) else {
+        return report_fault(&ProgramFault::OutOfMemory, errors);
+    };
+    let options = settings_of(owner, time);
+    let answer = list_whole(alloc, options, name, &mut folder, output, errors);
+    folders.take_read(folder);
+    match answer {
+        Ok(left_out) => Outcome::of(left_out),
+        Err(fault) => report_fault(&fault, errors),
+    }
+}

@@ -1,0 +1,44 @@
+//! Folders of the system, as the commands ask for them.
+ghost use Rattle.std.specs.Prelude.{None};
+
+use crate::folders::Folders;
+use jhost::{FilledFolder, ReadFolder};
+use std::alloc::AllocError;
+use std::io::Eprint;
+use std::rt::{Clock, Files};
+
+/// Folders of the system. How far they are is told where standard error is a terminal.
+#[derive(Drop)]
+pub struct SystemFolders<'r, R: Files + AllocGlobal + Clock + Eprint> {
+    rt: &'r R,
+    is_terminal: bool,
+}
+
+impl<'r, R: Files + AllocGlobal + Clock + Eprint> SystemFolders<'r, R> {
+    pub fn new(rt: &'r R, is_terminal: bool) -> Self {
+        SystemFolders { rt, is_terminal }
+    }
+}
+
+impl<'r, R: Files + AllocGlobal + Clock + Eprint> Folders for SystemFolders<'r, R> {
+    type Filled = FilledFolder<'r, R>;
+    type Read = ReadFolder<'r, R>;
+
+    ghost made = { λ _. None };
+
+    fn filled(&mut self, name: &str, quiet: bool) -> Result<FilledFolder<'r, R>, AllocError> {
+        FilledFolder::new(self.rt, name, self.is_terminal && !quiet)
+    }
+
+    fn take_filled(&mut self, mut folder: FilledFolder<'r, R>) {
+        folder.finish();
+    }
+
+    fn read(&mut self, name: &str, quiet: bool) -> Result<ReadFolder<'r, R>, AllocError> {
+        ReadFolder::new(self.rt, name, self.is_terminal && !quiet)
+    }
+
+    fn take_read(&mut self, mut folder: ReadFolder<'r, R>) {
+        folder.finish();
+    }
+}

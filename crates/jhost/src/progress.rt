@@ -1,0 +1,63 @@
+//! How far long work is, told on a terminal.
+
+use std::io::Eprint;
+use std::rt::Clock;
+use std::time::Duration;
+
+/// Counts objects, and tells each second how many they are, after the first second. What is told next is written over it.
+#[derive(Drop)]
+pub struct Progress<'r, R: Clock + Eprint> {
+    rt: &'r R,
+    count: u64,
+    /// When it is told next, if at all.
+    due: Option<Duration>,
+    is_shown: bool,
+}
+
+impl<'r, R: Clock + Eprint> Progress<'r, R> {
+    /// No objects. It tells nothing unless it `tells`.
+    pub fn new(rt: &'r R, tells: bool) -> Self {
+        let due = if tells { a_second_from_now(rt) } else { None };
+        Progress {
+            rt,
+            count: 0,
+            due,
+            is_shown: false,
+        }
+    }
+
+    /// One object more.
+    pub fn step(&mut self) {
+        self.count = self.count.saturating_add(1);
+        let Some(due) = self.due else {
+            return;
+        };
+        match self.rt.monotonic() {
+            Ok(now) if now >= due => self.tell(),
+            _ => {}
+        }
+    }
+
+    fn tell(&mut self) {
+        let count = self.count;
+        let _ = eprint!(self.rt; "{count} objects\r");
+        self.is_shown = true;
+        self.due = a_second_from_now(self.rt);
+    }
+
+    /// Takes away what was told.
+    pub fn finish(&mut self) {
+        if self.is_shown {
+            let _ = eprint!(self.rt; "                            \r");
+            self.is_shown = false;
+        }
+    }
+}
+
+/// When a second has passed, if the clock tells.
+fn a_second_from_now<R: Clock>(rt: &R) -> Option<Duration> {
+    match rt.monotonic() {
+        Ok(now) => now.checked_add(Duration::from_secs(1)),
+        Err(_) => None,
+    }
+}

@@ -1,0 +1,326 @@
+#!/usr/bin/env python3
+"""Runs `listing` and `extract` of the finished program on folders of this host and on images that are made to do harm.
+
+Usage: tests/folders.py [PROGRAM]. A folder comes back whole by listing, build and extract; what a listing or this host can't
+hold is told, a line each; and nothing is made outside the new folder. The last line is 'N passed, M failed'.
+"""
+import collections
+import os
+import pty
+import random
+import resource
+import shutil
+import signal
+import socket
+import stat
+import subprocess
+import sys
+import tempfile
+
+import hostile_images as images
+from hostile_images import DIRECTORY, entry, inode, laid
+
+ROOT = os.path.dirname(os.path.dirname(os.path.abspath(__file__)))
+PROGRAM = os.path.realpath(sys.argv[1] if len(sys.argv) > 1 else f"{ROOT}/crates/jffs2_image/out/jffs2_image")
+SYMLINK = 0o120777
+TIME = 1000000000
+IS_ROOT = os.geteuid() == 0
+counts = collections.Counter()
+Done = collections.namedtuple("Done", "status out err")
+
+
+def verdict(about, right, done=None):
+    """Counts one test, and tells of it where it failed."""
+    counts["passed" if right else "failed"] += 1
+    if not right:
+        print(f"FAILED: {about}{f': {done.status}, {done.out[:300]!r}, {done.err[:300]!r}' if done else ''}", flush=True)
+
+
+def run(*words, **streams):
+    done = subprocess.run([PROGRAM, *words], stdin=subprocess.DEVNULL, capture_output=not streams, check=False, **streams)
+    return Done(done.returncode, done.stdout or b"", done.stderr or b"")
+
+
+def write(name, content):
+    with open(name, "wb") as file:
+        file.write(content)
+
+
+def seen(top, times=True):
+    """What lies below a folder: of each path its kind, permissions, owner, time but for a symlink's, bytes or target, and the
+    first path of the same object."""
+    first, found = {}, {}
+    for folder, folders, files in os.walk(os.fsencode(top)):
+        for name in sorted([b"", *folders, *files]):
+            path = os.path.join(folder, name) if name else folder
+            if not name and folder != os.fsencode(top):
+                continue
+            is_ = os.lstat(path)
+            inside = os.path.relpath(path, os.fsencode(top))
+            content = os.readlink(path) if stat.S_ISLNK(is_.st_mode) else b""
+            if stat.S_ISREG(is_.st_mode):
+                with open(path, "rb") as file:
+                    content = file.read()
+            is_symlink = stat.S_ISLNK(is_.st_mode)
+            time = None if is_symlink or not times else int(is_.st_mtime)
+            mode = stat.S_IFMT(is_.st_mode) if is_symlink else is_.st_mode
+            found[inside] = (mode, is_.st_uid, is_.st_gid, time, content, first.setdefault(is_.st_ino, inside))
+    return found
+
+
+def plain_tree(top):
+    """A folder with something of each kind that comes back whole."""
+    os.makedirs(f"{top}/etc/deep/deeper")
+    os.makedirs(f"{top}/empty")
+    os.makedirs(f"{top}/a space")
+    chance = random.Random(7)
+    for name, size in (("none", 0), ("one", 1), ("page", 4096), ("past", 4097), ("large", 300000)):
+        write(f"{top}/etc/{name}", chance.randbytes(size))
+    write(f"{top}/a space/in it", chance.randbytes(9000))
+    write(f"{top}/line\nfeed", b"x")
+    write(f"{top}/back\\slash", b"\\")
+    write(f"{top}/\u00e9\u4e2d", "\u00e9".encode())
+    write(f"{top}/{'n' * 254}", b"long")
+    os.link(f"{top}/etc/one", f"{top}/z-one")
+    os.link(f"{top}/etc/one", f"{top}/etc/deep/one")
+    os.symlink("../one", f"{top}/etc/deep/link")
+    os.symlink("/no such/place", f"{top}/dangling")
+    os.symlink("etc", f"{top}/to-etc")
+    for number, (path, mode) in enumerate((("etc/none", 0o4755), ("etc/one", 0o640), ("etc/past", 0o444), ("empty", 0o1777), ("etc", 0o2750), ("", 0o711))):
+        os.chmod(f"{top}/{path}", mode)
+    for folder, _, files in os.walk(top, topdown=False):
+        for name in [*files, ""]:
+            if not os.path.islink(f"{folder}/{name}"):
+                os.utime(f"{folder}/{name}", (TIME, TIME + len(name)))
+
+
+def there_and_back():
+    """A folder by listing, build and extract is the folder."""
+    os.mkdir("plain")
+    plain_tree("plain/tree")
+    listed = run("listing", "plain/tree")
+    verdict("a folder is listed", listed.status == 0 and listed.err == b"", listed)
+    verdict("it is listed as it was", run("listing", "plain/tree") == listed)
+    write("plain/tree.txt", listed.out)
+    for order in ("little", "big"):
+        image, back = f"plain/{order}.img", f"plain/{order}"
+        built = run("build", "--blocks", "32", "--endian", order, "plain/tree.txt", image)
+        verdict(f"the listing builds, {order}", built.status == 0, built)
+        owners = ["--owners"] if IS_ROOT else []
+        done = run("extract", "--endian", order, *owners, image, back)
+        verdict(f"the image is extracted, {order}", done == Done(0, b"", b""), done)
+        verdict(f"the folder is back, {order}", seen(back) == seen("plain/tree"))
+    # A symlink of the host has the time at which it is made.
+    again, once = run("listing", "--time", "1", "plain/little"), run("listing", "--time", "1", "plain/tree")
+    verdict("its listing is the same", again.out.replace(b"plain/little/", b"plain/tree/") == once.out, again)
+    done = run("extract", "plain/little.img", "plain/little")
+    verdict("a folder that is there is not filled", done == Done(1, b"", b"jffs2_image: P1 File plain/little\n"), done)
+    verdict("and stays as it is", seen("plain/little") == seen("plain/tree"))
+
+
+def with_settings():
+    """One owner and one time for all, and nothing of the host's."""
+    done = run("listing", "--owner", "7", "65535", "--time", "9", "--quiet", "plain/tree")
+    lines = done.out.split(b"\n")
+    verdict("one time", done.status == 0 and [l for l in lines if l.startswith(b"time")] == [b"time 9"], done)
+    verdict("one owner", [l for l in lines if l.startswith(b"owner")] == [b"owner 7 65535"], done)
+    verdict("the root too", lines[1] == b"attr 711 7 65535 9 9 /", done)
+    for words in (["--owner", "1"], ["--owner", "1", "65536"], ["--owner", "1", "x"], ["--time", "4294967296"], ["--time", ""]):
+        done = run("listing", *words, "plain/tree")
+        verdict(f"wrong settings {words}", done.status == 2 and done.out == b"", done)
+    done = run("listing", "no such folder")
+    verdict("a folder that is not there", done == Done(1, b"", b"jffs2_image: P1 File no such folder\n"), done)
+    done = run("listing", "plain/tree.txt")
+    verdict("a file is no folder", done == Done(1, b"", b"jffs2_image: P1 File plain/tree.txt\n"), done)
+    os.symlink("plain/tree", "way")
+    done = run("listing", "way")
+    verdict("a symlink is no folder", done.status == 1 and done.out == b"", done)
+
+
+def what_a_listing_cannot_say():
+    """What is left out is told in order, the rest is listed, and the status is 3."""
+    os.makedirs("odd/in")
+    write("odd/kept", b"")
+    os.mkfifo("odd/fifo")
+    unix = socket.socket(socket.AF_UNIX)
+    unix.bind("odd/socket")
+    write("odd/" + "n" * 255, b"")
+    write(b"odd/\xff", b"")
+    write("odd/old", b"")
+    os.utime("odd/old", (0, -1))
+    write("odd/late", b"")
+    os.utime("odd/late", (0, 1 << 32))
+    with open("odd/sparse", "wb") as file:
+        file.truncate(0x80000000)
+    wanted = {b"/fifo", b"/socket", b"/" + b"n" * 255, b"/", b"/old", b"/late", b"/sparse"}
+    if IS_ROOT:
+        write("odd/owned", b"")
+        os.chown("odd/owned", 65536, 0)
+        os.mknod("odd/device", 0o600 | stat.S_IFCHR, os.makedev(1, 3))
+        wanted |= {b"/owned", b"/device"}
+    done = run("listing", "odd")
+    told = [line.split(b": ")[0].removeprefix(b"left out ") for line in done.err.splitlines()]
+    verdict("what a listing can't say", done.status == 3 and set(told) == wanted and len(told) == len(wanted), done)
+    made = [line for line in done.out.split(b"\n") if line.split(b" ")[0] in (b"create", b"mkdir")]
+    verdict("the rest is listed", made == [b"mkdir 755 /in", b"create 644 /kept"], done)
+    done = run("listing", "--owner", "0", "0", "--time", "0", "odd")
+    verdict("settings say what the host can't", b"/old" in done.out and b"/late" in done.out and done.status == 3, done)
+    unix.close()
+    shutil.rmtree("odd")
+
+
+def files(*entries):
+    """An image of the root with these entries, each a name, an inode's kind and its bytes, numbered from 2 on."""
+    nodes = []
+    for number, (name, mode, content) in enumerate(entries, start=2):
+        nodes.append(inode(number, 1, 0, len(content), content, mode))
+        nodes.append(entry(1, number, number, name))
+    return laid(nodes)
+
+
+def twins():
+    """A symlink `x` out of the folder, and a directory `y` by the names `y` and `x/..`; then what lies below names of both."""
+    return laid([
+        inode(2, 1, 0, 4, b"/tmp", SYMLINK), entry(1, 1, 2, b"x"),
+        inode(3, 1, 0, 0, b"", DIRECTORY), entry(1, 2, 3, b"y"), entry(1, 3, 3, b"x/evil"), entry(1, 4, 3, b".."), entry(1, 5, 3, b"."),
+        inode(4, 1, 0, 4, b"evil"), entry(3, 1, 4, b"f"), entry(3, 2, 4, b"../g"), entry(3, 3, 4, b"/tmp/h"), entry(3, 4, 4, b"z\0"),
+        entry(3, 5, 4, b"\xff"), entry(3, 6, 2, b"x"),
+    ])
+
+
+CORPUS = {
+    "dots": (files((b"..", DIRECTORY, b""), (b".", DIRECTORY, b""), (b"a", 0o100644, b"a")), {b"a"}),
+    "slashes": (files((b"a/b", 0o100644, b"x"), (b"/etc/passwd", 0o100644, b"x"), (b"../up", 0o100644, b"x")), set()),
+    "zero bytes": (files((b"a\0b", 0o100644, b"x"), (b"b", 0o100644, b"x")), {b"b"}),
+    "no text": (files((b"\xff\xfe", 0o100644, b"x"), (b"b", SYMLINK, b"\xff")), set()),
+    "kinds": (files((b"p", 0o010644, b""), (b"c", 0o020644, b"\1\3"), (b"s", 0o140644, b""), (b"o", 0o170000, b"")), set()),
+    "targets": (files((b"l", SYMLINK, b""), (b"z", SYMLINK, b"a\0b"), (b"o", SYMLINK, b"/etc")), {b"o"}),
+    "twins": (twins(), {b"x", b"y", b"y/f", b"y/x"}),
+    "loops": (images.circles(30), None),
+    "circle": (images.circle(), {b"d"}),
+    "depths": (images.depths(1000), None),
+}
+
+
+def below(top):
+    """All paths below a folder."""
+    return {os.path.relpath(os.path.join(folder, name), os.fsencode(top)) for folder, folders, names in os.walk(os.fsencode(top)) for name in folders + names}
+
+
+def whatever_the_image_says():
+    """Nothing is made outside the new folder, and in it only what a host can hold."""
+    os.mkdir("hostile")
+    for about, (image, wanted) in CORPUS.items():
+        write("hostile.img", image)
+        os.makedirs("hostile/here")
+        temporary, before = set(os.listdir("/tmp")), seen("hostile", times=False)
+        done = run("extract", "hostile.img", "hostile/here/new")
+        made = below("hostile/here/new")
+        shutil.move("hostile/here/new", "made")
+        outside = seen("hostile", times=False) == before and not {"evil", "f", "g", "h"} & (set(os.listdir("/tmp")) - temporary)
+        verdict(f"nothing outside: {about}", outside, done)
+        verdict(f"status of {about}", done.status in (0, 3) and (done.status == 3) == (b"left out " in done.err), done)
+        if wanted is not None:
+            verdict(f"what is made of {about}", made == wanted, Done(done.status, repr(made).encode(), done.err))
+        subprocess.run(["rm", "-rf", "made", "hostile/here"], check=True)
+    os.rmdir("hostile")
+
+
+def deep_and_long():
+    """Directories in one another up to the longest path of a host, and no further."""
+    write("deep.img", images.depths(1000))
+    done = run("extract", "deep.img", "deep")
+    verdict("1,000 levels", done.status == 0 and os.path.isdir("deep" + "/d" * 1000), done)
+    verdict("1,000 levels are listed", run("listing", "deep").out.count(b"mkdir ") == 1000)
+    write("deeper.img", laid(node for k in range(40) for node in (entry(k + 1, 1, k + 2, b"n" * 254), inode(k + 2, 1, 0, 0, b"", DIRECTORY))))
+    done = run("extract", "deeper.img", "deeper")
+    verdict("a path that no host takes", done.status == 3 and done.err.count(b"left out ") == 1, done)
+    subprocess.run(["rm", "-rf", "deep", "deeper"], check=True)
+
+
+def in_the_way():
+    """The new folder is made by the program, or nothing is."""
+    write("one.img", files((b"a", 0o100644, b"a")))
+    os.symlink("elsewhere", "dangle")
+    for about, name in (("a dangling symlink", "dangle"), ("a file", "one.img"), ("no folder above", "no/such"), ("no name", "")):
+        done = run("extract", "one.img", name)
+        verdict(f"{about} is no new folder", done == Done(1, b"", f"jffs2_image: P1 File {name}\n".encode()), done)
+    verdict("nothing is made through a symlink", not os.path.exists("elsewhere"))
+    done = run("extract", "no such image", "new")
+    verdict("no image, no folder", done == Done(1, b"", b"jffs2_image: P1 File no such image\n") and not os.path.exists("new"), done)
+    write("not.img", laid([inode(1, 1, 0, 0, b"", 0o100644)]))
+    done = run("extract", "not.img", "new")
+    verdict("what does not mount makes no folder", done.status == 1 and done.err.startswith(b"jffs2_image: M") and not os.path.exists("new"), done)
+    write("dirty.img", files((b"a", 0o100644, b"a")) + b"dirt")
+    done = run("extract", "dirty.img", "dirty")
+    verdict("findings are noted", done.status == 0 and b"note: 1 findings" in done.err and os.path.exists("dirty/a"), done)
+
+
+def on_bad_streams():
+    """A listing that does not go out whole is a fault."""
+    with open("/dev/full", "wb") as full:
+        done = run("listing", "plain/tree", stdout=full, stderr=subprocess.PIPE)
+        verdict("a full output", (done.status, done.err) == (1, b"jffs2_image: P5 Output\n"), done)
+        done = run("listing", "odd2", stdout=subprocess.PIPE, stderr=full)
+        verdict("notes on a full stream", done.status == 1, done)
+
+
+def what_the_host_refuses():
+    """A file that can't be written whole is told, and the rest goes on."""
+    write("big.img", files((b"a", 0o100644, b"a"), (b"b", 0o100644, bytes(4096)), (b"c", 0o100644, bytes(2000))))
+    with subprocess.Popen([PROGRAM, "extract", "big.img", "small"], stderr=subprocess.PIPE, preexec_fn=lambda: resource.setrlimit(resource.RLIMIT_FSIZE, (3000, 3000)), restore_signals=False) as child:
+        err = child.stderr.read()
+    is_told = err == b"left out /b: the host refused it\n"
+    verdict("a file that the host does not take", child.returncode == 3 and is_told, Done(child.returncode, b"", err))
+    verdict("the rest goes on", os.path.getsize("small/c") == 2000)
+
+
+def on_a_terminal():
+    """Progress is told on a terminal alone, and not with --quiet."""
+    write("many.img", images.names(2000))
+    for words, name in ((["--quiet"], "quiet"), ([], "fast")):
+        main, end = pty.openpty()
+        with subprocess.Popen([PROGRAM, "extract", *words, "many.img", name], stdout=end, stderr=end) as child:
+            os.close(end)
+            told = b""
+            try:
+                while piece := os.read(main, 4096):
+                    told += piece
+            except OSError:
+                pass
+        os.close(main)
+        verdict(f"no progress {words}", child.returncode == 0 and (told == b"" or (not words and b"objects\r" in told)), Done(child.returncode, told, b""))
+        shutil.rmtree(name)
+
+
+GROUPS = (
+    there_and_back,
+    with_settings,
+    what_a_listing_cannot_say,
+    whatever_the_image_says,
+    deep_and_long,
+    in_the_way,
+    on_bad_streams,
+    what_the_host_refuses,
+    on_a_terminal,
+)
+
+
+def main():
+    signal.signal(signal.SIGXFSZ, signal.SIG_IGN)
+    # Folders are 1,000 in one another.
+    sys.setrecursionlimit(10000)
+    with tempfile.TemporaryDirectory(prefix="folders-") as folder:
+        os.chdir(folder)
+        os.umask(0o022)
+        for group in GROUPS:
+            before = counts["failed"]
+            group()
+            print(f"{group.__name__}: {'fails' if counts['failed'] > before else 'passes'}", flush=True)
+        os.chdir(ROOT)
+    print(f"{counts['passed']} passed, {counts['failed']} failed")
+    return 1 if counts["failed"] or not counts["passed"] else 0
+
+
+if __name__ == "__main__":
+    sys.exit(main())
