@@ -4,4 +4,5 @@ pub mod Notes
 pub mod Order
 pub mod Pieces
 pub mod Text
+pub mod Trees
 pub mod Walking
