@@ -12,7 +12,7 @@ use Rattle.jcommand.specs.declared.command_line.RequestFault.{RequestFault}
 use Rattle.jcommand.specs.Status.{outcome_of}
 use Rattle.jcommand.specs.declared.outcome.Outcome.{Outcome}
 use Rattle.jcommand.specs.declared.outcome.Outcome.TheVariants as outcome
-use Rattle.jffs2_image.specs.Folders.{ExtractsImage, ListsFolder}
+use Rattle.jffs2_image.specs.Folders.{FillsFolder, ListsFolder}
 use Rattle.jffs2_image.specs.Runs.{Finishes, IsCommand, Says, answer_finished, note_after}
 use Rattle.jffs2_image.specs.declared.folders.Extracted.{Extracted}
 
@@ -33,13 +33,10 @@ outcome_of_extraction (Err fault) = outcome.Fault
 -- the files of the host, and `made` is what is made in its folders.
 pub record EndsExtraction (options : Options) (owners : Bool) (image folder : List ℕ) (told : List ℕ → Option (List ℕ)) (made_old made_new : Option (List Made))
     (old new : Option (List ℕ)) (before now : ℕ) (result : Outcome) : Type 0 where
-  pub refused_before : ℕ
-  pub refused_now : ℕ
   pub between : Option (List ℕ)
   pub count : ℕ
   pub answer : Result Extracted ProgramFault
-  pub extracts : ExtractsImage options.endian options.geometry.block owners (told image) image folder made_old made_new refused_before refused_now
-      old between before count answer
+  pub fills : FillsFolder options.endian options.geometry.block owners (told image) image folder made_old made_new old between before count answer
   pub said : Says ((new ≡ between) × (now ≡ count)) between new count now (said_after_extraction answer)
   pub ends : result ≡ outcome_of_extraction answer
 
@@ -73,18 +70,23 @@ pub record FinishesListing (folder : List ℕ) (old given : Option (List ℕ)) (
   pub finishes : Finishes taken given count now finished
   pub comes_to : result ≡ answer_finished answer finished
 
--- What it leaves out is told, and then a fault; or there is no memory to begin with.
-pub record EndsListing (folder : List ℕ) (output_old output_given : Option (List ℕ)) (output_before output_now : ℕ)
+-- The same by a host that gives the folder and takes it back; or there is no memory for it, and the output is as it was.
+abbrev pub ListsGiven : Type 0 → List ℕ → Option (List ℕ) → Option (List ℕ) → ℕ → ℕ → Result ℕ ProgramFault → Type 0
+ListsGiven untouched folder old given before now result =
+    FinishesListing folder old given before now result ⊎ ((result ≡ Err program.OutOfMemory) × untouched)
+
+-- What it leaves out is told, and then a fault. `untouched`: the output is as it was.
+pub record EndsListing (untouched : Type 0) (folder : List ℕ) (output_old output_given : Option (List ℕ)) (output_before output_now : ℕ)
     (new : Option (List ℕ)) (now : ℕ) (result : Outcome) : Type 0 where
   pub between : Option (List ℕ)
   pub count : ℕ
   pub answer : Result ℕ ProgramFault
-  pub lists : FinishesListing folder output_old output_given output_before output_now answer ⊎ (answer ≡ Err program.OutOfMemory)
+  pub lists : ListsGiven untouched folder output_old output_given output_before output_now answer
   pub said : Says ((new ≡ between) × (now ≡ count)) between new count now (said_after_listing answer)
   pub ends : result ≡ outcome_of_listing answer
 
 -- `listing`, of what is given
-pub record RunsListing (args : List (List ℕ)) (output_old output_given : Option (List ℕ)) (output_before output_now : ℕ)
+pub record RunsListing (args : List (List ℕ)) (untouched : Type 0) (output_old output_given : Option (List ℕ)) (output_before output_now : ℕ)
     (new : Option (List ℕ)) (now : ℕ) (result : Outcome) : Type 0 where
   pub owner : Option Owner
   pub time : Option ℕ
@@ -92,4 +94,4 @@ pub record RunsListing (args : List (List ℕ)) (output_old output_given : Optio
   pub folder : List ℕ
   pub parsed : parsed_from args ≡ Some (ListingParsed owner time quiet folder)
   pub faultless : IsFaultless args
-  pub ends : EndsListing folder output_old output_given output_before output_now new now result
+  pub ends : EndsListing untouched folder output_old output_given output_before output_now new now result

@@ -5,6 +5,7 @@ use Rattle.flashbase.specs.Device.{PutsPart, next_count}
 use Rattle.jnode.specs.declared.order.Endian.{Endian}
 use Rattle.jmount.specs.Mount.{Mount}
 use Rattle.jmount.specs.Mounts.{Answers}
+use Rattle.jmount.specs.declared.fault.MountFault.{MountFault}
 use Rattle.jextract.specs.Folders.{Made}
 use Rattle.jextract.specs.Extracts.{Extracts}
 use Rattle.jextract.specs.declared.fault.ExtractFault.{ExtractFault}
@@ -30,29 +31,29 @@ IsExtractFault name extract.Notes program.Output = Unit {0}
 IsExtractFault name extract.OutOfMemory program.OutOfMemory = Unit {0}
 IsExtractFault name _ _ = ⊥
 
--- An image that mounts was extracted. `Ok` has how many objects were left out, and how many findings the image has.
-pub record IsExtraction (e : Endian) (size : ℕ) (owners : Bool) (told : Option (List ℕ)) (old new : Option (List Made)) (before now : ℕ)
-    (told_old told_new : Option (List ℕ)) (told_before told_now : ℕ) (mount : Mount) (answer : Result ℕ ExtractFault) : Type 0 where
-  pub image : List ℕ
-  pub bytes : AreOf told image
-  pub mounts : Answers e size image (Ok mount)
-  pub extracts : Extracts mount.state owners old new before now told_old told_new told_before told_now answer
+-- An image was extracted, if it mounts. `Ok` has how many objects were left out, and how many findings the image has.
+abbrev pub ExtractsBytes : Endian → ℕ → Bool → List ℕ → List ℕ → Option (List Made) → Option (List Made) → ℕ → ℕ → Option (List ℕ) → Option (List ℕ) → ℕ → ℕ → Result Extracted ProgramFault → Type 0
+ExtractsBytes e size owners image folder old new before now told_old told_new told_before told_now (Ok done) =
+    (mount : Mount) × Answers e size image (Ok mount)
+    × Extracts mount.state owners old new before now told_old told_new told_before told_now (Ok done.left_out) × (done.findings ≡ noted mount)
+ExtractsBytes e size owners image folder old new before now told_old told_new told_before told_now (Err fault) =
+    ((mount : Mount) × (refused : ExtractFault) × Answers e size image (Ok mount)
+    × Extracts mount.state owners old new before now told_old told_new told_before told_now (Err refused) × IsExtractFault folder refused fault)
+    ⊎ ((refused : MountFault) × (fault ≡ program.Mount refused) × Answers e size image (Err refused)
+    × (new ≡ old) × (now ≡ before) × (told_new ≡ told_old) × (told_now ≡ told_before))
 
--- why nothing was extracted: the image is not read, or does not mount
-abbrev pub IsUnextracted : Endian → ℕ → Option (List ℕ) → List ℕ → ProgramFault → Type 0
-IsUnextracted e size told name (program.Mount fault) = (image : List ℕ) × AreOf told image × Answers e size image (Err fault)
-IsUnextracted e size told name program.OutOfMemory = Unit {0}
-IsUnextracted e size told name fault = IsUnread name fault
-
--- `extract` of the image of a name into the folder of a name
+-- `extract` of the image of a name into the folder of a name: its bytes are extracted, or it can't be read
 abbrev pub ExtractsImage : Endian → ℕ → Bool → Option (List ℕ) → List ℕ → List ℕ → Option (List Made) → Option (List Made) → ℕ → ℕ → Option (List ℕ) → Option (List ℕ) → ℕ → ℕ → Result Extracted ProgramFault → Type 0
-ExtractsImage e size owners told image folder old new before now told_old told_new told_before told_now (Ok done) =
-    (mount : Mount) × IsExtraction e size owners told old new before now told_old told_new told_before told_now mount (Ok done.left_out)
-    × (done.findings ≡ noted mount)
-ExtractsImage e size owners told image folder old new before now told_old told_new told_before told_now (Err fault) =
-    ((mount : Mount) × (refused : ExtractFault) × IsExtraction e size owners told old new before now told_old told_new told_before told_now mount (Err refused)
-    × IsExtractFault folder refused fault)
-    ⊎ (IsUnextracted e size told image fault × (new ≡ old) × (now ≡ before) × (told_new ≡ told_old) × (told_now ≡ told_before))
+ExtractsImage e size owners told image folder old new before now told_old told_new told_before told_now result =
+    ((bytes : List ℕ) × AreOf told bytes × ExtractsBytes e size owners bytes folder old new before now told_old told_new told_before told_now result)
+    ⊎ ((fault : ProgramFault) × (result ≡ Err fault) × IsUnread image fault × (new ≡ old) × (now ≡ before) × (told_new ≡ told_old) × (told_now ≡ told_before))
+
+-- The same by a host that gives the folder and takes it back: its count of refusals is that folder's own. Or there is no
+-- memory for the folder, and nothing is done.
+abbrev pub FillsFolder : Endian → ℕ → Bool → Option (List ℕ) → List ℕ → List ℕ → Option (List Made) → Option (List Made) → Option (List ℕ) → Option (List ℕ) → ℕ → ℕ → Result Extracted ProgramFault → Type 0
+FillsFolder e size owners told image folder old new told_old told_new told_before told_now result =
+    ((before : ℕ) × (now : ℕ) × ExtractsImage e size owners told image folder old new before now told_old told_new told_before told_now result)
+    ⊎ ((result ≡ Err program.OutOfMemory) × (new ≡ old) × (told_new ≡ told_old) × (told_now ≡ told_before))
 
 -- ---- listing
 

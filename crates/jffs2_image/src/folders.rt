@@ -5,8 +5,8 @@ ghost use Rattle.jfolder.specs.Text.{listing_text};
 ghost use Rattle.jcommand.specs.Parsed.{ExtractParsed, ListingParsed, IsFaultless};
 ghost use Rattle.jextract.specs.Folders.{Made};
 ghost use Rattle.jfolder.specs.Actions.{Fits};
-ghost use Rattle.jffs2_image.specs.Folders.{ExtractsImage, IsExtractFault, IsReadingFault, IsUnlisted, ListsFolder};
-ghost use Rattle.jffs2_image.specs.FolderRuns.{EndsExtraction, EndsListing, FinishesListing};
+ghost use Rattle.jffs2_image.specs.Folders.{ExtractsImage, ExtractsBytes, FillsFolder, IsExtractFault, IsReadingFault, IsUnlisted, ListsFolder};
+ghost use Rattle.jffs2_image.specs.FolderRuns.{EndsExtraction, EndsListing, FinishesListing, ListsGiven};
 
 use crate::host::Loader;
 use crate::output::Output;
@@ -66,6 +66,32 @@ fn extract_fault(fault: ExtractFault, name: &str) -> ProgramFault<'_>
     }
 }
 
+/// The tree of an image is made in the folder of a name.
+fn extract_bytes<'a, E: Order, X: Folder, N: Sink>(
+    alloc: Global,
+    image: &[u8],
+    geometry: Geometry,
+    owners: bool,
+    name: &'a str,
+    folder: &mut X,
+    notes: &mut N,
+) -> Result<Extracted, ProgramFault<'a>>
+    ensures { ExtractsBytes E.order geometry.block owners image.now name.entry.now (X.made folder.old) (X.made folder.new)
+        (X.failures folder.old) (X.failures folder.new) (N.taken notes.old) (N.taken notes.new) (N.failures notes.old) (N.failures notes.new) result }
+{
+    let mounted = match mount::<E>(alloc, image, geometry) {
+        Ok(mounted) => mounted,
+        Err(fault) => return Err(ProgramFault::Mount(fault)),
+    };
+    match extract(alloc, &mounted, owners, folder, notes) {
+        Ok(left_out) => Ok(Extracted {
+            left_out,
+            findings: noted(&mounted),
+        }),
+        Err(fault) => Err(extract_fault(fault, name)),
+    }
+}
+
 /// `extract`: the tree of the image of a name is made in a folder, whose name is told where it can't be made.
 pub fn extract_image<'a, E: Order, L: Loader, X: Folder, N: Sink>(
     alloc: Global,
@@ -81,18 +107,11 @@ pub fn extract_image<'a, E: Order, L: Loader, X: Folder, N: Sink>(
         (X.made folder.old) (X.made folder.new) (X.failures folder.old) (X.failures folder.new)
         (N.taken notes.old) (N.taken notes.new) (N.failures notes.old) (N.failures notes.new) result }
 {
-    let bytes = load_file(loader, image)?;
-    let mounted = match mount::<E>(alloc, bytes.as_slice(), geometry) {
-        Ok(mounted) => mounted,
-        Err(fault) => return Err(ProgramFault::Mount(fault)),
+    let bytes = match load_file(loader, image) {
+        Ok(bytes) => bytes,
+        Err(fault) => return Err(fault),
     };
-    match extract(alloc, &mounted, owners, folder, notes) {
-        Ok(left_out) => Ok(Extracted {
-            left_out,
-            findings: noted(&mounted),
-        }),
-        Err(fault) => Err(extract_fault(fault, name)),
-    }
+    extract_bytes::<E, X, N>(alloc, bytes.as_slice(), geometry, owners, name, folder, notes)
 }
 
 /// What a reading of the folder of a name gives up for.
@@ -177,6 +196,31 @@ fn extract_in_order<'a, L: Loader, X: Folder, N: Sink>(
     }
 }
 
+/// The same into a folder that the host gives, and takes back.
+fn fill<'a, L: Loader, D: Folders, N: Sink>(
+    alloc: Global,
+    loader: &mut L,
+    folders: &mut D,
+    options: Options,
+    owners: bool,
+    quiet: bool,
+    image: &'a str,
+    name: &'a str,
+    notes: &mut N,
+) -> Result<Extracted, ProgramFault<'a>>
+    ensures { FillsFolder options.endian options.geometry.block owners (L.told loader.old image.entry.now) image.entry.now name.entry.now
+        (D.made folders.old) (D.made folders.new) (N.taken notes.old) (N.taken notes.new) (N.failures notes.old) (N.failures notes.new) result }
+{
+    let Ok(mut folder) = folders.filled(name, quiet) else {
+        return Err(ProgramFault::OutOfMemory);
+    };
+    let answer = extract_in_order(
+        alloc, loader, options, owners, image, name, &mut folder, notes,
+    );
+    folders.take_filled(folder);
+    answer
+}
+
 /// `extract` as a command: the image of a name in the folder of a name.
 pub fn run_extract<L: Loader, D: Folders, E: Sink>(
     alloc: Global,
@@ -192,14 +236,7 @@ pub fn run_extract<L: Loader, D: Folders, E: Sink>(
     ensures { EndsExtraction options owners image.now name.now (L.told loader.old) (D.made folders.old) (D.made folders.new)
         (E.taken errors.old) (E.taken errors.new) (E.failures errors.old) (E.failures errors.new) result }
 {
-    let Ok(mut folder) = folders.filled(name, quiet) else {
-        return report_fault(&ProgramFault::OutOfMemory, errors);
-    };
-    let answer = extract_in_order(
-        alloc, loader, options, owners, image, name, &mut folder, errors,
-    );
-    folders.take_filled(folder);
-    match answer {
+    match fill(alloc, loader, folders, options, owners, quiet, image, name, errors) {
         Ok(done) => {
             note(done.findings, errors);
             Outcome::of(done.left_out)
@@ -237,6 +274,26 @@ fn list_whole<'a, H: HostFolder, T: Output, N: Sink>(
     }
 }
 
+/// The same of a folder that the host gives, and takes back.
+fn list_given<'a, D: Folders, T: Output, N: Sink>(
+    alloc: Global,
+    folders: &mut D,
+    options: jfolder::Options,
+    quiet: bool,
+    name: &'a str,
+    output: &mut T,
+    notes: &mut N,
+) -> Result<u64, ProgramFault<'a>>
+    ensures { ListsGiven (output.new ≡ output.old) name.entry.now (T.taken output.old) (T.given output.new) (T.failures output.old) (T.failures output.new) result }
+{
+    let Ok(mut folder) = folders.read(name, quiet) else {
+        return Err(ProgramFault::OutOfMemory);
+    };
+    let answer = list_whole(alloc, options, name, &mut folder, output, notes);
+    folders.take_read(folder);
+    answer
+}
+
 /// `listing` as a command: that of the folder of a name.
 pub fn run_listing<D: Folders, T: Output, E: Sink>(
     alloc: Global,
@@ -248,16 +305,11 @@ pub fn run_listing<D: Folders, T: Output, E: Sink>(
     output: &mut T,
     errors: &mut E,
 ) -> Outcome
-    ensures { EndsListing name.now (T.taken output.old) (T.given output.new) (T.failures output.old) (T.failures output.new)
+    ensures { EndsListing (output.new ≡ output.old) name.now (T.taken output.old) (T.given output.new) (T.failures output.old) (T.failures output.new)
         (E.taken errors.new) (E.failures errors.new) result }
 {
-    let Ok(mut folder) = folders.read(name, quiet) else {
-        return report_fault(&ProgramFault::OutOfMemory, errors);
-    };
     let options = settings_of(owner, time);
-    let answer = list_whole(alloc, options, name, &mut folder, output, errors);
-    folders.take_read(folder);
-    match answer {
+    match list_given(alloc, folders, options, quiet, name, output, errors) {
         Ok(left_out) => Outcome::of(left_out),
         Err(fault) => report_fault(&fault, errors),
     }
