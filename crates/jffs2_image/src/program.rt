@@ -380,7 +380,7 @@ pub fn run<R: Files + AllocGlobal, L: Loader, M: Maker, D: Folders, T: Output, E
     errors: &mut E,
 ) -> Outcome
     // The words make a request, whose answer goes out, or are answered by a text; or they ask to fill or to read a folder.
-    ensures runs { RunsTask (map (λ w. w.now) args.now)
+    ensures { RunsTask (map (λ w. w.now) args.now)
         (λ command. (ran : RunsCommand command (T.taken output.old) (T.given output.new) (T.failures output.old) (T.failures output.new)
             (Says (errors.new ≡ errors.old) (E.taken errors.old) (E.taken errors.new) (E.failures errors.old) (E.failures errors.new)) result)
             × BlamesCommand command (loader.new ≡ loader.old) (maker.new ≡ maker.old) (L.failures loader.old) (L.failures loader.new)
