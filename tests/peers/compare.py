@@ -6,6 +6,7 @@ import subprocess
 import sys
 import tempfile
 
+import folders
 import tree
 import writing
 from judging import COUNTS, check, compare, produce, run, test
@@ -91,6 +92,8 @@ def main():
         parts = Parts(place)
         writing.build(sayable, place, parts)
         writing.append(folder, changed, sayable, place, parts)
+        folders.there_and_back(folder, place)
+        folders.of_another_producer(folder, place)
     print(f"{COUNTS[0]} passed, {COUNTS[1]} failed")
     return 1 if COUNTS[1] else 0
 

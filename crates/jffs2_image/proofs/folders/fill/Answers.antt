@@ -1,0 +1,9 @@
+use Rattle.std.proofs.Common.{inl}
+use Rattle.jffs2_image.proofs.folders.fill.Goals as goal
+
+pub returns : goal.returns
+returns g c = inl (
+  g.D.Filled.Folder.failures c.in-Ok.folder,
+  g.D.Filled.Folder.failures c.extract_in_order-answer.new.folder,
+  rw c.take_filled.ensures (rw c.in-Ok.ensures.filled at c.extract_in_order-answer.ensures),
+)

@@ -1,0 +1,20 @@
+use Rattle.std.proofs.Common.{inl, rules, ℕ, List, Ok, Err}
+use Rattle.std.specs.Prelude.{◌⊎◌}
+use Rattle.jcommand.specs.Parsed.{IsHelpRequested, IsRefusedByClap, IsUnreadable}
+use Rattle.jcommand.specs.Refused.{IsHelp, IsUsage}
+use Rattle.jcommand.specs.declared.command_line.RequestFault.{RequestFault}
+use Rattle.jcommand.specs.declared.command_line.RequestFault.TheVariants as refused
+use Rattle.jffs2_image.specs.Runs.{IsCommand}
+use Rattle.jffs2_image.proofs.program.run.Goals as goal
+
+-- a refusal comes where it is due
+refusal : (args : List (List ℕ)) (fault : RequestFault) → (IsHelp fault → IsHelpRequested args) → (IsUsage fault → IsRefusedByClap args ⊎ IsUnreadable args) → IsCommand args (Err fault)
+refusal args (refused.Help text) help usage = help tt
+refusal args (refused.Usage text) help usage = usage tt
+refusal args refused.OutOfMemory help usage = tt
+
+pub returns-in-Ok-Image : goal.returns-in-Ok-Image
+returns-in-Ok-Image g c = inl (Ok c.in-Ok-Image.request, (search rules, c.in-Ok-Image.ensures.faultless), c.run_image.ensures)
+
+pub returns-in-Err : goal.returns-in-Err
+returns-in-Err g c = inl (Err c.in-Err.fault, refusal _ c.in-Err.fault c.in-Err.ensures.help c.in-Err.ensures.usage, c.run_image-in-Err.ensures)
