@@ -1,6 +1,7 @@
 pub mod BelowLemmas
 pub mod FillLemmas
 pub mod InsideLemmas
+pub mod LinkLemmas
 pub mod MakingLemmas
 pub mod OnceLemmas
 pub mod PathLemmas

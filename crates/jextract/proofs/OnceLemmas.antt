@@ -29,7 +29,7 @@ use Rattle.jmount.proofs.PathNameLemmas.{path_names_exactly}
 use Rattle.jextract.specs.Extracts.{AreFirstTreeOutcomes}
 use Rattle.jextract.specs.Folders.{Made, Deed, Directory, File, Content, Symlink, Link, Attributed}
 use Rattle.jextract.specs.Laws.{HasNames, HasWay, AreMadeBelow, MakesOnce, MakesThroughDirectories, deeds_at, directory_at, is_one, is_of_directory}
-use Rattle.jextract.specs.Outcomes.{Task, Make, Complete, path_of, Outcome, Firsts, Plan, Do, LeaveOut, FollowsPlan, IsOutcomeOf, AreFirstOutcomes, plan_of, plan_at, plan_made, plan_symlink, plan_completed, attributes_of, is_target, firsts_after, todo_after, todo_if, made_at, all_made, root_made, root_alone, tasks_of, tasks_in}
+use Rattle.jextract.specs.Outcomes.{Task, Make, Complete, path_of, Outcome, Firsts, Plan, Do, LeaveOut, FollowsPlan, IsOutcomeOf, AreFirstOutcomes, plan_of, plan_at, plan_made, plan_completed, attributes_of, is_target, firsts_after, todo_after, todo_if, made_at, all_made, root_made, root_alone, tasks_of, tasks_in}
 use Rattle.jextract.specs.Paths.{host_path, path_text}
 use Rattle.jextract.specs.declared.folder.Attributes.{Attributes}
 use Rattle.jextract.specs.declared.reason.Reason.{Reason}
@@ -83,6 +83,12 @@ rest_itself : (way : List (List ℕ)) → rest_of way way ≡ Some []
 rest_itself [] = refl
 rest_itself (n ∷ way) =
     ap (λ (t : Bool). let r : Option (List (List ℕ)) = if t then rest_of way way else None in r) (bytes_itself n n refl) ∙ rest_itself way
+
+not_whole : (way path : List (List ℕ)) (m : List ℕ) (rest : List (List ℕ)) → rest_of way path ≡ Some (m ∷ rest) → rest_of way path ≡ Some [] → ⊥
+not_whole way path m rest r end = let no : m ∷ rest ≡ [] = same_Some (m ∷ rest) [] (sym r ∙ end) in absurd (cc)
+
+not_there : (way path : List (List ℕ)) → rest_of way path ≡ None → rest_of way path ≡ Some [] → ⊥
+not_there way path r end = let no : None ≡ Some [] = sym r ∙ end in absurd (cc)
 
 abbrev rest_then : List ℕ → Option (List (List ℕ)) → Option (List (List ℕ))
 rest_then name None = None
@@ -160,7 +166,8 @@ others : (dir : ℕ) (k : Key) (es : List (Key × ℕ)) → k.0 ≡ dir → T (b
 others dir k [] at below = tt
 others dir k (e ∷ es) at below = by (e.0.0 == dir) refl (others dir k es at (T_second (is_lt (key_cmp k e.0)) (below_all key_cmp k es) below))
   where
-    by : (b : Bool) → (e.0.0 == dir) ≡ b → Others k.1 (names_among dir es) → Others k.1 (map (λ e. (e.0.1, e.1)) (cond b (e ∷ filter (λ e. e.0.0 == dir) es) (filter (λ e. e.0.0 == dir) es)))
+    by : (b : Bool) → (e.0.0 == dir) ≡ b → Others k.1 (names_among dir es)
+        → Others k.1 (map (λ e. (e.0.1, e.1)) (cond b (e ∷ filter (λ e. e.0.0 == dir) es) (filter (λ e. e.0.0 == dir) es)))
     by true is rest = (
       λ same.
           let one : k.0 ≡ e.0.0 = at ∙ sym (eqb-true e.0.0 dir is) in
@@ -174,7 +181,8 @@ differ : (dir : ℕ) (es : List (Key × ℕ)) → T (is_sorted key_cmp es) → D
 differ dir [] sorted = tt
 differ dir (e ∷ es) sorted = by (e.0.0 == dir) refl (differ dir es (T_second (below_all key_cmp e.0 es) (is_sorted key_cmp es) sorted))
   where
-    by : (b : Bool) → (e.0.0 == dir) ≡ b → Differ (names_among dir es) → Differ (map (λ e. (e.0.1, e.1)) (cond b (e ∷ filter (λ e. e.0.0 == dir) es) (filter (λ e. e.0.0 == dir) es)))
+    by : (b : Bool) → (e.0.0 == dir) ≡ b → Differ (names_among dir es)
+        → Differ (map (λ e. (e.0.1, e.1)) (cond b (e ∷ filter (λ e. e.0.0 == dir) es) (filter (λ e. e.0.0 == dir) es)))
     by true is rest = (others dir e.0 es (eqb-true e.0.0 dir is) (T_first (below_all key_cmp e.0 es) (is_sorted key_cmp es) sorted), rest)
     by false is rest = rest
 
@@ -197,7 +205,9 @@ module _ (s : State) (way path : List (List ℕ)) where
     where
       by : (b : Bool) → filter (leads path) (tasks_of s way names) ≡ []
           → filter (leads path) (map (λ e. Make (way ++ e.0 ∷ []) e.1) (cond b (e ∷ filter (λ e. is_there s e.1) names) (filter (λ e. is_there s e.1) names))) ≡ []
-      by true rest = ap (λ (l : Bool). cond l (Make (way ++ e.0 ∷ []) e.1 ∷ filter (leads path) (tasks_of s way names)) (filter (leads path) (tasks_of s way names))) none.0 ∙ rest
+      by true rest =
+          let others : List Task = filter (leads path) (tasks_of s way names) in
+          ap (λ (l : Bool). cond l (Make (way ++ e.0 ∷ []) e.1 ∷ others) others) none.0 ∙ rest
       by false rest = rest
 
   by_rest : (r : Option (List (List ℕ))) → rest_of way path ≡ r → (e : List ℕ × ℕ) → leads_by e ≡ is_some (rest_then e.0 r)
@@ -242,7 +252,8 @@ module _ (s : State) (way path : List (List ℕ)) where
         here false lead rest = rest
 
         by : (b : Bool) → Stands [] (filter (leads path) (tasks_of s way names))
-            → Stands [] (filter (leads path) (map (λ e. Make (way ++ e.0 ∷ []) e.1) (cond b (e ∷ filter (λ e. is_there s e.1) names) (filter (λ e. is_there s e.1) names))))
+            → Stands [] (filter (leads path) (map (λ e. Make (way ++ e.0 ∷ []) e.1)
+            (cond b (e ∷ filter (λ e. is_there s e.1) names) (filter (λ e. is_there s e.1) names))))
         by true rest = here (leads_by e) refl rest
         by false rest = rest
 
@@ -267,23 +278,23 @@ deeds_away path text (deed ∷ deeds) other =
     ap (λ (b : Bool). map (λ (made : Made). made.deed) (cond b (record { path = text; deed = deed } ∷ later) later)) (bytes_other text path other)
     ∙ deeds_away path text deeds other
 
-abbrev deeds_of : Plan → List Deed
+abbrev pub deeds_of : Plan → List Deed
 deeds_of (Do deeds) = deeds
 deeds_of (LeaveOut why) = []
 
 -- a beginning of what a plan says is done, at one path
-abbrev IsBegun : Result (List ℕ) Reason → Plan → List Made → Type 0
+abbrev pub IsBegun : Result (List ℕ) Reason → Plan → List Made → Type 0
 IsBegun path plan made = (made ≡ []) ⊎ ((text : List ℕ) × (k : ℕ) × (path ≡ Ok text) × (made ≡ made_at text (take k (deeds_of plan))))
 
-begun : (path : Result (List ℕ) Reason) (plan : Plan) (o : Outcome) → FollowsPlan path plan o → IsBegun path plan o.deeds
+pub begun : (path : Result (List ℕ) Reason) (plan : Plan) (o : Outcome) → FollowsPlan path plan o → IsBegun path plan o.deeds
 begun (Err why) plan o follows = inl follows.0
 begun (Ok text) (LeaveOut why) o follows = inl follows.0
 begun (Ok text) (Do deeds) o (inl all) = inr (text, length deeds, refl, all.0 ∙ ap (made_at text) (sym (take_all (length deeds) deeds (omega arith))))
 begun (Ok text) (Do deeds) o (inr part) =
     inr (text, part.0, refl, part.2 ∙ take-map (λ (deed : Deed). let m : Made = record { path = text; deed = deed } in m) part.0 deeds)
 
-done_away : (at : List ℕ) (path : Result (List ℕ) Reason) (plan : Plan) (made : List Made) → IsBegun path plan made → ((text : List ℕ) → path ≡ Ok text → text ≡ at → ⊥)
-    → deeds_at at made ≡ []
+done_away : (at : List ℕ) (path : Result (List ℕ) Reason) (plan : Plan) (made : List Made) → IsBegun path plan made
+    → ((text : List ℕ) → path ≡ Ok text → text ≡ at → ⊥) → deeds_at at made ≡ []
 done_away at path plan made (inl none) other = ap (deeds_at at) none
 done_away at path plan made (inr some) other = ap (deeds_at at) some.3 ∙ deeds_away at some.0 (take some.1 (deeds_of plan)) (other some.0 some.2)
 
@@ -293,10 +304,11 @@ done_here at path plan made (inl none) same = (0, ap (deeds_at at) none)
 done_here at path plan made (inr some) same = (some.1, ap (deeds_at at) some.3 ∙ deeds_here at some.0 (take some.1 (deeds_of plan)) (same some.0 some.2))
 
 -- a task that is not for this path does nothing there
-away : (s : State) (owners : Bool) (firsts : Firsts) (task : Task) (o : Outcome) (path : List (List ℕ)) → list_all is_name path ≡ true → IsOutcomeOf s owners firsts task o
-    → (rest_of (path_of task) path ≡ Some [] → ⊥) → deeds_at (path_text path) o.deeds ≡ []
+away : (s : State) (owners : Bool) (firsts : Firsts) (task : Task) (o : Outcome) (path : List (List ℕ)) → list_all is_name path ≡ true
+    → IsOutcomeOf s owners firsts task o → (rest_of (path_of task) path ≡ Some [] → ⊥) → deeds_at (path_text path) o.deeds ≡ []
 away s owners firsts task o path are is other =
-    done_away (path_text path) (host_path (path_of task)) (plan_at s owners firsts task) o.deeds (begun (host_path (path_of task)) (plan_at s owners firsts task) o is.1)
+    done_away (path_text path) (host_path (path_of task)) (plan_at s owners firsts task) o.deeds
+    (begun (host_path (path_of task)) (plan_at s owners firsts task) o is.1)
     (λ text known same.
     let has = host_has (path_of task) text known in
     let one : path_of task ≡ path = same_names (path_of task) path has.1 are (sym has.0 ∙ same) in
@@ -306,7 +318,8 @@ away s owners firsts task o path are is other =
 here : (s : State) (owners : Bool) (firsts : Firsts) (task : Task) (o : Outcome) (path : List (List ℕ)) → IsOutcomeOf s owners firsts task o
     → rest_of (path_of task) path ≡ Some [] → (k : ℕ) × (deeds_at (path_text path) o.deeds ≡ take k (deeds_of (plan_at s owners firsts task)))
 here s owners firsts task o path is same =
-    done_here (path_text path) (host_path (path_of task)) (plan_at s owners firsts task) o.deeds (begun (host_path (path_of task)) (plan_at s owners firsts task) o is.1)
+    done_here (path_text path) (host_path (path_of task)) (plan_at s owners firsts task) o.deeds
+    (begun (host_path (path_of task)) (plan_at s owners firsts task) o is.1)
     (λ text known. (host_has (path_of task) text known).0 ∙ ap path_text (whole_is (path_of task) path same))
 
 -- ---- a plan makes one object
@@ -326,17 +339,16 @@ none_of_plan : (k : ℕ) → is_one (take k []) ≡ true
 none_of_plan zero = refl
 none_of_plan (suc k) = refl
 
-symlink_one : (target : List ℕ) (attributes : Attributes) (k : ℕ) (b : Bool) → is_target target ≡ b → is_one (take k (deeds_of (plan_symlink target attributes))) ≡ true
-symlink_one target attributes k b e = subst (λ (x : Bool). is_one (take k (deeds_of (if x then Do (Symlink target attributes ∷ []) else LeaveOut reason.BadTarget))) ≡ true) (sym e) (by b)
-  where
-    by : (x : Bool) → is_one (take k (deeds_of (if x then Do (Symlink target attributes ∷ []) else LeaveOut reason.BadTarget))) ≡ true
-    by true = one_of (Symlink target attributes) refl k
-    by false = none_of_plan k
+symlink_one : (target : List ℕ) (attributes : Attributes) (k : ℕ) (b : Bool)
+    → is_one (take k (deeds_of (if b then Do (Symlink target attributes ∷ []) else LeaveOut reason.BadTarget))) ≡ true
+symlink_one target attributes k true = one_of (Symlink target attributes) refl k
+symlink_one target attributes k false = none_of_plan k
 
-plan_one : (known : Option (List ℕ)) (kind : Kind) (bytes : List ℕ) (attributes : Attributes) (k : ℕ) → is_one (take k (deeds_of (plan_of known kind bytes attributes))) ≡ true
+plan_one : (known : Option (List ℕ)) (kind : Kind) (bytes : List ℕ) (attributes : Attributes) (k : ℕ)
+    → is_one (take k (deeds_of (plan_of known kind bytes attributes))) ≡ true
 plan_one None kind.Directory bytes attributes k = one_of Directory refl k
 plan_one None kind.Regular bytes attributes k = two_of bytes attributes k
-plan_one None kind.Symlink bytes attributes k = symlink_one bytes attributes k (is_target bytes) refl
+plan_one None kind.Symlink bytes attributes k = symlink_one bytes attributes k (is_target bytes)
 plan_one (Some first) kind.Regular bytes attributes k = one_of (Link first) refl k
 plan_one (Some first) kind.Symlink bytes attributes k = one_of (Link first) refl k
 plan_one known kind bytes attributes k = none_of_plan k
@@ -362,7 +374,8 @@ tasks_filtered s path way i todo =
     ∙ ap (λ (l : List Task). l ++ filter (leads path) todo) (filter-append (leads path) (tasks_of s way (entries_in s i)) (Complete way i ∷ []))
     ∙ append_assoc (filter (leads path) (tasks_of s way (entries_in s i))) (filter (leads path) (Complete way i ∷ [])) (filter (leads path) todo)
 
-stands_if : (s : State) (path way : List (List ℕ)) (i : ℕ) (todo : List Task) (deeds : List Deed) (left_out : Option Reason) → Stands deeds (filter (leads path) todo)
+stands_if : (s : State) (path way : List (List ℕ)) (i : ℕ) (todo : List Task) (deeds : List Deed) (left_out : Option Reason)
+    → Stands deeds (filter (leads path) todo)
     → (left_out ≡ None → is_directory s i ≡ true → Stands deeds (filter (leads path) (tasks_in s way i ++ todo)))
     → Stands deeds (filter (leads path) (todo_if s way i left_out todo))
 stands_if s path way i todo deeds (Some why) rest entered = rest
@@ -373,10 +386,12 @@ stands_if s path way i todo deeds None rest entered = by (is_directory s i) refl
     by false d = rest
 
 -- a directory that was entered: one task at most leads from it to a path
-stands_entered : (s : State) (path way : List (List ℕ)) (i : ℕ) (todo names last rest : List Task) (deeds : List Deed) → filter (leads path) (tasks_of s way (entries_in s i)) ≡ names
-    → filter (leads path) (Complete way i ∷ []) ≡ last → filter (leads path) todo ≡ rest → Stands deeds (names ++ (last ++ rest)) → Stands deeds (filter (leads path) (tasks_in s way i ++ todo))
+stands_entered : (s : State) (path way : List (List ℕ)) (i : ℕ) (todo names last rest : List Task) (deeds : List Deed)
+    → filter (leads path) (tasks_of s way (entries_in s i)) ≡ names → filter (leads path) (Complete way i ∷ []) ≡ last → filter (leads path) todo ≡ rest
+    → Stands deeds (names ++ (last ++ rest)) → Stands deeds (filter (leads path) (tasks_in s way i ++ todo))
 stands_entered s path way i todo names last rest deeds a b c stands =
-    subst (Stands deeds) (sym (tasks_filtered s path way i todo ∙ ap (λ (l : List Task). l ++ (filter (leads path) (Complete way i ∷ []) ++ filter (leads path) todo)) a
+    subst (Stands deeds) (sym (tasks_filtered s path way i todo
+    ∙ ap (λ (l : List Task). l ++ (filter (leads path) (Complete way i ∷ []) ++ filter (leads path) todo)) a
     ∙ ap (λ (l : List Task). names ++ (l ++ filter (leads path) todo)) b ∙ ap (λ (l : List Task). names ++ (last ++ l)) c)) stands
 
 Goes : State → List (List ℕ) → Task → Outcome → List Task → List Deed → List Deed → Type 0
@@ -385,8 +400,9 @@ Goes s path task o todo before more = Stands before (filter (leads path) (task �
 no_more : (before more : List Deed) (todo : List Task) → more ≡ [] → Stands before todo → Stands (before ++ more) todo
 no_more before more todo none stands = subst (λ (l : List Deed). Stands l todo) (sym (append-nil before) ∙ ap (λ l. before ++ l) (sym none)) stands
 
-after_complete : (s : State) (owners : Bool) (firsts : Firsts) (way : List (List ℕ)) (i : ℕ) (o : Outcome) (todo : List Task) (path : List (List ℕ)) (before : List Deed)
-    → list_all is_name path ≡ true → IsOutcomeOf s owners firsts (Complete way i) o → Goes s path (Complete way i) o todo before (deeds_at (path_text path) o.deeds)
+after_complete : (s : State) (owners : Bool) (firsts : Firsts) (way : List (List ℕ)) (i : ℕ) (o : Outcome) (todo : List Task) (path : List (List ℕ))
+    (before : List Deed) → list_all is_name path ≡ true → IsOutcomeOf s owners firsts (Complete way i) o
+    → Goes s path (Complete way i) o todo before (deeds_at (path_text path) o.deeds)
 unfolding Goes
 after_complete s owners firsts way i o todo path before are is = by (rest_of way path) refl
   where
@@ -394,10 +410,10 @@ after_complete s owners firsts way i o todo path before are is = by (rest_of way
         → Stands (before ++ deeds_at (path_text path) o.deeds) (filter (leads path) todo)
     by None r stands =
         no_more before (deeds_at (path_text path) o.deeds) (filter (leads path) todo)
-        (away s owners firsts (Complete way i) o path are is (λ (end : rest_of way path ≡ Some []). let no : None ≡ Some [] = sym r ∙ end in absurd (cc))) stands
+        (away s owners firsts (Complete way i) o path are is (not_there way path r)) stands
     by (Some (m ∷ rest)) r stands =
         no_more before (deeds_at (path_text path) o.deeds) (filter (leads path) todo)
-        (away s owners firsts (Complete way i) o path are is (λ (end : rest_of way path ≡ Some []). let no : m ∷ rest ≡ [] = same_Some (m ∷ rest) [] (sym r ∙ end) in absurd (cc))) stands
+        (away s owners firsts (Complete way i) o path are is (not_whole way path m rest r)) stands
     by (Some []) r stands =
         let last = complete_last before way i (filter (leads path) todo) stands in
         let done = here s owners firsts (Complete way i) o path is r in
@@ -406,8 +422,9 @@ after_complete s owners firsts way i o todo path before are is = by (rest_of way
         ∙ ap (λ (d : List Deed). is_one (Directory ∷ d)) done.1
         ∙ completed_one owners (option_map shown (object s i)) done.0)
 
-after_make : (s : State) (owners : Bool) (firsts : Firsts) (way : List (List ℕ)) (i : ℕ) (o : Outcome) (todo : List Task) (path : List (List ℕ)) (before : List Deed)
-    → list_all is_name path ≡ true → IsOutcomeOf s owners firsts (Make way i) o → Goes s path (Make way i) o todo before (deeds_at (path_text path) o.deeds)
+after_make : (s : State) (owners : Bool) (firsts : Firsts) (way : List (List ℕ)) (i : ℕ) (o : Outcome) (todo : List Task) (path : List (List ℕ))
+    (before : List Deed) → list_all is_name path ≡ true → IsOutcomeOf s owners firsts (Make way i) o
+    → Goes s path (Make way i) o todo before (deeds_at (path_text path) o.deeds)
 unfolding Goes
 after_make s owners firsts way i o todo path before are is = by (rest_of way path) refl
   where
@@ -415,7 +432,7 @@ after_make s owners firsts way i o todo path before are is = by (rest_of way pat
         → Stands (before ++ deeds_at (path_text path) o.deeds) (filter (leads path) (todo_if s way i o.left_out todo))
     by None r stands =
         let now = no_more before (deeds_at (path_text path) o.deeds) (filter (leads path) todo)
-        (away s owners firsts (Make way i) o path are is (λ (end : rest_of way path ≡ Some []). let no : None ≡ Some [] = sym r ∙ end in absurd (cc))) stands in
+        (away s owners firsts (Make way i) o path are is (not_there way path r)) stands in
         stands_if s path way i todo (before ++ deeds_at (path_text path) o.deeds) o.left_out now
         (λ left d.
         stands_entered s path way i todo [] [] (filter (leads path) todo) (before ++ deeds_at (path_text path) o.deeds)
@@ -425,17 +442,19 @@ after_make s owners firsts way i o todo path before are is = by (rest_of way pat
         let last = make_last before way i (filter (leads path) todo) stands in
         let nothing : before ++ deeds_at (path_text path) o.deeds ≡ [] =
         ap (λ (d : List Deed). d ++ deeds_at (path_text path) o.deeds) last.0
-        ∙ away s owners firsts (Make way i) o path are is (λ (end : rest_of way path ≡ Some []). let no : m ∷ rest ≡ [] = same_Some (m ∷ rest) [] (sym r ∙ end) in absurd (cc)) in
+        ∙ away s owners firsts (Make way i) o path are is (not_whole way path m rest r) in
         subst (λ (d : List Deed). Stands d (filter (leads path) (todo_if s way i o.left_out todo))) (sym nothing)
         (stands_if s path way i todo [] o.left_out (subst (Stands []) (sym last.1) refl)
         (λ left d.
         stands_entered s path way i todo (filter (leads path) (tasks_of s way (entries_in s i))) [] [] [] refl
         (ap (λ (x : Option (List (List ℕ))). let l : List Task = cond (is_end x) (Complete way i ∷ []) [] in l) r) last.1
-        (subst (Stands []) (sym (append-nil (filter (leads path) (tasks_of s way (entries_in s i))))) (one_leads s way path m rest r (entries_in s i) (names_differ s i)))))
+        (subst (Stands []) (sym (append-nil (filter (leads path) (tasks_of s way (entries_in s i)))))
+        (one_leads s way path m rest r (entries_in s i) (names_differ s i)))))
     by (Some []) r stands =
         let last = make_last before way i (filter (leads path) todo) stands in
         let done = here s owners firsts (Make way i) o path is r in
-        let one : before ++ deeds_at (path_text path) o.deeds ≡ deeds_at (path_text path) o.deeds = ap (λ (d : List Deed). d ++ deeds_at (path_text path) o.deeds) last.0 in
+        let one : before ++ deeds_at (path_text path) o.deeds ≡ deeds_at (path_text path) o.deeds =
+        ap (λ (d : List Deed). d ++ deeds_at (path_text path) o.deeds) last.0 in
         subst (λ (d : List Deed). Stands d (filter (leads path) (todo_if s way i o.left_out todo))) (sym one)
         (stands_if s path way i todo (deeds_at (path_text path) o.deeds) o.left_out
         (subst (Stands (deeds_at (path_text path) o.deeds)) (sym last.1) (ap is_one done.1 ∙ made_one s owners firsts i (option_map shown (object s i)) done.0))
@@ -446,15 +465,15 @@ after_make s owners firsts way i o todo path before are is = by (rest_of way pat
         (ap (deeds_at (path_text path)) (directory_alone s owners firsts way i o is left d)
         ∙ deeds_here (path_text path) (path_text way) (Directory ∷ []) (ap path_text (whole_is way path r)))))
 
-stands_after : (s : State) (owners : Bool) (firsts : Firsts) (task : Task) (o : Outcome) (todo : List Task) (path : List (List ℕ)) (before : List Deed)
-    → list_all is_name path ≡ true → IsOutcomeOf s owners firsts task o → Goes s path task o todo before (deeds_at (path_text path) o.deeds)
+stands_after : (s : State) (owners : Bool) (firsts : Firsts) (task : Task) (o : Outcome) (todo : List Task) (path : List (List ℕ))
+    (before : List Deed) → list_all is_name path ≡ true → IsOutcomeOf s owners firsts task o → Goes s path task o todo before (deeds_at (path_text path) o.deeds)
 stands_after s owners firsts (Make way i) o todo path before are is = after_make s owners firsts way i o todo path before are is
 stands_after s owners firsts (Complete way i) o todo path before are is = after_complete s owners firsts way i o todo path before are is
 
 -- ---- the walk
 
-once : (s : State) (owners : Bool) (firsts : Firsts) (todo : List Task) (outcomes : List Outcome) (path : List (List ℕ)) (before : List Deed) → list_all is_name path ≡ true
-    → AreFirstOutcomes s owners firsts todo outcomes → Stands before (filter (leads path) todo)
+once : (s : State) (owners : Bool) (firsts : Firsts) (todo : List Task) (outcomes : List Outcome) (path : List (List ℕ)) (before : List Deed)
+    → list_all is_name path ≡ true → AreFirstOutcomes s owners firsts todo outcomes → Stands before (filter (leads path) todo)
     → is_one (before ++ deeds_at (path_text path) (flat_map (λ o. o.deeds) outcomes)) ≡ true
 unfolding Goes
 once s owners firsts todo [] path before is are stands = ap is_one (append-nil before) ∙ stands_one before (filter (leads path) todo) stands
@@ -467,7 +486,8 @@ once s owners firsts (task ∷ todo) (o ∷ outcomes) path before is are stands 
     (stands_after s owners firsts task o todo path before is are.0 stands)
 
 -- at the start the folder itself is made
-stands_first : (s : State) (path : List (List ℕ)) → list_all is_name path ≡ true → Stands (deeds_at (path_text path) (root_made ∷ [])) (filter (leads path) (tasks_in s [] 1))
+stands_first : (s : State) (path : List (List ℕ)) → list_all is_name path ≡ true
+    → Stands (deeds_at (path_text path) (root_made ∷ [])) (filter (leads path) (tasks_in s [] 1))
 stands_first s [] is =
     subst (Stands (Directory ∷ []))
     (sym (filter-append (leads []) (tasks_of s [] (entries_in s 1)) (Complete [] 1 ∷ [])
@@ -478,7 +498,8 @@ stands_first s (name ∷ rest) is =
     let other : [] ≡ path_text path → ⊥ = λ same. let no : [] ≡ name ∷ rest = same_names [] (name ∷ rest) refl is same in absurd (cc) in
     subst (λ (d : List Deed). Stands d (filter (leads path) (tasks_in s [] 1))) (sym (deeds_away (path_text path) [] (Directory ∷ []) other))
     (subst (Stands []) (sym (filter-append (leads path) (tasks_of s [] (entries_in s 1)) (Complete [] 1 ∷ [])))
-    (subst (Stands []) (sym (append-nil (filter (leads path) (tasks_of s [] (entries_in s 1))))) (one_leads s [] path name rest refl (entries_in s 1) (names_differ s 1))))
+    (subst (Stands []) (sym (append-nil (filter (leads path) (tasks_of s [] (entries_in s 1)))))
+    (one_leads s [] path name rest refl (entries_in s 1) (names_differ s 1))))
 
 once_at : (s : State) (owners : Bool) (outcomes : List Outcome) (names : List (List ℕ)) → list_all is_name names ≡ true → AreFirstTreeOutcomes s owners outcomes
     → is_one (deeds_at (path_text names) (all_made outcomes)) ≡ true
@@ -509,7 +530,8 @@ deed_there path all made there at =
     Contains-map (λ (m : Made). m.deed) (filter (λ m. bytes_eq m.path path) all) made
     (Contains-filter (λ (m : Made). bytes_eq m.path path) all made (bytes_itself made.path path at) there)
 
-way_of : (before all : List Made) (made : Made) → AreMadeBelow before all → Contains all made → (names : List (List ℕ)) × HasNames made.path names × HasWay (before ++ all) names
+way_of : (before all : List Made) (made : Made) → AreMadeBelow before all → Contains all made → (names : List (List ℕ))
+    × HasNames made.path names × HasWay (before ++ all) names
 way_of before [] made are there = absurd (Contains-none made there)
 way_of before (first ∷ all) made are there =
     ⊎_elim
@@ -523,19 +545,22 @@ way_of before (first ∷ all) made are there =
     (found.0, found.1, subst (λ (l : List Made). HasWay l found.0) (append_assoc before (first ∷ []) all) found.2))
     (Contains-cases first all made there)
 
-only : (a b : Deed) → Contains (a ∷ []) b → a ≡ b
+pub only : (a b : Deed) → Contains (a ∷ []) b → a ≡ b
 only a b there = ⊎_elim (λ is. is) (λ none. absurd (Contains-none b none)) (Contains-cases a [] b there)
 
 of_directory : (deeds : List Deed) (deed : Deed) → is_one deeds ≡ true → Contains deeds Directory → Contains deeds deed → is_of_directory deed ≡ true
 of_directory [] deed one made there = absurd (Contains-none deed there)
 of_directory (Directory ∷ []) deed one made there = sym (ap is_of_directory (only Directory deed there))
 of_directory (Directory ∷ Attributed attributes ∷ []) deed one made there =
-    ⊎_elim (λ (is : Directory ≡ deed). sym (ap is_of_directory is)) (λ later. sym (ap is_of_directory (only (Attributed attributes) deed later))) (Contains-cases Directory (Attributed attributes ∷ []) deed there)
+    ⊎_elim (λ (is : Directory ≡ deed). sym (ap is_of_directory is)) (λ later. sym (ap is_of_directory (only (Attributed attributes) deed later)))
+    (Contains-cases Directory (Attributed attributes ∷ []) deed there)
 of_directory (File ∷ []) deed one made there = let no : File ≡ Directory = only File Directory made in absurd (cc)
 of_directory (File ∷ Content bytes attributes ∷ []) deed one made there =
-    ⊎_elim (λ (no : File ≡ Directory). absurd (cc)) (λ later. let no : Content bytes attributes ≡ Directory = only (Content bytes attributes) Directory later in absurd (cc))
+    ⊎_elim (λ (no : File ≡ Directory). absurd (cc))
+    (λ later. let no : Content bytes attributes ≡ Directory = only (Content bytes attributes) Directory later in absurd (cc))
     (Contains-cases File (Content bytes attributes ∷ []) Directory made)
-of_directory (Symlink target attributes ∷ []) deed one made there = let no : Symlink target attributes ≡ Directory = only (Symlink target attributes) Directory made in absurd (cc)
+of_directory (Symlink target attributes ∷ []) deed one made there =
+    let no : Symlink target attributes ≡ Directory = only (Symlink target attributes) Directory made in absurd (cc)
 of_directory (Link first ∷ []) deed one made there = let no : Link first ≡ Directory = only (Link first) Directory made in absurd (cc)
 of_directory deeds deed one made there = absurd (false≢true one)
 

@@ -2,7 +2,7 @@
 use Rattle.std.specs.Prelude.{◌≡◌, ◌≤◌, Bool, true, false, ℕ, List, [], ◌∷◌, ◌++◌, length, map, filter, Contains, ⊤}
 use Rattle.std.specs.List.{list_all}
 use Rattle.std.specs.Str.{bytes_eq, is_utf8}
-use Rattle.jmount.specs.Tree.{State}
+use Rattle.jmount.specs.Tree.{State, is_directory}
 use Rattle.jmount.specs.Find.{is_name}
 use Rattle.jextract.specs.Extracts.{AreTreeOutcomes, AreFirstTreeOutcomes}
 use Rattle.jextract.specs.Folders.{Made, Deed, Directory, File, Content, Symlink, Link, Attributed}
@@ -71,3 +71,23 @@ abbrev pub MakesThroughDirectories : Type 0
 MakesThroughDirectories = (s : State) (owners : Bool) (outcomes : List Outcome) (made other : Made) (way : List (List ℕ)) (name : List ℕ) (rest : List (List ℕ))
     → AreFirstTreeOutcomes s owners outcomes → Contains (all_made outcomes) made → HasNames made.path (way ++ name ∷ rest)
     → Contains (all_made outcomes) other → other.path ≡ path_text way → is_of_directory other.deed ≡ true
+
+-- a file or a symlink is made, which may have further names
+abbrev pub is_linkable : Deed → Bool
+is_linkable File = true
+is_linkable (Symlink target attributes) = true
+is_linkable _ = false
+
+abbrev pub HasFile : List Made → List ℕ → Type 0
+HasFile before path = (made : Made) × Contains before made × (made.path ≡ path) × (is_linkable made.deed ≡ true)
+
+-- each further name is of what was made before
+abbrev pub AreLinkedBack : List Made → List Made → Type 0
+AreLinkedBack before [] = ⊤
+AreLinkedBack before (made ∷ more) = ((first : List ℕ) → made.deed ≡ Link first → HasFile before first) × AreLinkedBack (before ++ made ∷ []) more
+
+-- Where the root is a directory, as in each image that mounts: whatever else a file system says, a further name is of a file or
+-- a symlink that was made in the folder before.
+abbrev pub LinksBack : Type 0
+LinksBack = (s : State) (owners : Bool) (outcomes : List Outcome) → is_directory s 1 ≡ true → AreFirstTreeOutcomes s owners outcomes
+    → AreLinkedBack [] (all_made outcomes)

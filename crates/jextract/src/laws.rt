@@ -26,3 +26,8 @@ pub fn makes_once()
 pub fn makes_through_directories()
     ensures { law.MakesThroughDirectories }
 {}
+
+/// A further name is of a file or a symlink that was made in the folder before, if the root is a directory.
+pub fn links_back()
+    ensures { law.LinksBack }
+{}
