@@ -76,27 +76,31 @@ no_directory None gone is = absurd (cc)
 no_directory (Some x) gone is = absurd (cc)
 
 directory_made : (known : Option (List ℕ)) (path : Result (List ℕ) Reason) (names : List (List ℕ)) (bytes : List ℕ) (owners : Bool) (object : Object) (o : Outcome)
-    → host_path names ≡ path → FollowsPlan path (plan_of known kind.Directory bytes (attributes_of owners object)) o → o.left_out ≡ None → Contains o.deeds (directory_at names)
+    → host_path names ≡ path → FollowsPlan path (plan_of known kind.Directory bytes (attributes_of owners object)) o → o.left_out ≡ None → o.deeds ≡ directory_at names ∷ []
 directory_made None (Ok text) names bytes owners object o is (inl all) left =
     let same : text ≡ path_text names = (host_has names text is).0 in
-    subst (λ (l : List Made). Contains l (directory_at names)) (sym all.0)
-    (subst (λ (t : List ℕ). Contains ((let m : Made = record { path = t; deed = Directory } in m) ∷ []) (directory_at names)) (sym same) (Contains-here (directory_at names) []))
+    all.0 ∙ ap (λ (t : List ℕ). let m : Made = record { path = t; deed = Directory } in m ∷ []) same
 directory_made None (Ok text) names bytes owners object o is (inr part) left = let other = part.3 in absurd (cc)
 directory_made None (Err why) names bytes owners object o is follows left = let other = follows.1 in absurd (cc)
 directory_made (Some first) (Ok text) names bytes owners object o is follows left = let other = follows.1 in absurd (cc)
 directory_made (Some first) (Err why) names bytes owners object o is follows left = let other = follows.1 in absurd (cc)
 
-directory_there : (s : State) (owners : Bool) (firsts : Firsts) (path : List (List ℕ)) (i : ℕ) (o : Outcome) → IsOutcomeOf s owners firsts (Make path i) o → o.left_out ≡ None
-    → is_directory s i ≡ true → Contains o.deeds (directory_at path)
-directory_there s owners firsts path i o is left dir = by (option_map shown (object s i)) refl is.1
+pub directory_alone : (s : State) (owners : Bool) (firsts : Firsts) (path : List (List ℕ)) (i : ℕ) (o : Outcome) → IsOutcomeOf s owners firsts (Make path i) o → o.left_out ≡ None
+    → is_directory s i ≡ true → o.deeds ≡ directory_at path ∷ []
+directory_alone s owners firsts path i o is left dir = by (option_map shown (object s i)) refl is.1
   where
-    by : (x : Option Object) → option_map shown (object s i) ≡ x → FollowsPlan (host_path path) (plan_made s owners firsts i x) o → Contains o.deeds (directory_at path)
+    by : (x : Option Object) → option_map shown (object s i) ≡ x → FollowsPlan (host_path path) (plan_made s owners firsts i x) o → o.deeds ≡ directory_at path ∷ []
     by None e follows = absurd (no_directory (object s i) e dir)
     by (Some x) e follows =
         directory_made (firsts i) (host_path path) path (readable s i) owners x o refl
         (subst (λ (k : Kind). FollowsPlan (host_path path) (plan_of (firsts i) k (readable s i) (attributes_of owners x)) o)
         (kind_directory x.kind (sym (directory_is (object s i) x e) ∙ dir)) follows)
         left
+
+directory_there : (s : State) (owners : Bool) (firsts : Firsts) (path : List (List ℕ)) (i : ℕ) (o : Outcome) → IsOutcomeOf s owners firsts (Make path i) o → o.left_out ≡ None
+    → is_directory s i ≡ true → Contains o.deeds (directory_at path)
+directory_there s owners firsts path i o is left dir =
+    subst (λ (l : List Made). Contains l (directory_at path)) (sym (directory_alone s owners firsts path i o is left dir)) (Contains-here (directory_at path) [])
 
 ways_after : (s : State) (owners : Bool) (firsts : Firsts) (task : Task) (o : Outcome) (todo : List Task) (before : List Made) → IsOutcomeOf s owners firsts task o
     → HasWay before (path_of task) → HaveWays before todo → HaveWays (before ++ o.deeds) (todo_after s task o todo)

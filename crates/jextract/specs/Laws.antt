@@ -1,11 +1,11 @@
 -- Laws of what is made in a folder. Each is a statement: it holds since a public function's contract names it.
-use Rattle.std.specs.Prelude.{◌≡◌, ◌≤◌, Bool, true, ℕ, List, [], ◌∷◌, ◌++◌, length, Contains, ⊤}
+use Rattle.std.specs.Prelude.{◌≡◌, ◌≤◌, Bool, true, false, ℕ, List, [], ◌∷◌, ◌++◌, length, map, filter, Contains, ⊤}
 use Rattle.std.specs.List.{list_all}
-use Rattle.std.specs.Str.{is_utf8}
-use Rattle.jmount.specs.Tree.{State}
+use Rattle.std.specs.Str.{bytes_eq, is_utf8}
+use Rattle.jmount.specs.Tree.{State, is_directory}
 use Rattle.jmount.specs.Find.{is_name}
 use Rattle.jextract.specs.Extracts.{AreTreeOutcomes, AreFirstTreeOutcomes}
-use Rattle.jextract.specs.Folders.{Made, Directory}
+use Rattle.jextract.specs.Folders.{Made, Deed, Directory, File, Content, Symlink, Link, Attributed}
 use Rattle.jextract.specs.Outcomes.{Outcome, all_made}
 use Rattle.jextract.specs.Paths.{greatest_path, path_text}
 
@@ -38,3 +38,56 @@ AreMadeBelow before (made ∷ more) = ((names : List (List ℕ)) × HasNames mad
 -- whatever a file system says, the directories on the way to what is made were made before it, the folder itself first
 abbrev pub MakesBelow : Type 0
 MakesBelow = (s : State) (owners : Bool) (outcomes : List Outcome) → AreFirstTreeOutcomes s owners outcomes → AreMadeBelow [] (all_made outcomes)
+
+-- what was done at a path, first to last
+abbrev pub deeds_at : List ℕ → List Made → List Deed
+deeds_at path all = map (λ made. made.deed) (filter (λ made. bytes_eq made.path path) all)
+
+-- one object was made, if any, and it was completed once at most
+abbrev pub is_one : List Deed → Bool
+is_one [] = true
+is_one (Directory ∷ []) = true
+is_one (Directory ∷ Attributed attributes ∷ []) = true
+is_one (File ∷ []) = true
+is_one (File ∷ Content bytes attributes ∷ []) = true
+is_one (Symlink target attributes ∷ []) = true
+is_one (Link first ∷ []) = true
+is_one _ = false
+
+-- whatever a file system says, at no path is a second object made, and nothing is completed twice or at a path where it was not made
+abbrev pub MakesOnce : Type 0
+MakesOnce = (s : State) (owners : Bool) (outcomes : List Outcome) (path : List ℕ) → AreFirstTreeOutcomes s owners outcomes
+    → is_one (deeds_at path (all_made outcomes)) ≡ true
+
+-- a directory is made, or completed
+abbrev pub is_of_directory : Deed → Bool
+is_of_directory Directory = true
+is_of_directory (Attributed attributes) = true
+is_of_directory _ = false
+
+-- Whatever a file system says, all that is done on the way to a path where something is made, before or after, is done to directories:
+-- none of these names is that of a symlink or of a file.
+abbrev pub MakesThroughDirectories : Type 0
+MakesThroughDirectories = (s : State) (owners : Bool) (outcomes : List Outcome) (made other : Made) (way : List (List ℕ)) (name : List ℕ) (rest : List (List ℕ))
+    → AreFirstTreeOutcomes s owners outcomes → Contains (all_made outcomes) made → HasNames made.path (way ++ name ∷ rest)
+    → Contains (all_made outcomes) other → other.path ≡ path_text way → is_of_directory other.deed ≡ true
+
+-- a file or a symlink is made, which may have further names
+abbrev pub is_linkable : Deed → Bool
+is_linkable File = true
+is_linkable (Symlink target attributes) = true
+is_linkable _ = false
+
+abbrev pub HasFile : List Made → List ℕ → Type 0
+HasFile before path = (made : Made) × Contains before made × (made.path ≡ path) × (is_linkable made.deed ≡ true)
+
+-- each further name is of what was made before
+abbrev pub AreLinkedBack : List Made → List Made → Type 0
+AreLinkedBack before [] = ⊤
+AreLinkedBack before (made ∷ more) = ((first : List ℕ) → made.deed ≡ Link first → HasFile before first) × AreLinkedBack (before ++ made ∷ []) more
+
+-- Where the root is a directory, as in each image that mounts: whatever else a file system says, a further name is of a file or
+-- a symlink that was made in the folder before.
+abbrev pub LinksBack : Type 0
+LinksBack = (s : State) (owners : Bool) (outcomes : List Outcome) → is_directory s 1 ≡ true → AreFirstTreeOutcomes s owners outcomes
+    → AreLinkedBack [] (all_made outcomes)

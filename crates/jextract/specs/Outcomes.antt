@@ -175,17 +175,17 @@ all_made outcomes = root_made ∷ flat_map (λ o. o.deeds) outcomes
 -- ---- what is told
 
 abbrev pub reason_text : Reason → List ℕ
-reason_text reason.BadName = codes "bad name"
+reason_text reason.BadName = codes "a name that no file has"
 reason_text reason.LongPath = codes "path too long"
-reason_text reason.NoText = codes "path is no text"
+reason_text reason.NoText = codes "no text"
 reason_text reason.Again = codes "directory again"
 reason_text reason.CharacterDevice = codes "character device"
 reason_text reason.BlockDevice = codes "block device"
 reason_text reason.Fifo = codes "FIFO"
 reason_text reason.Socket = codes "socket"
-reason_text reason.UnknownKind = codes "unknown kind"
+reason_text reason.UnknownKind = codes "a kind that is not known"
 reason_text reason.BadTarget = codes "bad target"
-reason_text reason.Refused = codes "refused by the host"
+reason_text reason.Refused = codes "the host refused it"
 
 unfoldable pub left_out_line : List (List ℕ) → Reason → List ℕ
 left_out_line path why = codes "left out " ++ (path_shown path ++ (codes ": " ++ (reason_text why ++ 10 ∷ [])))

@@ -16,3 +16,18 @@ pub fn makes_inside()
 pub fn makes_below()
     ensures { law.MakesBelow }
 {}
+
+/// At no path is more than one object made, and what was made is completed once at most, at its own path.
+pub fn makes_once()
+    ensures { law.MakesOnce }
+{}
+
+/// Nothing is made through a symlink: all that is done on the way to what is made, before or after, is done to directories.
+pub fn makes_through_directories()
+    ensures { law.MakesThroughDirectories }
+{}
+
+/// A further name is of a file or a symlink that was made in the folder before, if the root is a directory.
+pub fn links_back()
+    ensures { law.LinksBack }
+{}

@@ -15,17 +15,17 @@ fn reason_text(reason: Reason) -> &'static [u8]
     ensures { result.now ≡ reason_text reason }
 {
     match reason {
-        Reason::BadName => b"bad name",
+        Reason::BadName => b"a name that no file has",
         Reason::LongPath => b"path too long",
-        Reason::NoText => b"path is no text",
+        Reason::NoText => b"no text",
         Reason::Again => b"directory again",
         Reason::CharacterDevice => b"character device",
         Reason::BlockDevice => b"block device",
         Reason::Fifo => b"FIFO",
         Reason::Socket => b"socket",
-        Reason::UnknownKind => b"unknown kind",
+        Reason::UnknownKind => b"a kind that is not known",
         Reason::BadTarget => b"bad target",
-        Reason::Refused => b"refused by the host",
+        Reason::Refused => b"the host refused it",
     }
 }
 

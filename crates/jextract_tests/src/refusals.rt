@@ -14,42 +14,42 @@ const ROWS: [(u64, &str, &str); 9] = [
     (
         1,
         "directory \nsymlink s /d/f 777 7 5\nfile t\ncontent t [hi] 4755 7 5\nlink u s\nattributes  755 0 0\n",
-        "left out /d: refused by the host\n",
+        "left out /d: the host refused it\n",
     ),
     (
         2,
         "directory \ndirectory d\nattributes d 1700 7 5\nsymlink s /d/f 777 7 5\nfile t\ncontent t [hi] 4755 7 5\nlink u s\nattributes  755 0 0\n",
-        "left out /d/f: refused by the host\n",
+        "left out /d/f: the host refused it\n",
     ),
     (
         3,
         "directory \ndirectory d\nfile d/f\nattributes d 1700 7 5\nsymlink s /d/f 777 7 5\nfile t\ncontent t [hi] 4755 7 5\nlink u s\nattributes  755 0 0\n",
-        "left out /d/f: refused by the host\n",
+        "left out /d/f: the host refused it\n",
     ),
     (
         4,
         "directory \ndirectory d\nfile d/f\ncontent d/f [hi] 4755 7 5\nsymlink s /d/f 777 7 5\nlink t d/f\nlink u s\nattributes  755 0 0\n",
-        "left out /d: refused by the host\n",
+        "left out /d: the host refused it\n",
     ),
     (
         5,
         "directory \ndirectory d\nfile d/f\ncontent d/f [hi] 4755 7 5\nattributes d 1700 7 5\nlink t d/f\nsymlink u /d/f 777 7 5\nattributes  755 0 0\n",
-        "left out /s: refused by the host\n",
+        "left out /s: the host refused it\n",
     ),
     (
         6,
         "directory \ndirectory d\nfile d/f\ncontent d/f [hi] 4755 7 5\nattributes d 1700 7 5\nsymlink s /d/f 777 7 5\nlink u s\nattributes  755 0 0\n",
-        "left out /t: refused by the host\n",
+        "left out /t: the host refused it\n",
     ),
     (
         7,
         "directory \ndirectory d\nfile d/f\ncontent d/f [hi] 4755 7 5\nattributes d 1700 7 5\nsymlink s /d/f 777 7 5\nlink t d/f\nattributes  755 0 0\n",
-        "left out /u: refused by the host\n",
+        "left out /u: the host refused it\n",
     ),
     (
         8,
         "directory \ndirectory d\nfile d/f\ncontent d/f [hi] 4755 7 5\nattributes d 1700 7 5\nsymlink s /d/f 777 7 5\nlink t d/f\nlink u s\n",
-        "left out /: refused by the host\n",
+        "left out /: the host refused it\n",
     ),
     (
         9,
@@ -110,7 +110,7 @@ fn a_file_that_fails(rt: HostRuntime) -> Result<(), Fail> {
     );
     assert_eq!(rt;
         notes.into_writer().as_slice(),
-        b"left out /a: refused by the host\n".as_slice()
+        b"left out /a: the host refused it\n".as_slice()
     );
     Ok(())
 }

@@ -62,11 +62,11 @@ file ...\n\
 content ... [x] 644 7 5\n\
 attributes  755 7 5\n",
     5,
-    "left out /.: bad name\n\
-left out /..: bad name\n\
-left out /a\\x00b: bad name\n\
-left out /a\\x2fb: bad name\n\
-left out /\\xff: path is no text\n",
+    "left out /.: a name that no file has\n\
+left out /..: a name that no file has\n\
+left out /a\\x00b: a name that no file has\n\
+left out /a\\x2fb: a name that no file has\n\
+left out /\\xff: no text\n",
 );
 
 /// A directory that would be reached through a symlink out of the folder.
@@ -134,7 +134,7 @@ attributes  755 0 0\n",
 left out /b: character device\n\
 left out /c: block device\n\
 left out /d: socket\n\
-left out /e: unknown kind\n\
+left out /e: a kind that is not known\n\
 left out /f: bad target\n\
 left out /g: bad target\n\
 left out /h: bad target\n",
