@@ -7,3 +7,4 @@ pub mod PutLemmas
 pub mod OrderLemmas
 mod TreeLemmas
 mod WalkLemmas
+mod NoteLemmas

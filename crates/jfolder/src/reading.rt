@@ -1,10 +1,11 @@
 //! Reading a folder of the host.
 
-ghost use Rattle.std.specs.Prelude.{◌≡◌, ◌==◌, ◌&&◌, ◌∷◌, ◌++◌, [], map, not, reverse, All, IfNone, IfOk, IfSome, IsSome, IsTrue};
+ghost use Rattle.std.specs.Prelude.{◌≡◌, ◌==◌, ◌&&◌, ◌∷◌, ◌++◌, [], map, not, reverse, All, IfErr, IfNone, IfOk, IfSome, IsSome, IsTrue};
 ghost use Rattle.std.specs.List.{list_all};
 ghost use Rattle.std.specs.String.{string_bytes};
 ghost use Rattle.jmount.specs.Find.{is_name};
 ghost use Rattle.jfolder.specs.Actions.{AttributesFit, Fits, IsRooted, ItemFits};
+ghost use Rattle.jfolder.specs.Notes.{Tells, TellsMore};
 ghost use Rattle.jfolder.specs.Trees.{IsTree, Rise};
 ghost use Rattle.jfolder.specs.Walking.{FoundFits, HasOptions, IsChild, IsFileOf, IsPending, IsShortName, WalkFits, comes_next, item_of};
 
@@ -98,8 +99,10 @@ fn add_child<N: Sink>(
     left_out: &mut u64,
 ) -> Result<(), ReadFault>
     requires { All (λ path. IsChild directory.now (string_bytes path)) paths.old.items }
-    ensures { IfOk result (λ _. All (λ path. IsChild directory.now (string_bytes path)) paths.new.items) }
+    ensures paths { IfOk result (λ _. All (λ path. IsChild directory.now (string_bytes path)) paths.new.items) }
+    ensures told { TellsMore (N.taken notes.old) (N.taken notes.new) (N.failures notes.old) (N.failures notes.new) left_out.old left_out.new result }
 {
+    let _count = *left_out;
     let path = joined(alloc, directory, name)?;
     match wrong_name(name.as_bytes()) {
         Some(reason) => leave_out(notes, left_out, path.as_bytes(), reason),
@@ -117,7 +120,10 @@ fn leave_out_others<N: Sink>(
     others: u64,
     notes: &mut N,
     left_out: &mut u64,
-) -> Result<(), ReadFault> {
+) -> Result<(), ReadFault>
+    ensures { TellsMore (N.taken notes.old) (N.taken notes.new) (N.failures notes.old) (N.failures notes.new) left_out.old left_out.new result }
+{
+    let _count = *left_out;
     let unnamed = joined(alloc, directory, "")?;
     for _ in 0..others {
         leave_out(notes, left_out, unnamed.as_bytes(), Reason::NoText)?;
@@ -133,8 +139,10 @@ fn paths_of<N: Sink>(
     notes: &mut N,
     left_out: &mut u64,
 ) -> Result<Vec<String>, ReadFault>
-    ensures { IfOk result (λ paths. All (λ path. IsChild directory.now (string_bytes path)) paths.items) }
+    ensures paths { IfOk result (λ paths. All (λ path. IsChild directory.now (string_bytes path)) paths.items) }
+    ensures told { TellsMore (N.taken notes.old) (N.taken notes.new) (N.failures notes.old) (N.failures notes.new) left_out.old left_out.new result }
 {
+    let _count = *left_out;
     let mut paths = Vec::new(alloc);
     for name in names {
         add_child(alloc, directory, name.as_str(), &mut paths, notes, left_out)?;
@@ -150,7 +158,8 @@ fn children<N: Sink>(
     notes: &mut N,
     left_out: &mut u64,
 ) -> Result<Vec<String>, ReadFault>
-    ensures { IfOk result (λ paths. All (λ path. IsChild directory.now (string_bytes path)) paths.items) }
+    ensures paths { IfOk result (λ paths. All (λ path. IsChild directory.now (string_bytes path)) paths.items) }
+    ensures told { TellsMore (N.taken notes.old) (N.taken notes.new) (N.failures notes.old) (N.failures notes.new) left_out.old left_out.new result }
 {
     names.texts.sort()?;
     leave_out_others(alloc, directory, names.others, notes, left_out)?;
@@ -238,7 +247,9 @@ impl Walk {
         ensures items { self.new.items.items ≡ self.old.items.items }
         ensures pending { self.new.pending.items ≡ self.old.pending.items }
         ensures paths { IfOk result (λ paths. All (λ child. IsSome names × IsChild path.now (string_bytes child)) paths.items) }
+        ensures told { TellsMore (N.taken notes.old) (N.taken notes.new) (N.failures notes.old) (N.failures notes.new) self.old.left_out self.new.left_out result }
     {
+        let _count = self.left_out;
         match names {
             Some(names) => children(alloc, path, names, notes, &mut self.left_out),
             None => Ok(Vec::new(alloc)),
@@ -249,6 +260,8 @@ impl Walk {
     fn remember(&mut self, identity: Option<(u64, u64)>) -> Result<(), ReadFault>
         ensures items { self.new.items.items ≡ self.old.items.items }
         ensures pending { self.new.pending.items ≡ self.old.pending.items }
+        ensures left_out { self.new.left_out ≡ self.old.left_out }
+        ensures fault { IfErr result (λ fault. fault ≡ ReadFault.OutOfMemory) }
     {
         if let Some(identity) = identity {
             self.firsts.insert(identity, self.items.len())?;
@@ -265,6 +278,8 @@ impl Walk {
     ) -> Result<(), ReadFault>
         ensures items { IfOk result (λ _. self.new.items.items ≡ self.old.items.items ++ record { path = path; attributes = attributes; what = what } ∷ []) }
         ensures pending { self.new.pending.items ≡ self.old.pending.items }
+        ensures left_out { self.new.left_out ≡ self.old.left_out }
+        ensures fault { IfErr result (λ fault. fault ≡ ReadFault.OutOfMemory) }
     {
         self.items.push(Item {
             path,
@@ -287,6 +302,7 @@ impl Walk {
         requires pending { All (λ p. IsPending self.old.items.items (string_bytes p)) self.old.pending.items }
         ensures items { IfOk result (λ _. self.new.items.items ≡ self.old.items.items ++ item_of path found ∷ []) }
         ensures pending { IfOk result (λ _. All (λ p. IsPending self.new.items.items (string_bytes p)) self.new.pending.items) }
+        ensures told { TellsMore (N.taken notes.old) (N.taken notes.new) (N.failures notes.old) (N.failures notes.new) self.old.left_out self.new.left_out result }
     {
         let Found {
             attributes,
@@ -305,6 +321,7 @@ impl Walk {
     fn put_off(&mut self, mut paths: Vec<String>) -> Result<(), AllocError>
         ensures items { self.new.items.items ≡ self.old.items.items }
         ensures pending { IfOk result (λ _. self.new.pending.items ≡ self.old.pending.items ++ reverse paths.items) }
+        ensures left_out { self.new.left_out ≡ self.old.left_out }
     {
         while let Some(path) = paths.pop() {
             self.pending.push(path)?;
@@ -323,7 +340,8 @@ impl Walk {
     ) -> Result<(), ReadFault>
         requires fits { WalkFits options.now self.old.items.items self.old.pending.items }
         requires path { IsPending self.old.items.items (string_bytes path) }
-        ensures { IfOk result (λ _. WalkFits options.now self.new.items.items self.new.pending.items) }
+        ensures fits { IfOk result (λ _. WalkFits options.now self.new.items.items self.new.pending.items) }
+        ensures told { TellsMore (N.taken notes.old) (N.taken notes.new) (N.failures notes.old) (N.failures notes.new) self.old.left_out self.new.left_out result }
     {
         match self.find(alloc, folder, options, path.as_str()) {
             Ok(found) => self.add(alloc, notes, path, found),
@@ -368,6 +386,7 @@ pub fn read_folder<F: HostFolder, N: Sink>(
     ensures tree { IfOk result (λ read. IsTree read.items.items) }
     ensures rises { IfOk result (λ read. Rise read.items.items) }
     ensures options { IfOk result (λ read. All (HasOptions options.now) (read.root ∷ map (λ item. item.attributes) read.items.items)) }
+    ensures notes { Tells (N.taken notes.old) (N.taken notes.new) (N.failures notes.old) (N.failures notes.new) result }
 {
     let (root, names) = match root_of(folder, options) {
         Ok(found) => found,

@@ -4,8 +4,8 @@ use Rattle.jfolder.specs.Walking.{comes_next}
 use Rattle.jfolder.proofs.WalkLemmas.{walk_goes_on}
 use Rattle.jfolder.proofs.reading.Walk.visit.Goals as goal
 
-pub returns-in-Ok : goal.returns-in-Ok
-returns-in-Ok g c =
+pub returns-in-Ok-clause-fits : goal.returns-in-Ok-clause-fits
+returns-in-Ok-clause-fits g c =
     let old = c.args.self.now in
     walk_goes_on c.args.options.now old.items.items c.add.new.self.items.items c.args.path c.in-Ok.found old.pending.items c.add.new.self.pending.items c.add.result
     c.requires.fits c.in-Ok.ensures.found (subst IsRooted c.as_str.ensures.value c.in-Ok.ensures.rooted)
