@@ -5,3 +5,6 @@ pub mod ReadLemmas
 pub mod ListingLemmas
 pub mod PutLemmas
 pub mod OrderLemmas
+mod TreeLemmas
+mod WalkLemmas
+mod NoteLemmas

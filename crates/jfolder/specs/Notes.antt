@@ -6,6 +6,7 @@ use Rattle.flashbase.specs.Device.{PutsPart, next_count}
 use Rattle.jfolder.specs.Text.{word_of}
 use Rattle.jfolder.specs.declared.fault.ReadFault.{ReadFault}
 use Rattle.jfolder.specs.declared.fault.ReadFault.TheVariants as fault
+use Rattle.jfolder.specs.declared.reading.Folder.{Folder}
 use Rattle.jfolder.specs.declared.reason.Reason.{Reason}
 use Rattle.jfolder.specs.declared.reason.Reason.TheVariants as reason
 
@@ -36,9 +37,18 @@ left_out_line left = codes "left out " ++ word_of left.0 ++ codes ": " ++ reason
 abbrev pub left_out_text : List LeftOut → List ℕ
 left_out_text lefts = flat_map left_out_line lefts
 
--- A call tells of some paths that are left out, and counts them modulo 2^64. Where the sink failed, a beginning of the lines went out.
+-- A part of a reading tells of some paths that are left out, and counts them modulo 2^64. Where the sink failed, a beginning of the lines
+-- went out. It finds no fault with the folder itself.
 abbrev pub TellsMore : {X : Type 0} → Option (List ℕ) → Option (List ℕ) → ℕ → ℕ → ℕ → ℕ → Result X ReadFault → Type 0
 TellsMore old new before now count total (Ok _) = (lefts : List LeftOut) × Appends old new (left_out_text lefts) × (now ≡ before)
     × (total ≡ (count + length lefts) % 2 ^ 64)
 TellsMore old new before now count total (Err fault.Notes) = ((lefts : List LeftOut) × PutsPart old new (left_out_text lefts)) × (now ≡ next_count before)
-TellsMore old new before now count total (Err _) = ((lefts : List LeftOut) × Appends old new (left_out_text lefts)) × (now ≡ before)
+TellsMore old new before now count total (Err fault.OutOfMemory) = ((lefts : List LeftOut) × Appends old new (left_out_text lefts)) × (now ≡ before)
+TellsMore old new before now count total (Err (fault.Folder why)) = ⊥
+
+-- A reading tells of the paths that it leaves out, and counts them modulo 2^64. Where the folder itself is at fault it tells nothing.
+abbrev pub Tells : Option (List ℕ) → Option (List ℕ) → ℕ → ℕ → Result Folder ReadFault → Type 0
+Tells old new before now (Ok read) = (lefts : List LeftOut) × Appends old new (left_out_text lefts) × (now ≡ before) × (read.left_out ≡ length lefts % 2 ^ 64)
+Tells old new before now (Err (fault.Folder why)) = (new ≡ old) × (now ≡ before)
+Tells old new before now (Err fault.Notes) = ((lefts : List LeftOut) × PutsPart old new (left_out_text lefts)) × (now ≡ next_count before)
+Tells old new before now (Err fault.OutOfMemory) = ((lefts : List LeftOut) × Appends old new (left_out_text lefts)) × (now ≡ before)

@@ -1,7 +1,70 @@
--- What is found at a path of a folder.
-use Rattle.jfolder.specs.Actions.{AttributesFit, WhatFits}
+-- A walk through a folder: what is found at a path, and which paths are still to visit.
+use Rattle.std.specs.Prelude.{◌≡◌, ◌≤◌, ◌++◌, ◌∷◌, [], ℕ, Bool, true, List, length, All, Contains, IsTrue, IsSome, IfSome, String}
+use Rattle.std.specs.declared.alloc.Global.{Global}
+use Rattle.std.specs.String.{string_bytes}
+use Rattle.jmount.specs.Find.{IsPath, is_name}
+use Rattle.jfolder.specs.Actions.{AttributesFit, ItemFits, WhatFits}
+use Rattle.jfolder.specs.Order.{is_before}
+use Rattle.jfolder.specs.Trees.{HasDirectory, HasTarget, IsRegular, IsTree, LinksBack, Rise}
 use Rattle.jfolder.specs.declared.found.Found.{Found}
+use Rattle.jfolder.specs.declared.found.Options.{Options}
+use Rattle.jfolder.specs.declared.tree.Attributes.{Attributes}
+use Rattle.jfolder.specs.declared.tree.Item.{Item}
+use Rattle.jfolder.specs.declared.tree.What.TheVariants as what
 
-pub record FoundFits (found : Found) : Type 0 where
+-- the owner and the time that the options give take the place of what the host tells
+pub record HasOptions (options : Options) (a : Attributes) : Type 0 where
+  pub owner : IfSome options.owner (λ o. (a.uid ≡ o.uid) × (a.gid ≡ o.gid))
+  pub time : IfSome options.time (λ t. a.time ≡ t)
+
+-- ---- names and paths
+
+abbrev pub IsShortName : List ℕ → Type 0
+IsShortName name = IsTrue (is_name name) × (length name ≤ 254)
+
+-- the path of a name in the directory of this path
+pub record IsChild (directory : List ℕ) (child : List ℕ) : Type 0 where
+  pub name : List ℕ
+  pub fits : IsShortName name
+  pub text : child ≡ directory ++ 47 ∷ name
+
+-- the path of a name in the root, or in an earlier directory
+pub record IsPending (before : List Item) (text : List ℕ) : Type 0 where
+  pub way : List (List ℕ)
+  pub name : List ℕ
+  pub path : IsPath text (way ++ name ∷ [])
+  pub short : length name ≤ 254
+  pub directory : HasDirectory before way
+
+-- whether a path comes after that of the last item
+abbrev pub comes_next : List Item → List ℕ → Bool
+comes_next [] text = true
+comes_next (i ∷ []) text = is_before (string_bytes i.path) text
+comes_next (i ∷ j ∷ items) text = comes_next (j ∷ items) text
+
+-- the path of an earlier regular file
+abbrev pub IsFileOf : List Item → List ℕ → Type 0
+IsFileOf before text = (i : Item) × Contains before i × (string_bytes i.path ≡ text) × IsRegular i.what
+
+-- ---- what is found at a path, after these items
+
+pub record FoundFits (options : Options) (before : List Item) (found : Found) : Type 0 where
   pub attributes_fit : AttributesFit found.attributes
+  pub options_hold : HasOptions options found.attributes
   pub what_fits : WhatFits found.what
+  pub link : LinksBack before found.what
+  pub target : HasTarget found.what
+  pub directory : IsSome found.names → found.what ≡ what.Directory
+
+abbrev pub item_of : String Global → Found → Item
+item_of path found = record { path = path; attributes = found.attributes; what = found.what }
+
+-- ---- the walk so far
+
+-- what was read is a tree in its order, and each path that is still to visit lies in it
+pub record WalkFits (options : Options) (items : List Item) (pending : List (String Global)) : Type 0 where
+  pub items_fit : All ItemFits items
+  pub tree : IsTree items
+  pub rise : Rise items
+  pub options_hold : All (λ i. HasOptions options i.attributes) items
+  pub pending_fit : All (λ p. IsPending items (string_bytes p)) pending

@@ -1,9 +1,10 @@
 //! What lies at a path of a folder of the host.
 
-ghost use Rattle.std.specs.Prelude.{◌≡◌, ◌<◌, All, IfOk, IsTrue};
+ghost use Rattle.std.specs.Prelude.{◌≡◌, ◌<◌, [], All, IfOk, IfSome, IsSome, IsTrue};
 ghost use Rattle.std.specs.String.{string_bytes};
-ghost use Rattle.jfolder.specs.Actions.{AttributesFit, ContentFits, IsFileWord, IsRooted, WhatFits};
-ghost use Rattle.jfolder.specs.Walking.{FoundFits};
+ghost use Rattle.jfolder.specs.Actions.{AttributesFit, ContentFits, IsFileWord, WhatFits};
+ghost use Rattle.jfolder.specs.Trees.{HasTarget, LinksBack};
+ghost use Rattle.jfolder.specs.Walking.{FoundFits, HasOptions};
 
 use crate::fault::FolderFault;
 use crate::host::{HostFolder, Looked, Names};
@@ -93,7 +94,9 @@ pub fn kind_of(mode: u32) -> Result<HostKind, Reason> {
 }
 
 /// The owner and the group that an object gets.
-fn owner_of(looked: &Looked, options: &Options) -> Result<Owner, Reason> {
+fn owner_of(looked: &Looked, options: &Options) -> Result<Owner, Reason>
+    ensures { IfOk result (λ owner. IfSome options.now.owner (λ given. owner ≡ given)) }
+{
     if let Some(owner) = options.owner {
         return Ok(owner);
     }
@@ -107,7 +110,9 @@ fn owner_of(looked: &Looked, options: &Options) -> Result<Owner, Reason> {
 }
 
 /// The time that an object gets.
-fn time_of(looked: &Looked, options: &Options) -> Result<u32, Reason> {
+fn time_of(looked: &Looked, options: &Options) -> Result<u32, Reason>
+    ensures { IfOk result (λ time. IfSome options.now.time (λ given. time ≡ given)) }
+{
     if let Some(time) = options.time {
         return Ok(time);
     }
@@ -120,7 +125,8 @@ fn time_of(looked: &Looked, options: &Options) -> Result<u32, Reason> {
 
 /// The attributes that an object gets.
 pub fn attributes_of(looked: &Looked, options: &Options) -> Result<Attributes, Reason>
-    ensures { IfOk result AttributesFit }
+    ensures fit { IfOk result AttributesFit }
+    ensures options { IfOk result (HasOptions options.now) }
 {
     let owner = owner_of(looked, options)?;
     let time = time_of(looked, options)?;
@@ -170,7 +176,9 @@ pub fn content_of<F: HostFolder>(folder: &mut F, path: &str, size: u64) -> Resul
 
 /// A symlink.
 fn symlink_of<F: HostFolder>(folder: &mut F, path: &str) -> Result<What, Skip>
-    ensures { IfOk result WhatFits }
+    ensures fits { IfOk result WhatFits }
+    ensures target { IfOk result HasTarget }
+    ensures link { IfOk result (LinksBack []) }
 {
     let target = folder.target(path)?;
     let bytes = target.as_bytes();
@@ -206,7 +214,9 @@ fn leaf_of<F: HostFolder>(
     looked: &Looked,
     kind: HostKind,
 ) -> Result<What, Skip>
-    ensures { IfOk result WhatFits }
+    ensures fits { IfOk result WhatFits }
+    ensures target { IfOk result HasTarget }
+    ensures link { IfOk result (LinksBack []) }
 {
     if kind == HostKind::Symlink {
         return symlink_of(folder, path);
@@ -222,7 +232,10 @@ fn object_of<F: HostFolder>(
     looked: &Looked,
     kind: HostKind,
 ) -> Result<(What, Option<Names>), Skip>
-    ensures { IfOk result (λ object. WhatFits object.0) }
+    ensures fits { IfOk result (λ object. WhatFits object.0) }
+    ensures target { IfOk result (λ object. HasTarget object.0) }
+    ensures link { IfOk result (λ object. LinksBack [] object.0) }
+    ensures directory { IfOk result (λ object. IsSome object.1 → object.0 ≡ What.Directory) }
 {
     if kind == HostKind::Directory {
         let names = folder.names(path)?;
@@ -239,7 +252,7 @@ pub fn first_found<F: HostFolder>(
     looked: &Looked,
     options: &Options,
 ) -> Result<Found, Skip>
-    ensures { IfOk result FoundFits }
+    ensures { IfOk result (FoundFits options.now []) }
 {
     let kind = kind_of(looked.mode)?;
     let attributes = attributes_of(looked, options)?;
@@ -254,8 +267,10 @@ pub fn first_found<F: HostFolder>(
 
 /// A further name of a regular file.
 pub fn link_to(first: String, looked: &Looked, options: &Options) -> Result<Found, Skip>
-    requires rooted { IsRooted (string_bytes first) }
-    ensures { IfOk result FoundFits }
+    ensures fit { IfOk result (λ found. AttributesFit found.attributes) }
+    ensures options { IfOk result (λ found. HasOptions options.now found.attributes) }
+    ensures what { IfOk result (λ found. found.what ≡ What.Link first) }
+    ensures names { IfOk result (λ found. found.names ≡ None) }
 {
     let attributes = attributes_of(looked, options)?;
     Ok(Found {

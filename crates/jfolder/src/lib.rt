@@ -17,7 +17,7 @@
 //! actions that make the tree.
 //!
 //! `specs/Text.antt` has the text of a tree, `specs/Actions.antt` the actions that make it, `specs/Order.antt` the order of paths,
-//! and `specs/Notes.antt` what is told of what is left out. `laws` has the law.
+//! `specs/Trees.antt` what items make up a tree, and `specs/Notes.antt` what is told of what is left out. `laws` has the law.
 #![tactic(auto)]
 
 mod fault;

@@ -1,9 +1,13 @@
 //! Reading a folder of the host.
 
-ghost use Rattle.std.specs.Prelude.{◌≡◌, ◌∷◌, ◌++◌, All, IfOk, IfSome, IsSome};
+ghost use Rattle.std.specs.Prelude.{◌≡◌, ◌==◌, ◌&&◌, ◌∷◌, ◌++◌, [], map, not, reverse, All, IfErr, IfNone, IfOk, IfSome, IsSome, IsTrue};
+ghost use Rattle.std.specs.List.{list_all};
 ghost use Rattle.std.specs.String.{string_bytes};
-ghost use Rattle.jfolder.specs.Actions.{AttributesFit, Fits, IsRooted, ItemFits, WhatFits};
-ghost use Rattle.jfolder.specs.Walking.{FoundFits};
+ghost use Rattle.jmount.specs.Find.{is_name};
+ghost use Rattle.jfolder.specs.Actions.{AttributesFit, Fits, IsRooted, ItemFits};
+ghost use Rattle.jfolder.specs.Notes.{Tells, TellsMore};
+ghost use Rattle.jfolder.specs.Trees.{IsTree, Rise};
+ghost use Rattle.jfolder.specs.Walking.{FoundFits, HasOptions, IsChild, IsFileOf, IsPending, IsShortName, WalkFits, comes_next, item_of};
 
 use crate::fault::ReadFault;
 use crate::found::{
@@ -40,20 +44,37 @@ struct Walk {
     left_out: u64,
 }
 
+/// Neither a slash nor a zero byte.
+fn is_plain(name: &[u8]) -> bool
+    ensures { result ≡ list_all (λ b. not (b == 47) && not (b == 0)) name.now }
+{
+    name.iter().all(|b| *b != b'/' && *b != 0)
+}
+
+/// Whether a path may have this name.
+fn is_name(name: &[u8]) -> bool
+    ensures { result ≡ is_name name.now }
+{
+    !name.is_empty() && is_plain(name) && name != b".".as_slice() && name != b"..".as_slice()
+}
+
 /// Why a name is none of a listing.
-fn wrong_name(name: &[u8]) -> Option<Reason> {
+fn wrong_name(name: &[u8]) -> Option<Reason>
+    ensures { IfNone result (IsShortName name.now) }
+{
     if name.len() > MAX_NAME {
         return Some(Reason::LongName);
     }
-    let is_dots = name == b".".as_slice() || name == b"..".as_slice();
-    if name.is_empty() || is_dots || name.iter().any(|byte| *byte == b'/' || *byte == 0) {
+    if !is_name(name) {
         return Some(Reason::BadName);
     }
     None
 }
 
 /// The path of a name in a directory.
-fn joined(alloc: Global, directory: &str, name: &str) -> Result<String, AllocError> {
+fn joined(alloc: Global, directory: &str, name: &str) -> Result<String, AllocError>
+    ensures { IfOk result (λ path. string_bytes path ≡ directory.now ++ 47 ∷ name.now) }
+{
     let mut path = String::new(alloc);
     path.push_str(directory)?;
     path.push_str("/")?;
@@ -76,7 +97,12 @@ fn add_child<N: Sink>(
     paths: &mut Vec<String>,
     notes: &mut N,
     left_out: &mut u64,
-) -> Result<(), ReadFault> {
+) -> Result<(), ReadFault>
+    requires { All (λ path. IsChild directory.now (string_bytes path)) paths.old.items }
+    ensures paths { IfOk result (λ _. All (λ path. IsChild directory.now (string_bytes path)) paths.new.items) }
+    ensures told { TellsMore (N.taken notes.old) (N.taken notes.new) (N.failures notes.old) (N.failures notes.new) left_out.old left_out.new result }
+{
+    let _count = *left_out;
     let path = joined(alloc, directory, name)?;
     match wrong_name(name.as_bytes()) {
         Some(reason) => leave_out(notes, left_out, path.as_bytes(), reason),
@@ -94,7 +120,10 @@ fn leave_out_others<N: Sink>(
     others: u64,
     notes: &mut N,
     left_out: &mut u64,
-) -> Result<(), ReadFault> {
+) -> Result<(), ReadFault>
+    ensures { TellsMore (N.taken notes.old) (N.taken notes.new) (N.failures notes.old) (N.failures notes.new) left_out.old left_out.new result }
+{
+    let _count = *left_out;
     let unnamed = joined(alloc, directory, "")?;
     for _ in 0..others {
         leave_out(notes, left_out, unnamed.as_bytes(), Reason::NoText)?;
@@ -109,7 +138,11 @@ fn paths_of<N: Sink>(
     names: &[String],
     notes: &mut N,
     left_out: &mut u64,
-) -> Result<Vec<String>, ReadFault> {
+) -> Result<Vec<String>, ReadFault>
+    ensures paths { IfOk result (λ paths. All (λ path. IsChild directory.now (string_bytes path)) paths.items) }
+    ensures told { TellsMore (N.taken notes.old) (N.taken notes.new) (N.failures notes.old) (N.failures notes.new) left_out.old left_out.new result }
+{
+    let _count = *left_out;
     let mut paths = Vec::new(alloc);
     for name in names {
         add_child(alloc, directory, name.as_str(), &mut paths, notes, left_out)?;
@@ -124,7 +157,10 @@ fn children<N: Sink>(
     mut names: Names,
     notes: &mut N,
     left_out: &mut u64,
-) -> Result<Vec<String>, ReadFault> {
+) -> Result<Vec<String>, ReadFault>
+    ensures paths { IfOk result (λ paths. All (λ path. IsChild directory.now (string_bytes path)) paths.items) }
+    ensures told { TellsMore (N.taken notes.old) (N.taken notes.new) (N.failures notes.old) (N.failures notes.new) left_out.old left_out.new result }
+{
     names.texts.sort()?;
     leave_out_others(alloc, directory, names.others, notes, left_out)?;
     paths_of(alloc, directory, names.texts.as_slice(), notes, left_out)
@@ -132,7 +168,9 @@ fn children<N: Sink>(
 
 impl Walk {
     fn new(alloc: Global) -> Walk
-        ensures { All ItemFits result.items.items }
+        ensures items { result.items.items ≡ [] }
+        ensures pending { result.pending.items ≡ [] }
+        ensures left_out { result.left_out ≡ 0 }
     {
         Walk {
             items: Vec::new(alloc),
@@ -143,7 +181,9 @@ impl Walk {
     }
 
     /// Whether a path comes after those of all items.
-    fn is_next(&self, path: &str) -> bool {
+    fn is_next(&self, path: &str) -> bool
+        ensures { result ≡ comes_next self.now.items.items path.now }
+    {
         match self.items.as_slice().last() {
             Some(item) => is_before(item.path.as_bytes(), path.as_bytes()),
             None => true,
@@ -152,8 +192,7 @@ impl Walk {
 
     /// The first path of a regular file, if it was met before.
     fn first_path(&self, looked: &Looked) -> Option<&str>
-        requires { All ItemFits self.now.items.items }
-        ensures { IfSome result (λ first. IsRooted first.now) }
+        ensures { IfSome result (λ first. IsFileOf self.now.items.items first.now) }
     {
         let index = self.firsts.get(&identity_of(looked)?)?;
         let item = self.items.as_slice().get(*index)?;
@@ -165,7 +204,8 @@ impl Walk {
 
     /// What the host tells of a path that comes after those of all items.
     fn look<F: HostFolder>(&self, folder: &mut F, path: &str) -> Result<Looked, Skip>
-        ensures { IfOk result (λ _. IsRooted path.now) }
+        ensures rooted { IfOk result (λ _. IsRooted path.now) }
+        ensures next { IfOk result (λ _. IsTrue (comes_next self.now.items.items path.now)) }
     {
         let Some(rest) = inside(path) else {
             return Err(Skip::LeftOut(Reason::BadName));
@@ -185,8 +225,9 @@ impl Walk {
         path: &str,
     ) -> Result<Found, Skip>
         requires { All ItemFits self.now.items.items }
-        ensures found { IfOk result FoundFits }
+        ensures found { IfOk result (FoundFits options.now self.now.items.items) }
         ensures rooted { IfOk result (λ _. IsRooted path.now) }
+        ensures next { IfOk result (λ _. IsTrue (comes_next self.now.items.items path.now)) }
     {
         let looked = self.look(folder, path)?;
         match self.first_path(&looked) {
@@ -203,8 +244,12 @@ impl Walk {
         path: &str,
         names: Option<Names>,
     ) -> Result<Vec<String>, ReadFault>
-        ensures { self.new.items.items ≡ self.old.items.items }
+        ensures items { self.new.items.items ≡ self.old.items.items }
+        ensures pending { self.new.pending.items ≡ self.old.pending.items }
+        ensures paths { IfOk result (λ paths. All (λ child. IsSome names × IsChild path.now (string_bytes child)) paths.items) }
+        ensures told { TellsMore (N.taken notes.old) (N.taken notes.new) (N.failures notes.old) (N.failures notes.new) self.old.left_out self.new.left_out result }
     {
+        let _count = self.left_out;
         match names {
             Some(names) => children(alloc, path, names, notes, &mut self.left_out),
             None => Ok(Vec::new(alloc)),
@@ -213,7 +258,10 @@ impl Walk {
 
     /// Remembers the next item as the first of a regular file that has other names.
     fn remember(&mut self, identity: Option<(u64, u64)>) -> Result<(), ReadFault>
-        ensures { self.new.items.items ≡ self.old.items.items }
+        ensures items { self.new.items.items ≡ self.old.items.items }
+        ensures pending { self.new.pending.items ≡ self.old.pending.items }
+        ensures left_out { self.new.left_out ≡ self.old.left_out }
+        ensures fault { IfErr result (λ fault. fault ≡ ReadFault.OutOfMemory) }
     {
         if let Some(identity) = identity {
             self.firsts.insert(identity, self.items.len())?;
@@ -228,11 +276,10 @@ impl Walk {
         attributes: Attributes,
         what: What,
     ) -> Result<(), ReadFault>
-        requires items { All ItemFits self.old.items.items }
-        requires path { IsRooted (string_bytes path) }
-        requires attributes { AttributesFit attributes }
-        requires what { WhatFits what }
-        ensures { IfOk result (λ _. All ItemFits self.new.items.items) }
+        ensures items { IfOk result (λ _. self.new.items.items ≡ self.old.items.items ++ record { path = path; attributes = attributes; what = what } ∷ []) }
+        ensures pending { self.new.pending.items ≡ self.old.pending.items }
+        ensures left_out { self.new.left_out ≡ self.old.left_out }
+        ensures fault { IfErr result (λ fault. fault ≡ ReadFault.OutOfMemory) }
     {
         self.items.push(Item {
             path,
@@ -250,10 +297,12 @@ impl Walk {
         path: String,
         found: Found,
     ) -> Result<(), ReadFault>
-        requires items { All ItemFits self.old.items.items }
-        requires path { IsRooted (string_bytes path) }
-        requires found { FoundFits found }
-        ensures { IfOk result (λ _. All ItemFits self.new.items.items) }
+        requires directory { IsSome found.names → found.what ≡ What.Directory }
+        requires path { IsPending self.old.items.items (string_bytes path) }
+        requires pending { All (λ p. IsPending self.old.items.items (string_bytes p)) self.old.pending.items }
+        ensures items { IfOk result (λ _. self.new.items.items ≡ self.old.items.items ++ item_of path found ∷ []) }
+        ensures pending { IfOk result (λ _. All (λ p. IsPending self.new.items.items (string_bytes p)) self.new.pending.items) }
+        ensures told { TellsMore (N.taken notes.old) (N.taken notes.new) (N.failures notes.old) (N.failures notes.new) self.old.left_out self.new.left_out result }
     {
         let Found {
             attributes,
@@ -270,7 +319,9 @@ impl Walk {
 
     /// Adds paths to those that are still to visit, the first to be visited next.
     fn put_off(&mut self, mut paths: Vec<String>) -> Result<(), AllocError>
-        ensures { self.new.items.items ≡ self.old.items.items }
+        ensures items { self.new.items.items ≡ self.old.items.items }
+        ensures pending { IfOk result (λ _. self.new.pending.items ≡ self.old.pending.items ++ reverse paths.items) }
+        ensures left_out { self.new.left_out ≡ self.old.left_out }
     {
         while let Some(path) = paths.pop() {
             self.pending.push(path)?;
@@ -287,8 +338,10 @@ impl Walk {
         notes: &mut N,
         path: String,
     ) -> Result<(), ReadFault>
-        requires { All ItemFits self.old.items.items }
-        ensures { IfOk result (λ _. All ItemFits self.new.items.items) }
+        requires fits { WalkFits options.now self.old.items.items self.old.pending.items }
+        requires path { IsPending self.old.items.items (string_bytes path) }
+        ensures fits { IfOk result (λ _. WalkFits options.now self.new.items.items self.new.pending.items) }
+        ensures told { TellsMore (N.taken notes.old) (N.taken notes.new) (N.failures notes.old) (N.failures notes.new) self.old.left_out self.new.left_out result }
     {
         match self.find(alloc, folder, options, path.as_str()) {
             Ok(found) => self.add(alloc, notes, path, found),
@@ -305,7 +358,8 @@ impl Walk {
 
 /// The folder itself: its attributes, and the names in it.
 fn root_of<F: HostFolder>(folder: &mut F, options: &Options) -> Result<(Attributes, Names), Skip>
-    ensures { IfOk result (λ root. AttributesFit root.0) }
+    ensures fit { IfOk result (λ root. AttributesFit root.0) }
+    ensures options { IfOk result (λ root. HasOptions options.now root.0) }
 {
     let looked = folder.look("")?;
     if kind_of(looked.mode) != Ok(HostKind::Directory) {
@@ -329,6 +383,10 @@ pub fn read_folder<F: HostFolder, N: Sink>(
     notes: &mut N,
 ) -> Result<Folder, ReadFault>
     ensures fits { IfOk result (λ read. Fits read.root read.items.items) }
+    ensures tree { IfOk result (λ read. IsTree read.items.items) }
+    ensures rises { IfOk result (λ read. Rise read.items.items) }
+    ensures options { IfOk result (λ read. All (HasOptions options.now) (read.root ∷ map (λ item. item.attributes) read.items.items)) }
+    ensures notes { Tells (N.taken notes.old) (N.taken notes.new) (N.failures notes.old) (N.failures notes.new) result }
 {
     let (root, names) = match root_of(folder, options) {
         Ok(found) => found,

@@ -1,6 +1,9 @@
-use Rattle.std.specs.List.{All}
-use Rattle.jfolder.specs.Actions.{ItemFits}
+use Rattle.jfolder.specs.Walking.{WalkFits}
+use Rattle.jfolder.proofs.NoteLemmas.{Told}
 use Rattle.jfolder.proofs.reading.read_folder.Given as goal
 
 abbrev pub invariant-loop : goal.invariant-loop
-invariant-loop g l = All ItemFits l.walk.items.items
+invariant-loop g l = record {
+  fits : WalkFits l.options l.walk.items.items l.walk.pending.items;
+  told : Told (g.N.Sink.taken l.fn.notes) (g.N.Sink.taken l.notes) (g.N.Sink.failures l.fn.notes) (g.N.Sink.failures l.notes) 0 l.walk.left_out;
+}

@@ -1,0 +1,120 @@
+-- A walk that goes on by an item.
+use Rattle.std.proofs.Common.{◌≡◌, ℕ, ◌<◌, true, List, [], ◌∷◌, ◌++◌, length, sym, ap, ◌∙◌, subst, reverse, Option, None, Result, Ok, Err, get_or, map}
+use Rattle.std.specs.Prelude.{IfOk, IfSome, IsSome, String}
+use Rattle.std.specs.List.{All}
+use Rattle.std.specs.Option.{option_to_list}
+use Rattle.std.specs.String.{string_bytes}
+use Rattle.std.specs.declared.alloc.Global.{Global}
+use Rattle.std.proofs.lemmas.Bool.{false≢true}
+use Rattle.std.proofs.lemmas.List.Elements.{All-append, All-cons, All-contains, All-map, All-nil, All-pop, All-push, All-same, All-weaker}
+use Rattle.jfolder.specs.Actions.{AttributesFit, IsRooted, ItemFits, WhatFits}
+use Rattle.jfolder.specs.Trees.{HasTarget, IsRegular, IsTree, LinksBack, MayFollow, Rise}
+use Rattle.jfolder.specs.Walking.{FoundFits, HasOptions, IsChild, IsFileOf, IsPending, WalkFits, comes_next, item_of}
+use Rattle.jfolder.specs.declared.found.Found.{Found}
+use Rattle.jfolder.specs.declared.found.Options.{Options}
+use Rattle.jfolder.specs.declared.found.Skip.{Skip}
+use Rattle.jfolder.specs.declared.tree.Attributes.{Attributes}
+use Rattle.jfolder.specs.declared.tree.Content.{Content}
+use Rattle.jfolder.specs.declared.tree.Item.{Item}
+use Rattle.jfolder.specs.declared.tree.What.TheVariants as what
+use Rattle.jfolder.proofs.TreeLemmas.{All-reverse, directory_child, is_new, path_of, pending_more, rise_more, root_child, tree_more}
+
+-- ---- what is found
+
+pub file_of : (items given : List Item) (k : ℕ) (i : Item) (bytes : Content) (text : List ℕ) → given ≡ items → k < length given → i ≡ get_or given k i
+    → i.what ≡ what.Regular bytes → text ≡ path_of i → IsFileOf items text
+file_of items given k i bytes text same within at kind is =
+    (i, (k, subst (λ (l : List Item). k < length l) same within, sym (at ∙ ap (λ (l : List Item). get_or l k i) same)), sym is, subst IsRegular (sym kind) tt)
+
+pub link_found : (options : Options) (before : List Item) (r : Result Found Skip) (first : String Global) → All ItemFits before
+    → IfOk r (λ found. AttributesFit found.attributes) → IfOk r (λ found. HasOptions options found.attributes)
+    → IfOk r (λ found. found.what ≡ what.Link first) → IfOk r (λ found. found.names ≡ None) → IsFileOf before (string_bytes first)
+    → IfOk r (FoundFits options before)
+link_found options before (Err e) first fit attributes given link none file = tt
+link_found options before (Ok found) first fit attributes given link none file =
+    let rooted : IsRooted (string_bytes first) = subst IsRooted file.2 (All-contains ItemFits before file.0 fit file.1).path in
+    record {
+      attributes_fit = attributes;
+      options_hold = given;
+      what_fits = subst WhatFits (sym link) rooted;
+      link = subst (LinksBack before) (sym link) file;
+      target = subst HasTarget (sym link) tt;
+      directory = λ some. absurd (false≢true (subst IsSome none some));
+    }
+
+-- ---- the paths that are still to visit
+
+abbrev pub IsIn : List Item → String Global → Type 0
+IsIn items path = IsPending items (string_bytes path)
+
+pub pending_after : (before items : List Item) (path : String Global) (found : Found) (old new paths : List (String Global)) → items ≡ before ++ item_of path found ∷ []
+    → new ≡ old ++ reverse paths → (IsSome found.names → found.what ≡ what.Directory) → IsPending before (string_bytes path) → All (IsIn before) old
+    → All (λ child. IsSome found.names × IsChild (string_bytes path) (string_bytes child)) paths → All (IsIn items) new
+pending_after before items path found old new paths more is directory at all children =
+    let i = item_of path found in
+    let those = All-weaker (λ child. IsSome found.names × IsChild (string_bytes path) (string_bytes child)) (IsIn (before ++ i ∷ []))
+    (λ child h. directory_child before i (string_bytes child) at (directory h.0) h.1) paths children in
+    let these = All-weaker (IsIn before) (IsIn (before ++ i ∷ [])) (λ p h. pending_more before (i ∷ []) (string_bytes p) h) old all in
+    let both = All-append (IsIn (before ++ i ∷ [])) old (reverse paths) these (All-reverse (IsIn (before ++ i ∷ [])) paths those) in
+    All-same (IsIn items) new (old ++ reverse paths) is (subst (λ (l : List Item). All (IsIn l) (old ++ reverse paths)) (sym more) both)
+
+pub popped : (options : Options) (items : List Item) (old new : List (String Global)) (r : Option (String Global)) → old ≡ new ++ option_to_list r
+    → WalkFits options items old → WalkFits options items new × IfSome r (IsIn items)
+popped options items old new r is fits =
+    let both = All-pop (IsIn items) old new r is fits.pending_fit in
+    (record { items_fit = fits.items_fit; tree = fits.tree; rise = fits.rise; options_hold = fits.options_hold; pending_fit = both.0 }, both.1)
+
+-- ---- the walk
+
+pub walk_starts : (options : Options) (items : List Item) (pending paths : List (String Global)) → items ≡ [] → pending ≡ reverse paths
+    → All (λ path. IsChild [] (string_bytes path)) paths → WalkFits options items pending
+walk_starts options items pending paths none is children =
+    subst (λ (l : List Item). WalkFits options l pending) (sym none) (record {
+      items_fit = All-nil ItemFits;
+      tree = tt;
+      rise = tt;
+      options_hold = All-nil (λ i. HasOptions options i.attributes);
+      pending_fit = All-same (IsIn []) pending (reverse paths) is
+          (All-reverse (IsIn []) paths (All-weaker (λ path. IsChild [] (string_bytes path)) (IsIn []) (λ p h. root_child [] (string_bytes p) h) paths children));
+    })
+
+pub walk_more : (options : Options) (items new : List Item) (path : String Global) (found : Found) (old pending : List (String Global)) → WalkFits options items old
+    → FoundFits options items found → IsRooted (string_bytes path) → comes_next items (string_bytes path) ≡ true → IsPending items (string_bytes path)
+    → new ≡ items ++ item_of path found ∷ [] → All (IsIn new) pending → WalkFits options new pending
+walk_more options items new path found old pending fits is rooted next at more all =
+    let i = item_of path found in
+    let may : MayFollow items i = record {
+      way = at.way;
+      name = at.name;
+      path = at.path;
+      short = at.short;
+      directory = at.directory;
+      new = is_new items (string_bytes path) fits.rise next;
+      link = is.link;
+      target = is.target;
+    } in
+    let fit : ItemFits i = record { path = rooted; attributes = is.attributes_fit; what = is.what_fits } in
+    record {
+      items_fit = All-same ItemFits new (items ++ i ∷ []) more (All-push ItemFits items i fits.items_fit fit);
+      tree = subst IsTree (sym more) (tree_more items i fits.tree may);
+      rise = subst Rise (sym more) (rise_more items i fits.rise next);
+      options_hold = All-same (λ j. HasOptions options j.attributes) new (items ++ i ∷ []) more
+          (All-push (λ j. HasOptions options j.attributes) items i fits.options_hold is.options_hold);
+      pending_fit = all;
+    }
+
+-- the item was added, or memory ran out
+pub walk_goes_on : {E : Type 0} (options : Options) (items new : List Item) (path : String Global) (found : Found) (old pending : List (String Global)) (r : Result Unit E)
+    → WalkFits options items old → FoundFits options items found → IsRooted (string_bytes path) → comes_next items (string_bytes path) ≡ true
+    → IsPending items (string_bytes path) → IfOk r (λ _. new ≡ items ++ item_of path found ∷ []) → IfOk r (λ _. All (IsIn new) pending)
+    → IfOk r (λ _. WalkFits options new pending)
+walk_goes_on options items new path found old pending (Ok x) fits is rooted next at more all =
+    walk_more options items new path found old pending fits is rooted next at more all
+walk_goes_on options items new path found old pending (Err e) fits is rooted next at more all = tt
+
+-- ---- what was read
+
+pub all_have_options : (options : Options) (root : Attributes) (items : List Item) → HasOptions options root → All (λ i. HasOptions options i.attributes) items
+    → All (HasOptions options) (root ∷ map (λ (i : Item). i.attributes) items)
+all_have_options options root items here there =
+    All-cons (HasOptions options) root (map (λ (i : Item). i.attributes) items) here (All-map (HasOptions options) (λ (i : Item). i.attributes) items there)

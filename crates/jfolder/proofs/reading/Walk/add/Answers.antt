@@ -1,0 +1,23 @@
+use Rattle.std.proofs.Common.{◌≡◌, ◌∙◌, ◌++◌, ◌∷◌, ℕ, List, [], subst, ap, reverse}
+use Rattle.std.specs.List.{All}
+use Rattle.std.specs.String.{string_bytes}
+use Rattle.std.specs.Prelude.{IsSome}
+use Rattle.jfolder.specs.Walking.{IsChild, item_of}
+use Rattle.jfolder.specs.declared.tree.Item.{Item}
+use Rattle.jfolder.proofs.WalkLemmas.{pending_after}
+use Rattle.jfolder.proofs.reading.Walk.add.Goals as goal
+
+pub returns-clause-pending : goal.returns-clause-pending
+returns-clause-pending g c =
+    let old = c.args.self.now in
+    let i = item_of c.args.path c.args.found in
+    let kept = c.remember.ensures.items ∙ c.paths_in.ensures.items in
+    let more : c.put_off.new.self.items.items ≡ old.items.items ++ i ∷ [] =
+    c.put_off.ensures.items ∙ c.in_ok-push_item.ensures.items ∙ ap (λ (l : List Item). l ++ i ∷ []) kept in
+    let later : c.put_off.new.self.pending.items ≡ old.pending.items ++ reverse c.in_ok-paths.paths.items =
+    c.in_ok-put_off.ensures.pending
+    ∙ ap (λ l. l ++ reverse c.in_ok-paths.paths.items) (c.push_item.ensures.pending ∙ c.remember.ensures.pending ∙ c.paths_in.ensures.pending) in
+    let children = subst (λ (l : List ℕ). All (λ child. IsSome c.args.found.names × IsChild l (string_bytes child)) c.in_ok-paths.paths.items)
+    c.as_str.ensures.value c.in_ok-paths.ensures.paths in
+    pending_after old.items.items c.put_off.new.self.items.items c.args.path c.args.found old.pending.items c.put_off.new.self.pending.items c.in_ok-paths.paths.items
+    more later c.requires.directory c.requires.path c.requires.pending children
