@@ -1,0 +1,16 @@
+pub mod WayLemmas
+pub mod CountLemmas
+pub mod AcceptLemmas
+pub mod StandLemmas
+pub mod RewriteLemmas
+pub mod AppendLemmas
+pub mod RunLemmas
+pub mod GainLemmas
+pub mod ItemLemmas
+pub mod MakeLemmas
+pub mod WriteLemmas
+pub mod LinkLemmas
+pub mod ObjectLemmas
+pub mod BeginLemmas
+pub mod WholeLemmas
+pub mod TreeLemmas

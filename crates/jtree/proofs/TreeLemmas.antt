@@ -1,0 +1,115 @@
+-- What stands after all items is the tree, and nothing else.
+use Rattle.std.proofs.Common.{◌≡◌, ℕ, ◌+◌, ◌≤◌, List, [], ◌∷◌, ◌++◌, length, map, Option, Some, None, Ok, refl, ap, sym, ◌∙◌, subst, inl, inr, ◌⊎◌, arith}
+use Rattle.std.specs.Prelude.{Contains, flat_map, is_ok}
+use Rattle.std.specs.String.{string_bytes}
+use Rattle.std.proofs.lemmas.Bool.{false≢true}
+use Rattle.jmount.specs.Find.{IsPath, path_text, path_names, find, find_names, walk}
+use Rattle.jmount.specs.StateOf.{state_of}
+use Rattle.jmount.specs.Tree.{ObjectOf, State}
+use Rattle.jmount.specs.Shape.{HasShape}
+use Rattle.jmount.proofs.PathNameLemmas.{path_names_exactly}
+use Rattle.jmount.proofs.ShapePathLemmas.{one_path_to_each}
+use Rattle.jsteps.specs.Nodes.{index_of}
+use Rattle.jsteps.specs.Steps.{bytes, after}
+use Rattle.jsteps.specs.Where.{names_in}
+use Rattle.jsteps.specs.declared.op.Op.{Op}
+use Rattle.jfolder.specs.Actions.{actions_of, item_actions}
+use Rattle.jfolder.specs.declared.tree.Attributes.{Attributes}
+use Rattle.jfolder.specs.declared.tree.Item.{Item}
+use Rattle.jfolder.specs.declared.tree.What.{What}
+use Rattle.jfolder.specs.declared.tree.What.TheVariants as what
+use Rattle.jtree.specs.Holding.{HoldsObject, HoldsTree, first_of, first_path, root_object}
+use Rattle.jtree.specs.Laws as law
+use Rattle.jtree.specs.Making.{Files, ops_with}
+use Rattle.jtree.proofs.BeginLemmas.{root_op, root_reaches}
+use Rattle.jtree.proofs.ItemLemmas.{IsKnown, Contains-from_map, Contains-mapped, made_of, names_of}
+use Rattle.jtree.proofs.ObjectLemmas.{made_at}
+use Rattle.jtree.proofs.RunLemmas.{reaches_then, runs_all, runs_steps}
+use Rattle.jtree.proofs.StandLemmas.{IsHeld, Made, Stands}
+use Rattle.jtree.proofs.WayLemmas.{path_is, walk_last}
+use Rattle.jtree.proofs.WholeLemmas.{items_done}
+
+-- ---- paths
+
+found_is : (s : State) (path : List ℕ) (names : List (List ℕ)) → IsPath path names → find s path ≡ walk s names (Ok 1)
+found_is s path names is = ap (find_names s) (path_is path names is)
+
+record IsFound (s : State) (path : List ℕ) (number : ℕ) : Type 0 where
+  names : List (List ℕ)
+  path_of : IsPath path names
+  leads : walk s names (Ok 1) ≡ Ok number
+
+found_names : (s : State) (path : List ℕ) (number : ℕ) → find s path ≡ Ok number → IsFound s path number
+found_names s path number e = by (path_names path) refl
+  where
+    by : (o : Option (List (List ℕ))) → path_names path ≡ o → IsFound s path number
+    by None is = absurd (false≢true (ap is_ok (sym (ap (find_names s) is) ∙ e)))
+    by (Some names) is = record { names = names; path_of = (path_names_exactly path names).0 is; leads = sym (ap (find_names s) is) ∙ e }
+
+split_last : (x : List ℕ) (xs : List (List ℕ)) → (front : List (List ℕ)) × (last : List ℕ) × (x ∷ xs ≡ front ++ last ∷ [])
+split_last x [] = ([], x, refl)
+split_last x (y ∷ ys) = let rest = split_last y ys in (x ∷ rest.0, rest.1, ap (λ zs. x ∷ zs) rest.2)
+
+-- ---- items
+
+holds_object : (s : State) (files : Files) (path : List ℕ) (a : Attributes) (w : What) → IsHeld s (made_at files path a w) → IsPath path (names_in path)
+    → IsPath (first_path path w) (names_in (first_path path w)) → HoldsObject files s path a w
+holds_object s files path a what.Directory h is first = record { number = h.number; found = found_is s path (names_in path) is ∙ h.leads; below_root = h.below_root; object = h.there refl }
+holds_object s files path a (what.Regular c) h is first = record { number = h.number; found = found_is s path (names_in path) is ∙ h.leads; below_root = h.below_root; object = h.there refl }
+holds_object s files path a (what.Symlink t) h is first = record { number = h.number; found = found_is s path (names_in path) is ∙ h.leads; below_root = h.below_root; object = h.there refl }
+holds_object s files path a (what.Link old) h is first =
+    found_is s path (names_in path) is ∙ h.leads ∙ sym (found_is s (string_bytes old) (names_in (string_bytes old)) first ∙ h.first)
+
+same_first : (a b : List ℕ) → IsPath a (names_in a) → IsPath b (names_in b) → names_in a ≡ names_in b → a ≡ b
+same_first a b is_a is_b e = is_a.0 ∙ ap path_text e ∙ sym is_b.0
+
+only_items : (s : State) (files : Files) (root : ObjectOf (List ℕ)) (items : List Item) → Stands root (map (made_of files) items) s → ((j : Item) → Contains items j → IsKnown j) → HasShape s
+    → (path : List ℕ) (number : ℕ) (names : List (List ℕ)) → IsPath path names → walk s names (Ok 1) ≡ Ok number → (path ≡ 47 ∷ []) ⊎ ((i : Item) × Contains items i × (string_bytes i.path ≡ path))
+only_items s files root items stands known shape path number [] is e = inl is.0
+only_items s files root items stands known shape path number (n ∷ ns) is e =
+    let split = split_last n ns in
+    let l = walk_last s split.0 split.1 1 number (ap (λ ns. walk s ns (Ok 1)) (sym split.2) ∙ e) in
+    let one = stands.names_are l.dir split.1 number l.steps.entry in
+    let way : one.way ≡ split.0 = one_path_to_each s one.way split.0 l.dir shape one.leads l.leads l.steps.directory in
+    let from = Contains-from_map (made_of files) items one.m one.among in
+    let names : names_of from.0 ≡ n ∷ ns = ap (λ (m : Made). m.names) from.2 ∙ one.names ∙ ap (λ ns. ns ++ split.1 ∷ []) way ∙ sym split.2 in
+    inr (from.0, from.1, (known from.0 from.1).path.0 ∙ ap path_text names ∙ sym is.0)
+
+holds_tree : (s : State) (files : Files) (root : Attributes) (items : List Item) → Stands (root_object root) (map (made_of files) items) s → ((j : Item) → Contains items j → IsKnown j) → HasShape s
+    → HoldsTree files root items s
+holds_tree s files root items stands known shape = record {
+  root_is = stands.root_is;
+  items_are = λ i among.
+      let k = known i among in
+      holds_object s files (string_bytes i.path) i.attributes i.what (stands.held (made_of files i) (Contains-mapped (made_of files) items i among)) k.path k.origin;
+  apart = λ i j in_i in_j e.
+      let k = known i in_i in
+      let l = known j in_j in
+      let m = Contains-mapped (made_of files) items i in_i in
+      let o = Contains-mapped (made_of files) items j in_j in
+      let h = stands.held (made_of files i) m in
+      let leads : walk s (names_of j) (Ok 1) ≡ Ok h.number = sym (found_is s (string_bytes j.path) (names_of j) l.path) ∙ sym e ∙ found_is s (string_bytes i.path) (names_of i) k.path ∙ h.leads in
+      same_first (first_of i) (first_of j) k.origin l.origin (stands.apart (made_of files i) (made_of files j) m o h.number h.leads leads);
+  nothing_else = λ path number e.
+      let f = found_names s path number e in
+      only_items s files (root_object root) items stands known shape path number f.names f.path_of f.leads;
+}
+
+-- ---- the law
+
+pub listing_makes_tree : law.ListingMakesTree
+unfolding actions_of
+listing_makes_tree page files root items is_page fits tree short few =
+    let s = state_of [] in
+    let x = index_of [] in
+    let one = root_reaches page root is_page fits.root_fits in
+    let used : length one.steps ≤ 1 = one.few in
+    let t = after bytes s one.steps in
+    let all = items_done page (0 + length one.steps) _ t files (root_object root) [] items is_page (record { is_at = one.is_at; stands = one.stands; known = λ j among. absurd (let less = among.1 in omega arith) })
+    tree fits.items_fit short (omega arith) in
+    let ops : List Op = ops_with files (actions_of root items) in
+    let r = reaches_then page 0 x s (root_op root ∷ []) (ops_with files (flat_map item_actions items)) (root_object root) [] (map (made_of files) items) 1 _ one all.reached in
+    record {
+      accepted = runs_all page x ops r.steps r.runs;
+      holds = subst (λ steps. HoldsTree files root items (after bytes s steps)) (sym (runs_steps page x ops r.steps r.runs)) (holds_tree (after bytes s r.steps) files root items r.stands all.known r.is_at.shape);
+    }

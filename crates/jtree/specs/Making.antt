@@ -1,0 +1,45 @@
+-- The operations that make a tree, given the bytes of the host's files.
+use Rattle.std.specs.Prelude.{◌<◌, ◌+◌, ◌*◌, ◌^◌, ◌-◌, ℕ, List, [], ◌∷◌, All, length, map, option_map, unwrap_or}
+use Rattle.std.specs.String.{string_bytes}
+use Rattle.jlisting.specs.Listing.{file_of, op_of}
+use Rattle.jlisting.specs.declared.line.Action.{Action}
+use Rattle.jsteps.specs.declared.op.Op.{Op}
+use Rattle.jfolder.specs.declared.tree.Content.{Content}
+use Rattle.jfolder.specs.declared.tree.Content.TheVariants as content
+use Rattle.jfolder.specs.declared.tree.Item.{Item}
+use Rattle.jfolder.specs.declared.tree.What.{What}
+use Rattle.jfolder.specs.declared.tree.What.TheVariants as what
+
+-- the host's files: the bytes that stand in the file of a name
+abbrev pub Files : Type 0
+Files = List ℕ → List ℕ
+
+-- an action's operation, where its file has these bytes
+abbrev pub op_with : Files → Action → Op
+op_with files a = op_of a (unwrap_or (option_map files (file_of a)) [])
+
+abbrev pub ops_with : Files → List Action → List Op
+ops_with files actions = map (op_with files) actions
+
+-- the bytes of an item
+abbrev pub content_bytes : Files → Content → List ℕ
+content_bytes files content.Empty = []
+content_bytes files (content.File file) = files (string_bytes file)
+content_bytes files (content.Bytes bytes) = bytes.items
+
+abbrev pub bytes_of : Files → What → List ℕ
+bytes_of files (what.Regular bytes) = content_bytes files bytes
+bytes_of files (what.Symlink target) = string_bytes target
+bytes_of files _ = []
+
+-- no file is longer than an image's may be
+abbrev pub FilesFit : Files → List Item → Type 0
+FilesFit files items = All (λ i. length (bytes_of files i.what) < 2 ^ 31) items
+
+abbrev pub total : Files → List Item → ℕ
+total files [] = 0
+total files (i ∷ items) = 1 + length (bytes_of files i.what) + total files items
+
+-- the items and their bytes are so few that no number and no version passes 32 bits
+abbrev pub AreFew : Files → List Item → Type 0
+AreFew files items = 4 * total files items < 2 ^ 32 - 8
