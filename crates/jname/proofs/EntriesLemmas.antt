@@ -19,6 +19,7 @@ use Rattle.std.proofs.lemmas.Map.Views.{lookup-from_Contains, Contains-from_look
 use Rattle.jnode.specs.declared.node.Dirent.{Dirent}
 use Rattle.jname.specs.declared.versions.Content.{Content}
 use Rattle.jname.specs.declared.versions.Versions.{Versions}
+use Rattle.jname.specs.declared.versions.Versions.TheVariants.{One, Several}
 use Rattle.jname.specs.declared.directory.Directory.{Directory}
 use Rattle.jname.specs.Versions.{contents_of, version_at}
 use Rattle.jname.specs.declared.name_map.NameMap.{NameMap}
@@ -27,8 +28,8 @@ use Rattle.jname.specs.NameMaps.{names_in}
 use Rattle.jname.specs.Directories.{DirectoriesByNumber, content_at, content_under}
 use Rattle.jname.specs.Entries.{content_of_entry, entry_of, entries_under, entries_in_directory, entries_of}
 use Rattle.jname.proofs.NameMapLemmas.{names_ordered}
-use Rattle.jname.proofs.VersionLemmas.{newest_at, older_at}
-use Rattle.jname.proofs.MemberLemmas.{Contains-cases, Contains-map, Contains-map_from, Contains-flat_map, Contains-flat_map_from, Contains-lookup}
+use Rattle.jname.proofs.VersionLemmas.{newest_at, older_at, only_at}
+use Rattle.jname.proofs.MemberLemmas.{Contains-none, Contains-cases, Contains-map, Contains-map_from, Contains-flat_map, Contains-flat_map_from, Contains-lookup}
 
 -- what a step gives comes from a value
 and_then_from : {A B : Type 0} (f : A → Option B) (o : Option A) (b : B) → option_and_then f o ≡ Some b → (a : A) × (o ≡ Some a) × (f a ≡ Some b)
@@ -40,11 +41,17 @@ nat_found es k x sorted h = lookup-from_Contains (eq_by_cmp_equiv nat_cmp_total)
 
 -- a content that is stored at a version is found there
 pub version_found : (versions : Versions) (v : ℕ) (content : Content) → Contains (contents_of versions) (v, content) → version_at versions v ≡ Some content
-version_found versions v content h =
+version_found (One version only) v content h =
     ⊎_elim
-    (λ is. newest_at versions v (sym (ap (λ (e : ℕ × Content). e.0) is)) ∙ ap (λ (e : ℕ × Content). Some e.1) is)
-    (λ older. older_at versions v content (nat_found versions.older.entries v content versions.ordered older))
-    (Contains-cases (versions.greatest, versions.newest) versions.older.entries (v, content) h)
+    (λ is. only_at version only v (sym (ap (λ (e : ℕ × Content). e.0) is)) ∙ ap (λ (e : ℕ × Content). Some e.1) is)
+    (λ none. absurd (Contains-none (v, content) none))
+    (Contains-cases (version, only) [] (v, content) h)
+version_found (Several several) v content h =
+    let sorted = several.value in
+    ⊎_elim
+    (λ is. newest_at sorted v (sym (ap (λ (e : ℕ × Content). e.0) is)) ∙ ap (λ (e : ℕ × Content). Some e.1) is)
+    (λ older. older_at sorted v content (nat_found sorted.older.entries v content sorted.ordered older))
+    (Contains-cases (sorted.greatest, sorted.newest) sorted.older.entries (v, content) h)
 
 name_cmp_total : IsTotalOrder name_cmp
 name_cmp_total = on_total cow_slice_items nat_list_cmp_total

@@ -5,12 +5,13 @@ use Rattle.std.specs.Option.{option_map}
 use Rattle.std.specs.Cow.{cow_slice_items}
 use Rattle.jname.specs.declared.versions.Versions.{Versions}
 use Rattle.jname.specs.declared.directory.Directory.{Directory}
+use Rattle.jname.specs.Versions.{newest_of}
 use Rattle.jname.specs.ContentsByName.{Name}
 use Rattle.jname.specs.NameMaps.{names_in}
 
 -- the inode number at the highest version, where it is not 0
 unfoldable pub live_ino : Versions → Option ℕ
-live_ino versions = if versions.newest.ino == 0 then None else Some versions.newest.ino
+live_ino versions = if (newest_of versions).ino == 0 then None else Some (newest_of versions).ino
 
 -- a name with its inode number, if it is live
 abbrev pub live_name : Name × Versions → Option (List ℕ × ℕ)

@@ -14,6 +14,7 @@ pub mod laws;
 mod name_map;
 mod names;
 mod older;
+mod sorted;
 mod versions;
 mod walk;
 
