@@ -7,6 +7,7 @@
 //! about how the map holds the entries, and no public contract cites them. `laws` has what follows from the first two.
 #![tactic(auto)]
 
+mod apart;
 mod directory;
 mod fault;
 mod few;
