@@ -11,9 +11,9 @@ use Rattle.std.proofs.lemmas.Option.{same_Some}
 use Rattle.std.proofs.lemmas.Slice.Eq.{bytes_eq-Decides}
 use Rattle.jnode.specs.declared.node.Dirent.{Dirent}
 use Rattle.jname.specs.declared.versions.Content.{Content}
-use Rattle.jname.specs.declared.directory.Directory.{Directory}
+use Rattle.jname.specs.declared.apart.Apart.{Apart}
 use Rattle.jname.specs.Versions.{Agrees, Differs}
-use Rattle.jname.specs.Directories.{DirectoriesByNumber, content_at, content_under}
+use Rattle.jname.specs.Directories.{DirectoriesByNumber, content_at, content_held}
 use Rattle.jname.specs.Entries.{content_of_entry, entry_of, entries_of}
 use Rattle.jname.specs.Clash.{SomeEntryClashesWith, NoEntryClashesWith}
 use Rattle.jname.specs.Live.{Gains}
@@ -22,25 +22,25 @@ use Rattle.jname.proofs.LiveLemmas.{both_true}
 
 -- ---- one directory is replaced
 
-at_place : (name : List ℕ) (v : ℕ) → Option Directory → Option Content
-at_place name v o = option_and_then (λ (d : Directory). content_under d name v) o
+at_place : (name : List ℕ) (v : ℕ) → Option Apart → Option Content
+at_place name v o = option_and_then (λ (d : Apart). content_held d name v) o
 
 -- one content more is stored
 abbrev pub HoldsOneMore : DirectoriesByNumber → DirectoriesByNumber → ℕ → List ℕ → ℕ → Content → Type 0
 HoldsOneMore old new pino name version content = (p : ℕ) (n : List ℕ) (v : ℕ) → content_at new p n v ≡ (if pino == p && (bytes_eq name n && version == v) then Some content else content_at old p n v)
 
-replaced_at : (old new : DirectoriesByNumber) (pino : ℕ) (directory : Directory) → Updates nat_cmp old new pino (Some directory) → (p : ℕ) → get nat_cmp new p ≡ (if pino == p then Some directory else get nat_cmp old p)
+replaced_at : (old new : DirectoriesByNumber) (pino : ℕ) (directory : Apart) → Updates nat_cmp old new pino (Some directory) → (p : ℕ) → get nat_cmp new p ≡ (if pino == p then Some directory else get nat_cmp old p)
 replaced_at old new pino directory u p = u.0 p ∙ ap (λ (b : Bool). if b then Some directory else get nat_cmp old p) (unsigned_tied pino p)
 
-content_by_test : (b : Bool) (directory : Directory) (before : Option Directory) (name n : List ℕ) (version v : ℕ) (content : Content) (was : Option Content)
-    → (b ≡ true → content_under directory n v ≡ (if bytes_eq name n && version == v then Some content else was)) → at_place n v before ≡ was
+content_by_test : (b : Bool) (directory : Apart) (before : Option Apart) (name n : List ℕ) (version v : ℕ) (content : Content) (was : Option Content)
+    → (b ≡ true → content_held directory n v ≡ (if bytes_eq name n && version == v then Some content else was)) → at_place n v before ≡ was
     → at_place n v (if b then Some directory else before) ≡ (if b && (bytes_eq name n && version == v) then Some content else was)
 unfolding at_place
 content_by_test true directory before name n version v content was h same = h refl
 content_by_test false directory before name n version v content was h same = same
 
-pub content_at-replaced : (old new : DirectoriesByNumber) (pino : ℕ) (directory : Directory) (name : List ℕ) (version : ℕ) (content : Content) → Updates nat_cmp old new pino (Some directory)
-    → ((n : List ℕ) (v : ℕ) → content_under directory n v ≡ (if bytes_eq name n && version == v then Some content else content_at old pino n v))
+pub content_at-replaced : (old new : DirectoriesByNumber) (pino : ℕ) (directory : Apart) (name : List ℕ) (version : ℕ) (content : Content) → Updates nat_cmp old new pino (Some directory)
+    → ((n : List ℕ) (v : ℕ) → content_held directory n v ≡ (if bytes_eq name n && version == v then Some content else content_at old pino n v))
     → HoldsOneMore old new pino name version content
 unfolding at_place
 content_at-replaced old new pino directory name version content u h p n v =

@@ -12,11 +12,11 @@ use Rattle.flashbase.specs.Lists.{newest}
 use Rattle.flashbase.proofs.ListLemmas.{newest_is_newest, newest_of_none}
 use Rattle.jnode.specs.declared.node.Dirent.{Dirent}
 use Rattle.jname.specs.declared.versions.Content.{Content}
-use Rattle.jname.specs.declared.directory.Directory.{Directory}
+use Rattle.jname.specs.declared.apart.Apart.{Apart}
 use Rattle.jname.specs.Versions.{IsTop, IsLiveIn}
 use Rattle.jname.specs.ContentsByName.{content_in}
 use Rattle.jname.specs.NameMaps.{names_in}
-use Rattle.jname.specs.Directories.{DirectoriesByNumber, content_at, content_under, highest_at}
+use Rattle.jname.specs.Directories.{DirectoriesByNumber, content_at, content_held, highest_at}
 use Rattle.jname.specs.Entries.{content_of_entry, entry_of, entries_of}
 use Rattle.jname.specs.Live.{Key, is_at, ino_if_any, live, highest}
 use Rattle.jname.proofs.MemberLemmas.{Contains-none, Contains-filter, Contains-filter_from}
@@ -110,10 +110,10 @@ from_number directories ordered pino x h =
     let found = Contains-filter_from (λ entry. entry.pino == pino) (entries_of directories) x h in
     subst (λ (p : ℕ). content_at directories p x.name x.version ≡ Some (content_of_entry x)) (eqb-true x.pino pino found.1) (content_at-from_Contains directories ordered x found.0)
 
-at_directory : (name : List ℕ) (v : ℕ) → Option Directory → Option Content
-at_directory name v o = option_and_then (λ (d : Directory). content_under d name v) o
+at_directory : (name : List ℕ) (v : ℕ) → Option Apart → Option Content
+at_directory name v o = option_and_then (λ (d : Apart). content_held d name v) o
 
-content_at-directory : (directories : DirectoriesByNumber) (pino : ℕ) (o : Option Directory) → get nat_cmp directories pino ≡ o → (name : List ℕ) (v : ℕ) → content_at directories pino name v ≡ at_directory name v o
+content_at-directory : (directories : DirectoriesByNumber) (pino : ℕ) (o : Option Apart) → get nat_cmp directories pino ≡ o → (name : List ℕ) (v : ℕ) → content_at directories pino name v ≡ at_directory name v o
 unfolding at_directory
 content_at-directory directories pino o e name v = ap (at_directory name v) e
 
@@ -121,8 +121,8 @@ is_none : (o : Option Content) → ((content : Content) → o ≡ Some content �
 is_none None h = refl
 is_none (Some content) h = absurd (h content refl)
 
-by_highest : (directories : DirectoriesByNumber) → IsOrdered nat_cmp directories → (pino : ℕ) (o : Option Directory) → get nat_cmp directories pino ≡ o → (z : Option Dirent) → newest (λ entry. entry.version) (of_directory directories pino) ≡ z
-    → option_map (λ (d : Directory). d.highest) o ≡ option_map (λ (entry : Dirent). entry.version) z
+by_highest : (directories : DirectoriesByNumber) → IsOrdered nat_cmp directories → (pino : ℕ) (o : Option Apart) → get nat_cmp directories pino ≡ o → (z : Option Dirent) → newest (λ entry. entry.version) (of_directory directories pino) ≡ z
+    → option_map (λ (d : Apart). d.directory.value.highest) o ≡ option_map (λ (entry : Dirent). entry.version) z
 unfolding at_directory
 by_highest directories ordered pino None there None e = refl
 by_highest directories ordered pino None there (Some z) e =
@@ -131,19 +131,19 @@ by_highest directories ordered pino None there (Some z) e =
     cc
 by_highest directories ordered pino (Some d) there None e =
     let none : of_directory directories pino ≡ [] = newest_of_none (of_directory directories pino) (λ entry. entry.version) e in
-    absurd (d.reached (λ name. is_none (content_in (names_in d.names) name d.highest) (λ content h.
-    Contains-none (entry_of pino name (d.highest, content)) (subst (λ (xs : List Dirent). Contains xs (entry_of pino name (d.highest, content))) none
-    (in_number directories pino name d.highest content (content_at-directory directories pino (Some d) there name d.highest ∙ h))))))
+    absurd (d.directory.value.reached (λ name. is_none (content_in (names_in d.directory.value.names) name d.directory.value.highest) (λ content h.
+    Contains-none (entry_of pino name (d.directory.value.highest, content)) (subst (λ (xs : List Dirent). Contains xs (entry_of pino name (d.directory.value.highest, content))) none
+    (in_number directories pino name d.directory.value.highest content (content_at-directory directories pino (Some d) there name d.directory.value.highest ∙ h))))))
 by_highest directories ordered pino (Some d) there (Some z) e =
     let is = newest_is_newest (of_directory directories pino) (λ entry. entry.version) z e in
-    let content_z : content_in (names_in d.names) z.name z.version ≡ Some (content_of_entry z) = sym (content_at-directory directories pino (Some d) there z.name z.version) ∙ from_number directories ordered pino z is.0 in
-    let low : z.version ≤ d.highest = d.bounds z.name z.version (subst (λ (o : Option Content). IsSome o) (sym content_z) refl) in
+    let content_z : content_in (names_in d.directory.value.names) z.name z.version ≡ Some (content_of_entry z) = sym (content_at-directory directories pino (Some d) there z.name z.version) ∙ from_number directories ordered pino z is.0 in
+    let low : z.version ≤ d.directory.value.highest = d.directory.value.bounds z.name z.version (subst (λ (o : Option Content). IsSome o) (sym content_z) refl) in
     ⊎_elim
-    (λ (lt : z.version < d.highest). absurd (d.reached (λ name. is_none (content_in (names_in d.names) name d.highest) (λ content h.
-    let most : d.highest ≤ z.version = is.1 (entry_of pino name (d.highest, content)) (in_number directories pino name d.highest content (content_at-directory directories pino (Some d) there name d.highest ∙ h)) in
+    (λ (lt : z.version < d.directory.value.highest). absurd (d.directory.value.reached (λ name. is_none (content_in (names_in d.directory.value.names) name d.directory.value.highest) (λ content h.
+    let most : d.directory.value.highest ≤ z.version = is.1 (entry_of pino name (d.directory.value.highest, content)) (in_number directories pino name d.directory.value.highest content (content_at-directory directories pino (Some d) there name d.directory.value.highest ∙ h)) in
     absurd (omega arith)))))
-    (λ (ge : d.highest ≤ z.version). let same : d.highest ≡ z.version = omega arith in ap Some same)
-    (cases_lt z.version d.highest)
+    (λ (ge : d.directory.value.highest ≤ z.version). let same : d.directory.value.highest ≡ z.version = omega arith in ap Some same)
+    (cases_lt z.version d.directory.value.highest)
 
 pub highest-is : (directories : DirectoriesByNumber) → IsOrdered nat_cmp directories → (pino : ℕ) → highest_at directories pino ≡ highest (entries_of directories) pino
 highest-is directories ordered pino = by_highest directories ordered pino (get nat_cmp directories pino) refl (newest (λ entry. entry.version) (of_directory directories pino)) refl

@@ -22,11 +22,11 @@ use Rattle.std.proofs.lemmas.Map.Lookups.{exact_unsigned}
 use Rattle.std.proofs.lemmas.Map.Text.{is_eq-slice_cmp}
 use Rattle.std.proofs.lemmas.Map.Views.{All-after_first, Contains-from_lookup, tells_apart}
 use Rattle.jname.specs.declared.versions.Versions.{Versions}
-use Rattle.jname.specs.declared.directory.Directory.{Directory}
+use Rattle.jname.specs.declared.apart.Apart.{Apart}
 use Rattle.jname.specs.Versions.{IsLiveIn, version_at}
 use Rattle.jname.specs.ContentsByName.{Name, name_cmp, versions_of_name}
 use Rattle.jname.specs.NameMaps.{names_in}
-use Rattle.jname.specs.Directories.{DirectoriesByNumber, content_under}
+use Rattle.jname.specs.Directories.{DirectoriesByNumber, content_held}
 use Rattle.jname.specs.Entries.{entries_of}
 use Rattle.jname.specs.Live.{Key, key_cmp, live, live_names, names_of, all_names}
 use Rattle.jname.specs.Walk.{live_ino, live_name, names_under, placed, names_within}
@@ -40,27 +40,27 @@ use Rattle.jname.proofs.NamingLemmas.{key_cmp_total, key_cmp-IsAntisymmetric, li
 
 -- ---- what a name stands for, by what is stored
 
-pub live-at_name : (directories : DirectoriesByNumber) → IsOrdered nat_cmp directories → (pino : ℕ) (d : Directory) (name : List ℕ) (versions : Versions) → get nat_cmp directories pino ≡ Some d → versions_of_name (names_in d.names) name ≡ Some versions
+pub live-at_name : (directories : DirectoriesByNumber) → IsOrdered nat_cmp directories → (pino : ℕ) (d : Apart) (name : List ℕ) (versions : Versions) → get nat_cmp directories pino ≡ Some d → versions_of_name (names_in d.directory.value.names) name ≡ Some versions
     → live_ino versions ≡ live (entries_of directories) (pino, name)
 live-at_name directories ordered pino d name versions directory found =
     live-is directories ordered (pino, name) (live_ino versions)
-    (subst (λ (o : Option Directory). IsLiveIn (λ v. option_and_then (λ (e : Directory). content_under e name v) o) (live_ino versions)) (sym directory)
+    (subst (λ (o : Option Apart). IsLiveIn (λ v. option_and_then (λ (e : Apart). content_held e name v) o) (live_ino versions)) (sym directory)
     (subst (λ (o : Option Versions). IsLiveIn (λ v. option_and_then (λ (m : Versions). version_at m v) o) (live_ino versions)) (sym found) (live_ino-IsLiveIn versions)))
 
 nothing : IsLiveIn (λ v. None) None
 nothing v content top = let no : None ≡ Some content = top.0 in cc
 
-pub live-no_name : (directories : DirectoriesByNumber) → IsOrdered nat_cmp directories → (pino : ℕ) (d : Directory) (name : List ℕ) → get nat_cmp directories pino ≡ Some d → versions_of_name (names_in d.names) name ≡ None
+pub live-no_name : (directories : DirectoriesByNumber) → IsOrdered nat_cmp directories → (pino : ℕ) (d : Apart) (name : List ℕ) → get nat_cmp directories pino ≡ Some d → versions_of_name (names_in d.directory.value.names) name ≡ None
     → None ≡ live (entries_of directories) (pino, name)
 live-no_name directories ordered pino d name directory none =
     live-is directories ordered (pino, name) None
-    (subst (λ (o : Option Directory). IsLiveIn (λ v. option_and_then (λ (e : Directory). content_under e name v) o) None) (sym directory)
+    (subst (λ (o : Option Apart). IsLiveIn (λ v. option_and_then (λ (e : Apart). content_held e name v) o) None) (sym directory)
     (subst (λ (o : Option Versions). IsLiveIn (λ v. option_and_then (λ (m : Versions). version_at m v) o) None) (sym none) nothing))
 
 pub live-no_directory : (directories : DirectoriesByNumber) → IsOrdered nat_cmp directories → (pino : ℕ) (name : List ℕ) → get nat_cmp directories pino ≡ None → None ≡ live (entries_of directories) (pino, name)
 live-no_directory directories ordered pino name none =
     live-is directories ordered (pino, name) None
-    (subst (λ (o : Option Directory). IsLiveIn (λ v. option_and_then (λ (e : Directory). content_under e name v) o) None) (sym none) nothing)
+    (subst (λ (o : Option Apart). IsLiveIn (λ v. option_and_then (λ (e : Apart). content_held e name v) o) None) (sym none) nothing)
 
 -- ---- the names of one directory
 
@@ -74,29 +74,29 @@ live_name-from : (e : Name × Versions) (x : List ℕ × ℕ) → live_name e �
 live_name-from e x h = named_from e x (live_ino e.1) refl h
 
 -- a name that the walk gives is live
-pub live-from_names_under : (directories : DirectoriesByNumber) → IsOrdered nat_cmp directories → (pino : ℕ) (d : Directory) → get nat_cmp directories pino ≡ Some d → (x : List ℕ × ℕ) → Contains (names_under (names_in d.names)) x
+pub live-from_names_under : (directories : DirectoriesByNumber) → IsOrdered nat_cmp directories → (pino : ℕ) (d : Apart) → get nat_cmp directories pino ≡ Some d → (x : List ℕ × ℕ) → Contains (names_under (names_in d.directory.value.names)) x
     → live (entries_of directories) (pino, x.0) ≡ Some x.1
 live-from_names_under directories ordered pino d directory x h =
-    let k = Contains-filter_map_from live_name (names_in d.names) x h in
+    let k = Contains-filter_map_from live_name (names_in d.directory.value.names) x h in
     let is = live_name-from k.0 x k.2 in
-    let found : versions_of_name (names_in d.names) x.0 ≡ Some k.0.1 = subst (λ (n : List ℕ). versions_of_name (names_in d.names) n ≡ Some k.0.1) is.0 (name_found d.names k.0.0 k.0.1 k.1) in
+    let found : versions_of_name (names_in d.directory.value.names) x.0 ≡ Some k.0.1 = subst (λ (n : List ℕ). versions_of_name (names_in d.directory.value.names) n ≡ Some k.0.1) is.0 (name_found d.directory.value.names k.0.0 k.0.1 k.1) in
     sym (live-at_name directories ordered pino d x.0 k.0.1 directory found) ∙ is.1
 
-given_name : (directories : DirectoriesByNumber) → IsOrdered nat_cmp directories → (pino : ℕ) (d : Directory) → get nat_cmp directories pino ≡ Some d → (x : List ℕ × ℕ) (o : Option Versions) → versions_of_name (names_in d.names) x.0 ≡ o
-    → live (entries_of directories) (pino, x.0) ≡ Some x.1 → Contains (names_under (names_in d.names)) x
+given_name : (directories : DirectoriesByNumber) → IsOrdered nat_cmp directories → (pino : ℕ) (d : Apart) → get nat_cmp directories pino ≡ Some d → (x : List ℕ × ℕ) (o : Option Versions) → versions_of_name (names_in d.directory.value.names) x.0 ≡ o
+    → live (entries_of directories) (pino, x.0) ≡ Some x.1 → Contains (names_under (names_in d.directory.value.names)) x
 given_name directories ordered pino d directory x None none h =
     let no : None ≡ Some x.1 = live-no_name directories ordered pino d x.0 directory none ∙ h in cc
 given_name directories ordered pino d directory x (Some versions) found h =
-    let k = Contains-lookup (λ (k : Name). is_eq (slice_cmp nat_cmp x.0 (cow_slice_items k))) (names_in d.names) versions found in
+    let k = Contains-lookup (λ (k : Name). is_eq (slice_cmp nat_cmp x.0 (cow_slice_items k))) (names_in d.directory.value.names) versions found in
     let same : x.0 ≡ cow_slice_items k.0 = (bytes_eq-Decides x.0 (cow_slice_items k.0)).0 (sym (is_eq-slice_cmp x.0 (cow_slice_items k.0)) ∙ k.2) in
     let ino : live_ino versions ≡ Some x.1 = live-at_name directories ordered pino d x.0 versions directory found ∙ h in
-    Contains-filter_map live_name (names_in d.names) (k.0, versions) x k.1
+    Contains-filter_map live_name (names_in d.directory.value.names) (k.0, versions) x k.1
     (ap (λ (o : Option ℕ). option_map (λ n. (cow_slice_items k.0, n)) o) ino ∙ ap (λ (n : List ℕ). Some (n, x.1)) (sym same))
 
 -- a name that is live is given
-pub names_under-from_live : (directories : DirectoriesByNumber) → IsOrdered nat_cmp directories → (pino : ℕ) (d : Directory) → get nat_cmp directories pino ≡ Some d → (x : List ℕ × ℕ)
-    → live (entries_of directories) (pino, x.0) ≡ Some x.1 → Contains (names_under (names_in d.names)) x
-names_under-from_live directories ordered pino d directory x h = given_name directories ordered pino d directory x (versions_of_name (names_in d.names) x.0) refl h
+pub names_under-from_live : (directories : DirectoriesByNumber) → IsOrdered nat_cmp directories → (pino : ℕ) (d : Apart) → get nat_cmp directories pino ≡ Some d → (x : List ℕ × ℕ)
+    → live (entries_of directories) (pino, x.0) ≡ Some x.1 → Contains (names_under (names_in d.directory.value.names)) x
+names_under-from_live directories ordered pino d directory x h = given_name directories ordered pino d directory x (versions_of_name (names_in d.directory.value.names) x.0) refl h
 
 -- names rise
 pub is_sorted-names_under : (es : List (Name × Versions)) → IsStrictlySortedBy name_cmp (map (λ e. e.0) es) → T (is_sorted (slice_cmp nat_cmp) (names_under es))
@@ -130,36 +130,36 @@ is_sorted-keyed pino (x ∷ xs) h =
     (is_sorted-keyed pino xs (T_second (below_all (slice_cmp nat_cmp) x.0 xs) (is_sorted (slice_cmp nat_cmp) xs) h))
 
 -- the names of directories, by their keys
-abbrev pub keyed_within : List (ℕ × Directory) → List (Key × ℕ)
-keyed_within es = flat_map (λ e. map (keyed e.0) (names_under (names_in e.1.names))) es
+abbrev pub keyed_within : List (ℕ × Apart) → List (Key × ℕ)
+keyed_within es = flat_map (λ e. map (keyed e.0) (names_under (names_in e.1.directory.value.names))) es
 
-pub is_sorted-keyed_within : (es : List (ℕ × Directory)) → IsStrictlySortedBy nat_cmp (map (λ e. e.0) es) → T (is_sorted key_cmp (keyed_within es))
+pub is_sorted-keyed_within : (es : List (ℕ × Apart)) → IsStrictlySortedBy nat_cmp (map (λ e. e.0) es) → T (is_sorted key_cmp (keyed_within es))
 is_sorted-keyed_within [] h = tt
 is_sorted-keyed_within (e ∷ es) h =
-    is_sorted-append key_cmp (map (keyed e.0) (names_under (names_in e.1.names))) (keyed_within es)
-    (is_sorted-keyed e.0 (names_under (names_in e.1.names)) (is_sorted-names_under (names_in e.1.names) (names_ordered e.1.names)))
-    (is_sorted-keyed_within es (sorted_tail nat_cmp e.0 (map (λ (p : ℕ × Directory). p.0) es) h))
+    is_sorted-append key_cmp (map (keyed e.0) (names_under (names_in e.1.directory.value.names))) (keyed_within es)
+    (is_sorted-keyed e.0 (names_under (names_in e.1.directory.value.names)) (is_sorted-names_under (names_in e.1.directory.value.names) (names_ordered e.1.directory.value.names)))
+    (is_sorted-keyed_within es (sorted_tail nat_cmp e.0 (map (λ (p : ℕ × Apart). p.0) es) h))
     (λ x y in_x in_y.
-    let a = Contains-map_from (keyed e.0) (names_under (names_in e.1.names)) x in_x in
-    let d = Contains-flat_map_from (λ (f : ℕ × Directory). map (keyed f.0) (names_under (names_in f.1.names))) es y in_y in
-    let b = Contains-map_from (keyed d.0.0) (names_under (names_in d.0.1.names)) y d.2 in
-    let less : nat_cmp e.0 d.0.0 ≡ Less = All-contains (λ (q : ℕ). nat_cmp e.0 q ≡ Less) (map (λ (p : ℕ × Directory). p.0) es) d.0.0 (All-after_first nat_cmp e.0 (map (λ (p : ℕ × Directory). p.0) es) h) (Contains-map (λ (p : ℕ × Directory). p.0) es d.0 d.1) in
+    let a = Contains-map_from (keyed e.0) (names_under (names_in e.1.directory.value.names)) x in_x in
+    let d = Contains-flat_map_from (λ (f : ℕ × Apart). map (keyed f.0) (names_under (names_in f.1.directory.value.names))) es y in_y in
+    let b = Contains-map_from (keyed d.0.0) (names_under (names_in d.0.1.directory.value.names)) y d.2 in
+    let less : nat_cmp e.0 d.0.0 ≡ Less = All-contains (λ (q : ℕ). nat_cmp e.0 q ≡ Less) (map (λ (p : ℕ × Apart). p.0) es) d.0.0 (All-after_first nat_cmp e.0 (map (λ (p : ℕ × Apart). p.0) es) h) (Contains-map (λ (p : ℕ × Apart). p.0) es d.0 d.1) in
     subst (λ (w : Key × ℕ). key_cmp w.0 y.0 ≡ Less) a.2 (subst (λ (z : Key × ℕ). key_cmp (e.0, a.0.0) z.0 ≡ Less) b.2 (number_less e.0 d.0.0 a.0.0 b.0.0 less)))
 
 live-from_keyed : (directories : DirectoriesByNumber) → IsOrdered nat_cmp directories → (x : Key × ℕ) → Contains (keyed_within directories.entries) x → live (entries_of directories) x.0 ≡ Some x.1
 live-from_keyed directories ordered x h =
-    let d = Contains-flat_map_from (λ (f : ℕ × Directory). map (keyed f.0) (names_under (names_in f.1.names))) directories.entries x h in
-    let y = Contains-map_from (keyed d.0.0) (names_under (names_in d.0.1.names)) x d.2 in
+    let d = Contains-flat_map_from (λ (f : ℕ × Apart). map (keyed f.0) (names_under (names_in f.1.directory.value.names))) directories.entries x h in
+    let y = Contains-map_from (keyed d.0.0) (names_under (names_in d.0.1.directory.value.names)) x d.2 in
     subst (λ (z : Key × ℕ). live (entries_of directories) z.0 ≡ Some z.1) y.2
     (live-from_names_under directories ordered d.0.0 d.0.1 (nat_found directories.entries d.0.0 d.0.1 ordered d.1) y.0 y.1)
 
-given_key : (directories : DirectoriesByNumber) → IsOrdered nat_cmp directories → (x : Key × ℕ) (o : Option Directory) → get nat_cmp directories x.0.0 ≡ o → live (entries_of directories) x.0 ≡ Some x.1 → Contains (keyed_within directories.entries) x
+given_key : (directories : DirectoriesByNumber) → IsOrdered nat_cmp directories → (x : Key × ℕ) (o : Option Apart) → get nat_cmp directories x.0.0 ≡ o → live (entries_of directories) x.0 ≡ Some x.1 → Contains (keyed_within directories.entries) x
 given_key directories ordered x None none h =
     let no : None ≡ Some x.1 = live-no_directory directories ordered x.0.0 x.0.1 none ∙ h in cc
 given_key directories ordered x (Some d) there h =
-    Contains-flat_map (λ (f : ℕ × Directory). map (keyed f.0) (names_under (names_in f.1.names))) directories.entries (x.0.0, d) x
+    Contains-flat_map (λ (f : ℕ × Apart). map (keyed f.0) (names_under (names_in f.1.directory.value.names))) directories.entries (x.0.0, d) x
     (Contains-from_lookup (tells_apart exact_unsigned) x.0.0 d directories.entries there)
-    (Contains-map (keyed x.0.0) (names_under (names_in d.names)) (x.0.1, x.1) (names_under-from_live directories ordered x.0.0 d there (x.0.1, x.1) h))
+    (Contains-map (keyed x.0.0) (names_under (names_in d.directory.value.names)) (x.0.1, x.1) (names_under-from_live directories ordered x.0.0 d there (x.0.1, x.1) h))
 
 -- the walk over all directories is the map of live names
 pub entries-live_names : (directories : DirectoriesByNumber) → IsOrdered nat_cmp directories → keyed_within directories.entries ≡ entries (live_names (entries_of directories))
@@ -178,12 +178,12 @@ map-spread_keyed : (pino : ℕ) (xs : List (List ℕ × ℕ)) → map spread (ma
 map-spread_keyed pino [] = refl
 map-spread_keyed pino (x ∷ xs) = ap (λ (ys : List (ℕ × List ℕ × ℕ)). (pino, x.0, x.1) ∷ ys) (map-spread_keyed pino xs)
 
-map-spread : (es : List (ℕ × Directory)) → map spread (keyed_within es) ≡ names_within es
+map-spread : (es : List (ℕ × Apart)) → map spread (keyed_within es) ≡ names_within es
 map-spread [] = refl
 map-spread (e ∷ es) =
-    map-append spread (map (keyed e.0) (names_under (names_in e.1.names))) (keyed_within es)
-    ∙ ap (λ (xs : List (ℕ × List ℕ × ℕ)). xs ++ map spread (keyed_within es)) (map-spread_keyed e.0 (names_under (names_in e.1.names)))
-    ∙ ap (λ (ys : List (ℕ × List ℕ × ℕ)). map (placed e.0) (names_under (names_in e.1.names)) ++ ys) (map-spread es)
+    map-append spread (map (keyed e.0) (names_under (names_in e.1.directory.value.names))) (keyed_within es)
+    ∙ ap (λ (xs : List (ℕ × List ℕ × ℕ)). xs ++ map spread (keyed_within es)) (map-spread_keyed e.0 (names_under (names_in e.1.directory.value.names)))
+    ∙ ap (λ (ys : List (ℕ × List ℕ × ℕ)). map (placed e.0) (names_under (names_in e.1.directory.value.names)) ++ ys) (map-spread es)
 
 pub names_within-is : (directories : DirectoriesByNumber) → IsOrdered nat_cmp directories → names_within directories.entries ≡ all_names (entries_of directories)
 names_within-is directories ordered = sym (map-spread directories.entries) ∙ ap (λ (es : List (Key × ℕ)). map spread es) (entries-live_names directories ordered)
@@ -206,19 +206,19 @@ part-from_live : (directories : DirectoriesByNumber) (pino : ℕ) (x : List ℕ 
 part-from_live directories pino x h =
     Contains-filter (in_number pino) (entries (live_names (entries_of directories))) (keyed pino x) (eq-eqb pino pino refl) (Contains-from_live (entries_of directories) (pino, x.0) x.1 h)
 
-keyed-part : (directories : DirectoriesByNumber) → IsOrdered nat_cmp directories → (pino : ℕ) (d : Directory) → get nat_cmp directories pino ≡ Some d → map (keyed pino) (names_under (names_in d.names)) ≡ part_of directories pino
+keyed-part : (directories : DirectoriesByNumber) → IsOrdered nat_cmp directories → (pino : ℕ) (d : Apart) → get nat_cmp directories pino ≡ Some d → map (keyed pino) (names_under (names_in d.directory.value.names)) ≡ part_of directories pino
 keyed-part directories ordered pino d directory =
-    same_members key_cmp key_cmp_total key_cmp-IsAntisymmetric (map (keyed pino) (names_under (names_in d.names))) (part_of directories pino)
-    (is_sorted-keyed pino (names_under (names_in d.names)) (is_sorted-names_under (names_in d.names) (names_ordered d.names)))
+    same_members key_cmp key_cmp_total key_cmp-IsAntisymmetric (map (keyed pino) (names_under (names_in d.directory.value.names))) (part_of directories pino)
+    (is_sorted-keyed pino (names_under (names_in d.directory.value.names)) (is_sorted-names_under (names_in d.directory.value.names) (names_ordered d.directory.value.names)))
     (is_sorted-where_key key_cmp (λ (k : Key). k.0 == pino) (entries (live_names (entries_of directories))) (entries_sorted (live_names (entries_of directories))))
     (λ x. (
       λ h.
-          let y = Contains-map_from (keyed pino) (names_under (names_in d.names)) x h in
+          let y = Contains-map_from (keyed pino) (names_under (names_in d.directory.value.names)) x h in
           subst (λ (z : Key × ℕ). Contains (part_of directories pino) z) y.2 (part-from_live directories pino y.0 (live-from_names_under directories ordered pino d directory y.0 y.1)),
       λ h.
           let is = live-from_part directories pino x h in
-          subst (λ (p : ℕ). Contains (map (keyed pino) (names_under (names_in d.names))) ((p, x.0.1), x.1)) (sym is.0)
-          (Contains-map (keyed pino) (names_under (names_in d.names)) (x.0.1, x.1) (names_under-from_live directories ordered pino d directory (x.0.1, x.1) is.1)),
+          subst (λ (p : ℕ). Contains (map (keyed pino) (names_under (names_in d.directory.value.names))) ((p, x.0.1), x.1)) (sym is.0)
+          (Contains-map (keyed pino) (names_under (names_in d.directory.value.names)) (x.0.1, x.1) (names_under-from_live directories ordered pino d directory (x.0.1, x.1) is.1)),
     ))
 
 abbrev unkeyed : Key × ℕ → List ℕ × ℕ
@@ -228,9 +228,9 @@ map-unkeyed : (pino : ℕ) (xs : List (List ℕ × ℕ)) → map unkeyed (map (k
 map-unkeyed pino [] = refl
 map-unkeyed pino (x ∷ xs) = ap (λ (ys : List (List ℕ × ℕ)). x ∷ ys) (map-unkeyed pino xs)
 
-pub names_under-is : (directories : DirectoriesByNumber) → IsOrdered nat_cmp directories → (pino : ℕ) (d : Directory) → get nat_cmp directories pino ≡ Some d → names_under (names_in d.names) ≡ names_of (entries_of directories) pino
+pub names_under-is : (directories : DirectoriesByNumber) → IsOrdered nat_cmp directories → (pino : ℕ) (d : Apart) → get nat_cmp directories pino ≡ Some d → names_under (names_in d.directory.value.names) ≡ names_of (entries_of directories) pino
 names_under-is directories ordered pino d directory =
-    sym (map-unkeyed pino (names_under (names_in d.names))) ∙ ap (λ (es : List (Key × ℕ)). map unkeyed es) (keyed-part directories ordered pino d directory)
+    sym (map-unkeyed pino (names_under (names_in d.directory.value.names))) ∙ ap (λ (es : List (Key × ℕ)). map unkeyed es) (keyed-part directories ordered pino d directory)
 
 empty_of_none : {X : Type 0} (xs : List X) → ((x : X) → Contains xs x → ⊥) → xs ≡ []
 empty_of_none [] h = refl

@@ -7,11 +7,11 @@ use Rattle.std.specs.Cow.{cow_slice_items}
 use Rattle.std.proofs.lemmas.Bool.{eq-eqb, eqb-true}
 use Rattle.jname.specs.declared.versions.Content.{Content}
 use Rattle.jname.specs.declared.versions.Versions.{Versions}
-use Rattle.jname.specs.Versions.{IsTop, IsLiveIn, version_at}
+use Rattle.jname.specs.Versions.{IsTop, IsLiveIn, version_at, newest_of}
 use Rattle.jname.specs.ContentsByName.{Name}
 use Rattle.jname.specs.Walk.{live_ino, names_under}
 use Rattle.jname.proofs.LiveLemmas.{same_top}
-use Rattle.jname.proofs.VersionLemmas.{at_most_greatest, newest_at}
+use Rattle.jname.proofs.VersionLemmas.{greatest_of, newest_there, none_greater}
 
 -- ---- one name
 
@@ -22,12 +22,12 @@ live_or_gone : (at : ℕ → Option Content) (v : ℕ) (content : Content) (b : 
 live_or_gone at v content true e top = gone_is_zero at v content top (eqb-true content.ino 0 e)
 live_or_gone at v content false e top = ((λ (zero : content.ino ≡ 0). let yes : (content.ino == 0) ≡ true = eq-eqb content.ino 0 zero in cc), (v, content, top, refl))
 
-pub newest_is_top : (versions : Versions) → IsTop (version_at versions) versions.greatest versions.newest
-newest_is_top versions = (newest_at versions versions.greatest refl, λ w h. at_most_greatest versions w h)
+pub newest_is_top : (versions : Versions) → IsTop (version_at versions) (greatest_of versions) (newest_of versions)
+newest_is_top versions = (newest_there versions, λ w h. none_greater versions w h)
 
 pub live_ino-IsLiveIn : (versions : Versions) → IsLiveIn (version_at versions) (live_ino versions)
 unfolding live_ino
-live_ino-IsLiveIn versions = live_or_gone (version_at versions) versions.greatest versions.newest (versions.newest.ino == 0) refl (newest_is_top versions)
+live_ino-IsLiveIn versions = live_or_gone (version_at versions) (greatest_of versions) (newest_of versions) ((newest_of versions).ino == 0) refl (newest_is_top versions)
 
 -- there is one answer
 pub one_live : (at : ℕ → Option Content) (r s : Option ℕ) → IsLiveIn at r → IsLiveIn at s → r ≡ s

@@ -5,7 +5,7 @@ use Rattle.std.specs.Cow.{cow_slice_items}
 use Rattle.jnode.specs.declared.node.Dirent.{Dirent}
 use Rattle.jname.specs.declared.versions.Content.{Content}
 use Rattle.jname.specs.declared.versions.Versions.{Versions}
-use Rattle.jname.specs.declared.directory.Directory.{Directory}
+use Rattle.jname.specs.declared.apart.Apart.{Apart}
 use Rattle.jname.specs.Versions.{contents_of}
 use Rattle.jname.specs.ContentsByName.{Name}
 use Rattle.jname.specs.NameMaps.{names_in}
@@ -20,8 +20,8 @@ entry_of pino name e = record { pino = pino; version = e.0; ino = e.1.ino; mctim
 abbrev pub entries_under : ℕ → Name × Versions → List Dirent
 entries_under pino e = map (entry_of pino (cow_slice_items e.0)) (contents_of e.1)
 
-abbrev pub entries_in_directory : ℕ × Directory → List Dirent
-entries_in_directory e = flat_map (entries_under e.0) (names_in e.1.names)
+abbrev pub entries_in_directory : ℕ × Apart → List Dirent
+entries_in_directory e = flat_map (entries_under e.0) (names_in e.1.directory.value.names)
 
 unfoldable pub entries_of : DirectoriesByNumber → List Dirent
 entries_of directories = flat_map entries_in_directory directories.entries

@@ -4,13 +4,14 @@ use Rattle.std.specs.List.{flat_map}
 use Rattle.std.specs.Option.{option_map}
 use Rattle.std.specs.Cow.{cow_slice_items}
 use Rattle.jname.specs.declared.versions.Versions.{Versions}
-use Rattle.jname.specs.declared.directory.Directory.{Directory}
+use Rattle.jname.specs.declared.apart.Apart.{Apart}
+use Rattle.jname.specs.Versions.{newest_of}
 use Rattle.jname.specs.ContentsByName.{Name}
 use Rattle.jname.specs.NameMaps.{names_in}
 
 -- the inode number at the highest version, where it is not 0
 unfoldable pub live_ino : Versions → Option ℕ
-live_ino versions = if versions.newest.ino == 0 then None else Some versions.newest.ino
+live_ino versions = if (newest_of versions).ino == 0 then None else Some (newest_of versions).ino
 
 -- a name with its inode number, if it is live
 abbrev pub live_name : Name × Versions → Option (List ℕ × ℕ)
@@ -25,5 +26,5 @@ abbrev pub placed : ℕ → List ℕ × ℕ → ℕ × List ℕ × ℕ
 placed pino e = (pino, e.0, e.1)
 
 -- the live names of directories
-abbrev pub names_within : List (ℕ × Directory) → List (ℕ × List ℕ × ℕ)
-names_within es = flat_map (λ e. map (placed e.0) (names_under (names_in e.1.names))) es
+abbrev pub names_within : List (ℕ × Apart) → List (ℕ × List ℕ × ℕ)
+names_within es = flat_map (λ e. map (placed e.0) (names_under (names_in e.1.directory.value.names))) es

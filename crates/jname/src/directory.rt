@@ -33,7 +33,7 @@ impl<'a> Directory<'a> {
     ) -> Result<Self, AllocError>
         ensures { IfOk result (λ directory. (n : List ℕ) (v : ℕ) → content_under directory n v ≡ (if bytes_eq (cow_slice_items name.entry) n && version == v then Some content else None)) }
     {
-        let names = NameMap::of_one(alloc, name, Versions::of_one(alloc, version, content))?;
+        let names = NameMap::of_one(alloc, name, Versions::of_one(version, content))?;
         Ok(Directory {
             names,
             highest: version,

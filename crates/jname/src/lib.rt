@@ -7,6 +7,7 @@
 //! about how the map holds the entries, and no public contract cites them. `laws` has what follows from the first two.
 #![tactic(auto)]
 
+mod apart;
 mod directory;
 mod fault;
 mod few;
@@ -14,6 +15,7 @@ pub mod laws;
 mod name_map;
 mod names;
 mod older;
+mod sorted;
 mod versions;
 mod walk;
 

@@ -96,14 +96,14 @@ impl<'a> NameMap<'a> {
         ensures err { OnErr result (HasSameContents (names_in self.old) (names_in self.new)) }
     {
         match place_of(&self.few, name.as_slice()) {
-            Ok(place) => self.few[place].1.add(version, content),
+            Ok(place) => self.few[place].1.add(alloc, version, content),
             Err(place) => {
                 if self.few.len() < FEW && self.map.is_empty() {
                     return put(
                         &mut self.few,
                         place,
                         name,
-                        Versions::of_one(alloc, version, content),
+                        Versions::of_one(version, content),
                     );
                 }
                 spread(alloc, &mut self.few, &mut self.map)?;
@@ -153,8 +153,8 @@ fn add_name<'a>(
     ensures ordered { IsOrdered name_cmp names.new }
 {
     if let Some(versions) = names.get_mut(name.as_slice()) {
-        return versions.add(version, content);
+        return versions.add(alloc, version, content);
     }
-    names.insert(name, Versions::of_one(alloc, version, content))?;
+    names.insert(name, Versions::of_one(version, content))?;
     Ok(())
 }

@@ -9,6 +9,7 @@ ghost use Rattle.jname.specs.Directories.{content_at, highest_at};
 ghost use Rattle.jname.specs.Entries.{entries_of};
 
 use crate::NameFault;
+use crate::apart::Apart;
 use crate::directory::Directory;
 use crate::name_map::NameMap;
 use crate::versions::Content;
@@ -20,7 +21,7 @@ use std::borrow::CowSlice;
 use std::collections::BTreeMap;
 use std::marker::Model;
 
-type DirectoriesByNumber<'a> = BTreeMap<u32, Directory<'a>>;
+type DirectoriesByNumber<'a> = BTreeMap<u32, Apart<'a>>;
 
 /// The entries of the directories of an image, by directory, name and version.
 ///
@@ -103,7 +104,7 @@ impl<'a> Names<'a> {
         ensures { result ≡ names_of self.now dir }
     {
         match self.directories.get(&dir) {
-            Some(directory) => Of::new(&directory.names),
+            Some(apart) => Of::new(&apart.directory.names),
             None => Of::new(&self.none),
         }
     }
@@ -152,11 +153,12 @@ fn add_entry<'a>(
     ensures err { OnErr result (entries_of directories.new ≡ entries_of directories.old) }
     ensures ordered { IsOrdered nat_cmp directories.new }
 {
-    if let Some(directory) = directories.get_mut(&pino) {
-        return directory.add(alloc, name, version, content);
+    if let Some(apart) = directories.get_mut(&pino) {
+        return apart.add(alloc, name, version, content);
     }
     let directory = Directory::of_one(alloc, name, version, content)?;
-    directories.insert(pino, directory)?;
+    let apart = Apart::new(alloc, directory)?;
+    directories.insert(pino, apart)?;
     Ok(())
 }
 
@@ -164,12 +166,12 @@ fn add_entry<'a>(
 fn live_of(directories: &DirectoriesByNumber<'_>, dir: u32, name: &[u8]) -> Option<u32>
     ensures { IsLiveIn (λ v. content_at directories.now dir name.now v) result }
 {
-    directories.get(&dir)?.names.get(name)?.live()
+    directories.get(&dir)?.directory.names.get(name)?.live()
 }
 
 /// The greatest version of a directory.
 fn highest_of(directories: &DirectoriesByNumber<'_>, dir: u32) -> Option<u32>
     ensures { result ≡ highest_at directories.now dir }
 {
-    Some(directories.get(&dir)?.highest)
+    Some(directories.get(&dir)?.directory.highest)
 }

@@ -1,14 +1,12 @@
 // What is stored of one name: the contents of its entries, by version.
 
-ghost use Rattle.std.specs.Prelude.{◌≡◌, ◌<◌, ◌==◌, ℕ, Some, None, IsSome, OnOk, OnErr, if◌then◌else◌};
-ghost use Rattle.std.specs.Ordering.{nat_cmp};
-ghost use Rattle.std.specs.BTreeMap.{IsOrdered, get};
-ghost use Rattle.std.proofs.Props.{props};
+ghost use Rattle.std.specs.Prelude.{◌≡◌, ◌≢◌, ◌==◌, ℕ, Some, None, IfOk, OnOk, OnErr, if◌then◌else◌};
 
 use crate::NameFault;
-use crate::older::{add_older, agree};
+use crate::older::agree;
+use crate::sorted::Sorted;
 use std::alloc::Global;
-use std::collections::BTreeMap;
+use std::boxed::Box;
 
 /// What an entry says besides its place: the fields in which two entries of one place can clash.
 #[derive(Clone, Copy, PartialEq, Eq)]
@@ -18,55 +16,61 @@ pub struct Content {
     pub kind: u8,
 }
 
-/// The contents of the entries of one name, by version. That of the greatest is apart, since most names have no other:
-/// a map takes memory only from the second one on.
+/// The contents of the entries of one name, by version. Most names have one, which takes no memory of its own.
 #[derive(Drop)]
-pub struct Versions {
-    pub greatest: u32,
-    pub newest: Content,
-    pub older: BTreeMap<u32, Content>,
-    ghost ordered: { IsOrdered nat_cmp older } by { Prim.hlevel props },
-    ghost below: { (v : ℕ) → IsSome (get nat_cmp older v) → v < greatest },
+pub enum Versions {
+    One { version: u32, content: Content },
+    Several(Box<Sorted>),
 }
 
 impl Versions {
-    ghost use Rattle.jname.specs.Versions.{contents_of, version_at, Agrees, Differs, IsLiveIn};
+    ghost use Rattle.jname.specs.Versions.{contents_of, version_at, newest_of, Agrees, Differs, IsLiveIn};
 
-    /// One content, at a version. Takes no memory.
-    pub fn of_one(alloc: Global, version: u32, content: Content) -> Self
+    /// One content, at a version.
+    pub fn of_one(version: u32, content: Content) -> Self
         ensures { (v : ℕ) → version_at result v ≡ (if version == v then Some content else None) }
     {
-        Versions {
-            greatest: version,
-            newest: content,
-            older: BTreeMap::new(alloc),
-        }
+        Versions::One { version, content }
     }
 
     /// Holds a content at a version.
-    pub fn add(&mut self, version: u32, content: Content) -> Result<(), NameFault>
+    pub fn add(&mut self, alloc: Global, version: u32, content: Content) -> Result<(), NameFault>
         ensures clash { result ≡ Err NameFault.Clash → Differs (version_at self.old version) content }
         ensures alone { OnOk result (Agrees (version_at self.old version) content) }
         ensures ok { OnOk result ((v : ℕ) → version_at self.new v ≡ (if version == v then Some content else version_at self.old v)) }
         ensures err { OnErr result (contents_of self.new ≡ contents_of self.old) }
     {
-        if version == self.greatest {
-            return agree(self.newest, content);
+        match self {
+            Versions::One {
+                version: first,
+                content: only,
+            } => {
+                if version == *first {
+                    return agree(*only, content);
+                }
+                let mut sorted = Box::new(alloc, Sorted::of_one(alloc, *first, *only))?;
+                sorted.add(version, content)?;
+                *self = Versions::Several(sorted);
+                Ok(())
+            }
+            Versions::Several(sorted) => sorted.add(version, content),
         }
-        if version < self.greatest {
-            return add_older(&mut self.older, version, content);
-        }
-        self.older.insert(self.greatest, self.newest)?;
-        self.greatest = version;
-        self.newest = content;
-        Ok(())
     }
 
     /// The inode number at the highest version, where it is not 0.
     pub fn live(&self) -> Option<u32>
         ensures { IsLiveIn (version_at self.now) result }
     {
-        let ino = self.newest.ino;
+        let ino = self.newest().ino;
         if ino == 0 { None } else { Some(ino) }
+    }
+
+    fn newest(&self) -> Content
+        ensures { result ≡ newest_of self.now }
+    {
+        match self {
+            Versions::One { content, .. } => *content,
+            Versions::Several(sorted) => sorted.newest,
+        }
     }
 }

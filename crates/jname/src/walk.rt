@@ -2,7 +2,7 @@
 
 ghost use Rattle.std.specs.Prelude.{◌≡◌, ℕ, List};
 
-use crate::directory::Directory;
+use crate::apart::Apart;
 use crate::name_map::{NameIter, NameMap};
 use std::collections::BTreeMap;
 use std::collections::btree_map::Iter;
@@ -59,7 +59,7 @@ impl<'n, 'a> Iterator for Of<'n, 'a> {
 /// number and then in byte order.
 #[derive(Drop)]
 pub struct All<'n, 'a> {
-    directories: Iter<'n, u32, Directory<'a>>,
+    directories: Iter<'n, u32, Apart<'a>>,
     pino: u32,
     names: Of<'n, 'a>,
 }
@@ -79,7 +79,7 @@ impl<'n, 'a> All<'n, 'a> {
     ghost use Rattle.jname.specs.NameMaps.{names_in};
 
     /// The names of these directories; `none` is a directory without names.
-    pub(crate) fn new(directories: &'n BTreeMap<u32, Directory<'a>>, none: &'n NameMap<'a>) -> Self
+    pub(crate) fn new(directories: &'n BTreeMap<u32, Apart<'a>>, none: &'n NameMap<'a>) -> Self
         requires { names_in none.now ≡ [] }
         ensures { result ≡ names_within directories.now.entries }
     {
@@ -105,9 +105,9 @@ impl<'n, 'a> Iterator for All<'n, 'a> {
             if let Some((name, ino)) = self.names.next() {
                 return Some((self.pino, name, ino));
             }
-            let (pino, directory) = self.directories.next()?;
+            let (pino, apart) = self.directories.next()?;
             self.pino = *pino;
-            self.names = Of::new(&directory.names);
+            self.names = Of::new(&apart.directory.names);
         }
     }
 }

@@ -22,3 +22,11 @@ loop-name-preserved-in-Ok-2 c =
     subst (λ (es : List (Name × Versions)). IsStrictlySortedBy name_cmp (keys_of es)) (sym c.loop-name.invariant) c.requires in
     let inserted : c.insert.new.self.entries ≡ insert_entry name_cmp c.loop-name.map.entries c.in-Some.name c.in-Some.versions = search rules in
     moved c.loop-name.few.items c.pop.new.self.items c.loop-name.map.entries c.insert.new.self.entries c.in-Some.name c.in-Some.versions last sorted inserted ∙ c.loop-name.invariant
+
+pub loop-name-preserved-in-Ok-3 : goal.loop-name-preserved-in-Ok-3
+loop-name-preserved-in-Ok-3 c =
+    let last : c.loop-name.few.items ≡ c.pop.new.self.items ++ (c.in-Some.name, c.in-Some.versions) ∷ [] = search rules in
+    let sorted : IsStrictlySortedBy name_cmp (keys_of (c.loop-name.few.items ++ c.loop-name.map.entries)) =
+    subst (λ (es : List (Name × Versions)). IsStrictlySortedBy name_cmp (keys_of es)) (sym c.loop-name.invariant) c.requires in
+    let inserted : c.insert.new.self.entries ≡ insert_entry name_cmp c.loop-name.map.entries c.in-Some.name c.in-Some.versions = search rules in
+    moved c.loop-name.few.items c.pop.new.self.items c.loop-name.map.entries c.insert.new.self.entries c.in-Some.name c.in-Some.versions last sorted inserted ∙ c.loop-name.invariant

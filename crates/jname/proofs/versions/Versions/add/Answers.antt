@@ -1,19 +1,15 @@
-use Rattle.std.proofs.Common.{rules, ◌≡◌, ◌<◌, ℕ, Some, Option, sym, subst, arith}
+use Rattle.std.proofs.Common.{rules, ◌≡◌, ℕ, Some, None, sym, subst}
 use Rattle.std.specs.Prelude.{if◌then◌else◌, ◌==◌}
-use Rattle.std.specs.Ordering.{nat_cmp}
-use Rattle.std.specs.BTreeMap.{get}
-use Rattle.jname.specs.declared.versions.Content.{Content}
-use Rattle.jname.specs.Versions.{Agrees}
-use Rattle.jname.proofs.VersionLemmas.{greater_more, none_above}
+use Rattle.jname.specs.declared.sorted.Sorted.{Sorted}
+use Rattle.jname.specs.declared.versions.Versions.{Versions}
+use Rattle.jname.specs.Versions.{sorted_at, version_at}
+use Rattle.jname.proofs.VersionLemmas.{second_more}
 use Rattle.jname.proofs.versions.Versions.add.Goals as goal
 
-pub returns-clause-alone : goal.returns-clause-alone
-returns-clause-alone c =
-    let above : c.args.self.now.greatest < c.args.version = omega (arith, c.if-version-self.false, c.if-version-self-2.false) in
-    subst (λ (o : Option Content). Agrees o c.args.content) (sym (none_above c.args.self.now c.args.version above)) tt
-
-pub returns-clause-ok : goal.returns-clause-ok
-returns-clause-ok c =
-    let above : c.args.self.now.greatest < c.args.version = omega (arith, c.if-version-self.false, c.if-version-self-2.false) in
-    let more : (v : ℕ) → get nat_cmp c.insert.new.self v ≡ (if c.args.self.now.greatest == v then Some c.args.self.now.newest else get nat_cmp c.args.self.now.older v) = search rules in
-    greater_more c.args.self.now c.insert.new.self c.args.version c.args.content above more
+pub returns-in_ok-add-in-One-clause-ok : goal.returns-in_ok-add-in-One-clause-ok
+returns-in_ok-add-in-One-clause-ok c =
+    let same : c.deref_mut.result.now ≡ c.of_one.result = search rules in
+    let only : (v : ℕ) → sorted_at c.deref_mut.result.now v ≡ (if c.in-One.first == v then Some c.in-One.only else None) =
+    subst (λ (s : Sorted). (v : ℕ) → sorted_at s v ≡ (if c.in-One.first == v then Some c.in-One.only else None)) (sym same) c.of_one.ensures in
+    subst (λ (old : Versions). (v : ℕ) → sorted_at c.add.new.self v ≡ (if c.args.version == v then Some c.args.content else version_at old v)) (sym c.in-One.is)
+    (second_more c.in-One.first c.in-One.only (sorted_at c.add.new.self) c.args.version c.args.content (sorted_at c.deref_mut.result.now) only c.in_ok-add-in-One.ensures.ok)
