@@ -101,243 +101,244 @@ fn is_text(text: &str, start: &str, parts: [&str; 2]) -> bool {
         && !text.ends_with("\n\n")
 }
 
+/// The text of a wrong command line, with this part, and the way to help.
+fn is_wrong(text: &str, part: &str) -> bool {
+    is_text(text, "wrong error: ", [part, "--help"])
+}
+
+/// Lines that ask to read, and what they ask for.
+const READING: [(&str, &str); 15] = [
+    ("t check --scan a.img", "scan 65536 little a.img"),
+    ("t check a.img", "check 65536 little a.img"),
+    ("t check --shape a.img", "check 65536 little a.img shape"),
+    ("t check --shape --scan a.img", "scan 65536 little a.img"),
+    ("t check a.img --scan", "scan 65536 little a.img"),
+    (
+        "t check --scan --block 4096 a.img",
+        "scan 4096 little a.img",
+    ),
+    ("t check --scan --block=0 a.img", "scan 0 little a.img"),
+    (
+        "t check --scan --block 4294967295 a.img",
+        "scan 4294967295 little a.img",
+    ),
+    ("t check --endian big --scan a.img", "scan 65536 big a.img"),
+    (
+        "t check --endian=little --block 08192 --scan a.img",
+        "scan 8192 little a.img",
+    ),
+    ("t check --scan -- a.img", "scan 65536 little a.img"),
+    ("t check a.img", "check 65536 little a.img"),
+    ("t check --block 0065536 a.img", "check 65536 little a.img"),
+    ("t ls a.img --block 8192 --endian=big", "ls 8192 big a.img"),
+    (
+        "t cat --endian big --block=4096 a.img /b",
+        "cat 4096 big a.img /b",
+    ),
+];
+
 #[test]
 fn args_that_ask_for_something(rt: HostRuntime) -> Result<(), Fail> {
-    let examples = [
-        ("t check --scan a.img", "scan 65536 little a.img"),
-        ("t check a.img", "check 65536 little a.img"),
-        ("t check --shape a.img", "check 65536 little a.img shape"),
-        ("t check --shape --scan a.img", "scan 65536 little a.img"),
-        ("t check a.img --scan", "scan 65536 little a.img"),
-        (
-            "t check --scan --block 4096 a.img",
-            "scan 4096 little a.img",
-        ),
-        ("t check --scan --block=0 a.img", "scan 0 little a.img"),
-        (
-            "t check --scan --block 4294967295 a.img",
-            "scan 4294967295 little a.img",
-        ),
-        ("t check --endian big --scan a.img", "scan 65536 big a.img"),
-        (
-            "t check --endian=little --block 08192 --scan a.img",
-            "scan 8192 little a.img",
-        ),
-        ("t check --scan -- a.img", "scan 65536 little a.img"),
-        ("t check a.img", "check 65536 little a.img"),
-        ("t check --block 0065536 a.img", "check 65536 little a.img"),
-        ("t ls a.img --block 8192 --endian=big", "ls 8192 big a.img"),
-        (
-            "t cat --endian big --block=4096 a.img /b",
-            "cat 4096 big a.img /b",
-        ),
-    ];
-    for (line, wanted) in examples {
+    for (line, wanted) in READING {
         let answer = answer_to(rt.alloc(), line)?;
         assert_eq!(rt; answer.as_str(), wanted, "{line}");
     }
     Ok(())
 }
+
+/// Lines that ask to write, and what they ask for.
+const WRITING: [(&str, &str); 12] = [
+    (
+        "t build --blocks 8 a.txt b.img",
+        "build 65536 little 8 4096 a.txt b.img",
+    ),
+    (
+        "t build a.txt --blocks=8 b.img",
+        "build 65536 little 8 4096 a.txt b.img",
+    ),
+    (
+        "t build a.txt b.img --blocks 0",
+        "build 65536 little 0 4096 a.txt b.img",
+    ),
+    (
+        "t build --endian big --blocks 4294967295 --block 8192 a.txt b.img",
+        "build 8192 big 4294967295 4096 a.txt b.img",
+    ),
+    (
+        "t build a.txt --endian=big b.img --block=0 --blocks=00012",
+        "build 0 big 12 4096 a.txt b.img",
+    ),
+    (
+        "t build --blocks 3 -- --block --blocks",
+        "build 65536 little 3 4096 --block --blocks",
+    ),
+    (
+        "t build --blocks 8 --page 16384 a.txt b.img",
+        "build 65536 little 8 16384 a.txt b.img",
+    ),
+    (
+        "t append a.img b.txt c.img --page=8192 --blocks 8",
+        "append 65536 little 8 8192 a.img b.txt c.img",
+    ),
+    (
+        "t append --blocks 8 a.img b.txt c.img",
+        "append 65536 little 8 4096 a.img b.txt c.img",
+    ),
+    (
+        "t append a.img b.txt c.img --blocks=8",
+        "append 65536 little 8 4096 a.img b.txt c.img",
+    ),
+    (
+        "t append a.img --blocks 8 b.txt --block 4096 c.img --endian big",
+        "append 4096 big 8 4096 a.img b.txt c.img",
+    ),
+    (
+        "t append --block=131072 --blocks=4294967295 a.img b.txt a.img",
+        "append 131072 little 4294967295 4096 a.img b.txt a.img",
+    ),
+];
 
 #[test]
 fn args_that_ask_to_write(rt: HostRuntime) -> Result<(), Fail> {
-    let examples = [
-        (
-            "t build --blocks 8 a.txt b.img",
-            "build 65536 little 8 4096 a.txt b.img",
-        ),
-        (
-            "t build a.txt --blocks=8 b.img",
-            "build 65536 little 8 4096 a.txt b.img",
-        ),
-        (
-            "t build a.txt b.img --blocks 0",
-            "build 65536 little 0 4096 a.txt b.img",
-        ),
-        (
-            "t build --endian big --blocks 4294967295 --block 8192 a.txt b.img",
-            "build 8192 big 4294967295 4096 a.txt b.img",
-        ),
-        (
-            "t build a.txt --endian=big b.img --block=0 --blocks=00012",
-            "build 0 big 12 4096 a.txt b.img",
-        ),
-        (
-            "t build --blocks 3 -- --block --blocks",
-            "build 65536 little 3 4096 --block --blocks",
-        ),
-        (
-            "t build --blocks 8 --page 16384 a.txt b.img",
-            "build 65536 little 8 16384 a.txt b.img",
-        ),
-        (
-            "t append a.img b.txt c.img --page=8192 --blocks 8",
-            "append 65536 little 8 8192 a.img b.txt c.img",
-        ),
-        (
-            "t append --blocks 8 a.img b.txt c.img",
-            "append 65536 little 8 4096 a.img b.txt c.img",
-        ),
-        (
-            "t append a.img b.txt c.img --blocks=8",
-            "append 65536 little 8 4096 a.img b.txt c.img",
-        ),
-        (
-            "t append a.img --blocks 8 b.txt --block 4096 c.img --endian big",
-            "append 4096 big 8 4096 a.img b.txt c.img",
-        ),
-        (
-            "t append --block=131072 --blocks=4294967295 a.img b.txt a.img",
-            "append 131072 little 4294967295 4096 a.img b.txt a.img",
-        ),
-    ];
-    for (line, wanted) in examples {
+    for (line, wanted) in WRITING {
         let answer = answer_to(rt.alloc(), line)?;
         assert_eq!(rt; answer.as_str(), wanted, "{line}");
     }
     Ok(())
 }
 
+/// Lines that ask for nothing, and a part of the text that says why.
+const WRONG: [(&str, &str); 29] = [
+    ("", "requires a subcommand"),
+    ("t", "requires a subcommand"),
+    ("t paint", "unrecognized subcommand 'paint'"),
+    ("t ls", "<IMAGE>"),
+    ("t ls a.img /a", "'/a'"),
+    ("t ls --scan a.img", "--scan"),
+    ("t ls --shape a.img", "--shape"),
+    ("t ls --block=many a.img", "'many' for '--block <N>'"),
+    ("t ls a.img --endian=", "'' for '--endian <ORDER>'"),
+    ("t check", "<IMAGE>"),
+    ("t cat", "<IMAGE>"),
+    ("t cat a.img", "<PATH>"),
+    ("t cat --scan a.img /a", "--scan"),
+    ("t cat a.img /a /b", "'/b'"),
+    ("t check --scan", "<IMAGE>"),
+    ("t check --scan a b", "'b'"),
+    ("t check --scan --scan a", "--scan"),
+    ("t check --version a", "--version"),
+    ("t check --scan --blocks 2 a", "--blocks"),
+    ("t check --scan a --block", "--block <N>"),
+    ("t check --scan --block= a", "'' for '--block <N>'"),
+    ("t check --scan --block=x a", "'x' for '--block <N>'"),
+    (
+        "t check --scan --block=+4096 a",
+        "'+4096' for '--block <N>'",
+    ),
+    (
+        "t check --scan --block=4294967296 a",
+        "'4294967296' for '--block <N>'",
+    ),
+    (
+        "t check --scan --block=99999999999 a",
+        "'99999999999' for '--block <N>'",
+    ),
+    (
+        "t check --scan --block=18446744073709551616 a",
+        "'18446744073709551616' for '--block <N>'",
+    ),
+    (
+        "t check --scan --endian=middle a",
+        "'middle' for '--endian <ORDER>'",
+    ),
+    (
+        "t check --scan --endian=BIG a",
+        "'BIG' for '--endian <ORDER>'",
+    ),
+    (
+        "t check --scan --endian=bigger a",
+        "'bigger' for '--endian <ORDER>'",
+    ),
+];
+
 #[test]
 fn args_that_are_wrong(rt: HostRuntime) -> Result<(), Fail> {
-    let examples = [
-        ("", "requires a subcommand"),
-        ("t", "requires a subcommand"),
-        ("t paint", "unrecognized subcommand 'paint'"),
-        ("t ls", "<IMAGE>"),
-        ("t ls a.img /a", "'/a'"),
-        ("t ls --scan a.img", "--scan"),
-        ("t ls --shape a.img", "--shape"),
-        ("t ls --block=many a.img", "'many' for '--block <N>'"),
-        ("t ls a.img --endian=", "'' for '--endian <ORDER>'"),
-        ("t check", "<IMAGE>"),
-        ("t cat", "<IMAGE>"),
-        ("t cat a.img", "<PATH>"),
-        ("t cat --scan a.img /a", "--scan"),
-        ("t cat a.img /a /b", "'/b'"),
-        ("t check --scan", "<IMAGE>"),
-        ("t check --scan a b", "'b'"),
-        ("t check --scan --scan a", "--scan"),
-        ("t check --version a", "--version"),
-        ("t check --scan --blocks 2 a", "--blocks"),
-        ("t check --scan a --block", "--block <N>"),
-        ("t check --scan --block= a", "'' for '--block <N>'"),
-        ("t check --scan --block=x a", "'x' for '--block <N>'"),
-        (
-            "t check --scan --block=+4096 a",
-            "'+4096' for '--block <N>'",
-        ),
-        (
-            "t check --scan --block=4294967296 a",
-            "'4294967296' for '--block <N>'",
-        ),
-        (
-            "t check --scan --block=99999999999 a",
-            "'99999999999' for '--block <N>'",
-        ),
-        (
-            "t check --scan --block=18446744073709551616 a",
-            "'18446744073709551616' for '--block <N>'",
-        ),
-        (
-            "t check --scan --endian=middle a",
-            "'middle' for '--endian <ORDER>'",
-        ),
-        (
-            "t check --scan --endian=BIG a",
-            "'BIG' for '--endian <ORDER>'",
-        ),
-        (
-            "t check --scan --endian=bigger a",
-            "'bigger' for '--endian <ORDER>'",
-        ),
-    ];
-    for (line, part) in examples {
+    for (line, part) in WRONG {
         let answer = answer_to(rt.alloc(), line)?;
-        assert!(rt;
-            is_text(answer.as_str(), "wrong error: ", [part, "--help"]),
-            "{line}"
-        );
+        assert!(rt; is_wrong(answer.as_str(), part), "{line}");
     }
     let answer = answer(rt.alloc(), &["t", "ls", "--block=1 ", "a"])?;
-    assert!(rt;
-        is_text(
-            answer.as_str(),
-            "wrong error: ",
-            ["'1 ' for '--block <N>'", "--help"]
-        )
-    );
+    assert!(rt; is_wrong(answer.as_str(), "'1 ' for '--block <N>'"));
     Ok(())
 }
 
+/// Those with the words of writing.
+const WRONG_TO_WRITE: [(&str, &str); 37] = [
+    ("t build", "--blocks <N>"),
+    ("t build a b", "--blocks <N>"),
+    ("t build --block 8192 a b", "--blocks <N>"),
+    ("t build --blocks 8", "<LISTING>"),
+    ("t build --blocks 8 a", "<OUT>"),
+    ("t build --blocks 8 a b c", "'c'"),
+    ("t build --blocks 8 --blocks 8 a b", "--blocks <N>"),
+    ("t build a b --blocks", "--blocks <N>"),
+    ("t build --blocks= a b", "'' for '--blocks <N>'"),
+    ("t build --blocks x a b", "'x' for '--blocks <N>'"),
+    ("t build --blocks=+8 a b", "'+8' for '--blocks <N>'"),
+    ("t build --blocks=8k a b", "'8k' for '--blocks <N>'"),
+    ("t build --blocks=0x8 a b", "'0x8' for '--blocks <N>'"),
+    (
+        "t build --blocks=4294967296 a b",
+        "'4294967296' for '--blocks <N>'",
+    ),
+    (
+        "t build --blocks=18446744073709551624 a b",
+        "'18446744073709551624' for '--blocks <N>'",
+    ),
+    ("t build --blocks 8 --block=x a b", "'x' for '--block <N>'"),
+    ("t build --blocks=x --block=y a b", "'y' for '--block <N>'"),
+    (
+        "t build --blocks=x --endian=middle a b",
+        "'middle' for '--endian <ORDER>'",
+    ),
+    ("t build --scan --blocks 8 a b", "--scan"),
+    ("t ls --page 4096 a", "--page"),
+    ("t build --page --blocks 8 a b", "--page <N>"),
+    (
+        "t build --page 4095 --blocks 8 a b",
+        "'4095' for '--page <N>'",
+    ),
+    (
+        "t build --blocks 8 --page=04096 a b",
+        "'04096' for '--page <N>'",
+    ),
+    (
+        "t append --blocks 8 --page 32768 a b c",
+        "'32768' for '--page <N>'",
+    ),
+    ("t build --page 1 --blocks x a b", "'x' for '--blocks <N>'"),
+    ("t append", "--blocks <N>"),
+    ("t append a b c", "--blocks <N>"),
+    ("t append --blocks 8", "<IMAGE>"),
+    ("t append --blocks 8 a", "<LISTING>"),
+    ("t append --blocks 8 a b", "<OUT>"),
+    ("t append --blocks 8 a b c d", "'d'"),
+    ("t append --blocks 8 a b c --blocks 9", "--blocks <N>"),
+    ("t append --blocks=x a b c", "'x' for '--blocks <N>'"),
+    (
+        "t append --blocks 8 --endian=BIG a b c",
+        "'BIG' for '--endian <ORDER>'",
+    ),
+    ("t append --version --blocks 8 a b c", "--version"),
+    ("t ls --blocks 8 a", "--blocks"),
+    ("t cat --blocks=8 a /b", "--blocks"),
+];
+
 #[test]
 fn args_that_are_wrong_to_write(rt: HostRuntime) -> Result<(), Fail> {
-    let examples = [
-        ("t build", "--blocks <N>"),
-        ("t build a b", "--blocks <N>"),
-        ("t build --block 8192 a b", "--blocks <N>"),
-        ("t build --blocks 8", "<LISTING>"),
-        ("t build --blocks 8 a", "<OUT>"),
-        ("t build --blocks 8 a b c", "'c'"),
-        ("t build --blocks 8 --blocks 8 a b", "--blocks <N>"),
-        ("t build a b --blocks", "--blocks <N>"),
-        ("t build --blocks= a b", "'' for '--blocks <N>'"),
-        ("t build --blocks x a b", "'x' for '--blocks <N>'"),
-        ("t build --blocks=+8 a b", "'+8' for '--blocks <N>'"),
-        ("t build --blocks=8k a b", "'8k' for '--blocks <N>'"),
-        ("t build --blocks=0x8 a b", "'0x8' for '--blocks <N>'"),
-        (
-            "t build --blocks=4294967296 a b",
-            "'4294967296' for '--blocks <N>'",
-        ),
-        (
-            "t build --blocks=18446744073709551624 a b",
-            "'18446744073709551624' for '--blocks <N>'",
-        ),
-        ("t build --blocks 8 --block=x a b", "'x' for '--block <N>'"),
-        ("t build --blocks=x --block=y a b", "'y' for '--block <N>'"),
-        (
-            "t build --blocks=x --endian=middle a b",
-            "'middle' for '--endian <ORDER>'",
-        ),
-        ("t build --scan --blocks 8 a b", "--scan"),
-        ("t ls --page 4096 a", "--page"),
-        ("t build --page --blocks 8 a b", "--page <N>"),
-        (
-            "t build --page 4095 --blocks 8 a b",
-            "'4095' for '--page <N>'",
-        ),
-        (
-            "t build --blocks 8 --page=04096 a b",
-            "'04096' for '--page <N>'",
-        ),
-        (
-            "t append --blocks 8 --page 32768 a b c",
-            "'32768' for '--page <N>'",
-        ),
-        ("t build --page 1 --blocks x a b", "'x' for '--blocks <N>'"),
-        ("t append", "--blocks <N>"),
-        ("t append a b c", "--blocks <N>"),
-        ("t append --blocks 8", "<IMAGE>"),
-        ("t append --blocks 8 a", "<LISTING>"),
-        ("t append --blocks 8 a b", "<OUT>"),
-        ("t append --blocks 8 a b c d", "'d'"),
-        ("t append --blocks 8 a b c --blocks 9", "--blocks <N>"),
-        ("t append --blocks=x a b c", "'x' for '--blocks <N>'"),
-        (
-            "t append --blocks 8 --endian=BIG a b c",
-            "'BIG' for '--endian <ORDER>'",
-        ),
-        ("t append --version --blocks 8 a b c", "--version"),
-        ("t ls --blocks 8 a", "--blocks"),
-        ("t cat --blocks=8 a /b", "--blocks"),
-    ];
-    for (line, part) in examples {
+    for (line, part) in WRONG_TO_WRITE {
         let answer = answer_to(rt.alloc(), line)?;
-        assert!(rt;
-            is_text(answer.as_str(), "wrong error: ", [part, "--help"]),
-            "{line}"
-        );
+        assert!(rt; is_wrong(answer.as_str(), part), "{line}");
     }
     let answer = answer(rt.alloc(), &["t", "build", "--blocks=", "a", "b"])?;
     assert_eq!(rt;
@@ -348,36 +349,38 @@ fn args_that_are_wrong_to_write(rt: HostRuntime) -> Result<(), Fail> {
     Ok(())
 }
 
+/// Lines that ask for help, and a part of it.
+const HELP: [(&str, &str); 19] = [
+    ("t --help", "Usage: t <COMMAND>"),
+    ("t -h", "Usage: t <COMMAND>"),
+    ("t help", "Usage: t <COMMAND>"),
+    ("t --help", "-V, --version"),
+    ("t --help", "The manual page jffs2_image.1"),
+    ("t check --help", "Usage: t check [OPTIONS] <IMAGE>"),
+    ("t check -h", "Usage: t check [OPTIONS] <IMAGE>"),
+    ("t help check", "Usage: t check [OPTIONS] <IMAGE>"),
+    ("t ls --help", "Usage: t ls [OPTIONS] <IMAGE>"),
+    ("t help ls", "KIND MODE UID GID SIZE MTIME INO PATH"),
+    ("t cat --help", "Usage: t cat [OPTIONS] <IMAGE> <PATH>"),
+    (
+        "t build --help",
+        "Usage: t build [OPTIONS] --blocks <N> <LISTING> <OUT>",
+    ),
+    ("t build -h", "Number of blocks of the flash"),
+    ("t help build", "write PATH OFFSET HEX"),
+    ("t help build", "accepted A nodes N bytes B"),
+    (
+        "t append --help",
+        "Usage: t append [OPTIONS] --blocks <N> <IMAGE> <LISTING> <OUT>",
+    ),
+    ("t help append", "IMAGE and OUT can be one file"),
+    ("t --help", "jffs2_image build --blocks 64"),
+    ("t --help", "S the session that writes"),
+];
+
 #[test]
 fn args_that_ask_for_help(rt: HostRuntime) -> Result<(), Fail> {
-    let examples = [
-        ("t --help", "Usage: t <COMMAND>"),
-        ("t -h", "Usage: t <COMMAND>"),
-        ("t help", "Usage: t <COMMAND>"),
-        ("t --help", "-V, --version"),
-        ("t --help", "The manual page jffs2_image.1"),
-        ("t check --help", "Usage: t check [OPTIONS] <IMAGE>"),
-        ("t check -h", "Usage: t check [OPTIONS] <IMAGE>"),
-        ("t help check", "Usage: t check [OPTIONS] <IMAGE>"),
-        ("t ls --help", "Usage: t ls [OPTIONS] <IMAGE>"),
-        ("t help ls", "KIND MODE UID GID SIZE MTIME INO PATH"),
-        ("t cat --help", "Usage: t cat [OPTIONS] <IMAGE> <PATH>"),
-        (
-            "t build --help",
-            "Usage: t build [OPTIONS] --blocks <N> <LISTING> <OUT>",
-        ),
-        ("t build -h", "Number of blocks of the flash"),
-        ("t help build", "write PATH OFFSET HEX"),
-        ("t help build", "accepted A nodes N bytes B"),
-        (
-            "t append --help",
-            "Usage: t append [OPTIONS] --blocks <N> <IMAGE> <LISTING> <OUT>",
-        ),
-        ("t help append", "IMAGE and OUT can be one file"),
-        ("t --help", "jffs2_image build --blocks 64"),
-        ("t --help", "S the session that writes"),
-    ];
-    for (line, part) in examples {
+    for (line, part) in HELP {
         let answer = answer_to(rt.alloc(), line)?;
         assert!(rt;
             is_text(answer.as_str(), "help ", [part, "Exit status:"]),

@@ -47,6 +47,14 @@ fn write(time: u32, path: &'static [u8], offset: u32, bytes: &'static [u8]) -> O
     }
 }
 
+fn truncate(time: u32, path: &'static [u8], size: u32) -> Op<'static> {
+    Op::Truncate {
+        time,
+        path: Text::lent(path),
+        size,
+    }
+}
+
 const fn made(time: u32) -> Change {
     Change::Make {
         mode: 0o100644,
@@ -54,8 +62,34 @@ const fn made(time: u32) -> Change {
     }
 }
 
+const fn made_directory(time: u32) -> Change {
+    Change::Make {
+        mode: 0o040755,
+        time,
+    }
+}
+
 const fn named(name: &'static [u8], ino: u32) -> Change {
     Change::Name { name, ino }
+}
+
+/// Bytes of a file, which goes by its place among those that were made.
+const fn put(file: usize, offset: usize, bytes: &'static [u8], time: u32) -> Change {
+    Change::Put {
+        file,
+        offset,
+        bytes,
+        time,
+    }
+}
+
+/// Zeros up to a size.
+const fn zero(file: usize, size: usize, time: u32) -> Change {
+    Change::Zero { file, size, time }
+}
+
+const fn cut(file: usize, size: usize, time: u32) -> Change {
+    Change::Cut { file, size, time }
 }
 
 /// So many blocks of 8,192 bytes, by pages of 4,096.
@@ -185,14 +219,9 @@ fn a_file_that_is_cut_and_written(rt: HostRuntime) -> Result<(), Fail> {
     let ops = [
         create(1, b"/a"),
         write(2, b"/a", 0, &TEN),
-        Op::Truncate {
-            time: 3,
-            path: Text::lent(b"/a"),
-            size: 4,
-        },
+        truncate(3, b"/a", 4),
         write(4, b"/a", 8, b"\xFF"),
     ];
-    let file = 0;
     let case = Case {
         base: &[],
         before: &[],
@@ -202,28 +231,10 @@ fn a_file_that_is_cut_and_written(rt: HostRuntime) -> Result<(), Fail> {
         steps: &[
             made(1),
             named(b"a", 2),
-            Change::Put {
-                file,
-                offset: 0,
-                bytes: &TEN,
-                time: 2,
-            },
-            Change::Cut {
-                file,
-                size: 4,
-                time: 3,
-            },
-            Change::Zero {
-                file,
-                size: 8,
-                time: 4,
-            },
-            Change::Put {
-                file,
-                offset: 8,
-                bytes: b"\xFF",
-                time: 4,
-            },
+            put(0, 0, &TEN, 2),
+            cut(0, 4, 3),
+            zero(0, 8, 4),
+            put(0, 8, b"\xFF", 4),
         ],
         whole: &[80, 121, 202, 272, 340, 408],
     };
@@ -250,10 +261,7 @@ fn a_directory_that_is_renamed(rt: HostRuntime) -> Result<(), Fail> {
         from: 0,
         ops: &ops,
         steps: &[
-            Change::Make {
-                mode: 0o040755,
-                time: 1,
-            },
+            made_directory(1),
             named(b"d", 2),
             named(b"e", 2),
             Change::Clear { name: b"d" },
@@ -295,10 +303,6 @@ fn a_root_with_names(rt: HostRuntime) -> Result<(), Fail> {
         atime: 0,
         mtime: 0,
     };
-    let made = Change::Make {
-        mode: 0o040755,
-        time: 0,
-    };
     let case = Case {
         base: &[],
         before: &[],
@@ -310,13 +314,13 @@ fn a_root_with_names(rt: HostRuntime) -> Result<(), Fail> {
             make_directory(0, b"/e"),
         ],
         steps: &[
-            made,
+            made_directory(0),
             named(b"d", 2),
             Change::Root {
                 attributes,
                 time: 0,
             },
-            made,
+            made_directory(0),
             named(b"e", 3),
         ],
         whole: &[80, 121, 192, 260, 301],
@@ -342,12 +346,7 @@ fn a_file_that_gets_attributes(rt: HostRuntime) -> Result<(), Fail> {
         steps: &[
             made(1),
             named(b"a", 2),
-            Change::Put {
-                file: 0,
-                offset: 0,
-                bytes: &TEN,
-                time: 2,
-            },
+            put(0, 0, &TEN, 2),
             Change::File {
                 file: 0,
                 attributes: ROOT,
@@ -393,43 +392,18 @@ fn goes_on_in_turn<E: Order>(alloc: Global) -> Result<bool, Fail> {
         ops: &[
             create(1, b"/b"),
             write(2, b"/b", 0, &TEN),
-            Op::Truncate {
-                time: 3,
-                path: Text::lent(b"/b"),
-                size: 4,
-            },
+            truncate(3, b"/b", 4),
             write(4, b"/b", 8, b"\xFF"),
             make_directory(5, b"/d"),
         ],
         steps: &[
             made(1),
             named(b"b", 3),
-            Change::Put {
-                file: 1,
-                offset: 0,
-                bytes: &TEN,
-                time: 2,
-            },
-            Change::Cut {
-                file: 1,
-                size: 4,
-                time: 3,
-            },
-            Change::Zero {
-                file: 1,
-                size: 8,
-                time: 4,
-            },
-            Change::Put {
-                file: 1,
-                offset: 8,
-                bytes: b"\xFF",
-                time: 4,
-            },
-            Change::Make {
-                mode: 0o040755,
-                time: 5,
-            },
+            put(1, 0, &TEN, 2),
+            cut(1, 4, 3),
+            zero(1, 8, 4),
+            put(1, 8, b"\xFF", 4),
+            made_directory(5),
             named(b"d", 4),
         ],
         whole: &[80, 121, 202, 272, 340, 408, 480, 521],
@@ -452,7 +426,6 @@ const ONES: [u8; 8192] = [1; 8192];
 /// `rt try`.
 #[test]
 fn a_file_over_two_blocks(rt: HostRuntime) -> Result<(), Fail> {
-    let file = 0;
     let case = Case {
         base: &[],
         before: &[],
@@ -462,18 +435,8 @@ fn a_file_over_two_blocks(rt: HostRuntime) -> Result<(), Fail> {
         steps: &[
             made(1),
             named(b"a", 2),
-            Change::Put {
-                file,
-                offset: 0,
-                bytes: &ONES[..4096],
-                time: 2,
-            },
-            Change::Put {
-                file,
-                offset: 4096,
-                bytes: &ONES[4096..],
-                time: 2,
-            },
+            put(0, 0, &ONES[..4096], 2),
+            put(0, 4096, &ONES[4096..], 2),
         ],
         whole: &[80, 121, 4288, 12368],
     };
@@ -483,15 +446,6 @@ fn a_file_over_two_blocks(rt: HostRuntime) -> Result<(), Fail> {
 }
 
 const SEVENS: [u8; 16_384] = [7; 16_384];
-
-const fn put(offset: usize, bytes: &'static [u8], time: u32) -> Change {
-    Change::Put {
-        file: 0,
-        offset,
-        bytes,
-        time,
-    }
-}
 
 /// The first piece is two nodes, since its length would spell the magic; the second write lies in two pages.
 #[test]
@@ -509,15 +463,11 @@ fn a_file_by_pages_of_8192(rt: HostRuntime) -> Result<(), Fail> {
         steps: &[
             made(1),
             named(b"a", 2),
-            put(0, &SEVENS[..4096], 2),
-            put(4096, &SEVENS[..2369], 2),
-            Change::Zero {
-                file: 0,
-                size: 8000,
-                time: 3,
-            },
-            put(8000, &SEVENS[..192], 3),
-            put(8192, &SEVENS[..308], 3),
+            put(0, 0, &SEVENS[..4096], 2),
+            put(0, 4096, &SEVENS[..2369], 2),
+            zero(0, 8000, 3),
+            put(0, 8000, &SEVENS[..192], 3),
+            put(0, 8192, &SEVENS[..308], 3),
         ],
         whole: &[80, 121, 4288, 6725, 6796, 7056, 7432],
     };
@@ -541,9 +491,9 @@ fn a_file_by_pages_of_16384(rt: HostRuntime) -> Result<(), Fail> {
         steps: &[
             made(1),
             named(b"a", 2),
-            put(0, &SEVENS, 2),
-            put(16_380, b"1234", 3),
-            put(16_384, b"5678", 3),
+            put(0, 0, &SEVENS, 2),
+            put(0, 16_380, b"1234", 3),
+            put(0, 16_384, b"5678", 3),
         ],
         whole: &[80, 121, 16_576, 16_648, 16_720],
     };
@@ -561,16 +511,7 @@ fn a_file_that_ends_in_erased_bytes(rt: HostRuntime) -> Result<(), Fail> {
         flash: small(1),
         from: 0,
         ops: &[create(0, b"/a"), write(0, b"/a", 0, b"\xFF\xFF\xFF")],
-        steps: &[
-            made(0),
-            named(b"a", 2),
-            Change::Put {
-                file: 0,
-                offset: 0,
-                bytes: b"\xFF\xFF\xFF",
-                time: 0,
-            },
-        ],
+        steps: &[made(0), named(b"a", 2), put(0, 0, b"\xFF\xFF\xFF", 0)],
         whole: &[80, 121, 192],
     };
     assert!(rt; survives::<LittleEndian>(rt.alloc(), &case, 196)?);

@@ -10,55 +10,60 @@ use test_support::FORBIDS;
 
 const GEOMETRY: Geometry = Geometry { block: 8192 };
 
+/// Operations onto an empty flash, the number of its blocks, how many operations are accepted, how many bytes are put, and why
+/// the run stops.
+type Stopped = (&'static [&'static str], u32, usize, usize, &'static str);
+
+const STOPPED: [Stopped; 7] = [
+    (
+        &["create /a 644", "write /a 0 4096", "write /a 4096 4096"],
+        1,
+        2,
+        4288,
+        "S2 Full needed 4164 free 3904",
+    ),
+    (
+        &["create /a 644", "write /a 0 12288"],
+        2,
+        1,
+        124,
+        "S2 Full needed 12492 free 16248",
+    ),
+    (
+        &["create /a 644", "write /a 0 16384"],
+        2,
+        1,
+        124,
+        "S2 Full needed 16656 free 16248",
+    ),
+    (
+        &["mkdir /d 755", "mkdir /d 755"],
+        1,
+        1,
+        124,
+        "S1 Refused O5 Exists",
+    ),
+    (
+        &["mkdir /d 755", "rename /d /d/e"],
+        1,
+        1,
+        124,
+        "S1 Refused O8 IntoItself",
+    ),
+    (
+        &["mkdir /d 755", "write /d 0 1"],
+        1,
+        1,
+        124,
+        "S1 Refused O6 WrongKind",
+    ),
+    (&["remove /"], 1, 0, 0, "S1 Refused O1 BadPath"),
+];
+
 #[test]
 fn why_a_run_stops(rt: HostRuntime) -> Result<(), Fail> {
     let alloc = rt.alloc();
-    let rows: [(&[&str], u32, usize, usize, &str); 7] = [
-        (
-            &["create /a 644", "write /a 0 4096", "write /a 4096 4096"],
-            1,
-            2,
-            4288,
-            "S2 Full needed 4164 free 3904",
-        ),
-        (
-            &["create /a 644", "write /a 0 12288"],
-            2,
-            1,
-            124,
-            "S2 Full needed 12492 free 16248",
-        ),
-        (
-            &["create /a 644", "write /a 0 16384"],
-            2,
-            1,
-            124,
-            "S2 Full needed 16656 free 16248",
-        ),
-        (
-            &["mkdir /d 755", "mkdir /d 755"],
-            1,
-            1,
-            124,
-            "S1 Refused O5 Exists",
-        ),
-        (
-            &["mkdir /d 755", "rename /d /d/e"],
-            1,
-            1,
-            124,
-            "S1 Refused O8 IntoItself",
-        ),
-        (
-            &["mkdir /d 755", "write /d 0 1"],
-            1,
-            1,
-            124,
-            "S1 Refused O6 WrongKind",
-        ),
-        (&["remove /"], 1, 0, 0, "S1 Refused O1 BadPath"),
-    ];
-    for (lines, blocks, accepted, len, text) in rows {
+    for (lines, blocks, accepted, len, text) in STOPPED {
         let run = run_lines::<LittleEndian>(alloc, &[], GEOMETRY, blocks, lines)?;
         assert_eq!(rt; run.report.accepted, accepted, "{text}");
         assert_eq!(rt; run.output.len(), len, "{text}");

@@ -1,6 +1,6 @@
 //! What runs put, and where.
 
-use crate::sessions::run_lines;
+use crate::sessions::{CUT_LINES, run_lines};
 use byteorder::{BigEndian, LittleEndian};
 use jlog::Place;
 use jmount::mount;
@@ -8,7 +8,7 @@ use jnode::Order;
 use jscan::Geometry;
 use std::alloc::Global;
 use std::test::Fail;
-use test_support::{MADE, are_made, is_erased};
+use test_support::{CUT_PLACES, MADE, are_made, is_erased};
 
 const GEOMETRY: Geometry = Geometry { block: 8192 };
 
@@ -36,20 +36,8 @@ const ROWS: &[Row] = &[
     },
     Row {
         blocks: 1,
-        lines: &[
-            "create /a 644",
-            "write /a 0 10",
-            "truncate /a 4",
-            "write /a 8 1",
-        ],
-        places: &[
-            (12, 68),
-            (80, 41),
-            (124, 78),
-            (204, 68),
-            (272, 68),
-            (340, 69),
-        ],
+        lines: &CUT_LINES,
+        places: &CUT_PLACES,
         len: 412,
     },
     Row {

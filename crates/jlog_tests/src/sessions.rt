@@ -24,6 +24,14 @@ pub const BY: By = By {
     gid: 0,
 };
 
+/// A file is made, written, cut, and written behind its end: its nodes go to `test_support::CUT_PLACES`.
+pub const CUT_LINES: [&str; 4] = [
+    "create /a 644",
+    "write /a 0 10",
+    "truncate /a 4",
+    "write /a 8 1",
+];
+
 /// A flash, and the page that bytes are cut by.
 #[derive(Clone, Copy)]
 pub struct Flash {

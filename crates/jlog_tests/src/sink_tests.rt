@@ -1,6 +1,6 @@
 //! Sessions whose sink fails, or takes little.
 
-use crate::sessions::BY;
+use crate::sessions::{BY, CUT_LINES};
 use byteorder::LittleEndian;
 use jlog::{RunReport, Session, SessionFault};
 use jmount::mount;
@@ -8,34 +8,16 @@ use jscan::Geometry;
 use std::alloc::Global;
 use std::test::Fail;
 use test_operations::{op_of, ops_of};
-use test_support::Taker;
+use test_support::{CUT_PLACES, Taker};
 
 const GEOMETRY: Geometry = Geometry { block: 8192 };
 
-/// A file is made, written, cut, and written behind its end.
-const LINES: [&str; 4] = [
-    "create /a 644",
-    "write /a 0 10",
-    "truncate /a 4",
-    "write /a 8 1",
-];
-
-/// Where their nodes go.
-const PLACES: [(u32, u32); 6] = [
-    (12, 68),
-    (80, 41),
-    (124, 78),
-    (204, 68),
-    (272, 68),
-    (340, 69),
-];
-
-/// Where the bytes of each of them end.
+/// Where the bytes of each operation of `CUT_LINES` end.
 const ENDS: [usize; 4] = [124, 204, 272, 412];
 
 /// What a run onto an empty flash reports, and its sink. A session that the run broke puts nothing more.
 fn run_onto(alloc: Global, sink: Taker) -> Result<(RunReport, Taker), Fail> {
-    let ops = ops_of(alloc, &LINES, BY)?;
+    let ops = ops_of(alloc, &CUT_LINES, BY)?;
     let mounted = mount::<LittleEndian>(alloc, &[], GEOMETRY)?;
     let mut session = Session::<LittleEndian, _>::resume(alloc, &mounted, GEOMETRY, 1, sink)?;
     let report = session.run(alloc, &ops);
@@ -51,7 +33,7 @@ fn run_onto(alloc: Global, sink: Taker) -> Result<(RunReport, Taker), Fail> {
 /// Whether so many operations are accepted, and the nodes that have a place are the first ones.
 fn is_reported(report: &RunReport, accepted: usize, nodes: usize) -> bool {
     let places = report.places.iter().map(|place| (place.addr, place.totlen));
-    report.accepted == accepted && places.eq(PLACES.iter().copied().take(nodes))
+    report.accepted == accepted && places.eq(CUT_PLACES.iter().copied().take(nodes))
 }
 
 #[test]
@@ -80,7 +62,8 @@ fn a_session_breaks_with_its_sink(rt: HostRuntime) -> Result<(), Fail> {
 /// Whether a sink that failed once holds a beginning of the bytes, and the report tells of the nodes and operations in it.
 fn is_broken_off(report: &RunReport, sink: &Taker, whole: &[u8]) -> bool {
     let taken = sink.bytes.len();
-    let nodes = PLACES.iter().filter(|(addr, totlen)| addr.wrapping_add(*totlen) as usize <= taken);
+    let nodes = CUT_PLACES.iter().filter(|(addr, totlen)| addr.wrapping_add(*totlen) as usize
+        <= taken);
     report.stopped == Some(SessionFault::Sink)
         && is_reported(
             report,

@@ -34,11 +34,21 @@ bad_of t path (Some site) h e = absurd (true≢false (ap is_some e))
 pub good_of : (t : Outline) (path : List ℕ) (o : Option Site) (site : Site) → MatchOption o (is_bad_path path ≡ true) (IsSiteOf t path) → o ≡ Some site → IsSiteOf t path site
 good_of t path o site h e = subst (λ (o : Option Site). MatchOption o (is_bad_path path ≡ true) (IsSiteOf t path)) e h
 
--- ---- plans by their parts
-
 pub or_none : (b : Bool) → (b || false) ≡ b
 or_none true = refl
 or_none false = refl
+
+pub bad_of_both : (t : Outline) (old new : List ℕ) (o : Option (Site × Site)) → MatchOption o ((is_bad_path old || is_bad_path new) ≡ true) (λ two. IsSiteOf t old two.0 × IsSiteOf t new two.1)
+    → o ≡ None → (is_bad_path old || (is_bad_path new || false)) ≡ true
+bad_of_both t old new None h e = ap (λ b. is_bad_path old || b) (or_none (is_bad_path new)) ∙ h
+bad_of_both t old new (Some two) h e = absurd (true≢false (ap is_some e))
+
+pub good_of_both : (t : Outline) (old new : List ℕ) (o : Option (Site × Site)) (two : Site × Site) → MatchOption o ((is_bad_path old || is_bad_path new) ≡ true) (λ two. IsSiteOf t old two.0 × IsSiteOf t new two.1)
+    → o ≡ Some two → IsSiteOf t old two.0 × IsSiteOf t new two.1
+good_of_both t old new o two h e =
+    subst (λ (o : Option (Site × Site)). MatchOption o ((is_bad_path old || is_bad_path new) ≡ true) (λ two. IsSiteOf t old two.0 × IsSiteOf t new two.1)) e h
+
+-- ---- plans by their parts
 
 pub plan_same : (b c : Bool) (t u : Tests) (s r : Bool) (xs ys : List Step) → b ≡ c → t ≡ u → s ≡ r → xs ≡ ys → plan_from b t s xs ≡ plan_from c u r ys
 plan_same b c t u s r xs ys e f g h = ap (λ b. plan_from b t s xs) e ∙ ap (λ t. plan_from c t s xs) f ∙ ap (λ s. plan_from c u s xs) g ∙ ap (λ xs. plan_from c u r xs) h
@@ -87,12 +97,6 @@ answer_none {plan} {tests} {spent} {steps} from found r b items same is e b_is i
 
 pub bad_plan : (page : ℕ) (x : Indexed) (o : Op) → has_bad_path o ≡ true → planned_by page x o ≡ Err refused.BadPath
 bad_plan page x o e = planned_from page x o ∙ from_bad (has_bad_path o) (tests_of x.tree o) (is_exhausted page x o) (steps_of page x.tree o) e
-
-pub bad_first : (old new : List ℕ) → is_bad_path old ≡ true → (is_bad_path old || (is_bad_path new || false)) ≡ true
-bad_first old new e = ap (λ b. b || (is_bad_path new || false)) e
-
-pub bad_second : (old new : List ℕ) → is_bad_path old ≡ false → is_bad_path new ≡ true → (is_bad_path old || (is_bad_path new || false)) ≡ true
-bad_second old new e f = ap (λ b. b || (is_bad_path new || false)) e ∙ ap (λ b. b || false) f
 
 good_both : (old new : List ℕ) → is_bad_path old ≡ false → is_bad_path new ≡ false → (is_bad_path old || (is_bad_path new || false)) ≡ false
 good_both old new e f = ap (λ b. b || (is_bad_path new || false)) e ∙ ap (λ b. b || false) f

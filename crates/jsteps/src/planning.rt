@@ -18,7 +18,7 @@ use crate::puts::{push_resize, push_write};
 use crate::refusal::{
     tests_of_attributes, tests_of_file, tests_of_name, tests_of_new, tests_of_removed,
 };
-use crate::site::{end_of, look_up, meets_above, reach};
+use crate::site::{end_of, look_up, look_up_both, meets_above, reach};
 use crate::step::Step;
 use crate::stored::DIRECTORY;
 use crate::text::Text;
@@ -194,10 +194,7 @@ fn link<'a>(
 ) -> Result<Vec<Step<'a>>, OpFault>
     ensures { (page : ℕ) → GivesPlan result (planned_by page index.now (op.Link time old.now new.now)) }
 {
-    let Some(from) = look_up(alloc, index, old)? else {
-        return Err(OpFault::BadPath);
-    };
-    let Some(to) = look_up(alloc, index, new)? else {
+    let Some((from, to)) = look_up_both(alloc, index, old, new)? else {
         return Err(OpFault::BadPath);
     };
     let is_directory = index.has_bits(from.number, DIRECTORY);
@@ -245,10 +242,7 @@ fn rename<'a>(
 ) -> Result<Vec<Step<'a>>, OpFault>
     ensures { (page : ℕ) → GivesPlan result (planned_by page index.now (op.Rename time old.now new.now)) }
 {
-    let Some(from) = look_up(alloc, index, old)? else {
-        return Err(OpFault::BadPath);
-    };
-    let Some(to) = look_up(alloc, index, new)? else {
+    let Some((from, to)) = look_up_both(alloc, index, old, new)? else {
         return Err(OpFault::BadPath);
     };
     let ino = from.number.unwrap_or(0);

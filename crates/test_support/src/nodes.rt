@@ -44,6 +44,17 @@ pub const MADE: [u8; 124] = [
     0xff, 0xff, 0xff,
 ];
 
+/// Where the nodes of a file go, and how long they are, that is made on an empty flash, written with ten bytes, cut to four, and
+/// written with one byte at 8.
+pub const CUT_PLACES: [(u32, u32); 6] = [
+    (12, 68),
+    (80, 41),
+    (124, 78),
+    (204, 68),
+    (272, 68),
+    (340, 69),
+];
+
 /// A header with totlen 0.
 pub const NO_LENGTH: [u8; 12] = [
     0x85, 0x19, 0x03, 0x20, 0x00, 0x00, 0x00, 0x00, 0x09, 0x0f, 0xc8, 0xae,
