@@ -4,12 +4,13 @@
 Two trees are made in the folder, each of about 62 MiB: 62 files of 1 MiB, and 16,000 of 3,900 bytes in folders of 100.
 `listing` and `build` make an image of each, and so does mkfs.jffs2 of mtd-utils (without compression, little order, blocks of
 64 KiB); where that is missing it is left out. `extract` writes the image into a new folder, and `cp -r` and `cp -a` copy the
-folder. Of each command the least processor time over the runs counts, and the greatest memory; the commands of a round run
+folder; the C loop only takes the checksum of the image (bench/loop.c, built here by cc -O2). Of each command the least processor time over the runs counts, and the greatest memory; the commands of a round run
 one after the other, so that other work on the machine meets them all.
 """
 import os
 import random
 import shutil
+import subprocess
 import sys
 
 from measuring import measured, report
@@ -42,6 +43,8 @@ def compare(commands, first):
 
 def main():
     os.makedirs(FOLDER, exist_ok=True)
+    loop = os.path.join(FOLDER, "loop")
+    subprocess.run(["cc", "-O2", "-o", loop, os.path.join(HERE, "loop.c")], check=True)
     for name, count, length in (("large", 62, 1 << 20), ("small", 16000, 3900)):
         make(name, count, length)
         print(f"{count} files of {length} bytes")
@@ -54,6 +57,8 @@ def main():
         compare([
             ("cp -r", ["cp", "-r", name, name + ".cp"], name + ".cp"),
             ("cp -a", ["cp", "-a", name, name + ".cpa"], name + ".cpa"),
+            ("C loop, in pieces", [loop, "pieces", name + ".img"], "none"),
+            ("C loop, whole", [loop, "whole", name + ".img"], "none"),
             ("extract", [PROGRAM, "extract", name + ".img", name + ".new"], name + ".new"),
         ], "cp -r")
     return 0

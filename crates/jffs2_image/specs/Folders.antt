@@ -1,5 +1,5 @@
 -- What the commands do that work with a folder of the host.
-use Rattle.std.specs.Prelude.{◌≡◌, ◌⊎◌, ℕ, Bool, List, [], map, Option, Result, Ok, Err}
+use Rattle.std.specs.Prelude.{◌≡◌, ◌⊎◌, ℕ, Bool, List, ◌∷◌, All, map, Option, option_map, Result, Ok, Err}
 use Rattle.std.specs.Io.KnownBytes.{Appends, Keeps}
 use Rattle.flashbase.specs.Device.{PutsPart, next_count}
 use Rattle.jnode.specs.declared.order.Endian.{Endian}
@@ -11,6 +11,12 @@ use Rattle.jextract.specs.Extracts.{Extracts}
 use Rattle.jextract.specs.declared.fault.ExtractFault.{ExtractFault}
 use Rattle.jextract.specs.declared.fault.ExtractFault.TheVariants as extract
 use Rattle.jfolder.specs.Actions.{Fits}
+use Rattle.jfolder.specs.Notes.{Tells}
+use Rattle.jfolder.specs.Trees.{IsTree, Rise}
+use Rattle.jfolder.specs.Walking.{HasOptions}
+use Rattle.jfolder.specs.declared.found.Options.{Options}
+use Rattle.jfolder.specs.declared.found.Owner.{Owner}
+use Rattle.jcommand.specs.declared.parsed.Owner as command
 use Rattle.jfolder.specs.Text.{listing_text}
 use Rattle.jfolder.specs.declared.fault.ReadFault.{ReadFault}
 use Rattle.jfolder.specs.declared.fault.ReadFault.TheVariants as read
@@ -64,16 +70,26 @@ IsReadingFault name read.Notes program.Output = Unit {0}
 IsReadingFault name read.OutOfMemory program.OutOfMemory = Unit {0}
 IsReadingFault name _ _ = ⊥
 
--- why the folder of a name is not listed
-abbrev pub IsUnlisted : List ℕ → ProgramFault → Type 0
-IsUnlisted name fault = (refused : ReadFault) × IsReadingFault name refused fault
+-- the owner and the time that a command line gives, as a reading takes them
+abbrev pub owner_given : command.Owner → Owner
+owner_given o = record { uid = o.uid; gid = o.gid }
 
--- `listing` of the folder of a name: that of a tree which a listing can say, and which is read back
-abbrev pub ListsFolder : List ℕ → Option (List ℕ) → Option (List ℕ) → ℕ → ℕ → Result ℕ ProgramFault → Type 0
-ListsFolder name old new before now (Ok n) =
-    (folder : Folder) × Fits folder.root folder.items.items × (n ≡ folder.left_out)
-    × Appends old new (listing_text folder.root folder.items.items) × (now ≡ before)
-ListsFolder name old new before now (Err fault) =
-    ((folder : Folder) × Fits folder.root folder.items.items × (fault ≡ program.Output)
-    × PutsPart old new (listing_text folder.root folder.items.items) × (now ≡ next_count before))
-    ⊎ (IsUnlisted name fault × (new ≡ old) × (now ≡ before))
+abbrev pub settings : Option command.Owner → Option ℕ → Options
+settings owner time = record { owner = option_map owner_given owner; time = time }
+
+-- what was read of a folder: a tree in the order of its paths, which a listing can say, with the owner and the time that the options give
+pub record IsListable (options : Options) (folder : Folder) : Type 0 where
+  pub fits : Fits folder.root folder.items.items
+  pub tree : IsTree folder.items.items
+  pub rises : Rise folder.items.items
+  pub options_hold : All (HasOptions options) (folder.root ∷ map (λ item. item.attributes) folder.items.items)
+
+-- `listing` of the folder of a name: what is left out is told, and the listing of the rest goes out
+abbrev pub ListsFolder : Options → List ℕ → Option (List ℕ) → Option (List ℕ) → ℕ → ℕ → Option (List ℕ) → Option (List ℕ) → ℕ → ℕ → Result ℕ ProgramFault → Type 0
+ListsFolder options name old new before now told_old told_new told_before told_now (Ok n) =
+    (folder : Folder) × IsListable options folder × (n ≡ folder.left_out)
+    × Appends old new (listing_text folder.root folder.items.items) × (now ≡ before) × Tells told_old told_new told_before told_now (Ok folder)
+ListsFolder options name old new before now told_old told_new told_before told_now (Err fault) =
+    ((folder : Folder) × IsListable options folder × (fault ≡ program.Output)
+    × PutsPart old new (listing_text folder.root folder.items.items) × (now ≡ next_count before) × Tells told_old told_new told_before told_now (Ok folder))
+    ⊎ ((refused : ReadFault) × IsReadingFault name refused fault × (new ≡ old) × (now ≡ before) × Tells told_old told_new told_before told_now (Err refused))

@@ -1,11 +1,10 @@
 //! The commands that work with a folder of the host: `extract` and `listing`.
-ghost use Rattle.std.specs.Prelude.{◌≡◌, ℕ, List, IfErr, IfOk, OnErr, Option};
+ghost use Rattle.std.specs.Prelude.{◌≡◌, ℕ, List, IfOk, OnErr, Option};
 ghost use Rattle.flashbase.specs.Device.{Puts};
 ghost use Rattle.jfolder.specs.Text.{listing_text};
 ghost use Rattle.jcommand.specs.Parsed.{ExtractParsed, ListingParsed, IsFaultless};
 ghost use Rattle.jextract.specs.Folders.{Made};
-ghost use Rattle.jfolder.specs.Actions.{Fits};
-ghost use Rattle.jffs2_image.specs.Folders.{ExtractsImage, ExtractsBytes, FillsFolder, IsExtractFault, IsReadingFault, IsUnlisted, ListsFolder};
+ghost use Rattle.jffs2_image.specs.Folders.{ExtractsImage, ExtractsBytes, FillsFolder, IsExtractFault, IsReadingFault, ListsFolder, settings};
 ghost use Rattle.jffs2_image.specs.FolderRuns.{EndsExtraction, EndsListing, FinishesListing, ListsGiven};
 
 use crate::host::Loader;
@@ -125,23 +124,6 @@ fn read_fault(fault: ReadFault, name: &str) -> ProgramFault<'_>
     }
 }
 
-/// The folder of a name as it is read.
-fn read_whole<'a, H: HostFolder, N: Sink>(
-    alloc: Global,
-    options: jfolder::Options,
-    name: &'a str,
-    folder: &mut H,
-    notes: &mut N,
-) -> Result<jfolder::Folder, ProgramFault<'a>>
-    ensures fits { IfOk result (λ read. Fits read.root read.items.items) }
-    ensures unread { IfErr result (IsUnlisted name.entry.now) }
-{
-    match read_folder(alloc, folder, &options, notes) {
-        Ok(read) => Ok(read),
-        Err(fault) => Err(read_fault(fault, name)),
-    }
-}
-
 /// Puts the listing of a folder that was read.
 fn put_read<T: Sink>(read: &jfolder::Folder, sink: &mut T) -> Result<(), DeviceFault>
     ensures { Puts (T.taken sink.old) (T.taken sink.new) (T.failures sink.old) (T.failures sink.new) (listing_text read.now.root read.now.items.items) result }
@@ -158,11 +140,12 @@ pub fn list_folder<'a, H: HostFolder, T: Sink, N: Sink>(
     sink: &mut T,
     notes: &mut N,
 ) -> Result<u64, ProgramFault<'a>>
-    ensures { ListsFolder name.entry.now (T.taken sink.old) (T.taken sink.new) (T.failures sink.old) (T.failures sink.new) result }
+    ensures { ListsFolder options name.entry.now (T.taken sink.old) (T.taken sink.new) (T.failures sink.old) (T.failures sink.new)
+        (N.taken notes.old) (N.taken notes.new) (N.failures notes.old) (N.failures notes.new) result }
 {
-    let read = match read_whole(alloc, options, name, folder, notes) {
+    let read = match read_folder(alloc, folder, &options, notes) {
         Ok(read) => read,
-        Err(fault) => return Err(fault),
+        Err(fault) => return Err(read_fault(fault, name)),
     };
     match put_read(&read, sink) {
         Ok(()) => Ok(read.left_out),
@@ -246,7 +229,9 @@ pub fn run_extract<L: Loader, D: Folders, E: Sink>(
 }
 
 /// What takes the place of owners and times of a folder.
-fn settings_of(owner: Option<Owner>, time: Option<u32>) -> jfolder::Options {
+fn settings_of(owner: Option<Owner>, time: Option<u32>) -> jfolder::Options
+    ensures { result ≡ settings owner time }
+{
     let owner = match owner {
         Some(Owner { uid, gid }) => Some(jfolder::Owner { uid, gid }),
         None => None,
@@ -263,7 +248,8 @@ fn list_whole<'a, H: HostFolder, T: Output, N: Sink>(
     output: &mut T,
     notes: &mut N,
 ) -> Result<u64, ProgramFault<'a>>
-    ensures { FinishesListing name.entry.now (T.taken output.old) (T.given output.new) (T.failures output.old) (T.failures output.new) result }
+    ensures { FinishesListing options name.entry.now (T.taken output.old) (T.given output.new) (T.failures output.old) (T.failures output.new)
+        (N.taken notes.old) (N.taken notes.new) (N.failures notes.old) (N.failures notes.new) result }
 {
     let answer = list_folder(alloc, options, name, folder, output, notes);
     let finished = output.finish();
@@ -284,7 +270,8 @@ fn list_given<'a, D: Folders, T: Output, N: Sink>(
     output: &mut T,
     notes: &mut N,
 ) -> Result<u64, ProgramFault<'a>>
-    ensures { ListsGiven (output.new ≡ output.old) name.entry.now (T.taken output.old) (T.given output.new) (T.failures output.old) (T.failures output.new) result }
+    ensures { ListsGiven (output.new ≡ output.old) options name.entry.now (T.taken output.old) (T.given output.new) (T.failures output.old) (T.failures output.new)
+        (N.taken notes.old) (N.taken notes.new) (N.failures notes.old) (N.failures notes.new) result }
 {
     let Ok(mut folder) = folders.read(name, quiet) else {
         return Err(ProgramFault::OutOfMemory);
@@ -305,8 +292,8 @@ pub fn run_listing<D: Folders, T: Output, E: Sink>(
     output: &mut T,
     errors: &mut E,
 ) -> Outcome
-    ensures { EndsListing (output.new ≡ output.old) name.now (T.taken output.old) (T.given output.new) (T.failures output.old) (T.failures output.new)
-        (E.taken errors.new) (E.failures errors.new) result }
+    ensures { EndsListing (output.new ≡ output.old) (settings owner time) name.now (T.taken output.old) (T.given output.new) (T.failures output.old) (T.failures output.new)
+        (E.taken errors.old) (E.taken errors.new) (E.failures errors.old) (E.failures errors.new) result }
 {
     let options = settings_of(owner, time);
     match list_given(alloc, folders, options, quiet, name, output, errors) {

@@ -1,5 +1,25 @@
-use Rattle.std.proofs.Common.{inl, refl}
+use Rattle.std.proofs.Common.{inl, inr, refl}
 use Rattle.jffs2_image.proofs.folders.list_folder.Goals as goal
 
+pub returns-in-Err : goal.returns-in-Err
+returns-in-Err g c = inr (c.in-Err.fault, c.read_fault.ensures, refl, refl, c.in-Err.ensures.notes)
+
+pub returns-in-Ok-put_read : goal.returns-in-Ok-put_read
+returns-in-Ok-put_read g c = (
+  c.in-Ok.read,
+  record { fits = c.in-Ok.ensures.fits; tree = c.in-Ok.ensures.tree; rises = c.in-Ok.ensures.rises; options_hold = c.in-Ok.ensures.options; },
+  refl,
+  c.in-Ok-put_read.ensures.0,
+  c.in-Ok-put_read.ensures.1,
+  c.in-Ok.ensures.notes,
+)
+
 pub returns : goal.returns
-returns g c = inl (c.in-Ok.read, c.in-Ok.ensures.fits, refl, c.in-Err-put_read.ensures.0, c.in-Err-put_read.ensures.1)
+returns g c = inl (
+  c.in-Ok.read,
+  record { fits = c.in-Ok.ensures.fits; tree = c.in-Ok.ensures.tree; rises = c.in-Ok.ensures.rises; options_hold = c.in-Ok.ensures.options; },
+  refl,
+  c.in-Err-put_read.ensures.0,
+  c.in-Err-put_read.ensures.1,
+  c.in-Ok.ensures.notes,
+)
