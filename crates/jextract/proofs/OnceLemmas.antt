@@ -1,5 +1,5 @@
 -- At no path is a second object made: one task at most is still to be done there, or leads there.
-use Rattle.std.proofs.Common.{◌≡◌, ℕ, zero, suc, ◌==◌, cond, Bool, true, false, List, [], ◌∷◌, ◌++◌, map, length, take, take_all, append-nil, append_assoc, refl, sym, ap, ◌∙◌, subst, arith, inl, inr, ◌⊎◌, ⊎_elim, Option, Some, None, Result, Ok, Err, if◌then◌else◌, Contains}
+use Rattle.std.proofs.Common.{◌≡◌, ℕ, zero, suc, ◌==◌, cond, Bool, true, false, List, [], ◌∷◌, ◌++◌, map, length, take, drop, take_all, append-nil, append_assoc, refl, sym, ap, ◌∙◌, subst, arith, inl, inr, ◌⊎◌, ⊎_elim, Option, Some, None, Result, Ok, Err, if◌then◌else◌, Contains}
 use Rattle.std.specs.Prelude.{⊤, T, filter, is_some, option_map}
 use Rattle.std.specs.Str.{bytes_eq}
 use Rattle.std.specs.List.{flat_map, list_all}
@@ -9,7 +9,7 @@ use Rattle.std.specs.declared.cmp.Ordering.TheVariants.{Less, Equal, Greater}
 use Rattle.std.specs.FinMap.{entries, entries_sorted}
 use Rattle.std.specs.FinMap.Entries.{below_all, is_sorted}
 use Rattle.std.proofs.lemmas.Bool.{eqb-true, false≢true}
-use Rattle.std.proofs.lemmas.List.{map-append, take-map}
+use Rattle.std.proofs.lemmas.List.{map-append, take-append-drop, take-map}
 use Rattle.std.proofs.lemmas.List.Elements.{filter-append, Contains-append_left}
 use Rattle.std.proofs.lemmas.List.Sums.{AllPass-from_list_all}
 use Rattle.std.proofs.lemmas.Option.{same_Some}
@@ -513,8 +513,8 @@ done_at path all deed there =
     let found = Contains-filter_from (λ (made : Made). bytes_eq made.path path) all from.0 from.1 in
     (from.0, found.0, bytes_same from.0.path path found.1)
 
-pub makes_once : MakesOnce
-makes_once s owners outcomes path are = by (deeds_at path (all_made outcomes)) refl
+whole_once : (s : State) (owners : Bool) (outcomes : List Outcome) (path : List ℕ) → AreFirstTreeOutcomes s owners outcomes → is_one (deeds_at path (all_made outcomes)) ≡ true
+whole_once s owners outcomes path are = by (deeds_at path (all_made outcomes)) refl
   where
     by : (deeds : List Deed) → deeds_at path (all_made outcomes) ≡ deeds → is_one (deeds_at path (all_made outcomes)) ≡ true
     by [] is = ap is_one is
@@ -522,6 +522,24 @@ makes_once s owners outcomes path are = by (deeds_at path (all_made outcomes)) r
         let some = done_at path (all_made outcomes) deed (subst (λ (l : List Deed). Contains l deed) (sym is) (Contains-here deed deeds)) in
         let inside = makes_inside s owners outcomes some.0 are some.1 in
         subst (λ (text : List ℕ). is_one (deeds_at text (all_made outcomes)) ≡ true) (sym inside.1.0 ∙ some.2) (once_at s owners outcomes inside.0 inside.1.1 are)
+
+front_one : (deeds more : List Deed) → is_one (deeds ++ more) ≡ true → is_one deeds ≡ true
+front_one [] more one = refl
+front_one (Directory ∷ []) more one = refl
+front_one (Directory ∷ Attributed attributes ∷ []) more one = refl
+front_one (File ∷ []) more one = refl
+front_one (File ∷ Content bytes attributes ∷ []) more one = refl
+front_one (Symlink target attributes ∷ []) more one = refl
+front_one (Link first ∷ []) more one = refl
+front_one deeds more one = absurd (false≢true one)
+
+pub makes_once : MakesOnce
+makes_once s owners outcomes k path are =
+    let all : List Made = all_made outcomes in
+    front_one (deeds_at path (take k all)) (deeds_at path (drop k all))
+    (ap is_one (sym (deeds_append path (take k all) (drop k all)))
+    ∙ ap (λ (l : List Made). is_one (deeds_at path l)) (take-append-drop k all)
+    ∙ whole_once s owners outcomes path are)
 
 -- ---- what is done on the way to a path
 
@@ -570,5 +588,5 @@ makes_through_directories s owners outcomes made other way name rest are there h
     let found = way_of [] all made (makes_below s owners outcomes are) there in
     let same : found.0 ≡ way ++ name ∷ rest = same_names found.0 (way ++ name ∷ rest) found.1.1 has.1 (sym found.1.0 ∙ has.0) in
     let on_way : Contains all (directory_at way) = found.2 way name rest same in
-    of_directory (deeds_at (path_text way) all) other.deed (makes_once s owners outcomes (path_text way) are)
+    of_directory (deeds_at (path_text way) all) other.deed (whole_once s owners outcomes (path_text way) are)
     (deed_there (path_text way) all (directory_at way) on_way refl) (deed_there (path_text way) all other besides at)

@@ -1,5 +1,5 @@
 -- Laws of what is made in a folder. Each is a statement: it holds since a public function's contract names it.
-use Rattle.std.specs.Prelude.{◌≡◌, ◌≤◌, Bool, true, false, ℕ, List, [], ◌∷◌, ◌++◌, length, map, filter, Contains, ⊤}
+use Rattle.std.specs.Prelude.{◌≡◌, ◌≤◌, Bool, true, false, ℕ, List, [], ◌∷◌, ◌++◌, length, map, filter, take, Contains, ⊤}
 use Rattle.std.specs.List.{list_all}
 use Rattle.std.specs.Str.{bytes_eq, is_utf8}
 use Rattle.jmount.specs.Tree.{State, is_directory}
@@ -54,10 +54,11 @@ is_one (Symlink target attributes ∷ []) = true
 is_one (Link first ∷ []) = true
 is_one _ = false
 
--- whatever a file system says, at no path is a second object made, and nothing is completed twice or at a path where it was not made
+-- whatever a file system says, and wherever it ends, at no path was a second object made, and nothing was completed twice or at a
+-- path where it was not made
 abbrev pub MakesOnce : Type 0
-MakesOnce = (s : State) (owners : Bool) (outcomes : List Outcome) (path : List ℕ) → AreFirstTreeOutcomes s owners outcomes
-    → is_one (deeds_at path (all_made outcomes)) ≡ true
+MakesOnce = (s : State) (owners : Bool) (outcomes : List Outcome) (k : ℕ) (path : List ℕ) → AreFirstTreeOutcomes s owners outcomes
+    → is_one (deeds_at path (take k (all_made outcomes))) ≡ true
 
 -- a directory is made, or completed
 abbrev pub is_of_directory : Deed → Bool

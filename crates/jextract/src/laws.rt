@@ -17,7 +17,7 @@ pub fn makes_below()
     ensures { law.MakesBelow }
 {}
 
-/// At no path is more than one object made, and what was made is completed once at most, at its own path.
+/// At no path is more than one object made, and what was made is completed once at most, also where a fault ends it.
 pub fn makes_once()
     ensures { law.MakesOnce }
 {}

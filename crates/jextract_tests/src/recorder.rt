@@ -96,6 +96,32 @@ fn attributes_line(
     format!(in alloc; "attributes {path} {shown}\n")
 }
 
+/// The path of a line, where it tells of something that was made anew.
+fn made_path(line: &str) -> Option<&str> {
+    let (word, rest) = line.split_once(' ')?;
+    if word == "content" || word == "attributes" {
+        return None;
+    }
+    match rest.split_once(' ') {
+        Some((path, _)) => Some(path),
+        None => Some(rest),
+    }
+}
+
+/// Whether these lines tell of at most one thing that is made at each path.
+pub(crate) fn is_made_once(alloc: Global, lines: &str) -> Result<bool, AllocError> {
+    let mut paths = Vec::new(alloc);
+    for line in lines.split('\n') {
+        if let Some(path) = made_path(line) {
+            if paths.contains(&path) {
+                return Ok(false);
+            }
+            paths.push(path)?;
+        }
+    }
+    Ok(true)
+}
+
 impl Folder for Recorder {
     type File = Taker;
 

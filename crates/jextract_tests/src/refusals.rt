@@ -1,7 +1,7 @@
 //! Folders that refuse, files that take little, and notes that fail.
 
 use crate::images::{FILE, LARGE, Node, PLAIN, image_of};
-use crate::recorder::Recorder;
+use crate::recorder::{Recorder, is_made_once};
 use byteorder::LittleEndian;
 use flashbase::FromWriter;
 use jextract::{ExtractFault, extract};
@@ -70,6 +70,7 @@ fn a_refusal_at_each_call(rt: HostRuntime) -> Result<(), Fail> {
         assert_eq!(rt; answer, Ok(refused));
         assert_eq!(rt; folder.failures, refused);
         assert_eq!(rt; folder.lines.as_str(), made);
+        assert!(rt; is_made_once(rt.alloc(), folder.lines.as_str())?);
         assert_eq!(rt; notes.into_writer().as_slice(), told.as_bytes());
     }
     Ok(())

@@ -1,7 +1,7 @@
 //! Worked trees: what is made of them, and what is told.
 
 use crate::images::{DIRECTORY, FILE, HUGE, LARGE, Node, PLAIN, SYMLINK, image_of};
-use crate::recorder::Recorder;
+use crate::recorder::{Recorder, is_made_once};
 use byteorder::LittleEndian;
 use flashbase::FromWriter;
 use jextract::extract;
@@ -150,6 +150,16 @@ fn worked_trees(rt: HostRuntime) -> Result<(), Fail> {
         assert_eq!(rt; count, left_out);
         assert_eq!(rt; notes.as_slice(), told.as_bytes());
     }
+    Ok(())
+}
+
+#[test]
+fn no_path_is_made_twice(rt: HostRuntime) -> Result<(), Fail> {
+    for (nodes, ..) in ROWS {
+        let (lines, _, _) = extracted(rt.alloc(), nodes, true)?;
+        assert!(rt; is_made_once(rt.alloc(), lines.as_str())?);
+    }
+    assert!(rt; !is_made_once(rt.alloc(), "directory \nsymlink a /tmp 777 7 5\nfile a\n")?);
     Ok(())
 }
 
