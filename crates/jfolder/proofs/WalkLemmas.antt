@@ -1,5 +1,5 @@
 -- A walk that goes on by an item.
-use Rattle.std.proofs.Common.{◌≡◌, ℕ, ◌<◌, true, List, [], ◌∷◌, ◌++◌, length, sym, ap, ◌∙◌, subst, reverse, Option, None, Result, Ok, Err, get_or, map}
+use Rattle.std.proofs.Common.{◌≡◌, ℕ, ◌<◌, true, List, [], ◌∷◌, ◌++◌, length, sym, ap, ◌∙◌, subst, reverse, Option, None, Some, Result, Ok, Err, get_or, map}
 use Rattle.std.specs.Prelude.{IfOk, IfSome, IsSome, String}
 use Rattle.std.specs.List.{All}
 use Rattle.std.specs.Option.{option_to_list}
@@ -9,10 +9,11 @@ use Rattle.std.proofs.lemmas.Bool.{false≢true}
 use Rattle.std.proofs.lemmas.List.Elements.{All-append, All-cons, All-contains, All-map, All-nil, All-pop, All-push, All-same, All-weaker}
 use Rattle.jfolder.specs.Actions.{AttributesFit, IsRooted, ItemFits, WhatFits}
 use Rattle.jfolder.specs.Trees.{HasTarget, IsRegular, IsTree, LinksBack, MayFollow, Rise}
-use Rattle.jfolder.specs.Walking.{FoundFits, HasOptions, IsChild, IsFileOf, IsPending, WalkFits, comes_next, item_of}
+use Rattle.jfolder.specs.Walking.{FoundFits, HasOptions, IsChild, IsFileOf, IsItemTold, IsPending, IsTold, IsToldAt, WalkFits, comes_next, inside, item_of}
 use Rattle.jfolder.specs.declared.found.Found.{Found}
 use Rattle.jfolder.specs.declared.found.Options.{Options}
 use Rattle.jfolder.specs.declared.found.Skip.{Skip}
+use Rattle.jfolder.specs.declared.host.Looked.{Looked}
 use Rattle.jfolder.specs.declared.tree.Attributes.{Attributes}
 use Rattle.jfolder.specs.declared.tree.Content.{Content}
 use Rattle.jfolder.specs.declared.tree.Item.{Item}
@@ -20,6 +21,17 @@ use Rattle.jfolder.specs.declared.tree.What.TheVariants as what
 use Rattle.jfolder.proofs.TreeLemmas.{All-reverse, directory_child, is_new, path_of, pending_more, rise_more, root_child, tree_more}
 
 -- ---- what is found
+
+-- what is known is what was told
+pub told_at : (known : Option Looked) (options : Options) (it : Looked) (a : Attributes) → IfSome known (λ k. it ≡ k) → IsTold options it a
+    → IfSome known (λ k. IsTold options k a)
+told_at None options it a same told = tt
+told_at (Some k) options it a same told = subst (λ (l : Looked). IsTold options l a) same told
+
+pub told_if : (known : Option Looked) (options : Options) (it : Looked) (r : Result Found Skip) → IfSome known (λ k. it ≡ k)
+    → IfOk r (λ found. IsTold options it found.attributes) → IfOk r (λ found. IfSome known (λ k. IsTold options k found.attributes))
+told_if known options it (Ok found) same told = told_at known options it found.attributes same told
+told_if known options it (Err e) same told = tt
 
 pub file_of : (items given : List Item) (k : ℕ) (i : Item) (bytes : Content) (text : List ℕ) → given ≡ items → k < length given → i ≡ get_or given k i
     → i.what ≡ what.Regular bytes → text ≡ path_of i → IsFileOf items text
@@ -58,30 +70,31 @@ pending_after before items path found old new paths more is directory at all chi
     let both = All-append (IsIn (before ++ i ∷ [])) old (reverse paths) these (All-reverse (IsIn (before ++ i ∷ [])) paths those) in
     All-same (IsIn items) new (old ++ reverse paths) is (subst (λ (l : List Item). All (IsIn l) (old ++ reverse paths)) (sym more) both)
 
-pub popped : (options : Options) (items : List Item) (old new : List (String Global)) (r : Option (String Global)) → old ≡ new ++ option_to_list r
-    → WalkFits options items old → WalkFits options items new × IfSome r (IsIn items)
-popped options items old new r is fits =
+pub popped : (host : List ℕ → Option Looked) (options : Options) (items : List Item) (old new : List (String Global)) (r : Option (String Global)) → old ≡ new ++ option_to_list r
+    → WalkFits host options items old → WalkFits host options items new × IfSome r (IsIn items)
+popped host options items old new r is fits =
     let both = All-pop (IsIn items) old new r is fits.pending_fit in
-    (record { items_fit = fits.items_fit; tree = fits.tree; rise = fits.rise; options_hold = fits.options_hold; pending_fit = both.0 }, both.1)
+    (record { items_fit = fits.items_fit; tree = fits.tree; rise = fits.rise; options_hold = fits.options_hold; told = fits.told; pending_fit = both.0 }, both.1)
 
 -- ---- the walk
 
-pub walk_starts : (options : Options) (items : List Item) (pending paths : List (String Global)) → items ≡ [] → pending ≡ reverse paths
-    → All (λ path. IsChild [] (string_bytes path)) paths → WalkFits options items pending
-walk_starts options items pending paths none is children =
-    subst (λ (l : List Item). WalkFits options l pending) (sym none) (record {
+pub walk_starts : (host : List ℕ → Option Looked) (options : Options) (items : List Item) (pending paths : List (String Global)) → items ≡ [] → pending ≡ reverse paths
+    → All (λ path. IsChild [] (string_bytes path)) paths → WalkFits host options items pending
+walk_starts host options items pending paths none is children =
+    subst (λ (l : List Item). WalkFits host options l pending) (sym none) (record {
       items_fit = All-nil ItemFits;
       tree = tt;
       rise = tt;
       options_hold = All-nil (λ i. HasOptions options i.attributes);
+      told = All-nil (IsItemTold host options);
       pending_fit = All-same (IsIn []) pending (reverse paths) is
           (All-reverse (IsIn []) paths (All-weaker (λ path. IsChild [] (string_bytes path)) (IsIn []) (λ p h. root_child [] (string_bytes p) h) paths children));
     })
 
-pub walk_more : (options : Options) (items new : List Item) (path : String Global) (found : Found) (old pending : List (String Global)) → WalkFits options items old
+pub walk_more : (host : List ℕ → Option Looked) (options : Options) (items new : List Item) (path : String Global) (found : Found) (old pending : List (String Global)) → WalkFits host options items old
     → FoundFits options items found → IsRooted (string_bytes path) → comes_next items (string_bytes path) ≡ true → IsPending items (string_bytes path)
-    → new ≡ items ++ item_of path found ∷ [] → All (IsIn new) pending → WalkFits options new pending
-walk_more options items new path found old pending fits is rooted next at more all =
+    → IsToldAt host options (inside (string_bytes path)) found.attributes → new ≡ items ++ item_of path found ∷ [] → All (IsIn new) pending → WalkFits host options new pending
+walk_more host options items new path found old pending fits is rooted next at told more all =
     let i = item_of path found in
     let may : MayFollow items i = record {
       way = at.way;
@@ -100,17 +113,18 @@ walk_more options items new path found old pending fits is rooted next at more a
       rise = subst Rise (sym more) (rise_more items i fits.rise next);
       options_hold = All-same (λ j. HasOptions options j.attributes) new (items ++ i ∷ []) more
           (All-push (λ j. HasOptions options j.attributes) items i fits.options_hold is.options_hold);
+      told = All-same (IsItemTold host options) new (items ++ i ∷ []) more (All-push (IsItemTold host options) items i fits.told told);
       pending_fit = all;
     }
 
 -- the item was added, or memory ran out
-pub walk_goes_on : {E : Type 0} (options : Options) (items new : List Item) (path : String Global) (found : Found) (old pending : List (String Global)) (r : Result Unit E)
-    → WalkFits options items old → FoundFits options items found → IsRooted (string_bytes path) → comes_next items (string_bytes path) ≡ true
-    → IsPending items (string_bytes path) → IfOk r (λ _. new ≡ items ++ item_of path found ∷ []) → IfOk r (λ _. All (IsIn new) pending)
-    → IfOk r (λ _. WalkFits options new pending)
-walk_goes_on options items new path found old pending (Ok x) fits is rooted next at more all =
-    walk_more options items new path found old pending fits is rooted next at more all
-walk_goes_on options items new path found old pending (Err e) fits is rooted next at more all = tt
+pub walk_goes_on : {E : Type 0} (host : List ℕ → Option Looked) (options : Options) (items new : List Item) (path : String Global) (found : Found) (old pending : List (String Global)) (r : Result Unit E)
+    → WalkFits host options items old → FoundFits options items found → IsRooted (string_bytes path) → comes_next items (string_bytes path) ≡ true
+    → IsPending items (string_bytes path) → IsToldAt host options (inside (string_bytes path)) found.attributes → IfOk r (λ _. new ≡ items ++ item_of path found ∷ []) → IfOk r (λ _. All (IsIn new) pending)
+    → IfOk r (λ _. WalkFits host options new pending)
+walk_goes_on host options items new path found old pending (Ok x) fits is rooted next at told more all =
+    walk_more host options items new path found old pending fits is rooted next at told more all
+walk_goes_on host options items new path found old pending (Err e) fits is rooted next at told more all = tt
 
 -- ---- what was read
 

@@ -1,5 +1,5 @@
 -- A walk through a folder: what is found at a path, and which paths are still to visit.
-use Rattle.std.specs.Prelude.{◌≡◌, ◌≤◌, ◌++◌, ◌∷◌, [], ℕ, Bool, true, List, length, All, Contains, IsTrue, IsSome, IfSome, String}
+use Rattle.std.specs.Prelude.{◌≡◌, ◌≤◌, ◌++◌, ◌∷◌, [], ℕ, Bool, true, List, length, All, Contains, IsTrue, IsSome, IfSome, IfNone, Option, String, bit_and, drop, pos}
 use Rattle.std.specs.declared.alloc.Global.{Global}
 use Rattle.std.specs.String.{string_bytes}
 use Rattle.jmount.specs.Find.{IsPath, is_name}
@@ -8,6 +8,7 @@ use Rattle.jfolder.specs.Order.{is_before}
 use Rattle.jfolder.specs.Trees.{HasDirectory, HasTarget, IsRegular, IsTree, LinksBack, Rise}
 use Rattle.jfolder.specs.declared.found.Found.{Found}
 use Rattle.jfolder.specs.declared.found.Options.{Options}
+use Rattle.jfolder.specs.declared.host.Looked.{Looked}
 use Rattle.jfolder.specs.declared.tree.Attributes.{Attributes}
 use Rattle.jfolder.specs.declared.tree.Item.{Item}
 use Rattle.jfolder.specs.declared.tree.What.TheVariants as what
@@ -16,6 +17,23 @@ use Rattle.jfolder.specs.declared.tree.What.TheVariants as what
 pub record HasOptions (options : Options) (a : Attributes) : Type 0 where
   pub owner : IfSome options.owner (λ o. (a.uid ≡ o.uid) × (a.gid ≡ o.gid))
   pub time : IfSome options.time (λ t. a.time ≡ t)
+
+-- what an object gets else: its permission bits, its owner and its time
+pub record IsTold (options : Options) (told : Looked) (a : Attributes) : Type 0 where
+  pub mode : a.mode ≡ bit_and told.mode 0o7777
+  pub owner : IfNone options.owner ((a.uid ≡ told.uid) × (a.gid ≡ told.gid))
+  pub time : IfNone options.time (pos a.time ≡ told.time)
+
+-- that of the object at a path, where it is known what the host tells there
+abbrev pub IsToldAt : (List ℕ → Option Looked) → Options → List ℕ → Attributes → Type 0
+IsToldAt host options path a = IfSome (host path) (λ told. IsTold options told a)
+
+-- a path as the host is asked for it: without the slash that it begins with
+abbrev pub inside : List ℕ → List ℕ
+inside path = drop 1 path
+
+abbrev pub IsItemTold : (List ℕ → Option Looked) → Options → Item → Type 0
+IsItemTold host options i = IsToldAt host options (inside (string_bytes i.path)) i.attributes
 
 -- ---- names and paths
 
@@ -62,9 +80,10 @@ item_of path found = record { path = path; attributes = found.attributes; what =
 -- ---- the walk so far
 
 -- what was read is a tree in its order, and each path that is still to visit lies in it
-pub record WalkFits (options : Options) (items : List Item) (pending : List (String Global)) : Type 0 where
+pub record WalkFits (host : List ℕ → Option Looked) (options : Options) (items : List Item) (pending : List (String Global)) : Type 0 where
   pub items_fit : All ItemFits items
   pub tree : IsTree items
   pub rise : Rise items
   pub options_hold : All (λ i. HasOptions options i.attributes) items
+  pub told : All (IsItemTold host options) items
   pub pending_fit : All (λ p. IsPending items (string_bytes p)) pending

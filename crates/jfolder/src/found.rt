@@ -1,10 +1,10 @@
 //! What lies at a path of a folder of the host.
 
-ghost use Rattle.std.specs.Prelude.{◌≡◌, ◌<◌, [], All, IfOk, IfSome, IsSome, IsTrue};
+ghost use Rattle.std.specs.Prelude.{◌≡◌, ◌<◌, [], pos, All, IfNone, IfOk, IfSome, IsSome, IsTrue};
 ghost use Rattle.std.specs.String.{string_bytes};
 ghost use Rattle.jfolder.specs.Actions.{AttributesFit, ContentFits, IsFileWord, WhatFits};
 ghost use Rattle.jfolder.specs.Trees.{HasTarget, LinksBack};
-ghost use Rattle.jfolder.specs.Walking.{FoundFits, HasOptions};
+ghost use Rattle.jfolder.specs.Walking.{FoundFits, HasOptions, IsTold};
 
 use crate::fault::FolderFault;
 use crate::host::{HostFolder, Looked, Names};
@@ -95,7 +95,8 @@ pub fn kind_of(mode: u32) -> Result<HostKind, Reason> {
 
 /// The owner and the group that an object gets.
 fn owner_of(looked: &Looked, options: &Options) -> Result<Owner, Reason>
-    ensures { IfOk result (λ owner. IfSome options.now.owner (λ given. owner ≡ given)) }
+    ensures given { IfOk result (λ owner. IfSome options.now.owner (λ given. owner ≡ given)) }
+    ensures own { IfOk result (λ owner. IfNone options.now.owner ((owner.uid ≡ looked.now.uid) × (owner.gid ≡ looked.now.gid))) }
 {
     if let Some(owner) = options.owner {
         return Ok(owner);
@@ -111,7 +112,8 @@ fn owner_of(looked: &Looked, options: &Options) -> Result<Owner, Reason>
 
 /// The time that an object gets.
 fn time_of(looked: &Looked, options: &Options) -> Result<u32, Reason>
-    ensures { IfOk result (λ time. IfSome options.now.time (λ given. time ≡ given)) }
+    ensures given { IfOk result (λ time. IfSome options.now.time (λ given. time ≡ given)) }
+    ensures own { IfOk result (λ time. IfNone options.now.time (pos time ≡ looked.now.time)) }
 {
     if let Some(time) = options.time {
         return Ok(time);
@@ -127,6 +129,7 @@ fn time_of(looked: &Looked, options: &Options) -> Result<u32, Reason>
 pub fn attributes_of(looked: &Looked, options: &Options) -> Result<Attributes, Reason>
     ensures fit { IfOk result AttributesFit }
     ensures options { IfOk result (HasOptions options.now) }
+    ensures told { IfOk result (IsTold options.now looked.now) }
 {
     let owner = owner_of(looked, options)?;
     let time = time_of(looked, options)?;
@@ -154,7 +157,8 @@ fn known(bytes: &[u8])
 
 /// Where the bytes of a regular file come from.
 pub fn content_of<F: HostFolder>(folder: &mut F, path: &str, size: u64) -> Result<Content, Skip>
-    ensures { IfOk result ContentFits }
+    ensures fits { IfOk result ContentFits }
+    ensures kept { F.looked folder.new ≡ F.looked folder.old }
 {
     if size > MAX_SIZE as u64 {
         return Err(Skip::LeftOut(Reason::Large));
@@ -179,6 +183,7 @@ fn symlink_of<F: HostFolder>(folder: &mut F, path: &str) -> Result<What, Skip>
     ensures fits { IfOk result WhatFits }
     ensures target { IfOk result HasTarget }
     ensures link { IfOk result (LinksBack []) }
+    ensures kept { F.looked folder.new ≡ F.looked folder.old }
 {
     let target = folder.target(path)?;
     let bytes = target.as_bytes();
@@ -217,6 +222,7 @@ fn leaf_of<F: HostFolder>(
     ensures fits { IfOk result WhatFits }
     ensures target { IfOk result HasTarget }
     ensures link { IfOk result (LinksBack []) }
+    ensures kept { F.looked folder.new ≡ F.looked folder.old }
 {
     if kind == HostKind::Symlink {
         return symlink_of(folder, path);
@@ -236,6 +242,7 @@ fn object_of<F: HostFolder>(
     ensures target { IfOk result (λ object. HasTarget object.0) }
     ensures link { IfOk result (λ object. LinksBack [] object.0) }
     ensures directory { IfOk result (λ object. IsSome object.1 → object.0 ≡ What.Directory) }
+    ensures kept { F.looked folder.new ≡ F.looked folder.old }
 {
     if kind == HostKind::Directory {
         let names = folder.names(path)?;
@@ -252,7 +259,9 @@ pub fn first_found<F: HostFolder>(
     looked: &Looked,
     options: &Options,
 ) -> Result<Found, Skip>
-    ensures { IfOk result (FoundFits options.now []) }
+    ensures found { IfOk result (FoundFits options.now []) }
+    ensures told { IfOk result (λ found. IsTold options.now looked.now found.attributes) }
+    ensures kept { F.looked folder.new ≡ F.looked folder.old }
 {
     let kind = kind_of(looked.mode)?;
     let attributes = attributes_of(looked, options)?;
@@ -269,6 +278,7 @@ pub fn first_found<F: HostFolder>(
 pub fn link_to(first: String, looked: &Looked, options: &Options) -> Result<Found, Skip>
     ensures fit { IfOk result (λ found. AttributesFit found.attributes) }
     ensures options { IfOk result (λ found. HasOptions options.now found.attributes) }
+    ensures told { IfOk result (λ found. IsTold options.now looked.now found.attributes) }
     ensures what { IfOk result (λ found. found.what ≡ What.Link first) }
     ensures names { IfOk result (λ found. found.names ≡ None) }
 {

@@ -1,5 +1,8 @@
 //! A folder of the host, as it is read.
 
+ghost use Rattle.std.specs.Prelude.{◌≡◌, ℕ, IfOk, IfSome, List, Option};
+ghost use Rattle.jfolder.specs.declared.host.Looked.{Looked};
+
 use crate::fault::FolderFault;
 
 /// What the host tells of an object, as `lstat` does. The bits 12 to 15 of the mode are its kind, and the time is that of the
@@ -26,19 +29,28 @@ pub struct Names {
 /// A folder of the host that is read. A path is that of an object in it, names with a slash between two; the empty path is the
 /// folder itself. No call follows a symlink that a path ends in.
 pub trait HostFolder {
+    /// What it tells of the object at each path, where that is known. No call changes it.
+    ghost looked: { Self → List ℕ → Option Looked };
+
     /// What the host tells of an object.
-    fn look(&mut self, path: &str) -> Result<Looked, FolderFault>;
+    fn look(&mut self, path: &str) -> Result<Looked, FolderFault>
+        ensures kept { looked self.new ≡ looked self.old }
+        ensures told { IfOk result (λ it. IfSome (looked self.old path.now) (λ known. it ≡ known)) };
 
     /// The names in a directory.
-    fn names(&mut self, path: &str) -> Result<Names, FolderFault>;
+    fn names(&mut self, path: &str) -> Result<Names, FolderFault>
+        ensures { looked self.new ≡ looked self.old };
 
     /// The target of a symlink.
-    fn target(&mut self, path: &str) -> Result<String, FolderFault>;
+    fn target(&mut self, path: &str) -> Result<String, FolderFault>
+        ensures { looked self.new ≡ looked self.old };
 
-    /// The bytes of a regular file, or its first ones if it has more than `limit`: then at least `limit + 1` of them. It is asked
-    /// only where the name of the file is no word of a listing.
-    fn bytes(&mut self, path: &str, limit: usize) -> Result<Vec<u8>, FolderFault>;
+    /// The bytes of a regular file. One that has more than `limit` is refused, or gives more than `limit` bytes. It is asked only
+    /// where the name of the file is no word of a listing.
+    fn bytes(&mut self, path: &str, limit: usize) -> Result<Vec<u8>, FolderFault>
+        ensures { looked self.new ≡ looked self.old };
 
     /// The name by which another program opens the file.
-    fn host_path(&mut self, path: &str) -> Result<String, FolderFault>;
+    fn host_path(&mut self, path: &str) -> Result<String, FolderFault>
+        ensures { looked self.new ≡ looked self.old };
 }

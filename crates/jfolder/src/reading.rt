@@ -7,7 +7,7 @@ ghost use Rattle.jmount.specs.Find.{is_name};
 ghost use Rattle.jfolder.specs.Actions.{AttributesFit, Fits, IsRooted, ItemFits};
 ghost use Rattle.jfolder.specs.Notes.{Tells, TellsMore};
 ghost use Rattle.jfolder.specs.Trees.{IsTree, Rise};
-ghost use Rattle.jfolder.specs.Walking.{FoundFits, HasOptions, IsChild, IsFileOf, IsPending, IsShortName, WalkFits, comes_next, item_of};
+ghost use Rattle.jfolder.specs.Walking.{FoundFits, HasOptions, IsChild, IsFileOf, IsItemTold, IsPending, IsShortName, IsToldAt, WalkFits, comes_next, inside, item_of};
 
 use crate::fault::ReadFault;
 use crate::found::{
@@ -84,7 +84,8 @@ fn joined(alloc: Global, directory: &str, name: &str) -> Result<String, AllocErr
 
 /// A path as the host is asked for it: without the slash that it begins with.
 fn inside(path: &str) -> Option<&str>
-    ensures { IsSome result → IsRooted path.now }
+    ensures rooted { IsSome result → IsRooted path.now }
+    ensures rest { IfSome result (λ rest. rest.now ≡ inside path.now) }
 {
     path.strip_prefix("/")
 }
@@ -206,6 +207,8 @@ impl Walk {
     fn look<F: HostFolder>(&self, folder: &mut F, path: &str) -> Result<Looked, Skip>
         ensures rooted { IfOk result (λ _. IsRooted path.now) }
         ensures next { IfOk result (λ _. IsTrue (comes_next self.now.items.items path.now)) }
+        ensures told { IfOk result (λ it. IfSome (F.looked folder.old (inside path.now)) (λ known. it ≡ known)) }
+        ensures kept { F.looked folder.new ≡ F.looked folder.old }
     {
         let Some(rest) = inside(path) else {
             return Err(Skip::LeftOut(Reason::BadName));
@@ -228,6 +231,8 @@ impl Walk {
         ensures found { IfOk result (FoundFits options.now self.now.items.items) }
         ensures rooted { IfOk result (λ _. IsRooted path.now) }
         ensures next { IfOk result (λ _. IsTrue (comes_next self.now.items.items path.now)) }
+        ensures told { IfOk result (λ found. IsToldAt (F.looked folder.old) options.now (inside path.now) found.attributes) }
+        ensures kept { F.looked folder.new ≡ F.looked folder.old }
     {
         let looked = self.look(folder, path)?;
         match self.first_path(&looked) {
@@ -338,9 +343,10 @@ impl Walk {
         notes: &mut N,
         path: String,
     ) -> Result<(), ReadFault>
-        requires fits { WalkFits options.now self.old.items.items self.old.pending.items }
+        requires fits { WalkFits (F.looked folder.old) options.now self.old.items.items self.old.pending.items }
         requires path { IsPending self.old.items.items (string_bytes path) }
-        ensures fits { IfOk result (λ _. WalkFits options.now self.new.items.items self.new.pending.items) }
+        ensures fits { IfOk result (λ _. WalkFits (F.looked folder.old) options.now self.new.items.items self.new.pending.items) }
+        ensures kept { F.looked folder.new ≡ F.looked folder.old }
         ensures told { TellsMore (N.taken notes.old) (N.taken notes.new) (N.failures notes.old) (N.failures notes.new) self.old.left_out self.new.left_out result }
     {
         match self.find(alloc, folder, options, path.as_str()) {
@@ -360,6 +366,8 @@ impl Walk {
 fn root_of<F: HostFolder>(folder: &mut F, options: &Options) -> Result<(Attributes, Names), Skip>
     ensures fit { IfOk result (λ root. AttributesFit root.0) }
     ensures options { IfOk result (λ root. HasOptions options.now root.0) }
+    ensures told { IfOk result (λ root. IsToldAt (F.looked folder.old) options.now [] root.0) }
+    ensures kept { F.looked folder.new ≡ F.looked folder.old }
 {
     let looked = folder.look("")?;
     if kind_of(looked.mode) != Ok(HostKind::Directory) {
@@ -386,6 +394,8 @@ pub fn read_folder<F: HostFolder, N: Sink>(
     ensures tree { IfOk result (λ read. IsTree read.items.items) }
     ensures rises { IfOk result (λ read. Rise read.items.items) }
     ensures options { IfOk result (λ read. All (HasOptions options.now) (read.root ∷ map (λ item. item.attributes) read.items.items)) }
+    ensures root { IfOk result (λ read. IsToldAt (F.looked folder.old) options.now [] read.root) }
+    ensures told { IfOk result (λ read. All (IsItemTold (F.looked folder.old) options.now) read.items.items) }
     ensures notes { Tells (N.taken notes.old) (N.taken notes.new) (N.failures notes.old) (N.failures notes.new) result }
 {
     let (root, names) = match root_of(folder, options) {

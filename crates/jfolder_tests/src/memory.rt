@@ -1,5 +1,7 @@
 //! A folder in memory, one of whose calls the host may refuse.
 
+ghost use Rattle.std.specs.Prelude.{None};
+
 use jfolder::{FolderFault, HostFolder, Looked, Names};
 use std::alloc::{AllocError, Global};
 
@@ -88,6 +90,8 @@ fn text_of(alloc: Global, text: &str) -> Result<String, AllocError> {
 }
 
 impl HostFolder for Memory<'_> {
+    ghost looked = { λ s path. None };
+
     fn look(&mut self, path: &str) -> Result<Looked, FolderFault> {
         Ok(self.find(path)?.looked)
     }

@@ -1,5 +1,7 @@
 //! A folder of the system that is read.
 
+ghost use Rattle.std.specs.Prelude.{None};
+
 use crate::paths::joined;
 use crate::progress::Progress;
 use flashbase::{FromReader, LoadFault, load};
@@ -83,6 +85,9 @@ impl<'r, R: Files + AllocGlobal + Clock + Eprint> ReadFolder<'r, R> {
 }
 
 impl<'r, R: Files + AllocGlobal + Clock + Eprint> HostFolder for ReadFolder<'r, R> {
+    // What the system tells is not known.
+    ghost looked = { λ s path. None };
+
     fn look(&mut self, path: &str) -> Result<Looked, FolderFault> {
         self.progress.step();
         let path = self.joined(path)?;
