@@ -1,5 +1,5 @@
 -- What stands after all items is the tree, and nothing else.
-use Rattle.std.proofs.Common.{◌≡◌, ℕ, ◌+◌, ◌≤◌, List, [], ◌∷◌, ◌++◌, length, map, Option, Some, None, Ok, refl, ap, sym, ◌∙◌, subst, inl, inr, ◌⊎◌, arith}
+use Rattle.std.proofs.Common.{◌≡◌, ℕ, ◌+◌, ◌≤◌, List, [], ◌∷◌, ◌++◌, length, map, Option, Some, None, Ok, refl, ap, sym, ◌∙◌, subst, inl, inr, ◌⊎◌, ⊎_elim, arith}
 use Rattle.std.specs.Prelude.{Contains, flat_map, is_ok}
 use Rattle.std.specs.String.{string_bytes}
 use Rattle.std.proofs.lemmas.Bool.{false≢true}
@@ -18,8 +18,10 @@ use Rattle.jfolder.specs.declared.tree.Attributes.{Attributes}
 use Rattle.jfolder.specs.declared.tree.Item.{Item}
 use Rattle.jfolder.specs.declared.tree.What.{What}
 use Rattle.jfolder.specs.declared.tree.What.TheVariants as what
+use Rattle.jfolder.proofs.ListingLemmas.{listing_is_read_back}
 use Rattle.jtree.specs.Holding.{HoldsObject, HoldsTree, first_of, first_path, root_object}
 use Rattle.jtree.specs.Laws as law
+use Rattle.jtree.specs.Laws.{MakesTree}
 use Rattle.jtree.specs.Making.{Files, ops_with}
 use Rattle.jtree.proofs.BeginLemmas.{root_op, root_reaches}
 use Rattle.jtree.proofs.ItemLemmas.{IsKnown, Contains-from_map, Contains-mapped, made_of, names_of}
@@ -54,17 +56,37 @@ split_last x (y ∷ ys) = let rest = split_last y ys in (x ∷ rest.0, rest.1, a
 
 holds_object : (s : State) (files : Files) (path : List ℕ) (a : Attributes) (w : What) → IsHeld s (made_at files path a w) → IsPath path (names_in path)
     → IsPath (first_path path w) (names_in (first_path path w)) → HoldsObject files s path a w
-holds_object s files path a what.Directory h is first = record { number = h.number; found = found_is s path (names_in path) is ∙ h.leads; below_root = h.below_root; object = h.there refl }
-holds_object s files path a (what.Regular c) h is first = record { number = h.number; found = found_is s path (names_in path) is ∙ h.leads; below_root = h.below_root; object = h.there refl }
-holds_object s files path a (what.Symlink t) h is first = record { number = h.number; found = found_is s path (names_in path) is ∙ h.leads; below_root = h.below_root; object = h.there refl }
+holds_object s files path a what.Directory h is first = record {
+  number = h.number;
+  found = found_is s path (names_in path) is ∙ h.leads;
+  below_root =
+      h.below_root;
+  object = h.there refl;
+}
+holds_object s files path a (what.Regular c) h is first = record {
+  number = h.number;
+  found = found_is s path (names_in path) is ∙ h.leads;
+  below_root =
+      h.below_root;
+  object = h.there refl;
+}
+holds_object s files path a (what.Symlink t) h is first = record {
+  number = h.number;
+  found = found_is s path (names_in path) is ∙ h.leads;
+  below_root =
+      h.below_root;
+  object = h.there refl;
+}
 holds_object s files path a (what.Link old) h is first =
     found_is s path (names_in path) is ∙ h.leads ∙ sym (found_is s (string_bytes old) (names_in (string_bytes old)) first ∙ h.first)
 
 same_first : (a b : List ℕ) → IsPath a (names_in a) → IsPath b (names_in b) → names_in a ≡ names_in b → a ≡ b
 same_first a b is_a is_b e = is_a.0 ∙ ap path_text e ∙ sym is_b.0
 
-only_items : (s : State) (files : Files) (root : ObjectOf (List ℕ)) (items : List Item) → Stands root (map (made_of files) items) s → ((j : Item) → Contains items j → IsKnown j) → HasShape s
-    → (path : List ℕ) (number : ℕ) (names : List (List ℕ)) → IsPath path names → walk s names (Ok 1) ≡ Ok number → (path ≡ 47 ∷ []) ⊎ ((i : Item) × Contains items i × (string_bytes i.path ≡ path))
+only_items : (s : State) (files : Files) (root : ObjectOf (List ℕ)) (items : List Item) → Stands root (map (made_of files) items) s
+    → ((j : Item) → Contains items j → IsKnown j) → HasShape s
+    → (path : List ℕ) (number : ℕ) (names : List (List ℕ)) → IsPath path names → walk s names (Ok 1) ≡ Ok number
+    → (path ≡ 47 ∷ []) ⊎ ((i : Item) × Contains items i × (string_bytes i.path ≡ path))
 only_items s files root items stands known shape path number [] is e = inl is.0
 only_items s files root items stands known shape path number (n ∷ ns) is e =
     let split = split_last n ns in
@@ -75,24 +97,39 @@ only_items s files root items stands known shape path number (n ∷ ns) is e =
     let names : names_of from.0 ≡ n ∷ ns = ap (λ (m : Made). m.names) from.2 ∙ one.names ∙ ap (λ ns. ns ++ split.1 ∷ []) way ∙ sym split.2 in
     inr (from.0, from.1, (known from.0 from.1).path.0 ∙ ap path_text names ∙ sym is.0)
 
-holds_tree : (s : State) (files : Files) (root : Attributes) (items : List Item) → Stands (root_object root) (map (made_of files) items) s → ((j : Item) → Contains items j → IsKnown j) → HasShape s
+holds_tree : (s : State) (files : Files) (root : Attributes) (items : List Item) → Stands (root_object root) (map (made_of files) items) s
+    → ((j : Item) → Contains items j → IsKnown j) → HasShape s
     → HoldsTree files root items s
 holds_tree s files root items stands known shape = record {
   root_is = stands.root_is;
   items_are = λ i among.
       let k = known i among in
-      holds_object s files (string_bytes i.path) i.attributes i.what (stands.held (made_of files i) (Contains-mapped (made_of files) items i among)) k.path k.origin;
+      holds_object s files (string_bytes i.path) i.attributes i.what (stands.held (made_of files i) (Contains-mapped (made_of files) items i among))
+      k.path k.origin;
   apart = λ i j in_i in_j e.
       let k = known i in_i in
       let l = known j in_j in
       let m = Contains-mapped (made_of files) items i in_i in
       let o = Contains-mapped (made_of files) items j in_j in
       let h = stands.held (made_of files i) m in
-      let leads : walk s (names_of j) (Ok 1) ≡ Ok h.number = sym (found_is s (string_bytes j.path) (names_of j) l.path) ∙ sym e ∙ found_is s (string_bytes i.path) (names_of i) k.path ∙ h.leads in
+      let leads : walk s (names_of j) (Ok 1) ≡ Ok h.number = sym (found_is s (string_bytes j.path) (names_of j) l.path) ∙ sym e ∙ found_is s
+      (string_bytes i.path) (names_of i) k.path ∙ h.leads in
       same_first (first_of i) (first_of j) k.origin l.origin (stands.apart (made_of files i) (made_of files j) m o h.number h.leads leads);
   nothing_else = λ path number e.
       let f = found_names s path number e in
       only_items s files (root_object root) items stands known shape path number f.names f.path_of f.leads;
+  no_more_objects = λ number e.
+      ⊎_elim
+      (λ (is : number ≡ 1). inl is)
+      (λ (o : (m : Made) × Contains (map (made_of files) items) m × (walk s m.names (Ok 1) ≡ Ok number)).
+      let from = Contains-from_map (made_of files) items o.0 o.1 in
+      inr (
+        from.0,
+        from.1,
+        found_is s (string_bytes from.0.path) (names_of from.0) (known from.0 from.1).path ∙ ap (λ (m : Made). walk s m.names (Ok 1))
+            from.2 ∙ o.2,
+      ))
+      (stands.objects_are number e);
 }
 
 -- ---- the law
@@ -105,11 +142,23 @@ listing_makes_tree page files root items is_page fits tree short few =
     let one = root_reaches page root is_page fits.root_fits in
     let used : length one.steps ≤ 1 = one.few in
     let t = after bytes s one.steps in
-    let all = items_done page (0 + length one.steps) _ t files (root_object root) [] items is_page (record { is_at = one.is_at; stands = one.stands; known = λ j among. absurd (let less = among.1 in omega arith) })
+    let all = items_done page (0 + length one.steps) _ t files (root_object root) [] items is_page
+    (record { is_at = one.is_at; stands = one.stands; known = λ j among. absurd (let less = among.1 in omega arith) })
     tree fits.items_fit short (omega arith) in
     let ops : List Op = ops_with files (actions_of root items) in
-    let r = reaches_then page 0 x s (root_op root ∷ []) (ops_with files (flat_map item_actions items)) (root_object root) [] (map (made_of files) items) 1 _ one all.reached in
+    let r = reaches_then page 0 x s (root_op root ∷ []) (ops_with files (flat_map item_actions items)) (root_object root) [] (map (made_of files) items) 1
+    _ one all.reached in
     record {
       accepted = runs_all page x ops r.steps r.runs;
-      holds = subst (λ steps. HoldsTree files root items (after bytes s steps)) (sym (runs_steps page x ops r.steps r.runs)) (holds_tree (after bytes s r.steps) files root items r.stands all.known r.is_at.shape);
+      holds = subst (λ steps. HoldsTree files root items (after bytes s steps)) (sym (runs_steps page x ops r.steps r.runs))
+          (holds_tree (after bytes s r.steps) files root items r.stands all.known r.is_at.shape);
     }
+
+pub text_makes_tree : law.TextMakesTree
+text_makes_tree page files root items is_page fits tree short few =
+    let read = listing_is_read_back root items fits in (
+      read.0,
+      read.1,
+      subst (λ actions. MakesTree page files root items (ops_with files actions)) (sym read.2)
+          (listing_makes_tree page files root items is_page fits tree short few),
+    )
