@@ -1,3 +1,4 @@
 pub mod Making
 pub mod Holding
 pub mod Laws
+pub mod Examples

@@ -7,4 +7,5 @@
 //! `specs/Laws.antt` the law. `laws` has it as a contract.
 #![tactic(auto)]
 
+pub mod examples;
 pub mod laws;
