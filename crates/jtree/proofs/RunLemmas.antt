@@ -125,14 +125,19 @@ runs_steps page x (o ∷ ops) steps run =
 pub record Reaches (page n : ℕ) (x : Indexed) (s : State) (ops : List Op) (root : ObjectOf (List ℕ)) (made : List Made) (most : ℕ) : Type 0 where
   pub steps : List Step
   pub runs : Runs page x ops steps
+  pub ready : AllReady x steps
   pub is_at : IsAt (n + length steps) (advanced_all x steps) (after bytes s steps)
   pub stands : Stands root made (after bytes s steps)
   pub few : length steps ≤ most
 
+ready_append : (x : Indexed) (xs ys : List Step) → AllReady x xs → AllReady (advanced_all x xs) ys → AllReady x (xs ++ ys)
+ready_append x [] ys ready then = then
+ready_append x (a ∷ xs) ys ready then = (ready.0, ready_append (advanced x a) xs ys ready.1 then)
+
 pub reaches_none : (page n : ℕ) (x : Indexed) (s : State) (root : ObjectOf (List ℕ)) (made : List Made) → IsAt n x s → Stands root made s
     → Reaches page n x s [] root made 0
 reaches_none page n x s root made at stands = let same : n ≡ n + 0 = omega arith in
-    record { steps = []; runs = refl; is_at = subst (λ m. IsAt m x s) same at; stands = stands; few = omega arith }
+    record { steps = []; runs = refl; ready = tt; is_at = subst (λ m. IsAt m x s) same at; stands = stands; few = omega arith }
 
 pub reaches_one : (page n : ℕ) (x : Indexed) (s : State) (o : Op) (steps : List Step) (root : ObjectOf (List ℕ)) (made : List Made) (most : ℕ)
     → IsPage page → IsAt n x s → OpFits o
@@ -141,6 +146,7 @@ reaches_one page n x s o steps root made most is_page at fits e stands few =
     record {
       steps = steps;
       runs = (steps, [], e, sym (append-nil steps), refl);
+      ready = (planned_is_ready page x o steps is_page at.same fits e).ready;
       is_at = go_on page n x s o steps is_page at fits e;
       stands = stands;
       few = few;
@@ -158,6 +164,7 @@ reaches_then page n x s xs ys root made more a b r q =
     record {
       steps = r.steps ++ q.steps;
       runs = runs_append page x xs ys r.steps q.steps r.runs q.runs;
+      ready = ready_append x r.steps q.steps r.ready q.ready;
       is_at = subst (λ m. IsAt m (advanced_all x (r.steps ++ q.steps)) (after bytes s (r.steps ++ q.steps))) count
           (subst (λ y. IsAt (n + length r.steps + length q.steps) y (after bytes s (r.steps ++ q.steps))) index
           (subst (λ t. IsAt (n + length r.steps + length q.steps) (advanced_all (advanced_all x r.steps) q.steps) t) state q.is_at));
@@ -168,4 +175,4 @@ reaches_then page n x s xs ys root made more a b r q =
 pub reaches_weaker : (page n : ℕ) (x : Indexed) (s : State) (ops : List Op) (root : ObjectOf (List ℕ)) (made : List Made) (few most : ℕ) → few ≤ most
     → Reaches page n x s ops root made few → Reaches page n x s ops root made most
 reaches_weaker page n x s ops root made few most le r = let here : length r.steps ≤ few = r.few in
-    record { steps = r.steps; runs = r.runs; is_at = r.is_at; stands = r.stands; few = omega arith }
+    record { steps = r.steps; runs = r.runs; ready = r.ready; is_at = r.is_at; stands = r.stands; few = omega arith }

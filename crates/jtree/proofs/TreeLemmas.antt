@@ -9,7 +9,7 @@ use Rattle.jmount.specs.Tree.{ObjectOf, State}
 use Rattle.jmount.specs.Shape.{HasShape}
 use Rattle.jmount.proofs.PathNameLemmas.{path_names_exactly}
 use Rattle.jmount.proofs.ShapePathLemmas.{one_path_to_each}
-use Rattle.jsteps.specs.Nodes.{index_of}
+use Rattle.jsteps.specs.Nodes.{index_of, nodes_of}
 use Rattle.jsteps.specs.Steps.{bytes, after}
 use Rattle.jsteps.specs.Where.{names_in}
 use Rattle.jsteps.specs.declared.op.Op.{Op}
@@ -23,6 +23,7 @@ use Rattle.jtree.specs.Holding.{HoldsObject, HoldsTree, first_of, first_path, ro
 use Rattle.jtree.specs.Laws as law
 use Rattle.jtree.specs.Laws.{MakesTree}
 use Rattle.jtree.specs.Making.{Files, ops_with}
+use Rattle.jsteps.proofs.SeveralLemmas.{nodes_are_steps}
 use Rattle.jtree.proofs.BeginLemmas.{root_op, root_reaches}
 use Rattle.jtree.proofs.ItemLemmas.{IsKnown, Contains-from_map, Contains-mapped, made_of, names_of}
 use Rattle.jtree.proofs.ObjectLemmas.{made_at}
@@ -148,10 +149,13 @@ listing_makes_tree page files root items is_page fits tree short few =
     let ops : List Op = ops_with files (actions_of root items) in
     let r = reaches_then page 0 x s (root_op root ∷ []) (ops_with files (flat_map item_actions items)) (root_object root) [] (map (made_of files) items) 1
     _ one all.reached in
+    let these = sym (runs_steps page x ops r.steps r.runs) in
+    let holds = holds_tree (after bytes s r.steps) files root items r.stands all.known r.is_at.shape in
     record {
       accepted = runs_all page x ops r.steps r.runs;
-      holds = subst (λ steps. HoldsTree files root items (after bytes s steps)) (sym (runs_steps page x ops r.steps r.runs))
-          (holds_tree (after bytes s r.steps) files root items r.stands all.known r.is_at.shape);
+      holds = subst (λ steps. HoldsTree files root items (after bytes s steps)) these holds;
+      written = subst (λ steps. HoldsTree files root items (state_of (nodes_of x steps))) these
+          (subst (HoldsTree files root items) (sym (nodes_are_steps [] r.steps r.ready).state) holds);
     }
 
 pub text_makes_tree : law.TextMakesTree

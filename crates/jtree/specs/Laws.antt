@@ -1,7 +1,7 @@
 -- The law of trees.
 use Rattle.std.specs.Prelude.{◌≡◌, ℕ, List, [], length, map, Ok}
 use Rattle.jmount.specs.StateOf.{state_of}
-use Rattle.jsteps.specs.Nodes.{index_of}
+use Rattle.jsteps.specs.Nodes.{index_of, nodes_of}
 use Rattle.jsteps.specs.Planning.{IsPage}
 use Rattle.jsteps.specs.Refusals.{plans_of, steps_of_first}
 use Rattle.jsteps.specs.Steps.{bytes, after}
@@ -16,10 +16,11 @@ use Rattle.jfolder.specs.declared.tree.Item.{Item}
 use Rattle.jtree.specs.Holding.{HoldsTree}
 use Rattle.jtree.specs.Making.{Files, FilesFit, AreFew, ops_with}
 
--- on the empty file system each operation is accepted, and after them it holds the tree
+-- on the empty file system each operation is accepted, and after them it holds the tree, as the nodes do that are written for them
 pub record MakesTree (page : ℕ) (files : Files) (root : Attributes) (items : List Item) (ops : List Op) : Type 0 where
   pub accepted : length (plans_of page (index_of []) ops) ≡ length ops
   pub holds : HoldsTree files root items (after bytes (state_of []) (steps_of_first page (index_of []) ops (length ops)))
+  pub written : HoldsTree files root items (state_of (nodes_of (index_of []) (steps_of_first page (index_of []) ops (length ops))))
 
 -- The actions of a tree make exactly that tree.
 abbrev pub ListingMakesTree : Type 0
