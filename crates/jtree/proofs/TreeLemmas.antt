@@ -13,6 +13,8 @@ use Rattle.jsteps.specs.Nodes.{index_of, nodes_of}
 use Rattle.jsteps.specs.Steps.{bytes, after}
 use Rattle.jsteps.specs.Where.{names_in}
 use Rattle.jsteps.specs.declared.op.Op.{Op}
+use Rattle.jlisting.specs.declared.line.Line.{Line}
+use Rattle.jbuild.specs.Operations.{ops_in}
 use Rattle.jfolder.specs.Actions.{actions_of, item_actions}
 use Rattle.jfolder.specs.declared.tree.Attributes.{Attributes}
 use Rattle.jfolder.specs.declared.tree.Item.{Item}
@@ -22,7 +24,7 @@ use Rattle.jfolder.proofs.ListingLemmas.{listing_is_read_back}
 use Rattle.jtree.specs.Holding.{HoldsObject, HoldsTree, first_of, first_path, root_object}
 use Rattle.jtree.specs.Laws as law
 use Rattle.jtree.specs.Laws.{MakesTree}
-use Rattle.jtree.specs.Making.{Files, ops_with}
+use Rattle.jtree.specs.Making.{Files, op_with, ops_with}
 use Rattle.jsteps.proofs.SeveralLemmas.{nodes_are_steps}
 use Rattle.jtree.proofs.BeginLemmas.{root_op, root_reaches}
 use Rattle.jtree.proofs.ItemLemmas.{IsKnown, Contains-from_map, Contains-mapped, made_of, names_of}
@@ -158,11 +160,13 @@ listing_makes_tree page files root items is_page fits tree short few =
           (subst (HoldsTree files root items) (sym (nodes_are_steps [] r.steps r.ready).state) holds);
     }
 
+-- the operations of lines are those of their actions
+ops_of_lines : (files : Files) (lines : List Line) → ops_in files lines ≡ ops_with files (map (λ line. line.action) lines)
+ops_of_lines files [] = refl
+ops_of_lines files (line ∷ lines) = ap (λ ops. op_with files line.action ∷ ops) (ops_of_lines files lines)
+
 pub text_makes_tree : law.TextMakesTree
 text_makes_tree page files root items is_page fits tree short few =
-    let read = listing_is_read_back root items fits in (
-      read.0,
-      read.1,
-      subst (λ actions. MakesTree page files root items (ops_with files actions)) (sym read.2)
-          (listing_makes_tree page files root items is_page fits tree short few),
-    )
+    let read = listing_is_read_back root items fits in
+    let ops : ops_in files read.0 ≡ ops_with files (actions_of root items) = ops_of_lines files read.0 ∙ ap (ops_with files) read.2 in
+    (read.0, read.1, subst (MakesTree page files root items) (sym ops) (listing_makes_tree page files root items is_page fits tree short few))

@@ -1,5 +1,5 @@
 -- The law of trees.
-use Rattle.std.specs.Prelude.{◌≡◌, ℕ, List, [], length, map, Ok}
+use Rattle.std.specs.Prelude.{◌≡◌, ℕ, List, [], length, Ok}
 use Rattle.jmount.specs.StateOf.{state_of}
 use Rattle.jsteps.specs.Nodes.{index_of, nodes_of}
 use Rattle.jsteps.specs.Planning.{IsPage}
@@ -8,6 +8,7 @@ use Rattle.jsteps.specs.Steps.{bytes, after}
 use Rattle.jsteps.specs.declared.op.Op.{Op}
 use Rattle.jlisting.specs.Listing.{lines_of}
 use Rattle.jlisting.specs.declared.line.Line.{Line}
+use Rattle.jbuild.specs.Operations.{ops_in}
 use Rattle.jfolder.specs.Actions.{actions_of, Fits}
 use Rattle.jfolder.specs.Text.{listing_text}
 use Rattle.jfolder.specs.Trees.{IsTree}
@@ -31,4 +32,4 @@ ListingMakesTree = (page : ℕ) (files : Files) (root : Attributes) (items : Lis
 abbrev pub TextMakesTree : Type 0
 TextMakesTree = (page : ℕ) (files : Files) (root : Attributes) (items : List Item) → IsPage page → Fits root items → IsTree items
     → FilesFit files items → AreFew files items
-    → (lines : List Line) × (lines_of (listing_text root items) ≡ Ok lines) × MakesTree page files root items (ops_with files (map (λ line. line.action) lines))
+    → (lines : List Line) × (lines_of (listing_text root items) ≡ Ok lines) × MakesTree page files root items (ops_in files lines)
