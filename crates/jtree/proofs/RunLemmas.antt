@@ -3,6 +3,7 @@ use Rattle.std.proofs.Common.{◌≡◌, ℕ, ◌+◌, ◌<◌, ◌≤◌, true,
 use Rattle.std.specs.Prelude.{flat_map, option_map, is_some}
 use Rattle.std.proofs.lemmas.Bool.{false≢true}
 use Rattle.std.proofs.lemmas.List.{append-nil}
+use Rattle.std.specs.List.{AllByRecursion}
 use Rattle.jmount.specs.Tree.{ObjectOf, State, Outline, outline, sized, named, object, is_directory, is_there}
 use Rattle.jmount.specs.Find.{walk}
 use Rattle.jmount.specs.Shape.{HasShape}
@@ -126,9 +127,14 @@ pub record Reaches (page n : ℕ) (x : Indexed) (s : State) (ops : List Op) (roo
   pub steps : List Step
   pub runs : Runs page x ops steps
   pub ready : AllReady x steps
+  pub op_fits : AllByRecursion OpFits ops
   pub is_at : IsAt (n + length steps) (advanced_all x steps) (after bytes s steps)
   pub stands : Stands root made (after bytes s steps)
   pub few : length steps ≤ most
+
+fits_append : (xs ys : List Op) → AllByRecursion OpFits xs → AllByRecursion OpFits ys → AllByRecursion OpFits (xs ++ ys)
+fits_append [] ys front back = back
+fits_append (x ∷ xs) ys front back = (front.0, fits_append xs ys front.1 back)
 
 ready_append : (x : Indexed) (xs ys : List Step) → AllReady x xs → AllReady (advanced_all x xs) ys → AllReady x (xs ++ ys)
 ready_append x [] ys ready then = then
@@ -137,7 +143,7 @@ ready_append x (a ∷ xs) ys ready then = (ready.0, ready_append (advanced x a) 
 pub reaches_none : (page n : ℕ) (x : Indexed) (s : State) (root : ObjectOf (List ℕ)) (made : List Made) → IsAt n x s → Stands root made s
     → Reaches page n x s [] root made 0
 reaches_none page n x s root made at stands = let same : n ≡ n + 0 = omega arith in
-    record { steps = []; runs = refl; ready = tt; is_at = subst (λ m. IsAt m x s) same at; stands = stands; few = omega arith }
+    record { steps = []; runs = refl; ready = tt; op_fits = tt; is_at = subst (λ m. IsAt m x s) same at; stands = stands; few = omega arith }
 
 pub reaches_one : (page n : ℕ) (x : Indexed) (s : State) (o : Op) (steps : List Step) (root : ObjectOf (List ℕ)) (made : List Made) (most : ℕ)
     → IsPage page → IsAt n x s → OpFits o
@@ -147,6 +153,7 @@ reaches_one page n x s o steps root made most is_page at fits e stands few =
       steps = steps;
       runs = (steps, [], e, sym (append-nil steps), refl);
       ready = (planned_is_ready page x o steps is_page at.same fits e).ready;
+      op_fits = (fits, tt);
       is_at = go_on page n x s o steps is_page at fits e;
       stands = stands;
       few = few;
@@ -165,6 +172,7 @@ reaches_then page n x s xs ys root made more a b r q =
       steps = r.steps ++ q.steps;
       runs = runs_append page x xs ys r.steps q.steps r.runs q.runs;
       ready = ready_append x r.steps q.steps r.ready q.ready;
+      op_fits = fits_append xs ys r.op_fits q.op_fits;
       is_at = subst (λ m. IsAt m (advanced_all x (r.steps ++ q.steps)) (after bytes s (r.steps ++ q.steps))) count
           (subst (λ y. IsAt (n + length r.steps + length q.steps) y (after bytes s (r.steps ++ q.steps))) index
           (subst (λ t. IsAt (n + length r.steps + length q.steps) (advanced_all (advanced_all x r.steps) q.steps) t) state q.is_at));
@@ -175,4 +183,4 @@ reaches_then page n x s xs ys root made more a b r q =
 pub reaches_weaker : (page n : ℕ) (x : Indexed) (s : State) (ops : List Op) (root : ObjectOf (List ℕ)) (made : List Made) (few most : ℕ) → few ≤ most
     → Reaches page n x s ops root made few → Reaches page n x s ops root made most
 reaches_weaker page n x s ops root made few most le r = let here : length r.steps ≤ few = r.few in
-    record { steps = r.steps; runs = r.runs; ready = r.ready; is_at = r.is_at; stands = r.stands; few = omega arith }
+    record { steps = r.steps; runs = r.runs; ready = r.ready; op_fits = r.op_fits; is_at = r.is_at; stands = r.stands; few = omega arith }

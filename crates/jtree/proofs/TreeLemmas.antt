@@ -1,8 +1,17 @@
 -- What stands after all items is the tree, and nothing else.
-use Rattle.std.proofs.Common.{◌≡◌, ℕ, ◌+◌, ◌≤◌, List, [], ◌∷◌, ◌++◌, length, map, Option, Some, None, Ok, refl, ap, sym, ◌∙◌, subst, inl, inr, ◌⊎◌, ⊎_elim, arith}
+use Rattle.std.proofs.Common.{◌≡◌, ℕ, ◌+◌, ◌≤◌, List, [], ◌∷◌, ◌++◌, length, map, Option, Some, None, Result, Ok, refl, ap, sym, ◌∙◌, subst, inl, inr, ◌⊎◌, ⊎_elim, arith}
 use Rattle.std.specs.Prelude.{Contains, flat_map, is_ok}
 use Rattle.std.specs.String.{string_bytes}
 use Rattle.std.proofs.lemmas.Bool.{false≢true}
+use Rattle.std.specs.List.{AllByRecursion}
+use Rattle.jmount.specs.Mounts.{plain_nodes}
+use Rattle.jsteps.specs.Laws.{OpFits}
+use Rattle.jsteps.specs.Planning.{IsPage}
+use Rattle.jsteps.specs.Refusals.{plans_of, steps_of_first}
+use Rattle.jlisting.specs.Listing.{lines_of}
+use Rattle.jfolder.specs.Text.{listing_text}
+use Rattle.jfolder.specs.Trees.{IsTree}
+use Rattle.jlog.proofs.HeadlineLemmas.{accepted_survives}
 use Rattle.jmount.specs.Find.{IsPath, path_text, path_names, find, find_names, walk}
 use Rattle.jmount.specs.StateOf.{state_of}
 use Rattle.jmount.specs.Tree.{ObjectOf, State}
@@ -15,16 +24,17 @@ use Rattle.jsteps.specs.Where.{names_in}
 use Rattle.jsteps.specs.declared.op.Op.{Op}
 use Rattle.jlisting.specs.declared.line.Line.{Line}
 use Rattle.jbuild.specs.Operations.{ops_in}
-use Rattle.jfolder.specs.Actions.{actions_of, item_actions}
+use Rattle.jfolder.specs.Actions.{Fits, actions_of, item_actions}
 use Rattle.jfolder.specs.declared.tree.Attributes.{Attributes}
 use Rattle.jfolder.specs.declared.tree.Item.{Item}
 use Rattle.jfolder.specs.declared.tree.What.{What}
 use Rattle.jfolder.specs.declared.tree.What.TheVariants as what
 use Rattle.jfolder.proofs.ListingLemmas.{listing_is_read_back}
 use Rattle.jtree.specs.Holding.{HoldsObject, HoldsTree, first_of, first_path, root_object}
+use Rattle.jtree.specs.Image as image
 use Rattle.jtree.specs.Laws as law
 use Rattle.jtree.specs.Laws.{MakesTree}
-use Rattle.jtree.specs.Making.{Files, op_with, ops_with}
+use Rattle.jtree.specs.Making.{AreFew, Files, FilesFit, op_with, ops_with}
 use Rattle.jsteps.proofs.SeveralLemmas.{nodes_are_steps}
 use Rattle.jtree.proofs.BeginLemmas.{root_op, root_reaches}
 use Rattle.jtree.proofs.ItemLemmas.{IsKnown, Contains-from_map, Contains-mapped, made_of, names_of}
@@ -137,9 +147,15 @@ holds_tree s files root items stands known shape = record {
 
 -- ---- the law
 
-pub listing_makes_tree : law.ListingMakesTree
+-- the law, and the widths of what the operations have
+pub record IsLawful (page : ℕ) (files : Files) (root : Attributes) (items : List Item) (ops : List Op) : Type 0 where
+  pub makes : MakesTree page files root items ops
+  pub op_fits : AllByRecursion OpFits ops
+
+lawful : (page : ℕ) (files : Files) (root : Attributes) (items : List Item) → IsPage page → Fits root items → IsTree items
+    → FilesFit files items → AreFew files items → IsLawful page files root items (ops_with files (actions_of root items))
 unfolding actions_of
-listing_makes_tree page files root items is_page fits tree short few =
+lawful page files root items is_page fits tree short few =
     let s = state_of [] in
     let x = index_of [] in
     let one = root_reaches page root is_page fits.root_fits in
@@ -153,20 +169,49 @@ listing_makes_tree page files root items is_page fits tree short few =
     _ one all.reached in
     let these = sym (runs_steps page x ops r.steps r.runs) in
     let holds = holds_tree (after bytes s r.steps) files root items r.stands all.known r.is_at.shape in
-    record {
+    let makes : MakesTree page files root items ops = record {
       accepted = runs_all page x ops r.steps r.runs;
       holds = subst (λ steps. HoldsTree files root items (after bytes s steps)) these holds;
       written = subst (λ steps. HoldsTree files root items (state_of (nodes_of x steps))) these
           (subst (HoldsTree files root items) (sym (nodes_are_steps [] r.steps r.ready).state) holds);
-    }
+    } in
+    record { makes = makes; op_fits = r.op_fits }
+
+pub listing_makes_tree : law.ListingMakesTree
+listing_makes_tree page files root items is_page fits tree short few = (lawful page files root items is_page fits tree short few).makes
 
 -- the operations of lines are those of their actions
 ops_of_lines : (files : Files) (lines : List Line) → ops_in files lines ≡ ops_with files (map (λ line. line.action) lines)
 ops_of_lines files [] = refl
 ops_of_lines files (line ∷ lines) = ap (λ ops. op_with files line.action ∷ ops) (ops_of_lines files lines)
 
+same_lines : (a b : List Line) → ◌≡◌ {A = Result (List Line) ℕ} (Ok a) (Ok b) → a ≡ b
+same_lines a b e = cc
+
+-- whatever lines the text is read as
+lines_lawful : (page : ℕ) (files : Files) (root : Attributes) (items : List Item) (lines : List Line) → IsPage page → Fits root items → IsTree items
+    → FilesFit files items → AreFew files items → lines_of (listing_text root items) ≡ Ok lines → IsLawful page files root items (ops_in files lines)
+lines_lawful page files root items lines is_page fits tree short few is =
+    let read = listing_is_read_back root items fits in
+    let same : lines ≡ read.0 = same_lines lines read.0 (sym is ∙ read.1) in
+    let ops : ops_in files lines ≡ ops_with files (actions_of root items) =
+    ap (ops_in files) same ∙ ops_of_lines files read.0 ∙ ap (ops_with files) read.2 in
+    subst (IsLawful page files root items) (sym ops) (lawful page files root items is_page fits tree short few)
+
 pub text_makes_tree : law.TextMakesTree
 text_makes_tree page files root items is_page fits tree short few =
     let read = listing_is_read_back root items fits in
-    let ops : ops_in files read.0 ≡ ops_with files (actions_of root items) = ops_of_lines files read.0 ∙ ap (ops_with files) read.2 in
-    (read.0, read.1, subst (MakesTree page files root items) (sym ops) (listing_makes_tree page files root items is_page fits tree short few))
+    (read.0, read.1, (lines_lawful page files root items read.0 is_page fits tree short few read.1).makes)
+
+pub image_holds_tree : image.ImageHoldsTree
+image_holds_tree page e size blocks base image files root items lines fits tree short few read is =
+    let ops = ops_in files lines in
+    let made = lines_lawful page files root items lines is.page_is fits tree short few read in
+    let planned : length (plans_of page (index_of (plain_nodes e size base)) ops) ≡ length ops =
+    subst (λ ns. length (plans_of page (index_of ns) ops) ≡ length ops) (sym is.bare) made.makes.accepted in
+    let survives = accepted_survives page e size blocks (length ops) base ops is.page_is is.room is.base_is is.are_bytes made.op_fits
+    (record { planned = omega arith; fits = is.fits }) in (
+      after bytes (state_of (plain_nodes e size base)) (steps_of_first page (index_of (plain_nodes e size base)) ops (length ops)),
+      survives.whole image is.left,
+      subst (λ ns. HoldsTree files root items (after bytes (state_of ns) (steps_of_first page (index_of ns) ops (length ops)))) (sym is.bare) made.makes.holds,
+    )

@@ -2,3 +2,4 @@ pub mod Making
 pub mod Holding
 pub mod Laws
 pub mod Examples
+pub mod Image
