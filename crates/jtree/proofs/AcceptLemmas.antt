@@ -36,7 +36,8 @@ pub record IsFree (page : ℕ) (x : Indexed) (o : Op) : Type 0 where
   pub link : is_bad_target o ≡ false
 
 -- the steps of an operation that nothing refuses, given what they are
-pub accept : (page : ℕ) (x : Indexed) (o : Op) (steps : List Step) → IsFree page x o → steps_of page x.tree o ≡ steps → is_exhausted page x o ≡ false → planned_by page x o ≡ Ok steps
+pub accept : (page : ℕ) (x : Indexed) (o : Op) (steps : List Step) → IsFree page x o → steps_of page x.tree o ≡ steps → is_exhausted page x o ≡ false
+    → planned_by page x o ≡ Ok steps
 unfolding planned_by
 accept page x o steps f are room =
     none_refused (refusals page x o) (steps_of page x.tree o)
@@ -45,16 +46,19 @@ accept page x o steps f are room =
 
 -- ---- a new object
 
-made_found : (t : Outline) (path : List ℕ) (dir : ℕ) (name : List ℕ) → IsPlaced t path dir name → ((meets_nothing (above t path) || false) || false || false) ≡ false
+made_found : (t : Outline) (path : List ℕ) (dir : ℕ) (name : List ℕ) → IsPlaced t path dir name
+    → ((meets_nothing (above t path) || false) || false || false) ≡ false
 made_found t path dir name p = ap (λ (r : Result ℕ FindFault). (meets_nothing r || false) || false || false) p.above_is
 
 made_directory : (t : Outline) (path : List ℕ) (dir : ℕ) (name : List ℕ) → IsPlaced t path dir name → (meets_other t (above t path) || false) ≡ false
 made_directory t path dir name p = ap (λ (r : Result ℕ FindFault). meets_other t r || false) p.above_is ∙ ap (λ b. not b || false) p.directory
 
-made_fresh : (t : Outline) (path : List ℕ) (dir : ℕ) (name : List ℕ) → IsPlaced t path dir name → named t dir name ≡ None → (is_some (number_there t path) || false) ≡ false
+made_fresh : (t : Outline) (path : List ℕ) (dir : ℕ) (name : List ℕ) → IsPlaced t path dir name → named t dir name ≡ None
+    → (is_some (number_there t path) || false) ≡ false
 made_fresh t path dir name p none = ap (λ (o : Option ℕ). is_some o || false) (p.number ∙ none)
 
-pub mkdir_free : (page : ℕ) (x : Indexed) (time : ℕ) (path : List ℕ) (mode uid gid dir : ℕ) (name : List ℕ) → IsPlaced x.tree path dir name → named x.tree dir name ≡ None
+pub mkdir_free : (page : ℕ) (x : Indexed) (time : ℕ) (path : List ℕ) (mode uid gid dir : ℕ) (name : List ℕ) → IsPlaced x.tree path dir name
+    → named x.tree dir name ≡ None
     → mode ≤ 0o7777 → IsFree page x (op.Mkdir time path mode uid gid)
 mkdir_free page x time path mode uid gid dir name p none fits = record {
   bad = ap (λ b. b || false) p.good;
@@ -70,7 +74,8 @@ mkdir_free page x time path mode uid gid dir name p none fits = record {
   link = refl;
 }
 
-pub create_free : (page : ℕ) (x : Indexed) (time : ℕ) (path : List ℕ) (mode uid gid dir : ℕ) (name : List ℕ) → IsPlaced x.tree path dir name → named x.tree dir name ≡ None
+pub create_free : (page : ℕ) (x : Indexed) (time : ℕ) (path : List ℕ) (mode uid gid dir : ℕ) (name : List ℕ) → IsPlaced x.tree path dir name
+    → named x.tree dir name ≡ None
     → mode ≤ 0o7777 → IsFree page x (op.Create time path mode uid gid)
 create_free page x time path mode uid gid dir name p none fits = record {
   bad = ap (λ b. b || false) p.good;
@@ -91,7 +96,8 @@ no_zero [] all = refl
 no_zero (b ∷ target) all =
     ap (λ z. z || list_any (λ b. b == 0) target) (ne_eqb b 0 (All-head (λ b. b ≢ 0) b target all)) ∙ no_zero target (All-tail (λ b. b ≢ 0) b target all)
 
-pub symlink_free : (page : ℕ) (x : Indexed) (time : ℕ) (path target : List ℕ) (uid gid dir : ℕ) (name : List ℕ) → IsPlaced x.tree path dir name → named x.tree dir name ≡ None
+pub symlink_free : (page : ℕ) (x : Indexed) (time : ℕ) (path target : List ℕ) (uid gid dir : ℕ) (name : List ℕ) → IsPlaced x.tree path dir name
+    → named x.tree dir name ≡ None
     → 0 < length target → length target ≤ 4095 → All (λ b. b ≢ 0) target → IsFree page x (op.Symlink time path target uid gid)
 symlink_free page x time path target uid gid dir name p none some few all = record {
   bad = ap (λ b. b || false) p.good;
@@ -131,10 +137,12 @@ and_false true = refl
 and_false false = refl
 
 not_missing : (t : Outline) (path : List ℕ) (o : ObjectOf ℕ) → option_and_then (object t) (number_there t path) ≡ Some o → is_missing t path ≡ false
-not_missing t path o there = ap (λ (ob : Option (ObjectOf ℕ)). ends_in_directory t (above t path) && not (is_some ob)) there ∙ and_false (ends_in_directory t (above t path))
+not_missing t path o there = ap (λ (ob : Option (ObjectOf ℕ)). ends_in_directory t (above t path) && not (is_some ob)) there ∙ and_false
+    (ends_in_directory t (above t path))
 
 pub link_free : (page : ℕ) (x : Indexed) (time : ℕ) (old new : List ℕ) (dir : ℕ) (name : List ℕ) (ino : ℕ) (o : ObjectOf ℕ) (to : ℕ) (last : List ℕ)
-    → IsPlaced x.tree old dir name → IsFile x.tree dir name ino o → IsPlaced x.tree new to last → named x.tree to last ≡ None → IsFree page x (op.Link time old new)
+    → IsPlaced x.tree old dir name → IsFile x.tree dir name ino o → IsPlaced x.tree new to last → named x.tree to last ≡ None
+    → IsFree page x (op.Link time old new)
 link_free page x time old new dir name ino o to last p f q none =
     let t = x.tree in
     let there = named_object t old dir name ino o p f in

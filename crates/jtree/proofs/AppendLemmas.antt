@@ -21,7 +21,8 @@ after-append s (x ∷ xs) ys = after-append (do_step bytes s x) xs ys
 
 -- ---- one piece
 
-piece_appends : (s : State) (time ino start : ℕ) (piece : List ℕ) (o : ObjectOf (List ℕ)) (old : List ℕ) → object s ino ≡ Some (with_body o time old) → start ≡ length old
+piece_appends : (s : State) (time ino start : ℕ) (piece : List ℕ) (o : ObjectOf (List ℕ)) (old : List ℕ) → object s ino ≡ Some (with_body o time old)
+    → start ≡ length old
     → Rewrites s (after bytes s (piece_puts time ino start piece)) ino (with_body o time old) (with_body o time (old ++ piece))
 piece_appends s time ino start piece o old e at =
     let first = step.Put time ino start (take plain_page piece) in
@@ -31,9 +32,12 @@ piece_appends s time ino start piece o old e at =
     (λ yes.
     let is : length piece ≡ 6465 = eqb-true (length piece) spelling_len yes in
     let one = put_rewrites s time ino start (take plain_page piece) (with_body o time old) e at in
-    let front : length (old ++ take plain_page piece) ≡ start + plain_page = length-append old (take plain_page piece) ∙ omega (arith, length-take plain_page piece) in
-    let two = put_rewrites (do_step bytes s first) time ino (start + plain_page) (drop plain_page piece) (with_body o time (old ++ take plain_page piece)) one.now (sym front) in
-    let all : (old ++ take plain_page piece) ++ drop plain_page piece ≡ old ++ piece = append_assoc old (take plain_page piece) (drop plain_page piece) ∙ ap (λ (xs : List ℕ). old ++ xs) (take-append-drop plain_page piece) in
+    let front : length (old ++ take plain_page piece) ≡ start + plain_page = length-append old (take plain_page piece) ∙ omega
+    (arith, length-take plain_page piece) in
+    let two = put_rewrites (do_step bytes s first) time ino (start + plain_page) (drop plain_page piece) (with_body o time (old ++ take plain_page piece))
+    one.now (sym front) in
+    let all : (old ++ take plain_page piece) ++ drop plain_page piece ≡ old ++ piece = append_assoc old (take plain_page piece) (drop plain_page piece) ∙
+    ap (λ (xs : List ℕ). old ++ xs) (take-append-drop plain_page piece) in
     subst (λ body. Rewrites s (after bytes s (first ∷ second ∷ [])) ino (with_body o time old) (with_body o time body)) all
     (rewrites_then s (do_step bytes s first) (do_step bytes (do_step bytes s first) second) ino _ _ _ one two))
     (λ no. put_rewrites s time ino start piece (with_body o time old) e at)
@@ -55,14 +59,16 @@ take_then (suc u) (suc v) (x ∷ xs) le =
 next_page : (n page : ℕ) → (n + 1) * page ≡ n * page + page
 next_page n page = omega arith
 
-pages_append : (page : ℕ) (s : State) (time ino offset first : ℕ) (new : List ℕ) (o : ObjectOf (List ℕ)) (old : List ℕ) (k : ℕ) → object s ino ≡ Some (with_body o time old) → offset ≡ length old
+pages_append : (page : ℕ) (s : State) (time ino offset first : ℕ) (new : List ℕ) (o : ObjectOf (List ℕ)) (old : List ℕ) (k : ℕ)
+    → object s ino ≡ Some (with_body o time old) → offset ≡ length old
     → first * page ≤ offset → ((n : ℕ) → n < k → (first + n) * page ≤ offset + length new)
     → Rewrites s (after bytes s (flat_map (λ n. page_puts page time ino offset new (first + n)) (below k))) ino (with_body o time old)
     (with_body o time (old ++ take (min (offset + length new) ((first + k) * page) - offset) new))
 pages_append page s time ino offset first new o old zero e at before pages =
     let same : (first + 0) * page ≡ first * page = omega arith in
     let none : min (offset + length new) ((first + 0) * page) - offset ≡ 0 = omega arith in
-    subst (λ body. Rewrites s s ino (with_body o time old) (with_body o time body)) (sym (ap (λ n. old ++ take n new) none ∙ append-nil old)) (rewrites_none s ino (with_body o time old) e)
+    subst (λ body. Rewrites s s ino (with_body o time old) (with_body o time body)) (sym (ap (λ n. old ++ take n new) none ∙ append-nil old))
+    (rewrites_none s ino (with_body o time old) e)
 pages_append page s time ino offset first new o old (suc k) e at before pages =
     let f : ℕ → List Step = λ n. page_puts page time ino offset new (first + n) in
     let some = flat_map f (below k) in
@@ -88,7 +94,8 @@ pages_append page s time ino offset first new o old (suc k) e at before pages =
     ∙ ap (λ xs. old ++ xs) (take_then u (stop - offset) new (omega arith))
     ∙ ap (λ n. old ++ take n new) (sym to) in
     subst (λ body. Rewrites s (after bytes s (flat_map f (below (suc k)))) ino (with_body o time old) (with_body o time body)) body
-    (subst (λ u. Rewrites s u ino (with_body o time old) (with_body o time ((old ++ take (min end q - offset) new) ++ piece))) (sym (ap (after bytes s) list ∙ after-append s some (f k)))
+    (subst (λ u. Rewrites s u ino (with_body o time old) (with_body o time ((old ++ take (min end q - offset) new) ++ piece)))
+    (sym (ap (after bytes s) list ∙ after-append s some (f k)))
     (rewrites_then s t (after bytes t (f k)) ino _ _ _ hyp here))
 
 page_begins : (end page n : ℕ) → 0 < page → n + 1 ≤ (end + page - 1) / page → n * page ≤ end
@@ -101,7 +108,8 @@ page_begins end page n some h =
 last_page : (end page : ℕ) → 0 < page → end ≤ ((end + page - 1) / page) * page
 last_page end page some = omega arith
 
-puts_append : (page : ℕ) (s : State) (time ino offset : ℕ) (new : List ℕ) (o : ObjectOf (List ℕ)) (old : List ℕ) → IsPage page → object s ino ≡ Some (with_body o time old) → offset ≡ length old
+puts_append : (page : ℕ) (s : State) (time ino offset : ℕ) (new : List ℕ) (o : ObjectOf (List ℕ)) (old : List ℕ) → IsPage page
+    → object s ino ≡ Some (with_body o time old) → offset ≡ length old
     → Rewrites s (after bytes s (puts page time ino offset new)) ino (with_body o time old) (with_body o time (old ++ new))
 puts_append page s time ino offset new o old is_page e at =
     let least : 4096 ≤ page = is_page.least in
@@ -113,18 +121,22 @@ puts_append page s time ino offset new o old is_page e at =
     let reaches : end ≤ last * page = last_page end page some in
     let more : page * last ≤ page * (first + count) = mul-le-mul_left page (omega arith) in
     let all : min end ((first + count) * page) - offset ≡ length new = omega arith in
-    subst (λ body. Rewrites s (after bytes s (puts page time ino offset new)) ino (with_body o time old) (with_body o time body)) (ap (λ n. old ++ take n new) all ∙ ap (λ xs. old ++ xs) (take_all (length new) new (omega arith)))
-    (pages_append page s time ino offset first new o old count e at (div-mul-le_self offset page) (λ n less. page_begins end page (first + n) some (omega arith)))
+    subst (λ body. Rewrites s (after bytes s (puts page time ino offset new)) ino (with_body o time old) (with_body o time body))
+    (ap (λ n. old ++ take n new) all ∙ ap (λ xs. old ++ xs) (take_all (length new) new (omega arith)))
+    (pages_append page s time ino offset first new o old count e at (div-mul-le_self offset page)
+    (λ n less. page_begins end page (first + n) some (omega arith)))
 
 no_zeros : (time ino size : ℕ) → zeros_to time ino size size ≡ []
 no_zeros time ino size = ap (λ b. cond b (step.Zero time ino (size - size) ∷ []) []) (not_above size size (omega arith))
 
-pub write_appends : (page : ℕ) (s : State) (time ino offset : ℕ) (new : List ℕ) (o : ObjectOf (List ℕ)) (old : List ℕ) → IsPage page → object s ino ≡ Some (with_body o time old) → offset ≡ length old
+pub write_appends : (page : ℕ) (s : State) (time ino offset : ℕ) (new : List ℕ) (o : ObjectOf (List ℕ)) (old : List ℕ) → IsPage page
+    → object s ino ≡ Some (with_body o time old) → offset ≡ length old
     → Rewrites s (after bytes s (write_steps page time ino offset offset new)) ino (with_body o time old) (with_body o time (old ++ new))
 write_appends page s time ino offset [] o old is_page e at =
     subst (λ body. Rewrites s s ino (with_body o time old) (with_body o time body)) (sym (append-nil old)) (rewrites_none s ino (with_body o time old) e)
 write_appends page s time ino offset (b ∷ new) o old is_page e at =
-    subst (λ steps. Rewrites s (after bytes s steps) ino (with_body o time old) (with_body o time (old ++ b ∷ new))) (sym (ap (λ zs. zs ++ puts page time ino offset (b ∷ new)) (no_zeros time ino offset)))
+    subst (λ steps. Rewrites s (after bytes s steps) ino (with_body o time old) (with_body o time (old ++ b ∷ new)))
+    (sym (ap (λ zs. zs ++ puts page time ino offset (b ∷ new)) (no_zeros time ino offset)))
     (puts_append page s time ino offset (b ∷ new) o old is_page e at)
 
 -- ---- how many steps these are
@@ -138,36 +150,39 @@ flat_few f h (n ∷ ns) =
 
 piece_few : (time ino start : ℕ) (piece : List ℕ) → length (piece_puts time ino start piece) ≤ 2
 piece_few time ino start piece =
-    cond_both (length piece == spelling_len) (step.Put time ino start (take plain_page piece) ∷ step.Put time ino (start + plain_page) (drop plain_page piece) ∷ []) (step.Put time ino start piece ∷ [])
+    cond_both (length piece == spelling_len) (step.Put time ino start (take plain_page piece) ∷ step.Put time ino (start + plain_page)
+    (drop plain_page piece) ∷ []) (step.Put time ino start piece ∷ [])
     (λ steps. length steps ≤ 2) (λ yes. omega arith) (λ no. omega arith)
 
--- bytes that begin in one page and end in another meet no more pages than twice as many as they are
-pages_few : (page offset len : ℕ) → 4096 ≤ page → 0 < len → (offset + len + page - 1) / page - offset / page ≤ 2 * len
-pages_few page offset len least some =
+-- bytes meet two pages at most besides one for each 4,096 of them
+pages_few : (page offset len : ℕ) → 4096 ≤ page → (offset + len + page - 1) / page - offset / page ≤ 2 + len / 4096
+pages_few page offset len least =
     let last = (offset + len + page - 1) / page in
     let first = offset / page in
+    let k = len / 4096 + 1 in
     let all : last * page ≤ offset + len + page - 1 = div-mul-le_self (offset + len + page - 1) page in
     let past : offset < (first + 1) * page = begun offset page (omega arith) in
     ⊎_elim
-    (λ (many : 2 * len < last - first).
-    let more : page * (first + 1 + 2 * len) ≤ page * last = mul-le-mul_left page (omega arith) in
-    let split : page * (first + 1 + 2 * len) ≡ (first + 1) * page + 2 * (page * len) = omega arith in
-    let wide : page * 1 ≤ page * len = mul-le-mul_left page (omega arith) in
-    let long : len * 1 ≤ len * page = mul-le-mul_left len (omega arith) in
+    (λ (many : 2 + len / 4096 < last - first).
+    let more : page * (first + 1 + 1 + k) ≤ page * last = mul-le-mul_left page (omega arith) in
+    let split : page * (first + 1 + 1 + k) ≡ (first + 1) * page + page + page * k = omega arith in
+    let wide : k * 4096 ≤ k * page = mul-le-mul_left k least in
+    let long : len < k * 4096 = omega arith in
     absurd (omega arith))
     (λ few. few)
-    (cases_lt (2 * len) (last - first))
+    (cases_lt (2 + len / 4096) (last - first))
   where
     begun : (offset page : ℕ) → 0 < page → offset < (offset / page + 1) * page
     begun offset page some = omega arith
 
-pub write_few : (page time ino offset : ℕ) (new : List ℕ) → IsPage page → length (write_steps page time ino offset offset new) ≤ 4 * length new
+pub write_few : (page time ino offset : ℕ) (new : List ℕ) → IsPage page → length (write_steps page time ino offset offset new) ≤ 4 + 2 * (length new / 4096)
 write_few page time ino offset [] is_page = omega arith
 write_few page time ino offset (b ∷ new) is_page =
     let first = offset / page in
     let count = (offset + length (b ∷ new) + page - 1) / page - first in
-    let pages : count ≤ 2 * length (b ∷ new) = pages_few page offset (length (b ∷ new)) is_page.least (omega arith) in
+    let most = 4 + 2 * (length (b ∷ new) / 4096) in
+    let pages : count ≤ 2 + length (b ∷ new) / 4096 = pages_few page offset (length (b ∷ new)) is_page.least in
     let all : length (puts page time ino offset (b ∷ new)) ≤ 2 * length (below count) =
     flat_few (λ n. page_puts page time ino offset (b ∷ new) (first + n)) (λ n. piece_few time ino _ _) (below count) in
-    let few : length (puts page time ino offset (b ∷ new)) ≤ 4 * length (b ∷ new) = omega (arith, length-below count) in
-    subst (λ zs. length (zs ++ puts page time ino offset (b ∷ new)) ≤ 4 * length (b ∷ new)) (sym (no_zeros time ino offset)) few
+    let few : length (puts page time ino offset (b ∷ new)) ≤ most = omega (arith, length-below count) in
+    subst (λ zs. length (zs ++ puts page time ino offset (b ∷ new)) ≤ most) (sym (no_zeros time ino offset)) few

@@ -1,11 +1,11 @@
 -- The empty file system, and the operation that gives its root attributes.
-use Rattle.std.proofs.Common.{◌≡◌, ℕ, ◌+◌, ◌≤◌, Bool, true, false, cond, List, [], ◌∷◌, Option, Some, None, Ok, refl, ap, sym, ◌∙◌, subst, arith}
-use Rattle.std.specs.Prelude.{Contains, IsTrue, option_map, is_some, unwrap_or, not, ◌||◌, ◌&&◌}
+use Rattle.std.proofs.Common.{◌≡◌, ℕ, ◌+◌, ◌≤◌, Bool, true, false, cond, List, [], ◌∷◌, Option, Some, None, Ok, refl, inl, ap, sym, ◌∙◌, subst, arith}
+use Rattle.std.specs.Prelude.{Contains, IsTrue, option_map, is_some, unwrap_or, not, ◌||◌, ◌&&◌, ◌==◌}
 use Rattle.std.specs.List.{list_any}
 use Rattle.std.specs.Ordering.{eq_by_cmp, nat_cmp}
-use Rattle.std.specs.Cmp.{nat_cmp_total}
+use Rattle.std.specs.Cmp.{nat_cmp_total, unsigned_tied}
 use Rattle.std.specs.FinMap.{get, insert, get-insert}
-use Rattle.std.proofs.lemmas.Bool.{cond-true, false≢true}
+use Rattle.std.proofs.lemmas.Bool.{eqb-true, cond-true, false≢true}
 use Rattle.jmount.specs.Find.{walk}
 use Rattle.jmount.specs.Shape.{HasShape}
 use Rattle.jmount.specs.StateOf.{default_root, state_of, top}
@@ -79,6 +79,18 @@ root_op a = op.SetAttributes a.time (47 ∷ []) (root_given a)
 root_mode : (mode : ℕ) → mode ≤ 0o7777 → with_permissions 0o040755 mode ≡ 0o040000 + mode
 root_mode mode fits = omega arith
 
+either : (b root : Bool) (new : ObjectOf (List ℕ)) (o : Option (ObjectOf (List ℕ))) → b ≡ root → o ≡ cond root (Some default_root) None
+    → is_some (cond b (Some new) o) ≡ true → root ≡ true
+either b true new o same e there = refl
+either b false new o same e there =
+    absurd (false≢true (sym (ap is_some e) ∙ sym (ap (λ (b : Bool). is_some (cond b (Some new) o)) same) ∙ there))
+
+only_root : (k : ℕ) (new : ObjectOf (List ℕ)) → is_some (get (insert (state_of []).objects 1 new) k) ≡ true → k ≡ 1
+only_root k new e =
+    eqb-true k 1
+    (either (eq_by_cmp nat_cmp k 1) (k == 1) new (get (state_of []).objects k) (unsigned_tied k 1) (object-state_of [] k)
+    (sym (ap is_some (get-insert nat_cmp_total (state_of []).objects 1 new k)) ∙ e))
+
 root_stands : (a : Attributes) → AttributesFit a → Stands (root_object a) [] (after bytes (state_of []) (step.SetAttributes a.time 1 (root_given a) ∷ []))
 root_stands a fits =
     let s = state_of [] in
@@ -93,6 +105,7 @@ root_stands a fits =
       held = λ m among. no_element m among;
       names_are = λ dir name i e. none_some (named s dir name) i (no_names dir name) e;
       apart = λ m o among other i e f. no_element m among;
+      objects_are = λ k e. inl (only_root k new e);
     })
 
 root_free : (page : ℕ) (a : Attributes) → AttributesFit a → IsFree page (index_of []) (root_op a)
@@ -113,7 +126,8 @@ root_free page a fits =
       link = refl;
     }
 
-pub root_reaches : (page : ℕ) (a : Attributes) → IsPage page → AttributesFit a → Reaches page 0 (index_of []) (state_of []) (root_op a ∷ []) (root_object a) [] 1
+pub root_reaches : (page : ℕ) (a : Attributes) → IsPage page → AttributesFit a
+    → Reaches page 0 (index_of []) (state_of []) (root_op a ∷ []) (root_object a) [] 1
 root_reaches page a is_page fits =
     let x = index_of [] in
     let steps = step.SetAttributes a.time 1 (root_given a) ∷ [] in

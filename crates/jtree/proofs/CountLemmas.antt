@@ -52,10 +52,13 @@ next_few : (n : ℕ) (x : Indexed) (s : Step) → IsCounted n x → (do_step siz
 next_few n x (step.MakeObject time mode uid gid target) few = let next : x.tree.next ≤ n + 2 = few.next in omega arith
 next_few n x (step.SetName time directory name ino) few = same_next n x.tree.next x.tree.next refl few.next
 next_few n x (step.ClearName time directory name) few = same_next n x.tree.next x.tree.next refl few.next
-next_few n x (step.Put time ino offset new) few = same_next n x.tree.next _ (next_rewritten x.tree ino time (λ old. sizes.put old offset new) (object x.tree ino)) few.next
-next_few n x (step.Zero time ino count) few = same_next n x.tree.next _ (next_rewritten x.tree ino time (λ old. sizes.grown old count) (object x.tree ino)) few.next
+next_few n x (step.Put time ino offset new) few = same_next n x.tree.next _
+    (next_rewritten x.tree ino time (λ old. sizes.put old offset new) (object x.tree ino)) few.next
+next_few n x (step.Zero time ino count) few = same_next n x.tree.next _
+    (next_rewritten x.tree ino time (λ old. sizes.grown old count) (object x.tree ino)) few.next
 next_few n x (step.Cut time ino size) few = same_next n x.tree.next _ (next_rewritten x.tree ino time (λ old. sizes.cut old size) (object x.tree ino)) few.next
-next_few n x (step.SetAttributes time ino attributes) few = same_next n x.tree.next _ (next_reattributed x.tree ino time attributes (object x.tree ino)) few.next
+next_few n x (step.SetAttributes time ino attributes) few = same_next n x.tree.next _ (next_reattributed x.tree ino time attributes (object x.tree ino))
+    few.next
 
 top_few : (n : ℕ) (b : Bool) (v : ℕ) (o : Option ℕ) → v ≤ n + 1 → unwrap_or o 0 ≤ n → unwrap_or (cond b (Some v) o) 0 ≤ n + 1
 top_few n true v o h k = h
@@ -97,7 +100,8 @@ owner_few n x (step.Zero time ino count) few has le = has
 owner_few n x (step.Cut time ino size) few has le = has
 owner_few n x (step.SetAttributes time ino attributes) few has le = has
 
-pub none_past : (n : ℕ) (x : Indexed) (steps : List Step) → IsCounted n x → AllByRecursion HasOwner steps → n + length steps + 2 ≤ 0xFFFFFFFF → list_any is_past (nodes_of x steps) ≡ false
+pub none_past : (n : ℕ) (x : Indexed) (steps : List Step) → IsCounted n x → AllByRecursion HasOwner steps → n + length steps + 2 ≤ 0xFFFFFFFF
+    → list_any is_past (nodes_of x steps) ≡ false
 none_past n x [] few has le = refl
 none_past n x (s ∷ steps) few has le =
     let v = version_of (node_of x s) in

@@ -4,7 +4,7 @@ use Rattle.std.specs.Prelude.{Contains, is_some}
 use Rattle.std.specs.Ordering.{eq_by_cmp, nat_cmp}
 use Rattle.std.specs.Cmp.{nat_cmp_total, eq_by_cmp_equiv}
 use Rattle.std.specs.FinMap.{FinMap, get, insert, get-insert}
-use Rattle.std.proofs.lemmas.Bool.{cond-true, true≢false}
+use Rattle.std.proofs.lemmas.Bool.{cases_eq, cond-true, true≢false}
 use Rattle.std.proofs.lemmas.Map.Views.{tells_apart}
 use Rattle.jname.specs.Live.{Key, key_cmp}
 use Rattle.jname.proofs.NamingLemmas.{key_cmp_total, key_cmp-IsAntisymmetric}
@@ -56,7 +56,8 @@ new_gains s dir name o numbered none =
     let t = with_new s dir name o in
     let names = one_more s.names dir name s.next none in
     let objects : (k : ℕ) → k < s.next → object t k ≡ object s k =
-    λ k less. get-insert nat_cmp_total s.objects s.next o k ∙ insert_other (eq_by_cmp nat_cmp k s.next) o (get s.objects k) (untied k s.next (λ e. omega arith)) in
+    λ k less. get-insert nat_cmp_total s.objects s.next o k ∙ insert_other (eq_by_cmp nat_cmp k s.next) o (get s.objects k)
+    (untied k s.next (λ e. omega arith)) in
     record {
       extends = record {
         directories = λ k e. ap (has_bits directory_bits) (objects k (numbered k (there_of_directory s k e))) ∙ e;
@@ -65,13 +66,22 @@ new_gains s dir name o numbered none =
       };
       objects = objects;
       entry = names.entry;
-      there = ap is_some (get-insert nat_cmp_total s.objects s.next o s.next ∙ cond-true (eq_by_cmp nat_cmp s.next s.next) (Some o) (get s.objects s.next) (itself s.next));
+      there = ap is_some (get-insert nat_cmp_total s.objects s.next o s.next ∙ cond-true (eq_by_cmp nat_cmp s.next s.next) (Some o) (get s.objects s.next)
+          (itself s.next));
       entries = names.entries;
       next = omega arith;
       below = omega arith;
+      no_more = λ k e.
+          ⊎_elim
+          (λ (is : k ≡ s.next). inr is)
+          (λ (other : k ≢ s.next).
+          inl (sym (ap is_some (get-insert nat_cmp_total s.objects s.next o k ∙ insert_other (eq_by_cmp nat_cmp k s.next) o (get s.objects k)
+          (untied k s.next other))) ∙ e))
+          (cases_eq k s.next);
     }
 
-pub gained_leads : (s t : State) (way : List (List ℕ)) (name : List ℕ) (dir i : ℕ) → Gains s t dir name i → walk s way (Ok 1) ≡ Ok dir → is_directory s dir ≡ true
+pub gained_leads : (s t : State) (way : List (List ℕ)) (name : List ℕ) (dir i : ℕ) → Gains s t dir name i → walk s way (Ok 1) ≡ Ok dir
+    → is_directory s dir ≡ true
     → walk t (way ++ name ∷ []) (Ok 1) ≡ Ok i
 gained_leads s t way name dir i gains leads there =
     walk_push t way name 1 dir i (walk_extends s t way 1 dir gains.extends leads)
@@ -80,8 +90,10 @@ gained_leads s t way name dir i gains leads there =
 abbrev pub own : List (List ℕ) → ObjectOf (List ℕ) → Made
 own names o = record { names = names; origin = names; object_is = o }
 
-pub new_stands : (root : ObjectOf (List ℕ)) (made : List Made) (s : State) (way : List (List ℕ)) (name : List ℕ) (dir : ℕ) (o : ObjectOf (List ℕ)) → Stands root made s → 1 < s.next
-    → ((k : ℕ) → is_there s k ≡ true → k < s.next) → walk s way (Ok 1) ≡ Ok dir → is_directory s dir ≡ true → named s dir name ≡ None → has_long (way ++ name ∷ []) ≡ false
+pub new_stands : (root : ObjectOf (List ℕ)) (made : List Made) (s : State) (way : List (List ℕ)) (name : List ℕ) (dir : ℕ) (o : ObjectOf (List ℕ))
+    → Stands root made s → 1 < s.next
+    → ((k : ℕ) → is_there s k ≡ true → k < s.next) → walk s way (Ok 1) ≡ Ok dir → is_directory s dir ≡ true → named s dir name ≡ None
+    → has_long (way ++ name ∷ []) ≡ false
     → Stands root (made ++ own (way ++ name ∷ []) o ∷ []) (with_new s dir name o)
 new_stands root made s way name dir o stands some numbered leads there none short =
     let t = with_new s dir name o in
@@ -94,7 +106,8 @@ new_stands root made s way name dir o stands some numbered leads there none shor
       below_root = some;
       short = short;
       first = gained_leads s t way name dir s.next gains leads there;
-      object_there = λ e. get-insert nat_cmp_total s.objects s.next o s.next ∙ cond-true (eq_by_cmp nat_cmp s.next s.next) (Some o) (get s.objects s.next) (itself s.next);
+      object_there = λ e. get-insert nat_cmp_total s.objects s.next o s.next ∙ cond-true (eq_by_cmp nat_cmp s.next s.next) (Some o) (get s.objects s.next)
+          (itself s.next);
       alone = λ m among e.
           let h = stands.held m among in
           let used : h.number < s.next = h.used in
@@ -107,7 +120,8 @@ new_stands root made s way name dir o stands some numbered leads there none shor
 abbrev pub with_name : State → ℕ → List ℕ → ℕ → State
 with_name s dir name i = record { objects = s.objects; names = insert s.names (dir, name) i; next = s.next }
 
-name_gains : (s : State) (dir : ℕ) (name : List ℕ) (i : ℕ) → is_there s i ≡ true → i < s.next → named s dir name ≡ None → Gains s (with_name s dir name i) dir name i
+name_gains : (s : State) (dir : ℕ) (name : List ℕ) (i : ℕ) → is_there s i ≡ true → i < s.next → named s dir name ≡ None
+    → Gains s (with_name s dir name i) dir name i
 name_gains s dir name i there below none =
     let names = one_more s.names dir name i none in
     record {
@@ -118,9 +132,11 @@ name_gains s dir name i there below none =
       entries = names.entries;
       next = omega arith;
       below = below;
+      no_more = λ k e. inl e;
     }
 
-pub name_stands : (root : ObjectOf (List ℕ)) (made : List Made) (s : State) (way : List (List ℕ)) (name : List ℕ) (dir : ℕ) (f m : Made) → (stands : Stands root made s) → 1 < s.next
+pub name_stands : (root : ObjectOf (List ℕ)) (made : List Made) (s : State) (way : List (List ℕ)) (name : List ℕ) (dir : ℕ) (f m : Made)
+    → (stands : Stands root made s) → 1 < s.next
     → (has : Contains made f) → f.names ≡ f.origin → m.origin ≡ f.names → m.names ≡ way ++ name ∷ [] → m.names ≢ m.origin
     → walk s way (Ok 1) ≡ Ok dir → is_directory s dir ≡ true → named s dir name ≡ None → has_long m.names ≡ false
     → is_there s (stands.held f has).number ≡ true

@@ -71,7 +71,8 @@ pub record HasWay (s : State) (way : List (List ℕ)) : Type 0 where
 directory_mode : (mode : ℕ) → mode ≤ 0o7777 → (type_bits (0o040000 + mode) == directory_bits) ≡ true
 directory_mode mode fits = eq-eqb ((0o040000 + mode) / 4096 % 16) 4 (omega arith)
 
-way_of : (files : Files) (root : ObjectOf (List ℕ)) (before : List Item) (n : ℕ) (x : Indexed) (s : State) (way : List (List ℕ)) → IsBuilt files root before n x s
+way_of : (files : Files) (root : ObjectOf (List ℕ)) (before : List Item) (n : ℕ) (x : Indexed) (s : State) (way : List (List ℕ))
+    → IsBuilt files root before n x s
     → All (λ name. IsTrue (is_name name)) way → HasDirectory before way → HasWay s way
 way_of files root before n x s way built all has =
     ⊎_elim
@@ -112,7 +113,8 @@ none_of : (o : Option ℕ) → ((k : ℕ) → o ≡ Some k → ⊥) → o ≡ No
 none_of None h = refl
 none_of (Some k) h = absurd (h k refl)
 
-pub ahead : (files : Files) (root : ObjectOf (List ℕ)) (before : List Item) (n : ℕ) (x : Indexed) (s : State) (i : Item) → IsBuilt files root before n x s → MayFollow before i → IsAhead (string_bytes i.path) s
+pub ahead : (files : Files) (root : ObjectOf (List ℕ)) (before : List Item) (n : ℕ) (x : Indexed) (s : State) (i : Item) → IsBuilt files root before n x s
+    → MayFollow before i → IsAhead (string_bytes i.path) s
 ahead files root before n x s i built may =
     let way = may.way in
     let name = may.name in
@@ -137,4 +139,5 @@ ahead files root before n x s i built may =
 
 -- the same of an index
 pub ahead_placed : (n : ℕ) (x : Indexed) (s : State) (path : List ℕ) → IsAt n x s → (a : IsAhead path s) → IsPlaced x.tree path a.dir a.name
-ahead_placed n x s path at a = placed x.tree path a.way a.name a.dir a.path_is a.short (at_walk n x s at a.way ∙ a.leads) (at_directory n x s at a.dir ∙ a.directory)
+ahead_placed n x s path at a = placed x.tree path a.way a.name a.dir a.path_is a.short (at_walk n x s at a.way ∙ a.leads)
+    (at_directory n x s at a.dir ∙ a.directory)

@@ -14,3 +14,4 @@ pub mod ObjectLemmas
 pub mod BeginLemmas
 pub mod WholeLemmas
 pub mod TreeLemmas
+pub mod ExampleLemmas

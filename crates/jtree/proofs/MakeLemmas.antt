@@ -34,14 +34,16 @@ few_numbers n x s at i below few =
 abbrev pub new_object : ℕ → ℕ → ℕ → ℕ → List ℕ → ObjectOf (List ℕ)
 new_object time mode uid gid target = record { mode = mode; uid = uid; gid = gid; atime = time; mtime = time; ctime = time; body = target }
 
-pub make_reaches : (page n : ℕ) (x : Indexed) (s : State) (o : Op) (time mode uid gid : ℕ) (target : List ℕ) (way : List (List ℕ)) (name : List ℕ) (dir : ℕ) (root : ObjectOf (List ℕ)) (made : List Made)
+pub make_reaches : (page n : ℕ) (x : Indexed) (s : State) (o : Op) (time mode uid gid : ℕ) (target : List ℕ) (way : List (List ℕ)) (name : List ℕ)
+    (dir : ℕ) (root : ObjectOf (List ℕ)) (made : List Made)
     → IsPage page → IsAt n x s → Stands root made s → OpFits o → IsFree page x o
     → steps_of page x.tree o ≡ step.MakeObject time mode uid gid target ∷ step.SetName time dir name x.tree.next ∷ []
     → walk s way (Ok 1) ≡ Ok dir → is_directory s dir ≡ true → named s dir name ≡ None → has_long (way ++ name ∷ []) ≡ false → n + 4 ≤ 0xFFFFFFFF
     → Reaches page n x s (o ∷ []) root (made ++ own (way ++ name ∷ []) (new_object time mode uid gid target) ∷ []) 2
 make_reaches page n x s o time mode uid gid target way name dir root made is_page at stands fits is_free are leads there free short few =
     let steps = step.MakeObject time mode uid gid target ∷ step.SetName time dir name s.next ∷ [] in
-    let all : steps_of page x.tree o ≡ steps = are ∙ ap (λ i. step.MakeObject time mode uid gid target ∷ step.SetName time dir name i ∷ []) (at_next n x s at) in
+    let all : steps_of page x.tree o ≡ steps = are ∙ ap (λ i. step.MakeObject time mode uid gid target ∷ step.SetName time dir name i ∷ [])
+    (at_next n x s at) in
     let owner : dir ≤ 0xFFFFFFFF = few_numbers n x s at dir (at_numbered n x s at dir (there_of_directory s dir there)) (omega arith) in
     let room : list_any is_past (nodes_of x (steps_of page x.tree o)) ≡ false =
     ap (λ ss. list_any is_past (nodes_of x ss)) all ∙ none_past n x steps at.counted (tt, (owner, tt)) (omega arith) in

@@ -1,5 +1,5 @@
 -- The operations of one item, and what they reach.
-use Rattle.std.proofs.Common.{◌≡◌, ◌≢◌, ℕ, ◌+◌, ◌*◌, ◌/◌, ◌%◌, ◌<◌, ◌≤◌, true, false, List, [], ◌∷◌, ◌++◌, length, map, refl, ap, sym, ◌∙◌, subst, arith}
+use Rattle.std.proofs.Common.{◌≡◌, ◌≢◌, ℕ, ◌+◌, ◌/◌, ◌%◌, ◌<◌, ◌≤◌, true, false, List, [], ◌∷◌, ◌++◌, length, map, refl, ap, sym, ◌∙◌, subst, arith}
 use Rattle.std.specs.Prelude.{All, Contains, ◌==◌}
 use Rattle.std.specs.String.{string_bytes}
 use Rattle.std.proofs.lemmas.Bool.{eq-eqb, ne_eqb}
@@ -46,29 +46,38 @@ directory_reaches : (page n : ℕ) (x : Indexed) (s : State) (files : Files) (pa
     → Reaches page n x s (ops_with files (object_actions path a what.Directory)) root (made ++ made_at files path a what.Directory ∷ []) 2
 directory_reaches page n x s files path a root made is_page at stands ahead fits few =
     let p = ahead_placed n x s path at ahead in
-    subst (λ ns. Reaches page n x s (op.Mkdir a.time path a.mode a.uid a.gid ∷ []) root (made ++ own ns (object_of files a what.Directory) ∷ []) 2) (sym (names_are path (ahead.way ++ ahead.name ∷ []) ahead.path_is))
-    (make_reaches page n x s (op.Mkdir a.time path a.mode a.uid a.gid) a.time (0o040000 + a.mode) a.uid a.gid [] ahead.way ahead.name ahead.dir root made is_page at stands
+    subst (λ ns. Reaches page n x s (op.Mkdir a.time path a.mode a.uid a.gid ∷ []) root (made ++ own ns (object_of files a what.Directory) ∷ []) 2)
+    (sym (names_are path (ahead.way ++ ahead.name ∷ []) ahead.path_is))
+    (make_reaches page n x s (op.Mkdir a.time path a.mode a.uid a.gid) a.time (0o040000 + a.mode) a.uid a.gid [] ahead.way ahead.name ahead.dir root made
+    is_page at stands
     (fits.time, fits.uid, fits.gid)
     (mkdir_free page x a.time path a.mode a.uid a.gid ahead.dir ahead.name p (at_named n x s at ahead.dir ahead.name ∙ ahead.free) fits.mode)
     (make_steps_are x.tree a.time path (0o040000 + a.mode) a.uid a.gid [] ahead.dir ahead.name p)
     ahead.leads ahead.directory ahead.free ahead.short few)
 
-symlink_reaches : (page n : ℕ) (x : Indexed) (s : State) (files : Files) (path : List ℕ) (a : Attributes) (target : List ℕ) (root : ObjectOf (List ℕ)) (made : List Made)
-    → IsPage page → IsAt n x s → Stands root made s → IsAhead path s → AttributesFit a → 0 < length target → length target ≤ 4095 → All (λ b. b ≢ 0) target → n + 4 ≤ 0xFFFFFFFF
+symlink_reaches : (page n : ℕ) (x : Indexed) (s : State) (files : Files) (path : List ℕ) (a : Attributes) (target : List ℕ) (root : ObjectOf (List ℕ))
+    (made : List Made)
+    → IsPage page → IsAt n x s → Stands root made s → IsAhead path s → AttributesFit a → 0 < length target → length target ≤ 4095
+    → All (λ b. b ≢ 0) target → n + 4 ≤ 0xFFFFFFFF
     → Reaches page n x s (op.Symlink a.time path target a.uid a.gid ∷ []) root (made ++ own (names_in path) (object_with 0o120777 a target) ∷ []) 2
 symlink_reaches page n x s files path a target root made is_page at stands ahead fits some short none few =
     let p = ahead_placed n x s path at ahead in
-    subst (λ ns. Reaches page n x s (op.Symlink a.time path target a.uid a.gid ∷ []) root (made ++ own ns (object_with 0o120777 a target) ∷ []) 2) (sym (names_are path (ahead.way ++ ahead.name ∷ []) ahead.path_is))
-    (make_reaches page n x s (op.Symlink a.time path target a.uid a.gid) a.time 0o120777 a.uid a.gid target ahead.way ahead.name ahead.dir root made is_page at stands
+    subst (λ ns. Reaches page n x s (op.Symlink a.time path target a.uid a.gid ∷ []) root (made ++ own ns (object_with 0o120777 a target) ∷ []) 2)
+    (sym (names_are path (ahead.way ++ ahead.name ∷ []) ahead.path_is))
+    (make_reaches page n x s (op.Symlink a.time path target a.uid a.gid) a.time 0o120777 a.uid a.gid target ahead.way ahead.name ahead.dir root made
+    is_page at stands
     (fits.time, fits.uid, fits.gid)
     (symlink_free page x a.time path target a.uid a.gid ahead.dir ahead.name p (at_named n x s at ahead.dir ahead.name ∙ ahead.free) some short none)
     (make_steps_are x.tree a.time path 0o120777 a.uid a.gid target ahead.dir ahead.name p)
     ahead.leads ahead.directory ahead.free ahead.short few)
 
-regular_reaches : (page n : ℕ) (x : Indexed) (s : State) (files : Files) (path : List ℕ) (a : Attributes) (c : Content) (root : ObjectOf (List ℕ)) (made : List Made)
-    → IsPage page → IsAt n x s → Stands root made s → (ahead : IsAhead path s) → ((p : Made) → Contains made p → p.names ≢ ahead.way ++ ahead.name ∷ []) → AttributesFit a
-    → length (content_bytes files c) ≤ 2147483647 → n + 4 * length (content_bytes files c) + 4 ≤ 0xFFFFFFFF
-    → Reaches page n x s (ops_with files (object_actions path a (what.Regular c))) root (made ++ made_at files path a (what.Regular c) ∷ []) (2 + 4 * length (content_bytes files c))
+regular_reaches : (page n : ℕ) (x : Indexed) (s : State) (files : Files) (path : List ℕ) (a : Attributes) (c : Content) (root : ObjectOf (List ℕ))
+    (made : List Made)
+    → IsPage page → IsAt n x s → Stands root made s → (ahead : IsAhead path s) → ((p : Made) → Contains made p → p.names ≢ ahead.way ++ ahead.name ∷ [])
+    → AttributesFit a
+    → length (content_bytes files c) ≤ 2147483647 → n + (8 + length (content_bytes files c) / 512) + 4 ≤ 0xFFFFFFFF
+    → Reaches page n x s (ops_with files (object_actions path a (what.Regular c))) root (made ++ made_at files path a (what.Regular c) ∷ [])
+    (2 + (6 + length (content_bytes files c) / 512))
 regular_reaches page n x s files path a c root made is_page at stands ahead fresh fits short few =
     let p = ahead_placed n x s path at ahead in
     let names = ahead.way ++ ahead.name ∷ [] in
@@ -80,15 +89,19 @@ regular_reaches page n x s files path a c root made is_page at stands ahead fres
     (make_steps_are x.tree a.time path (0o100000 + a.mode) a.uid a.gid [] ahead.dir ahead.name p)
     ahead.leads ahead.directory ahead.free ahead.short (omega arith) in
     let used : length one.steps ≤ 2 = one.few in
-    let two = content_reaches page (n + length one.steps) _ (after bytes s one.steps) files a.time path c ahead.way ahead.name o root made is_page one.is_at one.stands
+    let two = content_reaches page (n + length one.steps) _ (after bytes s one.steps) files a.time path c ahead.way ahead.name o root made is_page
+    one.is_at one.stands
     (record { path_is = ahead.path_is; regular = regular_mode a.mode fits.mode; plain = plain_mode a.mode fits.mode; fresh = fresh; time_fits = fits.time })
     short (omega arith) in
-    subst (λ ns. Reaches page n x s (ops_with files (object_actions path a (what.Regular c))) root (made ++ own ns (object_of files a (what.Regular c)) ∷ []) (2 + 4 * length (content_bytes files c)))
+    subst (λ ns. Reaches page n x s (ops_with files (object_actions path a (what.Regular c))) root
+    (made ++ own ns (object_of files a (what.Regular c)) ∷ []) (2 + (6 + length (content_bytes files c) / 512)))
     (sym (names_are path names ahead.path_is))
-    (reaches_then page n x s (create ∷ []) (ops_with files (content_actions a.time path c)) root (made ++ own names o ∷ []) (made ++ own names (object_of files a (what.Regular c)) ∷ []) 2 (4 * length (content_bytes files c)) one two)
+    (reaches_then page n x s (create ∷ []) (ops_with files (content_actions a.time path c)) root (made ++ own names o ∷ [])
+    (made ++ own names (object_of files a (what.Regular c)) ∷ []) 2 (6 + length (content_bytes files c) / 512) one two)
 
 -- a regular file that stands may have further names
-target_of : (files : Files) (root : ObjectOf (List ℕ)) (before : List Item) (n : ℕ) (x : Indexed) (s : State) (i : Item) (first : List ℕ) → IsBuilt files root before n x s → Contains before i
+target_of : (files : Files) (root : ObjectOf (List ℕ)) (before : List Item) (n : ℕ) (x : Indexed) (s : State) (i : Item) (first : List ℕ)
+    → IsBuilt files root before n x s → Contains before i
     → string_bytes i.path ≡ first → (w : What) → i.what ≡ w → IsRegular w → IsTarget (map (made_of files) before) first (made_of files i)
 target_of files root before n x s i first built among path (what.Regular c) is regular =
     let known = built.known i among in
@@ -109,26 +122,35 @@ target_of files root before n x s i first built among path (what.Symlink target)
 target_of files root before n x s i first built among path (what.Link old) is regular = absurd regular
 
 -- no item that stands has the names of a path that is new
-pub fresh_names : (files : Files) (root : ObjectOf (List ℕ)) (before : List Item) (n : ℕ) (x : Indexed) (s : State) (path : List ℕ) (names : List (List ℕ)) → IsBuilt files root before n x s
+pub fresh_names : (files : Files) (root : ObjectOf (List ℕ)) (before : List Item) (n : ℕ) (x : Indexed) (s : State) (path : List ℕ)
+    (names : List (List ℕ)) → IsBuilt files root before n x s
     → IsPath path names → IsFresh before path → (p : Made) → Contains (map (made_of files) before) p → p.names ≢ names
 fresh_names files root before n x s path names built is fresh p among e =
     let from = Contains-from_map (made_of files) before p among in
     let same : names_of from.0 ≡ names = ap (λ (m : Made). m.names) from.2 ∙ e in
     fresh from.0 from.1 ((built.known from.0 from.1).path.0 ∙ ap path_text same ∙ sym is.0)
 
-pub object_reaches : (page n : ℕ) (x : Indexed) (s : State) (files : Files) (path : List ℕ) (a : Attributes) (w : What) (root : ObjectOf (List ℕ)) (before : List Item)
+pub object_reaches : (page n : ℕ) (x : Indexed) (s : State) (files : Files) (path : List ℕ) (a : Attributes) (w : What) (root : ObjectOf (List ℕ))
+    (before : List Item)
     → IsPage page → IsBuilt files root before n x s → IsAhead path s → IsFresh before path → LinksBack before w → HasTarget w → AttributesFit a
-    → length (bytes_of files w) ≤ 2147483647 → n + 4 * length (bytes_of files w) + 4 ≤ 0xFFFFFFFF
-    → Reaches page n x s (ops_with files (object_actions path a w)) root (map (made_of files) before ++ made_at files path a w ∷ []) (2 + 4 * length (bytes_of files w))
+    → length (bytes_of files w) ≤ 2147483647 → n + (8 + length (bytes_of files w) / 512) + 4 ≤ 0xFFFFFFFF
+    → Reaches page n x s (ops_with files (object_actions path a w)) root (map (made_of files) before ++ made_at files path a w ∷ [])
+    (8 + length (bytes_of files w) / 512)
 object_reaches page n x s files path a what.Directory root before is_page built ahead fresh links target fits short few =
-    reaches_weaker page n x s (ops_with files (object_actions path a what.Directory)) root (map (made_of files) before ++ made_at files path a what.Directory ∷ []) 2 (2 + 4 * length (bytes_of files what.Directory)) (omega arith)
+    reaches_weaker page n x s (ops_with files (object_actions path a what.Directory)) root
+    (map (made_of files) before ++ made_at files path a what.Directory ∷ []) 2 (8 + length (bytes_of files what.Directory) / 512) (omega arith)
     (directory_reaches page n x s files path a root (map (made_of files) before) is_page built.is_at built.stands ahead fits (omega arith))
 object_reaches page n x s files path a (what.Regular c) root before is_page built ahead fresh links target fits short few =
-    regular_reaches page n x s files path a c root (map (made_of files) before) is_page built.is_at built.stands ahead
-    (fresh_names files root before n x s path (ahead.way ++ ahead.name ∷ []) built ahead.path_is fresh) fits short few
+    let size = length (content_bytes files c) in
+    reaches_weaker page n x s (ops_with files (object_actions path a (what.Regular c))) root
+    (map (made_of files) before ++ made_at files path a (what.Regular c) ∷ []) (2 + (6 + size / 512)) (8 + size / 512) (omega arith)
+    (regular_reaches page n x s files path a c root (map (made_of files) before) is_page built.is_at built.stands ahead
+    (fresh_names files root before n x s path (ahead.way ++ ahead.name ∷ []) built ahead.path_is fresh) fits short few)
 object_reaches page n x s files path a (what.Symlink t) root before is_page built ahead fresh links target fits short few =
-    reaches_weaker page n x s (ops_with files (object_actions path a (what.Symlink t))) root (map (made_of files) before ++ made_at files path a (what.Symlink t) ∷ []) 2 (2 + 4 * length (bytes_of files (what.Symlink t))) (omega arith)
-    (symlink_reaches page n x s files path a (string_bytes t) root (map (made_of files) before) is_page built.is_at built.stands ahead fits target.0 target.1 target.2 (omega arith))
+    reaches_weaker page n x s (ops_with files (object_actions path a (what.Symlink t))) root
+    (map (made_of files) before ++ made_at files path a (what.Symlink t) ∷ []) 2 (8 + length (bytes_of files (what.Symlink t)) / 512) (omega arith)
+    (symlink_reaches page n x s files path a (string_bytes t) root (map (made_of files) before) is_page built.is_at built.stands ahead fits target.0
+    target.1 target.2 (omega arith))
 object_reaches page n x s files path a (what.Link first) root before is_page built ahead fresh links target fits short few =
     let i = links.0 in
     let names = ahead.way ++ ahead.name ∷ [] in
@@ -137,6 +159,8 @@ object_reaches page n x s files path a (what.Link first) root before is_page bui
     let is = target_of files root before n x s i (string_bytes first) built links.1 links.2 i.what refl links.3 in
     let origin : m.origin ≡ f.names = ap names_in (sym links.2) in
     let here : m.names ≡ names = names_are path names ahead.path_is in
-    reaches_weaker page n x s (ops_with files (object_actions path a (what.Link first))) root (map (made_of files) before ++ m ∷ []) 1 (2 + 4 * length (bytes_of files (what.Link first))) (omega arith)
-    (link_reaches page n x s a.time (string_bytes first) path f m root (map (made_of files) before) is_page built.is_at built.stands is ahead fits.time here origin
+    reaches_weaker page n x s (ops_with files (object_actions path a (what.Link first))) root (map (made_of files) before ++ m ∷ []) 1
+    (8 + length (bytes_of files (what.Link first)) / 512) (omega arith)
+    (link_reaches page n x s a.time (string_bytes first) path f m root (map (made_of files) before) is_page built.is_at built.stands is ahead fits.time
+    here origin
     (λ e. fresh_names files root before n x s path names built ahead.path_is fresh f is.among (sym origin ∙ sym e ∙ here)) (omega arith))

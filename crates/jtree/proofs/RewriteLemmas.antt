@@ -1,5 +1,5 @@
 -- An object that gets other bytes, and what stands after it.
-use Rattle.std.proofs.Common.{◌≡◌, ◌≢◌, ℕ, ◌+◌, ◌<◌, Bool, true, false, cond, List, [], ◌∷◌, ◌++◌, length, take, drop, Option, Some, Ok, refl, ap, sym, ◌∙◌, subst, ⊎_elim, arith}
+use Rattle.std.proofs.Common.{◌≡◌, ◌≢◌, ℕ, ◌+◌, ◌<◌, Bool, true, false, cond, List, [], ◌∷◌, ◌++◌, length, take, drop, Option, Some, Ok, refl, inl, inr, ap, sym, ◌∙◌, subst, ⊎_elim, arith}
 use Rattle.std.specs.Prelude.{Contains, is_some}
 use Rattle.std.specs.Ordering.{eq_by_cmp, nat_cmp}
 use Rattle.std.specs.Cmp.{nat_cmp_total, unsigned_tied}
@@ -65,13 +65,15 @@ put_rewrites s time ino offset new o e at =
       now = get-insert nat_cmp_total s.objects ino changed ino
           ∙ cond-true (eq_by_cmp nat_cmp ino ino) (Some changed) (get s.objects ino) (itself ino)
           ∙ ap (λ body. Some (with_body o time body)) (put_at_end o.body new offset at);
-      others = λ k other. get-insert nat_cmp_total s.objects ino changed k ∙ insert_other (eq_by_cmp nat_cmp k ino) changed (get s.objects k) (untied k ino other);
+      others = λ k other. get-insert nat_cmp_total s.objects ino changed k ∙ insert_other (eq_by_cmp nat_cmp k ino) changed (get s.objects k)
+          (untied k ino other);
       kind = refl;
     })
 
 -- ---- what stands
 
-kept_at : {X : Type 0} (s t : State) (ino : ℕ) (old new : ObjectOf (List ℕ)) (f : Option (ObjectOf (List ℕ)) → X) → Rewrites s t ino old new → f (Some new) ≡ f (Some old)
+kept_at : {X : Type 0} (s t : State) (ino : ℕ) (old new : ObjectOf (List ℕ)) (f : Option (ObjectOf (List ℕ)) → X) → Rewrites s t ino old new
+    → f (Some new) ≡ f (Some old)
     → (k : ℕ) → f (object t k) ≡ f (object s k)
 kept_at s t ino old new f re same k =
     ⊎_elim
@@ -81,7 +83,8 @@ kept_at s t ino old new f re same k =
 
 pub rewrites_extends : (s t : State) (ino : ℕ) (old new : ObjectOf (List ℕ)) → Rewrites s t ino old new → Extends s t
 rewrites_extends s t ino old new re = record {
-  directories = λ k e. kept_at s t ino old new (has_bits directory_bits) re (ap (λ mode. has_bits directory_bits (Some (record new { mode = mode }))) re.kind) k ∙ e;
+  directories = λ k e. kept_at s t ino old new (has_bits directory_bits) re
+      (ap (λ mode. has_bits directory_bits (Some (record new { mode = mode }))) re.kind) k ∙ e;
   there = λ k e. kept_at s t ino old new is_some re refl k ∙ e;
   names = λ dir name k e. ap (λ names. get names (dir, name)) re.names ∙ e;
 }
@@ -90,7 +93,8 @@ abbrev pub with_object : Made → ObjectOf (List ℕ) → Made
 with_object m o = record { names = m.names; origin = m.origin; object_is = o }
 
 -- the last item gets another object
-pub rewrites_stands : (root : ObjectOf (List ℕ)) (made : List Made) (s t : State) (ino : ℕ) (m : Made) (new : ObjectOf (List ℕ)) → Stands root (made ++ m ∷ []) s
+pub rewrites_stands : (root : ObjectOf (List ℕ)) (made : List Made) (s t : State) (ino : ℕ) (m : Made) (new : ObjectOf (List ℕ))
+    → Stands root (made ++ m ∷ []) s
     → Rewrites s t ino m.object_is new → m.names ≡ m.origin → walk s m.names (Ok 1) ≡ Ok ino → 1 < ino
     → ((o : Made) → Contains made o → o.names ≢ m.names) → Stands root (made ++ with_object m new ∷ []) t
 rewrites_stands root made s t ino m new stands re first leads below fresh =
@@ -147,7 +151,14 @@ rewrites_stands root made s t ino m new stands re first leads below fresh =
       names_are = λ dir name k e.
           let is = stands.names_are dir name k (ap (λ names. get names (dir, name)) (sym re.names) ∙ e) in
           ⊎_elim
-          (λ old. record { m = is.m; among = Contains-append_left made (n ∷ []) is.m old; way = is.way; names = is.names; leads = walk_extends s t is.way 1 dir grows is.leads })
+          (λ old. record {
+            m = is.m;
+            among = Contains-append_left made (n ∷ []) is.m old;
+            way = is.way;
+            names = is.names;
+            leads = walk_extends s t is.way
+                1 dir grows is.leads;
+          })
           (λ (same : m ≡ is.m). record {
             m = n;
             among = Contains-push made n;
@@ -164,4 +175,12 @@ rewrites_stands root made s t ino m new stands re first leads below fresh =
           (back was_a.0 was_a.1 k (ap (λ ns. walk t ns (Ok 1)) was_a.2 ∙ lead_a))
           (back was_b.0 was_b.1 k (ap (λ ns. walk t ns (Ok 1)) was_b.2 ∙ lead_b))
           ∙ was_b.3;
+      objects_are = λ k e.
+          ⊎_elim
+          (λ (is : k ≡ 1). inl is)
+          (λ (o : (p : Made) × Contains (made ++ m ∷ []) p × (walk s p.names (Ok 1) ≡ Ok k)). ⊎_elim
+          (λ old. inr (o.0, Contains-append_left made (n ∷ []) o.0 old, walk_extends s t o.0.names 1 k grows o.2))
+          (λ (is : m ≡ o.0). inr (n, Contains-push made n, ap (λ (p : Made). walk t p.names (Ok 1)) is ∙ walk_extends s t o.0.names 1 k grows o.2))
+          (Contains-push_cases made m o.0 o.1))
+          (stands.objects_are k (sym (kept_at s t ino m.object_is new is_some re refl k) ∙ e));
     }

@@ -3,6 +3,7 @@ use Rattle.std.proofs.Common.{◌≡◌, ℕ, ◌+◌, ◌<◌, ◌≤◌, true,
 use Rattle.std.specs.Prelude.{flat_map, option_map, is_some}
 use Rattle.std.proofs.lemmas.Bool.{false≢true}
 use Rattle.std.proofs.lemmas.List.{append-nil}
+use Rattle.std.specs.List.{AllByRecursion}
 use Rattle.jmount.specs.Tree.{ObjectOf, State, Outline, outline, sized, named, object, is_directory, is_there}
 use Rattle.jmount.specs.Find.{walk}
 use Rattle.jmount.specs.Shape.{HasShape}
@@ -85,16 +86,20 @@ at_numbered n x s at i there =
 
 abbrev pub Runs : ℕ → Indexed → List Op → List Step → Type 0
 Runs page x [] steps = steps ≡ []
-Runs page x (o ∷ ops) steps = (first : List Step) × (rest : List Step) × (planned_by page x o ≡ Ok first) × (steps ≡ first ++ rest) × Runs page (advanced_all x first) ops rest
+Runs page x (o ∷ ops) steps = (first : List Step) × (rest : List Step) × (planned_by page x o ≡ Ok first) × (steps ≡ first ++ rest) × Runs page
+    (advanced_all x first) ops rest
 
-pub runs_append : (page : ℕ) (x : Indexed) (xs ys : List Op) (front back : List Step) → Runs page x xs front → Runs page (advanced_all x front) ys back → Runs page x (xs ++ ys) (front ++ back)
-runs_append page x [] ys front back none then = subst (λ front. Runs page (advanced_all x front) ys back → Runs page x ys (front ++ back)) (sym none) (λ h. h) then
+pub runs_append : (page : ℕ) (x : Indexed) (xs ys : List Op) (front back : List Step) → Runs page x xs front → Runs page (advanced_all x front) ys back
+    → Runs page x (xs ++ ys) (front ++ back)
+runs_append page x [] ys front back none then = subst (λ front. Runs page (advanced_all x front) ys back → Runs page x ys (front ++ back)) (sym none)
+    (λ h. h) then
 runs_append page x (o ∷ xs) ys front back run then = (
   run.0,
   run.1 ++ back,
   run.2,
   ap (λ front. front ++ back) run.3 ∙ append_assoc run.0 run.1 back,
-  runs_append page (advanced_all x run.0) xs ys run.1 back run.4 (subst (λ y. Runs page y ys back) (ap (advanced_all x) run.3 ∙ advanced_all-append x run.0 run.1) then),
+  runs_append page (advanced_all x run.0) xs ys run.1 back run.4 (subst (λ y. Runs page y ys back)
+      (ap (advanced_all x) run.3 ∙ advanced_all-append x run.0 run.1) then),
 )
 
 -- what follows from one result of a plan
@@ -108,7 +113,8 @@ runs_all page x (o ∷ ops) steps run =
     let more : length (plans_of page (advanced_all x run.0) ops) ≡ length ops = runs_all page (advanced_all x run.0) ops run.1 run.4 in
     ap (λ r. length (plans_behind page x ops r)) run.2 ∙ omega arith
 
-pub runs_steps : (page : ℕ) (x : Indexed) (ops : List Op) (steps : List Step) → Runs page x ops steps → flat_map (λ steps. steps) (take (length ops) (plans_of page x ops)) ≡ steps
+pub runs_steps : (page : ℕ) (x : Indexed) (ops : List Op) (steps : List Step) → Runs page x ops steps
+    → flat_map (λ steps. steps) (take (length ops) (plans_of page x ops)) ≡ steps
 runs_steps page x [] steps run = sym run
 runs_steps page x (o ∷ ops) steps run =
     ap (λ r. flat_map (λ steps. steps) (take (length (o ∷ ops)) (plans_behind page x ops r))) run.2
@@ -120,20 +126,41 @@ runs_steps page x (o ∷ ops) steps run =
 pub record Reaches (page n : ℕ) (x : Indexed) (s : State) (ops : List Op) (root : ObjectOf (List ℕ)) (made : List Made) (most : ℕ) : Type 0 where
   pub steps : List Step
   pub runs : Runs page x ops steps
+  pub ready : AllReady x steps
+  pub op_fits : AllByRecursion OpFits ops
   pub is_at : IsAt (n + length steps) (advanced_all x steps) (after bytes s steps)
   pub stands : Stands root made (after bytes s steps)
   pub few : length steps ≤ most
 
-pub reaches_none : (page n : ℕ) (x : Indexed) (s : State) (root : ObjectOf (List ℕ)) (made : List Made) → IsAt n x s → Stands root made s → Reaches page n x s [] root made 0
-reaches_none page n x s root made at stands = let same : n ≡ n + 0 = omega arith in
-    record { steps = []; runs = refl; is_at = subst (λ m. IsAt m x s) same at; stands = stands; few = omega arith }
+fits_append : (xs ys : List Op) → AllByRecursion OpFits xs → AllByRecursion OpFits ys → AllByRecursion OpFits (xs ++ ys)
+fits_append [] ys front back = back
+fits_append (x ∷ xs) ys front back = (front.0, fits_append xs ys front.1 back)
 
-pub reaches_one : (page n : ℕ) (x : Indexed) (s : State) (o : Op) (steps : List Step) (root : ObjectOf (List ℕ)) (made : List Made) (most : ℕ) → IsPage page → IsAt n x s → OpFits o
+ready_append : (x : Indexed) (xs ys : List Step) → AllReady x xs → AllReady (advanced_all x xs) ys → AllReady x (xs ++ ys)
+ready_append x [] ys ready then = then
+ready_append x (a ∷ xs) ys ready then = (ready.0, ready_append (advanced x a) xs ys ready.1 then)
+
+pub reaches_none : (page n : ℕ) (x : Indexed) (s : State) (root : ObjectOf (List ℕ)) (made : List Made) → IsAt n x s → Stands root made s
+    → Reaches page n x s [] root made 0
+reaches_none page n x s root made at stands = let same : n ≡ n + 0 = omega arith in
+    record { steps = []; runs = refl; ready = tt; op_fits = tt; is_at = subst (λ m. IsAt m x s) same at; stands = stands; few = omega arith }
+
+pub reaches_one : (page n : ℕ) (x : Indexed) (s : State) (o : Op) (steps : List Step) (root : ObjectOf (List ℕ)) (made : List Made) (most : ℕ)
+    → IsPage page → IsAt n x s → OpFits o
     → planned_by page x o ≡ Ok steps → Stands root made (after bytes s steps) → length steps ≤ most → Reaches page n x s (o ∷ []) root made most
 reaches_one page n x s o steps root made most is_page at fits e stands few =
-    record { steps = steps; runs = (steps, [], e, sym (append-nil steps), refl); is_at = go_on page n x s o steps is_page at fits e; stands = stands; few = few }
+    record {
+      steps = steps;
+      runs = (steps, [], e, sym (append-nil steps), refl);
+      ready = (planned_is_ready page x o steps is_page at.same fits e).ready;
+      op_fits = (fits, tt);
+      is_at = go_on page n x s o steps is_page at fits e;
+      stands = stands;
+      few = few;
+    }
 
-pub reaches_then : (page n : ℕ) (x : Indexed) (s : State) (xs ys : List Op) (root : ObjectOf (List ℕ)) (made more : List Made) (a b : ℕ) → (r : Reaches page n x s xs root made a)
+pub reaches_then : (page n : ℕ) (x : Indexed) (s : State) (xs ys : List Op) (root : ObjectOf (List ℕ)) (made more : List Made) (a b : ℕ)
+    → (r : Reaches page n x s xs root made a)
     → Reaches page (n + length r.steps) (advanced_all x r.steps) (after bytes s r.steps) ys root more b → Reaches page n x s (xs ++ ys) root more (a + b)
 reaches_then page n x s xs ys root made more a b r q =
     let count : n + length r.steps + length q.steps ≡ n + length (r.steps ++ q.steps) = omega (arith, length-append r.steps q.steps) in
@@ -144,6 +171,8 @@ reaches_then page n x s xs ys root made more a b r q =
     record {
       steps = r.steps ++ q.steps;
       runs = runs_append page x xs ys r.steps q.steps r.runs q.runs;
+      ready = ready_append x r.steps q.steps r.ready q.ready;
+      op_fits = fits_append xs ys r.op_fits q.op_fits;
       is_at = subst (λ m. IsAt m (advanced_all x (r.steps ++ q.steps)) (after bytes s (r.steps ++ q.steps))) count
           (subst (λ y. IsAt (n + length r.steps + length q.steps) y (after bytes s (r.steps ++ q.steps))) index
           (subst (λ t. IsAt (n + length r.steps + length q.steps) (advanced_all (advanced_all x r.steps) q.steps) t) state q.is_at));
@@ -154,4 +183,4 @@ reaches_then page n x s xs ys root made more a b r q =
 pub reaches_weaker : (page n : ℕ) (x : Indexed) (s : State) (ops : List Op) (root : ObjectOf (List ℕ)) (made : List Made) (few most : ℕ) → few ≤ most
     → Reaches page n x s ops root made few → Reaches page n x s ops root made most
 reaches_weaker page n x s ops root made few most le r = let here : length r.steps ≤ few = r.few in
-    record { steps = r.steps; runs = r.runs; is_at = r.is_at; stands = r.stands; few = omega arith }
+    record { steps = r.steps; runs = r.runs; ready = r.ready; op_fits = r.op_fits; is_at = r.is_at; stands = r.stands; few = omega arith }

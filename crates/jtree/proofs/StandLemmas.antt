@@ -1,5 +1,5 @@
 -- What stands after some items, and after one name more.
-use Rattle.std.proofs.Common.{◌≡◌, ℕ, ◌<◌, ◌≤◌, true, false, List, [], ◌∷◌, ◌++◌, Some, Result, Ok, ap, sym, ◌∙◌, subst, ◌⊎◌, ⊎_elim, arith}
+use Rattle.std.proofs.Common.{◌≡◌, ℕ, ◌<◌, ◌≤◌, true, false, List, [], ◌∷◌, ◌++◌, Some, Result, Ok, inl, inr, ap, sym, ◌∙◌, subst, ◌⊎◌, ⊎_elim, arith}
 use Rattle.std.specs.Prelude.{Contains}
 use Rattle.std.proofs.lemmas.List.Elements.{Contains-append_left, Contains-push, Contains-push_cases}
 use Rattle.jmount.specs.Tree.{ObjectOf, State, named, object, is_directory, is_there}
@@ -35,6 +35,7 @@ pub record Stands (root : ObjectOf (List ℕ)) (made : List Made) (s : State) : 
   pub held : (m : Made) → Contains made m → IsHeld s m
   pub names_are : (dir : ℕ) (name : List ℕ) (i : ℕ) → named s dir name ≡ Some i → IsNamed made s dir name
   pub apart : (m o : Made) → Contains made m → Contains made o → (i : ℕ) → walk s m.names (Ok 1) ≡ Ok i → walk s o.names (Ok 1) ≡ Ok i → m.origin ≡ o.origin
+  pub objects_are : (i : ℕ) → is_there s i ≡ true → (i ≡ 1) ⊎ ((m : Made) × Contains made m × (walk s m.names (Ok 1) ≡ Ok i))
 
 -- one name more, of an object that was there or is new
 pub record Gains (s t : State) (dir : ℕ) (name : List ℕ) (i : ℕ) : Type 0 where
@@ -45,6 +46,7 @@ pub record Gains (s t : State) (dir : ℕ) (name : List ℕ) (i : ℕ) : Type 0 
   pub entries : (d : ℕ) (n : List ℕ) (k : ℕ) → named t d n ≡ Some k → (named s d n ≡ Some k) ⊎ ((d ≡ dir) × (n ≡ name) × (k ≡ i))
   pub next : s.next ≤ t.next
   pub below : i < t.next
+  pub no_more : (k : ℕ) → is_there t k ≡ true → (is_there s k ≡ true) ⊎ (k ≡ i)
 
 -- what is known of the item of that name
 pub record IsNew (made : List Made) (s t : State) (way : List (List ℕ)) (name : List ℕ) (dir i : ℕ) (m : Made) : Type 0 where
@@ -60,7 +62,8 @@ pub record IsNew (made : List Made) (s t : State) (way : List (List ℕ)) (name 
 pub one_number : {a b : ℕ} (r : Result ℕ FindFault) → r ≡ Ok a → r ≡ Ok b → a ≡ b
 one_number {a} {b} r e f = same_ok a b (sym e ∙ f)
 
-new_leads : (made : List Made) (s t : State) (way : List (List ℕ)) (name : List ℕ) (dir i : ℕ) (m : Made) → Gains s t dir name i → IsNew made s t way name dir i m
+new_leads : (made : List Made) (s t : State) (way : List (List ℕ)) (name : List ℕ) (dir i : ℕ) (m : Made) → Gains s t dir name i
+    → IsNew made s t way name dir i m
     → walk t m.names (Ok 1) ≡ Ok i
 new_leads made s t way name dir i m gains new =
     ap (λ ns. walk t ns (Ok 1)) new.names
@@ -82,11 +85,13 @@ old_held s t dir name i o gains h =
     }
 
 -- an item that stood before leads to the same number after
-back : (s t : State) (dir : ℕ) (name : List ℕ) (i : ℕ) (o : Made) → Gains s t dir name i → IsHeld s o → (k : ℕ) → walk t o.names (Ok 1) ≡ Ok k → walk s o.names (Ok 1) ≡ Ok k
+back : (s t : State) (dir : ℕ) (name : List ℕ) (i : ℕ) (o : Made) → Gains s t dir name i → IsHeld s o → (k : ℕ) → walk t o.names (Ok 1) ≡ Ok k
+    → walk s o.names (Ok 1) ≡ Ok k
 back s t dir name i o gains h k e =
     h.leads ∙ ap Ok (one_number (walk t o.names (Ok 1)) (walk_extends s t o.names 1 h.number gains.extends h.leads) e)
 
-pub gains_stands : (root : ObjectOf (List ℕ)) (made : List Made) (s t : State) (way : List (List ℕ)) (name : List ℕ) (dir i : ℕ) (m : Made) → Stands root made s → 1 < s.next
+pub gains_stands : (root : ObjectOf (List ℕ)) (made : List Made) (s t : State) (way : List (List ℕ)) (name : List ℕ) (dir i : ℕ) (m : Made)
+    → Stands root made s → 1 < s.next
     → Gains s t dir name i → IsNew made s t way name dir i m → Stands root (made ++ m ∷ []) t
 gains_stands root made s t way name dir i m stands some gains new =
     let here : walk t m.names (Ok 1) ≡ Ok i = new_leads made s t way name dir i m gains new in
@@ -109,7 +114,14 @@ gains_stands root made s t way name dir i m stands some gains new =
           ⊎_elim
           (λ (old : named s d n ≡ Some k).
           let is = stands.names_are d n k old in
-          record { m = is.m; among = Contains-append_left made (m ∷ []) is.m is.among; way = is.way; names = is.names; leads = walk_extends s t is.way 1 d gains.extends is.leads })
+          record {
+            m = is.m;
+            among = Contains-append_left made (m ∷ []) is.m is.among;
+            way = is.way;
+            names = is.names;
+            leads = walk_extends s t is.way 1 d
+                gains.extends is.leads;
+          })
           (λ (it : (d ≡ dir) × (n ≡ name) × (k ≡ i)). record {
             m = m;
             among = Contains-push made m;
@@ -121,7 +133,8 @@ gains_stands root made s t way name dir i m stands some gains new =
       apart = λ a b in_a in_b k lead_a lead_b.
           ⊎_elim
           (λ old_a. ⊎_elim
-          (λ old_b. stands.apart a b old_a old_b k (back s t dir name i a gains (stands.held a old_a) k lead_a) (back s t dir name i b gains (stands.held b old_b) k lead_b))
+          (λ old_b. stands.apart a b old_a old_b k (back s t dir name i a gains (stands.held a old_a) k lead_a)
+          (back s t dir name i b gains (stands.held b old_b) k lead_b))
           (λ (is_b : m ≡ b).
           let same : i ≡ k = one_number (walk t m.names (Ok 1)) here (subst (λ o. walk t o.names (Ok 1) ≡ Ok k) (sym is_b) lead_b) in
           sym (new.alone a old_a (lead_a ∙ ap Ok (sym same))) ∙ ap (λ (o : Made). o.origin) is_b)
@@ -133,4 +146,13 @@ gains_stands root made s t way name dir i m stands some gains new =
           (λ (is_b : m ≡ b). ap (λ (o : Made). o.origin) (sym is_a) ∙ ap (λ (o : Made). o.origin) is_b)
           (Contains-push_cases made m b in_b))
           (Contains-push_cases made m a in_a);
+      objects_are = λ k e.
+          ⊎_elim
+          (λ (old : is_there s k ≡ true). ⊎_elim
+          (λ (is : k ≡ 1). inl is)
+          (λ (o : (m : Made) × Contains made m × (walk s m.names (Ok 1) ≡ Ok k)). inr
+          (o.0, Contains-append_left made (m ∷ []) o.0 o.1, walk_extends s t o.0.names 1 k gains.extends o.2))
+          (stands.objects_are k old))
+          (λ (is : k ≡ i). inr (m, Contains-push made m, here ∙ ap Ok (sym is)))
+          (gains.no_more k e);
     }

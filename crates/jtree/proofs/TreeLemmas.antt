@@ -1,26 +1,41 @@
 -- What stands after all items is the tree, and nothing else.
-use Rattle.std.proofs.Common.{◌≡◌, ℕ, ◌+◌, ◌≤◌, List, [], ◌∷◌, ◌++◌, length, map, Option, Some, None, Ok, refl, ap, sym, ◌∙◌, subst, inl, inr, ◌⊎◌, arith}
+use Rattle.std.proofs.Common.{◌≡◌, ℕ, ◌+◌, ◌≤◌, List, [], ◌∷◌, ◌++◌, length, map, Option, Some, None, Result, Ok, refl, ap, sym, ◌∙◌, subst, inl, inr, ◌⊎◌, ⊎_elim, arith}
 use Rattle.std.specs.Prelude.{Contains, flat_map, is_ok}
 use Rattle.std.specs.String.{string_bytes}
 use Rattle.std.proofs.lemmas.Bool.{false≢true}
+use Rattle.std.specs.List.{AllByRecursion}
+use Rattle.jmount.specs.Mounts.{plain_nodes}
+use Rattle.jsteps.specs.Laws.{OpFits}
+use Rattle.jsteps.specs.Planning.{IsPage}
+use Rattle.jsteps.specs.Refusals.{plans_of, steps_of_first}
+use Rattle.jlisting.specs.Listing.{lines_of}
+use Rattle.jfolder.specs.Text.{listing_text}
+use Rattle.jfolder.specs.Trees.{IsTree}
+use Rattle.jlog.proofs.HeadlineLemmas.{accepted_survives}
 use Rattle.jmount.specs.Find.{IsPath, path_text, path_names, find, find_names, walk}
 use Rattle.jmount.specs.StateOf.{state_of}
 use Rattle.jmount.specs.Tree.{ObjectOf, State}
 use Rattle.jmount.specs.Shape.{HasShape}
 use Rattle.jmount.proofs.PathNameLemmas.{path_names_exactly}
 use Rattle.jmount.proofs.ShapePathLemmas.{one_path_to_each}
-use Rattle.jsteps.specs.Nodes.{index_of}
+use Rattle.jsteps.specs.Nodes.{index_of, nodes_of}
 use Rattle.jsteps.specs.Steps.{bytes, after}
 use Rattle.jsteps.specs.Where.{names_in}
 use Rattle.jsteps.specs.declared.op.Op.{Op}
-use Rattle.jfolder.specs.Actions.{actions_of, item_actions}
+use Rattle.jlisting.specs.declared.line.Line.{Line}
+use Rattle.jbuild.specs.Operations.{ops_in}
+use Rattle.jfolder.specs.Actions.{Fits, actions_of, item_actions}
 use Rattle.jfolder.specs.declared.tree.Attributes.{Attributes}
 use Rattle.jfolder.specs.declared.tree.Item.{Item}
 use Rattle.jfolder.specs.declared.tree.What.{What}
 use Rattle.jfolder.specs.declared.tree.What.TheVariants as what
+use Rattle.jfolder.proofs.ListingLemmas.{listing_is_read_back}
 use Rattle.jtree.specs.Holding.{HoldsObject, HoldsTree, first_of, first_path, root_object}
+use Rattle.jtree.specs.Image as image
 use Rattle.jtree.specs.Laws as law
-use Rattle.jtree.specs.Making.{Files, ops_with}
+use Rattle.jtree.specs.Laws.{MakesTree}
+use Rattle.jtree.specs.Making.{AreFew, Files, FilesFit, op_with, ops_with}
+use Rattle.jsteps.proofs.SeveralLemmas.{nodes_are_steps}
 use Rattle.jtree.proofs.BeginLemmas.{root_op, root_reaches}
 use Rattle.jtree.proofs.ItemLemmas.{IsKnown, Contains-from_map, Contains-mapped, made_of, names_of}
 use Rattle.jtree.proofs.ObjectLemmas.{made_at}
@@ -54,17 +69,37 @@ split_last x (y ∷ ys) = let rest = split_last y ys in (x ∷ rest.0, rest.1, a
 
 holds_object : (s : State) (files : Files) (path : List ℕ) (a : Attributes) (w : What) → IsHeld s (made_at files path a w) → IsPath path (names_in path)
     → IsPath (first_path path w) (names_in (first_path path w)) → HoldsObject files s path a w
-holds_object s files path a what.Directory h is first = record { number = h.number; found = found_is s path (names_in path) is ∙ h.leads; below_root = h.below_root; object = h.there refl }
-holds_object s files path a (what.Regular c) h is first = record { number = h.number; found = found_is s path (names_in path) is ∙ h.leads; below_root = h.below_root; object = h.there refl }
-holds_object s files path a (what.Symlink t) h is first = record { number = h.number; found = found_is s path (names_in path) is ∙ h.leads; below_root = h.below_root; object = h.there refl }
+holds_object s files path a what.Directory h is first = record {
+  number = h.number;
+  found = found_is s path (names_in path) is ∙ h.leads;
+  below_root =
+      h.below_root;
+  object = h.there refl;
+}
+holds_object s files path a (what.Regular c) h is first = record {
+  number = h.number;
+  found = found_is s path (names_in path) is ∙ h.leads;
+  below_root =
+      h.below_root;
+  object = h.there refl;
+}
+holds_object s files path a (what.Symlink t) h is first = record {
+  number = h.number;
+  found = found_is s path (names_in path) is ∙ h.leads;
+  below_root =
+      h.below_root;
+  object = h.there refl;
+}
 holds_object s files path a (what.Link old) h is first =
     found_is s path (names_in path) is ∙ h.leads ∙ sym (found_is s (string_bytes old) (names_in (string_bytes old)) first ∙ h.first)
 
 same_first : (a b : List ℕ) → IsPath a (names_in a) → IsPath b (names_in b) → names_in a ≡ names_in b → a ≡ b
 same_first a b is_a is_b e = is_a.0 ∙ ap path_text e ∙ sym is_b.0
 
-only_items : (s : State) (files : Files) (root : ObjectOf (List ℕ)) (items : List Item) → Stands root (map (made_of files) items) s → ((j : Item) → Contains items j → IsKnown j) → HasShape s
-    → (path : List ℕ) (number : ℕ) (names : List (List ℕ)) → IsPath path names → walk s names (Ok 1) ≡ Ok number → (path ≡ 47 ∷ []) ⊎ ((i : Item) × Contains items i × (string_bytes i.path ≡ path))
+only_items : (s : State) (files : Files) (root : ObjectOf (List ℕ)) (items : List Item) → Stands root (map (made_of files) items) s
+    → ((j : Item) → Contains items j → IsKnown j) → HasShape s
+    → (path : List ℕ) (number : ℕ) (names : List (List ℕ)) → IsPath path names → walk s names (Ok 1) ≡ Ok number
+    → (path ≡ 47 ∷ []) ⊎ ((i : Item) × Contains items i × (string_bytes i.path ≡ path))
 only_items s files root items stands known shape path number [] is e = inl is.0
 only_items s files root items stands known shape path number (n ∷ ns) is e =
     let split = split_last n ns in
@@ -75,41 +110,108 @@ only_items s files root items stands known shape path number (n ∷ ns) is e =
     let names : names_of from.0 ≡ n ∷ ns = ap (λ (m : Made). m.names) from.2 ∙ one.names ∙ ap (λ ns. ns ++ split.1 ∷ []) way ∙ sym split.2 in
     inr (from.0, from.1, (known from.0 from.1).path.0 ∙ ap path_text names ∙ sym is.0)
 
-holds_tree : (s : State) (files : Files) (root : Attributes) (items : List Item) → Stands (root_object root) (map (made_of files) items) s → ((j : Item) → Contains items j → IsKnown j) → HasShape s
+holds_tree : (s : State) (files : Files) (root : Attributes) (items : List Item) → Stands (root_object root) (map (made_of files) items) s
+    → ((j : Item) → Contains items j → IsKnown j) → HasShape s
     → HoldsTree files root items s
 holds_tree s files root items stands known shape = record {
   root_is = stands.root_is;
   items_are = λ i among.
       let k = known i among in
-      holds_object s files (string_bytes i.path) i.attributes i.what (stands.held (made_of files i) (Contains-mapped (made_of files) items i among)) k.path k.origin;
+      holds_object s files (string_bytes i.path) i.attributes i.what (stands.held (made_of files i) (Contains-mapped (made_of files) items i among))
+      k.path k.origin;
   apart = λ i j in_i in_j e.
       let k = known i in_i in
       let l = known j in_j in
       let m = Contains-mapped (made_of files) items i in_i in
       let o = Contains-mapped (made_of files) items j in_j in
       let h = stands.held (made_of files i) m in
-      let leads : walk s (names_of j) (Ok 1) ≡ Ok h.number = sym (found_is s (string_bytes j.path) (names_of j) l.path) ∙ sym e ∙ found_is s (string_bytes i.path) (names_of i) k.path ∙ h.leads in
+      let leads : walk s (names_of j) (Ok 1) ≡ Ok h.number = sym (found_is s (string_bytes j.path) (names_of j) l.path) ∙ sym e ∙ found_is s
+      (string_bytes i.path) (names_of i) k.path ∙ h.leads in
       same_first (first_of i) (first_of j) k.origin l.origin (stands.apart (made_of files i) (made_of files j) m o h.number h.leads leads);
   nothing_else = λ path number e.
       let f = found_names s path number e in
       only_items s files (root_object root) items stands known shape path number f.names f.path_of f.leads;
+  no_more_objects = λ number e.
+      ⊎_elim
+      (λ (is : number ≡ 1). inl is)
+      (λ (o : (m : Made) × Contains (map (made_of files) items) m × (walk s m.names (Ok 1) ≡ Ok number)).
+      let from = Contains-from_map (made_of files) items o.0 o.1 in
+      inr (
+        from.0,
+        from.1,
+        found_is s (string_bytes from.0.path) (names_of from.0) (known from.0 from.1).path ∙ ap (λ (m : Made). walk s m.names (Ok 1))
+            from.2 ∙ o.2,
+      ))
+      (stands.objects_are number e);
 }
 
 -- ---- the law
 
-pub listing_makes_tree : law.ListingMakesTree
+-- the law, and the widths of what the operations have
+pub record IsLawful (page : ℕ) (files : Files) (root : Attributes) (items : List Item) (ops : List Op) : Type 0 where
+  pub makes : MakesTree page files root items ops
+  pub op_fits : AllByRecursion OpFits ops
+
+lawful : (page : ℕ) (files : Files) (root : Attributes) (items : List Item) → IsPage page → Fits root items → IsTree items
+    → FilesFit files items → AreFew files items → IsLawful page files root items (ops_with files (actions_of root items))
 unfolding actions_of
-listing_makes_tree page files root items is_page fits tree short few =
+lawful page files root items is_page fits tree short few =
     let s = state_of [] in
     let x = index_of [] in
     let one = root_reaches page root is_page fits.root_fits in
     let used : length one.steps ≤ 1 = one.few in
     let t = after bytes s one.steps in
-    let all = items_done page (0 + length one.steps) _ t files (root_object root) [] items is_page (record { is_at = one.is_at; stands = one.stands; known = λ j among. absurd (let less = among.1 in omega arith) })
+    let all = items_done page (0 + length one.steps) _ t files (root_object root) [] items is_page
+    (record { is_at = one.is_at; stands = one.stands; known = λ j among. absurd (let less = among.1 in omega arith) })
     tree fits.items_fit short (omega arith) in
     let ops : List Op = ops_with files (actions_of root items) in
-    let r = reaches_then page 0 x s (root_op root ∷ []) (ops_with files (flat_map item_actions items)) (root_object root) [] (map (made_of files) items) 1 _ one all.reached in
-    record {
+    let r = reaches_then page 0 x s (root_op root ∷ []) (ops_with files (flat_map item_actions items)) (root_object root) [] (map (made_of files) items) 1
+    _ one all.reached in
+    let these = sym (runs_steps page x ops r.steps r.runs) in
+    let holds = holds_tree (after bytes s r.steps) files root items r.stands all.known r.is_at.shape in
+    let makes : MakesTree page files root items ops = record {
       accepted = runs_all page x ops r.steps r.runs;
-      holds = subst (λ steps. HoldsTree files root items (after bytes s steps)) (sym (runs_steps page x ops r.steps r.runs)) (holds_tree (after bytes s r.steps) files root items r.stands all.known r.is_at.shape);
-    }
+      holds = subst (λ steps. HoldsTree files root items (after bytes s steps)) these holds;
+      written = subst (λ steps. HoldsTree files root items (state_of (nodes_of x steps))) these
+          (subst (HoldsTree files root items) (sym (nodes_are_steps [] r.steps r.ready).state) holds);
+    } in
+    record { makes = makes; op_fits = r.op_fits }
+
+pub listing_makes_tree : law.ListingMakesTree
+listing_makes_tree page files root items is_page fits tree short few = (lawful page files root items is_page fits tree short few).makes
+
+-- the operations of lines are those of their actions
+ops_of_lines : (files : Files) (lines : List Line) → ops_in files lines ≡ ops_with files (map (λ line. line.action) lines)
+ops_of_lines files [] = refl
+ops_of_lines files (line ∷ lines) = ap (λ ops. op_with files line.action ∷ ops) (ops_of_lines files lines)
+
+same_lines : (a b : List Line) → ◌≡◌ {A = Result (List Line) ℕ} (Ok a) (Ok b) → a ≡ b
+same_lines a b e = cc
+
+-- whatever lines the text is read as
+lines_lawful : (page : ℕ) (files : Files) (root : Attributes) (items : List Item) (lines : List Line) → IsPage page → Fits root items → IsTree items
+    → FilesFit files items → AreFew files items → lines_of (listing_text root items) ≡ Ok lines → IsLawful page files root items (ops_in files lines)
+lines_lawful page files root items lines is_page fits tree short few is =
+    let read = listing_is_read_back root items fits in
+    let same : lines ≡ read.0 = same_lines lines read.0 (sym is ∙ read.1) in
+    let ops : ops_in files lines ≡ ops_with files (actions_of root items) =
+    ap (ops_in files) same ∙ ops_of_lines files read.0 ∙ ap (ops_with files) read.2 in
+    subst (IsLawful page files root items) (sym ops) (lawful page files root items is_page fits tree short few)
+
+pub text_makes_tree : law.TextMakesTree
+text_makes_tree page files root items is_page fits tree short few =
+    let read = listing_is_read_back root items fits in
+    (read.0, read.1, (lines_lawful page files root items read.0 is_page fits tree short few read.1).makes)
+
+pub image_holds_tree : image.ImageHoldsTree
+image_holds_tree page e size blocks base image files root items lines fits tree short few read is =
+    let ops = ops_in files lines in
+    let made = lines_lawful page files root items lines is.page_is fits tree short few read in
+    let planned : length (plans_of page (index_of (plain_nodes e size base)) ops) ≡ length ops =
+    subst (λ ns. length (plans_of page (index_of ns) ops) ≡ length ops) (sym is.bare) made.makes.accepted in
+    let survives = accepted_survives page e size blocks (length ops) base ops is.page_is is.room is.base_is is.are_bytes made.op_fits
+    (record { planned = omega arith; fits = is.fits }) in (
+      after bytes (state_of (plain_nodes e size base)) (steps_of_first page (index_of (plain_nodes e size base)) ops (length ops)),
+      survives.whole image is.left,
+      subst (λ ns. HoldsTree files root items (after bytes (state_of ns) (steps_of_first page (index_of ns) ops (length ops)))) (sym is.bare) made.makes.holds,
+    )

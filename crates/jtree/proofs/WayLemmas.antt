@@ -47,7 +47,8 @@ pub record LastStep {B : Type 0} (t : Tree B) (way : List (List ℕ)) (name : Li
   pub leads : walk t way (Ok from) ≡ Ok dir
   pub steps : Steps t dir name to
 
-pub walk_last : {B : Type 0} (t : Tree B) (way : List (List ℕ)) (name : List ℕ) (from to : ℕ) → walk t (way ++ name ∷ []) (Ok from) ≡ Ok to → LastStep t way name from to
+pub walk_last : {B : Type 0} (t : Tree B) (way : List (List ℕ)) (name : List ℕ) (from to : ℕ) → walk t (way ++ name ∷ []) (Ok from) ≡ Ok to
+    → LastStep t way name from to
 walk_last t [] name from to e = record { dir = from; leads = refl; steps = step_is t from name to e }
 walk_last t (first ∷ way) name from to e =
     let begins = walk_begins t (way ++ name ∷ []) (step t from first) to e in
@@ -68,12 +69,18 @@ pub record Extends {B : Type 0} (s t : Tree B) : Type 0 where
   pub there : (i : ℕ) → is_there s i ≡ true → is_there t i ≡ true
   pub names : (dir : ℕ) (name : List ℕ) (i : ℕ) → named s dir name ≡ Some i → named t dir name ≡ Some i
 
-pub walk_extends : {B : Type 0} (s t : Tree B) (names : List (List ℕ)) (from to : ℕ) → Extends s t → walk s names (Ok from) ≡ Ok to → walk t names (Ok from) ≡ Ok to
+pub walk_extends : {B : Type 0} (s t : Tree B) (names : List (List ℕ)) (from to : ℕ) → Extends s t → walk s names (Ok from) ≡ Ok to
+    → walk t names (Ok from) ≡ Ok to
 walk_extends s t [] from to grows e = e
 walk_extends s t (name ∷ names) from to grows e =
     let begins = walk_begins s names (step s from name) to e in
     let one = step_is s from name begins.0 begins.1 in
-    ap (walk t names) (step_of t from name begins.0 (record { directory = grows.directories from one.directory; entry = grows.names from name begins.0 one.entry; there = grows.there begins.0 one.there }))
+    ap (walk t names) (step_of t from name begins.0
+    (record {
+      directory = grows.directories from one.directory;
+      entry = grows.names from name begins.0 one.entry;
+      there = grows.there begins.0 one.there;
+    }))
     ∙ walk_extends s t names begins.0 to grows begins.2
 
 -- ---- paths
@@ -106,11 +113,13 @@ pub record IsPlaced (t : Outline) (path : List ℕ) (dir : ℕ) (name : List ℕ
 some_push : (way : List (List ℕ)) (name : List ℕ) → (length (way ++ name ∷ []) == 0) ≡ false
 some_push way name = ne_eqb (length (way ++ name ∷ [])) 0 (λ e. omega (arith, length-append way (name ∷ [])))
 
-pub placed : (t : Outline) (path : List ℕ) (way : List (List ℕ)) (name : List ℕ) (dir : ℕ) → IsPath path (way ++ name ∷ []) → has_long (way ++ name ∷ []) ≡ false
+pub placed : (t : Outline) (path : List ℕ) (way : List (List ℕ)) (name : List ℕ) (dir : ℕ) → IsPath path (way ++ name ∷ [])
+    → has_long (way ++ name ∷ []) ≡ false
     → walk t way (Ok 1) ≡ Ok dir → is_directory t dir ≡ true → IsPlaced t path dir name
 placed t path way name dir is short leads there =
     let names : names_in path ≡ way ++ name ∷ [] = ap (λ (o : Option (List (List ℕ))). unwrap_or o []) (path_is path (way ++ name ∷ []) is) in
-    let above_it : above t path ≡ Ok dir = ap (λ ns. walk t (all_but_last ns) (Ok 1)) names ∙ ap (λ ns. walk t ns (Ok 1)) (all_but_last-push way name) ∙ leads in
+    let above_it : above t path ≡ Ok dir = ap (λ ns. walk t (all_but_last ns) (Ok 1)) names ∙ ap (λ ns. walk t ns (Ok 1)) (all_but_last-push way name) ∙
+    leads in
     let last : last_name path ≡ name = ap last_of names ∙ last_of-push way name in
     record {
       good = ap (λ ns. length ns == 0) names ∙ some_push way name;

@@ -1,5 +1,5 @@
 -- All items of a tree, one after the other.
-use Rattle.std.proofs.Common.{◌≡◌, ℕ, ◌+◌, ◌*◌, ◌<◌, ◌≤◌, ◌^◌, List, [], ◌∷◌, ◌++◌, length, map, refl, ap, sym, subst, ⊎_elim, append_assoc, arith}
+use Rattle.std.proofs.Common.{◌≡◌, ℕ, ◌+◌, ◌/◌, ◌<◌, ◌≤◌, ◌^◌, List, [], ◌∷◌, ◌++◌, length, map, refl, ap, sym, subst, ⊎_elim, append_assoc, arith}
 use Rattle.std.specs.Prelude.{All, Contains}
 use Rattle.std.specs.List.{flat_map}
 use Rattle.std.specs.String.{string_bytes}
@@ -17,7 +17,7 @@ use Rattle.jfolder.specs.Trees.{IsTreeAfter, LinksBack, MayFollow}
 use Rattle.jfolder.specs.declared.tree.Item.{Item}
 use Rattle.jfolder.specs.declared.tree.What.{What}
 use Rattle.jfolder.specs.declared.tree.What.TheVariants as what
-use Rattle.jtree.specs.Making.{Files, FilesFit, bytes_of, op_with, ops_with, total}
+use Rattle.jtree.specs.Making.{Files, FilesFit, bytes_of, op_with, ops_with, weight}
 use Rattle.jtree.specs.Holding.{first_path}
 use Rattle.jtree.proofs.ItemLemmas.{IsBuilt, IsKnown, ahead, made_of, names_are, names_of}
 use Rattle.jtree.proofs.ObjectLemmas.{object_reaches}
@@ -44,17 +44,27 @@ known_of : (before : List Item) (i : Item) → ((j : Item) → Contains before j
 known_of before i known may fits =
     let names : names_of i ≡ may.way ++ may.name ∷ [] = names_are (string_bytes i.path) (may.way ++ may.name ∷ []) may.path in
     let path : IsPath (string_bytes i.path) (names_of i) = subst (IsPath (string_bytes i.path)) (sym names) may.path in
-    record { fits = fits; way = may.way; name = may.name; last = names; path = path; origin = origin_of before (string_bytes i.path) i.what known may.link path }
+    record {
+      fits = fits;
+      way = may.way;
+      name = may.name;
+      last = names;
+      path = path;
+      origin = origin_of before (string_bytes i.path) i.what known may.link
+          path;
+    }
 
 pub record IsDone (page n : ℕ) (x : Indexed) (s : State) (files : Files) (root : ObjectOf (List ℕ)) (before items : List Item) : Type 0 where
-  pub reached : Reaches page n x s (ops_with files (flat_map item_actions items)) root (map (made_of files) (before ++ items)) (4 * total files items)
+  pub reached : Reaches page n x s (ops_with files (flat_map item_actions items)) root (map (made_of files) (before ++ items)) (weight files items)
   pub known : (j : Item) → Contains (before ++ items) j → IsKnown j
 
-pub items_done : (page n : ℕ) (x : Indexed) (s : State) (files : Files) (root : ObjectOf (List ℕ)) (before items : List Item) → IsPage page → IsBuilt files root before n x s
-    → IsTreeAfter before items → All ItemFits items → FilesFit files items → n + 4 * total files items + 4 ≤ 0xFFFFFFFF → IsDone page n x s files root before items
+pub items_done : (page n : ℕ) (x : Indexed) (s : State) (files : Files) (root : ObjectOf (List ℕ)) (before items : List Item) → IsPage page
+    → IsBuilt files root before n x s
+    → IsTreeAfter before items → All ItemFits items → FilesFit files items → n + weight files items + 4 ≤ 0xFFFFFFFF → IsDone page n x s files root before items
 items_done page n x s files root before [] is_page built tree fits short few =
     record {
-      reached = subst (λ all. Reaches page n x s [] root (map (made_of files) all) 0) (sym (append-nil before)) (reaches_none page n x s root (map (made_of files) before) built.is_at built.stands);
+      reached = subst (λ all. Reaches page n x s [] root (map (made_of files) all) 0) (sym (append-nil before))
+          (reaches_none page n x s root (map (made_of files) before) built.is_at built.stands);
       known = subst (λ all. (j : Item) → Contains all j → IsKnown j) (sym (append-nil before)) built.known;
     }
 items_done page n x s files root before (i ∷ items) is_page built tree fits short few =
@@ -64,21 +74,26 @@ items_done page n x s files root before (i ∷ items) is_page built tree fits sh
     let i_short : size < 2 ^ 31 = All-head (λ i. length (bytes_of files i.what) < 2 ^ 31) i items short in
     let one = object_reaches page n x s files (string_bytes i.path) i.attributes i.what root before is_page built
     (ahead files root before n x s i built may) may.new may.link may.target i_fits.attributes (omega arith) (omega arith) in
-    let used : length one.steps ≤ 2 + 4 * size = one.few in
+    let used : length one.steps ≤ 8 + size / 512 = one.few in
     let more = before ++ i ∷ [] in
     let next : IsBuilt files root more (n + length one.steps) _ (after bytes s one.steps) = record {
       is_at = one.is_at;
       stands = subst (λ made. Stands root made (after bytes s one.steps)) (sym (map_push (made_of files) before i)) one.stands;
-      known = λ j among. ⊎_elim (λ old. built.known j old) (λ is. subst IsKnown is (known_of before i built.known may i_fits)) (Contains-push_cases before i j among);
+      known = λ j among. ⊎_elim (λ old. built.known j old) (λ is. subst IsKnown is (known_of before i built.known may i_fits))
+          (Contains-push_cases before i j among);
     } in
     let rest = items_done page (n + length one.steps) _ (after bytes s one.steps) files root more items is_page next tree.1
     (All-tail ItemFits i items fits) (All-tail (λ i. length (bytes_of files i.what) < 2 ^ 31) i items short) (omega arith) in
     let list : more ++ items ≡ before ++ i ∷ items = append_assoc before (i ∷ []) items in
-    let both = reaches_then page n x s (ops_with files (item_actions i)) (ops_with files (flat_map item_actions items)) root (map (made_of files) before ++ made_of files i ∷ []) (map (made_of files) (more ++ items))
-    (2 + 4 * size) (4 * total files items) one rest.reached in
+    let both = reaches_then page n x s (ops_with files (item_actions i)) (ops_with files (flat_map item_actions items)) root
+    (map (made_of files) before ++ made_of files i ∷ []) (map (made_of files) (more ++ items))
+    (8 + size / 512) (weight files items) one rest.reached in
     record {
-      reached = subst (λ ops. Reaches page n x s ops root (map (made_of files) (before ++ i ∷ items)) (4 * total files (i ∷ items))) (sym (ops_append files (item_actions i) (flat_map item_actions items)))
-          (subst (λ all. Reaches page n x s (ops_with files (item_actions i) ++ ops_with files (flat_map item_actions items)) root (map (made_of files) all) (4 * total files (i ∷ items))) list
-          (reaches_weaker page n x s (ops_with files (item_actions i) ++ ops_with files (flat_map item_actions items)) root (map (made_of files) (more ++ items)) (2 + 4 * size + 4 * total files items) (4 * total files (i ∷ items)) (omega arith) both));
+      reached = subst (λ ops. Reaches page n x s ops root (map (made_of files) (before ++ i ∷ items)) (weight files (i ∷ items)))
+          (sym (ops_append files (item_actions i) (flat_map item_actions items)))
+          (subst (λ all. Reaches page n x s (ops_with files (item_actions i) ++ ops_with files (flat_map item_actions items)) root
+          (map (made_of files) all) (weight files (i ∷ items))) list
+          (reaches_weaker page n x s (ops_with files (item_actions i) ++ ops_with files (flat_map item_actions items)) root
+          (map (made_of files) (more ++ items)) (8 + size / 512 + weight files items) (weight files (i ∷ items)) (omega arith) both));
       known = subst (λ all. (j : Item) → Contains all j → IsKnown j) list rest.known;
     }

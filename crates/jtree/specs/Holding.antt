@@ -1,8 +1,8 @@
 -- A file system that holds a tree, and nothing else.
-use Rattle.std.specs.Prelude.{◌≡◌, ◌<◌, ◌+◌, ◌⊎◌, ℕ, List, [], ◌∷◌, Contains, Some, Ok}
+use Rattle.std.specs.Prelude.{◌≡◌, ◌<◌, ◌+◌, ◌⊎◌, ℕ, List, [], ◌∷◌, Contains, Some, Ok, true}
 use Rattle.std.specs.String.{string_bytes}
 use Rattle.jmount.specs.Find.{find}
-use Rattle.jmount.specs.Tree.{ObjectOf, State, object}
+use Rattle.jmount.specs.Tree.{ObjectOf, State, object, is_there}
 use Rattle.jfolder.specs.declared.tree.Attributes.{Attributes}
 use Rattle.jfolder.specs.declared.tree.Item.{Item}
 use Rattle.jfolder.specs.declared.tree.What.{What}
@@ -48,10 +48,12 @@ HoldsObject files s path a w = LeadsTo s path (object_of files a w)
 abbrev pub HoldsItem : Files → State → Item → Type 0
 HoldsItem files s i = HoldsObject files s (string_bytes i.path) i.attributes i.what
 
--- The root has its attributes, each item is there, items share an object only by links, and no other path leads anywhere.
+-- The root has its attributes, each item is there, items share an object only by links, and nothing else is there: no other
+-- path leads anywhere, and each object but the root's is an item's.
 pub record HoldsTree (files : Files) (root : Attributes) (items : List Item) (s : State) : Type 0 where
   pub root_is : object s 1 ≡ Some (root_object root)
   pub items_are : (i : Item) → Contains items i → HoldsItem files s i
   pub apart : (i j : Item) → Contains items i → Contains items j → find s (string_bytes i.path) ≡ find s (string_bytes j.path) → first_of i ≡ first_of j
   pub nothing_else : (path : List ℕ) (number : ℕ) → find s path ≡ Ok number
       → (path ≡ 47 ∷ []) ⊎ ((i : Item) × Contains items i × (string_bytes i.path ≡ path))
+  pub no_more_objects : (number : ℕ) → is_there s number ≡ true → (number ≡ 1) ⊎ ((i : Item) × Contains items i × (find s (string_bytes i.path) ≡ Ok number))

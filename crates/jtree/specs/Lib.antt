@@ -1,3 +1,5 @@
 pub mod Making
 pub mod Holding
 pub mod Laws
+pub mod Examples
+pub mod Image

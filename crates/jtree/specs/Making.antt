@@ -1,9 +1,10 @@
 -- The operations that make a tree, given the bytes of the host's files.
-use Rattle.std.specs.Prelude.{◌<◌, ◌+◌, ◌*◌, ◌^◌, ◌-◌, ℕ, List, [], ◌∷◌, All, length, map, option_map, unwrap_or}
+use Rattle.std.specs.Prelude.{◌<◌, ◌+◌, ◌/◌, ◌^◌, ◌-◌, ℕ, List, [], ◌∷◌, All, length, map}
 use Rattle.std.specs.String.{string_bytes}
 use Rattle.jlisting.specs.Listing.{file_of, op_of}
 use Rattle.jlisting.specs.declared.line.Action.{Action}
 use Rattle.jsteps.specs.declared.op.Op.{Op}
+use Rattle.jbuild.specs.Operations as build
 use Rattle.jfolder.specs.declared.tree.Content.{Content}
 use Rattle.jfolder.specs.declared.tree.Content.TheVariants as content
 use Rattle.jfolder.specs.declared.tree.Item.{Item}
@@ -16,7 +17,7 @@ Files = List ℕ → List ℕ
 
 -- an action's operation, where its file has these bytes
 abbrev pub op_with : Files → Action → Op
-op_with files a = op_of a (unwrap_or (option_map files (file_of a)) [])
+op_with files a = op_of a (build.bytes_of files (file_of a))
 
 abbrev pub ops_with : Files → List Action → List Op
 ops_with files actions = map (op_with files) actions
@@ -36,10 +37,11 @@ bytes_of files _ = []
 abbrev pub FilesFit : Files → List Item → Type 0
 FilesFit files items = All (λ i. length (bytes_of files i.what) < 2 ^ 31) items
 
-abbrev pub total : Files → List Item → ℕ
-total files [] = 0
-total files (i ∷ items) = 1 + length (bytes_of files i.what) + total files items
+-- eight for each item, and one for each 512 of its bytes
+abbrev pub weight : Files → List Item → ℕ
+weight files [] = 0
+weight files (i ∷ items) = 8 + length (bytes_of files i.what) / 512 + weight files items
 
 -- the items and their bytes are so few that no number and no version passes 32 bits
 abbrev pub AreFew : Files → List Item → Type 0
-AreFew files items = 4 * total files items < 2 ^ 32 - 8
+AreFew files items = weight files items < 2 ^ 32 - 8

@@ -1,8 +1,16 @@
-//! The law of trees, the contract of an empty function.
+//! The laws of trees, each the contract of an empty function.
 
+ghost use Rattle.jtree.specs.Image as image;
 ghost use Rattle.jtree.specs.Laws as law;
 
-/// The operations of a tree are all accepted on the empty file system, and make the tree and nothing else.
+/// The operations of a tree are all accepted on the empty file system, and make the tree and nothing else. So are those that
+/// the tree's text is read as.
 pub fn listing_makes_tree()
-    ensures { law.ListingMakesTree }
+    ensures actions { law.ListingMakesTree }
+    ensures text { law.TextMakesTree }
+{}
+
+/// The image that is written for a tree's text mounts, and holds the tree and nothing else.
+pub fn image_holds_tree()
+    ensures { image.ImageHoldsTree }
 {}

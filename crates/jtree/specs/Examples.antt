@@ -1,0 +1,52 @@
+-- A small tree: a directory, a file and a symlink in it, and a link to the file.
+use Rattle.std.specs.Prelude.{◌≡◌, List, [], ◌∷◌, codes}
+use Rattle.std.specs.declared.alloc.Global.{Global}
+use Rattle.std.specs.declared.string.String.{String}
+use Rattle.std.specs.String.{string_bytes}
+use Rattle.jfolder.specs.Actions.{Fits}
+use Rattle.jfolder.specs.Trees.{IsTree}
+use Rattle.jfolder.specs.declared.tree.Attributes.{Attributes}
+use Rattle.jfolder.specs.declared.tree.Content.TheVariants as content
+use Rattle.jfolder.specs.declared.tree.Item.{Item}
+use Rattle.jfolder.specs.declared.tree.What.TheVariants as what
+use Rattle.jtree.specs.Making.{Files, FilesFit, AreFew}
+
+-- its texts
+pub record Texts : Type 0 where
+  pub directory : String Global
+  pub file : String Global
+  pub symlink : String Global
+  pub link : String Global
+  pub source : String Global
+
+pub record AreTexts (t : Texts) : Type 0 where
+  pub directory : string_bytes t.directory ≡ codes "/d"
+  pub file : string_bytes t.file ≡ codes "/d/f"
+  pub symlink : string_bytes t.symlink ≡ codes "/d/l"
+  pub link : string_bytes t.link ≡ codes "/k"
+  pub source : string_bytes t.source ≡ codes "f"
+
+abbrev pub plain : Attributes
+plain = record { mode = 0o755; uid = 0; gid = 0; time = 1 }
+
+abbrev pub small : Texts → List Item
+small t =
+    record { path = t.directory; attributes = plain; what = what.Directory }
+    ∷ record { path = t.file; attributes = plain; what = what.Regular (content.File t.source) }
+    ∷ record { path = t.symlink; attributes = plain; what = what.Symlink t.source }
+    ∷ record { path = t.link; attributes = plain; what = what.Link t.file }
+    ∷ []
+
+-- each file of the host has these bytes
+abbrev pub each_file : Files
+each_file name = codes "text"
+
+-- what the law asks of a tree
+pub record IsMade (items : List Item) : Type 0 where
+  pub fits : Fits plain items
+  pub tree : IsTree items
+  pub files : FilesFit each_file items
+  pub few : AreFew each_file items
+
+abbrev pub SmallIsMade : Type 0
+SmallIsMade = (t : Texts) → AreTexts t → IsMade (small t)
