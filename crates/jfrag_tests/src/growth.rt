@@ -1,8 +1,8 @@
 //! A growth that is refused changes nothing.
 
-use crate::pieces::{fifty_ones, first_bytes};
-use jfrag::{FragOverlay, Overlay, PlainOverlay};
-use std::alloc::Global;
+use crate::pieces::{fifty_ones, first_bytes, worked_bytes, worked_piece};
+use jfrag::{FragOverlay, Overlay, PlainOverlay, overlay};
+use std::alloc::{AllocError, Global};
 use std::process::Abort;
 use std::test::Fail;
 
@@ -44,4 +44,17 @@ fn a_refused_frag_add_changes_nothing(rt: HostRuntime) -> Result<(), Fail> {
 #[test]
 fn a_refused_plain_add_changes_nothing(rt: HostRuntime) -> Result<(), Fail> {
     grows_or_stays::<PlainOverlay>(&rt, rt.alloc())
+}
+
+/// All of the pieces at once: where a growth is refused there is no overlay, and asked again it is right.
+#[test]
+fn a_refused_overlay_is_asked_for_again(rt: HostRuntime) -> Result<(), Fail> {
+    let pieces = [worked_piece(1), worked_piece(3), worked_piece(2)];
+    let first: Result<FragOverlay, AllocError> = overlay(rt.alloc(), &pieces);
+    let overlaid = match first {
+        Ok(overlaid) => overlaid,
+        Err(AllocError) => overlay(rt.alloc(), &pieces)?,
+    };
+    assert_eq!(rt; first_bytes(&overlaid), worked_bytes());
+    Ok(())
 }

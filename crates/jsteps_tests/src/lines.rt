@@ -17,27 +17,6 @@ fn text_of<'a>(part: &Part<'a>) -> &'a str {
     str::from_utf8(part.present()).unwrap_or("?")
 }
 
-/// Appends a step that sets attributes.
-fn put_attributes(
-    text: &mut String,
-    ino: u32,
-    attributes: &Attributes,
-    time: u32,
-) -> Result<(), Fail> {
-    let Attributes {
-        mode,
-        uid,
-        gid,
-        atime,
-        mtime,
-    } = attributes;
-    write!(
-        text,
-        "attr {ino} {mode:o} {uid} {gid} {atime} {mtime} {time}"
-    )?;
-    Ok(())
-}
-
 /// Appends a step.
 fn put_step(text: &mut String, step: &Step<'_>) -> Result<(), Fail> {
     match step {
@@ -71,7 +50,19 @@ fn put_step(text: &mut String, step: &Step<'_>) -> Result<(), Fail> {
             time,
             ino,
             attributes,
-        } => put_attributes(text, *ino, attributes, *time)?,
+        } => {
+            let Attributes {
+                mode,
+                uid,
+                gid,
+                atime,
+                mtime,
+            } = attributes;
+            write!(
+                text,
+                "attr {ino} {mode:o} {uid} {gid} {atime} {mtime} {time}"
+            )?;
+        }
     }
     Ok(())
 }
