@@ -8,16 +8,16 @@ use crate::progress::Progress;
 use flashbase::FromWriter;
 use jextract::{Attributes, Folder, FolderFault};
 use std::alloc::AllocError;
-use std::fs;
 use std::fs::{DirBuilder, FileTimes, OpenFile, OpenOptions, Permissions};
-use std::io;
 use std::io::{Eprint, ErrorKind};
 use std::os::unix::fs::{DirBuilderExt, OpenOptionsExt, PermissionsExt, lchown, symlink};
 use std::rt::{Clock, Files};
 use std::time::{Duration, UNIX_EPOCH};
+use std::{fs, io};
 
 /// A directory and a file that are not complete yet are for whoever extracts alone.
 const DIRECTORY_MODE: u32 = 0o700;
+
 const FILE_MODE: u32 = 0o600;
 
 /// A folder of the system that is filled.
@@ -93,7 +93,12 @@ impl<'r, R: Files + AllocGlobal + Clock + Eprint> FilledFolder<'r, R> {
         how.open(self.rt, path.as_str())
     }
 
-    fn finish_file_at(&self, path: &str, file: &R::File, attributes: &Attributes) -> io::Result<()> {
+    fn finish_file_at(
+        &self,
+        path: &str,
+        file: &R::File,
+        attributes: &Attributes,
+    ) -> io::Result<()> {
         let path = joined(self.rt, self.root.as_str(), path)?;
         set_owner(self.rt, path.as_str(), attributes)?;
         set_open(file, attributes)

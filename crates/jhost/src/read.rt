@@ -7,11 +7,10 @@ use crate::progress::Progress;
 use flashbase::{FromReader, LoadFault, load};
 use jfolder::{FolderFault, HostFolder, Looked, Names};
 use std::alloc::AllocError;
-use std::fs;
-use std::io;
 use std::io::{Eprint, Error, ErrorKind};
 use std::os::unix::fs::MetadataExt;
 use std::rt::{Clock, Files};
+use std::{fs, io};
 
 /// A folder of the system that is read.
 #[derive(Drop)]
