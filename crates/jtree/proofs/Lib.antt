@@ -15,3 +15,4 @@ pub mod BeginLemmas
 pub mod WholeLemmas
 pub mod TreeLemmas
 pub mod ExampleLemmas
+pub mod EmptyLemmas

@@ -10,7 +10,7 @@ use Rattle.jsteps.specs.Refusals.{steps_of_first}
 use Rattle.jsteps.specs.declared.op.Op.{Op}
 use Rattle.jlisting.specs.Listing.{lines_of}
 use Rattle.jlisting.specs.declared.line.Line.{Line}
-use Rattle.jlog.specs.Headline.{IsBase, index_of_image, new_nodes, resume_address}
+use Rattle.jlog.specs.Headline.{IsBase, is_flash_of, index_of_image, new_nodes, resume_address}
 use Rattle.jlog.specs.Left.{IsLeft}
 use Rattle.jlog.specs.Output.{output}
 use Rattle.jlog.specs.Places.{fit}
@@ -48,3 +48,12 @@ ImageHoldsTree = (page : ℕ) (e : Endian) (size blocks : ℕ) (base image : Lis
     → Fits root items → IsTree items → FilesFit files items → AreFew files items → lines_of (listing_text root items) ≡ Ok lines
     → IsWrittenFor page e size blocks base (ops_in files lines) image
     → (s : State) × MountsAs e size image s × HoldsTree files root items s
+
+-- The empty image is such a base of any flash that is written.
+pub record IsBareBase (e : Endian) (size blocks : ℕ) (base : List ℕ) : Type 0 where
+  pub base_is : IsBase e size blocks base
+  pub are_bytes : AreBytes base
+  pub bare : plain_nodes e size base ≡ []
+
+abbrev pub EmptyIsBare : Type 0
+EmptyIsBare = (e : Endian) (size blocks : ℕ) → IsTrue (is_flash_of size blocks []) → IsBareBase e size blocks []

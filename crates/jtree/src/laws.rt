@@ -10,7 +10,9 @@ pub fn listing_makes_tree()
     ensures text { law.TextMakesTree }
 {}
 
-/// The image that is written for a tree's text mounts, and holds the tree and nothing else.
+/// The image that is written for a tree's text on a base without nodes mounts, and holds the tree and nothing else. The empty
+/// image is such a base.
 pub fn image_holds_tree()
-    ensures { image.ImageHoldsTree }
+    ensures image { image.ImageHoldsTree }
+    ensures empty { image.EmptyIsBare }
 {}

@@ -1,10 +1,12 @@
-//! The law of trees: the text of a tree makes the tree.
+//! The laws of trees: the text of a tree makes the tree.
 //!
-//! It is built on `jfolder` (the text of a tree, and the actions that it is read as) and `jsteps` (operations, their refusals and
-//! their steps). Its promise: on the empty file system the actions of a tree are all accepted, and make that tree and nothing else.
+//! It is built on `jfolder` (the text of a tree, and the actions that it is read as), `jsteps` (operations, their refusals and
+//! their steps), `jlog` (what is written for them) and `jbuild` (the operations of a listing's lines). Its promises: on the empty
+//! file system the operations of a tree are all accepted, and make that tree and nothing else; and the image that is written for
+//! a tree's text mounts as a file system that holds the tree and nothing else.
 //!
-//! `specs/Making.antt` has the operations of a tree, `specs/Holding.antt` what a file system that holds a tree is, and
-//! `specs/Laws.antt` the law. `laws` has it as a contract, and `examples` a small tree.
+//! `specs/Making.antt` has the operations of a tree, `specs/Holding.antt` what a file system that holds a tree is,
+//! `specs/Laws.antt` the law, and `specs/Image.antt` that of the image. `laws` has them as contracts, and `examples` a small tree.
 #![tactic(auto)]
 
 pub mod examples;
