@@ -32,6 +32,7 @@ pub struct Extracted {
 /// Gives folders of the host by their names, and takes them back.
 pub trait Folders {
     type Filled: Folder;
+
     type Read: HostFolder + Drop;
 
     /// What was made in all folders, in order, where it is told.
@@ -110,7 +111,15 @@ pub fn extract_image<'a, E: Order, L: Loader, X: Folder, N: Sink>(
         Ok(bytes) => bytes,
         Err(fault) => return Err(fault),
     };
-    extract_bytes::<E, X, N>(alloc, bytes.as_slice(), geometry, owners, name, folder, notes)
+    extract_bytes::<E, X, N>(
+        alloc,
+        bytes.as_slice(),
+        geometry,
+        owners,
+        name,
+        folder,
+        notes,
+    )
 }
 
 /// What a reading of the folder of a name gives up for.
@@ -198,7 +207,14 @@ fn fill<'a, L: Loader, D: Folders, N: Sink>(
         return Err(ProgramFault::OutOfMemory);
     };
     let answer = extract_in_order(
-        alloc, loader, options, owners, image, name, &mut folder, notes,
+        alloc,
+        loader,
+        options,
+        owners,
+        image,
+        name,
+        &mut folder,
+        notes,
     );
     folders.take_filled(folder);
     answer
@@ -219,7 +235,9 @@ pub fn run_extract<L: Loader, D: Folders, E: Sink>(
     ensures { EndsExtraction options owners image.now name.now (L.told loader.old) (D.made folders.old) (D.made folders.new)
         (E.taken errors.old) (E.taken errors.new) (E.failures errors.old) (E.failures errors.new) result }
 {
-    match fill(alloc, loader, folders, options, owners, quiet, image, name, errors) {
+    match fill(
+        alloc, loader, folders, options, owners, quiet, image, name, errors,
+    ) {
         Ok(done) => {
             note(done.findings, errors);
             Outcome::of(done.left_out)

@@ -17,12 +17,12 @@ use jcommand::{Outcome, status};
 use jreport::ProgramFault;
 use output::BufferedOutput;
 use program::{report_fault, report_usage};
-use system::SystemFolders;
 use std::alloc::{AllocError, Global};
 use std::io::{ErrorKind, IsTerminal};
 use std::process::ExitCode;
 use std::rt::Env;
 use std::{env, io};
+use system::SystemFolders;
 
 /// The arguments of the command line. Those that are not UTF-8 are `InvalidData`.
 fn args_of<R: Env + AllocGlobal>(rt: &R) -> io::Result<Vec<String>> {

@@ -382,32 +382,51 @@ pub fn run<R: Files + AllocGlobal, L: Loader, M: Maker, D: Folders, T: Output, E
     // The words make a request, whose answer goes out, or are answered by a text; or they ask to fill or to read a folder.
     ensures { RunsTask (map (λ w. w.now) args.now)
         (λ command. (ran : RunsCommand command (T.taken output.old) (T.given output.new) (T.failures output.old) (T.failures output.new)
-            (Says (errors.new ≡ errors.old) (E.taken errors.old) (E.taken errors.new) (E.failures errors.old) (E.failures errors.new)) result)
-            × BlamesCommand command (loader.new ≡ loader.old) (maker.new ≡ maker.old) (L.failures loader.old) (L.failures loader.new)
-            (M.failures maker.old) (M.failures maker.new) ran.answer)
+        (Says (errors.new ≡ errors.old) (E.taken errors.old) (E.taken errors.new) (E.failures errors.old) (E.failures errors.new)) result)
+        × BlamesCommand command (loader.new ≡ loader.old) (maker.new ≡ maker.old) (L.failures loader.old) (L.failures loader.new)
+        (M.failures maker.old) (M.failures maker.new) ran.answer)
         ((output.new ≡ output.old) × (maker.new ≡ maker.old) × RunsExtract (map (λ w. w.now) args.now) (L.told loader.old) (D.made folders.old) (D.made folders.new)
-            (E.taken errors.old) (E.taken errors.new) (E.failures errors.old) (E.failures errors.new) result)
+        (E.taken errors.old) (E.taken errors.new) (E.failures errors.old) (E.failures errors.new) result)
         ((loader.new ≡ loader.old) × (maker.new ≡ maker.old) × RunsListing (map (λ w. w.now) args.now) (output.new ≡ output.old) (T.taken output.old) (T.given output.new) (T.failures output.old) (T.failures output.new)
-            (E.taken errors.old) (E.taken errors.new) (E.failures errors.old) (E.failures errors.new) result) }
+        (E.taken errors.old) (E.taken errors.new) (E.failures errors.old) (E.failures errors.new) result) }
 {
     match task(rt.alloc(), args) {
         Ok(Task::Image(request)) => run_image(rt, loader, maker, Ok(request), output, errors),
-        Ok(Task::Extract {
+        Ok(
+            Task::Extract {
+                options,
+                owners,
+                quiet,
+                image,
+                folder,
+            },
+        ) => run_extract(
+            rt.alloc(),
+            loader,
+            folders,
             options,
             owners,
             quiet,
             image,
             folder,
-        }) => run_extract(
-            rt.alloc(), loader, folders, options, owners, quiet, image, folder, errors,
+            errors,
         ),
-        Ok(Task::Listing {
+        Ok(
+            Task::Listing {
+                owner,
+                time,
+                quiet,
+                folder,
+            },
+        ) => run_listing(
+            rt.alloc(),
+            folders,
             owner,
             time,
             quiet,
             folder,
-        }) => run_listing(
-            rt.alloc(), folders, owner, time, quiet, folder, output, errors,
+            output,
+            errors,
         ),
         Err(fault) => run_image(rt, loader, maker, Err(fault), output, errors),
     }

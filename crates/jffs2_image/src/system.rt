@@ -22,6 +22,7 @@ impl<'r, R: Files + AllocGlobal + Clock + Eprint> SystemFolders<'r, R> {
 
 impl<'r, R: Files + AllocGlobal + Clock + Eprint> Folders for SystemFolders<'r, R> {
     type Filled = FilledFolder<'r, R>;
+
     type Read = ReadFolder<'r, R>;
 
     ghost made = { λ _. None };
