@@ -6,7 +6,7 @@ use jmount::{FindFault, mount};
 use jnode::Order;
 use std::alloc::Global;
 use std::test::Fail;
-use test_support::{MADE, are_made, is_erased};
+use test_support::{CUT_PLACES, MADE, are_made, is_erased};
 
 /// The number of blocks, a listing, where its nodes go, how many bytes go out, and what is told.
 type Built = (
@@ -20,7 +20,8 @@ type Built = (
 /// The nodes of a file or a directory that is made first.
 const FIRST: &[(u32, u32)] = &[(12, 68), (80, 41)];
 
-const SMALL: &[u8] =
+/// A file is made, written, cut, and written behind its end: its nodes go to `CUT_PLACES`.
+pub const SMALL: &[u8] =
     b"create 0644 /a\nwrite /a 0 0102030405060708090a\ntruncate /a 4\nwrite /a 8 ff\n";
 
 const RENAMED: &[u8] = b"mkdir 0755 /d\nrename /d /e\n";
@@ -36,20 +37,7 @@ const ACCEPTED: [Built; 8] = [
         124,
         "accepted 1 nodes 2 bytes 124\n",
     ),
-    (
-        1,
-        SMALL,
-        &[
-            (12, 68),
-            (80, 41),
-            (124, 78),
-            (204, 68),
-            (272, 68),
-            (340, 69),
-        ],
-        412,
-        "accepted 4 nodes 6 bytes 412\n",
-    ),
+    (1, SMALL, &CUT_PLACES, 412, "accepted 4 nodes 6 bytes 412\n"),
     (
         1,
         b"create 0644 /a\nwrite /a 0 ffffff\n",

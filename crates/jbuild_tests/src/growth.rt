@@ -1,59 +1,158 @@
 //! Refused growth.
 
+use crate::built::SMALL;
 use crate::runs::GEOMETRY;
 use byteorder::LittleEndian;
-use jbuild::{Parts, emit, operations};
+use flashbase::Sink;
+use jbuild::{Parts, emit, operations, put_accepted};
 use jlisting::listing;
-use jlog::SessionFault;
+use jlog::{RunReport, SessionFault};
 use jmount::mount;
 use jsteps::Page;
-use std::alloc::Global;
-use test_support::{Counter, MADE};
+use std::alloc::{AllocError, Global};
+use test_support::{MADE, Matcher, Taker};
 
-const TEXT: &[u8] = b"create 0644 /b\npart /b 0 f\nmkdir 0755 /d\nrename /b /d/c\n";
+/// A listing on a base: where writing goes on, the number of blocks, and the line that tells of it.
+#[derive(Clone, Copy)]
+struct Row<'r> {
+    base: &'r [u8],
+    from: u32,
+    blocks: u32,
+    text: &'r [u8],
+    told: &'r [u8],
+}
 
-/// Why not all was accepted, and how many bytes went out. What is refused before `emit` counts as its want of memory.
-fn fault(alloc: Global) -> Option<(SessionFault, u64)> {
-    let want = Some((SessionFault::OutOfMemory, 0));
+/// The files that the listings name.
+fn read_two(alloc: Global) -> Result<Parts<'static>, AllocError> {
     let mut parts = Parts::new(alloc);
-    let Ok(bytes) = [7; 5000].to_vec(alloc) else {
-        return want;
-    };
-    if parts.insert("f", bytes).is_err() {
-        return if parts.has("f") { None } else { want };
-    }
-    let Ok(lines) = listing(alloc, TEXT) else {
-        return want;
-    };
-    let Ok(ops) = operations(alloc, lines, &parts) else {
-        return want;
-    };
-    let Ok(mounted) = mount::<LittleEndian>(alloc, &MADE, GEOMETRY) else {
-        return want;
-    };
-    match emit::<LittleEndian, _>(
-        alloc,
-        &mounted,
-        GEOMETRY,
-        3,
-        Page::P4096,
-        &ops,
-        Counter { taken: 0 },
-    ) {
-        Ok((sink, report)) => report.stopped.map(|fault| (fault, sink.taken)),
-        Err((fault, Some(sink))) => Some((fault, sink.taken)),
-        Err((_, None)) => Some((SessionFault::Broken, 0)),
+    parts.insert("two", [1; 8192].to_vec(alloc)?)?;
+    Ok(parts)
+}
+
+/// What `emit` answers of a row, and nothing where a growth is refused before.
+fn emitted<S: Sink>(
+    alloc: Global,
+    row: &Row<'_>,
+    sink: S,
+) -> Option<Result<(S, RunReport), (SessionFault, Option<S>)>> {
+    let parts = read_two(alloc).ok()?;
+    let lines = listing(alloc, row.text).ok()?;
+    let ops = operations(alloc, lines, &parts).ok()?;
+    let mounted = mount::<LittleEndian>(alloc, row.base, GEOMETRY).ok()?;
+    let page = Page::P4096;
+    Some(emit::<LittleEndian, _>(alloc, &mounted, GEOMETRY, row.blocks, page, &ops, sink))
+}
+
+/// What goes out for a row, or why not all of it does.
+fn output_of(alloc: Global, row: &Row<'_>) -> Result<Vec<u8>, SessionFault> {
+    match emitted(alloc, row, Taker::new(alloc)) {
+        None => Err(SessionFault::OutOfMemory),
+        Some(Ok((sink, report))) => match report.stopped {
+            None => Ok(sink.bytes),
+            Some(fault) => Err(fault),
+        },
+        Some(Err((fault, _))) => Err(fault),
     }
 }
 
-/// Passes with each allocation failing in turn too: memory is then blamed, and the next call, with memory, answers as if
-/// there had been none before.
+/// Whether the line of what was accepted is as told.
+fn is_told(row: &Row<'_>, report: &RunReport) -> bool {
+    let mut line = Matcher {
+        rest: row.told,
+        failures: 0,
+    };
+    put_accepted(row.from, report.accepted, &report.places, &mut line).is_ok()
+        && line.rest.is_empty()
+}
+
+/// Why not all was accepted, and how many bytes went out; none where the bytes and the line are right. What is refused before
+/// `emit` counts as its want of memory.
+fn fault(alloc: Global, row: &Row<'_>, whole: &[u8]) -> Option<(SessionFault, usize)> {
+    let sink = Matcher {
+        rest: whole,
+        failures: 0,
+    };
+    let (fault, left) = match emitted(alloc, row, sink) {
+        None => (SessionFault::OutOfMemory, whole.len()),
+        Some(Ok((sink, report))) => match report.stopped {
+            None if sink.rest.is_empty() && is_told(row, &report) => return None,
+            None => (SessionFault::Broken, 0),
+            Some(fault) => (fault, sink.rest.len()),
+        },
+        Some(Err((fault, Some(sink)))) => (fault, sink.rest.len()),
+        Some(Err((_, None))) => (SessionFault::Broken, 0),
+    };
+    Some((fault, whole.len().saturating_sub(left)))
+}
+
+const ROWS: [Row<'static>; 2] = [
+    Row {
+        base: &[],
+        from: 0,
+        blocks: 1,
+        text: SMALL,
+        told: b"accepted 4 nodes 6 bytes 412\n",
+    },
+    Row {
+        base: &MADE,
+        from: 8192,
+        blocks: 3,
+        text: b"create 0644 /b\npart /b 0 two\nmkdir 0755 /d\nrename /b /d/c\n",
+        told: b"accepted 4 nodes 8 bytes 12568\n",
+    },
+];
+
+/// Whether a growth that is refused is told as such, before the base's bytes or after them, and the next call, with memory,
+/// answers as if there had been none before. Where the memory for what is to go out is refused, also to the sink that keeps it,
+/// no more is asked.
+fn holds(alloc: Global, row: &Row<'_>) -> bool {
+    let whole = match output_of(alloc, row) {
+        Ok(whole) => whole,
+        Err(SessionFault::OutOfMemory | SessionFault::Sink) => return true,
+        Err(_) => return false,
+    };
+    match fault(alloc, row, &whole) {
+        None => true,
+        Some((SessionFault::OutOfMemory, taken)) => {
+            (taken == 0 || taken >= row.from as usize) && fault(alloc, row, &whole).is_none()
+        }
+        Some(_) => false,
+    }
+}
+
+/// Passes with each allocation failing in turn too.
 #[test]
 fn refused_growth_is_want_of_memory(rt: HostRuntime) {
-    let first = fault(rt.alloc());
-    if let Some((why, taken)) = first {
-        assert_eq!(rt; why, SessionFault::OutOfMemory);
-        assert!(rt; taken == 0 || taken >= 8192);
-        assert_eq!(rt; fault(rt.alloc()), None);
+    for row in ROWS {
+        assert!(rt; holds(rt.alloc(), &row));
+    }
+    // The name's node is cut, and writing goes on in the next block.
+    let cut = Row {
+        base: &MADE[..100],
+        from: 8192,
+        blocks: 2,
+        text: b"create 0644 /b\n",
+        told: b"accepted 1 nodes 2 bytes 124\n",
+    };
+    assert!(rt; holds(rt.alloc(), &cut));
+}
+
+/// A file whose growth is refused is not there, and can be put there then.
+#[test]
+fn a_refused_file_is_not_there(rt: HostRuntime) {
+    let mut parts = Parts::new(rt.alloc());
+    for name in ["f", "g", "f"] {
+        let is_there = parts.has(name);
+        let Ok(bytes) = b"abc".to_vec(rt.alloc()) else {
+            return;
+        };
+        if parts.insert(name, bytes).is_err() {
+            assert_eq!(rt; parts.has(name), is_there);
+            let Ok(bytes) = b"abc".to_vec(rt.alloc()) else {
+                return;
+            };
+            assert!(rt; parts.insert(name, bytes).is_ok());
+        }
+        assert!(rt; parts.has(name));
     }
 }
