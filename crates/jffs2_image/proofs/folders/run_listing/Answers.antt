@@ -6,7 +6,7 @@ returns-in-Ok g c = record {
   between = g.E.Sink.taken c.list_given.new.notes;
   count = g.E.Sink.failures c.list_given.new.notes;
   answer = Ok c.in-Ok.left_out;
-  lists = rw c.settings_of.ensures at c.in-Ok.ensures;
+  lists = rw c.settings_of-options.ensures at c.in-Ok.ensures;
   said = (refl, refl);
   ends = search rules;
 }
@@ -16,7 +16,7 @@ returns-in-Err g c = record {
   between = g.E.Sink.taken c.list_given.new.notes;
   count = g.E.Sink.failures c.list_given.new.notes;
   answer = Err c.in-Err.fault;
-  lists = rw c.settings_of.ensures at c.in-Err.ensures;
+  lists = rw c.settings_of-options.ensures at c.in-Err.ensures;
   said = search rules;
   ends = search rules;
 }
