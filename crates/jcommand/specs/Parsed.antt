@@ -187,3 +187,16 @@ IsRefusedByClap args = (kind : ErrorKind) × (kind ≢ DisplayHelp) × (kind ≢
 -- clap has nothing against the words, but a value can't be read
 unfoldable pub IsUnreadable : List Text → Type 0
 IsUnreadable args = (fault_of program args ≡ []) × (parsed_from args ≡ None)
+
+-- ---- words that ask for an image, or for a folder
+
+-- the words ask for something of an image
+abbrev pub IsOfImage : Option TaskParsed → Type 0
+IsOfImage (Some (ImageParsed p)) = Unit {0}
+IsOfImage _ = ⊥
+
+-- they ask to fill or to read a folder
+abbrev pub IsOfFolder : Option TaskParsed → Type 0
+IsOfFolder (Some (ExtractParsed options owners quiet image folder)) = Unit {0}
+IsOfFolder (Some (ListingParsed owner time quiet folder)) = Unit {0}
+IsOfFolder _ = ⊥

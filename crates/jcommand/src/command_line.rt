@@ -2,12 +2,14 @@
 ghost use Rattle.std.specs.Prelude.{◌≡◌, ◌≢◌, ◌⊎◌, [], true, map, IfOk, IfErr, IsSome, OnOk, Some, option_map};
 ghost use Rattle.clap.specs.Words.{HasKind, fault_of, kind_of, subcommand_of, subcommand_rows_of, takes};
 ghost use Rattle.jcommand.specs.Commands.{program};
-ghost use Rattle.jcommand.specs.Parsed.{task_view, parsed_by, parsed_from, is_taken, IsFaultless, IsHelpRequested, IsHelpKind, IsRefusedByClap, IsUnreadable};
+ghost use Rattle.jcommand.specs.Parsed.{ImageParsed, IsOfFolder, IsOfImage, task_view, view, parsed_by, parsed_from, is_taken, IsFaultless, IsHelpRequested, IsHelpKind, IsRefusedByClap, IsUnreadable};
 ghost use Rattle.jcommand.specs.Refused.{IsHelp, IsUsage};
 ghost use Rattle.jcommand.specs.declared.command_line.RequestFault.TheVariants.{OutOfMemory};
 
 use crate::commands::make_program;
-use crate::parsed::{Task, endian, number, owner_number, page, parsed_of, text_at, texts_at};
+use crate::parsed::{
+    Request, Task, endian, number, owner_number, page, parsed_of, text_at, texts_at,
+};
 use clap::error::ErrorKind;
 use clap::{ArgMatches, Error};
 use std::alloc::{AllocError, Global};
@@ -154,5 +156,35 @@ pub fn task<'a>(alloc: Global, args: &'a [&'a str]) -> Result<Task<'a>, RequestF
     match parsed_in(&matches) {
         Some(task) => Ok(task),
         None => Err(usage(unreadable(alloc, &matches))),
+    }
+}
+
+/// The request that the words of a command line make of an image: what `task` answers, but for a command on a folder, which is
+/// refused.
+pub fn request<'a>(alloc: Global, args: &'a [&'a str]) -> Result<Request<'a>, RequestFault>
+    // The subcommand and its values are clap's own function of the words.
+    ensures ok { IfOk result (λ r. parsed_from (map (λ w. w.now) args.entry.now) ≡ Some (ImageParsed (view r))) }
+
+    // Words that clap refuses, or answers by help, ask for nothing.
+    ensures faultless { OnOk result (IsFaultless (map (λ w. w.now) args.entry.now)) }
+
+    // Where clap takes the words and they ask for something of an image, it can only run out of memory.
+    ensures only { is_taken (map (λ w. w.now) args.entry.now) ≡ true → IsOfImage (parsed_from (map (λ w. w.now) args.entry.now))
+        → IfErr result (λ e. e ≡ RequestFault.OutOfMemory) }
+
+    // Help comes only where clap answers the words by help, or by the version.
+    ensures help { IfErr result (λ e. IsHelp e → IsHelpRequested (map (λ w. w.now) args.entry.now)) }
+
+    // A command line is wrong only where clap refuses the words, or takes them and a value can't be read, or they ask for a folder.
+    ensures usage { IfErr result (λ e. IsUsage e → IsRefusedByClap (map (λ w. w.now) args.entry.now)
+        ⊎ (IsUnreadable (map (λ w. w.now) args.entry.now) ⊎ IsOfFolder (parsed_from (map (λ w. w.now) args.entry.now)))) }
+{
+    match task(alloc, args) {
+        Ok(Task::Image(request)) => Ok(request),
+        Ok(Task::Extract { .. } | Task::Listing { .. }) => Err(usage(String::from_str(
+            alloc,
+            "error: the command works with a folder, and asks for no image\n",
+        ))),
+        Err(fault) => Err(fault),
     }
 }

@@ -8,8 +8,8 @@
 //!   clap sees it.
 //! - `help`: the texts of the help.
 //! - `parsed`: what clap's matches ask for, `specs/Parsed.antt`.
-//! - `command_line`: `task`, which takes the words to a `Task` or to the text that answers them;
-//!   `specs/Refused.antt`.
+//! - `command_line`: `task`, which takes the words to a `Task` or to the text that answers them, and `request`, the same of
+//!   an image alone; `specs/Refused.antt`.
 //! - `outcome`: how the program ends, and its exit status; `specs/Status.antt`.
 //! - `laws`: worked command lines.
 #![tactic(auto)]
@@ -21,6 +21,6 @@ pub mod laws;
 mod outcome;
 mod parsed;
 
-pub use crate::command_line::{RequestFault, task};
+pub use crate::command_line::{RequestFault, request, task};
 pub use crate::outcome::{Outcome, status};
 pub use crate::parsed::{Options, Owner, Request, Task};

@@ -1,6 +1,8 @@
 //! Command lines that ask for a folder.
 
 use crate::command_lines::answer_to;
+use jcommand::{Request, RequestFault, request};
+use std::alloc::Global;
 use std::test::Fail;
 
 #[test]
@@ -60,4 +62,30 @@ fn args_that_are_wrong_of_a_folder(rt: HostRuntime) -> Result<(), Fail> {
         assert!(rt; is_right, "{line}: {answer}");
     }
     Ok(())
+}
+
+/// The image that `check` is asked for, or what the words ask for else.
+fn image_of<'a>(alloc: Global, words: &'a [&'a str]) -> &'a str {
+    match request(alloc, words) {
+        Ok(Request::Check { image, .. }) => image,
+        Ok(_) => "another request",
+        Err(RequestFault::Usage { .. }) => "wrong",
+        Err(RequestFault::Help { .. }) => "help",
+        Err(RequestFault::OutOfMemory) => "no memory",
+    }
+}
+
+#[test]
+fn a_request_is_of_an_image(rt: HostRuntime) {
+    let examples = [
+        (["t", "check", "a.img", "--shape"], "a.img"),
+        (["t", "cat", "a.img", "/b"], "another request"),
+        (["t", "extract", "a.img", "b"], "wrong"),
+        (["t", "listing", "a", "--quiet"], "wrong"),
+        (["t", "check", "a.img", "b"], "wrong"),
+        (["t", "check", "a.img", "--help"], "help"),
+    ];
+    for (words, wanted) in &examples {
+        assert_eq!(rt; image_of(rt.alloc(), words), *wanted);
+    }
 }
