@@ -21,7 +21,7 @@ import hostile_model as model
 
 ROOT = os.path.dirname(os.path.dirname(os.path.abspath(__file__)))
 PROGRAM = os.path.realpath(sys.argv[1] if len(sys.argv) > 1 else f"{ROOT}/crates/jffs2_image/out/jffs2_image")
-NO_MEMORY = re.compile(rb"jffs2_image: (L3|C5|M7|P6|S5) OutOfMemory( line \d+)?\n")
+NO_MEMORY = re.compile(rb"((?:left out .*\n)*)jffs2_image: (?:L3|C5|M7|P6|S5) OutOfMemory(?: line \d+)?\n")
 NOTE = b"jffs2_image: note: %d findings, see check --scan; a wrong --block or --endian shows as findings too\n"
 OUTPUT = b"jffs2_image: P5 Output\n"
 SIZES = 10
@@ -94,6 +94,8 @@ MEMORY = (
     ["build", "--blocks", "200", "many.txt", "out.img"],
     ["build", "--blocks", "200", "creates.txt", "out.img"],
     ["append", "--blocks", "200", "many.img", "many.txt", "out.img"],
+    ["extract", "some.img", "out.dir"],
+    ["listing", "some.dir"],
 )
 
 
@@ -101,19 +103,36 @@ def writes(words):
     return words[0] in ("build", "append")
 
 
+def below(top):
+    """What stands in a folder: the bytes of each file, and of what is none no bytes."""
+    if not os.path.isdir(top):
+        return None
+    paths = [os.path.join(folder, name) for folder, folders, names in os.walk(top) for name in [*folders, *names]]
+    return {path: b"" if os.path.islink(path) else read(path) or b"" for path in paths}
+
+
+def made_by(words):
+    return read("out.img") if writes(words) else below("out.dir") if words[0] == "extract" else None
+
+
 def tried(words, memory=None, **others):
-    """What a command does, and what stands in the file that it makes."""
+    """What a command does, and what stands in the file or the folder that it makes."""
     forget("out.img")
-    return run(words, memory, **others), read("out.img") if writes(words) else None
+    shutil.rmtree("out.dir", ignore_errors=True)
+    done = run(words, memory, **others)
+    return done, made_by(words)
 
 
 def is_beginning(part, whole):
+    if isinstance(part, dict):
+        return whole is not None and all(path in whole and whole[path].startswith(data) for path, data in part.items())
     return part is None or whole is not None and whole.startswith(part)
 
 
 def gives_up(done, made, right, wanted):
     """Whether a command says that memory ran out, behind a beginning of what it has to say and to write."""
-    is_said = done.status == 1 and NO_MEMORY.fullmatch(done.err) is not None
+    told = NO_MEMORY.fullmatch(done.err)
+    is_said = done.status == 1 and told is not None and right.err.startswith(told[1])
     return is_said and right.out.startswith(done.out) and is_beginning(made, wanted)
 
 
@@ -132,6 +151,10 @@ def in_little_memory():
     write("many.txt", LISTING)
     write("data", bytes(20000))
     write("creates.txt", "".join(f"create 0644 /f{k:05}\n" for k in range(20000)))
+    write("some.img", images.names(1000))
+    os.mkdir("some.dir")
+    for k in range(1000):
+        write(f"some.dir/f{k}", b"")
     # (Below that it cannot be loaded.)
     begins = least(lambda size: run(["--version"], size).status in (0, 1), 1 << 20, 1 << 26, 4096)
     for words in MEMORY:
@@ -161,6 +184,7 @@ def with_refused_growths():
     write("small.img", images.sample())
     write("small.txt", "mkdir 0755 /d\ncreate 0644 /d/f\npart /d/f 0 data\nsymlink /s a\\x20b\nrename /d /e\n")
     write("data", b"data")
+    small_folder("small.dir")
     for words in (
         ["check", "--scan", "small.img"],
         ["check", "small.img"],
@@ -168,10 +192,22 @@ def with_refused_growths():
         ["cat", "small.img", "/a"],
         ["build", "--blocks", "2", "small.txt", "out.img"],
         ["append", "--blocks", "2", "small.img", "small.txt", "out.img"],
+        ["extract", "small.img", "out.dir"],
+        ["listing", "small.dir"],
         ["--help"],
         ["paint"],
     ):
         refuse_each(shim, words)
+
+
+def small_folder(top):
+    """A folder with something of each kind, of which a name has a space, and one is left out."""
+    os.makedirs(f"{top}/d")
+    write(f"{top}/d/f", b"data")
+    write(f"{top}/d/a b", b"more data")
+    os.link(f"{top}/d/f", f"{top}/g")
+    os.symlink("d/f", f"{top}/s")
+    os.mkfifo(f"{top}/fifo")
 
 
 def refuse_each(shim, words):
