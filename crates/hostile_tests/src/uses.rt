@@ -35,13 +35,26 @@ fn has_line(text: &[u8], start: &[u8]) -> bool {
         .any(|line| line.starts_with(start))
 }
 
-/// Whether the report stands first in what `check` prints, and the verdict is that of the mount.
-fn is_checked<E: Order>(alloc: Global, image: &[u8], mounts: bool) -> Result<bool, Fail> {
+/// Whether the report stands first in what `check` prints, and the verdict is that of the mount, if it mounts.
+fn is_checked<E: Order>(
+    alloc: Global,
+    image: &[u8],
+    mounted: Option<&Mounted<'_>>,
+) -> Result<bool, Fail> {
     let (text, found) = checked::<E>(alloc, image)?;
     let report = scan_lines::<E>(alloc, image, GEOMETRY)?;
     let (is_ok, dangles) = (has_line(&text, b"mount ok"), has_line(&text, b"dangling "));
-    let is_sound = mounts && report.findings == 0 && !dangles;
-    Ok(text.starts_with(&report.text) && is_ok == mounts && found != is_sound)
+    let is_sound = mounted.is_some() && report.findings == 0 && !dangles;
+    let is_same = match mounted {
+        Some(mounted) => {
+            is_ok
+                && mounted.image() == image
+                && mounted.findings().len() as u64 == report.findings
+                && mounted.read_only() == has_line(&text, b"mount ok read-only")
+        }
+        None => !is_ok,
+    };
+    Ok(text.starts_with(&report.text) && is_same && found != is_sound)
 }
 
 /// Whether all that a mounted image answers of names and objects agrees.
@@ -148,10 +161,10 @@ fn count_names(mounted: &Mounted<'_>) -> usize {
 pub fn used<E: Order>(alloc: Global, image: &[u8]) -> Result<Use, Fail> {
     let mounted = match mount::<E>(alloc, image, GEOMETRY) {
         Ok(mounted) => mounted,
-        Err(fault) if is_checked::<E>(alloc, image, false)? => return Ok(Use::Refused(fault)),
+        Err(fault) if is_checked::<E>(alloc, image, None)? => return Ok(Use::Refused(fault)),
         Err(_) => return Ok(Use::Wrong("check")),
     };
-    if !is_checked::<E>(alloc, image, true)? {
+    if !is_checked::<E>(alloc, image, Some(&mounted))? {
         return Ok(Use::Wrong("check"));
     }
     if !agrees(alloc, &mounted)? {
