@@ -3,6 +3,7 @@
 
 #[cfg(test)]
 mod command_lines;
+#[cfg(test)]
 mod folders;
 #[cfg(test)]
 mod growth;
