@@ -4,19 +4,21 @@ use Rattle.std.specs.Prelude.{◌⊎◌, Contains, if◌then◌else◌, ◌==◌
 use Rattle.std.specs.List.{flat_map}
 use Rattle.std.specs.Option.{option_and_then}
 use Rattle.std.specs.Ordering.{nat_cmp}
-use Rattle.std.specs.BTreeMap.{get, IsOrdered}
+use Rattle.std.specs.BTreeMap.{Updates, get, IsOrdered}
+use Rattle.std.specs.Cmp.{unsigned_tied}
 use Rattle.std.proofs.lemmas.Bool.{eq-eqb, eqb-true}
 use Rattle.std.proofs.lemmas.List.Folds.{flat_map-map}
 use Rattle.std.proofs.lemmas.Map.Lookups.{exact_unsigned}
 use Rattle.std.proofs.lemmas.Map.Views.{Contains-from_lookup, tells_apart}
 use Rattle.std.proofs.lemmas.Option.{same_Some}
 use Rattle.jnode.specs.declared.node.InodeNode.{InodeNode}
+use Rattle.jname.proofs.ContentsByNameLemmas.{by_test}
 use Rattle.jname.proofs.EntriesLemmas.{nat_found}
-use Rattle.jname.proofs.MemberLemmas.{Contains-map, Contains-map_from, Contains-flat_map, Contains-flat_map_from}
+use Rattle.jname.proofs.MemberLemmas.{Contains-flat_map, Contains-flat_map_from}
 use Rattle.jmount.specs.declared.versions.Versions.{Versions}
 use Rattle.jmount.specs.Clash.{SomeInodeClashesWith, NoInodeClashesWith}
-use Rattle.jmount.specs.Inodes.{GainsInode, InodeAgrees, InodeDiffers, versions_in, inode_of_version, NodesByNumber, inode_at, IsKeyed, nodes_in, nodes_of_numbers}
-use Rattle.jmount.proofs.NewestLemmas.{version_found}
+use Rattle.jmount.specs.Inodes.{GainsInode, InodeAgrees, InodeDiffers, inode_of_version, NodesByNumber, inode_at, IsKeyed, nodes_in, nodes_of_numbers}
+use Rattle.jmount.proofs.NewestLemmas.{version_found, version_from}
 
 -- ---- the list
 
@@ -49,22 +51,17 @@ unfolding nodes_of_numbers
 Contains-from_inode_at numbers i v node h =
     let vs = and_then_from (λ (vs : Versions). inode_of_version vs v) (get nat_cmp numbers i) node h in
     let at_number : Contains numbers.entries (i, vs.0) = Contains-from_lookup (tells_apart exact_unsigned) i vs.0 numbers.entries vs.1 in
-    let at_version : Contains (versions_in vs.0) (v, node) = Contains-from_lookup (tells_apart exact_unsigned) v node (versions_in vs.0) vs.2 in
-    Contains-flat_map nodes_at numbers.entries (i, vs.0) node at_number
-    (Contains-map (λ (e : ℕ × InodeNode). e.1) (versions_in vs.0) (v, node) at_version)
+    Contains-flat_map nodes_at numbers.entries (i, vs.0) node at_number (version_from vs.0 v node vs.2).0
 
 -- and a node of the list is stored, for its own number and version
 pub inode_at-from_Contains : (numbers : NodesByNumber) → IsOrdered nat_cmp numbers → IsKeyed numbers → (node : InodeNode) → Contains (nodes_of_numbers numbers) node → inode_at numbers node.ino node.version ≡ Some node
 unfolding nodes_of_numbers
 inode_at-from_Contains numbers ordered keyed node h =
     let a = Contains-flat_map_from nodes_at numbers.entries node h in
-    let b = Contains-map_from (λ (e : ℕ × InodeNode). e.1) (versions_in a.0.1) node a.2 in
     let number : get nat_cmp numbers a.0.0 ≡ Some a.0.1 = nat_found numbers.entries a.0.0 a.0.1 ordered a.1 in
-    let version : inode_of_version a.0.1 b.0.0 ≡ Some b.0.1 = version_found a.0.1 b.0.0 b.0.1 b.1 in
-    let there : inode_at numbers a.0.0 b.0.0 ≡ Some node =
-    ap (λ (o : Option Versions). option_and_then (λ vs. inode_of_version vs b.0.0) o) number ∙ version ∙ ap Some b.2 in
-    let key = keyed a.0.0 b.0.0 node there in
-    (λ i. inode_at numbers (key.0 i) (key.1 i)) ∙ there
+    let there : inode_at numbers a.0.0 node.version ≡ Some node =
+    ap (λ (o : Option Versions). option_and_then (λ vs. inode_of_version vs node.version) o) number ∙ version_found a.0.1 node a.2 in
+    ap (λ (i : ℕ). inode_at numbers i node.version) (keyed a.0.0 node.version node there).0 ∙ there
 
 -- ---- one node more
 
@@ -130,6 +127,37 @@ gains_one old new old_ordered new_ordered keyed node more agrees x = (
       (ap (λ (b : Bool). if b then Some node else inode_at old node.ino node.version) (own_key node)))
       h),
 )
+
+-- a number that had none has one node
+pub first_of_number : (old mid new : NodesByNumber) (one : Versions) (node : InodeNode) → mid ≡ old → get nat_cmp old node.ino ≡ None → Updates nat_cmp mid new node.ino (Some one)
+    → ((v : ℕ) → inode_of_version one v ≡ (if node.version == v then Some node else None)) → HoldsOneMore old new node
+first_of_number old mid new one node same none updates is i v =
+    let there : get nat_cmp new i ≡ (if node.ino == i then Some one else get nat_cmp old i) =
+    updates.0 i ∙ ap (λ (b : Bool). if b then Some one else get nat_cmp mid i) (unsigned_tied node.ino i) ∙ ap (λ (m : NodesByNumber). if node.ino == i then Some one else get nat_cmp m i) same in
+    ap (option_and_then (λ (vs : Versions). inode_of_version vs v)) there
+    ∙ by_test (node.ino == i)
+    (λ e.
+    let here : get nat_cmp old i ≡ None = ap (get nat_cmp old) (sym (eqb-true node.ino i e)) ∙ none in
+    ap (λ (b : Bool). option_and_then (λ (vs : Versions). inode_of_version vs v) (if b then Some one else get nat_cmp old i)) e
+    ∙ is v
+    ∙ ap (λ (o : Option Versions). if node.version == v then Some node else option_and_then (λ (vs : Versions). inode_of_version vs v) o) (sym here)
+    ∙ sym (ap (λ (b : Bool). if b && node.version == v then Some node else inode_at old i v) e))
+    (λ e.
+    ap (λ (b : Bool). option_and_then (λ (vs : Versions). inode_of_version vs v) (if b then Some one else get nat_cmp old i)) e
+    ∙ sym (ap (λ (b : Bool). if b && node.version == v then Some node else inode_at old i v) e))
+
+-- other versions that answer the same
+pub same_of_number : (old new : NodesByNumber) (k : ℕ) (before after : Versions) → get nat_cmp old k ≡ Some before → Updates nat_cmp old new k (Some after)
+    → ((v : ℕ) → inode_of_version after v ≡ inode_of_version before v) → (i v : ℕ) → inode_at new i v ≡ inode_at old i v
+same_of_number old new k before after there updates same i v =
+    let found : get nat_cmp new i ≡ (if k == i then Some after else get nat_cmp old i) = updates.0 i ∙ ap (λ (b : Bool). if b then Some after else get nat_cmp old i) (unsigned_tied k i) in
+    ap (option_and_then (λ (vs : Versions). inode_of_version vs v)) found
+    ∙ by_test (k == i)
+    (λ e.
+    ap (λ (b : Bool). option_and_then (λ (vs : Versions). inode_of_version vs v) (if b then Some after else get nat_cmp old i)) e
+    ∙ same v
+    ∙ ap (option_and_then (λ (vs : Versions). inode_of_version vs v)) (sym there ∙ ap (get nat_cmp old) (eqb-true k i e)))
+    (λ e. ap (λ (b : Bool). option_and_then (λ (vs : Versions). inode_of_version vs v) (if b then Some after else get nat_cmp old i)) e)
 
 -- ---- clashes
 

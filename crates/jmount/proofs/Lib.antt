@@ -1,4 +1,5 @@
 pub mod NewestLemmas
+pub mod OlderLemmas
 pub mod InodesLemmas
 pub mod LeastLemmas
 pub mod NamesLemmas

@@ -1,84 +1,102 @@
 -- The nodes of one number, of which the newest is apart.
-use Rattle.std.proofs.Common.{◌≡◌, ℕ, Bool, true, false, ◌<◌, ◌≤◌, Option, Some, None, refl, ap, sym, subst, ◌∙◌, ⊎_elim, arith}
-use Rattle.std.specs.Prelude.{if◌then◌else◌, ◌==◌, IsSome, Contains}
-use Rattle.std.specs.Ordering.{nat_cmp, eq_by_cmp}
-use Rattle.std.specs.BTreeMap.{BTreeMap, get}
+use Rattle.std.proofs.Common.{◌≡◌, ℕ, Bool, false, ◌<◌, ◌≤◌, List, [], ◌∷◌, ◌++◌, Option, Some, None, refl, ap, sym, subst, ◌∙◌, ⊎_elim, arith}
+use Rattle.std.specs.Prelude.{if◌then◌else◌, ◌==◌, Contains}
 use Rattle.std.proofs.lemmas.Bool.{eq-eqb, eqb-true}
+use Rattle.std.proofs.lemmas.List.Elements.{Contains-push_cases}
 use Rattle.jnode.specs.declared.node.InodeNode.{InodeNode}
 use Rattle.jmount.specs.declared.versions.Versions.{Versions}
-use Rattle.jmount.specs.Inodes.{versions_in, inode_of_version}
-use Rattle.std.specs.Cmp.{unsigned_tied}
-use Rattle.jname.proofs.EntriesLemmas.{nat_found}
+use Rattle.jmount.specs.ByVersion.{node_of_version}
+use Rattle.jmount.specs.Inodes.{nodes_in, inode_of_version}
 use Rattle.jname.proofs.ContentsByNameLemmas.{by_test}
 use Rattle.jname.proofs.MemberLemmas.{Contains-cases}
+use Rattle.jmount.proofs.NumbersLemmas.{eqb_symm}
+use Rattle.jmount.proofs.OlderLemmas.{choose, node_at, node_of_first, node_of_pushed}
 
-choose : Bool → InodeNode → Option InodeNode → Option InodeNode
-choose b node rest = if b then Some node else rest
+-- all of these are below a version
+abbrev pub AreBelow : List InodeNode → ℕ → Type 0
+AreBelow nodes v = (node : InodeNode) → Contains nodes node → node.version < v
 
-version_at-is : (versions : Versions) (v : ℕ) → inode_of_version versions v ≡ choose (v == versions.newest.version) versions.newest (get nat_cmp versions.older v)
-unfolding choose
-version_at-is versions v = ap (λ (b : Bool). choose b versions.newest (get nat_cmp versions.older v)) (unsigned_tied v versions.newest.version)
+none_unless : (o : Option InodeNode) → ((node : InodeNode) → o ≡ Some node → ⊥) → o ≡ None
+none_unless None never = refl
+none_unless (Some node) never = absurd (never node refl)
+
+pub none_of_greater : (nodes : List InodeNode) (v : ℕ) → AreBelow nodes v → node_of_version nodes v ≡ None
+none_of_greater nodes v below =
+    none_unless (node_of_version nodes v)
+    (λ node h.
+    let at = node_at nodes v node h in
+    let less : node.version < v = below node at.0 in
+    let same : node.version ≡ v = at.1 in omega arith)
+
+pub below_same : (old new : List InodeNode) (v : ℕ) → new ≡ old → AreBelow old v → AreBelow new v
+below_same old new v same below node h = below node (subst (λ (ns : List InodeNode). Contains ns node) same h)
+
+pub below_one_more : (old new : List InodeNode) (more : InodeNode) (v : ℕ) → ((x : InodeNode) → Contains new x → Contains (more ∷ old) x) → more.version < v → AreBelow old v → AreBelow new v
+below_one_more old new more v from less below node h =
+    ⊎_elim
+    (λ (is : more ≡ node). subst (λ (n : InodeNode). n.version < v) is less)
+    (λ (was : Contains old node). below node was)
+    (Contains-cases more old node (from node h))
+
+pub below_pushed : (old new : List InodeNode) (last newest : InodeNode) (v : ℕ) → new ≡ old ++ last ∷ [] → last ≡ newest → newest.version < v → AreBelow old newest.version → AreBelow new v
+below_pushed old new last newest v is same less below node h =
+    ⊎_elim
+    (λ (was : Contains old node). let before : node.version < newest.version = below node was in omega arith)
+    (λ (here : last ≡ node). let version : newest.version ≡ node.version = ap (λ (n : InodeNode). n.version) (sym same ∙ here) in omega arith)
+    (Contains-push_cases old last node (subst (λ (ns : List InodeNode). Contains ns node) is h))
 
 not_equal : (v w : ℕ) → v < w → (v == w) ≡ false
 not_equal v w h = by_test (v == w) (λ e. let same : v ≡ w = eqb-true v w e in absurd (omega arith)) (λ e. e)
 
-at_newest : (versions : Versions) (v : ℕ) → (v == versions.newest.version) ≡ true → inode_of_version versions v ≡ Some versions.newest
+-- a node of the list is stored at its version
+pub version_found : (versions : Versions) (node : InodeNode) → Contains (nodes_in versions) node → inode_of_version versions node.version ≡ Some node
 unfolding choose
-at_newest versions v e = version_at-is versions v ∙ ap (λ (b : Bool). choose b versions.newest (get nat_cmp versions.older v)) e
+version_found versions node h =
+    node_of_first versions.newest versions.older.nodes.items node.version
+    ∙ ⊎_elim
+    (λ (is : versions.newest ≡ node).
+    ap (λ (b : Bool). choose b versions.newest (node_of_version versions.older.nodes.items node.version)) (eq-eqb node.version versions.newest.version (sym (ap (λ (n : InodeNode). n.version) is)))
+    ∙ ap Some is)
+    (λ (older : Contains versions.older.nodes.items node).
+    ap (λ (b : Bool). choose b versions.newest (node_of_version versions.older.nodes.items node.version)) (not_equal node.version versions.newest.version (versions.below node older))
+    ∙ versions.older.found node older)
+    (Contains-cases versions.newest versions.older.nodes.items node h)
 
-at_other : (versions : Versions) (v : ℕ) → (v == versions.newest.version) ≡ false → inode_of_version versions v ≡ get nat_cmp versions.older v
-unfolding choose
-at_other versions v e = version_at-is versions v ∙ ap (λ (b : Bool). choose b versions.newest (get nat_cmp versions.older v)) e
+-- and what is stored at a version is of the list
+pub version_from : (versions : Versions) (v : ℕ) (node : InodeNode) → inode_of_version versions v ≡ Some node → Contains (nodes_in versions) node × (node.version ≡ v)
+version_from versions v node h = node_at (nodes_in versions) v node h
 
-pub newest_at : (versions : Versions) (v : ℕ) → v ≡ versions.newest.version → inode_of_version versions v ≡ Some versions.newest
-newest_at versions v is = at_newest versions v (eq-eqb v versions.newest.version is)
-
-pub older_at : (versions : Versions) (v : ℕ) (node : InodeNode) → get nat_cmp versions.older v ≡ Some node → inode_of_version versions v ≡ Some node
-older_at versions v node h =
-    at_other versions v (not_equal v versions.newest.version (versions.below v (subst (λ (o : Option InodeNode). IsSome o) (sym h) refl))) ∙ h
-
-pub at_most_newest : (versions : Versions) (v : ℕ) → IsSome (inode_of_version versions v) → v ≤ versions.newest.version
-at_most_newest versions v h =
-    by_test (v == versions.newest.version)
-    (λ e. let same : v ≡ versions.newest.version = eqb-true v versions.newest.version e in omega arith)
-    (λ e. let less : v < versions.newest.version = versions.below v (subst (λ (o : Option InodeNode). IsSome o) (at_other versions v e) h) in omega arith)
-
-is_none : (o : Option InodeNode) → (IsSome o → ⊥) → o ≡ None
-is_none None never = refl
-is_none (Some node) never = absurd (never refl)
+pub at_most_newest : (versions : Versions) (node : InodeNode) → Contains (nodes_in versions) node → node.version ≤ versions.newest.version
+at_most_newest versions node h =
+    ⊎_elim
+    (λ (is : versions.newest ≡ node). let same : versions.newest.version ≡ node.version = ap (λ (n : InodeNode). n.version) is in omega arith)
+    (λ (older : Contains versions.older.nodes.items node). let less : node.version < versions.newest.version = versions.below node older in omega arith)
+    (Contains-cases versions.newest versions.older.nodes.items node h)
 
 pub none_above : (versions : Versions) (v : ℕ) → versions.newest.version < v → inode_of_version versions v ≡ None
 none_above versions v above =
-    is_none (inode_of_version versions v) (λ there. let most : v ≤ versions.newest.version = at_most_newest versions v there in absurd (omega arith))
-
-same_test : (m n : ℕ) → (m == n) ≡ (n == m)
-same_test m n =
-    by_test (n == m)
-    (λ e. eq-eqb m n (sym (eqb-true n m e)) ∙ sym e)
-    (λ e. by_test (m == n) (λ f. let yes : (n == m) ≡ true = eq-eqb n m (sym (eqb-true m n f)) in cc) (λ f. f ∙ sym e))
+    none_of_greater (nodes_in versions) v (λ node h. let most : node.version ≤ versions.newest.version = at_most_newest versions node h in omega arith)
 
 -- a node at the greatest version is one more
 pub newest_more : (versions : Versions) (v : ℕ) → inode_of_version versions v ≡ (if versions.newest.version == v then Some versions.newest else inode_of_version versions v)
 unfolding choose
 newest_more versions v =
     by_test (versions.newest.version == v)
-    (λ e. newest_at versions v (sym (eqb-true versions.newest.version v e)) ∙ ap (λ (b : Bool). choose b versions.newest (inode_of_version versions v)) (sym e))
+    (λ e.
+    node_of_first versions.newest versions.older.nodes.items v
+    ∙ ap (λ (b : Bool). choose b versions.newest (node_of_version versions.older.nodes.items v)) (eqb_symm v versions.newest.version ∙ e)
+    ∙ ap (λ (b : Bool). choose b versions.newest (inode_of_version versions v)) (sym e))
     (λ e. ap (λ (b : Bool). choose b versions.newest (inode_of_version versions v)) (sym e))
 
--- the old map with the node that was the newest, and the new one apart
-pub greater_more : (versions : Versions) (older : BTreeMap ℕ InodeNode) (version : ℕ) (node : InodeNode) → versions.newest.version < version
-    → ((v : ℕ) → get nat_cmp older v ≡ (if versions.newest.version == v then Some versions.newest else get nat_cmp versions.older v))
-    → (v : ℕ) → (if eq_by_cmp nat_cmp v version then Some node else get nat_cmp older v) ≡ (if version == v then Some node else inode_of_version versions v)
+-- the old nodes with that which was the newest, and a greater one apart
+pub greater_more : (versions : Versions) (node : InodeNode) (older : List InodeNode) → older ≡ versions.older.nodes.items ++ versions.newest ∷ []
+    → (v : ℕ) → node_of_version (node ∷ older) v ≡ (if node.version == v then Some node else inode_of_version versions v)
 unfolding choose
-greater_more versions older version node above more v =
-    ap (λ (b : Bool). choose b node (get nat_cmp older v)) (unsigned_tied v version ∙ same_test v version)
-    ∙ ap (choose (version == v) node)
-    (more v ∙ ap (λ (b : Bool). choose b versions.newest (get nat_cmp versions.older v)) (same_test versions.newest.version v) ∙ sym (version_at-is versions v))
-
--- a node of the list is stored at its version
-pub version_found : (versions : Versions) (v : ℕ) (node : InodeNode) → Contains (versions_in versions) (v, node) → inode_of_version versions v ≡ Some node
-version_found versions v node h =
-    ⊎_elim
-    (λ is. newest_at versions v (sym (ap (λ (e : ℕ × InodeNode). e.0) is)) ∙ ap (λ (e : ℕ × InodeNode). Some e.1) is)
-    (λ older. older_at versions v node (nat_found versions.older.entries v node versions.ordered older))
-    (Contains-cases (versions.newest.version, versions.newest) versions.older.entries (v, node) h)
+greater_more versions node older is v =
+    node_of_first node older v
+    ∙ ap (λ (b : Bool). choose b node (node_of_version older v)) (eqb_symm v node.version)
+    ∙ ap (choose (node.version == v) node)
+    (ap (λ (ns : List InodeNode). node_of_version ns v) is
+    ∙ node_of_pushed versions.older.nodes.items versions.newest v (none_of_greater versions.older.nodes.items versions.newest.version versions.below)
+    ∙ ap (λ (b : Bool). choose b versions.newest (node_of_version versions.older.nodes.items v)) (eqb_symm versions.newest.version v)
+    ∙ sym (node_of_first versions.newest versions.older.nodes.items v))

@@ -1,6 +1,6 @@
 -- The objects that nodes make, as they are stored.
 use Rattle.std.proofs.Common.{◌≡◌, ℕ, ◌≤◌, Bool, List, [], ◌∷◌, map, get_or, Option, Some, None, refl, ap, sym, ◌∙◌, subst, arith}
-use Rattle.std.specs.Prelude.{All, Contains, IsSome, option_map, if◌then◌else◌, ◌==◌}
+use Rattle.std.specs.Prelude.{All, Contains, option_map, if◌then◌else◌, ◌==◌}
 use Rattle.std.specs.Cmp.{unsigned_tied}
 use Rattle.std.specs.List.{flat_map}
 use Rattle.std.specs.Map.{lookup}
@@ -21,31 +21,23 @@ use Rattle.jfrag.specs.Overlays.{Visible, byte_at, IsHighestAt, content}
 use Rattle.jfrag.specs.Laws as overlay
 use Rattle.jfrag.proofs.OverlaysLemmas.{only_one_is_highest}
 use Rattle.jname.proofs.ContentsByNameLemmas.{by_test}
-use Rattle.jname.proofs.MemberLemmas.{Contains-none, Contains-here, Contains-map, Contains-map_from, Contains-flat_map}
+use Rattle.jname.proofs.MemberLemmas.{Contains-none, Contains-here, Contains-map_from, Contains-flat_map}
 use Rattle.jmount.specs.declared.versions.Versions.{Versions}
 use Rattle.jmount.specs.declared.stored.Stored.{Stored}
-use Rattle.jmount.specs.Inodes.{versions_in, inode_of_version, IsByVersion, IsKeyed, NodesByNumber, nodes_in, nodes_of_numbers}
+use Rattle.jmount.specs.Inodes.{inode_of_version, IsByVersion, IsKeyed, NodesByNumber, nodes_in, nodes_of_numbers}
 use Rattle.jmount.specs.StateOf.{latest, piece_of}
 use Rattle.jmount.specs.Storing.{Made, as_made, made_by, made_at}
 use Rattle.jmount.proofs.NumbersLemmas.{eqb_symm}
-use Rattle.jmount.proofs.NewestLemmas.{version_found, at_most_newest}
+use Rattle.jmount.proofs.NewestLemmas.{version_found, version_from, at_most_newest}
 
 -- ---- the nodes of one number
 
-pub found_at_version : (versions : Versions) → IsByVersion versions → (x : InodeNode) → Contains (nodes_in versions) x → inode_of_version versions x.version ≡ Some x
-found_at_version versions keyed x h =
-    let e = Contains-map_from (λ (e : ℕ × InodeNode). e.1) (versions_in versions) x h in
-    let there : inode_of_version versions e.0.0 ≡ Some e.0.1 = version_found versions e.0.0 e.0.1 e.1 in
-    let version : x.version ≡ e.0.0 = ap (λ (y : InodeNode). y.version) (sym e.2) ∙ keyed e.0.0 e.0.1 there in
-    ap (inode_of_version versions) version ∙ there ∙ ap Some e.2
-
 pub Contains-at_version : (versions : Versions) (v : ℕ) (x : InodeNode) → inode_of_version versions v ≡ Some x → Contains (nodes_in versions) x
-Contains-at_version versions v x h =
-    Contains-map (λ (e : ℕ × InodeNode). e.1) (versions_in versions) (v, x) (Contains-from_lookup (tells_apart exact_unsigned) v x (versions_in versions) h)
+Contains-at_version versions v x h = (version_from versions v x h).0
 
-pub one_of_version : (versions : Versions) → IsByVersion versions → (x y : InodeNode) → Contains (nodes_in versions) x → Contains (nodes_in versions) y → x.version ≡ y.version → x ≡ y
-one_of_version versions keyed x y in_x in_y same =
-    same_Some x y (sym (found_at_version versions keyed x in_x) ∙ ap (inode_of_version versions) same ∙ found_at_version versions keyed y in_y)
+pub one_of_version : (versions : Versions) → (x y : InodeNode) → Contains (nodes_in versions) x → Contains (nodes_in versions) y → x.version ≡ y.version → x ≡ y
+one_of_version versions x y in_x in_y same =
+    same_Some x y (sym (version_found versions x in_x) ∙ ap (inode_of_version versions) same ∙ version_found versions y in_y)
 
 -- ---- their pieces agree
 
@@ -55,7 +47,7 @@ pieces_agree_by_version versions keyed place j k d below l same covers_first cov
     let first = Contains-map_from piece_of (nodes_in versions) (get_or ps j d) (Contains-get_or ps j d (omega arith)) in
     let second = Contains-map_from piece_of (nodes_in versions) (get_or ps k d) (Contains-get_or ps k d l) in
     let version : first.0.version ≡ second.0.version = ap (λ (p : Piece). p.version) first.2 ∙ same ∙ sym (ap (λ (p : Piece). p.version) second.2) in
-    ap (byte_of place) (sym first.2) ∙ ap (λ node. byte_of place (piece_of node)) (one_of_version versions keyed first.0 second.0 first.1 second.1 version) ∙ ap (byte_of place) second.2
+    ap (byte_of place) (sym first.2) ∙ ap (λ node. byte_of place (piece_of node)) (one_of_version versions first.0 second.0 first.1 second.1 version) ∙ ap (byte_of place) second.2
 
 -- so what is visible is the content
 pub content-visible : (versions : Versions) → IsByVersion versions → (visible_at : ℕ → Visible) → ((place : ℕ) → IsHighestAt (map piece_of (nodes_in versions)) place (visible_at place))
@@ -65,12 +57,8 @@ content-visible versions keyed visible_at highest size =
 
 -- ---- the latest
 
-is_some_of : {X : Type 0} (o : Option X) (x : X) → o ≡ Some x → IsSome o
-is_some_of None x e = let no : None ≡ Some x = e in cc
-is_some_of (Some y) x e = grind arith
-
 in_newest : (versions : Versions) → Contains (nodes_in versions) versions.newest
-in_newest versions = Contains-here versions.newest (map (λ e. e.1) versions.older.entries)
+in_newest versions = Contains-here versions.newest versions.older.nodes.items
 
 latest_from : (versions : Versions) → IsByVersion versions → (o : Option InodeNode) → latest (nodes_in versions) ≡ o → o ≡ Some versions.newest
 latest_from versions keyed None e =
@@ -79,9 +67,9 @@ latest_from versions keyed None e =
 latest_from versions keyed (Some x) e =
     let is = newest_is_newest (nodes_in versions) (λ n. n.version) x e in
     let above : versions.newest.version ≤ x.version = is.1 versions.newest (in_newest versions) in
-    let below : x.version ≤ versions.newest.version = at_most_newest versions x.version (is_some_of (inode_of_version versions x.version) x (found_at_version versions keyed x is.0)) in
+    let below : x.version ≤ versions.newest.version = at_most_newest versions x is.0 in
     let same : x.version ≡ versions.newest.version = omega arith in
-    ap Some (one_of_version versions keyed x versions.newest is.0 (in_newest versions) same)
+    ap Some (one_of_version versions x versions.newest is.0 (in_newest versions) same)
 
 pub latest_is : (versions : Versions) → IsByVersion versions → latest (nodes_in versions) ≡ Some versions.newest
 latest_is versions keyed = latest_from versions keyed (latest (nodes_in versions)) refl

@@ -15,9 +15,9 @@ use Rattle.std.proofs.lemmas.List.Elements.{filter-append}
 use Rattle.jnode.specs.declared.node.InodeNode.{InodeNode}
 use Rattle.jname.proofs.EntriesLemmas.{nat_found}
 use Rattle.jname.proofs.ContentsByNameLemmas.{by_test}
-use Rattle.jname.proofs.MemberLemmas.{Contains-here, Contains-there, Contains-map_from}
+use Rattle.jname.proofs.MemberLemmas.{Contains-here, Contains-there}
 use Rattle.jmount.specs.declared.versions.Versions.{Versions}
-use Rattle.jmount.specs.Inodes.{NodesByNumber, IsKeyed, inode_at, versions_in, inode_of_version, nodes_in, nodes_of_numbers}
+use Rattle.jmount.specs.Inodes.{NodesByNumber, IsKeyed, inode_at, inode_of_version, nodes_in, nodes_of_numbers}
 use Rattle.jmount.specs.StateOf.{versions_of}
 use Rattle.jmount.specs.Storing.{made_at, made_by}
 use Rattle.jmount.proofs.NewestLemmas.{version_found}
@@ -71,11 +71,10 @@ versions_listed (e ∷ es) i sorted own =
 
 own-of : (numbers : NodesByNumber) → IsOrdered nat_cmp numbers → IsKeyed numbers → AreOwn numbers.entries
 own-of numbers ordered keyed e c node h =
-    let at_version = Contains-map_from (λ (f : ℕ × InodeNode). f.1) (versions_in e.1) node h in
     let number : get nat_cmp numbers e.0 ≡ Some e.1 = nat_found numbers.entries e.0 e.1 ordered c in
-    let version : inode_of_version e.1 at_version.0.0 ≡ Some at_version.0.1 = version_found e.1 at_version.0.0 at_version.0.1 at_version.1 in
-    let there : inode_at numbers e.0 at_version.0.0 ≡ Some node = ap (λ (o : Option Versions). option_and_then (λ vs. inode_of_version vs at_version.0.0) o) number ∙ version ∙ ap Some at_version.2 in
-    (keyed e.0 at_version.0.0 node there).0
+    let there : inode_at numbers e.0 node.version ≡ Some node =
+    ap (λ (o : Option Versions). option_and_then (λ vs. inode_of_version vs node.version) o) number ∙ version_found e.1 node h in
+    (keyed e.0 node.version node there).0
 
 versions_of-nodes : (numbers : NodesByNumber) → IsOrdered nat_cmp numbers → IsKeyed numbers → (i : ℕ) → versions_of (nodes_of_numbers numbers) i ≡ nodes_found (get nat_cmp numbers i)
 unfolding nodes_of_numbers nodes_listed

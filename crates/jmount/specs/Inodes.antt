@@ -1,11 +1,11 @@
 -- The inode nodes that a mount collects, by number and version.
-use Rattle.std.specs.Prelude.{◌≡◌, ◌≢◌, ◌⊎◌, ◌↔◌, ℕ, List, ◌∷◌, map, Contains, Option, Some, None, ⊤}
+use Rattle.std.specs.Prelude.{◌≡◌, ◌≢◌, ◌⊎◌, ◌↔◌, ℕ, List, ◌∷◌, Contains, Option, Some, None, ⊤}
 use Rattle.std.specs.List.{flat_map}
 use Rattle.std.specs.Option.{option_and_then}
-use Rattle.std.specs.Map.{lookup}
-use Rattle.std.specs.Ordering.{nat_cmp, eq_by_cmp}
+use Rattle.std.specs.Ordering.{nat_cmp}
 use Rattle.std.specs.BTreeMap.{BTreeMap, get}
 use Rattle.jnode.specs.declared.node.InodeNode.{InodeNode}
+use Rattle.jmount.specs.ByVersion.{node_of_version}
 use Rattle.jmount.specs.declared.versions.Versions.{Versions}
 
 -- the same nodes, and one more
@@ -22,13 +22,13 @@ abbrev pub InodeAgrees : Option InodeNode → InodeNode → Type 0
 InodeAgrees None node = ⊤
 InodeAgrees (Some there) node = there ≡ node
 
--- the nodes of a number, each with its version: that of the greatest, and the older ones in order
-abbrev pub versions_in : Versions → List (ℕ × InodeNode)
-versions_in versions = (versions.newest.version, versions.newest) ∷ versions.older.entries
+-- the nodes of a number: that of the greatest version, and the older ones in the order in which they came
+abbrev pub nodes_in : Versions → List InodeNode
+nodes_in versions = versions.newest ∷ versions.older.nodes.items
 
 -- the node that is stored at a version
 abbrev pub inode_of_version : Versions → ℕ → Option InodeNode
-inode_of_version versions v = lookup (eq_by_cmp nat_cmp v) (versions_in versions)
+inode_of_version versions v = node_of_version (nodes_in versions) v
 
 abbrev pub NodesByNumber : Type 0
 NodesByNumber = BTreeMap ℕ Versions
@@ -44,9 +44,6 @@ IsKeyed numbers = (i v : ℕ) (node : InodeNode) → inode_at numbers i v ≡ So
 -- each node of a number is stored at its own version
 abbrev pub IsByVersion : Versions → Type 0
 IsByVersion versions = (v : ℕ) (node : InodeNode) → inode_of_version versions v ≡ Some node → node.version ≡ v
-
-abbrev pub nodes_in : Versions → List InodeNode
-nodes_in versions = map (λ e. e.1) (versions_in versions)
 
 -- all nodes, in order of number
 unfoldable pub nodes_of_numbers : NodesByNumber → List InodeNode

@@ -8,7 +8,6 @@
 //! what follows from them, many of them once more as relations, and `examples` has worked examples.
 #![tactic(auto)]
 
-mod apart;
 mod collecting;
 pub mod examples;
 mod fault;
@@ -19,6 +18,7 @@ mod mounting;
 mod object;
 mod older;
 mod path;
+mod places;
 mod read;
 mod sameness;
 mod shape;

@@ -93,10 +93,10 @@ fn object_of<'a>(alloc: Global, versions: &Versions<'a>) -> Result<Stored<'a>, A
 fn pieces_of<'a>(alloc: Global, versions: &Versions<'a>) -> Result<Vec<Piece<'a>>, AllocError>
     ensures { IfOk result (λ pieces. pieces.items ≡ map piece_of (nodes_in versions.now)) }
 {
-    let mut pieces = Vec::with_capacity(alloc, versions.older.len() + 1)?;
+    let mut pieces = Vec::with_capacity(alloc, versions.older.nodes.len() + 1)?;
     pieces.push(piece_of(&versions.newest))?;
-    for node in versions.older.values() {
-        pieces.push(piece_of(node.node()))?;
+    for node in &versions.older.nodes {
+        pieces.push(piece_of(node))?;
     }
     Ok(pieces)
 }

@@ -1,15 +1,11 @@
 // The inode nodes of one number.
 
-ghost use Rattle.std.specs.Prelude.{◌≡◌, ◌==◌, ◌<◌, ℕ, Some, None, IsSome, OnOk, OnErr, if◌then◌else◌};
-ghost use Rattle.std.specs.Ordering.{nat_cmp};
-ghost use Rattle.std.specs.BTreeMap.{IsOrdered, get};
-ghost use Rattle.std.proofs.Props.{props};
+ghost use Rattle.std.specs.Prelude.{◌≡◌, ◌==◌, ◌<◌, ℕ, Some, None, Contains, OnOk, OnErr, if◌then◌else◌};
+ghost use Rattle.jnode.specs.declared.node.InodeNode.{InodeNode};
 
-use crate::apart::Apart;
-use crate::older::{add_older, agree, copied};
+use crate::older::{Older, agree, copied};
 use jnode::InodeNode;
 use std::alloc::{AllocError, AllocFailed, Global};
-use std::collections::BTreeMap;
 
 /// Why an inode node is not added.
 #[derive(Clone, Copy, Debug, PartialEq, Eq)]
@@ -39,18 +35,16 @@ impl<T: Drop> From<AllocFailed<T>> for InodeFault {
     }
 }
 
-/// The nodes of one number, by version. That of the greatest is apart, since most numbers have no other: a map takes
-/// memory only from the second one on.
+/// The nodes of one number. That of the greatest version is apart, since most numbers have no other.
 #[derive(Drop)]
 pub struct Versions<'a> {
     pub newest: InodeNode<'a>,
-    pub older: BTreeMap<u32, Apart<'a>>,
-    ghost ordered: { IsOrdered nat_cmp older } by { Prim.hlevel props },
-    ghost below: { (v : ℕ) → IsSome (get nat_cmp older v) → v < newest.version },
+    pub older: Older<'a>,
+    ghost below: { (node : InodeNode) → Contains older.nodes.items node → node.version < newest.version },
 }
 
 impl<'a> Versions<'a> {
-    ghost use Rattle.jmount.specs.Inodes.{InodeAgrees, InodeDiffers, inode_of_version, versions_in};
+    ghost use Rattle.jmount.specs.Inodes.{InodeAgrees, InodeDiffers, inode_of_version, nodes_in};
 
     /// One node. Takes no memory.
     pub fn of_one(alloc: Global, node: InodeNode<'a>) -> Self
@@ -58,7 +52,7 @@ impl<'a> Versions<'a> {
     {
         Versions {
             newest: node,
-            older: BTreeMap::new(alloc),
+            older: Older::new(alloc),
         }
     }
 
@@ -67,16 +61,16 @@ impl<'a> Versions<'a> {
         ensures clash { result ≡ Err InodeFault.Clash → InodeDiffers (inode_of_version self.old node.entry.version) node.entry }
         ensures alone { OnOk result (InodeAgrees (inode_of_version self.old node.entry.version) node.entry) }
         ensures ok { OnOk result ((v : ℕ) → inode_of_version self.new v ≡ (if node.entry.version == v then Some node.entry else inode_of_version self.old v)) }
-        ensures err { OnErr result (versions_in self.new ≡ versions_in self.old) }
+        ensures err { OnErr result (nodes_in self.new ≡ nodes_in self.old) }
+        ensures same { OnErr result ((v : ℕ) → inode_of_version self.new v ≡ inode_of_version self.old v) }
     {
         if node.version == self.newest.version {
             return agree(&self.newest, &node);
         }
         if node.version < self.newest.version {
-            return add_older(alloc, &mut self.older, node);
+            return self.older.add(alloc, node);
         }
-        let newest = Apart::new(alloc, copied(&self.newest))?;
-        self.older.insert(self.newest.version, newest)?;
+        self.older.push(copied(&self.newest))?;
         self.newest = node;
         Ok(())
     }

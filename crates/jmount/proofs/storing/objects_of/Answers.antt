@@ -42,3 +42,15 @@ loop-ino-preserved c =
           c.loop-ino.invariant.left c.loop-ino.invariant.done c.in_ok-object_of.ensures c.in_ok-insert.ensures.updates;
       ordered = c.in_ok-insert.ensures.ordered;
     }
+
+pub loop-ino-preserved-in_ok-insert : goal.loop-ino-preserved-in_ok-insert
+loop-ino-preserved-in_ok-insert c =
+    let is : c.loop-ino.ino-iterator ≡ (c.in-Some.ino, c.in-Some.versions) ∷ c.next.new.self = search rules in
+    record {
+      can = tt;
+      finite = tt;
+      left = others_left c.args.numbers c.loop-ino.ino-iterator c.next.new.self c.in-Some.ino c.in-Some.versions is c.loop-ino.invariant.left;
+      done = first_done c.args.numbers c.loop-ino.objects c.insert.new.self c.loop-ino.ino-iterator c.next.new.self c.in-Some.ino c.in-Some.versions c.in_ok-object_of.field-0 is
+          c.loop-ino.invariant.left c.loop-ino.invariant.done c.in_ok-object_of.ensures c.in_ok-insert.ensures.updates;
+      ordered = c.in_ok-insert.ensures.ordered;
+    }
