@@ -1,5 +1,5 @@
 -- Paths, from their names.
-use Rattle.std.proofs.Common.{◌≡◌, ℕ, ◌<◌, ◌≤◌, ◌-◌, Bool, true, false, nat_lt, min, take, drop, take_all, Ok, Err, if◌then◌else◌, Result, List, [], ◌∷◌, ◌++◌, length, arith, map, Bor, refl, sym, ap, ◌∙◌}
+use Rattle.std.proofs.Common.{◌≡◌, ℕ, ◌≤◌, ◌-◌, Bool, true, false, nat_lt, min, take, drop, take_all, Ok, Err, if◌then◌else◌, Result, List, ◌∷◌, ◌++◌, length, arith, map, Bor, refl, sym, ap, ◌∙◌}
 use Rattle.std.specs.List.{flat_map}
 use Rattle.std.proofs.lemmas.List.Folds.{flat_map-map}
 use Rattle.std.specs.List.{list_all}
@@ -8,7 +8,7 @@ use Rattle.std.specs.Str.{is_utf8}
 use Rattle.std.proofs.lemmas.Bool.Decides.{nat_tests}
 use Rattle.std.proofs.lemmas.Str.{is_utf8-from_IsUtf8, IsUtf8-from_is_utf8}
 use Rattle.jmount.specs.Find.{is_name}
-use Rattle.jline.proofs.TurnLemmas.{piece_read}
+use Rattle.jmount.proofs.PieceLemmas.{piece_read}
 use Rattle.jextract.specs.Paths.{greatest_path, host_path, path_text, text_if}
 use Rattle.jextract.specs.declared.reason.Reason.{Reason}
 use Rattle.jextract.specs.declared.reason.Reason.TheVariants as reason

@@ -2,7 +2,7 @@
 use Rattle.std.proofs.Common.{◌≡◌, ℕ, ◌<◌, ◌≤◌, ◌-◌, Bool, false, nat_lt, min, List, [], ◌∷◌, ◌++◌, length, take, drop, take_all, ap, arith, codes, if◌then◌else◌, map, Bor, sym, ◌∙◌}
 use Rattle.std.proofs.lemmas.Grind.{common_steps}
 use Rattle.jline.specs.Words.{escaped}
-use Rattle.jline.proofs.TurnLemmas.{piece_read}
+use Rattle.jmount.proofs.PieceLemmas.{piece_read}
 use Rattle.jreport.specs.TreeText.{target_shown}
 
 pub target_short : (target : List ℕ) → length target ≤ 4095 → codes " -> " ++ escaped target ≡ target_shown target
