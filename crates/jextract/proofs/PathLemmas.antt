@@ -1,5 +1,5 @@
 -- Paths, from their names.
-use Rattle.std.proofs.Common.{◌≡◌, ℕ, ◌<◌, ◌≤◌, ◌-◌, Bool, true, false, nat_lt, min, take, drop, take_all, Ok, Err, if◌then◌else◌, Result, List, [], ◌∷◌, ◌++◌, length, arith, map, Bor, refl, sym, ap, ◌∙◌}
+use Rattle.std.proofs.Common.{◌≡◌, ℕ, ◌≤◌, ◌-◌, Bool, true, false, nat_lt, min, take, drop, take_all, Ok, Err, if◌then◌else◌, Result, List, ◌∷◌, ◌++◌, length, arith, map, Bor, refl, sym, ap, ◌∙◌}
 use Rattle.std.specs.List.{flat_map}
 use Rattle.std.proofs.lemmas.List.Folds.{flat_map-map}
 use Rattle.std.specs.List.{list_all}
@@ -8,15 +8,10 @@ use Rattle.std.specs.Str.{is_utf8}
 use Rattle.std.proofs.lemmas.Bool.Decides.{nat_tests}
 use Rattle.std.proofs.lemmas.Str.{is_utf8-from_IsUtf8, IsUtf8-from_is_utf8}
 use Rattle.jmount.specs.Find.{is_name}
-use Rattle.jline.specs.Words.{escaped}
-use Rattle.jline.proofs.TurnLemmas.{piece_read}
-use Rattle.jextract.specs.Paths.{greatest_path, host_path, path_shown, path_text, text_if}
+use Rattle.jmount.proofs.PieceLemmas.{piece_read}
+use Rattle.jextract.specs.Paths.{greatest_path, host_path, path_text, text_if}
 use Rattle.jextract.specs.declared.reason.Reason.{Reason}
 use Rattle.jextract.specs.declared.reason.Reason.TheVariants as reason
-
-pub shown_of_names : (path : List (Bor (List ℕ))) → 0 < length path → flat_map (λ name. 47 ∷ escaped name.now) path ≡ path_shown (map (λ name. name.now) path)
-shown_of_names [] some = absurd (omega (arith, some))
-shown_of_names (name ∷ path) some = sym (flat_map-map (λ n. 47 ∷ escaped n) (λ (n : Bor (List ℕ)). n.now) (name ∷ path))
 
 pub text_of_names : (first : Bor (List ℕ)) (rest : List (Bor (List ℕ)))
     → first.now ++ flat_map (λ name. 47 ∷ name.now) rest ≡ path_text (map (λ name. name.now) (first ∷ rest))

@@ -9,8 +9,9 @@ use Rattle.jmount.specs.Shown.{readable, shown}
 use Rattle.jmount.specs.declared.object.Kind.{Kind}
 use Rattle.jmount.specs.declared.object.Kind.TheVariants as kind
 use Rattle.jmount.specs.declared.object.Object.{Object}
+use Rattle.jline.specs.Paths.{path_shown}
 use Rattle.jextract.specs.Folders.{Made, Deed, Directory, File, Content, Symlink, Link, Attributed}
-use Rattle.jextract.specs.Paths.{host_path, path_shown}
+use Rattle.jextract.specs.Paths.{host_path}
 use Rattle.jextract.specs.declared.folder.Attributes.{Attributes}
 use Rattle.jextract.specs.declared.folder.Owner.{Owner}
 use Rattle.jextract.specs.declared.reason.Reason.{Reason}

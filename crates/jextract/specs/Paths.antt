@@ -1,9 +1,8 @@
--- The paths of the host, and how they are shown.
+-- The paths of the host.
 use Rattle.std.specs.Prelude.{ℕ, nat_lt, List, [], ◌∷◌, ◌++◌, length, flat_map, Result, Ok, Err, if◌then◌else◌}
 use Rattle.std.specs.List.{list_all}
 use Rattle.std.specs.Str.{is_utf8}
 use Rattle.jmount.specs.Find.{is_name}
-use Rattle.jline.specs.Words.{escaped}
 use Rattle.jextract.specs.declared.reason.Reason.{Reason}
 use Rattle.jextract.specs.declared.reason.Reason.TheVariants as reason
 
@@ -26,8 +25,3 @@ text_if text =
 -- 3.170 "Filename"), and its text is UTF-8 and of no more than 4,095 bytes.
 unfoldable pub host_path : List (List ℕ) → Result (List ℕ) Reason
 host_path path = if list_all is_name path then text_if (path_text path) else Err reason.BadName
-
--- a path as it is told: a slash before each name, and the names escaped; the folder itself is a slash alone
-abbrev pub path_shown : List (List ℕ) → List ℕ
-path_shown [] = 47 ∷ []
-path_shown (name ∷ names) = flat_map (λ n. 47 ∷ escaped n) (name ∷ names)

@@ -2,7 +2,6 @@
 
 ghost use Rattle.std.specs.Prelude.{◌≡◌, ◌==◌, not, ◌%◌, [], ◌∷◌, Some, None, MatchOption, false, true, length, map, option_map};
 ghost use Rattle.std.specs.List.{list_all};
-ghost use Rattle.flashbase.specs.Device.{Puts};
 ghost use Rattle.jmount.specs.Shown.{readable, shown};
 ghost use Rattle.jmount.specs.Tree as tree;
 ghost use Rattle.jextract.specs.Folders.{Content, File};
@@ -12,14 +11,9 @@ ghost use Rattle.jextract.specs.Outcomes.{Complete, Make, attributes_of, is_targ
 use crate::folder::{Attributes, Folder, FolderFault, Owner};
 use crate::paths::host_path;
 use crate::reason::Reason;
-use flashbase::{DeviceFault, Sink};
-use jline::put_text;
 use jmount::{Kind, Mounted, Object};
 use std::alloc::{AllocError, AllocFailed, Global};
 use std::collections::BTreeMap;
-
-/// A file goes out in pieces of this many bytes.
-const PIECE: usize = 4096;
 
 /// No host takes a longer target.
 const GREATEST_TARGET: usize = 4095;
@@ -80,43 +74,19 @@ fn attributes_of(object: &Object, owners: bool) -> Attributes
     }
 }
 
-/// Puts the bytes of a file of this size, piece by piece.
-fn put_bytes<T: Sink>(
-    mounted: &Mounted<'_>,
-    ino: u32,
-    size: u32,
-    sink: &mut T,
-) -> Result<(), DeviceFault>
-    requires { length (readable mounted.now.state ino) ≡ size }
-    ensures { Puts (T.taken sink.old) (T.taken sink.new) (T.failures sink.old) (T.failures sink.new)
-        (readable mounted.now.state ino) result }
-{
-    let size = u64::from(size);
-    let mut piece = [0u8; PIECE];
-    let mut offset = 0u64;
-    while offset < size {
-        let count = mounted.read_at(ino, offset, &mut piece);
-        put_text(sink, &piece[..count])?;
-        offset += count as u64;
-    }
-    Ok(())
-}
-
 /// Makes a file with its bytes and its attributes.
 fn make_file<F: Folder>(
     mounted: &Mounted<'_>,
     ino: u32,
-    size: u32,
     path: &str,
     attributes: Attributes,
     folder: &mut F,
 ) -> Result<(), FolderFault>
-    requires { length (readable mounted.now.state ino) ≡ size }
     ensures { Does (F.made folder.old) (F.made folder.new) (F.failures folder.old) (F.failures folder.new)
         (made_at path.now (File ∷ Content (readable mounted.now.state ino) attributes ∷ [])) result }
 {
     let mut file = folder.make_file(path)?;
-    if put_bytes(mounted, ino, size, &mut file).is_err() {
+    if mounted.put_bytes(ino, &mut file).is_err() {
         folder.give_up_file(path, file);
         return Err(FolderFault::Refused);
     }
@@ -195,7 +165,7 @@ fn make_anew<F: Folder>(
 {
     match object.kind {
         Kind::Directory => folder.make_directory(path)?,
-        Kind::Regular => make_file(mounted, ino, object.size, path, attributes, folder)?,
+        Kind::Regular => make_file(mounted, ino, path, attributes, folder)?,
         Kind::Symlink => make_symlink(mounted, ino, object.size, path, attributes, folder)?,
         kind => return Err(MakeFault::LeftOut(reason_of(kind))),
     }

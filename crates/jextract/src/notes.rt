@@ -1,15 +1,12 @@
 //! What is told of objects that are left out.
 
 ghost use Rattle.std.specs.Prelude.{◌≡◌, ◌++◌, ◌∷◌, [], codes, map};
-ghost use Rattle.std.specs.List.{flat_map};
 ghost use Rattle.flashbase.specs.Device.{Puts};
-ghost use Rattle.jline.specs.Words.{escaped};
 ghost use Rattle.jextract.specs.Outcomes.{left_out_line, reason_text};
-ghost use Rattle.jextract.specs.Paths.{path_shown};
 
 use crate::reason::Reason;
 use flashbase::{DeviceFault, Sink};
-use jline::{put_escaped, put_text};
+use jline::{put_path, put_text};
 
 fn reason_text(reason: Reason) -> &'static [u8]
     ensures { result.now ≡ reason_text reason }
@@ -27,36 +24,6 @@ fn reason_text(reason: Reason) -> &'static [u8]
         Reason::BadTarget => b"bad target",
         Reason::Refused => b"the host refused it",
     }
-}
-
-/// Puts a name of a path.
-fn put_name<T: Sink>(sink: &mut T, name: &[u8]) -> Result<(), DeviceFault>
-    ensures { Puts (T.taken sink.old) (T.taken sink.new) (T.failures sink.old) (T.failures sink.new)
-        (47 ∷ escaped name.now) result }
-{
-    put_text(sink, b"/")?;
-    put_escaped(sink, name)
-}
-
-fn put_names<T: Sink>(sink: &mut T, path: &[&[u8]]) -> Result<(), DeviceFault>
-    ensures { Puts (T.taken sink.old) (T.taken sink.new) (T.failures sink.old) (T.failures sink.new)
-        (flat_map (λ name. 47 ∷ escaped name.now) path.now) result }
-{
-    for name in path {
-        put_name(sink, name)?;
-    }
-    Ok(())
-}
-
-/// Puts a path, from its names.
-fn put_path<T: Sink>(sink: &mut T, path: &[&[u8]]) -> Result<(), DeviceFault>
-    ensures { Puts (T.taken sink.old) (T.taken sink.new) (T.failures sink.old) (T.failures sink.new)
-        (path_shown (map (λ name. name.now) path.now)) result }
-{
-    if path.is_empty() {
-        return put_text(sink, b"/");
-    }
-    put_names(sink, path)
 }
 
 /// Puts why an object was left out, and ends its line.

@@ -1,6 +1,6 @@
 //! The paths of the host.
 
-ghost use Rattle.std.specs.Prelude.{◌≡◌, ◌==◌, ◌&&◌, not, ◌++◌, ◌∷◌, flat_map, map, IfOk, OnOk};
+ghost use Rattle.std.specs.Prelude.{◌≡◌, ◌++◌, ◌∷◌, flat_map, map, IfOk, OnOk};
 ghost use Rattle.std.specs.List.{list_all};
 ghost use Rattle.jmount.specs.Find.{is_name};
 ghost use Rattle.jextract.specs.Making.{IsPathOf};
@@ -8,24 +8,11 @@ ghost use Rattle.jextract.specs.Paths.{host_path, path_text};
 
 use crate::making::MakeFault;
 use crate::reason::Reason;
+use jmount::is_name;
 use std::alloc::{AllocError, Global};
 
 /// No host takes a longer path.
 const GREATEST_PATH: usize = 4095;
-
-// Neither a slash nor a zero byte.
-fn is_plain(name: &[u8]) -> bool
-    ensures { result ≡ list_all (λ b. not (b == 47) && not (b == 0)) name.now }
-{
-    name.iter().all(|b| *b != b'/' && *b != 0)
-}
-
-/// Whether a path may have this name.
-fn is_name(name: &[u8]) -> bool
-    ensures { result ≡ is_name name.now }
-{
-    !name.is_empty() && is_plain(name) && name != b".".as_slice() && name != b"..".as_slice()
-}
 
 /// Whether a path may have these names.
 fn are_names(names: &[&[u8]]) -> bool

@@ -1,9 +1,7 @@
 //! Reading a folder of the host.
 
-ghost use Rattle.std.specs.Prelude.{◌≡◌, ◌==◌, ◌&&◌, ◌∷◌, ◌++◌, [], map, not, reverse, All, IfErr, IfNone, IfOk, IfSome, IsSome, IsTrue};
-ghost use Rattle.std.specs.List.{list_all};
+ghost use Rattle.std.specs.Prelude.{◌≡◌, ◌∷◌, ◌++◌, [], map, reverse, All, IfErr, IfNone, IfOk, IfSome, IsSome, IsTrue};
 ghost use Rattle.std.specs.String.{string_bytes};
-ghost use Rattle.jmount.specs.Find.{is_name};
 ghost use Rattle.jfolder.specs.Actions.{AttributesFit, Fits, IsRooted, ItemFits};
 ghost use Rattle.jfolder.specs.Notes.{Tells, TellsMore};
 ghost use Rattle.jfolder.specs.Trees.{IsTree, Rise};
@@ -19,6 +17,7 @@ use crate::order::is_before;
 use crate::reason::Reason;
 use crate::tree::{Attributes, Item, What};
 use flashbase::Sink;
+use jmount::is_name;
 use std::alloc::{AllocError, Global};
 use std::collections::BTreeMap;
 
@@ -42,20 +41,6 @@ struct Walk {
     /// The paths that are still to visit, the next one last.
     pending: Vec<String>,
     left_out: u64,
-}
-
-/// Neither a slash nor a zero byte.
-fn is_plain(name: &[u8]) -> bool
-    ensures { result ≡ list_all (λ b. not (b == 47) && not (b == 0)) name.now }
-{
-    name.iter().all(|b| *b != b'/' && *b != 0)
-}
-
-/// Whether a path may have this name.
-fn is_name(name: &[u8]) -> bool
-    ensures { result ≡ is_name name.now }
-{
-    !name.is_empty() && is_plain(name) && name != b".".as_slice() && name != b"..".as_slice()
 }
 
 /// Why a name is none of a listing.

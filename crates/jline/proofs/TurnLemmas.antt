@@ -1,10 +1,10 @@
 -- Texts that go out one after another, up to a fault.
-use Rattle.std.proofs.Common.{◌≡◌, ℕ, ◌+◌, ◌-◌, ◌<◌, min, arith, List, [], ◌∷◌, ◌++◌, length, sym, ap, ◌∙◌, subst, take, drop, get_or, append-nil, Option}
+use Rattle.std.proofs.Common.{◌≡◌, ℕ, ◌+◌, ◌<◌, List, [], ◌∷◌, ◌++◌, length, sym, ap, ◌∙◌, subst, take, drop, get_or, append-nil, Option}
 use Rattle.std.specs.Prelude.{Result, Ok, Err, IsErr}
 use Rattle.std.proofs.lemmas.List.{take-append-drop}
-use Rattle.std.proofs.Math.Seq.{drop-cons, take-add, take-append_seam}
+use Rattle.std.proofs.Math.Seq.{drop-cons, take-add}
 use Rattle.std.specs.List.{flat_map}
-use Rattle.std.proofs.lemmas.Grind.{flat_map-append, common_steps}
+use Rattle.std.proofs.lemmas.Grind.{flat_map-append}
 use Rattle.std.specs.Io.KnownBytes.{Appends}
 use Rattle.std.proofs.KnownBytes.{Appends-trans}
 use Rattle.flashbase.specs.Device.{PutsPart, Puts, next_count}
@@ -75,22 +75,3 @@ piece_failed {X} f xs i n a b c before mid now r err put same part failed =
     sym (flat_map-append f (take i xs) (take n (drop i xs))) ∙ ap (flat_map f) (sym (take-add i n xs)) in
     subst (λ (l : List ℕ). Puts a c before now l r) (ap (λ (l : List ℕ). l ++ flat_map f (drop (i + n) xs)) joined ∙ flat_map-split f xs (i + n))
     (first_failed a c before now upto (flat_map f (drop (i + n) xs)) r err (part_behind a b c _ _ put part) (failed ∙ ap next_count same))
-
--- ---- bytes
-
-pub bytes_put : (xs : List ℕ) (i n : ℕ) (a b c : Option (List ℕ)) → Appends a b (take i xs) → Appends b c (take n (drop i xs)) → Appends a c (take (i + n) xs)
-bytes_put xs i n a b c put next = subst (Appends a c) (sym (take-add i n xs)) (Appends-trans a b c _ _ put next)
-
-pub bytes_failed : {T E : Type 0} (xs : List ℕ) (i n : ℕ) (a b c : Option (List ℕ)) (before mid now : ℕ) (r : Result T E)
-    → IsErr r → Appends a b (take i xs) → mid ≡ before → PutsPart b c (take n (drop i xs)) → now ≡ next_count mid → Puts a c before now xs r
-bytes_failed xs i n a b c before mid now r err put same part failed =
-    subst (λ (l : List ℕ). Puts a c before now l r)
-    (ap (λ (l : List ℕ). l ++ drop (i + n) xs) (sym (take-add i n xs)) ∙ take-append-drop (i + n) xs)
-    (first_failed a c before now (take i xs ++ take n (drop i xs)) (drop (i + n) xs) r err (part_behind a b c _ _ put part) (failed ∙ ap next_count same))
-
--- what a piece holds after a reading of n bytes from a place on
-pub piece_read : (bytes old new : List ℕ) (i n room : ℕ) → n ≡ min room (length bytes - i) → new ≡ take n (drop i bytes) ++ drop n old
-    → take n new ≡ take n (drop i bytes)
-piece_read bytes old new i n room count is =
-    let all : length (take n (drop i bytes)) ≡ n = grind (arith, common_steps) in
-    ap (take n) is ∙ ap (λ (k : ℕ). take k (take n (drop i bytes) ++ drop n old)) (sym all) ∙ take-append_seam (take n (drop i bytes)) (drop n old)

@@ -1,2 +1,3 @@
 pub mod Forms
+pub mod Paths
 pub mod Words

@@ -2,6 +2,8 @@
 use Rattle.std.specs.Prelude.{ℕ, zero, suc, ◌/◌, ◌%◌, ◌==◌, ◌&&◌, ◌||◌, not, Bool, false, nat_lt, nat_le, ◌+◌, List, [], ◌∷◌, ◌++◌, if◌then◌else◌}
 use Rattle.std.specs.List.{flat_map}
 use Rattle.std.specs.Fmt.{radix_digits}
+use Rattle.jline.specs.declared.spelling.Spelling.{Spelling}
+use Rattle.jline.specs.declared.spelling.Spelling.TheVariants as spelling
 
 -- a lower-case hexadecimal digit
 abbrev pub hex_digit : ℕ → ℕ
@@ -38,3 +40,12 @@ in_line_byte b = if is_control b then 92 ∷ 120 ∷ hex_digit (b / 16) ∷ hex_
 -- a text within a line
 abbrev pub in_line : List ℕ → List ℕ
 in_line bytes = flat_map in_line_byte bytes
+
+-- ---- either, by its name
+
+abbrev pub spelled_byte : Spelling → ℕ → List ℕ
+spelled_byte spelling.Escaped = escaped_byte
+spelled_byte spelling.InLine = in_line_byte
+
+abbrev pub spelled : Spelling → List ℕ → List ℕ
+spelled way bytes = flat_map (spelled_byte way) bytes

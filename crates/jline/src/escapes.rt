@@ -2,9 +2,10 @@
 
 ghost use Rattle.std.specs.Prelude.{◌≡◌, ◌+◌, ◌*◌, ◌≤◌, ◌++◌, length};
 ghost use Rattle.flashbase.specs.Device.{Puts};
-ghost use Rattle.jline.specs.Words.{escaped, in_line};
+ghost use Rattle.jline.specs.Words.{escaped, in_line, spelled};
 
 use crate::line::LineBuffer;
+use crate::spelling::Spelling;
 use crate::texts::put_text;
 use flashbase::{DeviceFault, Sink};
 use jnode::Part;
@@ -12,50 +13,40 @@ use jnode::Part;
 /// So many bytes go out at a time.
 const PIECE: usize = 256;
 
-/// Bytes that are few, escaped.
-fn write_piece(line: &mut LineBuffer, piece: &[u8])
+/// Bytes that are few.
+fn write_piece(line: &mut LineBuffer, spelling: Spelling, piece: &[u8])
     requires { length piece.now ≤ PIECE }
-    ensures { line.new ≡ escaped piece.now }
+    ensures { line.new ≡ spelled spelling piece.now }
 {
     line.clear();
-    line.push_escaped(&Part::new(piece, 0));
+    line.push_spelled(spelling, &Part::new(piece, 0));
+}
+
+/// Puts bytes, however many, by pieces.
+fn put_spelled<T: Sink>(sink: &mut T, spelling: Spelling, bytes: &[u8]) -> Result<(), DeviceFault>
+    ensures { Puts (T.taken sink.old) (T.taken sink.new) (T.failures sink.old) (T.failures sink.new) (spelled spelling bytes.now) result }
+{
+    let mut line = LineBuffer::new();
+    let mut start = 0;
+    while start < bytes.len() {
+        let end = bytes.len().min(start + PIECE);
+        write_piece(&mut line, spelling, &bytes[start..end]);
+        put_text(sink, line.as_slice())?;
+        start = end;
+    }
+    Ok(())
 }
 
 /// Puts bytes, each that is not plain as `\x` and two hexadecimal digits. Takes no memory.
 pub fn put_escaped<T: Sink>(sink: &mut T, bytes: &[u8]) -> Result<(), DeviceFault>
     ensures { Puts (T.taken sink.old) (T.taken sink.new) (T.failures sink.old) (T.failures sink.new) (escaped bytes.now) result }
 {
-    let mut line = LineBuffer::new();
-    let mut start = 0;
-    while start < bytes.len() {
-        let end = bytes.len().min(start + PIECE);
-        write_piece(&mut line, &bytes[start..end]);
-        put_text(sink, line.as_slice())?;
-        start = end;
-    }
-    Ok(())
-}
-
-/// Bytes that are few, within a line.
-fn write_in_line(line: &mut LineBuffer, piece: &[u8])
-    requires { length piece.now ≤ PIECE }
-    ensures { line.new ≡ in_line piece.now }
-{
-    line.clear();
-    line.push_in_line(&Part::new(piece, 0));
+    put_spelled(sink, Spelling::Escaped, bytes)
 }
 
 /// Puts bytes within a line, each control byte as `\x` and two hexadecimal digits. Takes no memory.
 pub fn put_in_line<T: Sink>(sink: &mut T, bytes: &[u8]) -> Result<(), DeviceFault>
     ensures { Puts (T.taken sink.old) (T.taken sink.new) (T.failures sink.old) (T.failures sink.new) (in_line bytes.now) result }
 {
-    let mut line = LineBuffer::new();
-    let mut start = 0;
-    while start < bytes.len() {
-        let end = bytes.len().min(start + PIECE);
-        write_in_line(&mut line, &bytes[start..end]);
-        put_text(sink, line.as_slice())?;
-        start = end;
-    }
-    Ok(())
+    put_spelled(sink, Spelling::InLine, bytes)
 }

@@ -1,8 +1,9 @@
 //! One line of what the program prints, in a buffer of fixed size that takes no memory.
 
 ghost use Rattle.std.specs.Prelude.{◌≡◌, ◌+◌, ◌*◌, ◌^◌, ◌<◌, ◌≤◌, ◌++◌, ◌∷◌, [], length, decimal};
-ghost use Rattle.jline.specs.Words.{hex, hex_digit, octal, escaped, escaped_byte, in_line, in_line_byte};
+ghost use Rattle.jline.specs.Words.{hex, hex_digit, octal, escaped, escaped_byte, in_line_byte, spelled, spelled_byte};
 
+use crate::spelling::Spelling;
 use arrayvec::ArrayVec;
 use itoa::Buffer;
 use jnode::Part;
@@ -129,17 +130,6 @@ impl LineBuffer {
         }
     }
 
-    /// A name, each byte that is not plain as `\x` and two hexadecimal digits.
-    pub fn push_escaped(&mut self, name: &Part<'_>)
-        requires { length self.old + 4 * length name.now ≤ MAX_LINE }
-        ensures text { self.new ≡ self.old ++ escaped name.now }
-        ensures grows { length self.new ≤ length self.old + 4 * length name.now }
-    {
-        for byte in name.iter() {
-            self.push_escaped_byte(byte);
-        }
-    }
-
     fn push_in_line_byte(&mut self, byte: u8)
         requires { length self.old + 4 ≤ MAX_LINE }
         ensures text { self.new ≡ self.old ++ in_line_byte byte }
@@ -152,14 +142,34 @@ impl LineBuffer {
         }
     }
 
-    /// A text within a line, each control byte as `\x` and two hexadecimal digits.
-    pub fn push_in_line(&mut self, text: &Part<'_>)
+    fn push_spelled_byte(&mut self, spelling: Spelling, byte: u8)
+        requires { length self.old + 4 ≤ MAX_LINE }
+        ensures text { self.new ≡ self.old ++ spelled_byte spelling byte }
+        ensures grows { length self.new ≤ length self.old + 4 }
+    {
+        match spelling {
+            Spelling::Escaped => self.push_escaped_byte(byte),
+            Spelling::InLine => self.push_in_line_byte(byte),
+        }
+    }
+
+    /// A text in a spelling.
+    pub(crate) fn push_spelled(&mut self, spelling: Spelling, text: &Part<'_>)
         requires { length self.old + 4 * length text.now ≤ MAX_LINE }
-        ensures text { self.new ≡ self.old ++ in_line text.now }
+        ensures text { self.new ≡ self.old ++ spelled spelling text.now }
         ensures grows { length self.new ≤ length self.old + 4 * length text.now }
     {
         for byte in text.iter() {
-            self.push_in_line_byte(byte);
+            self.push_spelled_byte(spelling, byte);
         }
+    }
+
+    /// A name, each byte that is not plain as `\x` and two hexadecimal digits.
+    pub fn push_escaped(&mut self, name: &Part<'_>)
+        requires { length self.old + 4 * length name.now ≤ MAX_LINE }
+        ensures text { self.new ≡ self.old ++ escaped name.now }
+        ensures grows { length self.new ≤ length self.old + 4 * length name.now }
+    {
+        self.push_spelled(Spelling::Escaped, name);
     }
 }

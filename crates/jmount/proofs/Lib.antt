@@ -16,6 +16,7 @@ pub mod FaultLemmas
 pub mod CollectedLemmas
 pub mod StoredLemmas
 pub mod StoringLemmas
+pub mod PieceLemmas
 pub mod ReadLemmas
 pub mod TopLemmas
 pub mod WalkLemmas

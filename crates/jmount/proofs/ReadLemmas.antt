@@ -5,7 +5,10 @@ use Rattle.std.proofs.lemmas.List.{same_lists, length-take, length-drop, get_or-
 use Rattle.flashbase.specs.Lists.{each_below}
 use Rattle.flashbase.proofs.ListLemmas.{length-each_below, get_or-each_below}
 use Rattle.jmount.specs.Tree.{ObjectOf, type_bits, regular_bits, symlink_bits}
+use Rattle.jfrag.specs.Overlays.{byte_at}
 use Rattle.jmount.specs.Shown.{bytes_if}
+use Rattle.jmount.specs.Stored.{stored_object, visible_in}
+use Rattle.jmount.specs.declared.stored.Stored.{Stored}
 
 -- a part of what a function gives is what it gives from the part's place on
 pub part-of_each : (size offset count : ℕ) (f : ℕ → ℕ) → count ≤ size - offset → take count (drop offset (each_below size f)) ≡ each_below count (λ k. f (offset + k))
@@ -25,3 +28,8 @@ part-of_each size offset count f fits =
 
 pub bytes-stored : (o : ObjectOf (List ℕ)) → ((type_bits o.mode == regular_bits) || (type_bits o.mode == symlink_bits)) ≡ true → bytes_if (Some o) ≡ o.body
 bytes-stored o has = ap (λ b. cond b o.body []) has
+
+pub length-stored : (stored : Stored) → ((type_bits stored.mode == regular_bits) || (type_bits stored.mode == symlink_bits)) ≡ true
+    → length (bytes_if (Some (stored_object stored))) ≡ stored.size
+length-stored stored has =
+    ap length (bytes-stored (stored_object stored) has) ∙ length-each_below stored.size (λ place. byte_at (visible_in stored.bytes place))

@@ -32,6 +32,6 @@ pub use crate::fault::{FindFault, MountFault};
 pub use crate::mounted::Mounted;
 pub use crate::mounting::{mount, mount_scanned};
 pub use crate::object::{Kind, Object};
-pub use crate::path::after_slash;
+pub use crate::path::{after_slash, is_name};
 pub use crate::shown::{kind_of, type_bits};
 pub use crate::walk::Objects;

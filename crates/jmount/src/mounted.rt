@@ -1,6 +1,7 @@
 //! A mounted image.
 
 ghost use Rattle.std.specs.Prelude.{◌≡◌, ◌-◌, ◌++◌, Decides, IfOk, map, option_map, length, min, take, drop};
+ghost use Rattle.flashbase.specs.Device.{Puts};
 ghost use Rattle.jmount.specs.Tree as tree;
 ghost use Rattle.jmount.specs.Find as walk;
 ghost use Rattle.jmount.specs.Shape.{HasShape};
@@ -9,11 +10,12 @@ ghost use Rattle.jmount.specs.Shown.{shown, objects_in, readable, top_at};
 use crate::fault::FindFault;
 use crate::object::Object;
 use crate::path;
-use crate::read::read_stored;
+use crate::read::{put_stored, read_stored};
 use crate::shape::has_shape;
 use crate::shown::{self, shown};
 use crate::stored::Stored;
 use crate::walk::Objects;
+use flashbase::{DeviceFault, Sink};
 use jname::{All, Names, Of};
 use jscan::Finding;
 use std::alloc::{AllocError, Global};
@@ -222,6 +224,20 @@ impl<'a> Mounted<'a> {
         match self.objects.get(&ino) {
             Some(stored) => read_stored(stored, offset, out),
             None => 0,
+        }
+    }
+
+    /// Puts all bytes of a regular file or a symlink, and none of what is neither of the two. Takes no memory.
+    ///
+    /// # Errors
+    /// The sink failed. A beginning of the bytes went out.
+    pub fn put_bytes<T: Sink>(&self, ino: u32, sink: &mut T) -> Result<(), DeviceFault>
+        ensures { Puts (T.taken sink.old) (T.taken sink.new) (T.failures sink.old) (T.failures sink.new)
+            (readable self.now.state ino) result }
+    {
+        match self.objects.get(&ino) {
+            Some(stored) => put_stored(stored, sink),
+            None => Ok(()),
         }
     }
 

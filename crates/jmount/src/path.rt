@@ -22,8 +22,8 @@ fn are_names(names: &[u8]) -> bool
     names.split(|b| *b == b'/').all(is_name)
 }
 
-/// Whether a path may have this name.
-fn is_name(name: &[u8]) -> bool
+/// Whether a path may have this name: it is not empty, `.` or `..`, and has neither a slash nor a zero byte.
+pub fn is_name(name: &[u8]) -> bool
     ensures { result ≡ is_name name.now }
 {
     !name.is_empty() && is_plain(name) && name != b".".as_slice() && name != b"..".as_slice()

@@ -1,12 +1,17 @@
 // The bytes of an object.
 
 ghost use Rattle.std.specs.Prelude.{◌≡◌, ◌-◌, ◌++◌, Some, length, min, take, drop};
+ghost use Rattle.flashbase.specs.Device.{Puts};
 ghost use Rattle.jmount.specs.Shown.{bytes_if};
 ghost use Rattle.jmount.specs.Stored.{stored_object};
 
 use crate::shown::has_bytes;
 use crate::stored::Stored;
+use flashbase::{DeviceFault, PutFault, Sink, put_all};
 use jfrag::Overlay;
+
+/// An object's bytes go out in pieces of this many.
+const PIECE: usize = 4096;
 
 /// Fills the front of the slice with an object's bytes from an offset on, and says how many there were.
 pub fn read_stored(stored: &Stored<'_>, offset: u64, out: &mut [u8]) -> usize
@@ -20,4 +25,25 @@ pub fn read_stored(stored: &Stored<'_>, offset: u64, out: &mut [u8]) -> usize
     let count = left.min(out.len());
     stored.bytes.read_at(offset, &mut out[..count]);
     count
+}
+
+/// Puts all of an object's bytes, piece by piece.
+pub fn put_stored<T: Sink>(stored: &Stored<'_>, sink: &mut T) -> Result<(), DeviceFault>
+    ensures { Puts (T.taken sink.old) (T.taken sink.new) (T.failures sink.old) (T.failures sink.new)
+        (bytes_if (Some (stored_object stored.now))) result }
+{
+    if !has_bytes(stored.mode) {
+        return Ok(());
+    }
+    let size = u64::from(stored.size);
+    let mut piece = [0u8; PIECE];
+    let mut offset = 0u64;
+    while offset < size {
+        let count = read_stored(stored, offset, &mut piece);
+        match put_all(sink, &piece[..count]) {
+            Ok(()) => offset += count as u64,
+            Err(PutFault { .. }) => return Err(DeviceFault),
+        }
+    }
+    Ok(())
 }

@@ -1,15 +1,9 @@
--- Paths and targets as they are printed.
+-- Targets as they are printed.
 use Rattle.std.proofs.Common.{◌≡◌, ℕ, ◌<◌, ◌≤◌, ◌-◌, Bool, false, nat_lt, min, List, [], ◌∷◌, ◌++◌, length, take, drop, take_all, ap, arith, codes, if◌then◌else◌, map, Bor, sym, ◌∙◌}
 use Rattle.std.proofs.lemmas.Grind.{common_steps}
 use Rattle.jline.specs.Words.{escaped}
-use Rattle.jline.proofs.TurnLemmas.{piece_read}
-use Rattle.std.specs.List.{flat_map}
-use Rattle.std.proofs.lemmas.List.Folds.{flat_map-map}
-use Rattle.jreport.specs.TreeText.{name_shown, path_shown, target_shown}
-
-pub path_of_names : (path : List (Bor (List ℕ))) → 0 < length path → flat_map (λ name. name_shown name.now) path ≡ path_shown (map (λ name. name.now) path)
-path_of_names [] some = absurd (omega (arith, some))
-path_of_names (name ∷ path) some = sym (flat_map-map name_shown (λ (n : Bor (List ℕ)). n.now) (name ∷ path))
+use Rattle.jmount.proofs.PieceLemmas.{piece_read}
+use Rattle.jreport.specs.TreeText.{target_shown}
 
 pub target_short : (target : List ℕ) → length target ≤ 4095 → codes " -> " ++ escaped target ≡ target_shown target
 unfolding target_shown

@@ -8,6 +8,7 @@ use Rattle.jmount.specs.Shown.{readable, shown}
 use Rattle.jmount.specs.declared.object.Kind.{Kind}
 use Rattle.jmount.specs.declared.object.Kind.TheVariants as kind
 use Rattle.jmount.specs.declared.object.Object.{Object}
+use Rattle.jline.specs.Paths.{path_shown}
 use Rattle.jline.specs.Words.{escaped}
 use Rattle.jreport.specs.declared.faults.ProgramFault.{ProgramFault}
 use Rattle.jreport.specs.declared.faults.ProgramFault.TheVariants.{Output, OutOfMemory}
@@ -32,15 +33,6 @@ permissions mode = (48 + mode / 512 % 8) ∷ (48 + mode / 64 % 8) ∷ (48 + mode
 unfoldable pub object_start : ℕ → Object → List ℕ
 object_start i o = kind_letter o.kind ++ codes " " ++ permissions o.mode ++ codes " " ++ decimal o.uid ++ codes " " ++ decimal o.gid
     ++ codes " " ++ decimal o.size ++ codes " " ++ decimal o.mtime ++ codes " " ++ decimal i ++ codes " "
-
--- a name, as it is in a path
-abbrev pub name_shown : List ℕ → List ℕ
-name_shown name = 47 ∷ [] ++ escaped name
-
--- a path, from its names
-abbrev pub path_shown : List (List ℕ) → List ℕ
-path_shown [] = 47 ∷ []
-path_shown (name ∷ names) = flat_map name_shown (name ∷ names)
 
 -- where a symlink leads
 unfoldable pub target_shown : List ℕ → List ℕ

@@ -1,14 +1,13 @@
 //! What `ls` prints of an object of a mounted image.
 
 ghost use Rattle.std.specs.Prelude.{◌≡◌, ◌+◌, ◌%◌, ◌<◌, ◌≤◌, ◌++◌, [], Some, codes, decimal, length, map, option_map};
-ghost use Rattle.std.specs.List.{flat_map};
 ghost use Rattle.flashbase.specs.Device.{Puts};
 ghost use Rattle.jmount.specs.Tree as tree;
 ghost use Rattle.jmount.specs.Shown.{readable, shown};
-ghost use Rattle.jreport.specs.TreeText.{kind_letter, permissions, object_start, name_shown, path_shown, target_shown, tail_shown, object_line};
+ghost use Rattle.jreport.specs.TreeText.{kind_letter, permissions, object_start, target_shown, tail_shown, object_line};
 
 use flashbase::{DeviceFault, Sink};
-use jline::{LineBuffer, MAX_LINE, put_escaped, put_text};
+use jline::{LineBuffer, MAX_LINE, put_escaped, put_path, put_text};
 use jmount::{Kind, Mounted, Object};
 
 /// A symlink with more bytes is shown as a long one.
@@ -76,36 +75,6 @@ fn write_object(line: &mut LineBuffer, ino: u32, object: &Object)
     push_number(line, object.mtime);
     push_number(line, ino);
     line.push(b' ');
-}
-
-/// Puts a name of a path.
-fn put_name<T: Sink>(sink: &mut T, name: &[u8]) -> Result<(), DeviceFault>
-    ensures { Puts (T.taken sink.old) (T.taken sink.new) (T.failures sink.old) (T.failures sink.new)
-        (name_shown name.now) result }
-{
-    put_text(sink, b"/")?;
-    put_escaped(sink, name)
-}
-
-fn put_names<T: Sink>(sink: &mut T, path: &[&[u8]]) -> Result<(), DeviceFault>
-    ensures { Puts (T.taken sink.old) (T.taken sink.new) (T.failures sink.old) (T.failures sink.new)
-        (flat_map (λ name. name_shown name.now) path.now) result }
-{
-    for name in path {
-        put_name(sink, name)?;
-    }
-    Ok(())
-}
-
-/// Puts a path, from its names.
-fn put_path<T: Sink>(sink: &mut T, path: &[&[u8]]) -> Result<(), DeviceFault>
-    ensures { Puts (T.taken sink.old) (T.taken sink.new) (T.failures sink.old) (T.failures sink.new)
-        (path_shown (map (λ name. name.now) path.now)) result }
-{
-    if path.is_empty() {
-        return put_text(sink, b"/");
-    }
-    put_names(sink, path)
 }
 
 /// Puts where a symlink of this size leads.

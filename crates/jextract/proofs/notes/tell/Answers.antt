@@ -2,7 +2,7 @@ use Rattle.std.proofs.Common.{[], ◌∷◌, ◌++◌, map}
 use Rattle.std.specs.Prelude.{codes}
 use Rattle.flashbase.proofs.DeviceLemmas.{part_before}
 use Rattle.jextract.specs.Outcomes.{left_out_line, reason_text}
-use Rattle.jextract.specs.Paths.{path_shown}
+use Rattle.jline.specs.Paths.{path_shown}
 use Rattle.jline.proofs.TurnLemmas.{first_failed, then_failed, then_puts}
 use Rattle.jextract.proofs.notes.tell.Goals as goal
 

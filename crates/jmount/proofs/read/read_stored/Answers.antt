@@ -1,19 +1,16 @@
-use Rattle.std.proofs.Common.{◌≡◌, ℕ, ◌+◌, ◌-◌, ◌++◌, ◌≤◌, Some, length, take, drop, ap, sym, ◌∙◌, arith}
+use Rattle.std.proofs.Common.{◌≡◌, ℕ, ◌+◌, ◌-◌, ◌++◌, ◌≤◌, length, take, drop, ap, sym, ◌∙◌, arith}
 use Rattle.std.proofs.lemmas.List.{length-take}
 use Rattle.flashbase.specs.Lists.{each_below}
-use Rattle.flashbase.proofs.ListLemmas.{length-each_below}
 use Rattle.jfrag.specs.Overlays.{byte_at}
 use Rattle.jmount.specs.Stored.{stored_object, visible_in}
-use Rattle.jmount.specs.Shown.{bytes_if}
-use Rattle.jmount.proofs.ReadLemmas.{part-of_each, bytes-stored}
+use Rattle.jmount.proofs.ReadLemmas.{part-of_each, bytes-stored, length-stored}
 use Rattle.jmount.proofs.read.read_stored.Goals as goal
 
 pub returns-clause-count : goal.returns-clause-count
 returns-clause-count c =
     let stored = c.args.stored.now in
     let has = sym c.has_bytes.ensures ∙ c.if-not-has_bytes.false in
-    let stored_len : length (bytes_if (Some (stored_object stored))) ≡ stored.size =
-    ap length (bytes-stored (stored_object stored) has) ∙ length-each_below stored.size (λ place. byte_at (visible_in stored.bytes place)) in
+    let stored_len = length-stored stored has in
     let left = c.saturating_sub-left.ensures in
     let size = c.from.ensures in
     let count = c.min-count.ensures in

@@ -3,7 +3,8 @@ use Rattle.std.specs.Io.KnownBytes.{Appends}
 use Rattle.flashbase.specs.Device.{PutsPart}
 use Rattle.flashbase.proofs.DeviceLemmas.{part_before}
 use Rattle.jmount.specs.Shown.{readable}
-use Rattle.jreport.specs.TreeText.{object_start, path_shown, tail_shown}
+use Rattle.jline.specs.Paths.{path_shown}
+use Rattle.jreport.specs.TreeText.{object_start, tail_shown}
 use Rattle.jline.proofs.TurnLemmas.{first_failed, then_puts, then_failed}
 use Rattle.jreport.proofs.tree.put_object.Goals as goal
 

@@ -1,8 +1,8 @@
 use Rattle.std.proofs.Common.{ℕ, ◌<◌, List, length, subst, arith}
 use Rattle.std.proofs.lemmas.Grind.{common_steps}
 use Rattle.flashbase.specs.Device.{Puts}
-use Rattle.jreport.proofs.PathTextLemmas.{path_of_names}
-use Rattle.jreport.proofs.tree.put_path.Goals as goal
+use Rattle.jline.proofs.PathLemmas.{path_of_names}
+use Rattle.jline.proofs.paths.put_path.Goals as goal
 
 pub returns : goal.returns
 returns g c =

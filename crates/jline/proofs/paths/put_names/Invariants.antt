@@ -1,8 +1,8 @@
 use Rattle.std.proofs.Common.{◌≡◌, take}
 use Rattle.std.specs.List.{flat_map}
 use Rattle.std.specs.Io.KnownBytes.{Appends}
-use Rattle.jreport.specs.TreeText.{name_shown}
-use Rattle.jreport.proofs.tree.put_names.Given as goal
+use Rattle.jline.specs.Paths.{name_shown}
+use Rattle.jline.proofs.paths.put_names.Given as goal
 
 abbrev pub invariant-loop-name : goal.invariant-loop-name
 invariant-loop-name g l = record {

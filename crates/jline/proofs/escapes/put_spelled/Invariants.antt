@@ -1,12 +1,12 @@
 use Rattle.std.proofs.Common.{◌≡◌, ◌≤◌, ◌-◌, take, length}
 use Rattle.std.specs.Io.KnownBytes.{Appends}
-use Rattle.jline.specs.Words.{in_line}
-use Rattle.jline.proofs.escapes.put_in_line.Given as goal
+use Rattle.jline.specs.Words.{spelled}
+use Rattle.jline.proofs.escapes.put_spelled.Given as goal
 
 abbrev pub invariant-loop-start : goal.invariant-loop-start
 invariant-loop-start g l = record {
   within : l.start ≤ length l.bytes;
-  put : Appends (g.T.Sink.taken l.fn.sink) (g.T.Sink.taken l.sink) (in_line (take l.start l.bytes));
+  put : Appends (g.T.Sink.taken l.fn.sink) (g.T.Sink.taken l.sink) (spelled l.spelling (take l.start l.bytes));
   failed : g.T.Sink.failures l.sink ≡ g.T.Sink.failures l.fn.sink;
 }
 

@@ -1,7 +1,7 @@
 use Rattle.std.proofs.Common.{ℕ, List, [], get_or, refl, Bor}
-use Rattle.jreport.specs.TreeText.{name_shown}
+use Rattle.jline.specs.Paths.{name_shown}
 use Rattle.jline.proofs.TurnLemmas.{item_failed}
-use Rattle.jreport.proofs.tree.put_names.Goals as goal
+use Rattle.jline.proofs.paths.put_names.Goals as goal
 
 pub returns-in_err-put_name : goal.returns-in_err-put_name
 returns-in_err-put_name g c =
