@@ -8,3 +8,4 @@ pub mod OrderLemmas
 mod TreeLemmas
 mod WalkLemmas
 mod NoteLemmas
+mod CompleteLemmas

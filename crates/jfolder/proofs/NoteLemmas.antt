@@ -5,20 +5,19 @@ use Rattle.std.proofs.KnownBytes.{Appends-nil, Appends-trans}
 use Rattle.std.proofs.lemmas.Grind.{flat_map-append}
 use Rattle.flashbase.specs.Device.{PutsPart, next_count}
 use Rattle.flashbase.proofs.DeviceLemmas.{part_behind}
-use Rattle.jfolder.specs.Notes.{LeftOut, Tells, TellsMore, left_out_line, left_out_text}
+use Rattle.jfolder.specs.Complete.{LeftOut}
+use Rattle.jfolder.specs.Known.{Known}
+use Rattle.jfolder.specs.Notes.{Tells, TellsMore, left_out_line, left_out_text}
 use Rattle.jfolder.specs.declared.fault.ReadFault.{ReadFault}
 use Rattle.jfolder.specs.declared.fault.ReadFault.TheVariants as fault
 use Rattle.jfolder.specs.declared.reading.Folder.{Folder}
 
 -- all of what is told up to here went out
-abbrev pub Told : Option (List ℕ) → Option (List ℕ) → ℕ → ℕ → ℕ → ℕ → Type 0
-Told old new before now count total = TellsMore {X = ℕ} old new before now count total (Ok 0)
+abbrev pub Told : (List LeftOut → Type 0) → Option (List ℕ) → Option (List ℕ) → ℕ → ℕ → ℕ → ℕ → Type 0
+Told fits old new before now count total = TellsMore {X = ℕ} (λ _ lefts. fits lefts) old new before now count total (Ok 0)
 
-pub tells_nothing : (a : Option (List ℕ)) (x k : ℕ) → k < 2 ^ 64 → Told a a x x k k
-tells_nothing a x k small = ([], Appends-nil a, refl, omega arith)
-
-pub tells_no_more : (X : Type 0) (a : Option (List ℕ)) (x k n : ℕ) (r : Result X ReadFault) → r ≡ Err fault.OutOfMemory → TellsMore a a x x k n r
-tells_no_more X a x k n r is = subst (λ (s : Result X ReadFault). TellsMore a a x x k n s) (sym is) (([], Appends-nil a), refl)
+pub tells_nothing : (F : List LeftOut → Type 0) (a : Option (List ℕ)) (x k : ℕ) → k < 2 ^ 64 → F [] → Told F a a x x k k
+tells_nothing F a x k small none = ([], Appends-nil a, refl, omega arith, none)
 
 count_more : (k m n i j : ℕ) → m ≡ (k + i) % 2 ^ 64 → n ≡ (m + j) % 2 ^ 64 → n ≡ (k + (i + j)) % 2 ^ 64
 count_more k m n i j e f = omega arith
@@ -27,55 +26,74 @@ joined : (a b c : Option (List ℕ)) (xs ys : List LeftOut) → Appends a b (lef
 joined a b c xs ys p q = subst (Appends a c) (sym (flat_map-append left_out_line xs ys)) (Appends-trans a b c (left_out_text xs) (left_out_text ys) p q)
 
 -- what was told, and then what a call tells
-pub tells_then : {X : Type 0} (a b c : Option (List ℕ)) (x y z k m n : ℕ) (r : Result X ReadFault) → Told a b x y k m → TellsMore b c y z m n r
-    → TellsMore a c x z k n r
-tells_then a b c x y z k m n (Ok v) p q = (
+pub tells_then : {X : Type 0} (F : List LeftOut → Type 0) (G H : X → List LeftOut → Type 0) (a b c : Option (List ℕ)) (x y z k m n : ℕ) (r : Result X ReadFault)
+    → ((v : X) (xs ys : List LeftOut) → F xs → G v ys → H v (xs ++ ys)) → Told F a b x y k m → TellsMore G b c y z m n r → TellsMore H a c x z k n r
+tells_then F G H a b c x y z k m n (Ok v) both p q = (
   p.0 ++ q.0,
   joined a b c p.0 q.0 p.1 q.1,
   q.2 ∙ p.2,
   count_more k m n (length p.0) (length q.0) p.3 q.3 ∙ ap (λ (l : ℕ). (k + l) % 2 ^ 64) (sym (length-append p.0 q.0)),
+  both v p.0 q.0 p.4 q.4,
 )
-tells_then a b c x y z k m n (Err fault.Notes) p q = (
+tells_then F G H a b c x y z k m n (Err fault.Notes) both p q = (
   (p.0 ++ q.0.0, subst (PutsPart a c) (sym (flat_map-append left_out_line p.0 q.0.0)) (part_behind a b c (left_out_text p.0) (left_out_text q.0.0) p.1 q.0.1)),
   q.1 ∙ ap next_count p.2,
 )
-tells_then a b c x y z k m n (Err (fault.Folder why)) p q = q
-tells_then a b c x y z k m n (Err fault.OutOfMemory) p q = ((p.0 ++ q.0.0, joined a b c p.0 q.0.0 p.1 q.0.1), q.1 ∙ p.2)
+tells_then F G H a b c x y z k m n (Err (fault.Folder why)) both p q = q
+tells_then F G H a b c x y z k m n (Err fault.OutOfMemory) both p q = ((p.0 ++ q.0.0, joined a b c p.0 q.0.0 p.1 q.0.1), q.1 ∙ p.2)
+
+-- another fact that follows
+pub tells_as : {X : Type 0} (G H : X → List LeftOut → Type 0) (a b : Option (List ℕ)) (x y k m : ℕ) (r : Result X ReadFault)
+    → ((v : X) (ls : List LeftOut) → r ≡ Ok v → G v ls → H v ls) → TellsMore G a b x y k m r → TellsMore H a b x y k m r
+tells_as G H a b x y k m (Ok v) follows p = (p.0, p.1, p.2, p.3, follows v p.0 refl p.4)
+tells_as G H a b x y k m (Err fault.Notes) follows p = p
+tells_as G H a b x y k m (Err (fault.Folder why)) follows p = p
+tells_as G H a b x y k m (Err fault.OutOfMemory) follows p = p
+
+pub tells_no_more : (X : Type 0) (H : X → List LeftOut → Type 0) (a : Option (List ℕ)) (x k n : ℕ) (r : Result X ReadFault) → r ≡ Err fault.OutOfMemory → TellsMore H a a x x k n r
+tells_no_more X H a x k n r is = subst (λ (s : Result X ReadFault). TellsMore H a a x x k n s) (sym is) (([], Appends-nil a), refl)
 
 -- a call failed, and the one above it with it
-failed_same : (X Y : Type 0) (a b : Option (List ℕ)) (x y k m n : ℕ) (e : ReadFault) → TellsMore {X = X} a b x y k m (Err e) → TellsMore {X = Y} a b x y k n (Err e)
-failed_same X Y a b x y k m n fault.Notes p = p
-failed_same X Y a b x y k m n (fault.Folder why) p = p
-failed_same X Y a b x y k m n fault.OutOfMemory p = p
+failed_same : (X Y : Type 0) (G : X → List LeftOut → Type 0) (H : Y → List LeftOut → Type 0) (a b : Option (List ℕ)) (x y k m n : ℕ) (e : ReadFault)
+    → TellsMore G a b x y k m (Err e) → TellsMore H a b x y k n (Err e)
+failed_same X Y G H a b x y k m n fault.Notes p = p
+failed_same X Y G H a b x y k m n (fault.Folder why) p = p
+failed_same X Y G H a b x y k m n fault.OutOfMemory p = p
 
-pub tells_failed : (X Y : Type 0) (a b : Option (List ℕ)) (x y k m n : ℕ) (e : ReadFault) (r : Result Y ReadFault) → r ≡ Err e
-    → TellsMore {X = X} a b x y k m (Err e) → TellsMore a b x y k n r
-tells_failed X Y a b x y k m n e r is p = subst (λ (s : Result Y ReadFault). TellsMore a b x y k n s) (sym is) (failed_same X Y a b x y k m n e p)
+pub tells_failed : (X Y : Type 0) (G : X → List LeftOut → Type 0) (H : Y → List LeftOut → Type 0) (a b : Option (List ℕ)) (x y k m n : ℕ) (e : ReadFault) (r : Result Y ReadFault) → r ≡ Err e
+    → TellsMore G a b x y k m (Err e) → TellsMore H a b x y k n r
+tells_failed X Y G H a b x y k m n e r is p = subst (λ (s : Result Y ReadFault). TellsMore H a b x y k n s) (sym is) (failed_same X Y G H a b x y k m n e p)
 
 -- memory ran out after what was told
-pub told_no_more : (X : Type 0) (a b : Option (List ℕ)) (x y k m n : ℕ) (r : Result X ReadFault) → r ≡ Err fault.OutOfMemory → Told a b x y k m → TellsMore a b x y k n r
-told_no_more X a b x y k m n r is p = subst (λ (s : Result X ReadFault). TellsMore a b x y k n s) (sym is) ((p.0, p.1), p.2)
+pub told_no_more : (X : Type 0) (F : List LeftOut → Type 0) (H : X → List LeftOut → Type 0) (a b : Option (List ℕ)) (x y k m n : ℕ) (r : Result X ReadFault) → r ≡ Err fault.OutOfMemory
+    → Told F a b x y k m → TellsMore H a b x y k n r
+told_no_more X F H a b x y k m n r is p = subst (λ (s : Result X ReadFault). TellsMore H a b x y k n s) (sym is) ((p.0, p.1), p.2)
 
 -- what was told, and then what the part tells that failed
-pub tells_up_to : (X Y : Type 0) (a b c : Option (List ℕ)) (x y z k m n total : ℕ) (e v : ReadFault) (r : Result Y ReadFault) → r ≡ Err v → v ≡ e
-    → Told a b x y k m → TellsMore {X = X} b c y z m n (Err e) → TellsMore a c x z k total r
-tells_up_to X Y a b c x y z k m n total e v r is same p q =
-    tells_failed X Y a c x z k n total e r (is ∙ ap (λ (f : ReadFault). Err f) same) (tells_then {X = X} a b c x y z k m n (Err e) p q)
+pub tells_up_to : (X Y : Type 0) (F : List LeftOut → Type 0) (G : X → List LeftOut → Type 0) (H : Y → List LeftOut → Type 0) (a b c : Option (List ℕ)) (x y z k m n total : ℕ) (e v : ReadFault)
+    (r : Result Y ReadFault) → r ≡ Err v → v ≡ e → Told F a b x y k m → TellsMore G b c y z m n (Err e) → TellsMore H a c x z k total r
+tells_up_to X Y F G H a b c x y z k m n total e v r is same p q =
+    tells_failed X Y (λ _ _. Unit {0}) H a c x z k n total e r (is ∙ ap (λ (f : ReadFault). Err f) same)
+    (tells_then F G (λ _ _. Unit {0}) a b c x y z k m n (Err e) (λ _ _ _ _ _. tt) p q)
 
-pub told_then : (a b c : Option (List ℕ)) (x y z k m n : ℕ) → Told a b x y k m → Told b c y z m n → Told a c x z k n
-told_then a b c x y z k m n p q = tells_then {X = ℕ} a b c x y z k m n (Ok 0) p q
+pub told_then : (F G H : List LeftOut → Type 0) (a b c : Option (List ℕ)) (x y z k m n : ℕ) → ((xs ys : List LeftOut) → F xs → G ys → H (xs ++ ys))
+    → Told F a b x y k m → Told G b c y z m n → Told H a c x z k n
+told_then F G H a b c x y z k m n both p q = tells_then {X = ℕ} F (λ _ ls. G ls) (λ _ ls. H ls) a b c x y z k m n (Ok 0) (λ _ xs ys f g. both xs ys f g) p q
 
-pub told_same : (a b : Option (List ℕ)) (x y j k m n : ℕ) → j ≡ k → n ≡ m → Told a b x y j m → Told a b x y k n
-told_same a b x y j k m n e f p = subst (λ (l : ℕ). Told a b x y k l) (sym f) (subst (λ (l : ℕ). Told a b x y l m) e p)
+pub told_same : (F G : List LeftOut → Type 0) (a b : Option (List ℕ)) (x y j k m n : ℕ) → j ≡ k → n ≡ m → ((ls : List LeftOut) → F ls → G ls) → Told F a b x y j m → Told G a b x y k n
+told_same F G a b x y j k m n e f follows p =
+    let q : Told G a b x y j m = (p.0, p.1, p.2, p.3, follows p.0 p.4) in
+    subst (λ (l : ℕ). Told G a b x y k l) (sym f) (subst (λ (l : ℕ). Told G a b x y l m) e q)
 
 -- ---- a whole reading
 
-read_failed_at : (X : Type 0) (a b : Option (List ℕ)) (x y k m : ℕ) (e : ReadFault) → TellsMore {X = X} a b x y k m (Err e) → Tells a b x y (Err e)
-read_failed_at X a b x y k m fault.Notes p = p
-read_failed_at X a b x y k m (fault.Folder why) p = absurd p
-read_failed_at X a b x y k m fault.OutOfMemory p = p
+read_failed_at : (X : Type 0) (G : X → List LeftOut → Type 0) (known : Known) (a b : Option (List ℕ)) (x y k m : ℕ) (e : ReadFault) → TellsMore G a b x y k m (Err e)
+    → Tells known a b x y (Err e)
+read_failed_at X G known a b x y k m fault.Notes p = p
+read_failed_at X G known a b x y k m (fault.Folder why) p = absurd p
+read_failed_at X G known a b x y k m fault.OutOfMemory p = p
 
-pub read_failed : (X : Type 0) (a b : Option (List ℕ)) (x y k m : ℕ) (e v : ReadFault) (r : Result Folder ReadFault) → r ≡ Err v → v ≡ e
-    → TellsMore {X = X} a b x y k m (Err e) → Tells a b x y r
-read_failed X a b x y k m e v r is same p =
-    subst (λ (s : Result Folder ReadFault). Tells a b x y s) (sym (is ∙ ap (λ (f : ReadFault). Err f) same)) (read_failed_at X a b x y k m e p)
+pub read_failed : (X : Type 0) (G : X → List LeftOut → Type 0) (known : Known) (a b : Option (List ℕ)) (x y k m : ℕ) (e v : ReadFault) (r : Result Folder ReadFault) → r ≡ Err v → v ≡ e
+    → TellsMore G a b x y k m (Err e) → Tells known a b x y r
+read_failed X G known a b x y k m e v r is same p =
+    subst (λ (s : Result Folder ReadFault). Tells known a b x y s) (sym (is ∙ ap (λ (f : ReadFault). Err f) same)) (read_failed_at X G known a b x y k m e p)

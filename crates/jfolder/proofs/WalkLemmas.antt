@@ -8,8 +8,10 @@ use Rattle.std.specs.declared.alloc.Global.{Global}
 use Rattle.std.proofs.lemmas.Bool.{false≢true}
 use Rattle.std.proofs.lemmas.List.Elements.{All-append, All-cons, All-contains, All-map, All-nil, All-pop, All-push, All-same, All-weaker}
 use Rattle.jfolder.specs.Actions.{AttributesFit, IsRooted, ItemFits, WhatFits}
+use Rattle.jfolder.specs.Known.{Known, inside}
+use Rattle.jfolder.specs.Objects.{IsObjectTold, IsOfKind, kind_bits}
 use Rattle.jfolder.specs.Trees.{HasTarget, IsRegular, IsTree, LinksBack, MayFollow, Rise}
-use Rattle.jfolder.specs.Walking.{FoundFits, HasOptions, IsChild, IsFileOf, IsItemTold, IsPending, IsTold, IsToldAt, WalkFits, comes_next, inside, item_of}
+use Rattle.jfolder.specs.Walking.{FoundFits, HasOptions, IsChild, IsFileOf, IsItemTold, IsPending, IsTold, IsToldAt, WalkFits, comes_next, item_of}
 use Rattle.jfolder.specs.declared.found.Found.{Found}
 use Rattle.jfolder.specs.declared.found.Options.{Options}
 use Rattle.jfolder.specs.declared.found.Skip.{Skip}
@@ -17,6 +19,7 @@ use Rattle.jfolder.specs.declared.host.Looked.{Looked}
 use Rattle.jfolder.specs.declared.tree.Attributes.{Attributes}
 use Rattle.jfolder.specs.declared.tree.Content.{Content}
 use Rattle.jfolder.specs.declared.tree.Item.{Item}
+use Rattle.jfolder.specs.declared.tree.What.{What}
 use Rattle.jfolder.specs.declared.tree.What.TheVariants as what
 use Rattle.jfolder.proofs.TreeLemmas.{All-reverse, directory_child, is_new, path_of, pending_more, rise_more, root_child, tree_more}
 
@@ -32,6 +35,14 @@ pub told_if : (known : Option Looked) (options : Options) (it : Looked) (r : Res
     → IfOk r (λ found. IsTold options it found.attributes) → IfOk r (λ found. IfSome known (λ k. IsTold options k found.attributes))
 told_if known options it (Ok found) same told = told_at known options it found.attributes same told
 told_if known options it (Err e) same told = tt
+
+-- a further name is that of a regular file
+pub link_kind : (known : Option Looked) (it : Looked) (r : Result Found Skip) (first : String Global) → IfSome known (λ k. it ≡ k) → kind_bits it.mode ≡ 8
+    → IfOk r (λ found. found.what ≡ what.Link first) → IfOk r (λ found. IfSome known (λ told. IsOfKind told found.what))
+link_kind known it (Err e) first same kind link = tt
+link_kind None it (Ok found) first same kind link = tt
+link_kind (Some k) it (Ok found) first same kind link =
+    subst (λ (w : What). IsOfKind k w) (sym link) (subst (λ (l : Looked). kind_bits l.mode ≡ 8) same kind)
 
 pub file_of : (items given : List Item) (k : ℕ) (i : Item) (bytes : Content) (text : List ℕ) → given ≡ items → k < length given → i ≡ get_or given k i
     → i.what ≡ what.Regular bytes → text ≡ path_of i → IsFileOf items text
@@ -70,31 +81,32 @@ pending_after before items path found old new paths more is directory at all chi
     let both = All-append (IsIn (before ++ i ∷ [])) old (reverse paths) these (All-reverse (IsIn (before ++ i ∷ [])) paths those) in
     All-same (IsIn items) new (old ++ reverse paths) is (subst (λ (l : List Item). All (IsIn l) (old ++ reverse paths)) (sym more) both)
 
-pub popped : (host : List ℕ → Option Looked) (options : Options) (items : List Item) (old new : List (String Global)) (r : Option (String Global)) → old ≡ new ++ option_to_list r
-    → WalkFits host options items old → WalkFits host options items new × IfSome r (IsIn items)
-popped host options items old new r is fits =
+pub popped : (known : Known) (options : Options) (items : List Item) (old new : List (String Global)) (r : Option (String Global)) → old ≡ new ++ option_to_list r
+    → WalkFits known options items old → WalkFits known options items new × IfSome r (IsIn items)
+popped known options items old new r is fits =
     let both = All-pop (IsIn items) old new r is fits.pending_fit in
-    (record { items_fit = fits.items_fit; tree = fits.tree; rise = fits.rise; options_hold = fits.options_hold; told = fits.told; pending_fit = both.0 }, both.1)
+    (record { items_fit = fits.items_fit; tree = fits.tree; rise = fits.rise; options_hold = fits.options_hold; told = fits.told; objects = fits.objects; pending_fit = both.0 }, both.1)
 
 -- ---- the walk
 
-pub walk_starts : (host : List ℕ → Option Looked) (options : Options) (items : List Item) (pending paths : List (String Global)) → items ≡ [] → pending ≡ reverse paths
-    → All (λ path. IsChild [] (string_bytes path)) paths → WalkFits host options items pending
-walk_starts host options items pending paths none is children =
-    subst (λ (l : List Item). WalkFits host options l pending) (sym none) (record {
+pub walk_starts : (known : Known) (options : Options) (items : List Item) (pending paths : List (String Global)) → items ≡ [] → pending ≡ reverse paths
+    → All (λ path. IsChild [] (string_bytes path)) paths → WalkFits known options items pending
+walk_starts known options items pending paths none is children =
+    subst (λ (l : List Item). WalkFits known options l pending) (sym none) (record {
       items_fit = All-nil ItemFits;
       tree = tt;
       rise = tt;
       options_hold = All-nil (λ i. HasOptions options i.attributes);
-      told = All-nil (IsItemTold host options);
+      told = All-nil (IsItemTold known.looked options);
+      objects = All-nil (IsObjectTold known);
       pending_fit = All-same (IsIn []) pending (reverse paths) is
           (All-reverse (IsIn []) paths (All-weaker (λ path. IsChild [] (string_bytes path)) (IsIn []) (λ p h. root_child [] (string_bytes p) h) paths children));
     })
 
-pub walk_more : (host : List ℕ → Option Looked) (options : Options) (items new : List Item) (path : String Global) (found : Found) (old pending : List (String Global)) → WalkFits host options items old
+pub walk_more : (known : Known) (options : Options) (items new : List Item) (path : String Global) (found : Found) (old pending : List (String Global)) → WalkFits known options items old
     → FoundFits options items found → IsRooted (string_bytes path) → comes_next items (string_bytes path) ≡ true → IsPending items (string_bytes path)
-    → IsToldAt host options (inside (string_bytes path)) found.attributes → new ≡ items ++ item_of path found ∷ [] → All (IsIn new) pending → WalkFits host options new pending
-walk_more host options items new path found old pending fits is rooted next at told more all =
+    → IsToldAt known.looked options (inside (string_bytes path)) found.attributes → IsObjectTold known (item_of path found) → new ≡ items ++ item_of path found ∷ [] → All (IsIn new) pending → WalkFits known options new pending
+walk_more known options items new path found old pending fits is rooted next at told object more all =
     let i = item_of path found in
     let may : MayFollow items i = record {
       way = at.way;
@@ -113,18 +125,19 @@ walk_more host options items new path found old pending fits is rooted next at t
       rise = subst Rise (sym more) (rise_more items i fits.rise next);
       options_hold = All-same (λ j. HasOptions options j.attributes) new (items ++ i ∷ []) more
           (All-push (λ j. HasOptions options j.attributes) items i fits.options_hold is.options_hold);
-      told = All-same (IsItemTold host options) new (items ++ i ∷ []) more (All-push (IsItemTold host options) items i fits.told told);
+      told = All-same (IsItemTold known.looked options) new (items ++ i ∷ []) more (All-push (IsItemTold known.looked options) items i fits.told told);
+      objects = All-same (IsObjectTold known) new (items ++ i ∷ []) more (All-push (IsObjectTold known) items i fits.objects object);
       pending_fit = all;
     }
 
 -- the item was added, or memory ran out
-pub walk_goes_on : {E : Type 0} (host : List ℕ → Option Looked) (options : Options) (items new : List Item) (path : String Global) (found : Found) (old pending : List (String Global)) (r : Result Unit E)
-    → WalkFits host options items old → FoundFits options items found → IsRooted (string_bytes path) → comes_next items (string_bytes path) ≡ true
-    → IsPending items (string_bytes path) → IsToldAt host options (inside (string_bytes path)) found.attributes → IfOk r (λ _. new ≡ items ++ item_of path found ∷ []) → IfOk r (λ _. All (IsIn new) pending)
-    → IfOk r (λ _. WalkFits host options new pending)
-walk_goes_on host options items new path found old pending (Ok x) fits is rooted next at told more all =
-    walk_more host options items new path found old pending fits is rooted next at told more all
-walk_goes_on host options items new path found old pending (Err e) fits is rooted next at told more all = tt
+pub walk_goes_on : {E : Type 0} (known : Known) (options : Options) (items new : List Item) (path : String Global) (found : Found) (old pending : List (String Global)) (r : Result Unit E)
+    → WalkFits known options items old → FoundFits options items found → IsRooted (string_bytes path) → comes_next items (string_bytes path) ≡ true
+    → IsPending items (string_bytes path) → IsToldAt known.looked options (inside (string_bytes path)) found.attributes → IsObjectTold known (item_of path found) → IfOk r (λ _. new ≡ items ++ item_of path found ∷ []) → IfOk r (λ _. All (IsIn new) pending)
+    → IfOk r (λ _. WalkFits known options new pending)
+walk_goes_on known options items new path found old pending (Ok x) fits is rooted next at told object more all =
+    walk_more known options items new path found old pending fits is rooted next at told object more all
+walk_goes_on known options items new path found old pending (Err e) fits is rooted next at told object more all = tt
 
 -- ---- what was read
 

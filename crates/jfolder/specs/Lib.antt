@@ -1,6 +1,9 @@
 pub mod Actions
+pub mod Complete
+pub mod Known
 pub mod Laws
 pub mod Notes
+pub mod Objects
 pub mod Order
 pub mod Pieces
 pub mod Text

@@ -3,6 +3,8 @@ use Rattle.std.specs.Prelude.{◌≡◌, ◌+◌, ◌%◌, ◌^◌, ℕ, List, �
 use Rattle.std.specs.List.{flat_map}
 use Rattle.std.specs.Io.KnownBytes.{Appends}
 use Rattle.flashbase.specs.Device.{PutsPart, next_count}
+use Rattle.jfolder.specs.Complete.{IsComplete, LeftOut}
+use Rattle.jfolder.specs.Known.{Known}
 use Rattle.jfolder.specs.Text.{word_of}
 use Rattle.jfolder.specs.declared.fault.ReadFault.{ReadFault}
 use Rattle.jfolder.specs.declared.fault.ReadFault.TheVariants as fault
@@ -27,10 +29,6 @@ reason_text reason.Time = codes "a time before 1970 or after 2106"
 reason_text reason.Target = codes "a target of no bytes, of more than 4095, or with a zero byte"
 reason_text reason.NotDirectory = codes "no directory"
 
--- a path that is left out, and why
-abbrev pub LeftOut : Type 0
-LeftOut = List ℕ × Reason
-
 unfoldable pub left_out_line : LeftOut → List ℕ
 left_out_line left = codes "left out " ++ word_of left.0 ++ codes ": " ++ reason_text left.1 ++ codes "\n"
 
@@ -38,17 +36,19 @@ abbrev pub left_out_text : List LeftOut → List ℕ
 left_out_text lefts = flat_map left_out_line lefts
 
 -- A part of a reading tells of some paths that are left out, and counts them modulo 2^64. Where the sink failed, a beginning of the lines
--- went out. It finds no fault with the folder itself.
-abbrev pub TellsMore : {X : Type 0} → Option (List ℕ) → Option (List ℕ) → ℕ → ℕ → ℕ → ℕ → Result X ReadFault → Type 0
-TellsMore old new before now count total (Ok _) = (lefts : List LeftOut) × Appends old new (left_out_text lefts) × (now ≡ before)
-    × (total ≡ (count + length lefts) % 2 ^ 64)
-TellsMore old new before now count total (Err fault.Notes) = ((lefts : List LeftOut) × PutsPart old new (left_out_text lefts)) × (now ≡ next_count before)
-TellsMore old new before now count total (Err fault.OutOfMemory) = ((lefts : List LeftOut) × Appends old new (left_out_text lefts)) × (now ≡ before)
-TellsMore old new before now count total (Err (fault.Folder why)) = ⊥
+-- went out. It finds no fault with the folder itself. `fits` says of the answer which paths these are.
+abbrev pub TellsMore : {X : Type 0} → (X → List LeftOut → Type 0) → Option (List ℕ) → Option (List ℕ) → ℕ → ℕ → ℕ → ℕ → Result X ReadFault → Type 0
+TellsMore fits old new before now count total (Ok x) = (lefts : List LeftOut) × Appends old new (left_out_text lefts) × (now ≡ before)
+    × (total ≡ (count + length lefts) % 2 ^ 64) × fits x lefts
+TellsMore fits old new before now count total (Err fault.Notes) = ((lefts : List LeftOut) × PutsPart old new (left_out_text lefts)) × (now ≡ next_count before)
+TellsMore fits old new before now count total (Err fault.OutOfMemory) = ((lefts : List LeftOut) × Appends old new (left_out_text lefts)) × (now ≡ before)
+TellsMore fits old new before now count total (Err (fault.Folder why)) = ⊥
 
--- A reading tells of the paths that it leaves out, and counts them modulo 2^64. Where the folder itself is at fault it tells nothing.
-abbrev pub Tells : Option (List ℕ) → Option (List ℕ) → ℕ → ℕ → Result Folder ReadFault → Type 0
-Tells old new before now (Ok read) = (lefts : List LeftOut) × Appends old new (left_out_text lefts) × (now ≡ before) × (read.left_out ≡ length lefts % 2 ^ 64)
-Tells old new before now (Err (fault.Folder why)) = (new ≡ old) × (now ≡ before)
-Tells old new before now (Err fault.Notes) = ((lefts : List LeftOut) × PutsPart old new (left_out_text lefts)) × (now ≡ next_count before)
-Tells old new before now (Err fault.OutOfMemory) = ((lefts : List LeftOut) × Appends old new (left_out_text lefts)) × (now ≡ before)
+-- A reading tells of the paths that it leaves out, and counts them modulo 2^64; each path that the host tells of is read, or is one of them. Where
+-- the folder itself is at fault it tells nothing.
+abbrev pub Tells : Known → Option (List ℕ) → Option (List ℕ) → ℕ → ℕ → Result Folder ReadFault → Type 0
+Tells known old new before now (Ok read) = (lefts : List LeftOut) × Appends old new (left_out_text lefts) × (now ≡ before) × (read.left_out ≡ length lefts % 2 ^ 64)
+    × IsComplete known read.items.items lefts
+Tells known old new before now (Err (fault.Folder why)) = (new ≡ old) × (now ≡ before)
+Tells known old new before now (Err fault.Notes) = ((lefts : List LeftOut) × PutsPart old new (left_out_text lefts)) × (now ≡ next_count before)
+Tells known old new before now (Err fault.OutOfMemory) = ((lefts : List LeftOut) × Appends old new (left_out_text lefts)) × (now ≡ before)

@@ -1,9 +1,11 @@
 -- A walk through a folder: what is found at a path, and which paths are still to visit.
-use Rattle.std.specs.Prelude.{◌≡◌, ◌≤◌, ◌++◌, ◌∷◌, [], ℕ, Bool, true, List, length, All, Contains, IsTrue, IsSome, IfSome, IfNone, Option, String, bit_and, drop, pos}
+use Rattle.std.specs.Prelude.{◌≡◌, ◌≤◌, ◌++◌, ◌∷◌, [], ℕ, Bool, true, List, length, All, Contains, IsTrue, IsSome, IfSome, IfNone, Option, String, bit_and, pos}
 use Rattle.std.specs.declared.alloc.Global.{Global}
 use Rattle.std.specs.String.{string_bytes}
 use Rattle.jmount.specs.Find.{IsPath, is_name}
 use Rattle.jfolder.specs.Actions.{AttributesFit, ItemFits, WhatFits}
+use Rattle.jfolder.specs.Known.{Known, inside}
+use Rattle.jfolder.specs.Objects.{IsObjectTold}
 use Rattle.jfolder.specs.Order.{is_before}
 use Rattle.jfolder.specs.Trees.{HasDirectory, HasTarget, IsRegular, IsTree, LinksBack, Rise}
 use Rattle.jfolder.specs.declared.found.Found.{Found}
@@ -27,10 +29,6 @@ pub record IsTold (options : Options) (told : Looked) (a : Attributes) : Type 0 
 -- that of the object at a path, where it is known what the host tells there
 abbrev pub IsToldAt : (List ℕ → Option Looked) → Options → List ℕ → Attributes → Type 0
 IsToldAt host options path a = IfSome (host path) (λ told. IsTold options told a)
-
--- a path as the host is asked for it: without the slash that it begins with
-abbrev pub inside : List ℕ → List ℕ
-inside path = drop 1 path
 
 abbrev pub IsItemTold : (List ℕ → Option Looked) → Options → Item → Type 0
 IsItemTold host options i = IsToldAt host options (inside (string_bytes i.path)) i.attributes
@@ -80,10 +78,11 @@ item_of path found = record { path = path; attributes = found.attributes; what =
 -- ---- the walk so far
 
 -- what was read is a tree in its order, and each path that is still to visit lies in it
-pub record WalkFits (host : List ℕ → Option Looked) (options : Options) (items : List Item) (pending : List (String Global)) : Type 0 where
+pub record WalkFits (known : Known) (options : Options) (items : List Item) (pending : List (String Global)) : Type 0 where
   pub items_fit : All ItemFits items
   pub tree : IsTree items
   pub rise : Rise items
   pub options_hold : All (λ i. HasOptions options i.attributes) items
-  pub told : All (IsItemTold host options) items
+  pub told : All (IsItemTold known.looked options) items
+  pub objects : All (IsObjectTold known) items
   pub pending_fit : All (λ p. IsPending items (string_bytes p)) pending

@@ -3,6 +3,8 @@
 ghost use Rattle.std.specs.Prelude.{◌≡◌, ◌<◌, [], pos, All, IfNone, IfOk, IfSome, IsSome, IsTrue};
 ghost use Rattle.std.specs.String.{string_bytes};
 ghost use Rattle.jfolder.specs.Actions.{AttributesFit, ContentFits, IsFileWord, WhatFits};
+ghost use Rattle.jfolder.specs.Complete.{NamesFit};
+ghost use Rattle.jfolder.specs.Objects.{HasContent, HasObject, IsOfKind, SizeFits, kind_bits, kind_number};
 ghost use Rattle.jfolder.specs.Trees.{HasTarget, LinksBack};
 ghost use Rattle.jfolder.specs.Walking.{FoundFits, HasOptions, IsTold};
 
@@ -80,7 +82,9 @@ pub enum HostKind {
 }
 
 /// The kind that bits 12 to 15 of a mode say.
-pub fn kind_of(mode: u32) -> Result<HostKind, Reason> {
+pub fn kind_of(mode: u32) -> Result<HostKind, Reason>
+    ensures { IfOk result (λ kind. kind_bits mode ≡ kind_number kind) }
+{
     match (mode >> 12) & 0xF {
         4 => Ok(HostKind::Directory),
         8 => Ok(HostKind::Regular),
@@ -158,7 +162,9 @@ fn known(bytes: &[u8])
 /// Where the bytes of a regular file come from.
 pub fn content_of<F: HostFolder>(folder: &mut F, path: &str, size: u64) -> Result<Content, Skip>
     ensures fits { IfOk result ContentFits }
-    ensures kept { F.looked folder.new ≡ F.looked folder.old }
+    ensures size { IfOk result (SizeFits size) }
+    ensures told { IfOk result (HasContent (F.known folder.old) path.now) }
+    ensures kept { F.known folder.new ≡ F.known folder.old }
 {
     if size > MAX_SIZE as u64 {
         return Err(Skip::LeftOut(Reason::Large));
@@ -178,19 +184,18 @@ pub fn content_of<F: HostFolder>(folder: &mut F, path: &str, size: u64) -> Resul
     Ok(Content::Bytes(bytes))
 }
 
-/// A symlink.
-fn symlink_of<F: HostFolder>(folder: &mut F, path: &str) -> Result<What, Skip>
-    ensures fits { IfOk result WhatFits }
-    ensures target { IfOk result HasTarget }
-    ensures link { IfOk result (LinksBack []) }
-    ensures kept { F.looked folder.new ≡ F.looked folder.old }
+/// The target of a symlink.
+fn target_of<F: HostFolder>(folder: &mut F, path: &str) -> Result<String, Skip>
+    ensures fits { IfOk result (λ target. HasTarget (What.Symlink target)) }
+    ensures told { IfOk result (λ target. HasObject (F.known folder.old) path.now (What.Symlink target)) }
+    ensures kept { F.known folder.new ≡ F.known folder.old }
 {
     let target = folder.target(path)?;
     let bytes = target.as_bytes();
     if bytes.is_empty() || bytes.len() > MAX_TARGET || bytes.iter().any(|byte| *byte == 0) {
         return Err(Skip::LeftOut(Reason::Target));
     }
-    Ok(What::Symlink { target })
+    Ok(target)
 }
 
 /// What lies at a path.
@@ -205,30 +210,13 @@ pub struct Found {
 }
 
 /// What other names of a regular file are known by, if there are any.
-pub fn identity_of(looked: &Looked) -> Option<(u64, u64)> {
+pub fn identity_of(looked: &Looked) -> Option<(u64, u64)>
+    ensures { IfSome result (λ _. kind_bits looked.now.mode ≡ 8) }
+{
     if looked.links > 1 && kind_of(looked.mode) == Ok(HostKind::Regular) {
         return Some((looked.device, looked.number));
     }
     None
-}
-
-/// What a file or a symlink is.
-fn leaf_of<F: HostFolder>(
-    folder: &mut F,
-    path: &str,
-    looked: &Looked,
-    kind: HostKind,
-) -> Result<What, Skip>
-    ensures fits { IfOk result WhatFits }
-    ensures target { IfOk result HasTarget }
-    ensures link { IfOk result (LinksBack []) }
-    ensures kept { F.looked folder.new ≡ F.looked folder.old }
-{
-    if kind == HostKind::Symlink {
-        return symlink_of(folder, path);
-    }
-    let content = content_of(folder, path, looked.size)?;
-    Ok(What::Regular(content))
 }
 
 /// What an object is, and the names in a directory.
@@ -238,18 +226,25 @@ fn object_of<F: HostFolder>(
     looked: &Looked,
     kind: HostKind,
 ) -> Result<(What, Option<Names>), Skip>
+    requires { kind_bits looked.now.mode ≡ kind_number kind }
     ensures fits { IfOk result (λ object. WhatFits object.0) }
     ensures target { IfOk result (λ object. HasTarget object.0) }
     ensures link { IfOk result (λ object. LinksBack [] object.0) }
-    ensures directory { IfOk result (λ object. IsSome object.1 → object.0 ≡ What.Directory) }
-    ensures kept { F.looked folder.new ≡ F.looked folder.old }
+    ensures names { IfOk result (λ object. NamesFit ((F.known folder.old).names path.now) object.0 object.1) }
+    ensures kind { IfOk result (λ object. IsOfKind looked.now object.0) }
+    ensures object { IfOk result (λ object. HasObject (F.known folder.old) path.now object.0) }
+    ensures kept { F.known folder.new ≡ F.known folder.old }
 {
-    if kind == HostKind::Directory {
-        let names = folder.names(path)?;
-        return Ok((What::Directory, Some(names)));
+    match kind {
+        HostKind::Directory => Ok((What::Directory, Some(folder.names(path)?))),
+        HostKind::Regular => Ok((What::Regular(content_of(folder, path, looked.size)?), None)),
+        HostKind::Symlink => Ok((
+            What::Symlink {
+                target: target_of(folder, path)?,
+            },
+            None,
+        )),
     }
-    let what = leaf_of(folder, path, looked, kind)?;
-    Ok((what, None))
 }
 
 /// What lies at a path, by its first name.
@@ -261,7 +256,10 @@ pub fn first_found<F: HostFolder>(
 ) -> Result<Found, Skip>
     ensures found { IfOk result (FoundFits options.now []) }
     ensures told { IfOk result (λ found. IsTold options.now looked.now found.attributes) }
-    ensures kept { F.looked folder.new ≡ F.looked folder.old }
+    ensures names { IfOk result (λ found. NamesFit ((F.known folder.old).names path.now) found.what found.names) }
+    ensures kind { IfOk result (λ found. IsOfKind looked.now found.what) }
+    ensures object { IfOk result (λ found. HasObject (F.known folder.old) path.now found.what) }
+    ensures kept { F.known folder.new ≡ F.known folder.old }
 {
     let kind = kind_of(looked.mode)?;
     let attributes = attributes_of(looked, options)?;

@@ -1,7 +1,8 @@
 //! A folder of the host, as it is read.
 
-ghost use Rattle.std.specs.Prelude.{◌≡◌, ℕ, IfOk, IfSome, List, Option};
-ghost use Rattle.jfolder.specs.declared.host.Looked.{Looked};
+ghost use Rattle.std.specs.Prelude.{◌≡◌, IfOk, IfSome};
+ghost use Rattle.std.specs.String.{string_bytes};
+ghost use Rattle.jfolder.specs.Known.{AreBytesOf, Known, named_of};
 
 use crate::fault::FolderFault;
 
@@ -29,28 +30,32 @@ pub struct Names {
 /// A folder of the host that is read. A path is that of an object in it, names with a slash between two; the empty path is the
 /// folder itself. No call follows a symlink that a path ends in.
 pub trait HostFolder {
-    /// What it tells of the object at each path, where that is known. No call changes it.
-    ghost looked: { Self → List ℕ → Option Looked };
+    /// What is known of what it tells at each path. No call changes it.
+    ghost known: { Self → Known };
 
     /// What the host tells of an object.
     fn look(&mut self, path: &str) -> Result<Looked, FolderFault>
-        ensures kept { looked self.new ≡ looked self.old }
-        ensures told { IfOk result (λ it. IfSome (looked self.old path.now) (λ known. it ≡ known)) };
+        ensures kept { known self.new ≡ known self.old }
+        ensures told { IfOk result (λ it. IfSome ((known self.old).looked path.now) (λ told. it ≡ told)) };
 
     /// The names in a directory.
     fn names(&mut self, path: &str) -> Result<Names, FolderFault>
-        ensures { looked self.new ≡ looked self.old };
+        ensures kept { known self.new ≡ known self.old }
+        ensures told { IfOk result (λ it. IfSome ((known self.old).names path.now) (λ told. named_of it ≡ told)) };
 
     /// The target of a symlink.
     fn target(&mut self, path: &str) -> Result<String, FolderFault>
-        ensures { looked self.new ≡ looked self.old };
+        ensures kept { known self.new ≡ known self.old }
+        ensures told { IfOk result (λ it. IfSome ((known self.old).target path.now) (λ told. string_bytes it ≡ told)) };
 
     /// The bytes of a regular file. One that has more than `limit` is refused, or gives more than `limit` bytes. It is asked only
     /// where the name of the file is no word of a listing.
     fn bytes(&mut self, path: &str, limit: usize) -> Result<Vec<u8>, FolderFault>
-        ensures { looked self.new ≡ looked self.old };
+        ensures kept { known self.new ≡ known self.old }
+        ensures told { IfOk result (λ it. IfSome ((known self.old).bytes path.now) (λ told. AreBytesOf told limit it.items)) };
 
     /// The name by which another program opens the file.
     fn host_path(&mut self, path: &str) -> Result<String, FolderFault>
-        ensures { looked self.new ≡ looked self.old };
+        ensures kept { known self.new ≡ known self.old }
+        ensures told { IfOk result (λ it. IfSome ((known self.old).host_path path.now) (λ told. string_bytes it ≡ told)) };
 }

@@ -1,5 +1,6 @@
 //! What is told of what is left out.
 
+ghost use Rattle.std.specs.Prelude.{◌≡◌, ◌∷◌, []};
 ghost use Rattle.flashbase.specs.Device.{Puts};
 ghost use Rattle.jfolder.specs.Notes.{TellsMore, left_out_line};
 
@@ -32,7 +33,7 @@ pub fn leave_out<N: Sink>(
     path: &[u8],
     reason: Reason,
 ) -> Result<(), ReadFault>
-    ensures { TellsMore (N.taken notes.old) (N.taken notes.new) (N.failures notes.old) (N.failures notes.new) count.old count.new result }
+    ensures { TellsMore (λ _ lefts. lefts ≡ (path.now, reason) ∷ []) (N.taken notes.old) (N.taken notes.new) (N.failures notes.old) (N.failures notes.new) count.old count.new result }
 {
     match put_left_out(notes, path, reason) {
         Ok(()) => {

@@ -1,11 +1,14 @@
 //! Reading a folder of the host.
 
-ghost use Rattle.std.specs.Prelude.{◌≡◌, ◌∷◌, ◌++◌, [], map, reverse, All, IfErr, IfNone, IfOk, IfSome, IsSome, IsTrue};
+ghost use Rattle.std.specs.Prelude.{◌≡◌, ◌∷◌, ◌++◌, [], map, replicate, reverse, All, IfErr, IfNone, IfOk, IfSome, IsPermutation, IsSome, IsTrue};
 ghost use Rattle.std.specs.String.{string_bytes};
 ghost use Rattle.jfolder.specs.Actions.{AttributesFit, Fits, IsRooted, ItemFits};
+ghost use Rattle.jfolder.specs.Complete.{GoesOn, NamesFit, child, children, children_of, left_paths};
+ghost use Rattle.jfolder.specs.Known.{inside, named_of};
 ghost use Rattle.jfolder.specs.Notes.{Tells, TellsMore};
+ghost use Rattle.jfolder.specs.Objects.{HasObject, IsObjectTold, IsOfKind, kind_bits};
 ghost use Rattle.jfolder.specs.Trees.{IsTree, Rise};
-ghost use Rattle.jfolder.specs.Walking.{FoundFits, HasOptions, IsChild, IsFileOf, IsItemTold, IsPending, IsShortName, IsToldAt, WalkFits, comes_next, inside, item_of};
+ghost use Rattle.jfolder.specs.Walking.{FoundFits, HasOptions, IsChild, IsFileOf, IsItemTold, IsPending, IsShortName, IsToldAt, WalkFits, comes_next, item_of};
 
 use crate::fault::ReadFault;
 use crate::found::{
@@ -86,7 +89,8 @@ fn add_child<N: Sink>(
 ) -> Result<(), ReadFault>
     requires { All (λ path. IsChild directory.now (string_bytes path)) paths.old.items }
     ensures paths { IfOk result (λ _. All (λ path. IsChild directory.now (string_bytes path)) paths.new.items) }
-    ensures told { TellsMore (N.taken notes.old) (N.taken notes.new) (N.failures notes.old) (N.failures notes.new) left_out.old left_out.new result }
+    ensures told { TellsMore (λ _ lefts. map string_bytes paths.old.items ++ child directory.now name.now ∷ [] ≡ map string_bytes paths.new.items ++ left_paths lefts)
+        (N.taken notes.old) (N.taken notes.new) (N.failures notes.old) (N.failures notes.new) left_out.old left_out.new result }
 {
     let _count = *left_out;
     let path = joined(alloc, directory, name)?;
@@ -107,11 +111,12 @@ fn leave_out_others<N: Sink>(
     notes: &mut N,
     left_out: &mut u64,
 ) -> Result<(), ReadFault>
-    ensures { TellsMore (N.taken notes.old) (N.taken notes.new) (N.failures notes.old) (N.failures notes.new) left_out.old left_out.new result }
+    ensures { TellsMore (λ _ lefts. left_paths lefts ≡ replicate others (child directory.now []))
+        (N.taken notes.old) (N.taken notes.new) (N.failures notes.old) (N.failures notes.new) left_out.old left_out.new result }
 {
     let _count = *left_out;
     let unnamed = joined(alloc, directory, "")?;
-    for _ in 0..others {
+    for _told in 0..others {
         leave_out(notes, left_out, unnamed.as_bytes(), Reason::NoText)?;
     }
     Ok(())
@@ -126,7 +131,8 @@ fn paths_of<N: Sink>(
     left_out: &mut u64,
 ) -> Result<Vec<String>, ReadFault>
     ensures paths { IfOk result (λ paths. All (λ path. IsChild directory.now (string_bytes path)) paths.items) }
-    ensures told { TellsMore (N.taken notes.old) (N.taken notes.new) (N.failures notes.old) (N.failures notes.new) left_out.old left_out.new result }
+    ensures told { TellsMore (λ paths lefts. IsPermutation (map (λ name. child directory.now (string_bytes name)) names.now) (map string_bytes paths.items ++ left_paths lefts))
+        (N.taken notes.old) (N.taken notes.new) (N.failures notes.old) (N.failures notes.new) left_out.old left_out.new result }
 {
     let _count = *left_out;
     let mut paths = Vec::new(alloc);
@@ -145,7 +151,8 @@ fn children<N: Sink>(
     left_out: &mut u64,
 ) -> Result<Vec<String>, ReadFault>
     ensures paths { IfOk result (λ paths. All (λ path. IsChild directory.now (string_bytes path)) paths.items) }
-    ensures told { TellsMore (N.taken notes.old) (N.taken notes.new) (N.failures notes.old) (N.failures notes.new) left_out.old left_out.new result }
+    ensures told { TellsMore (λ paths lefts. IsPermutation (children directory.now (named_of names)) (map string_bytes paths.items ++ left_paths lefts))
+        (N.taken notes.old) (N.taken notes.new) (N.failures notes.old) (N.failures notes.new) left_out.old left_out.new result }
 {
     names.texts.sort()?;
     leave_out_others(alloc, directory, names.others, notes, left_out)?;
@@ -178,7 +185,8 @@ impl Walk {
 
     /// The first path of a regular file, if it was met before.
     fn first_path(&self, looked: &Looked) -> Option<&str>
-        ensures { IfSome result (λ first. IsFileOf self.now.items.items first.now) }
+        ensures file { IfSome result (λ first. IsFileOf self.now.items.items first.now) }
+        ensures kind { IfSome result (λ _. kind_bits looked.now.mode ≡ 8) }
     {
         let index = self.firsts.get(&identity_of(looked)?)?;
         let item = self.items.as_slice().get(*index)?;
@@ -188,16 +196,12 @@ impl Walk {
         }
     }
 
-    /// What the host tells of a path that comes after those of all items.
-    fn look<F: HostFolder>(&self, folder: &mut F, path: &str) -> Result<Looked, Skip>
-        ensures rooted { IfOk result (λ _. IsRooted path.now) }
+    /// What the host tells of a path that comes after those of all items. `rest` is the path as the host is asked for it.
+    fn look<F: HostFolder>(&self, folder: &mut F, path: &str, rest: &str) -> Result<Looked, Skip>
         ensures next { IfOk result (λ _. IsTrue (comes_next self.now.items.items path.now)) }
-        ensures told { IfOk result (λ it. IfSome (F.looked folder.old (inside path.now)) (λ known. it ≡ known)) }
-        ensures kept { F.looked folder.new ≡ F.looked folder.old }
+        ensures told { IfOk result (λ it. IfSome ((F.known folder.old).looked rest.now) (λ told. it ≡ told)) }
+        ensures kept { F.known folder.new ≡ F.known folder.old }
     {
-        let Some(rest) = inside(path) else {
-            return Err(Skip::LeftOut(Reason::BadName));
-        };
         if !self.is_next(path) {
             return Err(Skip::LeftOut(Reason::Repeated));
         }
@@ -216,13 +220,19 @@ impl Walk {
         ensures found { IfOk result (FoundFits options.now self.now.items.items) }
         ensures rooted { IfOk result (λ _. IsRooted path.now) }
         ensures next { IfOk result (λ _. IsTrue (comes_next self.now.items.items path.now)) }
-        ensures told { IfOk result (λ found. IsToldAt (F.looked folder.old) options.now (inside path.now) found.attributes) }
-        ensures kept { F.looked folder.new ≡ F.looked folder.old }
+        ensures told { IfOk result (λ found. IsToldAt (F.known folder.old).looked options.now (inside path.now) found.attributes) }
+        ensures names { IfOk result (λ found. NamesFit ((F.known folder.old).names (inside path.now)) found.what found.names) }
+        ensures kind { IfOk result (λ found. IfSome ((F.known folder.old).looked (inside path.now)) (λ told. IsOfKind told found.what)) }
+        ensures object { IfOk result (λ found. HasObject (F.known folder.old) (inside path.now) found.what) }
+        ensures kept { F.known folder.new ≡ F.known folder.old }
     {
-        let looked = self.look(folder, path)?;
+        let Some(rest) = inside(path) else {
+            return Err(Skip::LeftOut(Reason::BadName));
+        };
+        let looked = self.look(folder, path, rest)?;
         match self.first_path(&looked) {
             Some(first) => link_to(String::from_str(alloc, first)?, &looked, options),
-            None => first_found(folder, inside(path).unwrap_or(path), &looked, options),
+            None => first_found(folder, rest, &looked, options),
         }
     }
 
@@ -237,7 +247,8 @@ impl Walk {
         ensures items { self.new.items.items ≡ self.old.items.items }
         ensures pending { self.new.pending.items ≡ self.old.pending.items }
         ensures paths { IfOk result (λ paths. All (λ child. IsSome names × IsChild path.now (string_bytes child)) paths.items) }
-        ensures told { TellsMore (N.taken notes.old) (N.taken notes.new) (N.failures notes.old) (N.failures notes.new) self.old.left_out self.new.left_out result }
+        ensures told { TellsMore (λ paths lefts. IsPermutation (children_of path.now names) (map string_bytes paths.items ++ left_paths lefts))
+            (N.taken notes.old) (N.taken notes.new) (N.failures notes.old) (N.failures notes.new) self.old.left_out self.new.left_out result }
     {
         let _count = self.left_out;
         match names {
@@ -292,7 +303,9 @@ impl Walk {
         requires pending { All (λ p. IsPending self.old.items.items (string_bytes p)) self.old.pending.items }
         ensures items { IfOk result (λ _. self.new.items.items ≡ self.old.items.items ++ item_of path found ∷ []) }
         ensures pending { IfOk result (λ _. All (λ p. IsPending self.new.items.items (string_bytes p)) self.new.pending.items) }
-        ensures told { TellsMore (N.taken notes.old) (N.taken notes.new) (N.failures notes.old) (N.failures notes.new) self.old.left_out self.new.left_out result }
+        ensures told { TellsMore (λ _ lefts. IsPermutation (children_of (string_bytes path) found.names ++ map string_bytes self.old.pending.items)
+            (map string_bytes self.new.pending.items ++ left_paths lefts))
+            (N.taken notes.old) (N.taken notes.new) (N.failures notes.old) (N.failures notes.new) self.old.left_out self.new.left_out result }
     {
         let Found {
             attributes,
@@ -328,11 +341,13 @@ impl Walk {
         notes: &mut N,
         path: String,
     ) -> Result<(), ReadFault>
-        requires fits { WalkFits (F.looked folder.old) options.now self.old.items.items self.old.pending.items }
+        requires fits { WalkFits (F.known folder.old) options.now self.old.items.items self.old.pending.items }
         requires path { IsPending self.old.items.items (string_bytes path) }
-        ensures fits { IfOk result (λ _. WalkFits (F.looked folder.old) options.now self.new.items.items self.new.pending.items) }
-        ensures kept { F.looked folder.new ≡ F.looked folder.old }
-        ensures told { TellsMore (N.taken notes.old) (N.taken notes.new) (N.failures notes.old) (N.failures notes.new) self.old.left_out self.new.left_out result }
+        ensures fits { IfOk result (λ _. WalkFits (F.known folder.old) options.now self.new.items.items self.new.pending.items) }
+        ensures kept { F.known folder.new ≡ F.known folder.old }
+        ensures told { TellsMore (λ _ lefts. GoesOn (F.known folder.old) self.old.items.items (map string_bytes self.old.pending.items ++ string_bytes path ∷ [])
+            self.new.items.items (map string_bytes self.new.pending.items) lefts)
+            (N.taken notes.old) (N.taken notes.new) (N.failures notes.old) (N.failures notes.new) self.old.left_out self.new.left_out result }
     {
         match self.find(alloc, folder, options, path.as_str()) {
             Ok(found) => self.add(alloc, notes, path, found),
@@ -351,8 +366,10 @@ impl Walk {
 fn root_of<F: HostFolder>(folder: &mut F, options: &Options) -> Result<(Attributes, Names), Skip>
     ensures fit { IfOk result (λ root. AttributesFit root.0) }
     ensures options { IfOk result (λ root. HasOptions options.now root.0) }
-    ensures told { IfOk result (λ root. IsToldAt (F.looked folder.old) options.now [] root.0) }
-    ensures kept { F.looked folder.new ≡ F.looked folder.old }
+    ensures told { IfOk result (λ root. IsToldAt (F.known folder.old).looked options.now [] root.0) }
+    ensures kind { IfOk result (λ _. IfSome ((F.known folder.old).looked []) (λ told. kind_bits told.mode ≡ 4)) }
+    ensures names { IfOk result (λ root. IfSome ((F.known folder.old).names []) (λ told. named_of root.1 ≡ told)) }
+    ensures kept { F.known folder.new ≡ F.known folder.old }
 {
     let looked = folder.look("")?;
     if kind_of(looked.mode) != Ok(HostKind::Directory) {
@@ -368,7 +385,7 @@ fn root_of<F: HostFolder>(folder: &mut F, options: &Options) -> Result<(Attribut
 ///
 /// # Errors
 /// `Folder`: the folder itself can't be read, is no directory, or has an owner or a time that a listing cannot say. `Notes`: the
-/// notes failed. `OutOfMemory`.
+/// notes failed. `OutOfMemory`, also after 2^64 - 1 paths.
 pub fn read_folder<F: HostFolder, N: Sink>(
     alloc: Global,
     folder: &mut F,
@@ -379,9 +396,10 @@ pub fn read_folder<F: HostFolder, N: Sink>(
     ensures tree { IfOk result (λ read. IsTree read.items.items) }
     ensures rises { IfOk result (λ read. Rise read.items.items) }
     ensures options { IfOk result (λ read. All (HasOptions options.now) (read.root ∷ map (λ item. item.attributes) read.items.items)) }
-    ensures root { IfOk result (λ read. IsToldAt (F.looked folder.old) options.now [] read.root) }
-    ensures told { IfOk result (λ read. All (IsItemTold (F.looked folder.old) options.now) read.items.items) }
-    ensures notes { Tells (N.taken notes.old) (N.taken notes.new) (N.failures notes.old) (N.failures notes.new) result }
+    ensures root { IfOk result (λ read. IsToldAt (F.known folder.old).looked options.now [] read.root) }
+    ensures told { IfOk result (λ read. All (IsItemTold (F.known folder.old).looked options.now) read.items.items) }
+    ensures objects { IfOk result (λ read. All (IsObjectTold (F.known folder.old)) read.items.items) }
+    ensures notes { Tells (F.known folder.old) (N.taken notes.old) (N.taken notes.new) (N.failures notes.old) (N.failures notes.new) result }
 {
     let (root, names) = match root_of(folder, options) {
         Ok(found) => found,
@@ -393,13 +411,13 @@ pub fn read_folder<F: HostFolder, N: Sink>(
     walk.put_off(paths)?;
     for _ in 0..u64::MAX {
         let Some(path) = walk.pending.pop() else {
-            break;
+            return Ok(Folder {
+                root,
+                items: walk.items,
+                left_out: walk.left_out,
+            });
         };
         walk.visit(alloc, folder, options, notes, path)?;
     }
-    Ok(Folder {
-        root,
-        items: walk.items,
-        left_out: walk.left_out,
-    })
+    Err(ReadFault::OutOfMemory)
 }

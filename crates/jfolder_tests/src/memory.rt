@@ -1,6 +1,6 @@
 //! A folder in memory, one of whose calls the host may refuse.
 
-ghost use Rattle.std.specs.Prelude.{None};
+ghost use Rattle.jfolder.specs.Known.{nothing};
 
 use jfolder::{FolderFault, HostFolder, Looked, Names};
 use std::alloc::{AllocError, Global};
@@ -90,7 +90,7 @@ fn text_of(alloc: Global, text: &str) -> Result<String, AllocError> {
 }
 
 impl HostFolder for Memory<'_> {
-    ghost looked = { λ s path. None };
+    ghost known = { λ _. nothing };
 
     fn look(&mut self, path: &str) -> Result<Looked, FolderFault> {
         Ok(self.find(path)?.looked)

@@ -1,6 +1,6 @@
 //! A folder of the system that is read.
 
-ghost use Rattle.std.specs.Prelude.{None};
+ghost use Rattle.jfolder.specs.Known.{nothing};
 
 use crate::paths::joined;
 use crate::progress::Progress;
@@ -85,7 +85,7 @@ impl<'r, R: Files + AllocGlobal + Clock + Eprint> ReadFolder<'r, R> {
 
 impl<'r, R: Files + AllocGlobal + Clock + Eprint> HostFolder for ReadFolder<'r, R> {
     // What the system tells is not known.
-    ghost looked = { λ s path. None };
+    ghost known = { λ _. nothing };
 
     fn look(&mut self, path: &str) -> Result<Looked, FolderFault> {
         self.progress.step();

@@ -1,24 +1,37 @@
-use Rattle.std.proofs.Common.{arith, []}
-use Rattle.std.specs.Prelude.{String}
+use Rattle.std.proofs.Common.{◌≡◌, ◌+◌, ◌++◌, ◌∷◌, arith, [], List, ℕ, map, take, sym, subst}
+use Rattle.std.specs.Prelude.{IsPermutation, String, Vec}
 use Rattle.std.specs.String.{string_bytes}
 use Rattle.std.specs.declared.alloc.Global.{Global}
 use Rattle.std.proofs.lemmas.List.Elements.{All-nil, All-same}
+use Rattle.std.proofs.lemmas.List.Sorted.{IsPermutation-refl}
 use Rattle.std.proofs.lemmas.Result.{err_from_is_err_and}
+use Rattle.jfolder.specs.Complete.{LeftOut, child, left_paths}
 use Rattle.jfolder.specs.Walking.{IsChild}
+use Rattle.jfolder.proofs.CompleteLemmas.{paths_more, texts}
 use Rattle.jfolder.proofs.NoteLemmas.{tells_nothing, tells_up_to, told_then}
 use Rattle.jfolder.proofs.reading.paths_of.Goals as goal
+
+abbrev UpTo : List ℕ → List (String Global) → ℕ → List (String Global) → List LeftOut → Type 0
+UpTo directory names count paths lefts = IsPermutation (map (λ (n : String Global). child directory (string_bytes n)) (take count names)) (texts paths ++ left_paths lefts)
+
+abbrev Added : List ℕ → List ℕ → List (String Global) → List (String Global) → List LeftOut → Type 0
+Added directory name old new lefts = texts old ++ child directory name ∷ [] ≡ texts new ++ left_paths lefts
 
 pub loop-name-init : goal.loop-name-init
 loop-name-init g c = record {
   paths = All-same (λ (path : String Global). IsChild c.args.directory.now (string_bytes path)) c.new-paths.result.items [] c.new-paths.ensures.items
       (All-nil (λ (path : String Global). IsChild c.args.directory.now (string_bytes path)));
-  told = tells_nothing (g.N.Sink.taken c.args.notes.now) (g.N.Sink.failures c.args.notes.now) c.args.left_out.now (omega arith);
+  told = tells_nothing (UpTo c.args.directory.now c.args.names.now 0 c.new-paths.result.items) (g.N.Sink.taken c.args.notes.now) (g.N.Sink.failures c.args.notes.now) c.args.left_out.now (omega arith)
+      (subst (λ (l : List (String Global)). IsPermutation {X = List ℕ} [] (texts l ++ [])) (sym c.new-paths.ensures.items) (IsPermutation-refl []));
 }
 
 pub returns-in_err-add_child-clause-told : goal.returns-in_err-add_child-clause-told
 returns-in_err-add_child-clause-told g c =
     let p = err_from_is_err_and c.from_residual.result c.from_residual.ensures.1 in
-    tells_up_to (Unit {0}) _ (g.N.Sink.taken c.args.notes.now) (g.N.Sink.taken c.loop-name.notes) (g.N.Sink.taken c.add_child.new.notes)
+    tells_up_to (Unit {0}) (Vec (String Global) Global) (UpTo c.args.directory.now c.args.names.now c.loop-name.name-index c.loop-name.paths.items)
+    (λ _ lefts. Added c.args.directory.now c.as_str.result.now c.loop-name.paths.items c.add_child.new.paths.items lefts)
+    (λ paths lefts. IsPermutation (map (λ (n : String Global). child c.args.directory.now (string_bytes n)) c.args.names.now) (texts paths.items ++ left_paths lefts))
+    (g.N.Sink.taken c.args.notes.now) (g.N.Sink.taken c.loop-name.notes) (g.N.Sink.taken c.add_child.new.notes)
     (g.N.Sink.failures c.args.notes.now) (g.N.Sink.failures c.loop-name.notes) (g.N.Sink.failures c.add_child.new.notes)
     c.args.left_out.now c.loop-name.left_out c.add_child.new.left_out c.add_child.new.left_out c.in_err-add_child.field-0.0 p.0 c.from_residual.result
     p.1 p.2 c.loop-name.invariant.told c.in_err-add_child.ensures.told
@@ -26,7 +39,14 @@ returns-in_err-add_child-clause-told g c =
 pub loop-name-preserved : goal.loop-name-preserved
 loop-name-preserved g c = record {
   paths = c.in_ok-add_child.ensures.paths;
-  told = told_then (g.N.Sink.taken c.args.notes.now) (g.N.Sink.taken c.loop-name.notes) (g.N.Sink.taken c.add_child.new.notes)
+  told = told_then (UpTo c.args.directory.now c.args.names.now c.loop-name.name-index c.loop-name.paths.items)
+      (Added c.args.directory.now c.as_str.result.now c.loop-name.paths.items c.add_child.new.paths.items)
+      (UpTo c.args.directory.now c.args.names.now (c.loop-name.name-index + 1) c.add_child.new.paths.items)
+      (g.N.Sink.taken c.args.notes.now) (g.N.Sink.taken c.loop-name.notes) (g.N.Sink.taken c.add_child.new.notes)
       (g.N.Sink.failures c.args.notes.now) (g.N.Sink.failures c.loop-name.notes) (g.N.Sink.failures c.add_child.new.notes)
-      c.args.left_out.now c.loop-name.left_out c.add_child.new.left_out c.loop-name.invariant.told c.in_ok-add_child.ensures.told;
+      c.args.left_out.now c.loop-name.left_out c.add_child.new.left_out
+      (λ before more those these. paths_more (λ (n : String Global). child c.args.directory.now (string_bytes n)) c.args.names.now c.loop-name.name-index c.name-item.result
+      c.loop-name.paths.items c.add_child.new.paths.items before more (omega arith) c.name-item.is those
+      (subst (λ (l : List ℕ). Added c.args.directory.now l c.loop-name.paths.items c.add_child.new.paths.items more) c.as_str.ensures.value these))
+      c.loop-name.invariant.told c.in_ok-add_child.ensures.told;
 }

@@ -1,15 +1,51 @@
-use Rattle.std.proofs.Common.{◌≡◌, true, ℕ, List, subst}
+use Rattle.std.proofs.Common.{◌≡◌, ◌++◌, ◌∷◌, [], true, ℕ, List, subst}
+use Rattle.std.specs.Prelude.{IfOk, IfSome, IsPermutation}
+use Rattle.std.specs.String.{string_bytes}
 use Rattle.jfolder.specs.Actions.{IsRooted}
-use Rattle.jfolder.specs.Walking.{IsToldAt, comes_next, inside}
+use Rattle.jfolder.specs.Complete.{GoesOn, NamesFit, children_of, left_paths}
+use Rattle.jfolder.specs.Known.{inside}
+use Rattle.jfolder.specs.Objects.{HasObject, IsOfKind}
+use Rattle.jfolder.specs.Walking.{IsToldAt, comes_next, item_of}
+use Rattle.jfolder.proofs.CompleteLemmas.{goes_on, leaves_out, texts}
+use Rattle.jfolder.proofs.NoteLemmas.{tells_as}
 use Rattle.jfolder.proofs.WalkLemmas.{walk_goes_on}
 use Rattle.jfolder.proofs.reading.Walk.visit.Goals as goal
 
 pub returns-in-Ok-clause-fits : goal.returns-in-Ok-clause-fits
 returns-in-Ok-clause-fits g c =
     let old = c.args.self.now in
-    walk_goes_on (g.F.HostFolder.looked c.args.folder.now) c.args.options.now old.items.items c.add.new.self.items.items c.args.path c.in-Ok.found old.pending.items c.add.new.self.pending.items c.add.result
+    let known = g.F.HostFolder.known c.args.folder.now in
+    walk_goes_on known c.args.options.now old.items.items c.add.new.self.items.items c.args.path c.in-Ok.found old.pending.items c.add.new.self.pending.items c.add.result
     c.requires.fits c.in-Ok.ensures.found (subst IsRooted c.as_str.ensures.value c.in-Ok.ensures.rooted)
     (subst (λ (l : List ℕ). comes_next old.items.items l ≡ true) c.as_str.ensures.value c.in-Ok.ensures.next)
     c.requires.path
-    (subst (λ (l : List ℕ). IsToldAt (g.F.HostFolder.looked c.args.folder.now) c.args.options.now (inside l) c.in-Ok.found.attributes) c.as_str.ensures.value c.in-Ok.ensures.told)
+    (subst (λ (l : List ℕ). IsToldAt known.looked c.args.options.now (inside l) c.in-Ok.found.attributes) c.as_str.ensures.value c.in-Ok.ensures.told)
+    (record {
+      kind = subst (λ (l : List ℕ). IfSome (known.looked (inside l)) (λ told. IsOfKind told c.in-Ok.found.what)) c.as_str.ensures.value c.in-Ok.ensures.kind;
+      object = subst (λ (l : List ℕ). HasObject known (inside l) c.in-Ok.found.what) c.as_str.ensures.value c.in-Ok.ensures.object;
+    })
     c.add.ensures.items c.add.ensures.pending
+
+pub returns-in-Ok-clause-told : goal.returns-in-Ok-clause-told
+returns-in-Ok-clause-told g c =
+    let old = c.args.self.now in
+    let known = g.F.HostFolder.known c.args.folder.now in
+    let names : NamesFit (known.names (inside (string_bytes c.args.path))) c.in-Ok.found.what c.in-Ok.found.names =
+    subst (λ (l : List ℕ). NamesFit (known.names (inside l)) c.in-Ok.found.what c.in-Ok.found.names) c.as_str.ensures.value c.in-Ok.ensures.names in
+    tells_as (λ _ lefts. IsPermutation (children_of (string_bytes c.args.path) c.in-Ok.found.names ++ texts old.pending.items) (texts c.add.new.self.pending.items ++ left_paths lefts))
+    (λ _ lefts. GoesOn known old.items.items (texts old.pending.items ++ string_bytes c.args.path ∷ []) c.add.new.self.items.items (texts c.add.new.self.pending.items) lefts)
+    (g.N.Sink.taken c.args.notes.now) (g.N.Sink.taken c.add.new.notes) (g.N.Sink.failures c.args.notes.now) (g.N.Sink.failures c.add.new.notes)
+    old.left_out c.add.new.self.left_out c.add.result
+    (λ v lefts is moved. goes_on known old.items.items c.add.new.self.items.items c.args.path c.in-Ok.found (texts old.pending.items) (texts c.add.new.self.pending.items) lefts
+    (subst (λ r. IfOk r (λ _. c.add.new.self.items.items ≡ old.items.items ++ item_of c.args.path c.in-Ok.found ∷ [])) is c.add.ensures.items) names moved)
+    c.add.ensures.told
+
+pub returns-in-Err-LeftOut-clause-told : goal.returns-in-Err-LeftOut-clause-told
+returns-in-Err-LeftOut-clause-told g c =
+    let old = c.args.self.now in
+    let known = g.F.HostFolder.known c.args.folder.now in
+    tells_as _ (λ _ lefts. GoesOn known old.items.items (texts old.pending.items ++ string_bytes c.args.path ∷ []) old.items.items (texts old.pending.items) lefts)
+    (g.N.Sink.taken c.args.notes.now) (g.N.Sink.taken c.leave_out.new.notes) (g.N.Sink.failures c.args.notes.now) (g.N.Sink.failures c.leave_out.new.notes)
+    old.left_out c.leave_out.new.count c.leave_out.result
+    (λ v lefts is these. leaves_out known old.items.items (texts old.pending.items) (string_bytes c.args.path) c.as_bytes.result.now _ lefts c.as_bytes.ensures.value these)
+    c.leave_out.ensures

@@ -1,0 +1,34 @@
+-- What is known of what the host tells of a folder.
+use Rattle.std.specs.Prelude.{◌≡◌, ◌≤◌, ◌<◌, ℕ, List, drop, map, length, Option, None}
+use Rattle.std.specs.String.{string_bytes}
+use Rattle.jfolder.specs.declared.host.Looked.{Looked}
+use Rattle.jfolder.specs.declared.host.Names.{Names}
+
+-- a path as the host is asked for it: without the slash that it begins with
+abbrev pub inside : List ℕ → List ℕ
+inside path = drop 1 path
+
+-- the names in a directory: those that are text, in the order in which they are told, and how many others there are
+pub record Named : Type 0 where
+  pub texts : List (List ℕ)
+  pub others : ℕ
+
+abbrev pub named_of : Names → Named
+named_of names = record { texts = map string_bytes names.texts.items; others = names.others }
+
+-- what the host tells at each path, where that is known: of the object, of the names in a directory, of the target of a symlink, of the bytes
+-- of a regular file, and of the name by which another program opens it
+pub record Known : Type 0 where
+  pub looked : List ℕ → Option Looked
+  pub names : List ℕ → Option Named
+  pub target : List ℕ → Option (List ℕ)
+  pub bytes : List ℕ → Option (List ℕ)
+  pub host_path : List ℕ → Option (List ℕ)
+
+abbrev pub nothing : Known
+nothing = record { looked = λ _. None; names = λ _. None; target = λ _. None; bytes = λ _. None; host_path = λ _. None }
+
+-- the bytes of a file, or more than the limit if the file has more
+pub record AreBytesOf (file : List ℕ) (limit : ℕ) (bytes : List ℕ) : Type 0 where
+  pub whole : length file ≤ limit → bytes ≡ file
+  pub more : limit < length file → limit < length bytes
