@@ -4,8 +4,9 @@
 Two trees are made in the folder, each of about 62 MiB: 62 files of 1 MiB, and 16,000 of 3,900 bytes in folders of 100.
 `listing` and `build` make an image of each, and so does mkfs.jffs2 of mtd-utils (without compression, little order, blocks of
 64 KiB); where that is missing it is left out. `extract` writes the image into a new folder, and `cp -r` and `cp -a` copy the
-folder; the C loop only takes the checksum of the image (bench/loop.c, built here by cc -O2). Of each command the least processor time over the runs counts, and the greatest memory; the commands of a round run
-one after the other, so that other work on the machine meets them all.
+folder; the C loop takes the checksum of the image, and in its last form writes its bytes into files of 1 MiB (bench/loop.c, built here by cc
+-O2). Of each command the least processor time over the runs counts, and the greatest memory; the commands of a round run one after
+the other, so that other work on the machine meets them all.
 """
 import os
 import random
@@ -59,6 +60,7 @@ def main():
             ("cp -a", ["cp", "-a", name, name + ".cpa"], name + ".cpa"),
             ("C loop, in pieces", [loop, "pieces", name + ".img"], "none"),
             ("C loop, whole", [loop, "whole", name + ".img"], "none"),
+            ("C loop, written", [loop, "split", name + ".img", name + ".parts"], name + ".parts"),
             ("extract", [PROGRAM, "extract", name + ".img", name + ".new"], name + ".new"),
         ], "cp -r")
     return 0

@@ -3,6 +3,7 @@
  * loop pieces FILE    the checksum, read 64 KiB at a time into one buffer
  * loop whole FILE     the checksum, of the file in one allocation
  * loop lines FILE     how many lines and words it has, of the file in one allocation
+ * loop split FILE TO  the checksum, read 64 KiB at a time, and the same bytes written to new files of 1 MiB in a new folder
  *
  * Eight tables, eight bytes a step: the same work a byte as `flashbase::crc`.
  */
@@ -52,6 +53,25 @@ static uint32_t in_pieces(int file) {
     return rest;
 }
 
+/* The same, and the bytes go into files of 16 pieces each. */
+static uint32_t into_files(int file, const char *folder) {
+    static unsigned char piece[PIECE];
+    uint32_t rest = 0, count = 0;
+    int part = -1, failed = mkdir(folder, 0777);
+    for (ssize_t length; !failed && (length = read(file, piece, PIECE)) > 0; count++) {
+        if (count % 16 == 0) {
+            char name[4096];
+            snprintf(name, sizeof name, "%s/%u", folder, count / 16);
+            close(part);
+            part = open(name, O_WRONLY | O_CREAT | O_EXCL, 0666);
+        }
+        rest = checksum_from(rest, piece, length);
+        failed = write(part, piece, length) != length;
+    }
+    close(part);
+    return failed ? 0 : rest;
+}
+
 /* All bytes of the file, or NULL. */
 static unsigned char *loaded(int file, ssize_t *length) {
     struct stat about;
@@ -89,12 +109,13 @@ static uint32_t lines_and_words(int file) {
 }
 
 int main(int count, char **words) {
-    int file = count == 3 ? open(words[2], O_RDONLY) : -1;
+    int splits = count == 4 && !strcmp(words[1], "split");
+    int file = count == 3 || splits ? open(words[2], O_RDONLY) : -1;
     if (file < 0) {
-        fprintf(stderr, "usage: loop pieces|whole|lines FILE\n");
+        fprintf(stderr, "usage: loop pieces|whole|lines FILE, or loop split FILE TO\n");
         return 2;
     }
     fill_tables();
-    printf("%08x\n", !strcmp(words[1], "lines") ? lines_and_words(file) : !strcmp(words[1], "whole") ? as_a_whole(file) : in_pieces(file));
+    printf("%08x\n", splits ? into_files(file, words[3]) : !strcmp(words[1], "lines") ? lines_and_words(file) : !strcmp(words[1], "whole") ? as_a_whole(file) : in_pieces(file));
     return 0;
 }
