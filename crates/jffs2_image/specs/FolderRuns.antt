@@ -1,6 +1,7 @@
 -- What a run of the program does that works with a folder of the host.
 use Rattle.std.specs.Prelude.{◌≡◌, ◌⊎◌, ℕ, Bool, List, Option, Some, None, Result, Ok, Err}
 use Rattle.jextract.specs.Folders.{Made}
+use Rattle.jfolder.specs.Known.{Known}
 use Rattle.jfolder.specs.declared.found.Options as reading
 use Rattle.jreport.specs.Faults.{fault_line_of}
 use Rattle.jreport.specs.declared.faults.ProgramFault.{ProgramFault}
@@ -61,35 +62,35 @@ abbrev pub outcome_of_listing : Result ℕ ProgramFault → Outcome
 outcome_of_listing (Ok n) = outcome_of n
 outcome_of_listing (Err fault) = outcome.Fault
 
--- The listing of the folder of a name goes out, and all that was put is given on.
-pub record FinishesListing (options : reading.Options) (name : List ℕ) (output_old output_given : Option (List ℕ)) (output_before output_now : ℕ)
+-- The listing of the folder of a name, of which this is known, goes out, and all that was put is given on.
+pub record FinishesListing (known : Known) (options : reading.Options) (name : List ℕ) (output_old output_given : Option (List ℕ)) (output_before output_now : ℕ)
     (old new : Option (List ℕ)) (before now : ℕ) (result : Result ℕ ProgramFault) : Type 0 where
   pub taken : Option (List ℕ)
   pub count : ℕ
   pub answer : Result ℕ ProgramFault
   pub finished : Bool
-  pub lists : ListsFolder options name output_old taken output_before count old new before now answer
+  pub lists : ListsFolder known options name output_old taken output_before count old new before now answer
   pub finishes : Finishes taken output_given count output_now finished
   pub comes_to : result ≡ answer_finished answer finished
 
 -- The same by a host that gives the folder and takes it back; or there is no memory for it, and the output and the notes are as they were.
-abbrev pub ListsGiven : Type 0 → reading.Options → List ℕ → Option (List ℕ) → Option (List ℕ) → ℕ → ℕ → Option (List ℕ) → Option (List ℕ) → ℕ → ℕ → Result ℕ ProgramFault → Type 0
-ListsGiven untouched options name output_old output_given output_before output_now old new before now result =
-    FinishesListing options name output_old output_given output_before output_now old new before now result
+abbrev pub ListsGiven : Type 0 → Known → reading.Options → List ℕ → Option (List ℕ) → Option (List ℕ) → ℕ → ℕ → Option (List ℕ) → Option (List ℕ) → ℕ → ℕ → Result ℕ ProgramFault → Type 0
+ListsGiven untouched known options name output_old output_given output_before output_now old new before now result =
+    FinishesListing known options name output_old output_given output_before output_now old new before now result
     ⊎ ((result ≡ Err program.OutOfMemory) × untouched × (new ≡ old) × (now ≡ before))
 
 -- What it leaves out is told, and then a fault. `untouched`: the output is as it was.
-pub record EndsListing (untouched : Type 0) (options : reading.Options) (name : List ℕ) (output_old output_given : Option (List ℕ)) (output_before output_now : ℕ)
+pub record EndsListing (untouched : Type 0) (known : Known) (options : reading.Options) (name : List ℕ) (output_old output_given : Option (List ℕ)) (output_before output_now : ℕ)
     (old new : Option (List ℕ)) (before now : ℕ) (result : Outcome) : Type 0 where
   pub between : Option (List ℕ)
   pub count : ℕ
   pub answer : Result ℕ ProgramFault
-  pub lists : ListsGiven untouched options name output_old output_given output_before output_now old between before count answer
+  pub lists : ListsGiven untouched known options name output_old output_given output_before output_now old between before count answer
   pub said : Says ((new ≡ between) × (now ≡ count)) between new count now (said_after_listing answer)
   pub ends : result ≡ outcome_of_listing answer
 
--- `listing`, of what is given
-pub record RunsListing (args : List (List ℕ)) (untouched : Type 0) (output_old output_given : Option (List ℕ)) (output_before output_now : ℕ)
+-- `listing`, of what is given. `reads` is what is known of each folder of the host, by its name.
+pub record RunsListing (args : List (List ℕ)) (untouched : Type 0) (reads : List ℕ → Known) (output_old output_given : Option (List ℕ)) (output_before output_now : ℕ)
     (old new : Option (List ℕ)) (before now : ℕ) (result : Outcome) : Type 0 where
   pub owner : Option Owner
   pub time : Option ℕ
@@ -97,4 +98,4 @@ pub record RunsListing (args : List (List ℕ)) (untouched : Type 0) (output_old
   pub folder : List ℕ
   pub parsed : parsed_from args ≡ Some (ListingParsed owner time quiet folder)
   pub faultless : IsFaultless args
-  pub ends : EndsListing untouched (settings owner time) folder output_old output_given output_before output_now old new before now result
+  pub ends : EndsListing untouched (reads folder) (settings owner time) folder output_old output_given output_before output_now old new before now result

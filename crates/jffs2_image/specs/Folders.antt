@@ -1,5 +1,5 @@
 -- What the commands do that work with a folder of the host.
-use Rattle.std.specs.Prelude.{◌≡◌, ◌⊎◌, ℕ, Bool, List, ◌∷◌, All, map, Option, option_map, Result, Ok, Err}
+use Rattle.std.specs.Prelude.{◌≡◌, ◌⊎◌, ℕ, Bool, List, [], ◌∷◌, All, map, Option, option_map, Result, Ok, Err}
 use Rattle.std.specs.Io.KnownBytes.{Appends, Keeps}
 use Rattle.flashbase.specs.Device.{PutsPart, next_count}
 use Rattle.jnode.specs.declared.order.Endian.{Endian}
@@ -11,9 +11,11 @@ use Rattle.jextract.specs.Extracts.{Extracts}
 use Rattle.jextract.specs.declared.fault.ExtractFault.{ExtractFault}
 use Rattle.jextract.specs.declared.fault.ExtractFault.TheVariants as extract
 use Rattle.jfolder.specs.Actions.{Fits}
+use Rattle.jfolder.specs.Known.{Known}
 use Rattle.jfolder.specs.Notes.{Tells}
+use Rattle.jfolder.specs.Objects.{IsObjectTold}
 use Rattle.jfolder.specs.Trees.{IsTree, Rise}
-use Rattle.jfolder.specs.Walking.{HasOptions}
+use Rattle.jfolder.specs.Walking.{HasOptions, IsItemTold, IsToldAt}
 use Rattle.jfolder.specs.declared.found.Options.{Options}
 use Rattle.jfolder.specs.declared.found.Owner.{Owner}
 use Rattle.jcommand.specs.declared.parsed.Owner as command
@@ -77,19 +79,23 @@ owner_given o = record { uid = o.uid; gid = o.gid }
 abbrev pub settings : Option command.Owner → Option ℕ → Options
 settings owner time = record { owner = option_map owner_given owner; time = time }
 
--- what was read of a folder: a tree in the order of its paths, which a listing can say, with the owner and the time that the options give
-pub record IsListable (options : Options) (folder : Folder) : Type 0 where
+-- what was read of a folder: a tree in the order of its paths, which a listing can say, with the owner and the time that the options give, and
+-- else as the host tells it, where that is known
+pub record IsListable (known : Known) (options : Options) (folder : Folder) : Type 0 where
   pub fits : Fits folder.root folder.items.items
   pub tree : IsTree folder.items.items
   pub rises : Rise folder.items.items
   pub options_hold : All (HasOptions options) (folder.root ∷ map (λ item. item.attributes) folder.items.items)
+  pub root_told : IsToldAt known.looked options [] folder.root
+  pub told : All (IsItemTold known.looked options) folder.items.items
+  pub objects : All (IsObjectTold known) folder.items.items
 
 -- `listing` of the folder of a name: what is left out is told, and the listing of the rest goes out
-abbrev pub ListsFolder : Options → List ℕ → Option (List ℕ) → Option (List ℕ) → ℕ → ℕ → Option (List ℕ) → Option (List ℕ) → ℕ → ℕ → Result ℕ ProgramFault → Type 0
-ListsFolder options name old new before now told_old told_new told_before told_now (Ok n) =
-    (folder : Folder) × IsListable options folder × (n ≡ folder.left_out)
-    × Appends old new (listing_text folder.root folder.items.items) × (now ≡ before) × Tells told_old told_new told_before told_now (Ok folder)
-ListsFolder options name old new before now told_old told_new told_before told_now (Err fault) =
-    ((folder : Folder) × IsListable options folder × (fault ≡ program.Output)
-    × PutsPart old new (listing_text folder.root folder.items.items) × (now ≡ next_count before) × Tells told_old told_new told_before told_now (Ok folder))
-    ⊎ ((refused : ReadFault) × IsReadingFault name refused fault × (new ≡ old) × (now ≡ before) × Tells told_old told_new told_before told_now (Err refused))
+abbrev pub ListsFolder : Known → Options → List ℕ → Option (List ℕ) → Option (List ℕ) → ℕ → ℕ → Option (List ℕ) → Option (List ℕ) → ℕ → ℕ → Result ℕ ProgramFault → Type 0
+ListsFolder known options name old new before now told_old told_new told_before told_now (Ok n) =
+    (folder : Folder) × IsListable known options folder × (n ≡ folder.left_out)
+    × Appends old new (listing_text folder.root folder.items.items) × (now ≡ before) × Tells known told_old told_new told_before told_now (Ok folder)
+ListsFolder known options name old new before now told_old told_new told_before told_now (Err fault) =
+    ((folder : Folder) × IsListable known options folder × (fault ≡ program.Output)
+    × PutsPart old new (listing_text folder.root folder.items.items) × (now ≡ next_count before) × Tells known told_old told_new told_before told_now (Ok folder))
+    ⊎ ((refused : ReadFault) × IsReadingFault name refused fault × (new ≡ old) × (now ≡ before) × Tells known told_old told_new told_before told_now (Err refused))

@@ -1,6 +1,7 @@
 //! The commands that work with a folder of the host: `extract` and `listing`.
 ghost use Rattle.std.specs.Prelude.{◌≡◌, ℕ, List, IfOk, OnErr, Option};
 ghost use Rattle.flashbase.specs.Device.{Puts};
+ghost use Rattle.jfolder.specs.Known.{Known};
 ghost use Rattle.jfolder.specs.Text.{listing_text};
 ghost use Rattle.jcommand.specs.Parsed.{ExtractParsed, ListingParsed, IsFaultless};
 ghost use Rattle.jextract.specs.Folders.{Made};
@@ -38,6 +39,9 @@ pub trait Folders {
     /// What was made in all folders, in order, where it is told.
     ghost made: { Self → Option (List Made) };
 
+    /// What is known of what the host tells of the folder of each name.
+    ghost reads: { Self → List ℕ → Known };
+
     /// The folder of a name, which is to be made and filled. How far that is is told unless it is `quiet`. It goes on with
     /// what was made.
     fn filled(&mut self, name: &str, quiet: bool) -> Result<Self::Filled, AllocError>
@@ -49,7 +53,8 @@ pub trait Folders {
         ensures { made self.new ≡ Self.Filled.made folder };
 
     /// The folder of a name, which is to be read. How far that is is told unless it is `quiet`.
-    fn read(&mut self, name: &str, quiet: bool) -> Result<Self::Read, AllocError>;
+    fn read(&mut self, name: &str, quiet: bool) -> Result<Self::Read, AllocError>
+        ensures { IfOk result (λ folder. Self.Read.known folder ≡ reads self.old name.now) };
 
     /// Takes back a folder that was read.
     fn take_read(&mut self, folder: Self::Read);
@@ -149,7 +154,7 @@ pub fn list_folder<'a, H: HostFolder, T: Sink, N: Sink>(
     sink: &mut T,
     notes: &mut N,
 ) -> Result<u64, ProgramFault<'a>>
-    ensures { ListsFolder options name.entry.now (T.taken sink.old) (T.taken sink.new) (T.failures sink.old) (T.failures sink.new)
+    ensures { ListsFolder (H.known folder.old) options name.entry.now (T.taken sink.old) (T.taken sink.new) (T.failures sink.old) (T.failures sink.new)
         (N.taken notes.old) (N.taken notes.new) (N.failures notes.old) (N.failures notes.new) result }
 {
     let read = match read_folder(alloc, folder, &options, notes) {
@@ -266,7 +271,7 @@ fn list_whole<'a, H: HostFolder, T: Output, N: Sink>(
     output: &mut T,
     notes: &mut N,
 ) -> Result<u64, ProgramFault<'a>>
-    ensures { FinishesListing options name.entry.now (T.taken output.old) (T.given output.new) (T.failures output.old) (T.failures output.new)
+    ensures { FinishesListing (H.known folder.old) options name.entry.now (T.taken output.old) (T.given output.new) (T.failures output.old) (T.failures output.new)
         (N.taken notes.old) (N.taken notes.new) (N.failures notes.old) (N.failures notes.new) result }
 {
     let answer = list_folder(alloc, options, name, folder, output, notes);
@@ -288,7 +293,7 @@ fn list_given<'a, D: Folders, T: Output, N: Sink>(
     output: &mut T,
     notes: &mut N,
 ) -> Result<u64, ProgramFault<'a>>
-    ensures { ListsGiven (output.new ≡ output.old) options name.entry.now (T.taken output.old) (T.given output.new) (T.failures output.old) (T.failures output.new)
+    ensures { ListsGiven (output.new ≡ output.old) (D.reads folders.old name.entry.now) options name.entry.now (T.taken output.old) (T.given output.new) (T.failures output.old) (T.failures output.new)
         (N.taken notes.old) (N.taken notes.new) (N.failures notes.old) (N.failures notes.new) result }
 {
     let Ok(mut folder) = folders.read(name, quiet) else {
@@ -310,7 +315,7 @@ pub fn run_listing<D: Folders, T: Output, E: Sink>(
     output: &mut T,
     errors: &mut E,
 ) -> Outcome
-    ensures { EndsListing (output.new ≡ output.old) (settings owner time) name.now (T.taken output.old) (T.given output.new) (T.failures output.old) (T.failures output.new)
+    ensures { EndsListing (output.new ≡ output.old) (D.reads folders.old name.now) (settings owner time) name.now (T.taken output.old) (T.given output.new) (T.failures output.old) (T.failures output.new)
         (E.taken errors.old) (E.taken errors.new) (E.failures errors.old) (E.failures errors.new) result }
 {
     let options = settings_of(owner, time);

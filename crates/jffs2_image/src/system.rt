@@ -1,5 +1,6 @@
 //! Folders of the system, as the commands ask for them.
 ghost use Rattle.std.specs.Prelude.{None};
+ghost use Rattle.jfolder.specs.Known.{nothing};
 
 use crate::folders::Folders;
 use jhost::{FilledFolder, ReadFolder};
@@ -26,6 +27,9 @@ impl<'r, R: Files + AllocGlobal + Clock + Eprint> Folders for SystemFolders<'r, 
     type Read = ReadFolder<'r, R>;
 
     ghost made = { λ _. None };
+
+    // What the system tells is not known.
+    ghost reads = { λ _ _. nothing };
 
     fn filled(&mut self, name: &str, quiet: bool) -> Result<FilledFolder<'r, R>, AllocError> {
         FilledFolder::new(self.rt, name, self.is_terminal && !quiet)

@@ -6,7 +6,7 @@ ghost use Rattle.jfolder.specs.Actions.{AttributesFit, Fits, IsRooted, ItemFits}
 ghost use Rattle.jfolder.specs.Complete.{GoesOn, NamesFit, child, children, children_of, left_paths};
 ghost use Rattle.jfolder.specs.Known.{inside, named_of};
 ghost use Rattle.jfolder.specs.Notes.{Tells, TellsMore};
-ghost use Rattle.jfolder.specs.Objects.{HasObject, IsObjectTold, IsOfKind, kind_bits};
+ghost use Rattle.jfolder.specs.Objects.{AreOne, HasObject, IsObjectTold, IsOfKind, kind_bits};
 ghost use Rattle.jfolder.specs.Trees.{IsTree, Rise};
 ghost use Rattle.jfolder.specs.Walking.{FoundFits, HasOptions, IsChild, IsFileOf, IsItemTold, IsPending, IsShortName, IsToldAt, WalkFits, comes_next, item_of};
 
@@ -76,6 +76,18 @@ fn inside(path: &str) -> Option<&str>
     ensures rest { IfSome result (λ rest. rest.now ≡ inside path.now) }
 {
     path.strip_prefix("/")
+}
+
+/// Whether the host tells at the first path of an object what it told at another one: names of one object.
+fn is_one<F: HostFolder>(folder: &mut F, first: &str, looked: &Looked) -> Result<bool, Skip>
+    ensures one { IfOk result (λ one. IsTrue one → IfSome ((F.known folder.old).looked (inside first.now)) (λ told. AreOne told looked.now)) }
+    ensures kept { F.known folder.new ≡ F.known folder.old }
+{
+    let Some(rest) = inside(first) else {
+        return Ok(false);
+    };
+    let told = folder.look(rest)?;
+    Ok(told.device == looked.device && told.number == looked.number)
 }
 
 /// Adds the path of a name in a directory, or tells that it is left out.
@@ -230,10 +242,12 @@ impl Walk {
             return Err(Skip::LeftOut(Reason::BadName));
         };
         let looked = self.look(folder, path, rest)?;
-        match self.first_path(&looked) {
-            Some(first) => link_to(String::from_str(alloc, first)?, &looked, options),
-            None => first_found(folder, rest, &looked, options),
+        if let Some(first) = self.first_path(&looked) {
+            if is_one(folder, first, &looked)? {
+                return link_to(String::from_str(alloc, first)?, &looked, options);
+            }
         }
+        first_found(folder, rest, &looked, options)
     }
 
     /// The paths in a directory.

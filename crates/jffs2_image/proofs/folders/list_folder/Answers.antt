@@ -7,7 +7,15 @@ returns-in-Err g c = inr (c.in-Err.fault, c.read_fault.ensures, refl, refl, c.in
 pub returns-in-Ok-put_read : goal.returns-in-Ok-put_read
 returns-in-Ok-put_read g c = (
   c.in-Ok.read,
-  record { fits = c.in-Ok.ensures.fits; tree = c.in-Ok.ensures.tree; rises = c.in-Ok.ensures.rises; options_hold = c.in-Ok.ensures.options },
+  record {
+    fits = c.in-Ok.ensures.fits;
+    tree = c.in-Ok.ensures.tree;
+    rises = c.in-Ok.ensures.rises;
+    options_hold = c.in-Ok.ensures.options;
+    root_told = c.in-Ok.ensures.root;
+    told = c.in-Ok.ensures.told;
+    objects = c.in-Ok.ensures.objects;
+  },
   refl,
   c.in-Ok-put_read.ensures.0,
   c.in-Ok-put_read.ensures.1,
@@ -17,7 +25,15 @@ returns-in-Ok-put_read g c = (
 pub returns : goal.returns
 returns g c = inl (
   c.in-Ok.read,
-  record { fits = c.in-Ok.ensures.fits; tree = c.in-Ok.ensures.tree; rises = c.in-Ok.ensures.rises; options_hold = c.in-Ok.ensures.options },
+  record {
+    fits = c.in-Ok.ensures.fits;
+    tree = c.in-Ok.ensures.tree;
+    rises = c.in-Ok.ensures.rises;
+    options_hold = c.in-Ok.ensures.options;
+    root_told = c.in-Ok.ensures.root;
+    told = c.in-Ok.ensures.told;
+    objects = c.in-Ok.ensures.objects;
+  },
   refl,
   c.in-Err-put_read.ensures.0,
   c.in-Err-put_read.ensures.1,

@@ -1,26 +1,36 @@
 use Rattle.std.proofs.Common.{◌≡◌, ℕ, List, sym, subst}
 use Rattle.std.specs.Prelude.{IfSome}
-use Rattle.jfolder.specs.Known.{inside}
+use Rattle.jfolder.specs.Known.{Known, inside}
+use Rattle.jfolder.specs.Objects.{AreOne}
 use Rattle.jfolder.specs.Walking.{IsFileOf}
-use Rattle.jfolder.proofs.WalkLemmas.{link_found, link_kind, told_if}
+use Rattle.jfolder.proofs.WalkLemmas.{link_found, link_kind, link_object, told_if}
 use Rattle.jfolder.proofs.reading.Walk.find.Goals as goal
 
-pub returns-in_ok-from_str-in-Some-first_path-clause-found : goal.returns-in_ok-from_str-in-Some-first_path-clause-found
-returns-in_ok-from_str-in-Some-first_path-clause-found g c =
+pub returns-then-branch-clause-found : goal.returns-then-branch-clause-found
+returns-then-branch-clause-found g c =
     let items = c.args.self.now.items.items in
-    link_found c.args.options.now items c.link_to.result c.in_ok-from_str-in-Some-first_path.field-0 c.requires
+    link_found c.args.options.now items c.link_to.result c.in_ok-from_str.field-0 c.requires
     c.link_to.ensures.fit c.link_to.ensures.options c.link_to.ensures.what c.link_to.ensures.names
-    (subst (IsFileOf items) (sym c.in_ok-from_str-in-Some-first_path.ensures.ok) c.in-Some-first_path.ensures.file)
+    (subst (IsFileOf items) (sym c.in_ok-from_str.ensures.ok) c.in-Some-first_path.ensures.file)
 
-pub returns-in_ok-from_str-in-Some-first_path-clause-told : goal.returns-in_ok-from_str-in-Some-first_path-clause-told
-returns-in_ok-from_str-in-Some-first_path-clause-told g c =
+pub returns-then-branch-clause-told : goal.returns-then-branch-clause-told
+returns-then-branch-clause-told g c =
     let looked = (g.F.HostFolder.known c.args.folder.now).looked in
     told_if (looked (inside c.args.path.now)) c.args.options.now c.in_ok-looked.looked c.link_to.result
     (subst (λ (l : List ℕ). IfSome (looked l) (λ told. c.in_ok-looked.looked ≡ told)) c.in-Some.ensures.rest c.in_ok-looked.ensures.told) c.link_to.ensures.told
 
-pub returns-in_ok-from_str-in-Some-first_path-clause-kind : goal.returns-in_ok-from_str-in-Some-first_path-clause-kind
-returns-in_ok-from_str-in-Some-first_path-clause-kind g c =
+pub returns-then-branch-clause-kind : goal.returns-then-branch-clause-kind
+returns-then-branch-clause-kind g c =
     let looked = (g.F.HostFolder.known c.args.folder.now).looked in
-    link_kind (looked (inside c.args.path.now)) c.in_ok-looked.looked c.link_to.result c.in_ok-from_str-in-Some-first_path.field-0
+    link_kind (looked (inside c.args.path.now)) c.in_ok-looked.looked c.link_to.result c.in_ok-from_str.field-0
     (subst (λ (l : List ℕ). IfSome (looked l) (λ told. c.in_ok-looked.looked ≡ told)) c.in-Some.ensures.rest c.in_ok-looked.ensures.told)
     c.in-Some-first_path.ensures.kind c.link_to.ensures.what
+
+pub returns-then-branch-clause-object : goal.returns-then-branch-clause-object
+returns-then-branch-clause-object g c =
+    let known = g.F.HostFolder.known c.args.folder.now in
+    link_object known (inside c.args.path.now) c.in_ok-looked.looked c.link_to.result c.in_ok-from_str.field-0 c.in-Some-first_path.first.now
+    (subst (λ (l : List ℕ). IfSome (known.looked l) (λ told. c.in_ok-looked.looked ≡ told)) c.in-Some.ensures.rest c.in_ok-looked.ensures.told)
+    (subst (λ (k : Known). IfSome (k.looked (inside c.in-Some-first_path.first.now)) (λ told. AreOne told c.in_ok-looked.looked)) c.look.ensures.kept
+    (c.in_ok-is_one.ensures.one c.if-branch.true))
+    c.in_ok-from_str.ensures.ok c.link_to.ensures.what
