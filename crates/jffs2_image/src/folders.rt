@@ -103,7 +103,7 @@ pub fn extract_image<'a, E: Order, L: Loader, X: Folder, N: Sink>(
     folder: &mut X,
     notes: &mut N,
 ) -> Result<Extracted, ProgramFault<'a>>
-    ensures { ExtractsImage E.order geometry.block owners (L.told loader.old image.entry.now) image.entry.now name.entry.now
+    ensures { ExtractsImage E.order geometry.block owners (L.told loader.old image.entry.now) (L.failures loader.old) (L.failures loader.new) image.entry.now name.entry.now
         (X.made folder.old) (X.made folder.new) (X.failures folder.old) (X.failures folder.new)
         (N.taken notes.old) (N.taken notes.new) (N.failures notes.old) (N.failures notes.new) result }
 {
@@ -173,7 +173,7 @@ fn extract_in_order<'a, L: Loader, X: Folder, N: Sink>(
     folder: &mut X,
     notes: &mut N,
 ) -> Result<Extracted, ProgramFault<'a>>
-    ensures { ExtractsImage options.endian options.geometry.block owners (L.told loader.old image.entry.now) image.entry.now name.entry.now
+    ensures { ExtractsImage options.endian options.geometry.block owners (L.told loader.old image.entry.now) (L.failures loader.old) (L.failures loader.new) image.entry.now name.entry.now
         (X.made folder.old) (X.made folder.new) (X.failures folder.old) (X.failures folder.new)
         (N.taken notes.old) (N.taken notes.new) (N.failures notes.old) (N.failures notes.new) result }
 {
@@ -200,7 +200,7 @@ fn fill<'a, L: Loader, D: Folders, N: Sink>(
     name: &'a str,
     notes: &mut N,
 ) -> Result<Extracted, ProgramFault<'a>>
-    ensures { FillsFolder options.endian options.geometry.block owners (L.told loader.old image.entry.now) image.entry.now name.entry.now
+    ensures { FillsFolder options.endian options.geometry.block owners (L.told loader.old image.entry.now) (L.failures loader.old) (L.failures loader.new) image.entry.now name.entry.now
         (D.made folders.old) (D.made folders.new) (N.taken notes.old) (N.taken notes.new) (N.failures notes.old) (N.failures notes.new) result }
 {
     let Ok(mut folder) = folders.filled(name, quiet) else {
@@ -232,7 +232,7 @@ pub fn run_extract<L: Loader, D: Folders, E: Sink>(
     name: &str,
     errors: &mut E,
 ) -> Outcome
-    ensures { EndsExtraction options owners image.now name.now (L.told loader.old) (D.made folders.old) (D.made folders.new)
+    ensures { EndsExtraction options owners image.now name.now (L.told loader.old) (L.failures loader.old) (L.failures loader.new) (D.made folders.old) (D.made folders.new)
         (E.taken errors.old) (E.taken errors.new) (E.failures errors.old) (E.failures errors.new) result }
 {
     match fill(

@@ -385,7 +385,7 @@ pub fn run<R: Files + AllocGlobal, L: Loader, M: Maker, D: Folders, T: Output, E
         (Says (errors.new ≡ errors.old) (E.taken errors.old) (E.taken errors.new) (E.failures errors.old) (E.failures errors.new)) result)
         × BlamesCommand command (loader.new ≡ loader.old) (maker.new ≡ maker.old) (L.failures loader.old) (L.failures loader.new)
         (M.failures maker.old) (M.failures maker.new) ran.answer)
-        ((output.new ≡ output.old) × (maker.new ≡ maker.old) × RunsExtract (map (λ w. w.now) args.now) (L.told loader.old) (D.made folders.old) (D.made folders.new)
+        ((output.new ≡ output.old) × (maker.new ≡ maker.old) × RunsExtract (map (λ w. w.now) args.now) (L.told loader.old) (L.failures loader.old) (L.failures loader.new) (D.made folders.old) (D.made folders.new)
         (E.taken errors.old) (E.taken errors.new) (E.failures errors.old) (E.failures errors.new) result)
         ((loader.new ≡ loader.old) × (maker.new ≡ maker.old) × RunsListing (map (λ w. w.now) args.now) (output.new ≡ output.old) (T.taken output.old) (T.given output.new) (T.failures output.old) (T.failures output.new)
         (E.taken errors.old) (E.taken errors.new) (E.failures errors.old) (E.failures errors.new) result) }
