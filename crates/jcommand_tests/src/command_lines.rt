@@ -2,7 +2,8 @@
 //! program's own name.
 
 use jcommand::{
-    Extraction, FolderListing, Options, Outcome, Owner, Request, RequestFault, Target, Task, status, task,
+    Extraction, FolderListing, Options, Outcome, Owner, Request, RequestFault, Target, Task,
+    status, task,
 };
 use jnode::Endian;
 use std::alloc::{AllocError, Global};
@@ -51,23 +52,27 @@ fn shown(alloc: Global, request: Request<'_>) -> Result<String, AllocError> {
 fn shown_task(alloc: Global, task: Task<'_>) -> Result<String, AllocError> {
     match task {
         Task::Image(request) => shown(alloc, request),
-        Task::Extract(Extraction {
-            options,
-            owners,
-            quiet,
-            image,
-            folder,
-        }) => {
+        Task::Extract(
+            Extraction {
+                options,
+                owners,
+                quiet,
+                image,
+                folder,
+            },
+        ) => {
             let block = options.geometry.block;
             let is_big = options.endian == Endian::Big;
             format!(in alloc; "extract {block} {is_big} {owners} {quiet} {image} {folder}")
         }
-        Task::Listing(FolderListing {
-            owner,
-            time,
-            quiet,
-            folder,
-        }) => {
+        Task::Listing(
+            FolderListing {
+                owner,
+                time,
+                quiet,
+                folder,
+            },
+        ) => {
             let Owner { uid, gid } = owner.unwrap_or(Owner { uid: 1, gid: 1 });
             let time = time.unwrap_or(1);
             format!(in alloc; "listing {uid} {gid} {time} {quiet} {folder}")
