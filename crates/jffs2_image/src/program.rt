@@ -157,6 +157,7 @@ fn run_in_order<'a, E: Order, R: Files + AllocGlobal, L: Loader, M: Maker, T: Si
     ensures host { BlamesFor (view request.entry) (loader.new ≡ loader.old) (maker.new ≡ maker.old) (M.names maker.old) (M.names maker.new) (L.failures loader.old) (L.failures loader.new)
         (M.failures maker.old) (M.failures maker.new) result }
 {
+    let alloc = rt.alloc();
     match request {
         Request::Scan { options, image } => scan::<E, _, _>(rt, options, image, sink),
         Request::Check {
@@ -171,22 +172,13 @@ fn run_in_order<'a, E: Order, R: Files + AllocGlobal, L: Loader, M: Maker, T: Si
             path,
         } => cat::<E, _, _>(rt, options, image, path, sink),
         Request::Build { target, listing } => {
-            build::<E, _, _, _>(rt.alloc(), loader, maker, target, listing, text, sink)
+            build::<E, _, _, _>(alloc, loader, maker, target, listing, text, sink)
         }
         Request::Append {
             target,
             image,
             listing,
-        } => append::<E, _, _, _>(
-            rt.alloc(),
-            loader,
-            maker,
-            target,
-            image,
-            listing,
-            text,
-            sink,
-        ),
+        } => append::<E, _, _, _>(alloc, loader, maker, target, image, listing, text, sink),
     }
 }
 
