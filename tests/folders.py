@@ -4,7 +4,6 @@
 Usage: tests/folders.py [PROGRAM]. A folder comes back whole by listing, build and extract; what a listing or this host can't
 hold is told, a line each; and nothing is made outside the new folder. The last line is 'N passed, M failed'.
 """
-import collections
 import os
 import pty
 import random
@@ -15,35 +14,19 @@ import socket
 import stat
 import subprocess
 import sys
-import tempfile
 
 import hostile_images as images
+from groups import PROGRAM, Done, run_all, verdict, write
 from hostile_images import DIRECTORY, entry, inode, laid
 
-ROOT = os.path.dirname(os.path.dirname(os.path.abspath(__file__)))
-PROGRAM = os.path.realpath(sys.argv[1] if len(sys.argv) > 1 else f"{ROOT}/crates/jffs2_image/out/jffs2_image")
 SYMLINK = 0o120777
 TIME = 1000000000
 IS_ROOT = os.geteuid() == 0
-counts = collections.Counter()
-Done = collections.namedtuple("Done", "status out err")
-
-
-def verdict(about, right, done=None):
-    """Counts one test, and tells of it where it failed."""
-    counts["passed" if right else "failed"] += 1
-    if not right:
-        print(f"FAILED: {about}{f': {done.status}, {done.out[:300]!r}, {done.err[:300]!r}' if done else ''}", flush=True)
 
 
 def run(*words, **streams):
     done = subprocess.run([PROGRAM, *words], stdin=subprocess.DEVNULL, capture_output=not streams, check=False, **streams)
     return Done(done.returncode, done.stdout or b"", done.stderr or b"")
-
-
-def write(name, content):
-    with open(name, "wb") as file:
-        file.write(content)
 
 
 def seen(top, times=True):
@@ -310,16 +293,8 @@ def main():
     signal.signal(signal.SIGXFSZ, signal.SIG_IGN)
     # Folders are 1,000 in one another.
     sys.setrecursionlimit(10000)
-    with tempfile.TemporaryDirectory(prefix="folders-") as folder:
-        os.chdir(folder)
-        os.umask(0o022)
-        for group in GROUPS:
-            before = counts["failed"]
-            group()
-            print(f"{group.__name__}: {'fails' if counts['failed'] > before else 'passes'}", flush=True)
-        os.chdir(ROOT)
-    print(f"{counts['passed']} passed, {counts['failed']} failed")
-    return 1 if counts["failed"] or not counts["passed"] else 0
+    os.umask(0o022)
+    return run_all(GROUPS)
 
 
 if __name__ == "__main__":

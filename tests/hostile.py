@@ -4,7 +4,6 @@
 Usage: tests/hostile.py [PROGRAM]. Whatever it meets, its answer is right, or its status is 1 and standard error has the one line
 of the fault that the manual page names; it is never ended by a signal. The last line is 'N passed, M failed'.
 """
-import collections
 import contextlib
 import os
 import re
@@ -13,30 +12,18 @@ import shutil
 import signal
 import subprocess
 import sys
-import tempfile
 import threading
 
 import hostile_images as images
 import hostile_model as model
+from groups import PROGRAM, ROOT, Done, run_all, verdict, write
 
-ROOT = os.path.dirname(os.path.dirname(os.path.abspath(__file__)))
-PROGRAM = os.path.realpath(sys.argv[1] if len(sys.argv) > 1 else f"{ROOT}/crates/jffs2_image/out/jffs2_image")
 NO_MEMORY = re.compile(rb"((?:left out .*\n)*)jffs2_image: (?:L3|C5|M7|P6|S5) OutOfMemory(?: line \d+)?\n")
 NOTE = b"jffs2_image: note: %d findings, see check --scan; a wrong --block or --endian shows as findings too\n"
 OUTPUT = b"jffs2_image: P5 Output\n"
 SIZES = 10
 # A command is given up after so many seconds.
 PATIENCE = 120
-counts = collections.Counter()
-Done = collections.namedtuple("Done", "status out err")
-
-
-def verdict(about, right, done=None):
-    """Counts one test, and tells of it where it failed."""
-    counts["passed" if right else "failed"] += 1
-    if not right:
-        told = f": status {done.status}, {done.out[:200]!r}, {done.err[:200]!r}" if done else ""
-        print(f"FAILED: {about}{told}", flush=True)
 
 
 def limits(memory, closed, stack):
@@ -64,11 +51,6 @@ def run(words, memory=None, closed=(), stack=None, **streams):
             child.kill()
             out, err = child.communicate()
     return Done(child.returncode, out or b"", err or b"")
-
-
-def write(name, data):
-    with open(name, "wb") as file:
-        file.write(data if isinstance(data, bytes) else data.encode())
 
 
 def read(name):
@@ -507,15 +489,7 @@ GROUPS = (
 def main():
     resource.setrlimit(resource.RLIMIT_CORE, (0, 0))
     signal.signal(signal.SIGPIPE, signal.SIG_IGN)
-    with tempfile.TemporaryDirectory(prefix="hostile-") as folder:
-        os.chdir(folder)
-        for group in GROUPS:
-            before = counts["failed"]
-            group()
-            print(f"{group.__name__}: {'fails' if counts['failed'] > before else 'passes'}", flush=True)
-        os.chdir(ROOT)
-    print(f"{counts['passed']} passed, {counts['failed']} failed")
-    return 1 if counts["failed"] or not counts["passed"] else 0
+    return run_all(GROUPS)
 
 
 if __name__ == "__main__":

@@ -69,8 +69,8 @@ view (request.Scan options image) = ScanParsed options image.now
 view (request.Check options shape image) = CheckParsed options shape image.now
 view (request.List options image) = ListParsed options image.now
 view (request.Cat options image path) = CatParsed options image.now path.now
-view (request.Build options blocks page listing output) = BuildParsed options blocks page listing.now output.now
-view (request.Append options blocks page image listing output) = AppendParsed options blocks page image.now listing.now output.now
+view (request.Build target listing) = BuildParsed target.options target.blocks target.page listing.now target.output.now
+view (request.Append target image listing) = AppendParsed target.options target.blocks target.page image.now listing.now target.output.now
 
 -- the same of a task: a request of an image, or one that works with a folder of the host
 pub data TaskParsed : Type 0 where
@@ -80,16 +80,16 @@ pub data TaskParsed : Type 0 where
 
 abbrev pub task_view : Task → TaskParsed
 task_view (task.Image r) = ImageParsed (view r)
-task_view (task.Extract options owners quiet image folder) = ExtractParsed options owners quiet image.now folder.now
-task_view (task.Listing owner time quiet folder) = ListingParsed owner time quiet folder.now
+task_view (task.Extract x) = ExtractParsed x.options x.owners x.quiet x.image.now x.folder.now
+task_view (task.Listing l) = ListingParsed l.owner l.time l.quiet l.folder.now
 
 abbrev pub options_of : Request → Options
 options_of (request.Scan options image) = options
 options_of (request.Check options shape image) = options
 options_of (request.List options image) = options
 options_of (request.Cat options image path) = options
-options_of (request.Build options blocks page listing output) = options
-options_of (request.Append options blocks page image listing output) = options
+options_of (request.Build target listing) = target.options
+options_of (request.Append target image listing) = target.options
 
 -- ---- by the rows of the subcommand's matches
 

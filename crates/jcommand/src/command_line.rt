@@ -181,7 +181,7 @@ pub fn request<'a>(alloc: Global, args: &'a [&'a str]) -> Result<Request<'a>, Re
 {
     match task(alloc, args) {
         Ok(Task::Image(request)) => Ok(request),
-        Ok(Task::Extract { .. } | Task::Listing { .. }) => Err(usage(String::from_str(
+        Ok(Task::Extract(_) | Task::Listing(_)) => Err(usage(String::from_str(
             alloc,
             "error: the command works with a folder, and asks for no image\n",
         ))),

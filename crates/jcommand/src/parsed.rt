@@ -1,5 +1,5 @@
 //! What the matches of the program's command line ask for.
-ghost use Rattle.std.specs.Prelude.{◌≡◌, codes, map, option_map};
+ghost use Rattle.std.specs.Prelude.{◌≡◌, IfSome, codes, map, option_map};
 ghost use Rattle.clap.specs.Words.{found_of, rows_of, all_of, first_of};
 ghost use Rattle.jcommand.specs.Parsed.{number_of, endian_of, page_of, number_option, options_in, image_in, is_given, check_in, ls_in, cat_in, writing_in, build_in, append_in, extract_in, listing_in, owner_number, owner_of, if_given, parsed, options_of, task_view, view};
 
@@ -20,6 +20,15 @@ pub struct Options {
 pub struct Owner {
     pub uid: u16,
     pub gid: u16,
+}
+
+/// The flash that is written, the page that files are cut by, and the file that holds its bytes.
+#[derive(Clone, Copy)]
+pub struct Target<'a> {
+    pub options: Options,
+    pub blocks: u32,
+    pub page: Page,
+    pub output: &'a str,
 }
 
 /// A subcommand with its values.
@@ -49,20 +58,14 @@ pub enum Request<'a> {
     },
     /// `build`: an image of what the listing makes of an empty file system.
     Build {
-        options: Options,
-        blocks: u32,
-        page: Page,
+        target: Target<'a>,
         listing: &'a str,
-        output: &'a str,
     },
     /// `append`: the image with what the listing makes of its file system.
     Append {
-        options: Options,
-        blocks: u32,
-        page: Page,
+        target: Target<'a>,
         image: &'a str,
         listing: &'a str,
-        output: &'a str,
     },
 }
 
@@ -75,11 +78,29 @@ impl Request<'_> {
             Request::Scan { options, .. }
             | Request::Check { options, .. }
             | Request::List { options, .. }
-            | Request::Cat { options, .. }
-            | Request::Build { options, .. }
-            | Request::Append { options, .. } => options,
+            | Request::Cat { options, .. } => options,
+            Request::Build { target, .. } | Request::Append { target, .. } => target.options,
         }
     }
+}
+
+/// The tree of an image in a new folder of the host; with `--owners`, its owners too.
+#[derive(Clone, Copy)]
+pub struct Extraction<'a> {
+    pub options: Options,
+    pub owners: bool,
+    pub quiet: bool,
+    pub image: &'a str,
+    pub folder: &'a str,
+}
+
+/// The listing that builds a folder of the host, with one owner or one time for all of it where they are given.
+#[derive(Clone, Copy)]
+pub struct FolderListing<'a> {
+    pub owner: Option<Owner>,
+    pub time: Option<u32>,
+    pub quiet: bool,
+    pub folder: &'a str,
 }
 
 /// What is asked for.
@@ -87,21 +108,10 @@ impl Request<'_> {
 pub enum Task<'a> {
     /// Of an image alone.
     Image(Request<'a>),
-    /// `extract`: the tree of an image in a new folder of the host; with `--owners`, its owners too.
-    Extract {
-        options: Options,
-        owners: bool,
-        quiet: bool,
-        image: &'a str,
-        folder: &'a str,
-    },
-    /// `listing`: the listing that builds a folder of the host, with one owner or one time for all of it where they are given.
-    Listing {
-        owner: Option<Owner>,
-        time: Option<u32>,
-        quiet: bool,
-        folder: &'a str,
-    },
+    /// `extract`.
+    Extract(Extraction<'a>),
+    /// `listing`.
+    Listing(FolderListing<'a>),
 }
 
 /// A number below 2^32 in decimal digits.
@@ -233,43 +243,41 @@ fn cat_at<'a>(found: &ArgMatches<'a>) -> Option<Request<'a>>
     })
 }
 
-/// The number of blocks, the page, the listing and the output of a subcommand that writes.
-fn writing_at<'a>(found: &ArgMatches<'a>) -> Option<(u32, Page, &'a str, &'a str)>
-    ensures { option_map (λ w. (w.0, w.1, w.2.now, w.3.now)) result ≡ writing_in (rows_of (found_of found.now)) }
+/// What a subcommand with these options writes, and the listing that it reads.
+fn writing_at<'a>(found: &ArgMatches<'a>, options: Options) -> Option<(Target<'a>, &'a str)>
+    ensures values { option_map (λ w. (w.0.blocks, w.0.page, w.1.now, w.0.output.now)) result ≡ writing_in (rows_of (found_of found.now)) }
+    ensures options { IfSome result (λ w. w.0.options ≡ options) }
 {
     let blocks = number_at(found, "blocks")?;
     let page = page(text_at(found, "page")?)?;
     let listing = text_at(found, "LISTING")?;
     let output = text_at(found, "OUT")?;
-    Some((blocks, page, listing, output))
+    let target = Target {
+        options,
+        blocks,
+        page,
+        output,
+    };
+    Some((target, listing))
 }
 
 fn build_at<'a>(found: &ArgMatches<'a>) -> Option<Request<'a>>
     ensures { option_map view result ≡ build_in (rows_of (found_of found.now)) }
 {
     let options = options_at(found)?;
-    let (blocks, page, listing, output) = writing_at(found)?;
-    Some(Request::Build {
-        options,
-        blocks,
-        page,
-        listing,
-        output,
-    })
+    let (target, listing) = writing_at(found, options)?;
+    Some(Request::Build { target, listing })
 }
 
 fn append_at<'a>(found: &ArgMatches<'a>) -> Option<Request<'a>>
     ensures { option_map view result ≡ append_in (rows_of (found_of found.now)) }
 {
     let (options, image) = image_at(found)?;
-    let (blocks, page, listing, output) = writing_at(found)?;
+    let (target, listing) = writing_at(found, options)?;
     Some(Request::Append {
-        options,
-        blocks,
-        page,
+        target,
         image,
         listing,
-        output,
     })
 }
 
@@ -278,13 +286,13 @@ fn extract_at<'a>(found: &ArgMatches<'a>) -> Option<Task<'a>>
 {
     let (options, image) = image_at(found)?;
     let folder = text_at(found, "DIR")?;
-    Some(Task::Extract {
+    Some(Task::Extract(Extraction {
         options,
         owners: is_given(found, "owners"),
         quiet: is_given(found, "quiet"),
         image,
         folder,
-    })
+    }))
 }
 
 /// The values of an option, if it is given.
@@ -333,12 +341,12 @@ fn listing_at<'a>(found: &ArgMatches<'a>) -> Option<Task<'a>>
     let owner = owner_at(found)?;
     let time = time_at(found)?;
     let folder = text_at(found, "DIR")?;
-    Some(Task::Listing {
+    Some(Task::Listing(FolderListing {
         owner,
         time,
         quiet: is_given(found, "quiet"),
         folder,
-    })
+    }))
 }
 
 /// What the subcommand asks for, or nothing where a value can't be read.

@@ -1,10 +1,18 @@
 //! Command lines with what they ask for or are answered. The words of a line are between spaces, and the first is the
 //! program's own name.
 
-use jcommand::{Options, Outcome, Owner, Request, RequestFault, Task, status, task};
+use jcommand::{
+    Extraction, FolderListing, Options, Outcome, Owner, Request, RequestFault, Target, Task,
+    status, task,
+};
 use jnode::Endian;
 use std::alloc::{AllocError, Global};
 use std::test::Fail;
+
+/// The number of blocks, the size of a page, and the file of what is written.
+fn written(target: Target<'_>) -> (u32, u32, &str) {
+    (target.blocks, target.page.size(), target.output)
+}
 
 /// A request as the name of its kind, the size of a block, the byte order, and its other values in the order of the
 /// command's help.
@@ -25,25 +33,16 @@ fn shown(alloc: Global, request: Request<'_>) -> Result<String, AllocError> {
         Request::Check { image, .. } => format!(in alloc; "check {block} {order} {image}"),
         Request::List { image, .. } => format!(in alloc; "ls {block} {order} {image}"),
         Request::Cat { image, path, .. } => format!(in alloc; "cat {block} {order} {image} {path}"),
-        Request::Build {
-            blocks,
-            page,
-            listing,
-            output,
-            ..
-        } => {
-            let page = page.size();
+        Request::Build { target, listing } => {
+            let (blocks, page, output) = written(target);
             format!(in alloc; "build {block} {order} {blocks} {page} {listing} {output}")
         }
         Request::Append {
-            blocks,
-            page,
+            target,
             image,
             listing,
-            output,
-            ..
         } => {
-            let page = page.size();
+            let (blocks, page, output) = written(target);
             format!(in alloc; "append {block} {order} {blocks} {page} {image} {listing} {output}")
         }
     }
@@ -53,23 +52,27 @@ fn shown(alloc: Global, request: Request<'_>) -> Result<String, AllocError> {
 fn shown_task(alloc: Global, task: Task<'_>) -> Result<String, AllocError> {
     match task {
         Task::Image(request) => shown(alloc, request),
-        Task::Extract {
-            options,
-            owners,
-            quiet,
-            image,
-            folder,
-        } => {
+        Task::Extract(
+            Extraction {
+                options,
+                owners,
+                quiet,
+                image,
+                folder,
+            },
+        ) => {
             let block = options.geometry.block;
             let is_big = options.endian == Endian::Big;
             format!(in alloc; "extract {block} {is_big} {owners} {quiet} {image} {folder}")
         }
-        Task::Listing {
-            owner,
-            time,
-            quiet,
-            folder,
-        } => {
+        Task::Listing(
+            FolderListing {
+                owner,
+                time,
+                quiet,
+                folder,
+            },
+        ) => {
             let Owner { uid, gid } = owner.unwrap_or(Owner { uid: 1, gid: 1 });
             let time = time.unwrap_or(1);
             format!(in alloc; "listing {uid} {gid} {time} {quiet} {folder}")

@@ -1,6 +1,6 @@
 -- Who is to blame for a fault, and which files were read.
-use Rattle.std.proofs.Common.{◌≡◌, ℕ, ◌<◌, List, Option, Some, None, Result, Ok, Err, [], inl, inr, ◌≤◌, refl, sym, subst, length, arith}
-use Rattle.std.specs.Prelude.{IsTrue, option_map, slice_get, is_some, slice_index_or}
+use Rattle.std.proofs.Common.{◌≡◌, ℕ, Bool, true, false, ◌<◌, List, Option, Some, None, Result, Ok, Err, [], inl, inr, ◌≤◌, refl, sym, subst, length, arith}
+use Rattle.std.specs.Prelude.{◌&&◌, if◌then◌else◌, IsTrue, option_map, slice_get, is_some, slice_index_or}
 use Rattle.std.specs.Option.{option_map_or}
 use Rattle.std.specs.Result.{IsErrAnd}
 use Rattle.flashbase.specs.declared.source.LoadFault.TheVariants as load
@@ -13,8 +13,8 @@ use Rattle.std.specs.Io.KnownBytes.{Appends}
 use Rattle.flashbase.specs.Device.{PutsPart}
 use Rattle.jmount.specs.Mounts.{Answers}
 use Rattle.jsteps.specs.declared.page.Page.{Page}
-use Rattle.jlog.specs.Headline.{resume_address}
-use Rattle.jlog.specs.Resuming.{resumes_by}
+use Rattle.jlog.specs.Headline.{is_flash_of, resume_address}
+use Rattle.jlog.specs.Resuming.{page_fits, resumes_by}
 use Rattle.jlog.specs.declared.fault.SessionFault.{SessionFault}
 use Rattle.jlog.specs.declared.fault.SessionFault.TheVariants as session
 use Rattle.jlog.specs.declared.report.Place.{Place}
@@ -26,130 +26,141 @@ use Rattle.jbuild.specs.Parts.{contents, read_of}
 use Rattle.jbuild.specs.declared.parts.Parts.{Parts}
 use Rattle.jreport.specs.declared.faults.ProgramFault.{ProgramFault}
 use Rattle.jreport.specs.declared.faults.ProgramFault.TheVariants as program
-use Rattle.jffs2_image.specs.Host.{AreOf, AreRead, Blames, BlamesMaker, HaveBytes, RunsFiles, IsMadeUntil, IsMakeFault, IsReadFault}
+use Rattle.jffs2_image.specs.Host.{AreOf, AreRead, Blames, BlamesMaker, HaveBytes, RunsFiles, IsMadeUntil, IsMakeFault, IsReadFault, Leaves}
 use Rattle.jffs2_image.specs.Writes.{IsMade, IsNotMade, IsPartUnread, IsUnread}
 
 -- ---- the file that is made
 
 -- no file was made, or not to its end
-pub make_fault : (page : Page) (e : Endian) (size blocks : ℕ) (m : Mount) (output : List ℕ) (from : ℕ) (u : Type 0) (before now : ℕ) (f : ProgramFault)
-    → resumes_by page e size blocks m ≡ Ok from → IsNotMade page e size blocks m output f → IsMakeFault before now f → BlamesMaker {T = Unit {0}} u before now (Err f)
-make_fault page e size blocks m output from u before now (program.Load f) on not made = absurd not
-make_fault page e size blocks m output from u before now (program.Scan f) on not made = absurd not
-make_fault page e size blocks m output from u before now (program.Mount f) on not made = absurd not
-make_fault page e size blocks m output from u before now (program.File name) on not made = made
-make_fault page e size blocks m output from u before now (program.Listing k) on not made = absurd not
-make_fault page e size blocks m output from u before now (program.Session session.ReadOnly None) on (inl is) made = cc
-make_fault page e size blocks m output from u before now (program.Session session.ReadOnly None) on (inr is) made = absurd (is.1)
-make_fault page e size blocks m output from u before now (program.Session session.Geometry None) on (inl is) made = cc
-make_fault page e size blocks m output from u before now (program.Session session.Geometry None) on (inr is) made = absurd (is.1)
-make_fault page e size blocks m output from u before now (program.Session session.Sink None) on not made = made
-make_fault page e size blocks m output from u before now (program.Session (session.Refused f) None) on not made = tt
-make_fault page e size blocks m output from u before now (program.Session (session.Full a b) None) on not made = tt
-make_fault page e size blocks m output from u before now (program.Session session.OutOfMemory None) on not made = tt
-make_fault page e size blocks m output from u before now (program.Session session.Broken None) on not made = tt
-make_fault page e size blocks m output from u before now (program.Session f (Some k)) on not made = absurd not
-make_fault page e size blocks m output from u before now (program.Path f) on not made = absurd not
-make_fault page e size blocks m output from u before now program.NotRegular on not made = absurd not
-make_fault page e size blocks m output from u before now program.Output on not made = absurd not
-make_fault page e size blocks m output from u before now program.OutOfMemory on not made = tt
+pub make_fault : (page : Page) (e : Endian) (size blocks : ℕ) (m : Mount) (output : List ℕ) (from : ℕ) (u v same : Type 0) (before now : ℕ) (f : ProgramFault)
+    → resumes_by page e size blocks m ≡ Ok from → IsNotMade page e size blocks m output f → IsMakeFault before now f → Leaves v same f → BlamesMaker {T = Unit {0}} u v before now (Err f)
+make_fault page e size blocks m output from u v same before now (program.Load f) on not made left = absurd not
+make_fault page e size blocks m output from u v same before now (program.Scan f) on not made left = absurd not
+make_fault page e size blocks m output from u v same before now (program.Mount f) on not made left = absurd not
+make_fault page e size blocks m output from u v same before now (program.File name) on not made left = made
+make_fault page e size blocks m output from u v same before now (program.Listing k) on not made left = absurd not
+make_fault page e size blocks m output from u v same before now (program.Session session.ReadOnly None) on (inl is) made left = cc
+make_fault page e size blocks m output from u v same before now (program.Session session.ReadOnly None) on (inr is) made left = absurd (is.1)
+make_fault page e size blocks m output from u v same before now (program.Session session.Geometry None) on (inl is) made left = cc
+make_fault page e size blocks m output from u v same before now (program.Session session.Geometry None) on (inr is) made left = absurd (is.1)
+make_fault page e size blocks m output from u v same before now (program.Session session.Sink None) on not made left = (made, left)
+make_fault page e size blocks m output from u v same before now (program.Session (session.Refused f) None) on not made left = left
+make_fault page e size blocks m output from u v same before now (program.Session (session.Full a b) None) on not made left = left
+make_fault page e size blocks m output from u v same before now (program.Session session.OutOfMemory None) on not made left = left
+make_fault page e size blocks m output from u v same before now (program.Session session.Broken None) on not made left = left
+make_fault page e size blocks m output from u v same before now (program.Session f (Some k)) on not made left = absurd not
+make_fault page e size blocks m output from u v same before now (program.Path f) on not made left = absurd not
+make_fault page e size blocks m output from u v same before now program.NotRegular on not made left = absurd not
+make_fault page e size blocks m output from u v same before now program.Output on not made left = absurd not
+make_fault page e size blocks m output from u v same before now program.OutOfMemory on not made left = inr left
+
+-- the image is not gone on from
+pub resume_fault : (page : Page) (e : Endian) (size blocks : ℕ) (m : Mount) (u v : Type 0) (before now : ℕ) (f : SessionFault) (line : Option ℕ)
+    → resumes_by page e size blocks m ≡ Err f → u → BlamesMaker {T = Unit {0}} u v before now (Err (program.Session f line))
+resume_fault page e size blocks m u v before now f line is still = by m.read_only (is_flash_of size blocks m.image && page_fits size page) is
+  where
+    by : (b c : Bool) → (if b then Err session.ReadOnly else (if c then Ok (resume_address e size blocks m.image) else Err session.Geometry)) ≡ Err f
+        → BlamesMaker {T = Unit {0}} u v before now (Err (program.Session f line))
+    by true c same = let is : session.ReadOnly ≡ f = cc in subst (λ (z : SessionFault). BlamesMaker {T = Unit {0}} u v before now (Err (program.Session z line))) is still
+    by false true same = cc
+    by false false same = let is : session.Geometry ≡ f = cc in subst (λ (z : SessionFault). BlamesMaker {T = Unit {0}} u v before now (Err (program.Session z line))) is still
 
 -- a run on it stopped
-pub run_fault : (page : Page) (e : Endian) (size blocks : ℕ) (m : Mount) (ops : List Op) (accepted : ℕ) (places : List Place) (u : Type 0) (before now : ℕ) (f : SessionFault) (line : Option ℕ)
-    → IsMade page e size blocks m ops accepted places (Some f) → IsMadeUntil before now (Some f) → BlamesMaker {T = Unit {0}} u before now (Err (program.Session f line))
-run_fault page e size blocks m ops accepted places u before now session.ReadOnly line made until = absurd (made.put.emitted.runs.5.stop)
-run_fault page e size blocks m ops accepted places u before now session.Geometry line made until = absurd (made.put.emitted.runs.5.stop)
-run_fault page e size blocks m ops accepted places u before now session.Sink line made until = inl until
-run_fault page e size blocks m ops accepted places u before now (session.Refused f) line made until = tt
-run_fault page e size blocks m ops accepted places u before now (session.Full a b) line made until = tt
-run_fault page e size blocks m ops accepted places u before now session.OutOfMemory line made until = tt
-run_fault page e size blocks m ops accepted places u before now session.Broken line made until = tt
+pub run_fault : (page : Page) (e : Endian) (size blocks : ℕ) (m : Mount) (ops : List Op) (accepted : ℕ) (places : List Place) (u v : Type 0) (before now : ℕ) (f : SessionFault) (line : Option ℕ)
+    → IsMade page e size blocks m ops accepted places (Some f) → IsMadeUntil before now (Some f) → v → BlamesMaker {T = Unit {0}} u v before now (Err (program.Session f line))
+run_fault page e size blocks m ops accepted places u v before now session.ReadOnly line made until left = absurd (made.put.emitted.runs.5.stop)
+run_fault page e size blocks m ops accepted places u v before now session.Geometry line made until left = absurd (made.put.emitted.runs.5.stop)
+run_fault page e size blocks m ops accepted places u v before now session.Sink line made until left = (inl until, left)
+run_fault page e size blocks m ops accepted places u v before now (session.Refused f) line made until left = left
+run_fault page e size blocks m ops accepted places u v before now (session.Full a b) line made until left = left
+run_fault page e size blocks m ops accepted places u v before now session.OutOfMemory line made until left = left
+run_fault page e size blocks m ops accepted places u v before now session.Broken line made until left = left
 
 -- the answer is that fault
-pub maker_fault : (u : Type 0) (before now : ℕ) (f : ProgramFault) (r : Result (Unit {0}) ProgramFault)
-    → IsErrAnd r (λ is. is ≡ f) → BlamesMaker {T = Unit {0}} u before now (Err f) → BlamesMaker {T = Unit {0}} u before now r
-maker_fault u before now f (Ok x) is w = absurd is
-maker_fault u before now f (Err other) is w = subst (λ (z : ProgramFault). BlamesMaker {T = Unit {0}} u before now (Err z)) (sym is) w
+pub maker_fault : (u v : Type 0) (before now : ℕ) (f : ProgramFault) (r : Result (Unit {0}) ProgramFault)
+    → IsErrAnd r (λ is. is ≡ f) → BlamesMaker {T = Unit {0}} u v before now (Err f) → BlamesMaker {T = Unit {0}} u v before now r
+maker_fault u v before now f (Ok x) is w = absurd is
+maker_fault u v before now f (Err other) is w = subst (λ (z : ProgramFault). BlamesMaker {T = Unit {0}} u v before now (Err z)) (sym is) w
 
 -- ---- both
 
 -- no file was read in vain
-pub lines_blame : (u : Type 0) (rb rn mb mn : ℕ) (r : Result (Unit {0}) ProgramFault) → rn ≡ rb → BlamesMaker u mb mn r → Blames u rb rn mb mn r
-lines_blame u rb rn mb mn (Ok x) read made = (read, made)
-lines_blame u rb rn mb mn (Err (program.Load f)) read made = absurd made
-lines_blame u rb rn mb mn (Err (program.Scan f)) read made = tt
-lines_blame u rb rn mb mn (Err (program.Mount f)) read made = made
-lines_blame u rb rn mb mn (Err (program.File name)) read made = inr made
-lines_blame u rb rn mb mn (Err (program.Listing k)) read made = absurd made
-lines_blame u rb rn mb mn (Err (program.Session session.ReadOnly line)) read made = made
-lines_blame u rb rn mb mn (Err (program.Session session.Geometry line)) read made = made
-lines_blame u rb rn mb mn (Err (program.Session session.Sink line)) read made = made
-lines_blame u rb rn mb mn (Err (program.Session (session.Refused f) line)) read made = tt
-lines_blame u rb rn mb mn (Err (program.Session (session.Full a b) line)) read made = tt
-lines_blame u rb rn mb mn (Err (program.Session session.OutOfMemory line)) read made = tt
-lines_blame u rb rn mb mn (Err (program.Session session.Broken line)) read made = tt
-lines_blame u rb rn mb mn (Err (program.Path f)) read made = tt
-lines_blame u rb rn mb mn (Err program.NotRegular) read made = tt
-lines_blame u rb rn mb mn (Err program.Output) read made = tt
-lines_blame u rb rn mb mn (Err program.OutOfMemory) read made = tt
+pub lines_blame : (u v : Type 0) (rb rn mb mn : ℕ) (r : Result (Unit {0}) ProgramFault) → rn ≡ rb → BlamesMaker u v mb mn r → Blames u v rb rn mb mn r
+lines_blame u v rb rn mb mn (Ok x) read made = (read, made.0, made.1)
+lines_blame u v rb rn mb mn (Err (program.Load f)) read made = absurd made
+lines_blame u v rb rn mb mn (Err (program.Scan f)) read made = tt
+lines_blame u v rb rn mb mn (Err (program.Mount f)) read made = made
+lines_blame u v rb rn mb mn (Err (program.File name)) read made = inr made
+lines_blame u v rb rn mb mn (Err (program.Listing k)) read made = absurd made
+lines_blame u v rb rn mb mn (Err (program.Session session.ReadOnly line)) read made = made
+lines_blame u v rb rn mb mn (Err (program.Session session.Geometry line)) read made = made
+lines_blame u v rb rn mb mn (Err (program.Session session.Sink line)) read made = made
+lines_blame u v rb rn mb mn (Err (program.Session (session.Refused f) line)) read made = made
+lines_blame u v rb rn mb mn (Err (program.Session (session.Full a b) line)) read made = made
+lines_blame u v rb rn mb mn (Err (program.Session session.OutOfMemory line)) read made = made
+lines_blame u v rb rn mb mn (Err (program.Session session.Broken line)) read made = made
+lines_blame u v rb rn mb mn (Err (program.Path f)) read made = tt
+lines_blame u v rb rn mb mn (Err program.NotRegular) read made = tt
+lines_blame u v rb rn mb mn (Err program.Output) read made = made
+lines_blame u v rb rn mb mn (Err program.OutOfMemory) read made = made
 
 -- a file that a line names was not read
-pub parts_blame : (T : Type 0) (u : Type 0) (rb rn mb mn : ℕ) (lines : List Line) (f : ProgramFault) → u → IsPartUnread lines f → IsReadFault rb rn f → Blames {T = T} u rb rn mb mn (Err f)
-parts_blame T u rb rn mb mn lines (program.Load load.Device) still not read = (still, read)
-parts_blame T u rb rn mb mn lines (program.Load load.TooLarge) still not read = still
-parts_blame T u rb rn mb mn lines (program.Load load.OutOfMemory) still not read = still
-parts_blame T u rb rn mb mn lines (program.Scan f) still not read = absurd not
-parts_blame T u rb rn mb mn lines (program.Mount f) still not read = absurd not
-parts_blame T u rb rn mb mn lines (program.File name) still not read = inl (still, read)
-parts_blame T u rb rn mb mn lines (program.Listing k) still not read = absurd not
-parts_blame T u rb rn mb mn lines (program.Session f line) still not read = absurd not
-parts_blame T u rb rn mb mn lines (program.Path f) still not read = absurd not
-parts_blame T u rb rn mb mn lines program.NotRegular still not read = absurd not
-parts_blame T u rb rn mb mn lines program.Output still not read = absurd not
-parts_blame T u rb rn mb mn lines program.OutOfMemory still not read = tt
+pub parts_blame : (T : Type 0) (u v : Type 0) (rb rn mb mn : ℕ) (lines : List Line) (f : ProgramFault) → u → IsPartUnread lines f → IsReadFault rb rn f → Blames {T = T} u v rb rn mb mn (Err f)
+parts_blame T u v rb rn mb mn lines (program.Load load.Device) still not read = (still, read)
+parts_blame T u v rb rn mb mn lines (program.Load load.TooLarge) still not read = still
+parts_blame T u v rb rn mb mn lines (program.Load load.OutOfMemory) still not read = still
+parts_blame T u v rb rn mb mn lines (program.Scan f) still not read = absurd not
+parts_blame T u v rb rn mb mn lines (program.Mount f) still not read = absurd not
+parts_blame T u v rb rn mb mn lines (program.File name) still not read = inl (still, read)
+parts_blame T u v rb rn mb mn lines (program.Listing k) still not read = absurd not
+parts_blame T u v rb rn mb mn lines (program.Session f line) still not read = absurd not
+parts_blame T u v rb rn mb mn lines (program.Path f) still not read = absurd not
+parts_blame T u v rb rn mb mn lines program.NotRegular still not read = absurd not
+parts_blame T u v rb rn mb mn lines program.Output still not read = absurd not
+parts_blame T u v rb rn mb mn lines program.OutOfMemory still not read = inl still
 
 -- a file that the words name was not read
-pub file_blame : (T : Type 0) (u : Type 0) (rb rn mb mn : ℕ) (name : List ℕ) (f : ProgramFault) → u → IsUnread name f → IsReadFault rb rn f → Blames {T = T} u rb rn mb mn (Err f)
-file_blame T u rb rn mb mn name (program.Load load.Device) still not read = (still, read)
-file_blame T u rb rn mb mn name (program.Load load.TooLarge) still not read = still
-file_blame T u rb rn mb mn name (program.Load load.OutOfMemory) still not read = still
-file_blame T u rb rn mb mn name (program.Scan f) still not read = absurd not
-file_blame T u rb rn mb mn name (program.Mount f) still not read = absurd not
-file_blame T u rb rn mb mn name (program.File other) still not read = inl (still, read)
-file_blame T u rb rn mb mn name (program.Listing k) still not read = absurd not
-file_blame T u rb rn mb mn name (program.Session f line) still not read = absurd not
-file_blame T u rb rn mb mn name (program.Path f) still not read = absurd not
-file_blame T u rb rn mb mn name program.NotRegular still not read = absurd not
-file_blame T u rb rn mb mn name program.Output still not read = absurd not
-file_blame T u rb rn mb mn name program.OutOfMemory still not read = absurd not
+pub file_blame : (T : Type 0) (u v : Type 0) (rb rn mb mn : ℕ) (name : List ℕ) (f : ProgramFault) → u → IsUnread name f → IsReadFault rb rn f → Blames {T = T} u v rb rn mb mn (Err f)
+file_blame T u v rb rn mb mn name (program.Load load.Device) still not read = (still, read)
+file_blame T u v rb rn mb mn name (program.Load load.TooLarge) still not read = still
+file_blame T u v rb rn mb mn name (program.Load load.OutOfMemory) still not read = still
+file_blame T u v rb rn mb mn name (program.Scan f) still not read = absurd not
+file_blame T u v rb rn mb mn name (program.Mount f) still not read = absurd not
+file_blame T u v rb rn mb mn name (program.File other) still not read = inl (still, read)
+file_blame T u v rb rn mb mn name (program.Listing k) still not read = absurd not
+file_blame T u v rb rn mb mn name (program.Session f line) still not read = absurd not
+file_blame T u v rb rn mb mn name (program.Path f) still not read = absurd not
+file_blame T u v rb rn mb mn name program.NotRegular still not read = absurd not
+file_blame T u v rb rn mb mn name program.Output still not read = absurd not
+file_blame T u v rb rn mb mn name program.OutOfMemory still not read = absurd not
 
 -- a fault is none of an answer
-pub any_blame : (T : Type 0) (u : Type 0) (rb rn mb mn : ℕ) (f : ProgramFault) → Blames {T = Unit {0}} u rb rn mb mn (Err f) → Blames {T = T} u rb rn mb mn (Err f)
-any_blame T u rb rn mb mn (program.Load load.Device) w = w
-any_blame T u rb rn mb mn (program.Load load.TooLarge) w = w
-any_blame T u rb rn mb mn (program.Load load.OutOfMemory) w = w
-any_blame T u rb rn mb mn (program.Scan f) w = w
-any_blame T u rb rn mb mn (program.Mount f) w = w
-any_blame T u rb rn mb mn (program.File name) w = w
-any_blame T u rb rn mb mn (program.Listing k) w = w
-any_blame T u rb rn mb mn (program.Session session.ReadOnly line) w = w
-any_blame T u rb rn mb mn (program.Session session.Geometry line) w = w
-any_blame T u rb rn mb mn (program.Session session.Sink line) w = w
-any_blame T u rb rn mb mn (program.Session (session.Refused f) line) w = w
-any_blame T u rb rn mb mn (program.Session (session.Full a b) line) w = w
-any_blame T u rb rn mb mn (program.Session session.OutOfMemory line) w = w
-any_blame T u rb rn mb mn (program.Session session.Broken line) w = w
-any_blame T u rb rn mb mn (program.Path f) w = w
-any_blame T u rb rn mb mn program.NotRegular w = w
-any_blame T u rb rn mb mn program.Output w = w
-any_blame T u rb rn mb mn program.OutOfMemory w = w
+pub any_blame : (T : Type 0) (u v : Type 0) (rb rn mb mn : ℕ) (f : ProgramFault) → Blames {T = Unit {0}} u v rb rn mb mn (Err f) → Blames {T = T} u v rb rn mb mn (Err f)
+any_blame T u v rb rn mb mn (program.Load load.Device) w = w
+any_blame T u v rb rn mb mn (program.Load load.TooLarge) w = w
+any_blame T u v rb rn mb mn (program.Load load.OutOfMemory) w = w
+any_blame T u v rb rn mb mn (program.Scan f) w = w
+any_blame T u v rb rn mb mn (program.Mount f) w = w
+any_blame T u v rb rn mb mn (program.File name) w = w
+any_blame T u v rb rn mb mn (program.Listing k) w = w
+any_blame T u v rb rn mb mn (program.Session session.ReadOnly line) w = w
+any_blame T u v rb rn mb mn (program.Session session.Geometry line) w = w
+any_blame T u v rb rn mb mn (program.Session session.Sink line) w = w
+any_blame T u v rb rn mb mn (program.Session (session.Refused f) line) w = w
+any_blame T u v rb rn mb mn (program.Session (session.Full a b) line) w = w
+any_blame T u v rb rn mb mn (program.Session session.OutOfMemory line) w = w
+any_blame T u v rb rn mb mn (program.Session session.Broken line) w = w
+any_blame T u v rb rn mb mn (program.Path f) w = w
+any_blame T u v rb rn mb mn program.NotRegular w = w
+any_blame T u v rb rn mb mn program.Output w = w
+any_blame T u v rb rn mb mn program.OutOfMemory w = w
 
 -- the answer is that fault, and a file was read before
-pub fault_blame : (T : Type 0) (u : Type 0) (rb mid rn mb mn : ℕ) (f : ProgramFault) (r : Result T ProgramFault)
-    → IsErrAnd r (λ is. is ≡ f) → mid ≡ rb → Blames {T = Unit {0}} u mid rn mb mn (Err f) → Blames {T = T} u rb rn mb mn r
-fault_blame T u rb mid rn mb mn f (Ok x) is same w = absurd is
-fault_blame T u rb mid rn mb mn f (Err other) is same w =
-    subst (λ (k : ℕ). Blames {T = T} u k rn mb mn (Err other)) same (subst (λ (z : ProgramFault). Blames {T = T} u mid rn mb mn (Err z)) (sym is) (any_blame T u mid rn mb mn f w))
+pub fault_blame : (T : Type 0) (u v : Type 0) (rb mid rn mb mn : ℕ) (f : ProgramFault) (r : Result T ProgramFault)
+    → IsErrAnd r (λ is. is ≡ f) → mid ≡ rb → Blames {T = Unit {0}} u v mid rn mb mn (Err f) → Blames {T = T} u v rb rn mb mn r
+fault_blame T u v rb mid rn mb mn f (Ok x) is same w = absurd is
+fault_blame T u v rb mid rn mb mn f (Err other) is same w =
+    subst (λ (k : ℕ). Blames {T = T} u v k rn mb mn (Err other)) same (subst (λ (z : ProgramFault). Blames {T = T} u v mid rn mb mn (Err z)) (sym is) (any_blame T u v mid rn mb mn f w))
 
 -- ---- files that lines name
 

@@ -32,18 +32,18 @@ outcome_of_extraction (Ok done) = outcome_of done.left_out
 outcome_of_extraction (Err fault) = outcome.Fault
 
 -- The image of a name is extracted into the folder of a name, and what was left out is told before what else is said. `told` are
--- the files of the host, and `made` is what is made in its folders.
-pub record EndsExtraction (options : Options) (owners : Bool) (image folder : List ℕ) (told : List ℕ → Option (List ℕ)) (made_old made_new : Option (List Made))
+-- the files of the host, which failed `read_before` and then `read_now` times, and `made` is what is made in its folders.
+pub record EndsExtraction (options : Options) (owners : Bool) (image folder : List ℕ) (told : List ℕ → Option (List ℕ)) (read_before read_now : ℕ) (made_old made_new : Option (List Made))
     (old new : Option (List ℕ)) (before now : ℕ) (result : Outcome) : Type 0 where
   pub between : Option (List ℕ)
   pub count : ℕ
   pub answer : Result Extracted ProgramFault
-  pub fills : FillsFolder options.endian options.geometry.block owners (told image) image folder made_old made_new old between before count answer
+  pub fills : FillsFolder options.endian options.geometry.block owners (told image) read_before read_now image folder made_old made_new old between before count answer
   pub said : Says ((new ≡ between) × (now ≡ count)) between new count now (said_after_extraction answer)
   pub ends : result ≡ outcome_of_extraction answer
 
 -- `extract`, of what is given
-pub record RunsExtract (args : List (List ℕ)) (told : List ℕ → Option (List ℕ)) (made_old made_new : Option (List Made))
+pub record RunsExtract (args : List (List ℕ)) (told : List ℕ → Option (List ℕ)) (read_before read_now : ℕ) (made_old made_new : Option (List Made))
     (old new : Option (List ℕ)) (before now : ℕ) (result : Outcome) : Type 0 where
   pub options : Options
   pub owners : Bool
@@ -52,7 +52,7 @@ pub record RunsExtract (args : List (List ℕ)) (told : List ℕ → Option (Lis
   pub folder : List ℕ
   pub parsed : parsed_from args ≡ Some (ExtractParsed options owners quiet image folder)
   pub faultless : IsFaultless args
-  pub ends : EndsExtraction options owners image folder told made_old made_new old new before now result
+  pub ends : EndsExtraction options owners image folder told read_before read_now made_old made_new old new before now result
 
 abbrev pub said_after_listing : Result ℕ ProgramFault → Option (List ℕ)
 said_after_listing (Ok n) = None

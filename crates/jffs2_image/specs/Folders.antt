@@ -26,7 +26,7 @@ use Rattle.jfolder.specs.declared.reading.Folder.{Folder}
 use Rattle.jreport.specs.Notes.{noted}
 use Rattle.jreport.specs.declared.faults.ProgramFault.{ProgramFault}
 use Rattle.jreport.specs.declared.faults.ProgramFault.TheVariants as program
-use Rattle.jffs2_image.specs.Host.{AreOf}
+use Rattle.jffs2_image.specs.Host.{AreOf, IsReadFault}
 use Rattle.jffs2_image.specs.Writes.{IsUnread}
 use Rattle.jffs2_image.specs.declared.folders.Extracted.{Extracted}
 
@@ -50,18 +50,21 @@ ExtractsBytes e size owners image folder old new before now told_old told_new to
     ⊎ ((refused : MountFault) × (fault ≡ program.Mount refused) × Answers e size image (Err refused)
     × (new ≡ old) × (now ≡ before) × (told_new ≡ told_old) × (told_now ≡ told_before))
 
--- `extract` of the image of a name into the folder of a name: its bytes are extracted, or it can't be read
-abbrev pub ExtractsImage : Endian → ℕ → Bool → Option (List ℕ) → List ℕ → List ℕ → Option (List Made) → Option (List Made) → ℕ → ℕ → Option (List ℕ) → Option (List ℕ) → ℕ → ℕ → Result Extracted ProgramFault → Type 0
-ExtractsImage e size owners told image folder old new before now told_old told_new told_before told_now result =
-    ((bytes : List ℕ) × AreOf told bytes × ExtractsBytes e size owners bytes folder old new before now told_old told_new told_before told_now result)
-    ⊎ ((fault : ProgramFault) × (result ≡ Err fault) × IsUnread image fault × (new ≡ old) × (now ≡ before) × (told_new ≡ told_old) × (told_now ≡ told_before))
+-- `extract` of the image of a name into the folder of a name: its bytes are extracted, or it can't be read. A file that can't be
+-- opened, or failed while it was read, is blamed only where it counts so, from `read_before` to `read_now`.
+abbrev pub ExtractsImage : Endian → ℕ → Bool → Option (List ℕ) → ℕ → ℕ → List ℕ → List ℕ → Option (List Made) → Option (List Made) → ℕ → ℕ → Option (List ℕ) → Option (List ℕ) → ℕ → ℕ → Result Extracted ProgramFault → Type 0
+ExtractsImage e size owners told read_before read_now image folder old new before now told_old told_new told_before told_now result =
+    ((bytes : List ℕ) × AreOf told bytes × (read_now ≡ read_before)
+    × ExtractsBytes e size owners bytes folder old new before now told_old told_new told_before told_now result)
+    ⊎ ((fault : ProgramFault) × (result ≡ Err fault) × IsUnread image fault × IsReadFault read_before read_now fault
+    × (new ≡ old) × (now ≡ before) × (told_new ≡ told_old) × (told_now ≡ told_before))
 
 -- The same by a host that gives the folder and takes it back: its count of refusals is that folder's own. Or there is no
 -- memory for the folder, and nothing is done.
-abbrev pub FillsFolder : Endian → ℕ → Bool → Option (List ℕ) → List ℕ → List ℕ → Option (List Made) → Option (List Made) → Option (List ℕ) → Option (List ℕ) → ℕ → ℕ → Result Extracted ProgramFault → Type 0
-FillsFolder e size owners told image folder old new told_old told_new told_before told_now result =
-    ((before : ℕ) × (now : ℕ) × ExtractsImage e size owners told image folder old new before now told_old told_new told_before told_now result)
-    ⊎ ((result ≡ Err program.OutOfMemory) × (new ≡ old) × (told_new ≡ told_old) × (told_now ≡ told_before))
+abbrev pub FillsFolder : Endian → ℕ → Bool → Option (List ℕ) → ℕ → ℕ → List ℕ → List ℕ → Option (List Made) → Option (List Made) → Option (List ℕ) → Option (List ℕ) → ℕ → ℕ → Result Extracted ProgramFault → Type 0
+FillsFolder e size owners told read_before read_now image folder old new told_old told_new told_before told_now result =
+    ((before : ℕ) × (now : ℕ) × ExtractsImage e size owners told read_before read_now image folder old new before now told_old told_new told_before told_now result)
+    ⊎ ((result ≡ Err program.OutOfMemory) × (read_now ≡ read_before) × (new ≡ old) × (told_new ≡ told_old) × (told_now ≡ told_before))
 
 -- ---- listing
 

@@ -1,5 +1,5 @@
 -- What a command that writes an image does with the host: the files that it reads, and the one that it makes.
-use Rattle.std.specs.Prelude.{◌≡◌, ◌⊎◌, ℕ, List, Option, Some, None, Result, Ok, Err, IfSome, IsTrue, is_some, option_map, slice_get}
+use Rattle.std.specs.Prelude.{◌≡◌, ◌⊎◌, ◌++◌, ℕ, List, [], ◌∷◌, Option, Some, None, Result, Ok, Err, IfSome, IsTrue, is_some, option_map, slice_get}
 use Rattle.std.specs.Io.KnownBytes.{Appends}
 use Rattle.flashbase.specs.Device.{PutsPart, next_count}
 use Rattle.flashbase.specs.declared.source.LoadFault.TheVariants as load
@@ -24,6 +24,8 @@ use Rattle.jffs2_image.specs.Runs.{HasFailed}
 use Rattle.jffs2_image.specs.Writes.{IsNamed, IsRunOn}
 use Rattle.jffs2_image.specs.declared.host.FileFault.{FileFault}
 use Rattle.jffs2_image.specs.declared.host.FileFault.TheVariants as file
+use Rattle.jffs2_image.specs.declared.host.MakeFault.{MakeFault}
+use Rattle.jffs2_image.specs.declared.host.MakeFault.TheVariants as make
 use Rattle.jffs2_image.specs.declared.program.Success.{Success}
 use Rattle.jffs2_image.specs.declared.program.Stop.{Stop}
 use Rattle.jffs2_image.specs.declared.program.Stop.TheVariants as stop
@@ -71,6 +73,23 @@ RunsFiles told page e size blocks base text old new (Err (program.Session fault 
     × HaveBytes told lines run.files × (option_map (λ l. l.number) (slice_get lines accepted) ≡ Some number)
 RunsFiles told page e size blocks base text old new (Err _) = Unit {0}
 
+-- ---- the file that is made
+
+-- a file of this name was made, empty, after those that were made before, where their names are told
+abbrev pub MakesFile : List ℕ → Option (List (List ℕ)) → Option (List (List ℕ)) → Type 0
+MakesFile name old new = new ≡ option_map (λ names. names ++ (name ∷ [])) old
+
+-- it was made also where there is then no memory to write it: it stays empty
+abbrev pub MakesBy : {T : Type 0} → List ℕ → Option (List (List ℕ)) → Option (List (List ℕ)) → Result T MakeFault → Type 0
+MakesBy name old new (Ok made) = MakesFile name old new
+MakesBy name old new (Err make.OutOfMemory) = MakesFile name old new
+MakesBy name old new (Err make.NotMade) = new ≡ old
+
+-- what a fault of making leaves: a file that was made, or none where it can't be opened
+abbrev pub Leaves : Type 0 → Type 0 → ProgramFault → Type 0
+Leaves makes same (program.File name) = same
+Leaves makes same _ = makes
+
 -- ---- who is to blame
 
 -- the output failed, and is handed back with a count that rose; at any other fault it may be gone
@@ -91,46 +110,53 @@ IsMakeFault before now (program.File name) = now ≡ next_count before
 IsMakeFault before now (program.Session session.Sink line) = HasFailed before now
 IsMakeFault before now _ = Unit {0}
 
--- By the answer: a fault of the file that is made comes only where it failed, and what is judged before comes with the file
--- untouched.
-abbrev pub BlamesMaker : {T : Type 0} → Type 0 → ℕ → ℕ → Result T ProgramFault → Type 0
-BlamesMaker untouched before now (Ok _) = now ≡ before
-BlamesMaker untouched before now (Err (program.Mount fault)) = untouched
-BlamesMaker untouched before now (Err (program.Session session.ReadOnly line)) = untouched
-BlamesMaker untouched before now (Err (program.Session session.Geometry line)) = untouched
-BlamesMaker untouched before now (Err (program.Session session.Sink line)) = HasFailed before now
-BlamesMaker untouched before now (Err (program.File name)) = now ≡ next_count before
-BlamesMaker untouched before now (Err (program.Load fault)) = ⊥
-BlamesMaker untouched before now (Err (program.Listing n)) = ⊥
-BlamesMaker untouched before now (Err _) = Unit {0}
+-- By the answer: a fault of the file that is made comes only where it failed; what is judged before comes with no file touched;
+-- at any other answer but that it can't be opened `makes` holds, the file was made, and where memory ran out before a byte of
+-- it, it may have been.
+abbrev pub BlamesMaker : {T : Type 0} → Type 0 → Type 0 → ℕ → ℕ → Result T ProgramFault → Type 0
+BlamesMaker untouched makes before now (Ok _) = (now ≡ before) × makes
+BlamesMaker untouched makes before now (Err (program.Mount fault)) = untouched
+BlamesMaker untouched makes before now (Err (program.Session session.ReadOnly line)) = untouched
+BlamesMaker untouched makes before now (Err (program.Session session.Geometry line)) = untouched
+BlamesMaker untouched makes before now (Err (program.Session session.Sink line)) = HasFailed before now × makes
+BlamesMaker untouched makes before now (Err (program.Session fault line)) = makes
+BlamesMaker untouched makes before now (Err (program.File name)) = now ≡ next_count before
+BlamesMaker untouched makes before now (Err (program.Load fault)) = ⊥
+BlamesMaker untouched makes before now (Err (program.Listing n)) = ⊥
+BlamesMaker untouched makes before now (Err program.Output) = makes
+BlamesMaker untouched makes before now (Err program.OutOfMemory) = untouched ⊎ makes
+BlamesMaker untouched makes before now (Err _) = Unit {0}
 
 -- By the answer: a fault of a file that is read, or of the one that is made, comes only where it failed, and what is judged
--- before a file is made comes with none touched.
-abbrev pub Blames : {T : Type 0} → Type 0 → ℕ → ℕ → ℕ → ℕ → Result T ProgramFault → Type 0
-Blames untouched read_before read_now made_before made_now (Ok _) = (read_now ≡ read_before) × (made_now ≡ made_before)
-Blames untouched read_before read_now made_before made_now (Err (program.Listing n)) = untouched
-Blames untouched read_before read_now made_before made_now (Err (program.Mount fault)) = untouched
-Blames untouched read_before read_now made_before made_now (Err (program.Session session.ReadOnly line)) = untouched
-Blames untouched read_before read_now made_before made_now (Err (program.Session session.Geometry line)) = untouched
-Blames untouched read_before read_now made_before made_now (Err (program.Session session.Sink line)) = HasFailed made_before made_now
-Blames untouched read_before read_now made_before made_now (Err (program.File name)) =
+-- before a file is made comes with none touched. `makes`: the file was made.
+abbrev pub Blames : {T : Type 0} → Type 0 → Type 0 → ℕ → ℕ → ℕ → ℕ → Result T ProgramFault → Type 0
+Blames untouched makes read_before read_now made_before made_now (Ok _) = (read_now ≡ read_before) × (made_now ≡ made_before) × makes
+Blames untouched makes read_before read_now made_before made_now (Err (program.Listing n)) = untouched
+Blames untouched makes read_before read_now made_before made_now (Err (program.Mount fault)) = untouched
+Blames untouched makes read_before read_now made_before made_now (Err (program.Session session.ReadOnly line)) = untouched
+Blames untouched makes read_before read_now made_before made_now (Err (program.Session session.Geometry line)) = untouched
+Blames untouched makes read_before read_now made_before made_now (Err (program.Session session.Sink line)) = HasFailed made_before made_now × makes
+Blames untouched makes read_before read_now made_before made_now (Err (program.Session fault line)) = makes
+Blames untouched makes read_before read_now made_before made_now (Err (program.File name)) =
     (untouched × (read_now ≡ next_count read_before)) ⊎ (made_now ≡ next_count made_before)
-Blames untouched read_before read_now made_before made_now (Err (program.Load load.Device)) = untouched × (read_now ≡ next_count read_before)
-Blames untouched read_before read_now made_before made_now (Err (program.Load fault)) = untouched
-Blames untouched read_before read_now made_before made_now (Err _) = Unit {0}
+Blames untouched makes read_before read_now made_before made_now (Err (program.Load load.Device)) = untouched × (read_now ≡ next_count read_before)
+Blames untouched makes read_before read_now made_before made_now (Err (program.Load fault)) = untouched
+Blames untouched makes read_before read_now made_before made_now (Err program.Output) = makes
+Blames untouched makes read_before read_now made_before made_now (Err program.OutOfMemory) = untouched ⊎ makes
+Blames untouched makes read_before read_now made_before made_now (Err _) = Unit {0}
 
--- the same of a request that writes an image; any other touches nothing
-abbrev pub BlamesFor : {T : Type 0} → Parsed → Type 0 → Type 0 → ℕ → ℕ → ℕ → ℕ → Result T ProgramFault → Type 0
-BlamesFor (BuildParsed options blocks page listing output) unread untouched read_before read_now made_before made_now result =
-    Blames untouched read_before read_now made_before made_now result
-BlamesFor (AppendParsed options blocks page image listing output) unread untouched read_before read_now made_before made_now result =
-    Blames untouched read_before read_now made_before made_now result
-BlamesFor _ unread untouched read_before read_now made_before made_now result = unread × untouched
+-- the same of a request that writes an image, whose file has the name of its output; any other touches nothing
+abbrev pub BlamesFor : {T : Type 0} → Parsed → Type 0 → Type 0 → Option (List (List ℕ)) → Option (List (List ℕ)) → ℕ → ℕ → ℕ → ℕ → Result T ProgramFault → Type 0
+BlamesFor (BuildParsed options blocks page listing output) unread untouched names_old names_new read_before read_now made_before made_now result =
+    Blames untouched (MakesFile output names_old names_new) read_before read_now made_before made_now result
+BlamesFor (AppendParsed options blocks page image listing output) unread untouched names_old names_new read_before read_now made_before made_now result =
+    Blames untouched (MakesFile output names_old names_new) read_before read_now made_before made_now result
+BlamesFor _ unread untouched names_old names_new read_before read_now made_before made_now result = unread × untouched
 
 -- the same of a command line; one that makes no request touches nothing
-abbrev pub BlamesCommand : Result Request RequestFault → Type 0 → Type 0 → ℕ → ℕ → ℕ → ℕ → Result Success Stop → Type 0
-BlamesCommand (Ok request) unread untouched read_before read_now made_before made_now (Ok ended) =
-    BlamesFor {T = Success} (view request) unread untouched read_before read_now made_before made_now (Ok ended)
-BlamesCommand (Ok request) unread untouched read_before read_now made_before made_now (Err (stop.Fault fault)) =
-    BlamesFor {T = Success} (view request) unread untouched read_before read_now made_before made_now (Err fault)
-BlamesCommand _ unread untouched read_before read_now made_before made_now _ = unread × untouched
+abbrev pub BlamesCommand : Result Request RequestFault → Type 0 → Type 0 → Option (List (List ℕ)) → Option (List (List ℕ)) → ℕ → ℕ → ℕ → ℕ → Result Success Stop → Type 0
+BlamesCommand (Ok request) unread untouched names_old names_new read_before read_now made_before made_now (Ok ended) =
+    BlamesFor {T = Success} (view request) unread untouched names_old names_new read_before read_now made_before made_now (Ok ended)
+BlamesCommand (Ok request) unread untouched names_old names_new read_before read_now made_before made_now (Err (stop.Fault fault)) =
+    BlamesFor {T = Success} (view request) unread untouched names_old names_new read_before read_now made_before made_now (Err fault)
+BlamesCommand _ unread untouched names_old names_new read_before read_now made_before made_now _ = unread × untouched

@@ -14,7 +14,7 @@ use crate::program::{note, report_fault};
 use crate::writing::load_file;
 use byteorder::{BigEndian, LittleEndian};
 use flashbase::{DeviceFault, Sink};
-use jcommand::{Options, Outcome, Owner};
+use jcommand::{Extraction, FolderListing, Outcome, Owner};
 use jextract::{ExtractFault, Folder, extract};
 use jfolder::{HostFolder, ReadFault, put_listing, read_folder};
 use jmount::mount;
@@ -108,7 +108,7 @@ pub fn extract_image<'a, E: Order, L: Loader, X: Folder, N: Sink>(
     folder: &mut X,
     notes: &mut N,
 ) -> Result<Extracted, ProgramFault<'a>>
-    ensures { ExtractsImage E.order geometry.block owners (L.told loader.old image.entry.now) image.entry.now name.entry.now
+    ensures { ExtractsImage E.order geometry.block owners (L.told loader.old image.entry.now) (L.failures loader.old) (L.failures loader.new) image.entry.now name.entry.now
         (X.made folder.old) (X.made folder.new) (X.failures folder.old) (X.failures folder.new)
         (N.taken notes.old) (N.taken notes.new) (N.failures notes.old) (N.failures notes.new) result }
 {
@@ -171,17 +171,22 @@ pub fn list_folder<'a, H: HostFolder, T: Sink, N: Sink>(
 fn extract_in_order<'a, L: Loader, X: Folder, N: Sink>(
     alloc: Global,
     loader: &mut L,
-    options: Options,
-    owners: bool,
-    image: &'a str,
-    name: &'a str,
+    asked: Extraction<'a>,
     folder: &mut X,
     notes: &mut N,
 ) -> Result<Extracted, ProgramFault<'a>>
-    ensures { ExtractsImage options.endian options.geometry.block owners (L.told loader.old image.entry.now) image.entry.now name.entry.now
+    ensures { ExtractsImage asked.entry.options.endian asked.entry.options.geometry.block asked.entry.owners
+        (L.told loader.old asked.entry.image.now) (L.failures loader.old) (L.failures loader.new) asked.entry.image.now asked.entry.folder.now
         (X.made folder.old) (X.made folder.new) (X.failures folder.old) (X.failures folder.new)
         (N.taken notes.old) (N.taken notes.new) (N.failures notes.old) (N.failures notes.new) result }
 {
+    let Extraction {
+        options,
+        owners,
+        image,
+        folder: name,
+        ..
+    } = asked;
     let geometry = options.geometry;
     match options.endian {
         Endian::Little => extract_image::<LittleEndian, L, X, N>(
@@ -198,29 +203,17 @@ fn fill<'a, L: Loader, D: Folders, N: Sink>(
     alloc: Global,
     loader: &mut L,
     folders: &mut D,
-    options: Options,
-    owners: bool,
-    quiet: bool,
-    image: &'a str,
-    name: &'a str,
+    asked: Extraction<'a>,
     notes: &mut N,
 ) -> Result<Extracted, ProgramFault<'a>>
-    ensures { FillsFolder options.endian options.geometry.block owners (L.told loader.old image.entry.now) image.entry.now name.entry.now
+    ensures { FillsFolder asked.entry.options.endian asked.entry.options.geometry.block asked.entry.owners
+        (L.told loader.old asked.entry.image.now) (L.failures loader.old) (L.failures loader.new) asked.entry.image.now asked.entry.folder.now
         (D.made folders.old) (D.made folders.new) (N.taken notes.old) (N.taken notes.new) (N.failures notes.old) (N.failures notes.new) result }
 {
-    let Ok(mut folder) = folders.filled(name, quiet) else {
+    let Ok(mut folder) = folders.filled(asked.folder, asked.quiet) else {
         return Err(ProgramFault::OutOfMemory);
     };
-    let answer = extract_in_order(
-        alloc,
-        loader,
-        options,
-        owners,
-        image,
-        name,
-        &mut folder,
-        notes,
-    );
+    let answer = extract_in_order(alloc, loader, asked, &mut folder, notes);
     folders.take_filled(folder);
     answer
 }
@@ -230,19 +223,13 @@ pub fn run_extract<L: Loader, D: Folders, E: Sink>(
     alloc: Global,
     loader: &mut L,
     folders: &mut D,
-    options: Options,
-    owners: bool,
-    quiet: bool,
-    image: &str,
-    name: &str,
+    asked: Extraction<'_>,
     errors: &mut E,
 ) -> Outcome
-    ensures { EndsExtraction options owners image.now name.now (L.told loader.old) (D.made folders.old) (D.made folders.new)
-        (E.taken errors.old) (E.taken errors.new) (E.failures errors.old) (E.failures errors.new) result }
+    ensures { EndsExtraction asked.entry.options asked.entry.owners asked.entry.image.now asked.entry.folder.now (L.told loader.old) (L.failures loader.old) (L.failures loader.new)
+        (D.made folders.old) (D.made folders.new) (E.taken errors.old) (E.taken errors.new) (E.failures errors.old) (E.failures errors.new) result }
 {
-    match fill(
-        alloc, loader, folders, options, owners, quiet, image, name, errors,
-    ) {
+    match fill(alloc, loader, folders, asked, errors) {
         Ok(done) => {
             note(done.findings, errors);
             Outcome::of(done.left_out)
@@ -308,18 +295,23 @@ fn list_given<'a, D: Folders, T: Output, N: Sink>(
 pub fn run_listing<D: Folders, T: Output, E: Sink>(
     alloc: Global,
     folders: &mut D,
-    owner: Option<Owner>,
-    time: Option<u32>,
-    quiet: bool,
-    name: &str,
+    asked: FolderListing<'_>,
     output: &mut T,
     errors: &mut E,
 ) -> Outcome
-    ensures { EndsListing (output.new ≡ output.old) (D.reads folders.old name.now) (settings owner time) name.now (T.taken output.old) (T.given output.new) (T.failures output.old) (T.failures output.new)
+    ensures { EndsListing (output.new ≡ output.old) (D.reads folders.old asked.entry.folder.now) (settings asked.entry.owner asked.entry.time) asked.entry.folder.now (T.taken output.old) (T.given output.new) (T.failures output.old) (T.failures output.new)
         (E.taken errors.old) (E.taken errors.new) (E.failures errors.old) (E.failures errors.new) result }
 {
-    let options = settings_of(owner, time);
-    match list_given(alloc, folders, options, quiet, name, output, errors) {
+    let options = settings_of(asked.owner, asked.time);
+    match list_given(
+        alloc,
+        folders,
+        options,
+        asked.quiet,
+        asked.folder,
+        output,
+        errors,
+    ) {
         Ok(left_out) => Outcome::of(left_out),
         Err(fault) => report_fault(&fault, errors),
     }

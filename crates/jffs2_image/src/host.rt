@@ -1,7 +1,7 @@
 //! Files of the host: those that are read whole, and the one that is made.
 ghost use Rattle.std.specs.Prelude.{◌≡◌, ℕ, List, Option, IfOk, None};
 ghost use Rattle.flashbase.specs.Device.{next_count};
-ghost use Rattle.jffs2_image.specs.Host.{AreOf, CountsFile};
+ghost use Rattle.jffs2_image.specs.Host.{AreOf, CountsFile, MakesBy};
 
 use crate::output::{BufferedOutput, Output};
 use flashbase::{FromReader, LoadFault, load};
@@ -47,14 +47,19 @@ pub trait Maker {
     /// How often a file was not made, or failed until it was given back, modulo 2^64.
     ghost failures: { Self → ℕ };
 
+    /// The names of the files that it made, in order, where they are told.
+    ghost names: { Self → Option (List (List ℕ)) };
+
     /// Makes the file of a name, empty, also in place of one that is there. It goes on with the count of failures.
     fn make(&mut self, name: &str) -> Result<Self::Made, MakeFault>
         ensures made { IfOk result (λ made. Self.Made.failures made ≡ failures self.old) }
-        ensures not_made { result ≡ Err MakeFault.NotMade → failures self.new ≡ next_count (failures self.old) };
+        ensures not_made { result ≡ Err MakeFault.NotMade → failures self.new ≡ next_count (failures self.old) }
+        ensures names { MakesBy name.now (names self.old) (names self.new) result };
 
     /// Takes back a file that was made, with its count of failures.
     fn take_back(&mut self, made: Self::Made)
-        ensures { failures self.new ≡ Self.Made.failures made };
+        ensures count { failures self.new ≡ Self.Made.failures made }
+        ensures names { names self.new ≡ names self.old };
 }
 
 /// Reads files of the system.
@@ -113,6 +118,8 @@ impl<'r, R: Files + AllocGlobal> Maker for FileMaker<'r, R> {
     type Made = BufferedOutput<R::File>;
 
     ghost failures = { λ s. s.failures };
+
+    ghost names = { λ _. None };
 
     fn make(&mut self, name: &str) -> Result<BufferedOutput<R::File>, MakeFault> {
         let Ok(file) = fs::create(self.rt, name) else {

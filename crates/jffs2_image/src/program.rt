@@ -3,17 +3,17 @@ ghost use Rattle.std.specs.Prelude.{◌≡◌, IfErr, OnOk, Some, map};
 ghost use Rattle.std.specs.Io.KnownBytes.{Appends};
 ghost use Rattle.jcommand.specs.Parsed.{Parsed, ScanParsed, CheckParsed, ListParsed, CatParsed, BuildParsed, AppendParsed, options_of, view};
 ghost use Rattle.jreport.specs.Faults.{fault_line_of};
-ghost use Rattle.jffs2_image.specs.Host.{Blames, BlamesCommand, BlamesFor};
+ghost use Rattle.jffs2_image.specs.Host.{Blames, BlamesCommand, BlamesFor, MakesFile};
 ghost use Rattle.jffs2_image.specs.FolderRuns.{RunsExtract, RunsListing, RunsTask};
 ghost use Rattle.jffs2_image.specs.Runs.{HasFailed, IsCommand, Meets, MeetsCommand, MeetsWhole, RunsCommand, Says, note_after, success_of};
 
 use crate::folders::{Folders, run_extract, run_listing};
 use crate::host::{Loader, Maker};
 use crate::output::Output;
-use crate::writing::{Target, load_file, write_image};
+use crate::writing::{load_file, write_image};
 use byteorder::{BigEndian, LittleEndian};
 use flashbase::{FromReader, Sink, put_all};
-use jcommand::{Options, Outcome, Request, RequestFault, Task, task};
+use jcommand::{Options, Outcome, Request, RequestFault, Target, Task, task};
 use jnode::{Endian, Order};
 use jreport::{
     ProgramFault, check_lines, fault_line, file_bytes, list_lines, note_line, path_word,
@@ -115,9 +115,8 @@ fn build<'a, E: Order, L: Loader, M: Maker, T: Sink>(
     text: &'a mut Vec<u8>,
     sink: &mut T,
 ) -> Result<u64, ProgramFault<'a>>
-    ensures meets { (options : Options) → options.geometry ≡ target.entry.geometry
-        → Meets E.order (BuildParsed options target.entry.blocks target.entry.page listing.entry.now target.entry.output.now) (T.taken sink.old) (T.taken sink.new) (T.failures sink.old) (T.failures sink.new) result }
-    ensures host { Blames (maker.new ≡ maker.old) (L.failures loader.old) (L.failures loader.new) (M.failures maker.old) (M.failures maker.new) result }
+    ensures meets { Meets E.order (BuildParsed target.entry.options target.entry.blocks target.entry.page listing.entry.now target.entry.output.now) (T.taken sink.old) (T.taken sink.new) (T.failures sink.old) (T.failures sink.new) result }
+    ensures host { Blames (maker.new ≡ maker.old) (MakesFile target.entry.output.now (M.names maker.old) (M.names maker.new)) (L.failures loader.old) (L.failures loader.new) (M.failures maker.old) (M.failures maker.new) result }
 {
     *text = load_file(loader, listing)?;
     write_image::<E, _, _, _>(alloc, loader, maker, target, &[], text.as_slice(), sink)?;
@@ -136,9 +135,8 @@ fn append<'a, E: Order, L: Loader, M: Maker, T: Sink>(
     text: &'a mut Vec<u8>,
     sink: &mut T,
 ) -> Result<u64, ProgramFault<'a>>
-    ensures meets { (options : Options) → options.geometry ≡ target.entry.geometry
-        → Meets E.order (AppendParsed options target.entry.blocks target.entry.page image.entry.now listing.entry.now target.entry.output.now) (T.taken sink.old) (T.taken sink.new) (T.failures sink.old) (T.failures sink.new) result }
-    ensures host { Blames (maker.new ≡ maker.old) (L.failures loader.old) (L.failures loader.new) (M.failures maker.old) (M.failures maker.new) result }
+    ensures meets { Meets E.order (AppendParsed target.entry.options target.entry.blocks target.entry.page image.entry.now listing.entry.now target.entry.output.now) (T.taken sink.old) (T.taken sink.new) (T.failures sink.old) (T.failures sink.new) result }
+    ensures host { Blames (maker.new ≡ maker.old) (MakesFile target.entry.output.now (M.names maker.old) (M.names maker.new)) (L.failures loader.old) (L.failures loader.new) (M.failures maker.old) (M.failures maker.new) result }
 {
     let base = load_file(loader, image)?;
     *text = load_file(loader, listing)?;
@@ -156,9 +154,10 @@ fn run_in_order<'a, E: Order, R: Files + AllocGlobal, L: Loader, M: Maker, T: Si
     sink: &mut T,
 ) -> Result<u64, ProgramFault<'a>>
     ensures meets { Meets E.order (view request.entry) (T.taken sink.old) (T.taken sink.new) (T.failures sink.old) (T.failures sink.new) result }
-    ensures host { BlamesFor (view request.entry) (loader.new ≡ loader.old) (maker.new ≡ maker.old) (L.failures loader.old) (L.failures loader.new)
+    ensures host { BlamesFor (view request.entry) (loader.new ≡ loader.old) (maker.new ≡ maker.old) (M.names maker.old) (M.names maker.new) (L.failures loader.old) (L.failures loader.new)
         (M.failures maker.old) (M.failures maker.new) result }
 {
+    let alloc = rt.alloc();
     match request {
         Request::Scan { options, image } => scan::<E, _, _>(rt, options, image, sink),
         Request::Check {
@@ -172,46 +171,14 @@ fn run_in_order<'a, E: Order, R: Files + AllocGlobal, L: Loader, M: Maker, T: Si
             image,
             path,
         } => cat::<E, _, _>(rt, options, image, path, sink),
-        Request::Build {
-            options,
-            blocks,
-            page,
-            listing,
-            output,
-        } => {
-            let target = Target {
-                geometry: options.geometry,
-                blocks,
-                page,
-                output,
-            };
-            build::<E, _, _, _>(rt.alloc(), loader, maker, target, listing, text, sink)
+        Request::Build { target, listing } => {
+            build::<E, _, _, _>(alloc, loader, maker, target, listing, text, sink)
         }
         Request::Append {
-            options,
-            blocks,
-            page,
+            target,
             image,
             listing,
-            output,
-        } => {
-            let target = Target {
-                geometry: options.geometry,
-                blocks,
-                page,
-                output,
-            };
-            append::<E, _, _, _>(
-                rt.alloc(),
-                loader,
-                maker,
-                target,
-                image,
-                listing,
-                text,
-                sink,
-            )
-        }
+        } => append::<E, _, _, _>(alloc, loader, maker, target, image, listing, text, sink),
     }
 }
 
@@ -225,7 +192,7 @@ fn run_request<'a, R: Files + AllocGlobal, L: Loader, M: Maker, T: Sink>(
     sink: &mut T,
 ) -> Result<u64, ProgramFault<'a>>
     ensures meets { Meets (options_of request.entry).endian (view request.entry) (T.taken sink.old) (T.taken sink.new) (T.failures sink.old) (T.failures sink.new) result }
-    ensures host { BlamesFor (view request.entry) (loader.new ≡ loader.old) (maker.new ≡ maker.old) (L.failures loader.old) (L.failures loader.new)
+    ensures host { BlamesFor (view request.entry) (loader.new ≡ loader.old) (maker.new ≡ maker.old) (M.names maker.old) (M.names maker.new) (L.failures loader.old) (L.failures loader.new)
         (M.failures maker.old) (M.failures maker.new) result }
 {
     match request.options().endian {
@@ -248,7 +215,7 @@ fn run_whole<'a, R: Files + AllocGlobal, L: Loader, M: Maker, T: Output>(
     output: &mut T,
 ) -> Result<u64, ProgramFault<'a>>
     ensures meets { MeetsWhole (view request.entry) (T.taken output.old) (T.given output.new) (T.failures output.old) (T.failures output.new) result }
-    ensures host { BlamesFor (view request.entry) (loader.new ≡ loader.old) (maker.new ≡ maker.old) (L.failures loader.old) (L.failures loader.new)
+    ensures host { BlamesFor (view request.entry) (loader.new ≡ loader.old) (maker.new ≡ maker.old) (M.names maker.old) (M.names maker.new) (L.failures loader.old) (L.failures loader.new)
         (M.failures maker.old) (M.failures maker.new) result }
 {
     let answer = run_request(rt, loader, maker, request, text, output);
@@ -296,7 +263,7 @@ fn run_command<'a, R: Files + AllocGlobal, L: Loader, M: Maker, T: Output>(
     output: &mut T,
 ) -> Result<Success, Stop<'a>>
     ensures meets { MeetsCommand command.entry (T.taken output.old) (T.given output.new) (T.failures output.old) (T.failures output.new) result }
-    ensures host { BlamesCommand command.entry (loader.new ≡ loader.old) (maker.new ≡ maker.old) (L.failures loader.old) (L.failures loader.new)
+    ensures host { BlamesCommand command.entry (loader.new ≡ loader.old) (maker.new ≡ maker.old) (M.names maker.old) (M.names maker.new) (L.failures loader.old) (L.failures loader.new)
         (M.failures maker.old) (M.failures maker.new) result }
 {
     match command {
@@ -357,7 +324,7 @@ fn run_image<R: Files + AllocGlobal, L: Loader, M: Maker, T: Output, E: Sink>(
     // host's files is so.
     ensures { (ran : RunsCommand command.entry (T.taken output.old) (T.given output.new) (T.failures output.old) (T.failures output.new)
         (Says (errors.new ≡ errors.old) (E.taken errors.old) (E.taken errors.new) (E.failures errors.old) (E.failures errors.new)) result)
-        × BlamesCommand command.entry (loader.new ≡ loader.old) (maker.new ≡ maker.old) (L.failures loader.old) (L.failures loader.new)
+        × BlamesCommand command.entry (loader.new ≡ loader.old) (maker.new ≡ maker.old) (M.names maker.old) (M.names maker.new) (L.failures loader.old) (L.failures loader.new)
         (M.failures maker.old) (M.failures maker.new) ran.answer }
 {
     let mut text = Vec::new(rt.alloc());
@@ -383,51 +350,17 @@ pub fn run<R: Files + AllocGlobal, L: Loader, M: Maker, D: Folders, T: Output, E
     ensures { RunsTask (map (λ w. w.now) args.now)
         (λ command. (ran : RunsCommand command (T.taken output.old) (T.given output.new) (T.failures output.old) (T.failures output.new)
         (Says (errors.new ≡ errors.old) (E.taken errors.old) (E.taken errors.new) (E.failures errors.old) (E.failures errors.new)) result)
-        × BlamesCommand command (loader.new ≡ loader.old) (maker.new ≡ maker.old) (L.failures loader.old) (L.failures loader.new)
+        × BlamesCommand command (loader.new ≡ loader.old) (maker.new ≡ maker.old) (M.names maker.old) (M.names maker.new) (L.failures loader.old) (L.failures loader.new)
         (M.failures maker.old) (M.failures maker.new) ran.answer)
-        ((output.new ≡ output.old) × (maker.new ≡ maker.old) × RunsExtract (map (λ w. w.now) args.now) (L.told loader.old) (D.made folders.old) (D.made folders.new)
+        ((output.new ≡ output.old) × (maker.new ≡ maker.old) × RunsExtract (map (λ w. w.now) args.now) (L.told loader.old) (L.failures loader.old) (L.failures loader.new) (D.made folders.old) (D.made folders.new)
         (E.taken errors.old) (E.taken errors.new) (E.failures errors.old) (E.failures errors.new) result)
         ((loader.new ≡ loader.old) × (maker.new ≡ maker.old) × RunsListing (map (λ w. w.now) args.now) (output.new ≡ output.old) (D.reads folders.old) (T.taken output.old) (T.given output.new) (T.failures output.old) (T.failures output.new)
         (E.taken errors.old) (E.taken errors.new) (E.failures errors.old) (E.failures errors.new) result) }
 {
     match task(rt.alloc(), args) {
         Ok(Task::Image(request)) => run_image(rt, loader, maker, Ok(request), output, errors),
-        Ok(
-            Task::Extract {
-                options,
-                owners,
-                quiet,
-                image,
-                folder,
-            },
-        ) => run_extract(
-            rt.alloc(),
-            loader,
-            folders,
-            options,
-            owners,
-            quiet,
-            image,
-            folder,
-            errors,
-        ),
-        Ok(
-            Task::Listing {
-                owner,
-                time,
-                quiet,
-                folder,
-            },
-        ) => run_listing(
-            rt.alloc(),
-            folders,
-            owner,
-            time,
-            quiet,
-            folder,
-            output,
-            errors,
-        ),
+        Ok(Task::Extract(asked)) => run_extract(rt.alloc(), loader, folders, asked, errors),
+        Ok(Task::Listing(asked)) => run_listing(rt.alloc(), folders, asked, output, errors),
         Err(fault) => run_image(rt, loader, maker, Err(fault), output, errors),
     }
 }

@@ -3,30 +3,22 @@ ghost use Rattle.std.specs.Prelude.{◌≡◌, ℕ, List, Option, Ok, IfOk, IfEr
 ghost use Rattle.jmount.specs.Mounts.{IsMountOf};
 ghost use Rattle.jlisting.specs.Listing.{lines_of};
 ghost use Rattle.jlog.specs.Resuming.{resumes_by};
-ghost use Rattle.jffs2_image.specs.Host.{AreOf, AreRead, Blames, BlamesMaker, IsHandedBack, IsMadeUntil, IsMakeFault, IsReadFault, RunsFiles};
+ghost use Rattle.jffs2_image.specs.Host.{AreOf, AreRead, Blames, BlamesMaker, IsHandedBack, IsMadeUntil, IsMakeFault, IsReadFault, Leaves, MakesFile, RunsFiles};
 ghost use Rattle.jffs2_image.specs.Writes.{IsMade, IsNotGoneOn, IsNotMade, IsPartUnread, IsPut, IsUnread, Writes};
 
 use crate::host::{FileFault, Loader, MakeFault, Maker};
 use crate::output::Output;
 use flashbase::Sink;
 use jbuild::{Parts, emit, operations, put_accepted};
+use jcommand::Target;
 use jlisting::{Line, listing};
 use jlog::{RunReport, SessionFault, page_fits, resume_at};
 use jmount::{Mounted, mount};
 use jnode::Order;
 use jreport::ProgramFault;
-use jscan::{GREATEST_IMAGE, Geometry};
-use jsteps::{Op, Page};
+use jscan::GREATEST_IMAGE;
+use jsteps::Op;
 use std::alloc::{AllocError, Global};
-
-/// The flash that is written, the page that files are cut by, and the file that holds its bytes.
-#[derive(Clone, Copy)]
-pub struct Target<'a> {
-    pub geometry: Geometry,
-    pub blocks: u32,
-    pub page: Page,
-    pub output: &'a str,
-}
 
 /// The bytes of a file.
 pub fn load_file<'a, L: Loader>(loader: &mut L, name: &'a str) -> Result<Vec<u8>, ProgramFault<'a>>
@@ -81,11 +73,11 @@ fn number_at(numbers: &[usize], i: usize) -> Option<usize>
 
 /// Where writing goes on, by the target's page.
 fn resumed_from<E: Order>(mounted: &Mounted<'_>, target: Target<'_>) -> Result<u32, SessionFault>
-    requires { IsMountOf E.order target.geometry.block mounted.now }
-    ensures { result ≡ resumes_by target.entry.page E.order target.entry.geometry.block target.entry.blocks mounted.now }
+    requires { IsMountOf E.order target.options.geometry.block mounted.now }
+    ensures { result ≡ resumes_by target.entry.page E.order target.entry.options.geometry.block target.entry.blocks mounted.now }
 {
-    let from = resume_at::<E>(mounted, target.geometry, target.blocks)?;
-    if !page_fits(target.geometry, target.page) {
+    let from = resume_at::<E>(mounted, target.options.geometry, target.blocks)?;
+    if !page_fits(target.options.geometry, target.page) {
         return Err(SessionFault::Geometry);
     }
     Ok(from)
@@ -100,16 +92,16 @@ fn put_image<E: Order, S: Output>(
     ops: &[Op<'_>],
     output: S,
 ) -> Result<(S, RunReport), (SessionFault, Option<S>)>
-    requires { IsMountOf E.order target.geometry.block mounted.now }
-    ensures put { IfOk result (λ done. IsPut target.entry.page E.order target.entry.geometry.block target.entry.blocks mounted.now ops.now done.1.accepted done.1.places.items done.1.stopped
+    requires { IsMountOf E.order target.options.geometry.block mounted.now }
+    ensures put { IfOk result (λ done. IsPut target.entry.page E.order target.entry.options.geometry.block target.entry.blocks mounted.now ops.now done.1.accepted done.1.places.items done.1.stopped
         (S.taken output) (S.given done.0) (S.failures output) (S.failures done.0)) }
-    ensures fault { IfErr result (λ refused. IsNotGoneOn target.entry.page E.order target.entry.geometry.block target.entry.blocks mounted.now refused.0) }
+    ensures fault { IfErr result (λ refused. IsNotGoneOn target.entry.page E.order target.entry.options.geometry.block target.entry.blocks mounted.now refused.0) }
     ensures back { IfErr result (λ refused. IsHandedBack (S.failures output) refused.0 (option_map (λ back. S.failures back) refused.1)) }
 {
     match emit::<E, S>(
         alloc,
         mounted,
-        target.geometry,
+        target.options.geometry,
         target.blocks,
         target.page,
         ops,
@@ -136,11 +128,13 @@ fn make_image<'a, E: Order, M: Maker>(
     mounted: &Mounted<'_>,
     ops: &[Op<'_>],
 ) -> Result<RunReport, ProgramFault<'a>>
-    requires { IsMountOf E.order target.geometry.block mounted.now }
-    ensures made { IfOk result (λ report. IsMade target.entry.page E.order target.entry.geometry.block target.entry.blocks mounted.now ops.now report.accepted report.places.items report.stopped) }
-    ensures fault { IfErr result (λ fault. IsNotMade target.entry.page E.order target.entry.geometry.block target.entry.blocks mounted.now target.entry.output.now fault) }
+    requires { IsMountOf E.order target.options.geometry.block mounted.now }
+    ensures made { IfOk result (λ report. IsMade target.entry.page E.order target.entry.options.geometry.block target.entry.blocks mounted.now ops.now report.accepted report.places.items report.stopped) }
+    ensures fault { IfErr result (λ fault. IsNotMade target.entry.page E.order target.entry.options.geometry.block target.entry.blocks mounted.now target.entry.output.now fault) }
     ensures stopped { IfOk result (λ report. IsMadeUntil (M.failures maker.old) (M.failures maker.new) report.stopped) }
     ensures failed { IfErr result (λ fault. IsMakeFault (M.failures maker.old) (M.failures maker.new) fault) }
+    ensures file { OnOk result (MakesFile target.entry.output.now (M.names maker.old) (M.names maker.new)) }
+    ensures left { IfErr result (λ fault. Leaves (MakesFile target.entry.output.now (M.names maker.old) (M.names maker.new)) (M.names maker.new ≡ M.names maker.old) fault) }
 {
     let output = match maker.make(target.output) {
         Ok(output) => output,
@@ -172,15 +166,15 @@ fn write_lines<'a, 'p, 'b: 'p, E: Order, M: Maker, T: Sink>(
     sink: &mut T,
 ) -> Result<(), ProgramFault<'a>>
     ensures writes { (text : List ℕ) → lines_of text ≡ Ok lines.entry.items
-        → Writes target.entry.page E.order target.entry.geometry.block target.entry.blocks target.entry.output.now base.now text
+        → Writes target.entry.page E.order target.entry.options.geometry.block target.entry.blocks target.entry.output.now base.now text
         (T.taken sink.old) (T.taken sink.new) (T.failures sink.old) (T.failures sink.new) result }
     ensures files { (told : List ℕ → Option (List ℕ)) → (text : List ℕ) → lines_of text ≡ Ok lines.entry.items → AreRead told lines.entry.items parts.entry.now
-        → RunsFiles told target.entry.page E.order target.entry.geometry.block target.entry.blocks base.now text (T.taken sink.old) (T.taken sink.new) result }
-    ensures maker { BlamesMaker (maker.new ≡ maker.old) (M.failures maker.old) (M.failures maker.new) result }
+        → RunsFiles told target.entry.page E.order target.entry.options.geometry.block target.entry.blocks base.now text (T.taken sink.old) (T.taken sink.new) result }
+    ensures maker { BlamesMaker (maker.new ≡ maker.old) (MakesFile target.entry.output.now (M.names maker.old) (M.names maker.new)) (M.failures maker.old) (M.failures maker.new) result }
 {
     let numbers = numbers_of(alloc, &lines)?;
     let ops = operations(alloc, lines, parts)?;
-    let mounted = mount::<E>(alloc, base, target.geometry)?;
+    let mounted = mount::<E>(alloc, base, target.options.geometry)?;
     let from = resumed_from::<E>(&mounted, target)?;
     let report = make_image::<E, M>(alloc, maker, target, &mounted, &ops)?;
     if let Some(fault) = report.stopped {
@@ -202,12 +196,12 @@ pub fn write_image<'a, E: Order, L: Loader, M: Maker, T: Sink>(
     text: &'a [u8],
     sink: &mut T,
 ) -> Result<(), ProgramFault<'a>>
-    ensures writes { Writes target.entry.page E.order target.entry.geometry.block target.entry.blocks target.entry.output.now base.now text.now
+    ensures writes { Writes target.entry.page E.order target.entry.options.geometry.block target.entry.blocks target.entry.output.now base.now text.now
         (T.taken sink.old) (T.taken sink.new) (T.failures sink.old) (T.failures sink.new) result }
     // Each file that a line names was read: its operation has the bytes that it has on the host.
-    ensures files { RunsFiles (L.told loader.old) target.entry.page E.order target.entry.geometry.block target.entry.blocks base.now text.now (T.taken sink.old) (T.taken sink.new) result }
+    ensures files { RunsFiles (L.told loader.old) target.entry.page E.order target.entry.options.geometry.block target.entry.blocks base.now text.now (T.taken sink.old) (T.taken sink.new) result }
     // Files are blamed only where they failed, and the image's is made only after all else was judged.
-    ensures host { Blames (maker.new ≡ maker.old) (L.failures loader.old) (L.failures loader.new) (M.failures maker.old) (M.failures maker.new) result }
+    ensures host { Blames (maker.new ≡ maker.old) (MakesFile target.entry.output.now (M.names maker.old) (M.names maker.new)) (L.failures loader.old) (L.failures loader.new) (M.failures maker.old) (M.failures maker.new) result }
 {
     let lines = listing(alloc, text)?;
     let parts = load_parts(alloc, loader, &lines)?;

@@ -1,20 +1,14 @@
-use Rattle.std.proofs.Common.{◌≡◌, ℕ, [], Ok, Err, ap, subst, sym}
+use Rattle.std.proofs.Common.{Ok}
 use Rattle.jffs2_image.proofs.WritingLemmas.{builds, build_fault}
-use Rattle.jffs2_image.specs.Writes.{Writes}
 use Rattle.jffs2_image.proofs.program.build.Goals as goal
 
 pub returns-in_err-write_image-clause-meets : goal.returns-in_err-write_image-clause-meets
-returns-in_err-write_image-clause-meets g c = λ options same.
+returns-in_err-write_image-clause-meets g c =
     let a = c.args in
-    let size : a.target.geometry.block ≡ options.geometry.block = ap (λ p. p.block) (sym same) in
-    build_fault a.target.page g.E.Order.order options a.target.blocks a.listing.now a.target.output.now c.as_slice.result.now _ _ _ _ c.in_err-write_image.field-0.0 _ c.from_residual-in_err-write_image.ensures.1
-    (subst (λ (s : ℕ). Writes {T = Unit {0}} a.target.page g.E.Order.order s a.target.blocks a.target.output.now [] c.as_slice.result.now (g.T.Sink.taken a.sink.now) (g.T.Sink.taken c.write_image.new.sink)
-    (g.T.Sink.failures a.sink.now) (g.T.Sink.failures c.write_image.new.sink) (Err c.in_err-write_image.field-0.0)) size c.in_err-write_image.ensures.writes)
+    build_fault a.target.page g.E.Order.order a.target.options a.target.blocks a.listing.now a.target.output.now c.as_slice.result.now _ _ _ _ c.in_err-write_image.field-0.0 _ c.from_residual-in_err-write_image.ensures.1
+    c.in_err-write_image.ensures.writes
 
 pub returns-clause-meets : goal.returns-clause-meets
-returns-clause-meets g c = λ options same.
+returns-clause-meets g c =
     let a = c.args in
-    let size : a.target.geometry.block ≡ options.geometry.block = ap (λ p. p.block) (sym same) in
-    builds a.target.page g.E.Order.order options a.target.blocks a.listing.now a.target.output.now c.as_slice.result.now _ _ _ _ (Ok 0)
-    (subst (λ (s : ℕ). Writes {T = ℕ} a.target.page g.E.Order.order s a.target.blocks a.target.output.now [] c.as_slice.result.now (g.T.Sink.taken a.sink.now) (g.T.Sink.taken c.write_image.new.sink)
-    (g.T.Sink.failures a.sink.now) (g.T.Sink.failures c.write_image.new.sink) (Ok 0)) size c.in_ok-write_image.ensures.writes)
+    builds a.target.page g.E.Order.order a.target.options a.target.blocks a.listing.now a.target.output.now c.as_slice.result.now _ _ _ _ (Ok 0) c.in_ok-write_image.ensures.writes

@@ -1,0 +1,36 @@
+"""Tests of the finished program in groups: which program it is, what came of a run of it, and how many tests passed."""
+import collections
+import os
+import sys
+import tempfile
+
+ROOT = os.path.dirname(os.path.dirname(os.path.abspath(__file__)))
+PROGRAM = os.path.realpath(sys.argv[1] if len(sys.argv) > 1 else f"{ROOT}/crates/jffs2_image/out/jffs2_image")
+counts = collections.Counter()
+Done = collections.namedtuple("Done", "status out err")
+
+
+def verdict(about, right, done=None):
+    """Counts one test, and tells of it where it failed."""
+    counts["passed" if right else "failed"] += 1
+    if not right:
+        told = f": status {done.status}, {done.out[:300]!r}, {done.err[:300]!r}" if done else ""
+        print(f"FAILED: {about}{told}", flush=True)
+
+
+def write(name, data):
+    with open(name, "wb") as file:
+        file.write(data if isinstance(data, bytes) else data.encode())
+
+
+def run_all(groups):
+    """Runs each group in one new folder, tells of it and then of all, and answers the status of the suite."""
+    with tempfile.TemporaryDirectory(prefix="groups-") as folder:
+        os.chdir(folder)
+        for group in groups:
+            before = counts["failed"]
+            group()
+            print(f"{group.__name__}: {'fails' if counts['failed'] > before else 'passes'}", flush=True)
+        os.chdir(ROOT)
+    print(f"{counts['passed']} passed, {counts['failed']} failed")
+    return 1 if counts["failed"] or not counts["passed"] else 0
