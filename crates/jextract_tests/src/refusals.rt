@@ -1,13 +1,13 @@
 //! Folders that refuse, files that take little, and notes that fail.
 
-use crate::images::{FILE, LARGE, Node, PLAIN, image_of};
+use crate::images::{LARGE, PLAIN, image_of};
 use crate::recorder::{Recorder, is_made_once};
 use byteorder::LittleEndian;
 use flashbase::FromWriter;
 use jextract::{ExtractFault, extract};
 use jmount::mount;
 use std::test::Fail;
-use test_support::Taker;
+use test_support::{FILE, Node, Taker};
 
 /// The call that is refused, what is made, and what is told.
 const ROWS: [(u64, &str, &str); 9] = [

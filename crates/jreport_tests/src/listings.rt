@@ -1,13 +1,13 @@
 //! Worked trees, with the lines that `ls` prints of them.
 
-use crate::images::{CIRCLE, CIRCLE_LINES, DIRECTORY, FILE, LARGE, Node, SYMLINK, image_of};
+use crate::images::{CIRCLE, CIRCLE_LINES, LARGE, image_of};
 use byteorder::LittleEndian;
 use flashbase::{FromWriter, Sink};
 use jmount::mount;
 use jreport::{ProgramFault, put_object, tree_lines};
 use std::alloc::Global;
 use std::test::Fail;
-use test_support::Taker;
+use test_support::{DIRECTORY, FILE, Node, SYMLINK, Taker};
 
 fn listed<T: Sink>(alloc: Global, image: &[u8], sink: &mut T) -> Result<(), ProgramFault<'static>> {
     let mounted = mount::<LittleEndian>(alloc, image, LARGE)?;
