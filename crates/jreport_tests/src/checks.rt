@@ -1,6 +1,9 @@
 //! Worked images, with all that `check` says of them.
 
-use crate::images::{BLOCK, CLASH, COMPRESSED, FILE_AS_ROOT, GEOMETRY, OBSOLETE, ONE_BLOCK, OTHER_INODE_2, Raw, SKIPPABLE, image_of, raw_image};
+use crate::images::{
+    BLOCK, CLASH, COMPRESSED, FILE_AS_ROOT, GEOMETRY, OBSOLETE, ONE_BLOCK, OTHER_INODE_2, Raw,
+    SKIPPABLE, image_of, raw_image,
+};
 use byteorder::LittleEndian;
 use flashbase::{FromReader, FromWriter};
 use jreport::{check_lines, verdict_lines};

@@ -1,6 +1,9 @@
 //! Images that are read as a whole: what `check`, `cat` and `ls` write of them, and what they answer.
 
-use crate::images::{CLASH, DAMAGED_INODE_2, FILE_AS_ROOT, GEOMETRY, LARGE, ONE_BLOCK, OTHER_ORDER, Raw, TREE, image_of, raw_image};
+use crate::images::{
+    CLASH, DAMAGED_INODE_2, FILE_AS_ROOT, GEOMETRY, LARGE, ONE_BLOCK, OTHER_ORDER, Raw, TREE,
+    image_of, raw_image,
+};
 use byteorder::LittleEndian;
 use flashbase::{FromReader, FromWriter, LoadFault, Sink, Source};
 use jline::put_escaped;
@@ -9,7 +12,10 @@ use jreport::{ProgramFault, check_lines, content, file_bytes, list_lines, note_l
 use jscan::{Geometry, ScanFault};
 use std::alloc::Global;
 use std::test::Fail;
-use test_support::{ATTRIBUTE, ENTRY_A, FILE, Giver, INODE_2, LITTLE_MARKER, NO_LENGTH, Node, READ_ONLY, SYMLINK, Taker};
+use test_support::{
+    ATTRIBUTE, ENTRY_A, FILE, Giver, INODE_2, LITTLE_MARKER, NO_LENGTH, Node, READ_ONLY, SYMLINK,
+    Taker,
+};
 
 /// What `cat` writes of a path in a mounted image, or its fault.
 fn read(alloc: Global, image: &[u8], path: &[u8]) -> Result<Vec<u8>, ProgramFault<'static>> {
