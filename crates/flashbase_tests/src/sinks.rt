@@ -18,18 +18,38 @@ impl Write for Interrupted {
     }
 }
 
+/// Takes nothing at its first call, and all at each other.
+#[derive(Drop)]
+struct Late {
+    was_asked: bool,
+    bytes: Vec<u8>,
+}
+
+impl Write for Late {
+    fn write(&mut self, buf: &[u8]) -> io::Result<usize> {
+        if !self.was_asked {
+            self.was_asked = true;
+            return Ok(0);
+        }
+        match self.bytes.extend_from_slice(buf) {
+            Ok(()) => Ok(buf.len()),
+            Err(_) => Err(ErrorKind::OutOfMemory.into()),
+        }
+    }
+
+    fn flush(&mut self) -> io::Result<()> {
+        Ok(())
+    }
+}
+
 /// The sink fails once, at each of its calls in turn, and then takes what is left.
 #[test]
 fn a_put_meets_each_failure(rt: HostRuntime) {
     let text = b"abcd".as_slice();
     for is_silent in [false, true] {
         for calls in 0..4usize {
-            let mut sink = Taker {
-                calls,
-                is_silent,
-                failures: u64::MAX,
-                ..Taker::limited(rt.alloc(), 1, usize::MAX)
-            };
+            let mut sink = Taker::failing(rt.alloc(), 1, calls, is_silent);
+            sink.failures = u64::MAX;
             assert_eq!(rt; put_all(&mut sink, b""), Ok(()));
             assert_eq!(rt; put_all(&mut sink, text), Err(PutFault { taken: calls }));
             assert_eq!(rt; sink.failures, 0);
@@ -52,4 +72,15 @@ fn a_put_onto_a_writer(rt: HostRuntime) {
 fn a_put_onto_a_writer_that_fails(rt: HostRuntime) {
     let mut sink = FromWriter::new(Interrupted);
     assert_eq!(rt; put_all(&mut sink, b"xyz"), Err(PutFault { taken: 0 }));
+}
+
+#[test]
+fn a_put_onto_a_writer_that_takes_nothing_once(rt: HostRuntime) {
+    let mut sink = FromWriter::new(Late {
+        was_asked: false,
+        bytes: Vec::new(rt.alloc()),
+    });
+    assert_eq!(rt; put_all(&mut sink, b"xyz"), Err(PutFault { taken: 0 }));
+    assert_eq!(rt; put_all(&mut sink, b"xyz"), Ok(()));
+    assert!(rt; sink.into_writer().bytes.as_slice() == b"xyz".as_slice());
 }

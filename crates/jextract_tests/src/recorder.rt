@@ -11,18 +11,21 @@ use test_support::Taker;
 pub(crate) struct Recorder {
     pub(crate) lines: String,
     pub(crate) calls: u64,
-    /// How many bytes a file takes before it fails.
-    pub(crate) room: usize,
+    /// After how many puts a file fails once.
+    pub(crate) puts: usize,
+    /// Whether that failure is to take nothing, and not an Err.
+    pub(crate) is_silent: bool,
     pub(crate) failures: u64,
     alloc: Global,
 }
 
 impl Recorder {
-    pub(crate) fn new(alloc: Global, calls: u64, room: usize) -> Recorder {
+    pub(crate) fn new(alloc: Global, calls: u64, puts: usize) -> Recorder {
         Recorder {
             lines: String::new(alloc),
             calls,
-            room,
+            puts,
+            is_silent: false,
             failures: 0,
             alloc,
         }
@@ -137,7 +140,7 @@ impl Folder for Recorder {
 
     fn make_file(&mut self, path: &str) -> Result<Taker, FolderFault> {
         self.keep(format!(in self.alloc; "file {path}\n"))?;
-        Ok(Taker::limited(self.alloc, 5, self.room))
+        Ok(Taker::failing(self.alloc, 5, self.puts, self.is_silent))
     }
 
     fn finish_file(

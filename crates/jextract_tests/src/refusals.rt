@@ -1,13 +1,13 @@
 //! Folders that refuse, files that take little, and notes that fail.
 
-use crate::images::{FILE, LARGE, Node, PLAIN, image_of};
+use crate::images::{LARGE, PLAIN, image_of};
 use crate::recorder::{Recorder, is_made_once};
 use byteorder::LittleEndian;
 use flashbase::FromWriter;
 use jextract::{ExtractFault, extract};
 use jmount::mount;
 use std::test::Fail;
-use test_support::Taker;
+use test_support::{FILE, Node, Taker};
 
 /// The call that is refused, what is made, and what is told.
 const ROWS: [(u64, &str, &str); 9] = [
@@ -90,33 +90,37 @@ fn a_folder_that_is_refused(rt: HostRuntime) -> Result<(), Fail> {
     Ok(())
 }
 
+/// A file that fails once, by an Err or by taking nothing, is given up, and no other.
 #[test]
 fn a_file_that_fails(rt: HostRuntime) -> Result<(), Fail> {
     let nodes = [
         Node::Inode(2, FILE, b"1234567"),
-        Node::Inode(3, FILE, b"123456"),
+        Node::Inode(3, FILE, b"12345"),
         Node::Entry(1, 2, b"a"),
         Node::Entry(1, 3, b"b"),
     ];
     let image = image_of(rt.alloc(), &nodes)?;
     let mounted = mount::<LittleEndian>(rt.alloc(), &image, LARGE).map_err(|_| "no mount")?;
-    let mut folder = Recorder::new(rt.alloc(), u64::MAX, 6);
-    let mut notes = FromWriter::new(Vec::new(rt.alloc()));
-    let answer = extract(rt.alloc(), &mounted, false, &mut folder, &mut notes);
-    assert_eq!(rt; answer, Ok(1));
-    assert_eq!(rt; folder.failures, 1);
-    assert_eq!(rt;
-        folder.lines.as_str(),
-        "directory \nfile a\nfile b\ncontent b [123456] 644 7 5\nattributes  755 0 0\n"
-    );
-    assert_eq!(rt;
-        notes.into_writer().as_slice(),
-        b"left out /a: the host refused it\n".as_slice()
-    );
+    for is_silent in [false, true] {
+        let mut folder = Recorder::new(rt.alloc(), u64::MAX, 1);
+        folder.is_silent = is_silent;
+        let mut notes = FromWriter::new(Vec::new(rt.alloc()));
+        let answer = extract(rt.alloc(), &mounted, false, &mut folder, &mut notes);
+        assert_eq!(rt; answer, Ok(1));
+        assert_eq!(rt; folder.failures, 1);
+        assert_eq!(rt;
+            folder.lines.as_str(),
+            "directory \nfile a\nfile b\ncontent b [12345] 644 7 5\nattributes  755 0 0\n"
+        );
+        assert_eq!(rt;
+            notes.into_writer().as_slice(),
+            b"left out /a: the host refused it\n".as_slice()
+        );
+    }
     Ok(())
 }
 
-/// Notes that fail after so many bytes took exactly them.
+/// Notes that fail once after so many bytes, by an Err or by taking nothing, took exactly them.
 #[test]
 fn notes_that_fail(rt: HostRuntime) -> Result<(), Fail> {
     let nodes = [Node::Inode(2, 0o010600, b""), Node::Entry(1, 2, b"p")];
@@ -124,12 +128,14 @@ fn notes_that_fail(rt: HostRuntime) -> Result<(), Fail> {
     let mounted = mount::<LittleEndian>(rt.alloc(), &image, LARGE).map_err(|_| "no mount")?;
     let told = b"left out /p: FIFO\n";
     for limit in 0..told.len() {
-        let mut folder = Recorder::new(rt.alloc(), u64::MAX, usize::MAX);
-        let mut notes = Taker::limited(rt.alloc(), 1, limit);
-        let answer = extract(rt.alloc(), &mounted, false, &mut folder, &mut notes);
-        assert_eq!(rt; answer, Err(ExtractFault::Notes));
-        assert!(rt; notes.took(1, &told[..limit]));
-        assert_eq!(rt; folder.lines.as_str(), "directory \n");
+        for is_silent in [false, true] {
+            let mut folder = Recorder::new(rt.alloc(), u64::MAX, usize::MAX);
+            let mut notes = Taker::failing(rt.alloc(), 1, limit, is_silent);
+            let answer = extract(rt.alloc(), &mounted, false, &mut folder, &mut notes);
+            assert_eq!(rt; answer, Err(ExtractFault::Notes));
+            assert!(rt; notes.took(1, &told[..limit]));
+            assert_eq!(rt; folder.lines.as_str(), "directory \n");
+        }
     }
     Ok(())
 }
@@ -140,7 +146,7 @@ fn a_long_hole(rt: HostRuntime) -> Result<(), Fail> {
     let nodes = [Node::Hole(2, u32::MAX), Node::Entry(1, 2, b"h")];
     let image = image_of(rt.alloc(), &nodes)?;
     let mounted = mount::<LittleEndian>(rt.alloc(), &image, LARGE).map_err(|_| "no mount")?;
-    let mut folder = Recorder::new(rt.alloc(), u64::MAX, 20000);
+    let mut folder = Recorder::new(rt.alloc(), u64::MAX, 4000);
     let mut notes = FromWriter::new(Vec::new(rt.alloc()));
     let answer = extract(rt.alloc(), &mounted, false, &mut folder, &mut notes);
     assert_eq!(rt; answer, Ok(1));

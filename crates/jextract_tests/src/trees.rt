@@ -1,6 +1,6 @@
 //! Worked trees: what is made of them, and what is told.
 
-use crate::images::{DIRECTORY, FILE, HUGE, LARGE, Node, PLAIN, SYMLINK, image_of};
+use crate::images::{HUGE, LARGE, PLAIN, image_of};
 use crate::recorder::{Recorder, is_made_once};
 use byteorder::LittleEndian;
 use flashbase::FromWriter;
@@ -8,6 +8,7 @@ use jextract::extract;
 use jmount::mount;
 use std::alloc::Global;
 use std::test::Fail;
+use test_support::{DIRECTORY, FILE, Node, SYMLINK};
 
 /// What is made of an image, how many objects are left out, and what is told.
 fn extracted(

@@ -27,56 +27,64 @@ fn with_other(kind: u32, time: i64, size: u64, text: &'static str) -> [Object; 2
 const ROOT_TEXT: &str = "attr 755 0 0 0 0 /\n";
 
 #[test]
-fn what_no_listing_says_is_left_out(rt: HostRuntime) {
-    let alloc = rt.alloc();
-    let rows: [([Object; 2], &str); 12] = [
-        (with_other(0o140000, 0, 0, ""), "left out /o: socket\n"),
+fn kinds_that_no_listing_has_are_left_out(rt: HostRuntime) {
+    let rows = [
+        (0o140000, "left out /o: socket\n"),
+        (0o020000, "left out /o: character device\n"),
+        (0o060000, "left out /o: block device\n"),
+        (0o150000, "left out /o: a kind that is not known\n"),
+    ];
+    for (kind, notes) in rows {
+        let objects = with_other(kind, 0, 0, "");
+        assert!(rt; is_read(rt.alloc(), &objects, &AS_TOLD, ROOT_TEXT, notes, 1));
+    }
+}
+
+const NO_TARGET: &str =
+    "left out /o: a target of no bytes, of more than 4095, or with a zero byte\n";
+
+#[test]
+fn targets_that_are_none_are_left_out(rt: HostRuntime) {
+    let rows = [
+        (0, "", NO_TARGET),
+        (1, "a\0", NO_TARGET),
+        (1, "?", "left out /o: no text\n"),
+    ];
+    for (size, text, notes) in rows {
+        let objects = with_other(0o120000, 0, size, text);
+        assert!(rt; is_read(rt.alloc(), &objects, &AS_TOLD, ROOT_TEXT, notes, 1));
+    }
+}
+
+const NO_TIME: &str = "left out /o: a time before 1970 or after 2106\n";
+
+/// Files at a time and of a size, the listing, and the notes.
+#[test]
+fn times_and_sizes_have_an_end(rt: HostRuntime) {
+    let rows = [
         (
-            with_other(0o020000, 0, 0, ""),
-            "left out /o: character device\n",
+            (0, 2147483647, "abc"),
+            "attr 755 0 0 0 0 /\ncreate 0 /o\npart /o 0 host/o\n",
+            "",
         ),
         (
-            with_other(0o060000, 0, 0, ""),
-            "left out /o: block device\n",
-        ),
-        (
-            with_other(0o150000, 0, 0, ""),
-            "left out /o: a kind that is not known\n",
-        ),
-        (
-            with_other(0o100000, 0, 2147483648, ""),
+            (0, 2147483648, ""),
+            ROOT_TEXT,
             "left out /o: more than 2147483647 bytes\n",
         ),
         (
-            with_other(0o100000, -1, 0, ""),
-            "left out /o: a time before 1970 or after 2106\n",
+            (4294967295, 0, ""),
+            "attr 755 0 0 0 0 /\ntime 4294967295\ncreate 0 /o\n",
+            "",
         ),
-        (
-            with_other(0o100000, 4294967296, 0, ""),
-            "left out /o: a time before 1970 or after 2106\n",
-        ),
-        (
-            with_other(0o120000, 0, 0, ""),
-            "left out /o: a target of no bytes, of more than 4095, or with a zero byte\n",
-        ),
-        (
-            with_other(0o120000, 0, 1, "a\0"),
-            "left out /o: a target of no bytes, of more than 4095, or with a zero byte\n",
-        ),
-        (with_other(0o120000, 0, 1, "?"), "left out /o: no text\n"),
-        (with_other(0o100000, 0, 2147483647, "abc"), ""),
-        (with_other(0o100000, 4294967295, 0, ""), ""),
+        ((4294967296, 0, ""), ROOT_TEXT, NO_TIME),
+        ((-1, 0, ""), ROOT_TEXT, NO_TIME),
     ];
-    for (objects, notes) in rows.iter() {
-        if notes.is_empty() {
-            continue;
-        }
-        assert!(rt; is_read(alloc, objects, &AS_TOLD, ROOT_TEXT, notes, 1));
+    for ((time, size, content), text, notes) in rows {
+        let objects = with_other(0o100000, time, size, content);
+        let left_out = u64::from(!notes.is_empty());
+        assert!(rt; is_read(rt.alloc(), &objects, &AS_TOLD, text, notes, left_out));
     }
-    let text = "attr 755 0 0 0 0 /\ncreate 0 /o\npart /o 0 host/o\n";
-    assert!(rt; is_read(alloc, &rows[10].0, &AS_TOLD, text, "", 0));
-    let text = "attr 755 0 0 0 0 /\ntime 4294967295\ncreate 0 /o\n";
-    assert!(rt; is_read(alloc, &rows[11].0, &AS_TOLD, text, "", 0));
 }
 
 #[test]
@@ -153,25 +161,29 @@ fn a_host_that_refuses_a_call(rt: HostRuntime) {
     }
 }
 
+/// The notes fail once, by an Err or by taking nothing, and nothing more is told.
 #[test]
 fn notes_that_fail(rt: HostRuntime) {
     let alloc = rt.alloc();
     let objects = tree();
     for limit in 0..TREE_NOTES.len() {
-        let mut notes = Taker::limited(alloc, 3, limit);
-        match read_folder(
-            alloc,
-            &mut Memory::new(alloc, &objects),
-            &AS_TOLD,
-            &mut notes,
-        ) {
-            Ok(_) => assert!(rt; false),
-            Err(fault) => assert_eq!(rt; fault, ReadFault::Notes),
+        for is_silent in [false, true] {
+            let mut notes = Taker::failing(alloc, 1, limit, is_silent);
+            match read_folder(
+                alloc,
+                &mut Memory::new(alloc, &objects),
+                &AS_TOLD,
+                &mut notes,
+            ) {
+                Ok(_) => assert!(rt; false),
+                Err(fault) => assert_eq!(rt; fault, ReadFault::Notes),
+            }
+            assert!(rt; notes.took(1, &TREE_NOTES.as_bytes()[..limit]));
         }
-        assert!(rt; notes.took(1, &TREE_NOTES.as_bytes()[..limit]));
     }
 }
 
+/// The sink fails once, by an Err or by taking nothing, and nothing more goes out.
 #[test]
 fn a_sink_that_fails(rt: HostRuntime) {
     let alloc = rt.alloc();
@@ -186,9 +198,11 @@ fn a_sink_that_fails(rt: HostRuntime) {
         return assert!(rt; false);
     };
     for limit in 0..TREE_TEXT.len() {
-        let mut sink = Taker::limited(alloc, 7, limit);
-        assert!(rt; put_listing(&read.root, read.items.as_slice(), &mut sink).is_err());
-        assert!(rt; sink.took(1, &TREE_TEXT.as_bytes()[..limit]));
+        for is_silent in [false, true] {
+            let mut sink = Taker::failing(alloc, 1, limit, is_silent);
+            assert!(rt; put_listing(&read.root, read.items.as_slice(), &mut sink).is_err());
+            assert!(rt; sink.took(1, &TREE_TEXT.as_bytes()[..limit]));
+        }
     }
 }
 

@@ -1,15 +1,15 @@
 //! Worked images, with all that `check` says of them.
 
 use crate::images::{
-    BLOCK, CLASH, COMPRESSED, FILE_AS_ROOT, GEOMETRY, Node, OBSOLETE, ONE_BLOCK, OTHER_INODE_2,
-    Raw, SKIPPABLE, image_of, raw_image,
+    BLOCK, CLASH, COMPRESSED, FILE_AS_ROOT, GEOMETRY, OBSOLETE, ONE_BLOCK, OTHER_INODE_2, Raw,
+    SKIPPABLE, image_of, raw_image,
 };
 use byteorder::LittleEndian;
 use flashbase::{FromReader, FromWriter};
 use jreport::{check_lines, verdict_lines};
 use std::alloc::Global;
 use std::test::Fail;
-use test_support::{ATTRIBUTE, INCOMPATIBLE, INODE_2, LITTLE_MARKER, READ_ONLY};
+use test_support::{ATTRIBUTE, INCOMPATIBLE, INODE_2, LITTLE_MARKER, Node, READ_ONLY};
 
 /// What `check` prints of an image, and whether it found anything.
 fn checked(alloc: Global, image: &[u8]) -> Result<(Vec<u8>, bool), &'static str> {

@@ -9,15 +9,6 @@ use std::alloc::Global;
 use std::test::Fail;
 use test_support::{Giver, MADE, Taker};
 
-/// A sink that takes so many bytes a call, and fails once after so many calls.
-fn failing(alloc: Global, most: usize, calls: usize, is_silent: bool) -> Taker {
-    Taker {
-        calls,
-        is_silent,
-        ..Taker::limited(alloc, most, usize::MAX)
-    }
-}
-
 /// Whether a sink that failed once is told of, and nothing went out after the beginning that it took.
 fn is_told(answer: &Result<u64, ProgramFault<'static>>, sink: &Taker, text: &[u8]) -> bool {
     *answer == Err(ProgramFault::Output) && sink.failures == 1 && text.starts_with(&sink.bytes)
@@ -34,7 +25,7 @@ fn count_of_puts(
 ) -> Option<usize> {
     for calls in 0..100usize {
         let mut source = Giver::failing(image, 1000, usize::MAX);
-        let mut sink = failing(alloc, 40, calls, is_silent);
+        let mut sink = Taker::failing(alloc, 40, calls, is_silent);
         let answer = ask(alloc, call, &mut source, GEOMETRY, &mut sink);
         if answer.is_ok() {
             return if sink.took(0, text) {

@@ -200,18 +200,20 @@ fn texts_of_a_listing(rt: HostRuntime) -> Result<(), Fail> {
     Ok(())
 }
 
-/// Whether a sink that fails after so many bytes takes exactly them.
-fn is_cut(alloc: Global, fault: &ProgramFault<'_>, text: &[u8], limit: usize) -> bool {
-    let mut sink = Taker::limited(alloc, 1, limit);
-    let answer = fault_text(fault, &mut sink);
-    answer == Err(PutFault { taken: limit }) && sink.took(1, text)
+/// Whether a sink that fails once after so many bytes takes exactly them.
+fn is_cut(alloc: Global, fault: &ProgramFault<'_>, text: &[u8], is_silent: bool) -> bool {
+    let taken = text.len();
+    let mut sink = Taker::failing(alloc, 1, taken, is_silent);
+    fault_text(fault, &mut sink) == Err(PutFault { taken }) && sink.took(1, text)
 }
 
 #[test]
 fn texts_that_do_not_fit(rt: HostRuntime) {
     for (fault, text) in FAULTS {
         for limit in 0..text.len() {
-            assert!(rt; is_cut(rt.alloc(), &fault, &text.as_bytes()[..limit], limit));
+            let text = &text.as_bytes()[..limit];
+            assert!(rt; is_cut(rt.alloc(), &fault, text, false));
+            assert!(rt; is_cut(rt.alloc(), &fault, text, true));
         }
     }
 }

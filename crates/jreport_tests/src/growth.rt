@@ -5,10 +5,10 @@ use crate::reads::{Call, TREE_CHECKED, TREE_LISTED, ask};
 use byteorder::LittleEndian;
 use flashbase::LoadFault;
 use jmount::{MountFault, mount};
-use jreport::{ProgramFault, path_word, scan_lines, stream_lines, tree_lines};
+use jreport::{ProgramFault, path_word, scan_lines, stream_lines, tree_lines, verdict_lines};
 use jscan::ScanFault;
 use std::alloc::Global;
-use test_support::{Giver, MADE, Matcher};
+use test_support::{Giver, MADE, Matcher, Node};
 
 /// What each call answers of `TREE`, and what it puts.
 const WHOLE: [(Call, u64, &[u8]); 3] = [
@@ -71,6 +71,43 @@ fn circle_fault(alloc: Global) -> Option<ProgramFault<'static>> {
         Ok(()) if sink.rest.is_empty() => None,
         Ok(()) => Some(ProgramFault::Output),
         Err(fault) => Some(fault),
+    }
+}
+
+/// Trees with the verdict on them and on their shape.
+const VERDICTS: [(&[Node<'static>], &[u8]); 2] = [
+    (TREE, b"mount ok\ndangling pino 1 ino 9 name x\nshape ok\n"),
+    (CIRCLE, b"mount ok\nshape broken\n"),
+];
+
+/// Why the verdict on an image is not put; none where it is. Where memory ran out, nothing of it was.
+fn verdict_fault(alloc: Global, image: &[u8], text: &[u8]) -> Option<ProgramFault<'static>> {
+    let mut sink = Matcher {
+        rest: text,
+        failures: 0,
+    };
+    match verdict_lines::<LittleEndian, _>(alloc, image, LARGE, true, &mut sink) {
+        Ok(true) if sink.rest.is_empty() => None,
+        Err(fault) if sink.rest.len() == text.len() => Some(fault),
+        _ => Some(ProgramFault::Output),
+    }
+}
+
+/// Passes with each allocation failing in turn too: memory is then blamed, of the mount or of what is asked of it, and the same
+/// call answers as if there had been none before.
+#[test]
+fn refused_growth_of_verdicts(rt: HostRuntime) {
+    for (nodes, text) in VERDICTS {
+        let Ok(image) = image_of(rt.alloc(), nodes) else {
+            return;
+        };
+        match verdict_fault(rt.alloc(), &image, text) {
+            None => (),
+            Some(ProgramFault::OutOfMemory | ProgramFault::Mount(MountFault::OutOfMemory)) => {
+                assert_eq!(rt; verdict_fault(rt.alloc(), &image, text), None)
+            }
+            Some(other) => assert_eq!(rt; Some(other), None),
+        }
     }
 }
 

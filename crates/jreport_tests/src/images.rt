@@ -1,10 +1,11 @@
 //! Images that the tests read: raw bytes of nodes, and nodes that are written.
 
 use byteorder::LittleEndian;
-use jnode::{Fill, InodeNode, Part, write_entry, write_inode};
 use jscan::Geometry;
 use std::alloc::{AllocError, Global};
-use test_support::{ENTRY_A, LITTLE_MARKER, entry, fill_up};
+use test_support::{
+    Attributes, DIRECTORY, ENTRY_A, FILE, LITTLE_MARKER, Node, SYMLINK, image_of_nodes,
+};
 
 pub(crate) const BLOCK: usize = 4096;
 
@@ -109,66 +110,17 @@ pub(crate) fn raw_image(alloc: Global, raw: Raw) -> Result<Vec<u8>, AllocError> 
     Ok(image)
 }
 
-pub(crate) const DIRECTORY: u32 = 0o040755;
+/// Of an object that is not owned otherwise.
+const PLAIN: Attributes = Attributes {
+    uid: 0,
+    gid: 0,
+    atime: 0,
+    mtime: 0,
+};
 
-pub(crate) const FILE: u32 = 0o100644;
-
-pub(crate) const SYMLINK: u32 = 0o120777;
-
-/// A node of version 1.
-#[derive(Clone, Copy)]
-pub(crate) enum Node<'a> {
-    /// Number, mode, and all the bytes.
-    Inode(u32, u32, &'a [u8]),
-    /// The same, with owner, group and time of change.
-    Owned(u32, u32, &'a [u8], u16, u16, u32),
-    /// Directory, number and name.
-    Entry(u32, u32, &'a [u8]),
-}
-
-fn inode(ino: u32, mode: u32, bytes: &[u8], uid: u16, gid: u16, mtime: u32) -> InodeNode<'_> {
-    let size = u32::try_from(bytes.len()).unwrap_or(u32::MAX);
-    InodeNode {
-        ino,
-        version: 1,
-        mode,
-        uid,
-        gid,
-        isize: size,
-        atime: 0,
-        mtime,
-        ctime: 0,
-        offset: 0,
-        dsize: size,
-        fill: Fill::Data(Part::new(bytes, 0)),
-    }
-}
-
-/// Writes a node, and answers whether it did.
-fn is_written(image: &mut Vec<u8>, node: Node<'_>) -> bool {
-    match node {
-        Node::Inode(ino, mode, bytes) => {
-            write_inode::<LittleEndian>(image, &inode(ino, mode, bytes, 0, 0, 0)).is_ok()
-        }
-        Node::Owned(ino, mode, bytes, uid, gid, mtime) => {
-            write_inode::<LittleEndian>(image, &inode(ino, mode, bytes, uid, gid, mtime)).is_ok()
-        }
-        Node::Entry(pino, ino, name) => {
-            write_entry::<LittleEndian>(image, &entry(pino, 1, ino, name)).is_ok()
-        }
-    }
-}
-
-/// An image of these nodes, each filled up to whole words.
+/// An image of these nodes.
 pub(crate) fn image_of(alloc: Global, nodes: &[Node<'_>]) -> Result<Vec<u8>, &'static str> {
-    let mut image = Vec::new(alloc);
-    for node in nodes {
-        if !is_written(&mut image, *node) {
-            return Err("no node");
-        }
-        fill_up(&mut image).map_err(|_| "no memory")?;
-    }
-    Ok(image)
+    image_of_nodes::<LittleEndian>(alloc, nodes, PLAIN).map_err(|_| "no image")
 }
 
 /// Directory 2 in the root, with the root and itself in it.

@@ -18,4 +18,6 @@ mod reads;
 #[cfg(test)]
 mod reports;
 #[cfg(test)]
+mod sinks;
+#[cfg(test)]
 mod streams;

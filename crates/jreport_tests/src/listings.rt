@@ -1,24 +1,20 @@
 //! Worked trees, with the lines that `ls` prints of them.
 
-use crate::images::{CIRCLE, CIRCLE_LINES, DIRECTORY, FILE, LARGE, Node, SYMLINK, image_of};
+use crate::images::{CIRCLE, CIRCLE_LINES, LARGE, image_of};
 use byteorder::LittleEndian;
-use flashbase::{FromWriter, Sink};
+use flashbase::FromWriter;
 use jmount::mount;
-use jreport::{ProgramFault, put_object, tree_lines};
+use jreport::{put_object, tree_lines};
 use std::alloc::Global;
 use std::test::Fail;
-use test_support::Taker;
-
-fn listed<T: Sink>(alloc: Global, image: &[u8], sink: &mut T) -> Result<(), ProgramFault<'static>> {
-    let mounted = mount::<LittleEndian>(alloc, image, LARGE)?;
-    tree_lines(alloc, &mounted, sink)
-}
+use test_support::{DIRECTORY, FILE, Node, SYMLINK};
 
 /// The lines of an image of these nodes.
 fn lines(alloc: Global, nodes: &[Node<'_>]) -> Result<Vec<u8>, &'static str> {
     let image = image_of(alloc, nodes)?;
+    let mounted = mount::<LittleEndian>(alloc, &image, LARGE).map_err(|_| "no mount")?;
     let mut sink = FromWriter::new(Vec::new(alloc));
-    match listed(alloc, &image, &mut sink) {
+    match tree_lines(alloc, &mounted, &mut sink) {
         Ok(()) => Ok(sink.into_writer()),
         Err(_) => Err("no lines"),
     }
@@ -194,22 +190,6 @@ fn a_line_of_an_object(rt: HostRuntime) -> Result<(), Fail> {
     for (path, again, line) in PATHS {
         let put = object_line(rt.alloc(), path, again).ok_or("no line")?;
         assert_eq!(rt; put.as_slice(), line.as_bytes());
-    }
-    Ok(())
-}
-
-/// Whether a sink that fails after so many bytes takes exactly them.
-fn is_cut(alloc: Global, image: &[u8], text: &[u8], limit: usize) -> bool {
-    let mut sink = Taker::limited(alloc, 1, limit);
-    let answer = listed(alloc, image, &mut sink);
-    answer == Err(ProgramFault::Output) && sink.took(1, text)
-}
-
-#[test]
-fn sinks_that_fail_at_each_byte(rt: HostRuntime) -> Result<(), Fail> {
-    let image = image_of(rt.alloc(), CIRCLE)?;
-    for limit in 0..CIRCLE_LINES.len() {
-        assert!(rt; is_cut(rt.alloc(), &image, &CIRCLE_LINES[..limit], limit));
     }
     Ok(())
 }

@@ -1,8 +1,8 @@
 //! Images that are read as a whole: what `check`, `cat` and `ls` write of them, and what they answer.
 
 use crate::images::{
-    CLASH, DAMAGED_INODE_2, FILE, FILE_AS_ROOT, GEOMETRY, LARGE, Node, ONE_BLOCK, OTHER_ORDER, Raw,
-    SYMLINK, TREE, image_of, raw_image,
+    CLASH, DAMAGED_INODE_2, FILE_AS_ROOT, GEOMETRY, LARGE, ONE_BLOCK, OTHER_ORDER, Raw, TREE,
+    image_of, raw_image,
 };
 use byteorder::LittleEndian;
 use flashbase::{FromReader, FromWriter, LoadFault, Sink, Source};
@@ -13,7 +13,8 @@ use jscan::{Geometry, ScanFault};
 use std::alloc::Global;
 use std::test::Fail;
 use test_support::{
-    ATTRIBUTE, ENTRY_A, Giver, INODE_2, LITTLE_MARKER, NO_LENGTH, READ_ONLY, Taker,
+    ATTRIBUTE, ENTRY_A, FILE, Giver, INODE_2, LITTLE_MARKER, NO_LENGTH, Node, READ_ONLY, SYMLINK,
+    Taker,
 };
 
 /// What `cat` writes of a path in a mounted image, or its fault.

@@ -4,13 +4,12 @@ use crate::images::{BLOCK, GEOMETRY, OBSOLETE, OBSOLETE_A, ONE_BLOCK, Raw, SKIPP
 use crate::streams::streamed;
 use byteorder::{BigEndian, LittleEndian};
 use jnode::{Endian, Order};
-use jreport::{Lines, ReportFault, put_report, scan_lines};
+use jreport::{Lines, scan_lines};
 use jscan::{Geometry, ScanFault};
 use std::alloc::Global;
 use std::test::Fail;
 use test_support::{
     ATTRIBUTE, ENTRY_A, INCOMPATIBLE, INODE_2, LENGTH_13, LITTLE_MARKER, NO_LENGTH, READ_ONLY,
-    Taker,
 };
 
 /// Whether a source of the image's bytes has this report, however it cuts them.
@@ -254,21 +253,4 @@ fn block_sizes_that_are_refused(rt: HostRuntime) {
         let lines = scan_lines::<LittleEndian>(rt.alloc(), &[], Geometry { block });
         assert!(rt; matches!(lines, Err(ScanFault::BlockSize)));
     }
-}
-
-/// Whether a sink that fails after so many bytes takes exactly the beginning of the report.
-fn is_cut(alloc: Global, image: &[u8], whole: &[u8], limit: usize) -> bool {
-    let mut sink = Taker::limited(alloc, 1, limit);
-    let answer = put_report::<LittleEndian, Taker>(image, GEOMETRY, &mut sink);
-    answer == Err(ReportFault::Output) && sink.took(1, &whole[..limit.min(whole.len())])
-}
-
-#[test]
-fn a_sink_that_fails(rt: HostRuntime) -> Result<(), Fail> {
-    let image = raw_image(rt.alloc(), ONE_BLOCK)?;
-    let whole = report::<LittleEndian>(rt.alloc(), &image)?.text;
-    for limit in [0, 7, 8, 30, 147] {
-        assert!(rt; is_cut(rt.alloc(), &image, &whole, limit));
-    }
-    Ok(())
 }

@@ -1,15 +1,14 @@
-//! Reports of sources that give their bytes in pieces, of sources that fail, and into sinks that fail.
+//! Reports of sources that give their bytes in pieces, and of sources that fail.
 
 use crate::images::{GEOMETRY, TWO_BLOCKS, raw_image};
-use crate::reports::report;
 use byteorder::{BigEndian, LittleEndian};
-use flashbase::{FromReader, FromWriter, LoadFault, Source};
+use flashbase::{FromWriter, LoadFault, Source};
 use jnode::Order;
 use jreport::{ProgramFault, stream_lines};
 use jscan::{GREATEST_BLOCK, GREATEST_IMAGE, Geometry, ScanFault};
 use std::alloc::Global;
 use std::test::Fail;
-use test_support::{Giver, Long, Taker};
+use test_support::{Giver, Long};
 
 /// What is answered of a source, and what goes out.
 type Answer = (Result<u64, ProgramFault<'static>>, Vec<u8>);
@@ -52,24 +51,6 @@ fn a_source_that_fails(rt: HostRuntime) -> Result<(), Fail> {
             assert_eq!(rt; answer, Err(ProgramFault::Load(LoadFault::Device)));
             assert_eq!(rt; put.as_slice(), text.as_bytes());
         }
-    }
-    Ok(())
-}
-
-/// Whether a sink that fails after so many bytes takes exactly them.
-fn is_cut(alloc: Global, image: &[u8], text: &[u8], limit: usize) -> bool {
-    let mut sink = Taker::limited(alloc, 1, limit);
-    let source = FromReader::new(image);
-    let answer = stream_lines::<LittleEndian, _, _>(alloc, source, GEOMETRY, &mut sink);
-    answer == Err(ProgramFault::Output) && sink.took(1, text)
-}
-
-#[test]
-fn a_sink_that_fails_at_each_byte(rt: HostRuntime) -> Result<(), Fail> {
-    let image = raw_image(rt.alloc(), TWO_BLOCKS)?;
-    let whole = report::<LittleEndian>(rt.alloc(), &image)?.text;
-    for limit in 0..whole.len() {
-        assert!(rt; is_cut(rt.alloc(), &image, &whole[..limit], limit));
     }
     Ok(())
 }

@@ -17,16 +17,9 @@ fn text_of<'a>(part: &Part<'a>) -> &'a str {
     str::from_utf8(part.present()).unwrap_or("?")
 }
 
-/// Appends a step.
-fn put_step(text: &mut String, step: &Step<'_>) -> Result<(), Fail> {
+/// Appends what a step says of a name.
+fn put_naming(text: &mut String, step: &Step<'_>) -> Result<(), Fail> {
     match step {
-        Step::MakeObject {
-            mode,
-            uid,
-            gid,
-            target,
-            ..
-        } => write!(text, "make {mode:o} {uid} {gid} [{}]", text_of(target))?,
         Step::SetName {
             directory,
             name,
@@ -38,6 +31,43 @@ fn put_step(text: &mut String, step: &Step<'_>) -> Result<(), Fail> {
             name,
             ..
         } => write!(text, "clear {directory} {}", text_of(name))?,
+        _ => (),
+    }
+    Ok(())
+}
+
+/// Appends the attributes of an object from a time on.
+fn put_attributes(
+    text: &mut String,
+    ino: u32,
+    attributes: &Attributes,
+    time: u32,
+) -> Result<(), Fail> {
+    let Attributes {
+        mode,
+        uid,
+        gid,
+        atime,
+        mtime,
+    } = attributes;
+    write!(
+        text,
+        "attr {ino} {mode:o} {uid} {gid} {atime} {mtime} {time}"
+    )?;
+    Ok(())
+}
+
+/// Appends a step.
+fn put_step(text: &mut String, step: &Step<'_>) -> Result<(), Fail> {
+    match step {
+        Step::MakeObject {
+            mode,
+            uid,
+            gid,
+            target,
+            ..
+        } => write!(text, "make {mode:o} {uid} {gid} [{}]", text_of(target))?,
+        Step::SetName { .. } | Step::ClearName { .. } => put_naming(text, step)?,
         Step::Put {
             ino,
             offset,
@@ -50,19 +80,7 @@ fn put_step(text: &mut String, step: &Step<'_>) -> Result<(), Fail> {
             time,
             ino,
             attributes,
-        } => {
-            let Attributes {
-                mode,
-                uid,
-                gid,
-                atime,
-                mtime,
-            } = attributes;
-            write!(
-                text,
-                "attr {ino} {mode:o} {uid} {gid} {atime} {mtime} {time}"
-            )?;
-        }
+        } => put_attributes(text, *ino, attributes, *time)?,
     }
     Ok(())
 }

@@ -34,6 +34,16 @@ impl Taker {
         }
     }
 
+    /// Takes at most `most` bytes a call, and fails once after so many calls: by taking nothing where it is silent, and else by an
+    /// Err.
+    pub fn failing(alloc: Global, most: usize, calls: usize, is_silent: bool) -> Taker {
+        Taker {
+            calls,
+            is_silent,
+            ..Taker::limited(alloc, most, usize::MAX)
+        }
+    }
+
     /// Whether it failed so often, and took exactly this.
     pub fn took(&self, failures: u64, bytes: &[u8]) -> bool {
         self.failures == failures && self.bytes.as_slice() == bytes

@@ -9,7 +9,10 @@ mod images;
 mod nodes;
 
 pub use crate::devices::{Counter, Giver, Long, Matcher, Taker};
-pub use crate::images::{Tree, entry, fill_up, image_of, object};
+pub use crate::images::{
+    Attributes, DIRECTORY, FILE, Node, SYMLINK, Tree, entry, fill_up, image_of, image_of_nodes,
+    object,
+};
 pub use crate::nodes::{
     ATTRIBUTE, BIG_ENTRY_A, BIG_MARKER, CUT_PLACES, ENTRY_A, FORBIDS, INCOMPATIBLE, INODE_2,
     LENGTH_13, LITTLE_MARKER, MADE, NO_LENGTH, READ_ONLY, are_made, is_erased,

@@ -1,0 +1,150 @@
+//! Sinks that fail once, at each byte of a text, and then work again: what each call that writes text answers, and what went out.
+
+use crate::images::{BLOCK, GEOMETRY, TREE, image_of};
+use byteorder::LittleEndian;
+use flashbase::{FromReader, PutFault};
+use jline::{put_escaped, put_in_line, put_text};
+use jmount::{FindFault, mount};
+use jreport::{
+    ProgramFault, content, fault_line, fault_text, note_line, put_object, put_report, stream_lines,
+    tree_lines, verdict_lines,
+};
+use std::alloc::Global;
+use std::test::Fail;
+use test_support::{LITTLE_MARKER, Taker};
+
+/// What is written: of an image, or of bytes alone.
+#[derive(Clone, Copy, Debug)]
+enum Text {
+    Report,
+    Stream,
+    Verdict,
+    Tree,
+    Object,
+    Content,
+    Note,
+    Fault,
+    FaultLine,
+    Plain,
+    Escaped,
+    InLine,
+}
+
+const TEXTS: [Text; 12] = [
+    Text::Report,
+    Text::Stream,
+    Text::Verdict,
+    Text::Tree,
+    Text::Object,
+    Text::Content,
+    Text::Note,
+    Text::Fault,
+    Text::FaultLine,
+    Text::Plain,
+    Text::Escaped,
+    Text::InLine,
+];
+
+const FAULT: ProgramFault<'static> = ProgramFault::Path(FindFault::NotFound);
+
+const BYTES: &[u8] = b"a /\\\n\xff";
+
+/// Puts what is written of a mounted image.
+fn put_mounted(
+    alloc: Global,
+    text: Text,
+    image: &[u8],
+    sink: &mut Taker,
+) -> Result<(), ProgramFault<'static>> {
+    let mounted = mount::<LittleEndian>(alloc, image, GEOMETRY)?;
+    match text {
+        Text::Object => match mounted.object(4) {
+            Some(object) => Ok(put_object(&mounted, &[b"s"], 4, &object, true, sink)?),
+            None => Err(FAULT),
+        },
+        Text::Content => content(&mounted, b"/d/f", sink),
+        _ => tree_lines(alloc, &mounted, sink),
+    }
+}
+
+/// Whether the put that failed after so many bytes says so.
+fn put_of(answer: Result<(), PutFault>, taken: usize) -> Result<(), ProgramFault<'static>> {
+    match answer {
+        Ok(()) => Ok(()),
+        Err(fault) if fault.taken == taken => Err(ProgramFault::Output),
+        Err(_) => Err(FAULT),
+    }
+}
+
+fn put(
+    alloc: Global,
+    text: Text,
+    image: &[u8],
+    sink: &mut Taker,
+) -> Result<(), ProgramFault<'static>> {
+    match text {
+        Text::Report => {
+            put_report::<LittleEndian, _>(image, GEOMETRY, sink)?;
+        }
+        Text::Stream => {
+            stream_lines::<LittleEndian, _, _>(alloc, FromReader::new(image), GEOMETRY, sink)?;
+        }
+        Text::Verdict => {
+            verdict_lines::<LittleEndian, _>(alloc, image, GEOMETRY, true, sink)?;
+        }
+        Text::Tree | Text::Object | Text::Content => put_mounted(alloc, text, image, sink)?,
+        Text::Note => note_line(17, sink)?,
+        Text::Fault => {
+            let answer = fault_text(&FAULT, sink);
+            put_of(answer, sink.bytes.len())?;
+        }
+        Text::FaultLine => fault_line(&FAULT, sink)?,
+        Text::Plain => put_text(sink, BYTES)?,
+        Text::Escaped => put_escaped(sink, BYTES)?,
+        Text::InLine => put_in_line(sink, BYTES)?,
+    }
+    Ok(())
+}
+
+/// Whether a sink that takes one byte a call, and fails once after so many, is told of, and takes nothing more. The same call then
+/// puts all.
+fn is_told(
+    alloc: Global,
+    text: Text,
+    image: &[u8],
+    whole: &[u8],
+    calls: usize,
+    is_silent: bool,
+) -> bool {
+    let mut sink = Taker::failing(alloc, 1, calls, is_silent);
+    let answer = put(alloc, text, image, &mut sink);
+    if answer != Err(ProgramFault::Output) || sink.failures != 1 || sink.bytes.len() != calls {
+        return false;
+    }
+    let is_beginning = whole.starts_with(&sink.bytes);
+    sink.bytes.clear();
+    is_beginning && put(alloc, text, image, &mut sink).is_ok() && sink.took(1, whole)
+}
+
+/// The image has two blocks.
+#[test]
+fn texts_onto_sinks_that_fail_once(rt: HostRuntime) -> Result<(), Fail> {
+    let mut image = image_of(rt.alloc(), TREE)?;
+    image.resize(BLOCK, 0xFF)?;
+    image.extend_from_slice(&LITTLE_MARKER)?;
+    for text in TEXTS {
+        let mut sink = Taker::new(rt.alloc());
+        assert_eq!(rt; put(rt.alloc(), text, &image, &mut sink), Ok(()));
+        let whole = sink.bytes;
+        assert!(rt; !whole.is_empty());
+        for calls in 0..whole.len() {
+            for is_silent in [false, true] {
+                assert!(rt;
+                    is_told(rt.alloc(), text, &image, &whole, calls, is_silent),
+                    "{text:?} after {calls}"
+                );
+            }
+        }
+    }
+    Ok(())
+}
