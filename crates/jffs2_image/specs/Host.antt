@@ -75,11 +75,11 @@ RunsFiles told page e size blocks base text old new (Err _) = Unit {0}
 
 -- ---- the file that is made
 
--- a file of this name was made, empty, after those that were made before, where their names are told
+-- a file of this name was made after those that were made before, where their names are told
 abbrev pub MakesFile : List ℕ → Option (List (List ℕ)) → Option (List (List ℕ)) → Type 0
 MakesFile name old new = new ≡ option_map (λ names. names ++ (name ∷ [])) old
 
--- it was made also where there is then no memory to write it: it stays empty
+-- it was made also where there is then no memory to write it
 abbrev pub MakesBy : {T : Type 0} → List ℕ → Option (List (List ℕ)) → Option (List (List ℕ)) → Result T MakeFault → Type 0
 MakesBy name old new (Ok made) = MakesFile name old new
 MakesBy name old new (Err make.OutOfMemory) = MakesFile name old new
