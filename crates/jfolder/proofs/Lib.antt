@@ -2,6 +2,7 @@ pub mod WordLemmas
 pub mod SeenLemmas
 pub mod LineLemmas
 pub mod ReadLemmas
+pub mod ReasonLemmas
 pub mod ListingLemmas
 pub mod PutLemmas
 pub mod OrderLemmas

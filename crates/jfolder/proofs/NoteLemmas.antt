@@ -10,6 +10,7 @@ use Rattle.jfolder.specs.Known.{Known}
 use Rattle.jfolder.specs.Notes.{Tells, TellsMore, left_out_line, left_out_text}
 use Rattle.jfolder.specs.declared.fault.ReadFault.{ReadFault}
 use Rattle.jfolder.specs.declared.fault.ReadFault.TheVariants as fault
+use Rattle.jfolder.specs.declared.found.Options.{Options}
 use Rattle.jfolder.specs.declared.reading.Folder.{Folder}
 
 -- all of what is told up to here went out
@@ -87,13 +88,13 @@ told_same F G a b x y j k m n e f follows p =
 
 -- ---- a whole reading
 
-read_failed_at : (X : Type 0) (G : X → List LeftOut → Type 0) (known : Known) (a b : Option (List ℕ)) (x y k m : ℕ) (e : ReadFault) → TellsMore G a b x y k m (Err e)
-    → Tells known a b x y (Err e)
-read_failed_at X G known a b x y k m fault.Notes p = p
-read_failed_at X G known a b x y k m (fault.Folder why) p = absurd p
-read_failed_at X G known a b x y k m fault.OutOfMemory p = p
+read_failed_at : (X : Type 0) (G : X → List LeftOut → Type 0) (known : Known) (options : Options) (a b : Option (List ℕ)) (x y k m : ℕ) (e : ReadFault) → TellsMore G a b x y k m (Err e)
+    → Tells known options a b x y (Err e)
+read_failed_at X G known options a b x y k m fault.Notes p = p
+read_failed_at X G known options a b x y k m (fault.Folder why) p = absurd p
+read_failed_at X G known options a b x y k m fault.OutOfMemory p = p
 
-pub read_failed : (X : Type 0) (G : X → List LeftOut → Type 0) (known : Known) (a b : Option (List ℕ)) (x y k m : ℕ) (e v : ReadFault) (r : Result Folder ReadFault) → r ≡ Err v → v ≡ e
-    → TellsMore G a b x y k m (Err e) → Tells known a b x y r
-read_failed X G known a b x y k m e v r is same p =
-    subst (λ (s : Result Folder ReadFault). Tells known a b x y s) (sym (is ∙ ap (λ (f : ReadFault). Err f) same)) (read_failed_at X G known a b x y k m e p)
+pub read_failed : (X : Type 0) (G : X → List LeftOut → Type 0) (known : Known) (options : Options) (a b : Option (List ℕ)) (x y k m : ℕ) (e v : ReadFault) (r : Result Folder ReadFault) → r ≡ Err v → v ≡ e
+    → TellsMore G a b x y k m (Err e) → Tells known options a b x y r
+read_failed X G known options a b x y k m e v r is same p =
+    subst (λ (s : Result Folder ReadFault). Tells known options a b x y s) (sym (is ∙ ap (λ (f : ReadFault). Err f) same)) (read_failed_at X G known options a b x y k m e p)

@@ -6,6 +6,7 @@ pub mod Notes
 pub mod Objects
 pub mod Order
 pub mod Pieces
+pub mod Reasons
 pub mod Text
 pub mod Trees
 pub mod Walking

@@ -1,13 +1,15 @@
 -- What is told of what a listing leaves out.
-use Rattle.std.specs.Prelude.{◌≡◌, ◌+◌, ◌%◌, ◌^◌, ℕ, List, ◌++◌, length, codes, Option, Result, Ok, Err}
+use Rattle.std.specs.Prelude.{◌≡◌, ◌+◌, ◌%◌, ◌^◌, ℕ, List, ◌++◌, length, codes, All, Option, Result, Ok, Err}
 use Rattle.std.specs.List.{flat_map}
 use Rattle.std.specs.Io.KnownBytes.{Appends}
 use Rattle.flashbase.specs.Device.{PutsPart, next_count}
 use Rattle.jfolder.specs.Complete.{IsComplete, LeftOut}
 use Rattle.jfolder.specs.Known.{Known}
+use Rattle.jfolder.specs.Reasons.{IsRight, IsRootWhy}
 use Rattle.jfolder.specs.Text.{word_of}
 use Rattle.jfolder.specs.declared.fault.ReadFault.{ReadFault}
 use Rattle.jfolder.specs.declared.fault.ReadFault.TheVariants as fault
+use Rattle.jfolder.specs.declared.found.Options.{Options}
 use Rattle.jfolder.specs.declared.reading.Folder.{Folder}
 use Rattle.jfolder.specs.declared.reason.Reason.{Reason}
 use Rattle.jfolder.specs.declared.reason.Reason.TheVariants as reason
@@ -44,11 +46,11 @@ TellsMore fits old new before now count total (Err fault.Notes) = ((lefts : List
 TellsMore fits old new before now count total (Err fault.OutOfMemory) = ((lefts : List LeftOut) × Appends old new (left_out_text lefts)) × (now ≡ before)
 TellsMore fits old new before now count total (Err (fault.Folder why)) = ⊥
 
--- A reading tells of the paths that it leaves out, and counts them modulo 2^64; each path that the host tells of is read, or is one of them. Where
--- the folder itself is at fault it tells nothing.
-abbrev pub Tells : Known → Option (List ℕ) → Option (List ℕ) → ℕ → ℕ → Result Folder ReadFault → Type 0
-Tells known old new before now (Ok read) = (lefts : List LeftOut) × Appends old new (left_out_text lefts) × (now ≡ before) × (read.left_out ≡ length lefts % 2 ^ 64)
-    × IsComplete known read.items.items lefts
-Tells known old new before now (Err (fault.Folder why)) = (new ≡ old) × (now ≡ before)
-Tells known old new before now (Err fault.Notes) = ((lefts : List LeftOut) × PutsPart old new (left_out_text lefts)) × (now ≡ next_count before)
-Tells known old new before now (Err fault.OutOfMemory) = ((lefts : List LeftOut) × Appends old new (left_out_text lefts)) × (now ≡ before)
+-- A reading tells of the paths that it leaves out, each for a reason that is right, and counts them modulo 2^64; each path that the host tells of is
+-- read, or is one of them. Where the folder itself is at fault it tells nothing.
+abbrev pub Tells : Known → Options → Option (List ℕ) → Option (List ℕ) → ℕ → ℕ → Result Folder ReadFault → Type 0
+Tells known options old new before now (Ok read) = (lefts : List LeftOut) × Appends old new (left_out_text lefts) × (now ≡ before) × (read.left_out ≡ length lefts % 2 ^ 64)
+    × IsComplete known read.items.items lefts × All (IsRight known options read.items.items) lefts
+Tells known options old new before now (Err (fault.Folder why)) = (new ≡ old) × (now ≡ before) × IsRootWhy known options why
+Tells known options old new before now (Err fault.Notes) = ((lefts : List LeftOut) × PutsPart old new (left_out_text lefts)) × (now ≡ next_count before)
+Tells known options old new before now (Err fault.OutOfMemory) = ((lefts : List LeftOut) × Appends old new (left_out_text lefts)) × (now ≡ before)

@@ -86,3 +86,7 @@ pub record WalkFits (known : Known) (options : Options) (items : List Item) (pen
   pub told : All (IsItemTold known.looked options) items
   pub objects : All (IsObjectTold known) items
   pub pending_fit : All (λ p. IsPending items (string_bytes p)) pending
+
+-- items were added behind these
+abbrev pub IsMore : List Item → List Item → Type 0
+IsMore items new = (more : List Item) × (new ≡ items ++ more)

@@ -1,10 +1,11 @@
 //! What lies at a path of a folder of the host.
 
-ghost use Rattle.std.specs.Prelude.{◌≡◌, ◌<◌, [], pos, All, IfNone, IfOk, IfSome, IsSome, IsTrue};
+ghost use Rattle.std.specs.Prelude.{◌≡◌, ◌<◌, [], pos, All, IfErr, IfNone, IfOk, IfSome, IsSome, IsTrue};
 ghost use Rattle.std.specs.String.{string_bytes};
 ghost use Rattle.jfolder.specs.Actions.{AttributesFit, ContentFits, IsFileWord, WhatFits};
 ghost use Rattle.jfolder.specs.Complete.{NamesFit};
 ghost use Rattle.jfolder.specs.Objects.{HasContent, HasObject, IsOfKind, SizeFits, kind_bits, kind_number};
+ghost use Rattle.jfolder.specs.Reasons.{IsAttributesWhy, IsContentWhy, IsKindWhy, IsObjectWhy, IsTargetWhy, IsWhy, SkipsFor};
 ghost use Rattle.jfolder.specs.Trees.{HasTarget, LinksBack};
 ghost use Rattle.jfolder.specs.Walking.{FoundFits, HasOptions, IsTold};
 
@@ -52,6 +53,10 @@ impl From<Reason> for Skip {
 }
 
 impl From<FolderFault> for Skip {
+    ghost use Rattle.jfolder.specs.Reasons.{skip_of};
+
+    ghost from_gives = { λ fault skip. skip ≡ skip_of fault };
+
     fn from(fault: FolderFault) -> Skip {
         match fault {
             FolderFault::Refused => Skip::LeftOut(Reason::Refused),
@@ -62,12 +67,20 @@ impl From<FolderFault> for Skip {
 }
 
 impl From<AllocError> for Skip {
+    ghost use Rattle.jfolder.specs.declared.found.Skip.TheVariants.{OutOfMemory};
+
+    ghost from_gives = { λ _ skip. skip ≡ OutOfMemory };
+
     fn from(_error: AllocError) -> Skip {
         Skip::OutOfMemory
     }
 }
 
 impl<T: Drop> From<AllocFailed<T>> for Skip {
+    ghost use Rattle.jfolder.specs.declared.found.Skip.TheVariants.{OutOfMemory};
+
+    ghost from_gives = { λ _ skip. skip ≡ OutOfMemory };
+
     fn from(_error: AllocFailed<T>) -> Skip {
         Skip::OutOfMemory
     }
@@ -83,7 +96,8 @@ pub enum HostKind {
 
 /// The kind that bits 12 to 15 of a mode say.
 pub fn kind_of(mode: u32) -> Result<HostKind, Reason>
-    ensures { IfOk result (λ kind. kind_bits mode ≡ kind_number kind) }
+    ensures kind { IfOk result (λ kind. kind_bits mode ≡ kind_number kind) }
+    ensures why { IfErr result (IsKindWhy (kind_bits mode)) }
 {
     match (mode >> 12) & 0xF {
         4 => Ok(HostKind::Directory),
@@ -101,6 +115,7 @@ pub fn kind_of(mode: u32) -> Result<HostKind, Reason>
 fn owner_of(looked: &Looked, options: &Options) -> Result<Owner, Reason>
     ensures given { IfOk result (λ owner. IfSome options.now.owner (λ given. owner ≡ given)) }
     ensures own { IfOk result (λ owner. IfNone options.now.owner ((owner.uid ≡ looked.now.uid) × (owner.gid ≡ looked.now.gid))) }
+    ensures why { IfErr result (IsAttributesWhy options.now looked.now) }
 {
     if let Some(owner) = options.owner {
         return Ok(owner);
@@ -118,6 +133,7 @@ fn owner_of(looked: &Looked, options: &Options) -> Result<Owner, Reason>
 fn time_of(looked: &Looked, options: &Options) -> Result<u32, Reason>
     ensures given { IfOk result (λ time. IfSome options.now.time (λ given. time ≡ given)) }
     ensures own { IfOk result (λ time. IfNone options.now.time (pos time ≡ looked.now.time)) }
+    ensures why { IfErr result (IsAttributesWhy options.now looked.now) }
 {
     if let Some(time) = options.time {
         return Ok(time);
@@ -134,6 +150,7 @@ pub fn attributes_of(looked: &Looked, options: &Options) -> Result<Attributes, R
     ensures fit { IfOk result AttributesFit }
     ensures options { IfOk result (HasOptions options.now) }
     ensures told { IfOk result (IsTold options.now looked.now) }
+    ensures why { IfErr result (IsAttributesWhy options.now looked.now) }
 {
     let owner = owner_of(looked, options)?;
     let time = time_of(looked, options)?;
@@ -147,7 +164,8 @@ pub fn attributes_of(looked: &Looked, options: &Options) -> Result<Attributes, R
 
 /// Whether a listing can have the name of a file of the host.
 fn is_file_word(name: &[u8]) -> bool
-    ensures { IsTrue result → IsFileWord name.now }
+    ensures word { IsTrue result → IsFileWord name.now }
+    ensures every { IsFileWord name.now → IsTrue result }
 {
     !name.is_empty() && name.iter().all(|byte| *byte != b' ' && *byte != b'\n')
 }
@@ -164,6 +182,7 @@ pub fn content_of<F: HostFolder>(folder: &mut F, path: &str, size: u64) -> Resul
     ensures fits { IfOk result ContentFits }
     ensures size { IfOk result (SizeFits size) }
     ensures told { IfOk result (HasContent (F.known folder.old) path.now) }
+    ensures why { IfErr result (SkipsFor (IsContentWhy (F.known folder.old) path.now size)) }
     ensures kept { F.known folder.new ≡ F.known folder.old }
 {
     if size > MAX_SIZE as u64 {
@@ -188,6 +207,7 @@ pub fn content_of<F: HostFolder>(folder: &mut F, path: &str, size: u64) -> Resul
 fn target_of<F: HostFolder>(folder: &mut F, path: &str) -> Result<String, Skip>
     ensures fits { IfOk result (λ target. HasTarget (What.Symlink target)) }
     ensures told { IfOk result (λ target. HasObject (F.known folder.old) path.now (What.Symlink target)) }
+    ensures why { IfErr result (SkipsFor (IsTargetWhy (F.known folder.old) path.now)) }
     ensures kept { F.known folder.new ≡ F.known folder.old }
 {
     let target = folder.target(path)?;
@@ -233,6 +253,7 @@ fn object_of<F: HostFolder>(
     ensures names { IfOk result (λ object. NamesFit ((F.known folder.old).names path.now) object.0 object.1) }
     ensures kind { IfOk result (λ object. IsOfKind looked.now object.0) }
     ensures object { IfOk result (λ object. HasObject (F.known folder.old) path.now object.0) }
+    ensures why { IfErr result (SkipsFor (IsObjectWhy (F.known folder.old) path.now looked.now)) }
     ensures kept { F.known folder.new ≡ F.known folder.old }
 {
     match kind {
@@ -259,6 +280,7 @@ pub fn first_found<F: HostFolder>(
     ensures names { IfOk result (λ found. NamesFit ((F.known folder.old).names path.now) found.what found.names) }
     ensures kind { IfOk result (λ found. IsOfKind looked.now found.what) }
     ensures object { IfOk result (λ found. HasObject (F.known folder.old) path.now found.what) }
+    ensures why { IfErr result (SkipsFor (IsWhy (F.known folder.old) options.now path.now looked.now)) }
     ensures kept { F.known folder.new ≡ F.known folder.old }
 {
     let kind = kind_of(looked.mode)?;
@@ -279,6 +301,7 @@ pub fn link_to(first: String, looked: &Looked, options: &Options) -> Result<Foun
     ensures told { IfOk result (λ found. IsTold options.now looked.now found.attributes) }
     ensures what { IfOk result (λ found. found.what ≡ What.Link first) }
     ensures names { IfOk result (λ found. found.names ≡ None) }
+    ensures why { IfErr result (SkipsFor (IsAttributesWhy options.now looked.now)) }
 {
     let attributes = attributes_of(looked, options)?;
     Ok(Found {

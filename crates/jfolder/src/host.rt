@@ -1,8 +1,9 @@
 //! A folder of the host, as it is read.
 
-ghost use Rattle.std.specs.Prelude.{◌≡◌, IfOk, IfSome};
+ghost use Rattle.std.specs.Prelude.{◌≡◌, IfErr, IfOk, IfSome};
 ghost use Rattle.std.specs.String.{string_bytes};
 ghost use Rattle.jfolder.specs.Known.{AreBytesOf, Known, named_of};
+ghost use Rattle.jfolder.specs.Reasons.{IsUnread, IsUntold};
 
 use crate::fault::FolderFault;
 
@@ -28,7 +29,7 @@ pub struct Names {
 }
 
 /// A folder of the host that is read. A path is that of an object in it, names with a slash between two; the empty path is the
-/// folder itself. No call follows a symlink that a path ends in.
+/// folder itself. No call follows a symlink that a path ends in. A call that refuses has nothing that is known to tell.
 pub trait HostFolder {
     /// What is known of what it tells at each path. No call changes it.
     ghost known: { Self → Known };
@@ -36,26 +37,31 @@ pub trait HostFolder {
     /// What the host tells of an object.
     fn look(&mut self, path: &str) -> Result<Looked, FolderFault>
         ensures kept { known self.new ≡ known self.old }
-        ensures told { IfOk result (λ it. IfSome ((known self.old).looked path.now) (λ told. it ≡ told)) };
+        ensures told { IfOk result (λ it. IfSome ((known self.old).looked path.now) (λ told. it ≡ told)) }
+        ensures untold { IfErr result (IsUntold ((known self.old).looked path.now)) };
 
     /// The names in a directory.
     fn names(&mut self, path: &str) -> Result<Names, FolderFault>
         ensures kept { known self.new ≡ known self.old }
-        ensures told { IfOk result (λ it. IfSome ((known self.old).names path.now) (λ told. named_of it ≡ told)) };
+        ensures told { IfOk result (λ it. IfSome ((known self.old).names path.now) (λ told. named_of it ≡ told)) }
+        ensures untold { IfErr result (IsUntold ((known self.old).names path.now)) };
 
     /// The target of a symlink.
     fn target(&mut self, path: &str) -> Result<String, FolderFault>
         ensures kept { known self.new ≡ known self.old }
-        ensures told { IfOk result (λ it. IfSome ((known self.old).target path.now) (λ told. string_bytes it ≡ told)) };
+        ensures told { IfOk result (λ it. IfSome ((known self.old).target path.now) (λ told. string_bytes it ≡ told)) }
+        ensures untold { IfErr result (IsUntold ((known self.old).target path.now)) };
 
     /// The bytes of a regular file. One that has more than `limit` is refused, or gives more than `limit` bytes. It is asked only
     /// where the name of the file is no word of a listing.
     fn bytes(&mut self, path: &str, limit: usize) -> Result<Vec<u8>, FolderFault>
         ensures kept { known self.new ≡ known self.old }
-        ensures told { IfOk result (λ it. IfSome ((known self.old).bytes path.now) (λ told. AreBytesOf told limit it.items)) };
+        ensures told { IfOk result (λ it. IfSome ((known self.old).bytes path.now) (λ told. AreBytesOf told limit it.items)) }
+        ensures untold { IfErr result (IsUnread ((known self.old).bytes path.now) limit) };
 
     /// The name by which another program opens the file.
     fn host_path(&mut self, path: &str) -> Result<String, FolderFault>
         ensures kept { known self.new ≡ known self.old }
-        ensures told { IfOk result (λ it. IfSome ((known self.old).host_path path.now) (λ told. string_bytes it ≡ told)) };
+        ensures told { IfOk result (λ it. IfSome ((known self.old).host_path path.now) (λ told. string_bytes it ≡ told)) }
+        ensures untold { IfErr result (IsUntold ((known self.old).host_path path.now)) };
 }

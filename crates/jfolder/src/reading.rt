@@ -1,16 +1,17 @@
 //! Reading a folder of the host.
 
-ghost use Rattle.std.specs.Prelude.{◌≡◌, ◌∷◌, ◌++◌, [], map, replicate, reverse, All, IfErr, IfNone, IfOk, IfSome, IsPermutation, IsSome, IsTrue};
+ghost use Rattle.std.specs.Prelude.{◌≡◌, ◌∷◌, ◌++◌, ◌⊎◌, [], map, replicate, reverse, All, IfErr, IfNone, IfOk, IfSome, IsPermutation, IsSome, IsTrue, None};
 ghost use Rattle.std.specs.String.{string_bytes};
 ghost use Rattle.jfolder.specs.Actions.{AttributesFit, Fits, IsRooted, ItemFits};
 ghost use Rattle.jfolder.specs.Complete.{GoesOn, NamesFit, child, children, children_of, left_paths};
 ghost use Rattle.jfolder.specs.Known.{inside, named_of};
 ghost use Rattle.jfolder.specs.Notes.{Tells, TellsMore};
 ghost use Rattle.jfolder.specs.Objects.{AreOne, HasObject, IsObjectTold, IsOfKind, kind_bits};
+ghost use Rattle.jfolder.specs.Reasons.{ComesAgain, IsRefusal, IsRight, IsRootWhy, IsUnlisted, IsUnlistedIn, IsUnnamed, IsWrongChild, IsWrongText, SkipsFor};
 ghost use Rattle.jfolder.specs.Trees.{IsTree, Rise};
-ghost use Rattle.jfolder.specs.Walking.{FoundFits, HasOptions, IsChild, IsFileOf, IsItemTold, IsPending, IsShortName, IsToldAt, WalkFits, comes_next, item_of};
+ghost use Rattle.jfolder.specs.Walking.{FoundFits, HasOptions, IsChild, IsFileOf, IsItemTold, IsMore, IsPending, IsShortName, IsToldAt, WalkFits, comes_next, item_of};
 
-use crate::fault::ReadFault;
+use crate::fault::{FolderFault, ReadFault};
 use crate::found::{
     Found, HostKind, Options, Skip, attributes_of, first_found, identity_of, kind_of, link_to,
 };
@@ -48,7 +49,8 @@ struct Walk {
 
 /// Why a name is none of a listing.
 fn wrong_name(name: &[u8]) -> Option<Reason>
-    ensures { IfNone result (IsShortName name.now) }
+    ensures none { IfNone result (IsShortName name.now) }
+    ensures why { IfSome result (IsWrongText name.now) }
 {
     if name.len() > MAX_NAME {
         return Some(Reason::LongName);
@@ -74,20 +76,26 @@ fn joined(alloc: Global, directory: &str, name: &str) -> Result<String, AllocErr
 fn inside(path: &str) -> Option<&str>
     ensures rooted { IsSome result → IsRooted path.now }
     ensures rest { IfSome result (λ rest. rest.now ≡ inside path.now) }
+    ensures none { IfNone result (IsRooted path.now → ⊥) }
 {
     path.strip_prefix("/")
 }
 
-/// Whether the host tells at the first path of an object what it told at another one: names of one object.
+/// Whether the host tells at the first path of an object what it told at another one: names of one object. Where it refuses to
+/// tell, they are not.
 fn is_one<F: HostFolder>(folder: &mut F, first: &str, looked: &Looked) -> Result<bool, Skip>
     ensures one { IfOk result (λ one. IsTrue one → IfSome ((F.known folder.old).looked (inside first.now)) (λ told. AreOne told looked.now)) }
+    ensures memory { IfErr result (SkipsFor (λ _. ⊥)) }
     ensures kept { F.known folder.new ≡ F.known folder.old }
 {
     let Some(rest) = inside(first) else {
         return Ok(false);
     };
-    let told = folder.look(rest)?;
-    Ok(told.device == looked.device && told.number == looked.number)
+    match folder.look(rest) {
+        Ok(told) => Ok(told.device == looked.device && told.number == looked.number),
+        Err(FolderFault::OutOfMemory) => Err(Skip::OutOfMemory),
+        Err(_) => Ok(false),
+    }
 }
 
 /// Adds the path of a name in a directory, or tells that it is left out.
@@ -101,7 +109,8 @@ fn add_child<N: Sink>(
 ) -> Result<(), ReadFault>
     requires { All (λ path. IsChild directory.now (string_bytes path)) paths.old.items }
     ensures paths { IfOk result (λ _. All (λ path. IsChild directory.now (string_bytes path)) paths.new.items) }
-    ensures told { TellsMore (λ _ lefts. map string_bytes paths.old.items ++ child directory.now name.now ∷ [] ≡ map string_bytes paths.new.items ++ left_paths lefts)
+    ensures told { TellsMore (λ _ lefts. (map string_bytes paths.old.items ++ child directory.now name.now ∷ [] ≡ map string_bytes paths.new.items ++ left_paths lefts)
+            × All (IsWrongChild directory.now (name.now ∷ [])) lefts)
         (N.taken notes.old) (N.taken notes.new) (N.failures notes.old) (N.failures notes.new) left_out.old left_out.new result }
 {
     let _count = *left_out;
@@ -123,7 +132,7 @@ fn leave_out_others<N: Sink>(
     notes: &mut N,
     left_out: &mut u64,
 ) -> Result<(), ReadFault>
-    ensures { TellsMore (λ _ lefts. left_paths lefts ≡ replicate others (child directory.now []))
+    ensures { TellsMore (λ _ lefts. (left_paths lefts ≡ replicate others (child directory.now [])) × All (IsUnnamed directory.now others) lefts)
         (N.taken notes.old) (N.taken notes.new) (N.failures notes.old) (N.failures notes.new) left_out.old left_out.new result }
 {
     let _count = *left_out;
@@ -143,7 +152,8 @@ fn paths_of<N: Sink>(
     left_out: &mut u64,
 ) -> Result<Vec<String>, ReadFault>
     ensures paths { IfOk result (λ paths. All (λ path. IsChild directory.now (string_bytes path)) paths.items) }
-    ensures told { TellsMore (λ paths lefts. IsPermutation (map (λ name. child directory.now (string_bytes name)) names.now) (map string_bytes paths.items ++ left_paths lefts))
+    ensures told { TellsMore (λ paths lefts. IsPermutation (map (λ name. child directory.now (string_bytes name)) names.now) (map string_bytes paths.items ++ left_paths lefts)
+            × All (IsWrongChild directory.now (map string_bytes names.now)) lefts)
         (N.taken notes.old) (N.taken notes.new) (N.failures notes.old) (N.failures notes.new) left_out.old left_out.new result }
 {
     let _count = *left_out;
@@ -163,7 +173,8 @@ fn children<N: Sink>(
     left_out: &mut u64,
 ) -> Result<Vec<String>, ReadFault>
     ensures paths { IfOk result (λ paths. All (λ path. IsChild directory.now (string_bytes path)) paths.items) }
-    ensures told { TellsMore (λ paths lefts. IsPermutation (children directory.now (named_of names)) (map string_bytes paths.items ++ left_paths lefts))
+    ensures told { TellsMore (λ paths lefts. IsPermutation (children directory.now (named_of names)) (map string_bytes paths.items ++ left_paths lefts)
+            × All (IsUnlisted directory.now (named_of names)) lefts)
         (N.taken notes.old) (N.taken notes.new) (N.failures notes.old) (N.failures notes.new) left_out.old left_out.new result }
 {
     names.texts.sort()?;
@@ -212,6 +223,7 @@ impl Walk {
     fn look<F: HostFolder>(&self, folder: &mut F, path: &str, rest: &str) -> Result<Looked, Skip>
         ensures next { IfOk result (λ _. IsTrue (comes_next self.now.items.items path.now)) }
         ensures told { IfOk result (λ it. IfSome ((F.known folder.old).looked rest.now) (λ told. it ≡ told)) }
+        ensures why { IfErr result (SkipsFor (λ why. ComesAgain self.now.items.items (path.now, why) ⊎ IsRefusal ((F.known folder.old).looked rest.now ≡ None) why)) }
         ensures kept { F.known folder.new ≡ F.known folder.old }
     {
         if !self.is_next(path) {
@@ -228,7 +240,8 @@ impl Walk {
         options: &Options,
         path: &str,
     ) -> Result<Found, Skip>
-        requires { All ItemFits self.now.items.items }
+        requires items { All ItemFits self.now.items.items }
+        requires path { IsRooted path.now }
         ensures found { IfOk result (FoundFits options.now self.now.items.items) }
         ensures rooted { IfOk result (λ _. IsRooted path.now) }
         ensures next { IfOk result (λ _. IsTrue (comes_next self.now.items.items path.now)) }
@@ -236,6 +249,7 @@ impl Walk {
         ensures names { IfOk result (λ found. NamesFit ((F.known folder.old).names (inside path.now)) found.what found.names) }
         ensures kind { IfOk result (λ found. IfSome ((F.known folder.old).looked (inside path.now)) (λ told. IsOfKind told found.what)) }
         ensures object { IfOk result (λ found. HasObject (F.known folder.old) (inside path.now) found.what) }
+        ensures why { IfErr result (SkipsFor (λ why. IsRight (F.known folder.old) options.now self.now.items.items (path.now, why))) }
         ensures kept { F.known folder.new ≡ F.known folder.old }
     {
         let Some(rest) = inside(path) else {
@@ -261,7 +275,8 @@ impl Walk {
         ensures items { self.new.items.items ≡ self.old.items.items }
         ensures pending { self.new.pending.items ≡ self.old.pending.items }
         ensures paths { IfOk result (λ paths. All (λ child. IsSome names × IsChild path.now (string_bytes child)) paths.items) }
-        ensures told { TellsMore (λ paths lefts. IsPermutation (children_of path.now names) (map string_bytes paths.items ++ left_paths lefts))
+        ensures told { TellsMore (λ paths lefts. IsPermutation (children_of path.now names) (map string_bytes paths.items ++ left_paths lefts)
+                × All (IsUnlistedIn path.now names) lefts)
             (N.taken notes.old) (N.taken notes.new) (N.failures notes.old) (N.failures notes.new) self.old.left_out self.new.left_out result }
     {
         let _count = self.left_out;
@@ -318,7 +333,8 @@ impl Walk {
         ensures items { IfOk result (λ _. self.new.items.items ≡ self.old.items.items ++ item_of path found ∷ []) }
         ensures pending { IfOk result (λ _. All (λ p. IsPending self.new.items.items (string_bytes p)) self.new.pending.items) }
         ensures told { TellsMore (λ _ lefts. IsPermutation (children_of (string_bytes path) found.names ++ map string_bytes self.old.pending.items)
-            (map string_bytes self.new.pending.items ++ left_paths lefts))
+            (map string_bytes self.new.pending.items ++ left_paths lefts)
+            × All (IsUnlistedIn (string_bytes path) found.names) lefts)
             (N.taken notes.old) (N.taken notes.new) (N.failures notes.old) (N.failures notes.new) self.old.left_out self.new.left_out result }
     {
         let Found {
@@ -358,9 +374,11 @@ impl Walk {
         requires fits { WalkFits (F.known folder.old) options.now self.old.items.items self.old.pending.items }
         requires path { IsPending self.old.items.items (string_bytes path) }
         ensures fits { IfOk result (λ _. WalkFits (F.known folder.old) options.now self.new.items.items self.new.pending.items) }
+        ensures more { IfOk result (λ _. IsMore self.old.items.items self.new.items.items) }
         ensures kept { F.known folder.new ≡ F.known folder.old }
         ensures told { TellsMore (λ _ lefts. GoesOn (F.known folder.old) self.old.items.items (map string_bytes self.old.pending.items ++ string_bytes path ∷ [])
-            self.new.items.items (map string_bytes self.new.pending.items) lefts)
+            self.new.items.items (map string_bytes self.new.pending.items) lefts
+            × All (IsRight (F.known folder.old) options.now self.new.items.items) lefts)
             (N.taken notes.old) (N.taken notes.new) (N.failures notes.old) (N.failures notes.new) self.old.left_out self.new.left_out result }
     {
         match self.find(alloc, folder, options, path.as_str()) {
@@ -383,6 +401,7 @@ fn root_of<F: HostFolder>(folder: &mut F, options: &Options) -> Result<(Attribut
     ensures told { IfOk result (λ root. IsToldAt (F.known folder.old).looked options.now [] root.0) }
     ensures kind { IfOk result (λ _. IfSome ((F.known folder.old).looked []) (λ told. kind_bits told.mode ≡ 4)) }
     ensures names { IfOk result (λ root. IfSome ((F.known folder.old).names []) (λ told. named_of root.1 ≡ told)) }
+    ensures why { IfErr result (SkipsFor (IsRootWhy (F.known folder.old) options.now)) }
     ensures kept { F.known folder.new ≡ F.known folder.old }
 {
     let looked = folder.look("")?;
@@ -395,7 +414,7 @@ fn root_of<F: HostFolder>(folder: &mut F, options: &Options) -> Result<(Attribut
 
 /// Reads a folder: a directory before what lies in it, and the names in it in byte order. A regular file that was met before is
 /// a link to its first path. Symlinks are not followed. What a listing cannot say is left out, with a line of the notes for each
-/// path. `options` say what takes the place of all owners and times.
+/// path, which says why by what the host tells. `options` say what takes the place of all owners and times.
 ///
 /// # Errors
 /// `Folder`: the folder itself can't be read, is no directory, or has an owner or a time that a listing cannot say. `Notes`: the
@@ -413,7 +432,7 @@ pub fn read_folder<F: HostFolder, N: Sink>(
     ensures root { IfOk result (λ read. IsToldAt (F.known folder.old).looked options.now [] read.root) }
     ensures told { IfOk result (λ read. All (IsItemTold (F.known folder.old).looked options.now) read.items.items) }
     ensures objects { IfOk result (λ read. All (IsObjectTold (F.known folder.old)) read.items.items) }
-    ensures notes { Tells (F.known folder.old) (N.taken notes.old) (N.taken notes.new) (N.failures notes.old) (N.failures notes.new) result }
+    ensures notes { Tells (F.known folder.old) options.now (N.taken notes.old) (N.taken notes.new) (N.failures notes.old) (N.failures notes.new) result }
 {
     let (root, names) = match root_of(folder, options) {
         Ok(found) => found,

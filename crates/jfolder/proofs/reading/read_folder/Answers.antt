@@ -1,15 +1,27 @@
-use Rattle.std.proofs.Common.{◌∙◌, ◌++◌, ◌∷◌, [], Err, Some, ap, arith, reverse, subst, sym}
+use Rattle.std.proofs.Common.{◌∙◌, ◌++◌, ◌∷◌, [], List, ℕ, Err, Some, ap, arith, reverse, subst, sym}
 use Rattle.std.specs.Prelude.{IsPermutation, String, Vec}
+use Rattle.std.specs.List.{All}
 use Rattle.std.specs.String.{string_bytes}
+use Rattle.std.proofs.lemmas.List.Elements.{All-append}
 use Rattle.std.specs.declared.alloc.Global.{Global}
 use Rattle.std.proofs.lemmas.Result.{err_from_is_err_and}
-use Rattle.jfolder.specs.Complete.{GoesOn, children, left_paths}
+use Rattle.jfolder.specs.Complete.{GoesOn, LeftOut, children, left_paths}
 use Rattle.jfolder.specs.Known.{Known, named_of}
+use Rattle.jfolder.specs.Reasons.{IsRight, IsUnlisted}
 use Rattle.jfolder.specs.Walking.{WalkFits}
+use Rattle.jfolder.specs.declared.found.Options.{Options}
+use Rattle.jfolder.specs.declared.tree.Item.{Item}
 use Rattle.jfolder.proofs.CompleteLemmas.{Reaches, covers_root, reaches_all, reaches_on, texts}
 use Rattle.jfolder.proofs.WalkLemmas.{all_have_options, popped, walk_starts}
 use Rattle.jfolder.proofs.NoteLemmas.{read_failed, tells_then, told_same, told_then}
+use Rattle.jfolder.proofs.ReasonLemmas.{all_still_right, root_unlisted_right}
 use Rattle.jfolder.proofs.reading.read_folder.Goals as goal
+
+abbrev ReachesRightly : Known → Options → List Item → List (String Global) → List LeftOut → Type 0
+ReachesRightly known options items pending lefts = Reaches known items pending lefts × All (IsRight known options items) lefts
+
+abbrev GoesRightly : Known → Options → List Item → List (List ℕ) → List Item → List (List ℕ) → List LeftOut → Type 0
+GoesRightly known options items pending new later lefts = GoesOn known items pending new later lefts × All (IsRight known options new) lefts
 
 pub loop-init : goal.loop-init
 loop-init g c =
@@ -19,11 +31,13 @@ loop-init g c =
     record {
       kept = c.root_of.ensures.kept;
       fits = walk_starts known c.args.options.now c.put_off.new.self.items.items c.put_off.new.self.pending.items c.in_ok-paths.paths.items none later c.in_ok-paths.ensures.paths;
-      told = told_same (λ lefts. IsPermutation (children [] (named_of c.in-Ok.found.1)) (texts c.in_ok-paths.paths.items ++ left_paths lefts))
-          (Reaches known c.put_off.new.self.items.items c.put_off.new.self.pending.items)
+      told = told_same (λ lefts. IsPermutation (children [] (named_of c.in-Ok.found.1)) (texts c.in_ok-paths.paths.items ++ left_paths lefts)
+          × All (IsUnlisted [] (named_of c.in-Ok.found.1)) lefts)
+          (ReachesRightly known c.args.options.now c.put_off.new.self.items.items c.put_off.new.self.pending.items)
           (g.N.Sink.taken c.args.notes.now) (g.N.Sink.taken c.children.new.notes) (g.N.Sink.failures c.args.notes.now) (g.N.Sink.failures c.children.new.notes)
           c.new-walk.result.left_out 0 c.children.new.left_out c.put_off.new.self.left_out c.new-walk.ensures.left_out c.put_off.ensures.left_out
-          (λ lefts given. covers_root known c.put_off.new.self.items.items c.in-Ok.found.1 c.in_ok-paths.paths.items c.put_off.new.self.pending.items lefts none later c.in-Ok.ensures.names given)
+          (λ lefts given. (covers_root known c.put_off.new.self.items.items c.in-Ok.found.1 c.in_ok-paths.paths.items c.put_off.new.self.pending.items lefts none later c.in-Ok.ensures.names given.0,
+          root_unlisted_right known c.args.options.now c.put_off.new.self.items.items c.in-Ok.found.1 lefts c.in-Ok.ensures.names given.1))
           c.in_ok-paths.ensures.told;
     }
 
@@ -41,17 +55,21 @@ visit-requires-clause-path g c =
 pub loop-preserved : goal.loop-preserved
 loop-preserved g c =
     let known = g.F.HostFolder.known c.args.folder.now in
+    let here = g.F.HostFolder.known c.loop.folder in
     record {
       kept = c.visit.ensures.kept ∙ c.loop.invariant.kept;
       fits = subst (λ (k : Known). WalkFits k c.args.options.now c.visit.new.self.items.items c.visit.new.self.pending.items) c.loop.invariant.kept c.in_ok-visit.ensures.fits;
-      told = told_then (Reaches known c.loop.walk.items.items c.loop.walk.pending.items)
-          (GoesOn (g.F.HostFolder.known c.loop.folder) c.loop.walk.items.items (texts c.pop.new.self.items ++ string_bytes c.in-Some.path ∷ []) c.visit.new.self.items.items (texts c.visit.new.self.pending.items))
-          (Reaches known c.visit.new.self.items.items c.visit.new.self.pending.items)
+      told = told_then (ReachesRightly known c.args.options.now c.loop.walk.items.items c.loop.walk.pending.items)
+          (GoesRightly here c.args.options.now c.loop.walk.items.items (texts c.pop.new.self.items ++ string_bytes c.in-Some.path ∷ []) c.visit.new.self.items.items (texts c.visit.new.self.pending.items))
+          (ReachesRightly known c.args.options.now c.visit.new.self.items.items c.visit.new.self.pending.items)
           (g.N.Sink.taken c.args.notes.now) (g.N.Sink.taken c.loop.notes) (g.N.Sink.taken c.visit.new.notes)
           (g.N.Sink.failures c.args.notes.now) (g.N.Sink.failures c.loop.notes) (g.N.Sink.failures c.visit.new.notes)
           0 c.loop.walk.left_out c.visit.new.self.left_out
-          (λ before lefts covers goes. reaches_on known (g.F.HostFolder.known c.loop.folder) c.loop.walk.items.items c.visit.new.self.items.items c.loop.walk.pending.items c.pop.new.self.items
-          c.visit.new.self.pending.items c.in-Some.path before lefts c.loop.invariant.kept c.in-Some.ensures.items covers goes)
+          (λ before lefts covers goes. (reaches_on known here c.loop.walk.items.items c.visit.new.self.items.items c.loop.walk.pending.items c.pop.new.self.items
+          c.visit.new.self.pending.items c.in-Some.path before lefts c.loop.invariant.kept c.in-Some.ensures.items covers.0 goes.0,
+          All-append (IsRight known c.args.options.now c.visit.new.self.items.items) before lefts
+          (all_still_right known c.args.options.now c.loop.walk.items.items c.visit.new.self.items.items before c.in_ok-visit.ensures.more covers.1)
+          (subst (λ (k : Known). All (IsRight k c.args.options.now c.visit.new.self.items.items) lefts) c.loop.invariant.kept goes.1)))
           c.loop.invariant.told c.in_ok-visit.ensures.told;
     }
 
@@ -66,14 +84,16 @@ returns-in_default-clause-notes g c =
       told.1,
       told.2,
       omega (arith, told.3),
-      reaches_all (g.F.HostFolder.known c.args.folder.now) c.loop.walk.items.items c.loop.walk.pending.items told.0 (sym c.loop.walk.pending.ok.0 ∙ c.in_default.ensures.cases.0) told.4,
+      reaches_all (g.F.HostFolder.known c.args.folder.now) c.loop.walk.items.items c.loop.walk.pending.items told.0 (sym c.loop.walk.pending.ok.0 ∙ c.in_default.ensures.cases.0) told.4.0,
+      told.4.1,
     )
 
 pub returns-in_err-paths-clause-notes : goal.returns-in_err-paths-clause-notes
 returns-in_err-paths-clause-notes g c =
     let p = err_from_is_err_and c.from_residual.result c.from_residual.ensures.1 in
     read_failed (Vec (String Global) Global)
-    (λ paths lefts. IsPermutation (children [] (named_of c.in-Ok.found.1)) (texts paths.items ++ left_paths lefts)) (g.F.HostFolder.known c.args.folder.now) (g.N.Sink.taken c.args.notes.now) (g.N.Sink.taken c.children.new.notes)
+    (λ paths lefts. IsPermutation (children [] (named_of c.in-Ok.found.1)) (texts paths.items ++ left_paths lefts) × All (IsUnlisted [] (named_of c.in-Ok.found.1)) lefts)
+    (g.F.HostFolder.known c.args.folder.now) c.args.options.now (g.N.Sink.taken c.args.notes.now) (g.N.Sink.taken c.children.new.notes)
     (g.N.Sink.failures c.args.notes.now) (g.N.Sink.failures c.children.new.notes)
     c.new-walk.result.left_out c.children.new.left_out c.in_err-paths.field-0.0 p.0 c.from_residual.result p.1 p.2 c.in_err-paths.ensures.told
 
@@ -81,12 +101,12 @@ pub returns-in_err-visit-clause-notes : goal.returns-in_err-visit-clause-notes
 returns-in_err-visit-clause-notes g c =
     let p = err_from_is_err_and c.from_residual-in_err-visit.result c.from_residual-in_err-visit.ensures.1 in
     let known = g.F.HostFolder.known c.args.folder.now in
-    let told = tells_then {X = Unit {0}} (Reaches known c.loop.walk.items.items c.loop.walk.pending.items)
-    (λ _ lefts. GoesOn (g.F.HostFolder.known c.loop.folder) c.loop.walk.items.items (texts c.pop.new.self.items ++ string_bytes c.in-Some.path ∷ []) c.visit.new.self.items.items
+    let told = tells_then {X = Unit {0}} (ReachesRightly known c.args.options.now c.loop.walk.items.items c.loop.walk.pending.items)
+    (λ _ lefts. GoesRightly (g.F.HostFolder.known c.loop.folder) c.args.options.now c.loop.walk.items.items (texts c.pop.new.self.items ++ string_bytes c.in-Some.path ∷ []) c.visit.new.self.items.items
     (texts c.visit.new.self.pending.items) lefts) (λ _ _. Unit {0})
     (g.N.Sink.taken c.args.notes.now) (g.N.Sink.taken c.loop.notes) (g.N.Sink.taken c.visit.new.notes)
     (g.N.Sink.failures c.args.notes.now) (g.N.Sink.failures c.loop.notes) (g.N.Sink.failures c.visit.new.notes)
     0 c.loop.walk.left_out c.visit.new.self.left_out (Err c.in_err-visit.field-0.0) (λ _ _ _ _ _. tt) c.loop.invariant.told c.in_err-visit.ensures.told in
-    read_failed (Unit {0}) (λ _ _. Unit {0}) known (g.N.Sink.taken c.args.notes.now) (g.N.Sink.taken c.visit.new.notes)
+    read_failed (Unit {0}) (λ _ _. Unit {0}) known c.args.options.now (g.N.Sink.taken c.args.notes.now) (g.N.Sink.taken c.visit.new.notes)
     (g.N.Sink.failures c.args.notes.now) (g.N.Sink.failures c.visit.new.notes)
     0 c.visit.new.self.left_out c.in_err-visit.field-0.0 p.0 c.from_residual-in_err-visit.result p.1 p.2 told

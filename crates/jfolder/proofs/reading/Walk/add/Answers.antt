@@ -3,6 +3,7 @@ use Rattle.std.specs.List.{All}
 use Rattle.std.specs.String.{string_bytes}
 use Rattle.std.specs.Prelude.{IsPermutation, IsSome}
 use Rattle.jfolder.specs.Complete.{children_of, left_paths}
+use Rattle.jfolder.specs.Reasons.{IsUnlistedIn}
 use Rattle.jfolder.specs.Walking.{IsChild, item_of}
 use Rattle.jfolder.specs.declared.tree.Item.{Item}
 use Rattle.jfolder.proofs.CompleteLemmas.{pending_order, texts}
@@ -31,10 +32,11 @@ returns-clause-told g c =
     c.in_ok-put_off.ensures.pending
     ∙ ap (λ l. l ++ reverse c.in_ok-paths.paths.items) (c.push_item.ensures.pending ∙ c.remember.ensures.pending ∙ c.paths_in.ensures.pending) in
     let told = c.in_ok-paths.ensures.told in
-    let given = subst (λ (l : List ℕ). IsPermutation (children_of l c.args.found.names) (texts c.in_ok-paths.paths.items ++ left_paths told.0)) c.as_str.ensures.value told.4 in (
+    let given = subst (λ (l : List ℕ). IsPermutation (children_of l c.args.found.names) (texts c.in_ok-paths.paths.items ++ left_paths told.0)) c.as_str.ensures.value told.4.0 in
+    let unlisted = subst (λ (l : List ℕ). All (IsUnlistedIn l c.args.found.names) told.0) c.as_str.ensures.value told.4.1 in (
       told.0,
       told.1,
       told.2,
       c.put_off.ensures.left_out ∙ c.push_item.ensures.left_out ∙ c.remember.ensures.left_out ∙ told.3,
-      pending_order c.in_ok-paths.paths.items old.pending.items c.put_off.new.self.pending.items told.0 (children_of (string_bytes c.args.path) c.args.found.names) later given,
+      (pending_order c.in_ok-paths.paths.items old.pending.items c.put_off.new.self.pending.items told.0 (children_of (string_bytes c.args.path) c.args.found.names) later given, unlisted),
     )

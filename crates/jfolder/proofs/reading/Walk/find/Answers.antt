@@ -9,7 +9,7 @@ use Rattle.jfolder.proofs.reading.Walk.find.Goals as goal
 pub returns-then-branch-clause-found : goal.returns-then-branch-clause-found
 returns-then-branch-clause-found g c =
     let items = c.args.self.now.items.items in
-    link_found c.args.options.now items c.link_to.result c.in_ok-from_str.field-0 c.requires
+    link_found c.args.options.now items c.link_to.result c.in_ok-from_str.field-0 c.requires.items
     c.link_to.ensures.fit c.link_to.ensures.options c.link_to.ensures.what c.link_to.ensures.names
     (subst (IsFileOf items) (sym c.in_ok-from_str.ensures.ok) c.in-Some-first_path.ensures.file)
 

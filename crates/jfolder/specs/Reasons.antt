@@ -1,0 +1,150 @@
+-- Why a path is left out: each reason is right by what is known of what the host tells.
+use Rattle.std.specs.Prelude.{◌≡◌, ◌≢◌, ◌≤◌, ◌<◌, ◌^◌, ◌⊎◌, ◌∷◌, ℕ, Bool, false, List, [], length, All, Contains, IfNone, IfSome, Option, None, Some, ⊤, pos}
+use Rattle.std.specs.String.{string_bytes}
+use Rattle.jmount.specs.Find.{is_name}
+use Rattle.jfolder.specs.Actions.{IsFileWord}
+use Rattle.jfolder.specs.Complete.{IsNamed, LeftOut, child}
+use Rattle.jfolder.specs.Known.{Known, Named, inside, named_of}
+use Rattle.jfolder.specs.Objects.{kind_bits}
+use Rattle.jfolder.specs.Order.{is_before}
+use Rattle.jfolder.specs.declared.fault.FolderFault.{FolderFault}
+use Rattle.jfolder.specs.declared.fault.FolderFault.TheVariants as folder
+use Rattle.jfolder.specs.declared.found.Options.{Options}
+use Rattle.jfolder.specs.declared.found.Skip.{Skip}
+use Rattle.jfolder.specs.declared.found.Skip.TheVariants as skip
+use Rattle.jfolder.specs.declared.host.Looked.{Looked}
+use Rattle.jfolder.specs.declared.host.Names.{Names}
+use Rattle.jfolder.specs.declared.reason.Reason.{Reason}
+use Rattle.jfolder.specs.declared.reason.Reason.TheVariants as reason
+use Rattle.jfolder.specs.declared.tree.Item.{Item}
+
+-- ---- names
+
+-- a name that is told, but none of a listing
+abbrev pub IsWrongText : List ℕ → Reason → Type 0
+IsWrongText name reason.LongName = 254 < length name
+IsWrongText name reason.BadName = is_name name ≡ false
+IsWrongText name _ = ⊥
+
+-- the path of such a name in the directory of this path
+abbrev pub IsWrongChild : List ℕ → List (List ℕ) → LeftOut → Type 0
+IsWrongChild directory names left = (name : List ℕ) × Contains names name × (left.0 ≡ child directory name) × IsWrongText name left.1
+
+-- that of a name that is no text
+abbrev pub IsUnnamed : List ℕ → ℕ → LeftOut → Type 0
+IsUnnamed directory others left = (left.0 ≡ child directory []) × (0 < others) × (left.1 ≡ reason.NoText)
+
+abbrev pub IsUnlisted : List ℕ → Named → LeftOut → Type 0
+IsUnlisted directory names left = IsWrongChild directory names.texts left ⊎ IsUnnamed directory names.others left
+
+-- names are told in a directory, those that the host tells there where that is known, and the path is that of one that a listing can't have
+abbrev pub HasWrongName : Known → LeftOut → Type 0
+HasWrongName known left = (directory : List ℕ) × (names : Named) × IsNamed known (directory, names) × IsUnlisted directory names left
+
+-- an item's path is not before this one
+abbrev pub ComesAgain : List Item → LeftOut → Type 0
+ComesAgain items left = (left.1 ≡ reason.Repeated) × ((i : Item) × Contains items i × (is_before (string_bytes i.path) left.0 ≡ false))
+
+-- ---- what the host refuses
+
+-- a call that refuses says this
+abbrev pub Refuses : Type 0 → FolderFault → Type 0
+Refuses says folder.OutOfMemory = ⊤
+Refuses says _ = says
+
+-- nothing is known of what the host tells
+abbrev pub IsUntold : {X : Type 0} → Option X → FolderFault → Type 0
+IsUntold known fault = Refuses (known ≡ None) fault
+
+-- the bytes of a file are not known, or more than the limit
+abbrev pub IsUnread : Option (List ℕ) → ℕ → FolderFault → Type 0
+IsUnread known limit fault = Refuses (IfSome known (λ told. limit < length told)) fault
+
+-- a refusal is right where this holds
+abbrev pub IsRefusal : Type 0 → Reason → Type 0
+IsRefusal says reason.Refused = says
+IsRefusal says reason.NoText = says
+IsRefusal says _ = ⊥
+
+-- ---- what an object is
+
+abbrev pub IsKindWhy : ℕ → Reason → Type 0
+IsKindWhy kind reason.Fifo = kind ≡ 1
+IsKindWhy kind reason.CharacterDevice = kind ≡ 2
+IsKindWhy kind reason.BlockDevice = kind ≡ 6
+IsKindWhy kind reason.Socket = kind ≡ 12
+IsKindWhy kind reason.UnknownKind = All (λ k. kind ≢ k) (1 ∷ 2 ∷ 4 ∷ 6 ∷ 8 ∷ 10 ∷ 12 ∷ [])
+IsKindWhy kind _ = ⊥
+
+-- an owner or a time that is told has no place in a listing, and no other is given
+abbrev pub IsAttributesWhy : Options → Looked → Reason → Type 0
+IsAttributesWhy options told reason.Owner = (options.owner ≡ None) × ((65535 < told.uid) ⊎ (65535 < told.gid))
+IsAttributesWhy options told reason.Time = (options.time ≡ None) × ((t : ℕ) → t < 2 ^ 32 → pos t ≢ told.time)
+IsAttributesWhy options told _ = ⊥
+
+-- the bytes of a file are asked for, since the name of the file is no word
+abbrev pub AsksBytes : Known → List ℕ → ℕ → Type 0
+AsksBytes known path size = (0 < size) × IfSome (known.host_path path) (λ name. IsFileWord name → ⊥)
+
+-- it has more bytes than a listing can say
+abbrev pub IsLong : Known → List ℕ → Type 0
+IsLong known path = IfSome (known.bytes path) (λ told. 2147483647 < length told)
+
+abbrev pub IsContentWhy : Known → List ℕ → ℕ → Reason → Type 0
+IsContentWhy known path size reason.Large = (2147483647 < size) ⊎ (AsksBytes known path size × IsLong known path)
+IsContentWhy known path size why = IsRefusal ((0 < size) × ((known.host_path path ≡ None) ⊎ (AsksBytes known path size × IsLong known path))) why
+
+-- the target is not known, or none that an image can have
+abbrev pub IsTargetWhy : Known → List ℕ → Reason → Type 0
+IsTargetWhy known path reason.Target = IfSome (known.target path) (λ told. 0 < length told → length told ≤ 4095 → All (λ b. b ≢ 0) told → ⊥)
+IsTargetWhy known path why = IsRefusal (known.target path ≡ None) why
+
+abbrev pub IsObjectWhy : Known → List ℕ → Looked → Reason → Type 0
+IsObjectWhy known path told why =
+    ((kind_bits told.mode ≡ 4) × IsRefusal (known.names path ≡ None) why)
+    ⊎ (((kind_bits told.mode ≡ 8) × IsContentWhy known path told.size why)
+    ⊎ ((kind_bits told.mode ≡ 10) × IsTargetWhy known path why))
+
+-- of an object of which this is told
+abbrev pub IsWhy : Known → Options → List ℕ → Looked → Reason → Type 0
+IsWhy known options path told why = IsKindWhy (kind_bits told.mode) why ⊎ (IsAttributesWhy options told why ⊎ IsObjectWhy known path told why)
+
+-- the host refuses to tell of the object, or tells one that is left out for this
+abbrev pub IsLeftFor : Known → Options → List ℕ → Reason → Type 0
+IsLeftFor known options path why = IsRefusal (known.looked path ≡ None) why
+    ⊎ ((told : Looked) × IfSome (known.looked path) (λ k. told ≡ k) × IsWhy known options path told why)
+
+-- ---- a path that is left out
+
+-- Its name is wrong, or it comes again, or the host refuses to tell of it, or tells what no listing says.
+abbrev pub IsRight : Known → Options → List Item → LeftOut → Type 0
+IsRight known options items left = HasWrongName known left ⊎ (ComesAgain items left ⊎ IsLeftFor known options (inside left.0) left.1)
+
+-- ---- the folder itself
+
+abbrev pub IsNoDirectory : Looked → Reason → Type 0
+IsNoDirectory told reason.NotDirectory = kind_bits told.mode ≢ 4
+IsNoDirectory told _ = ⊥
+
+-- The host refuses to tell of the folder, or tells no directory, or an owner or a time that no listing says, or refuses to tell the names in it.
+abbrev pub IsRootWhy : Known → Options → Reason → Type 0
+IsRootWhy known options why = IsRefusal (known.looked [] ≡ None) why
+    ⊎ ((told : Looked) × IfSome (known.looked []) (λ k. told ≡ k)
+    × (IsNoDirectory told why ⊎ (IsAttributesWhy options told why ⊎ ((kind_bits told.mode ≡ 4) × IsRefusal (known.names [] ≡ None) why))))
+
+-- ---- parts of a reading
+
+abbrev pub skip_of : FolderFault → Skip
+skip_of folder.Refused = skip.LeftOut reason.Refused
+skip_of folder.NoText = skip.LeftOut reason.NoText
+skip_of folder.OutOfMemory = skip.OutOfMemory
+
+-- what is skipped is left out for such a reason, unless memory ran out
+abbrev pub SkipsFor : (Reason → Type 0) → Skip → Type 0
+SkipsFor right (skip.LeftOut why) = right why
+SkipsFor right skip.OutOfMemory = ⊤
+
+-- the names in a directory, if they were asked for
+abbrev pub IsUnlistedIn : List ℕ → Option Names → LeftOut → Type 0
+IsUnlistedIn directory None left = ⊥
+IsUnlistedIn directory (Some names) left = IsUnlisted directory (named_of names) left
