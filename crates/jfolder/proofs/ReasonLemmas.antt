@@ -1,18 +1,18 @@
 -- What is left out for a reason that is right.
-use Rattle.std.proofs.Common.{◌≡◌, ◌⊎◌, inl, inr, ℕ, ◌<◌, ◌≢◌, drop, true, false, List, get_or, length, [], ◌∷◌, ◌++◌, refl, sym, ap, ◌∙◌, subst, Option, None, Some, Result, Ok, Err, map}
-use Rattle.std.specs.Prelude.{Contains, IfNone, IfSome, IsPermutation, String}
+use Rattle.std.proofs.Common.{◌≡◌, ◌⊎◌, inl, inr, ℕ, ◌<◌, ◌≢◌, drop, true, false, List, get_or, length, [], ◌∷◌, ◌++◌, refl, sym, ap, ◌∙◌, subst, append-nil, Option, None, Some, Result, Ok, Err, map}
+use Rattle.std.specs.Prelude.{Contains, IfNone, IfOk, IfSome, IsPermutation, String}
 use Rattle.std.specs.List.{All, slice_get}
 use Rattle.std.specs.Option.{MatchOption}
 use Rattle.std.specs.String.{string_bytes}
 use Rattle.std.specs.declared.alloc.Global.{Global}
 use Rattle.std.proofs.lemmas.List.Elements.{All-append, All-contains, All-nil, All-push, All-same, All-weaker, Contains-append_left, Contains-append_right, Contains-get_or, Contains-push}
 use Rattle.std.proofs.lemmas.List.{get_or-map, length-map}
-use Rattle.std.proofs.lemmas.List.Sorted.{Contains-permutation, IsPermutation-map, IsPermutation-sym}
+use Rattle.std.proofs.lemmas.List.Sorted.{Contains-permutation, IsPermutation-map, IsPermutation-refl, IsPermutation-sym}
 use Rattle.jfolder.proofs.CompleteLemmas.{texts}
-use Rattle.jfolder.specs.Complete.{IsNamed, LeftOut, NamesFit, child}
+use Rattle.jfolder.specs.Complete.{LeftOut, NamesFit, children_of, left_paths}
 use Rattle.jfolder.specs.Known.{Known, inside, named_of}
 use Rattle.jfolder.specs.Order.{is_before}
-use Rattle.jfolder.specs.Reasons.{ComesAgain, HasWrongName, IsLeftFor, IsRight, IsUnlisted, IsUnlistedIn, IsUnnamed, IsWrongChild, IsWrongText}
+use Rattle.jfolder.specs.Reasons.{ComesAgain, IsRight, IsUnlisted, IsUnlistedIn, IsUnnamed, IsWrongChild}
 use Rattle.jfolder.specs.Walking.{IsMore, comes_next}
 use Rattle.jfolder.specs.declared.found.Options.{Options}
 use Rattle.jfolder.specs.declared.host.Names.{Names}
@@ -39,11 +39,24 @@ still_right known options items more left (inl name) = inl name
 still_right known options items more left (inr (inl again)) = inr (inl (again.0, (again.1.0, Contains-append_left items more again.1.0 again.1.1, again.1.2)))
 still_right known options items more left (inr (inr object)) = inr (inr object)
 
+pub grown : {E : Type 0} (r : Result (Unit {0}) E) (items new : List Item) (i : Item) → IfOk r (λ _. new ≡ items ++ i ∷ []) → IfOk r (λ _. IsMore items new)
+grown (Ok x) items new i more = (i ∷ [], more)
+grown (Err e) items new i more = tt
+
+pub not_grown : {E : Type 0} (r : Result (Unit {0}) E) (items : List Item) → IfOk r (λ _. IsMore items items)
+not_grown (Ok x) items = ([], sym (append-nil items))
+not_grown (Err e) items = tt
+
 pub all_still_right : (known : Known) (options : Options) (items new : List Item) (lefts : List LeftOut) → IsMore items new → All (IsRight known options items) lefts
     → All (IsRight known options new) lefts
 all_still_right known options items new lefts more right =
     subst (λ (l : List Item). All (IsRight known options l) lefts) (sym more.1)
     (All-weaker (IsRight known options items) (IsRight known options (items ++ more.0)) (λ left h. still_right known options items more.0 left h) lefts right)
+
+pub left_as : (known : Known) (options : Options) (items : List Item) (path told : List ℕ) (why other : Reason) (lefts : List LeftOut) → lefts ≡ (told, other) ∷ [] → told ≡ path → other ≡ why
+    → IsRight known options items (path, why) → All (IsRight known options items) lefts
+left_as known options items path told why other lefts these is same right =
+    one_left (IsRight known options items) (path, why) lefts (these ∙ ap (λ (l : List ℕ). (l, other) ∷ []) is ∙ ap (λ (w : Reason). (path, w) ∷ []) same) right
 
 -- ---- the names in a directory
 
@@ -68,6 +81,15 @@ wrong_of_one directory names i n lefts within is wrong =
     subst (Contains (texts names)) same (Contains-get_or (texts names) i [] (subst (λ (l : ℕ). i < l) (sym (length-map names (λ (m : String Global). string_bytes m))) within)) in
     wrong_among directory (string_bytes n ∷ []) (texts names) lefts
     (λ name one. All-contains (Contains (texts names)) (string_bytes n ∷ []) name (All-push (Contains (texts names)) [] (string_bytes n) (All-nil (Contains (texts names))) there) one) wrong
+
+-- no names were asked for
+pub none_unlisted : (path : List ℕ) (names : Option Names) (paths : List (String Global)) → names ≡ None → paths ≡ []
+    → IsPermutation (children_of path names) (texts paths ++ left_paths []) × All (IsUnlistedIn path names) []
+none_unlisted path names paths none is = (
+  subst (λ (l : List (String Global)). IsPermutation (children_of path names) (texts l ++ [])) (sym is)
+  (subst (λ (n : Option Names). IsPermutation {X = List ℕ} (children_of path n) []) (sym none) (IsPermutation-refl [])),
+  All-nil (IsUnlistedIn path names),
+)
 
 pub unlisted_both : (directory : List ℕ) (names : Names) (first then : List LeftOut) → All (IsUnnamed directory names.others) first
     → All (IsWrongChild directory (named_of names).texts) then → All (IsUnlisted directory (named_of names)) (first ++ then)

@@ -1,4 +1,4 @@
-use Rattle.std.proofs.Common.{◌≡◌, ◌∙◌, ◌++◌, ◌∷◌, [], true, ℕ, List, Ok, subst, sym}
+use Rattle.std.proofs.Common.{◌≡◌, ◌∙◌, ◌++◌, ◌∷◌, [], true, ℕ, List, subst, sym}
 use Rattle.std.specs.Prelude.{IfOk, IfSome, IsPermutation}
 use Rattle.std.specs.List.{All}
 use Rattle.std.specs.String.{string_bytes}
@@ -6,11 +6,12 @@ use Rattle.jfolder.specs.Actions.{IsRooted}
 use Rattle.jfolder.specs.Complete.{GoesOn, NamesFit, children_of, left_paths}
 use Rattle.jfolder.specs.Known.{inside}
 use Rattle.jfolder.specs.Objects.{HasObject, IsOfKind}
-use Rattle.jfolder.specs.Reasons.{IsRight, IsUnlistedIn}
+use Rattle.jfolder.specs.Reasons.{IsRight, IsUnlistedIn, SkipsFor}
+use Rattle.jfolder.specs.declared.found.Skip.TheVariants as skip
 use Rattle.jfolder.specs.Walking.{IsToldAt, comes_next, item_of}
 use Rattle.jfolder.proofs.CompleteLemmas.{goes_on, leaves_out, texts}
 use Rattle.jfolder.proofs.NoteLemmas.{tells_as}
-use Rattle.jfolder.proofs.ReasonLemmas.{all_unlisted_right, one_left}
+use Rattle.jfolder.proofs.ReasonLemmas.{all_unlisted_right, grown, left_as, not_grown}
 use Rattle.jfolder.proofs.WalkLemmas.{walk_goes_on}
 use Rattle.jfolder.proofs.reading.Walk.visit.Goals as goal
 
@@ -35,8 +36,6 @@ returns-in-Ok-clause-told g c =
     let known = g.F.HostFolder.known c.args.folder.now in
     let names : NamesFit (known.names (inside (string_bytes c.args.path))) c.in-Ok.found.what c.in-Ok.found.names =
     subst (λ (l : List ℕ). NamesFit (known.names (inside l)) c.in-Ok.found.what c.in-Ok.found.names) c.as_str.ensures.value c.in-Ok.ensures.names in
-    let more (v : Unit {0}) (is : c.add.result ≡ Ok v) : c.add.new.self.items.items ≡ old.items.items ++ item_of c.args.path c.in-Ok.found ∷ [] =
-    subst (λ r. IfOk r (λ _. c.add.new.self.items.items ≡ old.items.items ++ item_of c.args.path c.in-Ok.found ∷ [])) is c.add.ensures.items in
     tells_as (λ _ lefts. IsPermutation (children_of (string_bytes c.args.path) c.in-Ok.found.names ++ texts old.pending.items) (texts c.add.new.self.pending.items ++ left_paths lefts)
     × All (IsUnlistedIn (string_bytes c.args.path) c.in-Ok.found.names) lefts)
     (λ _ lefts. GoesOn known old.items.items (texts old.pending.items ++ string_bytes c.args.path ∷ []) c.add.new.self.items.items (texts c.add.new.self.pending.items) lefts
@@ -44,7 +43,7 @@ returns-in-Ok-clause-told g c =
     (g.N.Sink.taken c.args.notes.now) (g.N.Sink.taken c.add.new.notes) (g.N.Sink.failures c.args.notes.now) (g.N.Sink.failures c.add.new.notes)
     old.left_out c.add.new.self.left_out c.add.result
     (λ v lefts is moved. (goes_on known old.items.items c.add.new.self.items.items c.args.path c.in-Ok.found (texts old.pending.items) (texts c.add.new.self.pending.items) lefts
-    (more v is) names moved.0,
+    (subst (λ r. IfOk r (λ _. c.add.new.self.items.items ≡ old.items.items ++ item_of c.args.path c.in-Ok.found ∷ [])) is c.add.ensures.items) names moved.0,
     all_unlisted_right known c.args.options.now c.add.new.self.items.items (string_bytes c.args.path) c.in-Ok.found.what c.in-Ok.found.names lefts names moved.1))
     c.add.ensures.told
 
@@ -52,12 +51,21 @@ pub returns-in-Err-LeftOut-clause-told : goal.returns-in-Err-LeftOut-clause-told
 returns-in-Err-LeftOut-clause-told g c =
     let old = c.args.self.now in
     let known = g.F.HostFolder.known c.args.folder.now in
-    let right : IsRight known c.args.options.now old.items.items (c.as_str.result.now, c.in-Err-LeftOut.reason) = c.in-Err-LeftOut.ensures.why in
+    let is : c.in-Err-LeftOut.field-0 ≡ skip.LeftOut c.in-Err-LeftOut.reason = cc in
+    let right : IsRight known c.args.options.now old.items.items (c.as_str.result.now, c.in-Err-LeftOut.reason) =
+    subst (SkipsFor (λ why. IsRight known c.args.options.now old.items.items (c.as_str.result.now, why))) is c.in-Err-LeftOut.ensures.why in
     tells_as _ (λ _ lefts. GoesOn known old.items.items (texts old.pending.items ++ string_bytes c.args.path ∷ []) old.items.items (texts old.pending.items) lefts
     × All (IsRight known c.args.options.now old.items.items) lefts)
     (g.N.Sink.taken c.args.notes.now) (g.N.Sink.taken c.leave_out.new.notes) (g.N.Sink.failures c.args.notes.now) (g.N.Sink.failures c.leave_out.new.notes)
     old.left_out c.leave_out.new.count c.leave_out.result
     (λ v lefts is these. (leaves_out known old.items.items (texts old.pending.items) (string_bytes c.args.path) c.as_bytes.result.now _ lefts c.as_bytes.ensures.value these,
-    one_left (IsRight known c.args.options.now old.items.items) (c.as_bytes.result.now, c.in-Err-LeftOut.reason) lefts these
-    (subst (λ (l : List ℕ). IsRight known c.args.options.now old.items.items (l, c.in-Err-LeftOut.reason)) (c.as_str.ensures.value ∙ sym c.as_bytes.ensures.value) right)))
+    left_as known c.args.options.now old.items.items (string_bytes c.args.path) c.as_bytes.result.now c.in-Err-LeftOut.reason _ lefts these c.as_bytes.ensures.value (cc)
+    (subst (λ (l : List ℕ). IsRight known c.args.options.now old.items.items (l, c.in-Err-LeftOut.reason)) c.as_str.ensures.value right)))
     c.leave_out.ensures
+
+pub returns-in-Ok-clause-more : goal.returns-in-Ok-clause-more
+returns-in-Ok-clause-more g c =
+    grown c.add.result c.args.self.now.items.items c.add.new.self.items.items (item_of c.args.path c.in-Ok.found) c.add.ensures.items
+
+pub returns-in-Err-LeftOut-clause-more : goal.returns-in-Err-LeftOut-clause-more
+returns-in-Err-LeftOut-clause-more g c = not_grown c.leave_out.result c.args.self.now.items.items
