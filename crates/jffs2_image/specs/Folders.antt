@@ -97,8 +97,8 @@ pub record IsListable (known : Known) (options : Options) (folder : Folder) : Ty
 abbrev pub ListsFolder : Known → Options → List ℕ → Option (List ℕ) → Option (List ℕ) → ℕ → ℕ → Option (List ℕ) → Option (List ℕ) → ℕ → ℕ → Result ℕ ProgramFault → Type 0
 ListsFolder known options name old new before now told_old told_new told_before told_now (Ok n) =
     (folder : Folder) × IsListable known options folder × (n ≡ folder.left_out)
-    × Appends old new (listing_text folder.root folder.items.items) × (now ≡ before) × Tells known told_old told_new told_before told_now (Ok folder)
+    × Appends old new (listing_text folder.root folder.items.items) × (now ≡ before) × Tells known options told_old told_new told_before told_now (Ok folder)
 ListsFolder known options name old new before now told_old told_new told_before told_now (Err fault) =
     ((folder : Folder) × IsListable known options folder × (fault ≡ program.Output)
-    × PutsPart old new (listing_text folder.root folder.items.items) × (now ≡ next_count before) × Tells known told_old told_new told_before told_now (Ok folder))
-    ⊎ ((refused : ReadFault) × IsReadingFault name refused fault × (new ≡ old) × (now ≡ before) × Tells known told_old told_new told_before told_now (Err refused))
+    × PutsPart old new (listing_text folder.root folder.items.items) × (now ≡ next_count before) × Tells known options told_old told_new told_before told_now (Ok folder))
+    ⊎ ((refused : ReadFault) × IsReadingFault name refused fault × (new ≡ old) × (now ≡ before) × Tells known options told_old told_new told_before told_now (Err refused))

@@ -1,5 +1,5 @@
 -- What is left out for a reason that is right.
-use Rattle.std.proofs.Common.{◌≡◌, ◌⊎◌, inl, inr, ℕ, ◌<◌, ◌≢◌, drop, true, false, List, get_or, length, [], ◌∷◌, ◌++◌, refl, sym, ap, ◌∙◌, subst, append-nil, Option, None, Some, Result, Ok, Err, map}
+use Rattle.std.proofs.Common.{◌≡◌, inl, inr, ℕ, ◌<◌, ◌≢◌, drop, false, List, get_or, length, [], ◌∷◌, ◌++◌, refl, sym, ap, ◌∙◌, subst, append-nil, Option, None, Some, Result, Ok, Err}
 use Rattle.std.specs.Prelude.{Contains, IfNone, IfOk, IfSome, IsPermutation, String}
 use Rattle.std.specs.List.{All, slice_get}
 use Rattle.std.specs.Option.{MatchOption}
@@ -11,7 +11,6 @@ use Rattle.std.proofs.lemmas.List.Sorted.{Contains-permutation, IsPermutation-ma
 use Rattle.jfolder.proofs.CompleteLemmas.{texts}
 use Rattle.jfolder.specs.Complete.{LeftOut, NamesFit, children_of, left_paths}
 use Rattle.jfolder.specs.Known.{Known, inside, named_of}
-use Rattle.jfolder.specs.Order.{is_before}
 use Rattle.jfolder.specs.Reasons.{ComesAgain, IsRight, IsUnlisted, IsUnlistedIn, IsUnnamed, IsWrongChild}
 use Rattle.jfolder.specs.Walking.{IsMore, comes_next}
 use Rattle.jfolder.specs.declared.found.Options.{Options}

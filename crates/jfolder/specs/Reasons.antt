@@ -1,5 +1,5 @@
 -- Why a path is left out: each reason is right by what is known of what the host tells.
-use Rattle.std.specs.Prelude.{◌≡◌, ◌≢◌, ◌≤◌, ◌<◌, ◌^◌, ◌⊎◌, ◌∷◌, ℕ, Bool, false, List, [], length, All, Contains, IfNone, IfSome, Option, None, Some, ⊤, pos}
+use Rattle.std.specs.Prelude.{◌≡◌, ◌≢◌, ◌≤◌, ◌<◌, ◌^◌, ◌⊎◌, ◌∷◌, ℕ, false, List, [], length, All, Contains, IfSome, Option, None, Some, ⊤, pos}
 use Rattle.std.specs.String.{string_bytes}
 use Rattle.jmount.specs.Find.{is_name}
 use Rattle.jfolder.specs.Actions.{IsFileWord}

@@ -1,4 +1,4 @@
-use Rattle.std.proofs.Common.{◌≡◌, ◌∙◌, ◌++◌, ◌∷◌, [], true, ℕ, List, subst, sym}
+use Rattle.std.proofs.Common.{◌≡◌, ◌++◌, ◌∷◌, [], true, ℕ, List, subst}
 use Rattle.std.specs.Prelude.{IfOk, IfSome, IsPermutation}
 use Rattle.std.specs.List.{All}
 use Rattle.std.specs.String.{string_bytes}
