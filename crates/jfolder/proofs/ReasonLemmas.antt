@@ -86,7 +86,7 @@ pub none_unlisted : (path : List ℕ) (names : Option Names) (paths : List (Stri
     → IsPermutation (children_of path names) (texts paths ++ left_paths []) × All (IsUnlistedIn path names) []
 none_unlisted path names paths none is = (
   subst (λ (l : List (String Global)). IsPermutation (children_of path names) (texts l ++ [])) (sym is)
-  (subst (λ (n : Option Names). IsPermutation {X = List ℕ} (children_of path n) []) (sym none) (IsPermutation-refl [])),
+      (subst (λ (n : Option Names). IsPermutation {X = List ℕ} (children_of path n) []) (sym none) (IsPermutation-refl [])),
   All-nil (IsUnlistedIn path names),
 )
 

@@ -110,7 +110,7 @@ fn add_child<N: Sink>(
     requires { All (λ path. IsChild directory.now (string_bytes path)) paths.old.items }
     ensures paths { IfOk result (λ _. All (λ path. IsChild directory.now (string_bytes path)) paths.new.items) }
     ensures told { TellsMore (λ _ lefts. (map string_bytes paths.old.items ++ child directory.now name.now ∷ [] ≡ map string_bytes paths.new.items ++ left_paths lefts)
-            × All (IsWrongChild directory.now (name.now ∷ [])) lefts)
+        × All (IsWrongChild directory.now (name.now ∷ [])) lefts)
         (N.taken notes.old) (N.taken notes.new) (N.failures notes.old) (N.failures notes.new) left_out.old left_out.new result }
 {
     let _count = *left_out;
@@ -153,7 +153,7 @@ fn paths_of<N: Sink>(
 ) -> Result<Vec<String>, ReadFault>
     ensures paths { IfOk result (λ paths. All (λ path. IsChild directory.now (string_bytes path)) paths.items) }
     ensures told { TellsMore (λ paths lefts. IsPermutation (map (λ name. child directory.now (string_bytes name)) names.now) (map string_bytes paths.items ++ left_paths lefts)
-            × All (IsWrongChild directory.now (map string_bytes names.now)) lefts)
+        × All (IsWrongChild directory.now (map string_bytes names.now)) lefts)
         (N.taken notes.old) (N.taken notes.new) (N.failures notes.old) (N.failures notes.new) left_out.old left_out.new result }
 {
     let _count = *left_out;
@@ -174,7 +174,7 @@ fn children<N: Sink>(
 ) -> Result<Vec<String>, ReadFault>
     ensures paths { IfOk result (λ paths. All (λ path. IsChild directory.now (string_bytes path)) paths.items) }
     ensures told { TellsMore (λ paths lefts. IsPermutation (children directory.now (named_of names)) (map string_bytes paths.items ++ left_paths lefts)
-            × All (IsUnlisted directory.now (named_of names)) lefts)
+        × All (IsUnlisted directory.now (named_of names)) lefts)
         (N.taken notes.old) (N.taken notes.new) (N.failures notes.old) (N.failures notes.new) left_out.old left_out.new result }
 {
     names.texts.sort()?;
@@ -276,7 +276,7 @@ impl Walk {
         ensures pending { self.new.pending.items ≡ self.old.pending.items }
         ensures paths { IfOk result (λ paths. All (λ child. IsSome names × IsChild path.now (string_bytes child)) paths.items) }
         ensures told { TellsMore (λ paths lefts. IsPermutation (children_of path.now names) (map string_bytes paths.items ++ left_paths lefts)
-                × All (IsUnlistedIn path.now names) lefts)
+            × All (IsUnlistedIn path.now names) lefts)
             (N.taken notes.old) (N.taken notes.new) (N.failures notes.old) (N.failures notes.new) self.old.left_out self.new.left_out result }
     {
         let _count = self.left_out;

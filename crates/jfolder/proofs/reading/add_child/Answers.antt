@@ -11,6 +11,7 @@ pub returns-in_ok-push-in-None-clause-told : goal.returns-in_ok-push-in-None-cla
 returns-in_ok-push-in-None-clause-told g c =
     tells_nothing (λ lefts. (texts c.args.paths.now.items ++ child c.args.directory.now c.args.name.now ∷ [] ≡ texts c.push.new.self.items ++ left_paths lefts)
     × All (IsWrongChild c.args.directory.now (c.args.name.now ∷ [])) lefts)
-    (g.N.Sink.taken c.args.notes.now) (g.N.Sink.failures c.args.notes.now) c.args.left_out.now (omega arith)
-    (child_pushed c.args.paths.now.items c.push.new.self.items c.in_ok-path.path (child c.args.directory.now c.args.name.now) c.in_ok-push-in-None.ensures.items c.in_ok-path.ensures,
-    All-nil (IsWrongChild c.args.directory.now (c.args.name.now ∷ [])))
+    (g.N.Sink.taken c.args.notes.now) (g.N.Sink.failures c.args.notes.now) c.args.left_out.now (omega arith) (
+      child_pushed c.args.paths.now.items c.push.new.self.items c.in_ok-path.path (child c.args.directory.now c.args.name.now) c.in_ok-push-in-None.ensures.items c.in_ok-path.ensures,
+      All-nil (IsWrongChild c.args.directory.now (c.args.name.now ∷ [])),
+    )

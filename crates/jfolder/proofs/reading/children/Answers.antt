@@ -23,7 +23,8 @@ returns-clause-told g c =
     (g.N.Sink.failures c.args.notes.now) (g.N.Sink.failures c.leave_out_others.new.notes) (g.N.Sink.failures c.paths_of.new.notes)
     c.args.left_out.now c.leave_out_others.new.left_out c.paths_of.new.left_out c.paths_of.result
     (λ paths first then unnamed named.
-    let sorted = subst (IsPermutation c.args.names.texts.items) (sym c.as_slice.ensures.value) c.sort.ensures.permutation in
-    (children_told directory c.args.names.texts.items c.as_slice.result.now others (texts paths.items) first then sorted unnamed.0 named.0,
-    unlisted_both directory c.args.names first then unnamed.1 (wrong_in_order directory c.args.names.texts.items c.as_slice.result.now then sorted named.1)))
+    let sorted = subst (IsPermutation c.args.names.texts.items) (sym c.as_slice.ensures.value) c.sort.ensures.permutation in (
+      children_told directory c.args.names.texts.items c.as_slice.result.now others (texts paths.items) first then sorted unnamed.0 named.0,
+      unlisted_both directory c.args.names first then unnamed.1 (wrong_in_order directory c.args.names.texts.items c.as_slice.result.now then sorted named.1),
+    ))
     c.in_ok-leave_out_others.ensures c.paths_of.ensures.told

@@ -32,8 +32,10 @@ loop-told-preserved g c =
     (g.N.Sink.taken c.args.notes.now) (g.N.Sink.taken c.loop-told.notes) (g.N.Sink.taken c.leave_out.new.notes)
     (g.N.Sink.failures c.args.notes.now) (g.N.Sink.failures c.loop-told.notes) (g.N.Sink.failures c.leave_out.new.notes)
     c.args.left_out.now c.loop-told.left_out c.leave_out.new.count
-    (λ before more those these. (unnamed_more before more c.loop-told._told (child c.args.directory.now []) reason.NoText those.0
-    (these ∙ ap (λ (p : List ℕ). (p, reason.NoText) ∷ []) (c.as_bytes.ensures.value ∙ c.in_ok-unnamed.ensures)),
-    All-append (IsUnnamed c.args.directory.now c.args.others) before more those.1
-    (one_left (IsUnnamed c.args.directory.now c.args.others) (c.as_bytes.result.now, reason.NoText) more these (c.as_bytes.ensures.value ∙ c.in_ok-unnamed.ensures, omega arith, refl))))
+    (λ before more those these. (
+      unnamed_more before more c.loop-told._told (child c.args.directory.now []) reason.NoText those.0
+          (these ∙ ap (λ (p : List ℕ). (p, reason.NoText) ∷ []) (c.as_bytes.ensures.value ∙ c.in_ok-unnamed.ensures)),
+      All-append (IsUnnamed c.args.directory.now c.args.others) before more those.1
+          (one_left (IsUnnamed c.args.directory.now c.args.others) (c.as_bytes.result.now, reason.NoText) more these (c.as_bytes.ensures.value ∙ c.in_ok-unnamed.ensures, omega arith, refl)),
+    ))
     c.loop-told.invariant c.in_ok-leave_out.ensures

@@ -25,9 +25,10 @@ pub loop-name-init : goal.loop-name-init
 loop-name-init g c = record {
   paths = All-same (λ (path : String Global). IsChild c.args.directory.now (string_bytes path)) c.new-paths.result.items [] c.new-paths.ensures.items
       (All-nil (λ (path : String Global). IsChild c.args.directory.now (string_bytes path)));
-  told = tells_nothing (UpTo c.args.directory.now c.args.names.now 0 c.new-paths.result.items) (g.N.Sink.taken c.args.notes.now) (g.N.Sink.failures c.args.notes.now) c.args.left_out.now (omega arith)
-      (subst (λ (l : List (String Global)). IsPermutation {X = List ℕ} [] (texts l ++ [])) (sym c.new-paths.ensures.items) (IsPermutation-refl []),
-      All-nil (IsWrongChild c.args.directory.now (texts c.args.names.now)));
+  told = tells_nothing (UpTo c.args.directory.now c.args.names.now 0 c.new-paths.result.items) (g.N.Sink.taken c.args.notes.now) (g.N.Sink.failures c.args.notes.now) c.args.left_out.now (omega arith) (
+    subst (λ (l : List (String Global)). IsPermutation {X = List ℕ} [] (texts l ++ [])) (sym c.new-paths.ensures.items) (IsPermutation-refl []),
+    All-nil (IsWrongChild c.args.directory.now (texts c.args.names.now)),
+  );
 }
 
 pub returns-in_err-add_child-clause-told : goal.returns-in_err-add_child-clause-told
@@ -52,10 +53,11 @@ loop-name-preserved g c = record {
       (g.N.Sink.failures c.args.notes.now) (g.N.Sink.failures c.loop-name.notes) (g.N.Sink.failures c.add_child.new.notes)
       c.args.left_out.now c.loop-name.left_out c.add_child.new.left_out
       (λ before more those these.
-      let added = subst (λ (l : List ℕ). Added c.args.directory.now l c.loop-name.paths.items c.add_child.new.paths.items more) c.as_str.ensures.value these in
-      (paths_more (λ (n : String Global). child c.args.directory.now (string_bytes n)) c.args.names.now c.loop-name.name-index c.name-item.result
-      c.loop-name.paths.items c.add_child.new.paths.items before more (omega arith) c.name-item.is those.0 added.0,
-      All-append (IsWrongChild c.args.directory.now (texts c.args.names.now)) before more those.1
-      (wrong_of_one c.args.directory.now c.args.names.now c.loop-name.name-index c.name-item.result more (omega arith) c.name-item.is added.1)))
+      let added = subst (λ (l : List ℕ). Added c.args.directory.now l c.loop-name.paths.items c.add_child.new.paths.items more) c.as_str.ensures.value these in (
+        paths_more (λ (n : String Global). child c.args.directory.now (string_bytes n)) c.args.names.now c.loop-name.name-index c.name-item.result
+            c.loop-name.paths.items c.add_child.new.paths.items before more (omega arith) c.name-item.is those.0 added.0,
+        All-append (IsWrongChild c.args.directory.now (texts c.args.names.now)) before more those.1
+            (wrong_of_one c.args.directory.now c.args.names.now c.loop-name.name-index c.name-item.result more (omega arith) c.name-item.is added.1),
+      ))
       c.loop-name.invariant.told c.in_ok-add_child.ensures.told;
 }

@@ -36,8 +36,10 @@ loop-init g c =
           (ReachesRightly known c.args.options.now c.put_off.new.self.items.items c.put_off.new.self.pending.items)
           (g.N.Sink.taken c.args.notes.now) (g.N.Sink.taken c.children.new.notes) (g.N.Sink.failures c.args.notes.now) (g.N.Sink.failures c.children.new.notes)
           c.new-walk.result.left_out 0 c.children.new.left_out c.put_off.new.self.left_out c.new-walk.ensures.left_out c.put_off.ensures.left_out
-          (λ lefts given. (covers_root known c.put_off.new.self.items.items c.in-Ok.found.1 c.in_ok-paths.paths.items c.put_off.new.self.pending.items lefts none later c.in-Ok.ensures.names given.0,
-          root_unlisted_right known c.args.options.now c.put_off.new.self.items.items c.in-Ok.found.1 lefts c.in-Ok.ensures.names given.1))
+          (λ lefts given. (
+            covers_root known c.put_off.new.self.items.items c.in-Ok.found.1 c.in_ok-paths.paths.items c.put_off.new.self.pending.items lefts none later c.in-Ok.ensures.names given.0,
+            root_unlisted_right known c.args.options.now c.put_off.new.self.items.items c.in-Ok.found.1 lefts c.in-Ok.ensures.names given.1,
+          ))
           c.in_ok-paths.ensures.told;
     }
 
@@ -65,11 +67,13 @@ loop-preserved g c =
           (g.N.Sink.taken c.args.notes.now) (g.N.Sink.taken c.loop.notes) (g.N.Sink.taken c.visit.new.notes)
           (g.N.Sink.failures c.args.notes.now) (g.N.Sink.failures c.loop.notes) (g.N.Sink.failures c.visit.new.notes)
           0 c.loop.walk.left_out c.visit.new.self.left_out
-          (λ before lefts covers goes. (reaches_on known here c.loop.walk.items.items c.visit.new.self.items.items c.loop.walk.pending.items c.pop.new.self.items
-          c.visit.new.self.pending.items c.in-Some.path before lefts c.loop.invariant.kept c.in-Some.ensures.items covers.0 goes.0,
-          All-append (IsRight known c.args.options.now c.visit.new.self.items.items) before lefts
-          (all_still_right known c.args.options.now c.loop.walk.items.items c.visit.new.self.items.items before c.in_ok-visit.ensures.more covers.1)
-          (subst (λ (k : Known). All (IsRight k c.args.options.now c.visit.new.self.items.items) lefts) c.loop.invariant.kept goes.1)))
+          (λ before lefts covers goes. (
+            reaches_on known here c.loop.walk.items.items c.visit.new.self.items.items c.loop.walk.pending.items c.pop.new.self.items
+                c.visit.new.self.pending.items c.in-Some.path before lefts c.loop.invariant.kept c.in-Some.ensures.items covers.0 goes.0,
+            All-append (IsRight known c.args.options.now c.visit.new.self.items.items) before lefts
+                (all_still_right known c.args.options.now c.loop.walk.items.items c.visit.new.self.items.items before c.in_ok-visit.ensures.more covers.1)
+                (subst (λ (k : Known). All (IsRight k c.args.options.now c.visit.new.self.items.items) lefts) c.loop.invariant.kept goes.1),
+          ))
           c.loop.invariant.told c.in_ok-visit.ensures.told;
     }
 

@@ -42,9 +42,11 @@ returns-in-Ok-clause-told g c =
     × All (IsRight known c.args.options.now c.add.new.self.items.items) lefts)
     (g.N.Sink.taken c.args.notes.now) (g.N.Sink.taken c.add.new.notes) (g.N.Sink.failures c.args.notes.now) (g.N.Sink.failures c.add.new.notes)
     old.left_out c.add.new.self.left_out c.add.result
-    (λ v lefts is moved. (goes_on known old.items.items c.add.new.self.items.items c.args.path c.in-Ok.found (texts old.pending.items) (texts c.add.new.self.pending.items) lefts
-    (subst (λ r. IfOk r (λ _. c.add.new.self.items.items ≡ old.items.items ++ item_of c.args.path c.in-Ok.found ∷ [])) is c.add.ensures.items) names moved.0,
-    all_unlisted_right known c.args.options.now c.add.new.self.items.items (string_bytes c.args.path) c.in-Ok.found.what c.in-Ok.found.names lefts names moved.1))
+    (λ v lefts is moved. (
+      goes_on known old.items.items c.add.new.self.items.items c.args.path c.in-Ok.found (texts old.pending.items) (texts c.add.new.self.pending.items) lefts
+          (subst (λ r. IfOk r (λ _. c.add.new.self.items.items ≡ old.items.items ++ item_of c.args.path c.in-Ok.found ∷ [])) is c.add.ensures.items) names moved.0,
+      all_unlisted_right known c.args.options.now c.add.new.self.items.items (string_bytes c.args.path) c.in-Ok.found.what c.in-Ok.found.names lefts names moved.1,
+    ))
     c.add.ensures.told
 
 pub returns-in-Err-LeftOut-clause-told : goal.returns-in-Err-LeftOut-clause-told
@@ -58,9 +60,11 @@ returns-in-Err-LeftOut-clause-told g c =
     × All (IsRight known c.args.options.now old.items.items) lefts)
     (g.N.Sink.taken c.args.notes.now) (g.N.Sink.taken c.leave_out.new.notes) (g.N.Sink.failures c.args.notes.now) (g.N.Sink.failures c.leave_out.new.notes)
     old.left_out c.leave_out.new.count c.leave_out.result
-    (λ v lefts is these. (leaves_out known old.items.items (texts old.pending.items) (string_bytes c.args.path) c.as_bytes.result.now _ lefts c.as_bytes.ensures.value these,
-    left_as known c.args.options.now old.items.items (string_bytes c.args.path) c.as_bytes.result.now c.in-Err-LeftOut.reason _ lefts these c.as_bytes.ensures.value (cc)
-    (subst (λ (l : List ℕ). IsRight known c.args.options.now old.items.items (l, c.in-Err-LeftOut.reason)) c.as_str.ensures.value right)))
+    (λ v lefts is these. (
+      leaves_out known old.items.items (texts old.pending.items) (string_bytes c.args.path) c.as_bytes.result.now _ lefts c.as_bytes.ensures.value these,
+      left_as known c.args.options.now old.items.items (string_bytes c.args.path) c.as_bytes.result.now c.in-Err-LeftOut.reason _ lefts these c.as_bytes.ensures.value (cc)
+          (subst (λ (l : List ℕ). IsRight known c.args.options.now old.items.items (l, c.in-Err-LeftOut.reason)) c.as_str.ensures.value right),
+    ))
     c.leave_out.ensures
 
 pub returns-in-Ok-clause-more : goal.returns-in-Ok-clause-more
