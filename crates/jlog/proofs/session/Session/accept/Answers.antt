@@ -1,4 +1,4 @@
-use Rattle.std.proofs.Common.{rules, ◌≡◌, List, subst, sym}
+use Rattle.std.proofs.Common.{List, subst, sym}
 use Rattle.jsteps.specs.declared.step.Step.{Step}
 use Rattle.jsteps.specs.Planning.{page_size}
 use Rattle.jsteps.proofs.FewLemmas.{sizes_are_pages}
