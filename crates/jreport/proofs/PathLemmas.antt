@@ -1,6 +1,5 @@
 -- Bytes that are escaped, and read again.
 use Rattle.std.proofs.Common.{ℕ, ◌<◌, List, [], ◌∷◌, ap, ◌∙◌, option_map, refl}
-use Rattle.std.specs.List.{All}
 use Rattle.std.proofs.lemmas.List.Elements.{All-head, All-tail}
 use Rattle.jline.specs.Words.{escaped}
 use Rattle.jline.proofs.EscapeLemmas.{byte_read_back}
