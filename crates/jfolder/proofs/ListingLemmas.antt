@@ -9,13 +9,13 @@ use Rattle.std.proofs.lemmas.List.Elements.{All-nil, All-drop, All-head, All-pus
 use Rattle.std.proofs.lemmas.Bool.Decides.{nat_tests}
 use Rattle.std.proofs.lemmas.Str.{IsUtf8-string_bytes, is_utf8-from_IsUtf8}
 use Rattle.flashbase.specs.Lists.{below}
-use Rattle.jline.specs.Words.{octal}
+use Rattle.jline.specs.Words.{hex_of, octal, word_of}
 use Rattle.jsteps.specs.declared.op.Op.TheVariants as op
 use Rattle.jlisting.specs.Listing.{lines_in, lines_of, six_operands, statement_of_words, ◌>>=◌, operation, owner, number}
 use Rattle.jlisting.specs.declared.line.Action.{Action}
 use Rattle.jlisting.specs.declared.line.Action.TheVariants as action
 use Rattle.jlisting.specs.declared.statement.Statement.TheVariants as kind
-use Rattle.jfolder.specs.Text.{content_words, hex_of, is_link, item_words, items_words, line_of, lines_text, listing_text, object_words, owner_words, piece, piece_count, root_words, settings_of_root, settings_with, time_words, word_of, write_words}
+use Rattle.jfolder.specs.Text.{content_words, is_link, item_words, items_words, line_of, lines_text, listing_text, object_words, owner_words, piece, piece_count, root_words, settings_of_root, settings_with, time_words, write_words}
 use Rattle.jfolder.specs.Actions.{AttributesFit, ContentFits, IsRooted, ItemFits, WhatFits, actions_of, content_actions, item_actions, object_actions, write_of}
 use Rattle.jfolder.specs.Laws.{ListingIsReadBack}
 use Rattle.jfolder.specs.declared.settings.Settings.{Settings}

@@ -5,7 +5,7 @@ use Rattle.std.specs.Fmt.{decimal}
 use Rattle.std.proofs.lemmas.Grind.{flat_map-append}
 use Rattle.std.proofs.lemmas.List.Elements.{All-nil, All-cons}
 use Rattle.std.proofs.lemmas.Bool.Decides.{nat_tests}
-use Rattle.jline.specs.Words.{octal}
+use Rattle.jline.specs.Words.{hex_of, octal, word_of}
 use Rattle.jsteps.specs.declared.op.Op.TheVariants as op
 use Rattle.jlisting.specs.Listing.{◌>>=◌, number, one_operand, operation, owner, statement_of_words, three_operands, two_operands}
 use Rattle.jlisting.specs.Words.{data_of, file_name_of, text_of}
@@ -13,7 +13,7 @@ use Rattle.jlisting.specs.declared.line.Action.{Action}
 use Rattle.jlisting.specs.declared.line.Action.TheVariants as action
 use Rattle.jlisting.specs.declared.statement.Settings as theirs
 use Rattle.jlisting.specs.declared.statement.Statement.TheVariants as kind
-use Rattle.jfolder.specs.Text.{line_of, lines_text, hex_of, word_of}
+use Rattle.jfolder.specs.Text.{line_of, lines_text}
 use Rattle.jfolder.proofs.SeenLemmas.{IsByte, IsPlain, IsSeen, Seen, decimal_seen, octal_seen, seen_plain, word_of_seen}
 use Rattle.jfolder.proofs.WordLemmas.{data_read_back, mode_read_back, number_read_back, owner_read_back, text_read_back}
 use Rattle.jfolder.proofs.LineLemmas.{Reads, reads_action, reads_settings}

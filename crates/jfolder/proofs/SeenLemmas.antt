@@ -10,9 +10,8 @@ use Rattle.std.specs.Str.{IsUtf8}
 use Rattle.std.specs.Str.Parse.{AllDigits}
 use Rattle.std.specs.Fmt.{decimal}
 use Rattle.std.proofs.lemmas.Fmt.{decimal_is_IsNumeral}
-use Rattle.jline.specs.Words.{escaped_byte, hex, hex_digit, is_plain, octal}
+use Rattle.jline.specs.Words.{escaped_byte, hex, hex_digit, hex_of, is_plain, octal, word_byte, word_of}
 use Rattle.jline.proofs.WordLemmas.{octal_one_digit, octal_more}
-use Rattle.jfolder.specs.Text.{hex_of, word_byte, word_of}
 
 -- a word: neither a space nor a line feed
 pub record IsPlain (w : List ℕ) : Type 0 where

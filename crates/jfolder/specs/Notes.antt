@@ -6,7 +6,7 @@ use Rattle.flashbase.specs.Device.{PutsPart, next_count}
 use Rattle.jfolder.specs.Complete.{IsComplete, LeftOut}
 use Rattle.jfolder.specs.Known.{Known}
 use Rattle.jfolder.specs.Reasons.{IsRight, IsRootWhy}
-use Rattle.jfolder.specs.Text.{word_of}
+use Rattle.jline.specs.Words.{word_of}
 use Rattle.jfolder.specs.declared.fault.ReadFault.{ReadFault}
 use Rattle.jfolder.specs.declared.fault.ReadFault.TheVariants as fault
 use Rattle.jfolder.specs.declared.found.Options.{Options}

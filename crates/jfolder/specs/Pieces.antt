@@ -2,8 +2,8 @@
 use Rattle.std.specs.Prelude.{ℕ, List, [], ◌∷◌, ◌++◌, map, codes, decimal, if◌then◌else◌}
 use Rattle.std.specs.List.{flat_map}
 use Rattle.flashbase.specs.Lists.{below}
-use Rattle.jline.specs.Words.{octal}
-use Rattle.jfolder.specs.Text.{content_words, hex_of, is_link, line_of, lines_text, owner_words, piece_count, word_of, write_words}
+use Rattle.jline.specs.Words.{hex_of, octal, word_of}
+use Rattle.jfolder.specs.Text.{content_words, is_link, line_of, lines_text, owner_words, piece_count, write_words}
 use Rattle.jfolder.specs.declared.settings.Settings.{Settings}
 use Rattle.jfolder.specs.declared.tree.Content.{Content}
 use Rattle.jfolder.specs.declared.tree.Item.{Item}

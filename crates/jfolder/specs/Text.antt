@@ -3,7 +3,7 @@ use Rattle.std.specs.Prelude.{ℕ, ◌+◌, ◌*◌, ◌/◌, ◌==◌, ◌&&◌
 use Rattle.std.specs.List.{flat_map}
 use Rattle.std.specs.String.{string_bytes}
 use Rattle.flashbase.specs.Lists.{below}
-use Rattle.jline.specs.Words.{octal, escaped_byte, hex}
+use Rattle.jline.specs.Words.{hex_of, octal, word_of}
 use Rattle.jfolder.specs.declared.settings.Settings.{Settings}
 use Rattle.jfolder.specs.declared.tree.Attributes.{Attributes}
 use Rattle.jfolder.specs.declared.tree.Content.{Content}
@@ -11,19 +11,6 @@ use Rattle.jfolder.specs.declared.tree.Content.TheVariants as content
 use Rattle.jfolder.specs.declared.tree.Item.{Item}
 use Rattle.jfolder.specs.declared.tree.What.{What}
 use Rattle.jfolder.specs.declared.tree.What.TheVariants as what
-
--- ---- words
-
--- a byte of a path or a target: a slash is itself, and any other byte that is not plain is escaped
-abbrev pub word_byte : ℕ → List ℕ
-word_byte b = if b == 47 then b ∷ [] else escaped_byte b
-
-abbrev pub word_of : List ℕ → List ℕ
-word_of bytes = flat_map word_byte bytes
-
--- two hexadecimal digits for each byte
-abbrev pub hex_of : List ℕ → List ℕ
-hex_of bytes = flat_map (hex 2) bytes
 
 -- ---- lines, each by its words
 

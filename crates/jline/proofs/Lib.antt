@@ -1,3 +1,4 @@
+pub mod EscapeLemmas
 pub mod PathLemmas
 pub mod TurnLemmas
 pub mod WordLemmas

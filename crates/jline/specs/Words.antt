@@ -41,11 +41,25 @@ in_line_byte b = if is_control b then 92 ∷ 120 ∷ hex_digit (b / 16) ∷ hex_
 abbrev pub in_line : List ℕ → List ℕ
 in_line bytes = flat_map in_line_byte bytes
 
--- ---- either, by its name
+-- a byte of a path or a target: a slash is itself, and any other byte that is not plain is escaped
+abbrev pub word_byte : ℕ → List ℕ
+word_byte b = if b == 47 then b ∷ [] else escaped_byte b
+
+-- a path or a target
+abbrev pub word_of : List ℕ → List ℕ
+word_of bytes = flat_map word_byte bytes
+
+-- two hexadecimal digits for each byte
+abbrev pub hex_of : List ℕ → List ℕ
+hex_of bytes = flat_map (hex 2) bytes
+
+-- ---- each of them, by its name
 
 abbrev pub spelled_byte : Spelling → ℕ → List ℕ
 spelled_byte spelling.Escaped = escaped_byte
 spelled_byte spelling.InLine = in_line_byte
+spelled_byte spelling.Word = word_byte
+spelled_byte spelling.Hex = hex 2
 
 abbrev pub spelled : Spelling → List ℕ → List ℕ
 spelled way bytes = flat_map (spelled_byte way) bytes

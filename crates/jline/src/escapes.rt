@@ -1,8 +1,8 @@
-//! Names and texts that go out escaped, however long they are.
+//! Names, words and texts that go out escaped or as digits, however long they are.
 
 ghost use Rattle.std.specs.Prelude.{◌≡◌, ◌+◌, ◌*◌, ◌≤◌, ◌++◌, length};
 ghost use Rattle.flashbase.specs.Device.{Puts};
-ghost use Rattle.jline.specs.Words.{escaped, in_line, spelled};
+ghost use Rattle.jline.specs.Words.{escaped, hex_of, in_line, spelled, word_of};
 
 use crate::line::LineBuffer;
 use crate::spelling::Spelling;
@@ -49,4 +49,19 @@ pub fn put_in_line<T: Sink>(sink: &mut T, bytes: &[u8]) -> Result<(), DeviceFaul
     ensures { Puts (T.taken sink.old) (T.taken sink.new) (T.failures sink.old) (T.failures sink.new) (in_line bytes.now) result }
 {
     put_spelled(sink, Spelling::InLine, bytes)
+}
+
+/// Puts the bytes of a path or a target: a slash as it is, and each other byte that is not plain as `\x` and two hexadecimal
+/// digits. Takes no memory.
+pub fn put_word<T: Sink>(sink: &mut T, bytes: &[u8]) -> Result<(), DeviceFault>
+    ensures { Puts (T.taken sink.old) (T.taken sink.new) (T.failures sink.old) (T.failures sink.new) (word_of bytes.now) result }
+{
+    put_spelled(sink, Spelling::Word, bytes)
+}
+
+/// Puts bytes, each as two hexadecimal digits. Takes no memory.
+pub fn put_hex<T: Sink>(sink: &mut T, bytes: &[u8]) -> Result<(), DeviceFault>
+    ensures { Puts (T.taken sink.old) (T.taken sink.new) (T.failures sink.old) (T.failures sink.new) (hex_of bytes.now) result }
+{
+    put_spelled(sink, Spelling::Hex, bytes)
 }

@@ -15,7 +15,7 @@ mod paths;
 mod spelling;
 mod texts;
 
-pub use crate::escapes::{put_escaped, put_in_line};
+pub use crate::escapes::{put_escaped, put_hex, put_in_line, put_word};
 pub use crate::forms::{write_block, write_extent, write_total};
 pub use crate::line::{LineBuffer, MAX_LINE};
 pub use crate::paths::put_path;

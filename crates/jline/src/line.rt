@@ -1,7 +1,7 @@
 //! One line of what the program prints, in a buffer of fixed size that takes no memory.
 
 ghost use Rattle.std.specs.Prelude.{◌≡◌, ◌+◌, ◌*◌, ◌^◌, ◌<◌, ◌≤◌, ◌++◌, ◌∷◌, [], length, decimal};
-ghost use Rattle.jline.specs.Words.{hex, hex_digit, octal, escaped, escaped_byte, in_line_byte, spelled, spelled_byte};
+ghost use Rattle.jline.specs.Words.{hex, hex_digit, octal, escaped, escaped_byte, in_line_byte, spelled, spelled_byte, word_byte};
 
 use crate::spelling::Spelling;
 use arrayvec::ArrayVec;
@@ -142,6 +142,19 @@ impl LineBuffer {
         }
     }
 
+    /// A byte of a path or a target.
+    fn push_word_byte(&mut self, byte: u8)
+        requires { length self.old + 4 ≤ MAX_LINE }
+        ensures text { self.new ≡ self.old ++ word_byte byte }
+        ensures grows { length self.new ≤ length self.old + 4 }
+    {
+        if byte == b'/' {
+            self.push(byte);
+        } else {
+            self.push_escaped_byte(byte);
+        }
+    }
+
     fn push_spelled_byte(&mut self, spelling: Spelling, byte: u8)
         requires { length self.old + 4 ≤ MAX_LINE }
         ensures text { self.new ≡ self.old ++ spelled_byte spelling byte }
@@ -150,6 +163,8 @@ impl LineBuffer {
         match spelling {
             Spelling::Escaped => self.push_escaped_byte(byte),
             Spelling::InLine => self.push_in_line_byte(byte),
+            Spelling::Word => self.push_word_byte(byte),
+            Spelling::Hex => self.push_hex(2, u64::from(byte)),
         }
     }
 

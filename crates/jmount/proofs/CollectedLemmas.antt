@@ -32,14 +32,14 @@ collected_none = record {
   inodes_apart = λ node h other g c. Contains-none node h;
 }
 
-entries_push : (ns : List (ℕ × NodeRef)) (addr : ℕ) (node : NodeRef) → entries (without_addresses (ns ++ (addr, node) ∷ [])) ≡ entries (without_addresses ns) ++ entries (node ∷ [])
+pub entries_push : (ns : List (ℕ × NodeRef)) (addr : ℕ) (node : NodeRef) → entries (without_addresses (ns ++ (addr, node) ∷ [])) ≡ entries (without_addresses ns) ++ entries (node ∷ [])
 entries_push ns addr node = ap (filter_map entry_in) (map_push (λ (n : ℕ × NodeRef). n.1) ns (addr, node)) ∙ filter_map-append entry_in (without_addresses ns) (node ∷ [])
 
-inodes_push : (ns : List (ℕ × NodeRef)) (addr : ℕ) (node : NodeRef) → inodes (without_addresses (ns ++ (addr, node) ∷ [])) ≡ inodes (without_addresses ns) ++ inodes (node ∷ [])
+pub inodes_push : (ns : List (ℕ × NodeRef)) (addr : ℕ) (node : NodeRef) → inodes (without_addresses (ns ++ (addr, node) ∷ [])) ≡ inodes (without_addresses ns) ++ inodes (node ∷ [])
 inodes_push ns addr node = ap (filter_map inode_in) (map_push (λ (n : ℕ × NodeRef). n.1) ns (addr, node)) ∙ filter_map-append inode_in (without_addresses ns) (node ∷ [])
 
 -- one more on both sides
-same_push : {X : Type 0} (old new all : List X) (y : X) → ((x : X) → Contains old x ↔ Contains all x) → ((x : X) → Contains new x ↔ (Contains old x ⊎ (x ≡ y)))
+pub same_push : {X : Type 0} (old new all : List X) (y : X) → ((x : X) → Contains old x ↔ Contains all x) → ((x : X) → Contains new x ↔ (Contains old x ⊎ (x ≡ y)))
     → (x : X) → Contains new x ↔ Contains (all ++ y ∷ []) x
 same_push {X} old new all y same gains x = (
   λ h.
@@ -54,6 +54,27 @@ same_push {X} old new all y same gains x = (
       (Contains-push_cases all y x h),
 )
 
+-- what is gained clashes with nothing that was there
+pub entries_apart_push : (gained more : List Dirent) (entry : Dirent) → names.NoEntriesClash gained → Gains gained more entry → names.NoEntryClashesWith gained entry → names.NoEntriesClash more
+entries_apart_push gained more entry apart gains none a h b g c =
+    ⊎_elim
+    (λ a_was.
+    ⊎_elim
+    (λ b_was. apart a a_was b b_was c)
+    (λ (b_is : b ≡ entry). none a a_was (names_sym b_is c))
+    ((gains b).0 g))
+    (λ (a_is : a ≡ entry).
+    ⊎_elim
+    (λ b_was. none b b_was (subst (λ (z : Dirent). names.EntriesClash b z) a_is c))
+    (λ (b_is : b ≡ entry). c.contents (b_is ∙ sym a_is))
+    ((gains b).0 g))
+    ((gains a).0 h)
+  where
+    names_sym : {a b : Dirent} → b ≡ entry → names.EntriesClash b a → names.EntriesClash a entry
+    names_sym {a} {b} is c =
+        let turned : names.EntriesClash a b = clashes_sym (Entry b) (Entry a) c in
+        subst (λ (z : Dirent). names.EntriesClash a z) is turned
+
 pub collected_entry : (gained more : List Dirent) (inode_list : List InodeNode) (ns : List (ℕ × NodeRef)) (addr : ℕ) (entry : Dirent)
     → Collected gained inode_list ns → Gains gained more entry → names.NoEntryClashesWith gained entry → Collected more inode_list (ns ++ (addr, Entry entry) ∷ [])
 collected_entry gained more inode_list ns addr entry before gains none = record {
@@ -63,26 +84,9 @@ collected_entry gained more inode_list ns addr entry before gains none = record 
   same_inodes =
       subst (λ (l : List InodeNode). (x : InodeNode) → Contains inode_list x ↔ Contains l x) (sym (inodes_push ns addr (Entry entry) ∙ append-nil (inodes (without_addresses ns))))
       before.same_inodes;
-  entries_apart = λ a h b g c.
-      ⊎_elim
-      (λ a_was.
-      ⊎_elim
-      (λ b_was. before.entries_apart a a_was b b_was c)
-      (λ (b_is : b ≡ entry). none a a_was (names_sym b_is c))
-      ((gains b).0 g))
-      (λ (a_is : a ≡ entry).
-      ⊎_elim
-      (λ b_was. none b b_was (subst (λ (z : Dirent). names.EntriesClash b z) a_is c))
-      (λ (b_is : b ≡ entry). c.contents (b_is ∙ sym a_is))
-      ((gains b).0 g))
-      ((gains a).0 h);
+  entries_apart = entries_apart_push gained more entry before.entries_apart gains none;
   inodes_apart = before.inodes_apart;
 }
-  where
-    names_sym : {a b : Dirent} → b ≡ entry → names.EntriesClash b a → names.EntriesClash a entry
-    names_sym {a} {b} is c =
-        let turned : names.EntriesClash a b = clashes_sym (Entry b) (Entry a) c in
-        subst (λ (z : Dirent). names.EntriesClash a z) is turned
 
 pub collected_inode : (gained : List Dirent) (inode_list more : List InodeNode) (ns : List (ℕ × NodeRef)) (addr : ℕ) (node : InodeNode)
     → Collected gained inode_list ns → ((x : InodeNode) → Contains more x ↔ (Contains inode_list x ⊎ (x ≡ node))) → NoInodeClashesWith inode_list node

@@ -23,6 +23,7 @@ pub mod WalkLemmas
 pub mod UseLemmas
 pub mod VersionsLemmas
 pub mod CollectLemmas
+pub mod GatherLemmas
 pub mod StoredStateLemmas
 pub mod MountLemmas
 pub mod ShapeLemmas

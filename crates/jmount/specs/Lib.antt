@@ -4,6 +4,7 @@ pub mod Codes
 pub mod Collected
 pub mod Examples
 pub mod Find
+pub mod Gathered
 pub mod Inodes
 pub mod Laws
 pub mod Mount

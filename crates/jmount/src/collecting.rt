@@ -6,10 +6,12 @@ ghost use Rattle.jname.specs.Clash as clash;
 ghost use Rattle.jname.specs.Live as live;
 ghost use Rattle.jmount.specs.Clash.{NoInodeClashesWith, SomeInodeClashesWith};
 ghost use Rattle.jmount.specs.Inodes.{GainsInode};
-ghost use Rattle.jmount.specs.StateOf.{numbers_in};
+ghost use Rattle.jmount.specs.Gathered.{Gathered};
+ghost use Rattle.jmount.specs.StateOf.{entries, numbers_in};
 ghost use Rattle.jmount.specs.Collected.{Collected, IsRefused, StopsCollecting, without_addresses, greatest_number};
 
 use crate::fault::MountFault;
+use crate::gathering::{are_in_order, gather_names};
 use crate::inodes::Inodes;
 use crate::versions::InodeFault;
 use jname::{NameFault, Names};
@@ -25,8 +27,28 @@ pub struct NodeTables<'a> {
     pub greatest: u32,
 }
 
-/// Collects nodes in order, up to the first that clashes with one before it.
+/// Collects nodes, up to the first that clashes with one before it.
 pub fn collect<'a>(
+    alloc: Global,
+    nodes: Vec<(u32, NodeRef<'a>)>,
+) -> Result<NodeTables<'a>, MountFault>
+    ensures ok { IfOk result (λ tables. Collected tables.names tables.inodes nodes.entry.items) }
+    ensures greatest { IfOk result (λ tables. tables.greatest ≡ greatest_number (without_addresses nodes.entry.items)) }
+    ensures err { IfErr result (StopsCollecting nodes.entry.items) }
+{
+    if are_in_order(&nodes) {
+        return collect_in_turn(alloc, nodes);
+    }
+    match gather_names(alloc, &nodes) {
+        Ok(names) => collect_inodes(alloc, nodes, names),
+        // Which node of which clash is the first is told by their order.
+        Err(NameFault::Clash) => collect_in_turn(alloc, nodes),
+        Err(NameFault::OutOfMemory) => Err(MountFault::OutOfMemory),
+    }
+}
+
+/// Collects nodes, one after the other.
+fn collect_in_turn<'a>(
     alloc: Global,
     nodes: Vec<(u32, NodeRef<'a>)>,
 ) -> Result<NodeTables<'a>, MountFault>
@@ -42,6 +64,32 @@ pub fn collect<'a>(
         match node {
             NodeRef::Entry(entry) => add_entry(&mut names, addr, &entry)?,
             NodeRef::Inode(inode) => add_inode(&mut inodes, addr, inode)?,
+        }
+    }
+    Ok(NodeTables {
+        names,
+        inodes,
+        greatest,
+    })
+}
+
+/// Collects the inode nodes of nodes whose names are gathered.
+fn collect_inodes<'a>(
+    alloc: Global,
+    nodes: Vec<(u32, NodeRef<'a>)>,
+    names: Names<'a>,
+) -> Result<NodeTables<'a>, MountFault>
+    requires { Gathered names (entries (without_addresses nodes.items)) }
+    ensures ok { IfOk result (λ tables. Collected tables.names tables.inodes nodes.entry.items) }
+    ensures greatest { IfOk result (λ tables. tables.greatest ≡ greatest_number (without_addresses nodes.entry.items)) }
+    ensures err { IfErr result (StopsCollecting nodes.entry.items) }
+{
+    let mut inodes = Inodes::new(alloc);
+    let mut greatest = 1;
+    for (addr, node) in nodes {
+        greatest = greatest.max(number_in(&node));
+        if let NodeRef::Inode(inode) = node {
+            add_inode(&mut inodes, addr, inode)?;
         }
     }
     Ok(NodeTables {

@@ -11,6 +11,7 @@
 mod collecting;
 pub mod examples;
 mod fault;
+mod gathering;
 mod inodes;
 pub mod laws;
 mod mounted;

@@ -52,6 +52,14 @@ const CLASHING: &[Item] = &[
     Item::Data(Version(2, 1, DIRECTORY, 0), 0, b""),
 ];
 
+/// Two entries of one name and version that contradict one another, and one between them that is not in order.
+const CLASHING_NAMES: &[Item] = &[
+    Item::Data(Version(2, 1, FILE, 0), 0, b""),
+    Item::Entry(1, 1, 2, b"b"),
+    Item::Entry(1, 2, 2, b"a"),
+    Item::Entry(1, 1, 3, b"b"),
+];
+
 /// Passes with each allocation failing in turn too: memory is then blamed, also of an image that does not mount, and the same
 /// call answers as if there had been none before.
 #[test]
@@ -59,6 +67,7 @@ fn refused_mounts_are_want_of_memory(rt: HostRuntime) {
     for (items, want) in [
         (ITEMS, None),
         (CLASHING, Some(MountFault::Clash { addr: 0x70 })),
+        (CLASHING_NAMES, Some(MountFault::Clash { addr: 0x9C })),
     ] {
         let Ok(image) = image_of::<LittleEndian>(rt.alloc(), items) else {
             return;

@@ -26,7 +26,7 @@ const MADE: Item = Item::Data(Version(2, 1, FILE, 0), 0, b"");
 const MADE_ELSE: Item = Item::Data(Version(2, 1, 0o100600, 0), 0, b"");
 
 /// Images after a clean marker, with their block sizes.
-const IMAGES: [(u32, &[Item], Option<MountFault>); 9] = [
+const IMAGES: [(u32, &[Item], Option<MountFault>); 12] = [
     // Nodes of one version clash where they differ: in the mode, in the data, in the number that a name stands for.
     (
         4096,
@@ -60,6 +60,40 @@ const IMAGES: [(u32, &[Item], Option<MountFault>); 9] = [
             Item::Data(Version(1, 1, DIRECTORY, 0), 0, b""),
         ],
         None,
+    ),
+    // So it is where names come in no order.
+    (
+        4096,
+        &[
+            Item::Marker,
+            Item::Entry(1, 1, 2, b"q"),
+            Item::Entry(1, 1, 0, b"q"),
+            Item::Entry(1, 2, 3, b"a"),
+        ],
+        Some(MountFault::Clash { addr: 0x38 }),
+    ),
+    (
+        4096,
+        &[
+            Item::Marker,
+            Item::Entry(1, 1, 2, b"q"),
+            Item::Entry(1, 2, 3, b"a"),
+            MADE,
+            MADE_ELSE,
+        ],
+        Some(MountFault::Clash { addr: 0xA8 }),
+    ),
+    (
+        4096,
+        &[
+            Item::Marker,
+            Item::Entry(1, 1, 2, b"q"),
+            Item::Entry(1, 2, 3, b"a"),
+            MADE,
+            MADE_ELSE,
+            Item::Entry(1, 1, 0, b"q"),
+        ],
+        Some(MountFault::Clash { addr: 0xA8 }),
     ),
     // The fault of least address is answered.
     (

@@ -3,7 +3,7 @@
 use crate::images::{BLOCK, GEOMETRY, TREE, image_of};
 use byteorder::LittleEndian;
 use flashbase::{FromReader, PutFault};
-use jline::{put_escaped, put_in_line, put_text};
+use jline::{put_escaped, put_hex, put_in_line, put_text, put_word};
 use jmount::{FindFault, mount};
 use jreport::{
     ProgramFault, content, fault_line, fault_text, note_line, put_object, put_report, stream_lines,
@@ -28,9 +28,11 @@ enum Text {
     Plain,
     Escaped,
     InLine,
+    Word,
+    Hex,
 }
 
-const TEXTS: [Text; 12] = [
+const TEXTS: [Text; 14] = [
     Text::Report,
     Text::Stream,
     Text::Verdict,
@@ -43,6 +45,8 @@ const TEXTS: [Text; 12] = [
     Text::Plain,
     Text::Escaped,
     Text::InLine,
+    Text::Word,
+    Text::Hex,
 ];
 
 const FAULT: ProgramFault<'static> = ProgramFault::Path(FindFault::NotFound);
@@ -102,6 +106,8 @@ fn put(
         Text::Plain => put_text(sink, BYTES)?,
         Text::Escaped => put_escaped(sink, BYTES)?,
         Text::InLine => put_in_line(sink, BYTES)?,
+        Text::Word => put_word(sink, BYTES)?,
+        Text::Hex => put_hex(sink, BYTES)?,
     }
     Ok(())
 }

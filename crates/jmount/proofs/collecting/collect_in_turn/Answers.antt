@@ -4,7 +4,7 @@ use Rattle.jnode.specs.declared.node.NodeRef.{NodeRef}
 use Rattle.jmount.specs.Collected.{Collected, StopsCollecting}
 use Rattle.jmount.proofs.CollectedLemmas.{collected_entry, collected_inode}
 use Rattle.jmount.proofs.CollectLemmas.{number_push, entry_refused, inode_refused}
-use Rattle.jmount.proofs.collecting.collect.Goals as goal
+use Rattle.jmount.proofs.collecting.collect_in_turn.Goals as goal
 
 pub loop-addr-preserved-in-Continue-1 : goal.loop-addr-preserved-in-Continue-1
 loop-addr-preserved-in-Continue-1 c =

@@ -1,7 +1,7 @@
 use Rattle.std.proofs.Common.{◌≡◌, ◌++◌}
 use Rattle.std.specs.Vec.Iter.{into_iter_items}
 use Rattle.jmount.specs.Collected.{Collected, without_addresses, greatest_number}
-use Rattle.jmount.proofs.collecting.collect.Given as goal
+use Rattle.jmount.proofs.collecting.collect_in_turn.Given as goal
 
 abbrev pub invariant-loop-addr : goal.invariant-loop-addr
 invariant-loop-addr l = record {

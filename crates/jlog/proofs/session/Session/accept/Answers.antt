@@ -1,0 +1,26 @@
+use Rattle.std.proofs.Common.{List, subst, sym}
+use Rattle.jsteps.specs.declared.step.Step.{Step}
+use Rattle.jsteps.specs.Planning.{page_size}
+use Rattle.jsteps.proofs.FewLemmas.{sizes_are_pages}
+use Rattle.jlog.specs.Running.{CanWriteAll}
+use Rattle.jlog.specs.Session.{IsGoing}
+use Rattle.jlog.proofs.RunLemmas.{can_plan}
+use Rattle.jlog.proofs.session.Session.accept.Goals as goal
+
+pub has_room-requires-clause-steps : goal.has_room-requires-clause-steps
+has_room-requires-clause-steps g c =
+    let s = c.args.self.now in
+    let e = g.E.Order.order in
+    let steps : List Step = c.in-Ok.steps.items in
+    let going : IsGoing s.block s.blocks s.cursor s.index = s.going c.requires.whole in
+    let can = can_plan (page_size s.page) e s.index c.args.op.now steps (sizes_are_pages s.page) going.consistent c.requires.known c.in-Ok.ensures.ok in
+    record { page = page_size s.page; is_page = sizes_are_pages s.page; fits = s.holds; can = subst (CanWriteAll (page_size s.page) e s.index) (sym c.deref.ensures.value) can.0 }
+
+pub needed-requires-clause-steps : goal.needed-requires-clause-steps
+needed-requires-clause-steps g c =
+    let s = c.args.self.now in
+    let e = g.E.Order.order in
+    let steps : List Step = c.in-Ok.steps.items in
+    let going : IsGoing s.block s.blocks s.cursor s.index = s.going c.requires.whole in
+    let can = can_plan (page_size s.page) e s.index c.args.op.now steps (sizes_are_pages s.page) going.consistent c.requires.known c.in-Ok.ensures.ok in
+    (page_size s.page, sizes_are_pages s.page, subst (CanWriteAll (page_size s.page) e s.index) (sym c.deref-then-not-has_room.ensures.value) can.0)
