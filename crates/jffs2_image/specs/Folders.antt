@@ -12,6 +12,7 @@ use Rattle.jextract.specs.declared.fault.ExtractFault.{ExtractFault}
 use Rattle.jextract.specs.declared.fault.ExtractFault.TheVariants as extract
 use Rattle.jfolder.specs.Actions.{Fits}
 use Rattle.jfolder.specs.Known.{Known}
+use Rattle.jfolder.specs.Links.{AreLinked}
 use Rattle.jfolder.specs.Notes.{Tells}
 use Rattle.jfolder.specs.Objects.{IsObjectTold}
 use Rattle.jfolder.specs.Trees.{IsTree, Rise}
@@ -83,7 +84,7 @@ abbrev pub settings : Option command.Owner → Option ℕ → Options
 settings owner time = record { owner = option_map owner_given owner; time = time }
 
 -- what was read of a folder: a tree in the order of its paths, which a listing can say, with the owner and the time that the options give, and
--- else as the host tells it, where that is known
+-- else as the host tells it, where that is known; each further name of a file is a link
 pub record IsListable (known : Known) (options : Options) (folder : Folder) : Type 0 where
   pub fits : Fits folder.root folder.items.items
   pub tree : IsTree folder.items.items
@@ -92,6 +93,7 @@ pub record IsListable (known : Known) (options : Options) (folder : Folder) : Ty
   pub root_told : IsToldAt known.looked options [] folder.root
   pub told : All (IsItemTold known.looked options) folder.items.items
   pub objects : All (IsObjectTold known) folder.items.items
+  pub links : AreLinked known folder.items.items
 
 -- `listing` of the folder of a name: what is left out is told, and the listing of the rest goes out
 abbrev pub ListsFolder : Known → Options → List ℕ → Option (List ℕ) → Option (List ℕ) → ℕ → ℕ → Option (List ℕ) → Option (List ℕ) → ℕ → ℕ → Result ℕ ProgramFault → Type 0

@@ -10,3 +10,4 @@ mod TreeLemmas
 mod WalkLemmas
 mod NoteLemmas
 mod CompleteLemmas
+mod LinkLemmas

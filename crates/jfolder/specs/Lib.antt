@@ -2,6 +2,7 @@ pub mod Actions
 pub mod Complete
 pub mod Known
 pub mod Laws
+pub mod Links
 pub mod Notes
 pub mod Objects
 pub mod Order

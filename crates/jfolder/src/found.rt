@@ -4,6 +4,7 @@ ghost use Rattle.std.specs.Prelude.{◌≡◌, ◌<◌, [], pos, All, IfErr, IfN
 ghost use Rattle.std.specs.String.{string_bytes};
 ghost use Rattle.jfolder.specs.Actions.{AttributesFit, ContentFits, IsFileWord, WhatFits};
 ghost use Rattle.jfolder.specs.Complete.{NamesFit};
+ghost use Rattle.jfolder.specs.Links.{IsIdentity};
 ghost use Rattle.jfolder.specs.Objects.{HasContent, HasObject, IsOfKind, SizeFits, kind_bits, kind_number};
 ghost use Rattle.jfolder.specs.Reasons.{IsAttributesWhy, IsContentWhy, IsKindWhy, IsObjectWhy, IsTargetWhy, IsWhy, SkipsFor};
 ghost use Rattle.jfolder.specs.Trees.{HasTarget, LinksBack};
@@ -231,7 +232,7 @@ pub struct Found {
 
 /// What other names of a regular file are known by, if there are any.
 pub fn identity_of(looked: &Looked) -> Option<(u64, u64)>
-    ensures { IfSome result (λ _. kind_bits looked.now.mode ≡ 8) }
+    ensures { IsIdentity looked.now result }
 {
     if looked.links > 1 && kind_of(looked.mode) == Ok(HostKind::Regular) {
         return Some((looked.device, looked.number));
@@ -280,6 +281,7 @@ pub fn first_found<F: HostFolder>(
     ensures names { IfOk result (λ found. NamesFit ((F.known folder.old).names path.now) found.what found.names) }
     ensures kind { IfOk result (λ found. IsOfKind looked.now found.what) }
     ensures object { IfOk result (λ found. HasObject (F.known folder.old) path.now found.what) }
+    ensures identity { IfOk result (λ found. IsIdentity looked.now found.identity) }
     ensures why { IfErr result (SkipsFor (IsWhy (F.known folder.old) options.now path.now looked.now)) }
     ensures kept { F.known folder.new ≡ F.known folder.old }
 {
@@ -301,6 +303,7 @@ pub fn link_to(first: String, looked: &Looked, options: &Options) -> Result<Foun
     ensures told { IfOk result (λ found. IsTold options.now looked.now found.attributes) }
     ensures what { IfOk result (λ found. found.what ≡ What.Link first) }
     ensures names { IfOk result (λ found. found.names ≡ None) }
+    ensures identity { IfOk result (λ found. found.identity ≡ None) }
     ensures why { IfErr result (SkipsFor (IsAttributesWhy options.now looked.now)) }
 {
     let attributes = attributes_of(looked, options)?;

@@ -1,14 +1,15 @@
 //! Reading a folder of the host.
 
-ghost use Rattle.std.specs.Prelude.{◌≡◌, ◌∷◌, ◌++◌, ◌⊎◌, [], map, replicate, reverse, All, IfErr, IfNone, IfOk, IfSome, IsPermutation, IsSome, IsTrue, None};
+ghost use Rattle.std.specs.Prelude.{◌≡◌, ◌∷◌, ◌++◌, ◌⊎◌, [], length, map, replicate, reverse, All, IfErr, IfNone, IfOk, IfSome, IsPermutation, IsSome, IsSomeAnd, IsTrue, None};
 ghost use Rattle.std.specs.String.{string_bytes};
 ghost use Rattle.jfolder.specs.Actions.{AttributesFit, Fits, IsRooted, ItemFits};
 ghost use Rattle.jfolder.specs.Complete.{GoesOn, NamesFit, child, children, children_of, left_paths};
 ghost use Rattle.jfolder.specs.Known.{inside, named_of};
+ghost use Rattle.jfolder.specs.Links.{AreLinked, FirstsFit, HasOtherNames, IsFirst, LinksFit, Remembers, WalkLinks, id_of};
 ghost use Rattle.jfolder.specs.Notes.{Tells, TellsMore};
 ghost use Rattle.jfolder.specs.Objects.{AreOne, HasObject, IsObjectTold, IsOfKind, kind_bits};
 ghost use Rattle.jfolder.specs.Reasons.{ComesAgain, IsRefusal, IsRight, IsRootWhy, IsUnlisted, IsUnlistedIn, IsUnnamed, IsWrongChild, IsWrongText, SkipsFor};
-ghost use Rattle.jfolder.specs.Trees.{IsTree, Rise};
+ghost use Rattle.jfolder.specs.Trees.{IsRegular, IsTree, Rise};
 ghost use Rattle.jfolder.specs.Walking.{FoundFits, HasOptions, IsChild, IsFileOf, IsItemTold, IsMore, IsPending, IsShortName, IsToldAt, WalkFits, comes_next, item_of};
 
 use crate::fault::{FolderFault, ReadFault};
@@ -85,6 +86,7 @@ fn inside(path: &str) -> Option<&str>
 /// tell, they are not.
 fn is_one<F: HostFolder>(folder: &mut F, first: &str, looked: &Looked) -> Result<bool, Skip>
     ensures one { IfOk result (λ one. IsTrue one → IfSome ((F.known folder.old).looked (inside first.now)) (λ told. AreOne told looked.now)) }
+    ensures every { IfOk result (λ one. IsRooted first.now → IfSome ((F.known folder.old).looked (inside first.now)) (λ told. AreOne told looked.now → IsTrue one)) }
     ensures memory { IfErr result (SkipsFor (λ _. ⊥)) }
     ensures kept { F.known folder.new ≡ F.known folder.old }
 {
@@ -210,6 +212,8 @@ impl Walk {
     fn first_path(&self, looked: &Looked) -> Option<&str>
         ensures file { IfSome result (λ first. IsFileOf self.now.items.items first.now) }
         ensures kind { IfSome result (λ _. kind_bits looked.now.mode ≡ 8) }
+        ensures every { (i : Item) → HasOtherNames looked.now → IsFirst self.now.items.items self.now.firsts (id_of looked.now) i → IsRegular i.what
+            → IsSomeAnd result (λ first. first.now ≡ string_bytes i.path) }
     {
         let index = self.firsts.get(&identity_of(looked)?)?;
         let item = self.items.as_slice().get(*index)?;
@@ -242,6 +246,7 @@ impl Walk {
     ) -> Result<Found, Skip>
         requires items { All ItemFits self.now.items.items }
         requires path { IsRooted path.now }
+        requires firsts { FirstsFit (F.known folder.old) self.now.items.items self.now.firsts }
         ensures found { IfOk result (FoundFits options.now self.now.items.items) }
         ensures rooted { IfOk result (λ _. IsRooted path.now) }
         ensures next { IfOk result (λ _. IsTrue (comes_next self.now.items.items path.now)) }
@@ -249,6 +254,7 @@ impl Walk {
         ensures names { IfOk result (λ found. NamesFit ((F.known folder.old).names (inside path.now)) found.what found.names) }
         ensures kind { IfOk result (λ found. IfSome ((F.known folder.old).looked (inside path.now)) (λ told. IsOfKind told found.what)) }
         ensures object { IfOk result (λ found. HasObject (F.known folder.old) (inside path.now) found.what) }
+        ensures links { IfOk result (LinksFit (F.known folder.old) self.now.items.items path.now) }
         ensures why { IfErr result (SkipsFor (λ why. IsRight (F.known folder.old) options.now self.now.items.items (path.now, why))) }
         ensures kept { F.known folder.new ≡ F.known folder.old }
     {
@@ -274,6 +280,7 @@ impl Walk {
     ) -> Result<Vec<String>, ReadFault>
         ensures items { self.new.items.items ≡ self.old.items.items }
         ensures pending { self.new.pending.items ≡ self.old.pending.items }
+        ensures firsts { self.new.firsts ≡ self.old.firsts }
         ensures paths { IfOk result (λ paths. All (λ child. IsSome names × IsChild path.now (string_bytes child)) paths.items) }
         ensures told { TellsMore (λ paths lefts. IsPermutation (children_of path.now names) (map string_bytes paths.items ++ left_paths lefts)
             × All (IsUnlistedIn path.now names) lefts)
@@ -291,6 +298,7 @@ impl Walk {
         ensures items { self.new.items.items ≡ self.old.items.items }
         ensures pending { self.new.pending.items ≡ self.old.pending.items }
         ensures left_out { self.new.left_out ≡ self.old.left_out }
+        ensures firsts { IfOk result (λ _. Remembers identity (length self.old.items.items) self.old.firsts self.new.firsts) }
         ensures fault { IfErr result (λ fault. fault ≡ ReadFault.OutOfMemory) }
     {
         if let Some(identity) = identity {
@@ -309,6 +317,7 @@ impl Walk {
         ensures items { IfOk result (λ _. self.new.items.items ≡ self.old.items.items ++ record { path = path; attributes = attributes; what = what } ∷ []) }
         ensures pending { self.new.pending.items ≡ self.old.pending.items }
         ensures left_out { self.new.left_out ≡ self.old.left_out }
+        ensures firsts { self.new.firsts ≡ self.old.firsts }
         ensures fault { IfErr result (λ fault. fault ≡ ReadFault.OutOfMemory) }
     {
         self.items.push(Item {
@@ -332,6 +341,7 @@ impl Walk {
         requires pending { All (λ p. IsPending self.old.items.items (string_bytes p)) self.old.pending.items }
         ensures items { IfOk result (λ _. self.new.items.items ≡ self.old.items.items ++ item_of path found ∷ []) }
         ensures pending { IfOk result (λ _. All (λ p. IsPending self.new.items.items (string_bytes p)) self.new.pending.items) }
+        ensures firsts { IfOk result (λ _. Remembers found.identity (length self.old.items.items) self.old.firsts self.new.firsts) }
         ensures told { TellsMore (λ _ lefts. IsPermutation (children_of (string_bytes path) found.names ++ map string_bytes self.old.pending.items)
             (map string_bytes self.new.pending.items ++ left_paths lefts)
             × All (IsUnlistedIn (string_bytes path) found.names) lefts)
@@ -355,6 +365,7 @@ impl Walk {
         ensures items { self.new.items.items ≡ self.old.items.items }
         ensures pending { IfOk result (λ _. self.new.pending.items ≡ self.old.pending.items ++ reverse paths.items) }
         ensures left_out { self.new.left_out ≡ self.old.left_out }
+        ensures firsts { self.new.firsts ≡ self.old.firsts }
     {
         while let Some(path) = paths.pop() {
             self.pending.push(path)?;
@@ -373,7 +384,9 @@ impl Walk {
     ) -> Result<(), ReadFault>
         requires fits { WalkFits (F.known folder.old) options.now self.old.items.items self.old.pending.items }
         requires path { IsPending self.old.items.items (string_bytes path) }
+        requires links { WalkLinks (F.known folder.old) self.old.items.items self.old.firsts }
         ensures fits { IfOk result (λ _. WalkFits (F.known folder.old) options.now self.new.items.items self.new.pending.items) }
+        ensures links { IfOk result (λ _. WalkLinks (F.known folder.old) self.new.items.items self.new.firsts) }
         ensures more { IfOk result (λ _. IsMore self.old.items.items self.new.items.items) }
         ensures kept { F.known folder.new ≡ F.known folder.old }
         ensures told { TellsMore (λ _ lefts. GoesOn (F.known folder.old) self.old.items.items (map string_bytes self.old.pending.items ++ string_bytes path ∷ [])
@@ -432,6 +445,7 @@ pub fn read_folder<F: HostFolder, N: Sink>(
     ensures root { IfOk result (λ read. IsToldAt (F.known folder.old).looked options.now [] read.root) }
     ensures told { IfOk result (λ read. All (IsItemTold (F.known folder.old).looked options.now) read.items.items) }
     ensures objects { IfOk result (λ read. All (IsObjectTold (F.known folder.old)) read.items.items) }
+    ensures links { IfOk result (λ read. AreLinked (F.known folder.old) read.items.items) }
     ensures notes { Tells (F.known folder.old) options.now (N.taken notes.old) (N.taken notes.new) (N.failures notes.old) (N.failures notes.new) result }
 {
     let (root, names) = match root_of(folder, options) {

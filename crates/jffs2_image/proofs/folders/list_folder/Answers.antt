@@ -15,6 +15,7 @@ returns-in-Ok-put_read g c = (
     root_told = c.in-Ok.ensures.root;
     told = c.in-Ok.ensures.told;
     objects = c.in-Ok.ensures.objects;
+    links = c.in-Ok.ensures.links;
   },
   refl,
   c.in-Ok-put_read.ensures.0,
@@ -33,6 +34,7 @@ returns g c = inl (
     root_told = c.in-Ok.ensures.root;
     told = c.in-Ok.ensures.told;
     objects = c.in-Ok.ensures.objects;
+    links = c.in-Ok.ensures.links;
   },
   refl,
   c.in-Err-put_read.ensures.0,

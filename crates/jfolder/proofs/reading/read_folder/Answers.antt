@@ -7,11 +7,13 @@ use Rattle.std.specs.declared.alloc.Global.{Global}
 use Rattle.std.proofs.lemmas.Result.{err_from_is_err_and}
 use Rattle.jfolder.specs.Complete.{GoesOn, LeftOut, children, left_paths}
 use Rattle.jfolder.specs.Known.{Known, named_of}
+use Rattle.jfolder.specs.Links.{WalkLinks}
 use Rattle.jfolder.specs.Reasons.{IsRight, IsUnlisted}
 use Rattle.jfolder.specs.Walking.{WalkFits}
 use Rattle.jfolder.specs.declared.found.Options.{Options}
 use Rattle.jfolder.specs.declared.tree.Item.{Item}
 use Rattle.jfolder.proofs.CompleteLemmas.{Reaches, covers_root, reaches_all, reaches_on, texts}
+use Rattle.jfolder.proofs.LinkLemmas.{links_start}
 use Rattle.jfolder.proofs.WalkLemmas.{all_have_options, popped, walk_starts}
 use Rattle.jfolder.proofs.NoteLemmas.{read_failed, tells_then, told_same, told_then}
 use Rattle.jfolder.proofs.ReasonLemmas.{all_still_right, root_unlisted_right}
@@ -31,6 +33,7 @@ loop-init g c =
     record {
       kept = c.root_of.ensures.kept;
       fits = walk_starts known c.args.options.now c.put_off.new.self.items.items c.put_off.new.self.pending.items c.in_ok-paths.paths.items none later c.in_ok-paths.ensures.paths;
+      links = links_start known c.put_off.new.self.items.items c.put_off.new.self.firsts none;
       told = told_same (λ lefts. IsPermutation (children [] (named_of c.in-Ok.found.1)) (texts c.in_ok-paths.paths.items ++ left_paths lefts)
           × All (IsUnlisted [] (named_of c.in-Ok.found.1)) lefts)
           (ReachesRightly known c.args.options.now c.put_off.new.self.items.items c.put_off.new.self.pending.items)
@@ -54,6 +57,10 @@ visit-requires-clause-path g c =
     let both = popped (g.F.HostFolder.known c.args.folder.now) c.args.options.now c.loop.walk.items.items c.loop.walk.pending.items c.pop.new.self.items (Some c.in-Some.path)
     c.in-Some.ensures.items c.loop.invariant.fits in both.1
 
+pub visit-requires-clause-links : goal.visit-requires-clause-links
+visit-requires-clause-links g c =
+    subst (λ (known : Known). WalkLinks known c.loop.walk.items.items c.loop.walk.firsts) (sym c.loop.invariant.kept) c.loop.invariant.links
+
 pub loop-preserved : goal.loop-preserved
 loop-preserved g c =
     let known = g.F.HostFolder.known c.args.folder.now in
@@ -61,6 +68,7 @@ loop-preserved g c =
     record {
       kept = c.visit.ensures.kept ∙ c.loop.invariant.kept;
       fits = subst (λ (k : Known). WalkFits k c.args.options.now c.visit.new.self.items.items c.visit.new.self.pending.items) c.loop.invariant.kept c.in_ok-visit.ensures.fits;
+      links = subst (λ (k : Known). WalkLinks k c.visit.new.self.items.items c.visit.new.self.firsts) c.loop.invariant.kept c.in_ok-visit.ensures.links;
       told = told_then (ReachesRightly known c.args.options.now c.loop.walk.items.items c.loop.walk.pending.items)
           (GoesRightly here c.args.options.now c.loop.walk.items.items (texts c.pop.new.self.items ++ string_bytes c.in-Some.path ∷ []) c.visit.new.self.items.items (texts c.visit.new.self.pending.items))
           (ReachesRightly known c.args.options.now c.visit.new.self.items.items c.visit.new.self.pending.items)

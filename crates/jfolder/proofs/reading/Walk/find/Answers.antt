@@ -1,9 +1,12 @@
 use Rattle.std.proofs.Common.{◌≡◌, ℕ, List, sym, subst}
 use Rattle.std.specs.Prelude.{IfSome}
 use Rattle.jfolder.specs.Known.{Known, inside}
+use Rattle.jfolder.specs.Links.{HasOtherNames, IsMet, id_of}
 use Rattle.jfolder.specs.Objects.{AreOne}
 use Rattle.jfolder.specs.Walking.{IsFileOf}
 use Rattle.jfolder.proofs.WalkLemmas.{link_found, link_kind, link_object, told_if}
+use Rattle.jfolder.proofs.LinkLemmas.{first_links, further_links, unmet_none, unmet_other}
+use Rattle.jfolder.proofs.reading.Walk.find.Goals.{in-Some-first_path+in_ok-is_one+else-branch, in_default-first_path}
 use Rattle.jfolder.proofs.reading.Walk.find.Goals as goal
 
 pub returns-then-branch-clause-found : goal.returns-then-branch-clause-found
@@ -34,3 +37,23 @@ returns-then-branch-clause-object g c =
     (subst (λ (k : Known). IfSome (k.looked (inside c.in-Some-first_path.first.now)) (λ told. AreOne told c.in_ok-looked.looked)) c.look.ensures.kept
     (c.in_ok-is_one.ensures.one c.if-branch.true))
     c.in_ok-from_str.ensures.ok c.link_to.ensures.what
+
+pub returns-then-branch-clause-links : goal.returns-then-branch-clause-links
+returns-then-branch-clause-links g c =
+    let known = g.F.HostFolder.known c.args.folder.now in
+    further_links known c.args.self.now.items.items c.args.self.now.firsts c.args.path.now c.in_ok-looked.looked c.link_to.result c.in_ok-from_str.field-0 c.in-Some-first_path.first.now c.requires.firsts
+    (subst (λ (l : List ℕ). IfSome (known.looked l) (λ told. c.in_ok-looked.looked ≡ told)) c.in-Some.ensures.rest c.in_ok-looked.ensures.told)
+    c.in-Some-first_path.ensures.every c.in_ok-from_str.ensures.ok c.link_to.ensures.what c.link_to.ensures.identity
+
+pub returns-clause-links : goal.returns-clause-links
+returns-clause-links g c =
+    let known = g.F.HostFolder.known c.args.folder.now in
+    let unmet : HasOtherNames c.in_ok-looked.looked → IsMet known c.args.self.now.items.items (id_of c.in_ok-looked.looked) → ⊥ =
+    elim c.match-first_path.branch [
+      in-Some-first_path+in_ok-is_one+else-branch w ↦ unmet_other known (g.F.HostFolder.known c.look.new.folder) c.args.self.now.items.items c.args.self.now.firsts c.in_ok-looked.looked
+          w.in-Some-first_path.first.now w.in_ok-is_one.field-0 c.requires.firsts c.requires.items w.in-Some-first_path.ensures.every c.look.ensures.kept
+          w.in_ok-is_one.ensures.every w.if-branch.false
+    | in_default-first_path w ↦ unmet_none known c.args.self.now.items.items c.args.self.now.firsts c.in_ok-looked.looked c.first_path.result (λ f. f.now) c.requires.firsts w.in_default-first_path.is c.first_path.ensures.every
+    ] in
+    first_links known c.args.self.now.items.items c.args.path.now c.in_ok-looked.looked c.first_found.result
+    (subst (λ (l : List ℕ). IfSome (known.looked l) (λ told. c.in_ok-looked.looked ≡ told)) c.in-Some.ensures.rest c.in_ok-looked.ensures.told) c.first_found.ensures.identity unmet

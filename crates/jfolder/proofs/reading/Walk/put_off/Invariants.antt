@@ -6,6 +6,7 @@ invariant-loop-path l = record {
   items : l.self.items.items ≡ l.fn.self.items.items;
   pending : l.self.pending.items ++ reverse l.paths.items ≡ l.fn.self.pending.items ++ reverse l.fn.paths.items;
   left_out : l.self.left_out ≡ l.fn.self.left_out;
+  firsts : l.self.firsts ≡ l.fn.self.firsts;
 }
 
 abbrev pub decreases-loop-path : goal.decreases-loop-path

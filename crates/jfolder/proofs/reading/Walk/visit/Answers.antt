@@ -5,11 +5,13 @@ use Rattle.std.specs.String.{string_bytes}
 use Rattle.jfolder.specs.Actions.{IsRooted}
 use Rattle.jfolder.specs.Complete.{GoesOn, NamesFit, children_of, left_paths}
 use Rattle.jfolder.specs.Known.{inside}
+use Rattle.jfolder.specs.Links.{LinksFit}
 use Rattle.jfolder.specs.Objects.{HasObject, IsOfKind}
 use Rattle.jfolder.specs.Reasons.{IsRight, IsUnlistedIn, SkipsFor}
 use Rattle.jfolder.specs.declared.found.Skip.TheVariants as skip
 use Rattle.jfolder.specs.Walking.{IsToldAt, comes_next, item_of}
 use Rattle.jfolder.proofs.CompleteLemmas.{goes_on, leaves_out, texts}
+use Rattle.jfolder.proofs.LinkLemmas.{links_go_on, links_stay}
 use Rattle.jfolder.proofs.NoteLemmas.{tells_as}
 use Rattle.jfolder.proofs.ReasonLemmas.{all_unlisted_right, grown, left_as, not_grown}
 use Rattle.jfolder.proofs.WalkLemmas.{walk_goes_on}
@@ -73,3 +75,14 @@ returns-in-Ok-clause-more g c =
 
 pub returns-in-Err-LeftOut-clause-more : goal.returns-in-Err-LeftOut-clause-more
 returns-in-Err-LeftOut-clause-more g c = not_grown c.leave_out.result c.args.self.now.items.items
+
+pub returns-in-Ok-clause-links : goal.returns-in-Ok-clause-links
+returns-in-Ok-clause-links g c =
+    let old = c.args.self.now in
+    let known = g.F.HostFolder.known c.args.folder.now in
+    links_go_on known old.items.items c.add.new.self.items.items c.args.path c.in-Ok.found old.firsts c.add.new.self.firsts c.add.result c.requires.links
+    (subst (λ (l : List ℕ). LinksFit known old.items.items l c.in-Ok.found) c.as_str.ensures.value c.in-Ok.ensures.links) c.add.ensures.items c.add.ensures.firsts
+
+pub returns-in-Err-LeftOut-clause-links : goal.returns-in-Err-LeftOut-clause-links
+returns-in-Err-LeftOut-clause-links g c =
+    links_stay (g.F.HostFolder.known c.args.folder.now) c.args.self.now.items.items c.args.self.now.firsts c.leave_out.result c.requires.links
