@@ -1,6 +1,6 @@
 -- Names of one file in a walk: a further name is found as a link, and the first is remembered.
-use Rattle.std.proofs.Common.{◌≡◌, ℕ, ◌<◌, ◌≤◌, Bool, true, false, List, [], ◌∷◌, ◌++◌, length, get_or, sym, ap, ◌∙◌, subst, refl, arith, length-append, Option, None, Some, Result, Ok, Err}
-use Rattle.std.specs.Prelude.{AllPairs, Contains, IfErr, IfOk, IfSome, IsSomeAnd, IsTrue, String}
+use Rattle.std.proofs.Common.{◌≡◌, ℕ, Bool, false, List, [], ◌∷◌, ◌++◌, length, get_or, sym, ap, ◌∙◌, subst, arith, length-append, Option, None, Some, Result, Ok, Err}
+use Rattle.std.specs.Prelude.{Contains, IfOk, IfSome, IsSomeAnd, IsTrue, String}
 use Rattle.std.specs.BTreeMap.{Updates, get}
 use Rattle.std.specs.Cmp.{Equal-is}
 use Rattle.std.specs.List.{All}
@@ -11,7 +11,7 @@ use Rattle.std.proofs.Math.Logic.{⊎_elim}
 use Rattle.std.proofs.Math.Seq.{get_or-append_seam}
 use Rattle.std.proofs.lemmas.Bool.{cases_lt, false_from_ne_true, true≢false}
 use Rattle.std.proofs.lemmas.List.{get_or_append_left}
-use Rattle.std.proofs.lemmas.List.Elements.{All-contains, Contains-get_or, Contains-push_cases}
+use Rattle.std.proofs.lemmas.List.Elements.{All-contains, Contains-get_or}
 use Rattle.std.proofs.lemmas.List.Quantifiers.{all_pairs_push}
 use Rattle.std.proofs.lemmas.Map.Lookups.{exact_pairs, exact_unsigned}
 use Rattle.std.proofs.lemmas.Option.{none-some, same_Some}
@@ -25,7 +25,6 @@ use Rattle.jfolder.specs.declared.found.Found.{Found}
 use Rattle.jfolder.specs.declared.found.Skip.{Skip}
 use Rattle.jfolder.specs.declared.host.Looked.{Looked}
 use Rattle.jfolder.specs.declared.tree.Item.{Item}
-use Rattle.jfolder.specs.declared.tree.What.{What}
 use Rattle.jfolder.specs.declared.tree.What.TheVariants as what
 use Rattle.jfolder.proofs.TreeLemmas.{path_of}
 

@@ -50,10 +50,10 @@ returns-clause-links g c =
     let known = g.F.HostFolder.known c.args.folder.now in
     let unmet : HasOtherNames c.in_ok-looked.looked → IsMet known c.args.self.now.items.items (id_of c.in_ok-looked.looked) → ⊥ =
     elim c.match-first_path.branch [
-      in-Some-first_path+in_ok-is_one+else-branch w ↦ unmet_other known (g.F.HostFolder.known c.look.new.folder) c.args.self.now.items.items c.args.self.now.firsts c.in_ok-looked.looked
+      | in-Some-first_path+in_ok-is_one+else-branch w ↦ unmet_other known (g.F.HostFolder.known c.look.new.folder) c.args.self.now.items.items c.args.self.now.firsts c.in_ok-looked.looked
           w.in-Some-first_path.first.now w.in_ok-is_one.field-0 c.requires.firsts c.requires.items w.in-Some-first_path.ensures.every c.look.ensures.kept
           w.in_ok-is_one.ensures.every w.if-branch.false
-    | in_default-first_path w ↦ unmet_none known c.args.self.now.items.items c.args.self.now.firsts c.in_ok-looked.looked c.first_path.result (λ f. f.now) c.requires.firsts w.in_default-first_path.is c.first_path.ensures.every
+      | in_default-first_path w ↦ unmet_none known c.args.self.now.items.items c.args.self.now.firsts c.in_ok-looked.looked c.first_path.result (λ f. f.now) c.requires.firsts w.in_default-first_path.is c.first_path.ensures.every
     ] in
     first_links known c.args.self.now.items.items c.args.path.now c.in_ok-looked.looked c.first_found.result
     (subst (λ (l : List ℕ). IfSome (known.looked l) (λ told. c.in_ok-looked.looked ≡ told)) c.in-Some.ensures.rest c.in_ok-looked.ensures.told) c.first_found.ensures.identity unmet
