@@ -24,7 +24,7 @@ FileId = ℕ × ℕ
 abbrev pub id_of : Looked → FileId
 id_of told = (told.device, told.number)
 
--- the host is known to tell at this path a regular file that has other names: this one
+-- this path is known to be a name of this file, a regular one that has other names
 abbrev pub IsNameOf : Known → FileId → List ℕ → Type 0
 IsNameOf known file path = (told : Looked) × (known.looked (inside path) ≡ Some told) × HasOtherNames told × (file ≡ id_of told)
 
@@ -32,7 +32,7 @@ abbrev pub IsLinkTo : List ℕ → What → Type 0
 IsLinkTo path (what.Link first) = string_bytes first ≡ path
 IsLinkTo path _ = ⊥
 
--- what is found at a path is a link to an earlier regular file, where both paths are names of one file
+-- what lies at a path is a link to an earlier regular file, where both are known to be names of one file
 abbrev pub IsLinked : Known → Item → List ℕ → What → Type 0
 IsLinked known i path w = IsRegular i.what → (file : FileId) → IsNameOf known file (string_bytes i.path) → IsNameOf known file path → IsLinkTo (string_bytes i.path) w
 
@@ -71,7 +71,7 @@ pub record IsIdentity (told : Looked) (identity : Option FileId) : Type 0 where
 abbrev pub IsMet : Known → List Item → FileId → Type 0
 IsMet known items file = (i : Item) × Contains items i × IsRegular i.what × IsNameOf known file (string_bytes i.path)
 
--- what is found at a path after these items is a link where it has to be one, and is to be remembered where it is the first name of a file
+-- what is found at a path after these items is a link if it is a further name of a file, and has the identity of a file only if it is the first
 pub record LinksFit (known : Known) (items : List Item) (path : List ℕ) (found : Found) : Type 0 where
   pub linked : (i : Item) → Contains items i → IsLinked known i path found.what
   pub named : IsRegular found.what → (file : FileId) → IsNameOf known file path → found.identity ≡ Some file
