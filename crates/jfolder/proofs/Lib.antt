@@ -10,3 +10,5 @@ mod TreeLemmas
 mod WalkLemmas
 mod NoteLemmas
 mod CompleteLemmas
+mod PathOrderLemmas
+mod WalkOrderLemmas
