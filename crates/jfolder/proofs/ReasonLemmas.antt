@@ -1,5 +1,5 @@
 -- What is left out for a reason that is right.
-use Rattle.std.proofs.Common.{◌≡◌, inl, inr, ℕ, ◌<◌, ◌≢◌, drop, false, List, get_or, length, [], ◌∷◌, ◌++◌, refl, sym, ap, ◌∙◌, subst, append-nil, true, Option, None, Some, Result, Ok, Err}
+use Rattle.std.proofs.Common.{◌≡◌, inl, inr, ℕ, ◌<◌, ◌≢◌, drop, false, List, get_or, length, [], ◌∷◌, ◌++◌, refl, sym, ap, ◌∙◌, subst, append-nil, Option, None, Some, Result, Ok, Err}
 use Rattle.std.specs.Prelude.{Contains, IfNone, IfOk, IfSome, IsPermutation, String}
 use Rattle.std.specs.List.{All, slice_get}
 use Rattle.std.specs.Option.{MatchOption}
@@ -35,8 +35,11 @@ comes_again items path (inr among) is = (refl, among)
 pub still_right : (known : Known) (options : Options) (items more : List Item) (left : LeftOut) → IsRight known options items left → IsRight known options (items ++ more) left
 still_right known options items more left (inl name) = inl name
 still_right known options items more left (inr (inl again)) =
-    inr (inl (again.0, subst (λ (l : List (List ℕ)). Contains l left.0) (sym (map-append (λ (i : Item). string_bytes i.path) items more))
-    (Contains-append_left (item_paths items) (item_paths more) left.0 again.1)))
+    inr (inl (
+      again.0,
+      subst (λ (l : List (List ℕ)). Contains l left.0) (sym (map-append (λ (i : Item). string_bytes i.path) items more))
+          (Contains-append_left (item_paths items) (item_paths more) left.0 again.1),
+    ))
 still_right known options items more left (inr (inr object)) = inr (inr object)
 
 pub grown : {E : Type 0} (r : Result (Unit {0}) E) (items new : List Item) (i : Item) → IfOk r (λ _. new ≡ items ++ i ∷ []) → IfOk r (λ _. IsMore items new)

@@ -1,5 +1,5 @@
 -- The order in which a walk visits paths.
-use Rattle.std.proofs.Common.{◌≡◌, ℕ, zero, suc, ◌+◌, ◌<◌, ◌⊎◌, ◌∷◌, ◌++◌, Bool, false, true, List, [], drop, length, get_or, map, reverse, refl, sym, ap, ◌∙◌, subst, inl, inr, arith, append-nil, Option, Some, None, Result, Ok, Err}
+use Rattle.std.proofs.Common.{◌≡◌, ℕ, zero, suc, ◌+◌, ◌<◌, ◌⊎◌, ◌∷◌, ◌++◌, Bool, false, true, List, [], drop, length, get_or, map, reverse, refl, sym, ap, ◌∙◌, subst, inl, inr, arith, append-nil, Result, Ok, Err}
 use Rattle.std.specs.Prelude.{Contains, IfOk, IsTrue, String}
 use Rattle.std.specs.Cmp.Lexicographic.{slice_cmp}
 use Rattle.std.specs.List.{All, AllPairs}
@@ -10,10 +10,10 @@ use Rattle.std.specs.declared.alloc.Global.{Global}
 use Rattle.std.proofs.Math.Logic.{⊎_elim}
 use Rattle.std.proofs.lemmas.Grind.{flat_map-append}
 use Rattle.std.proofs.lemmas.List.{drop_more, get_or-drop, get_or_default, length-drop, map-append, reverse-append}
-use Rattle.std.proofs.lemmas.List.Elements.{All-append, All-cons, All-contains, All-head, All-map, All-nil, All-push, All-same, All-tail, All-weaker, Contains-append_left, Contains-push}
+use Rattle.std.proofs.lemmas.List.Elements.{All-append, All-cons, All-contains, All-head, All-map, All-nil, All-push, All-tail, All-weaker, Contains-append_left, Contains-push}
 use Rattle.std.proofs.lemmas.List.Quantifiers.{all_pairs_push}
 use Rattle.std.proofs.lemmas.List.Sorted.{ranks_by, sorted_far}
-use Rattle.jmount.specs.Find.{IsPath, is_name, path_text}
+use Rattle.jmount.specs.Find.{is_name, path_text}
 use Rattle.jfolder.specs.Complete.{child, item_paths}
 use Rattle.jfolder.specs.Order.{is_before}
 use Rattle.jfolder.specs.Trees.{HasDirectory, Rise}
