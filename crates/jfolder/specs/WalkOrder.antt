@@ -10,7 +10,7 @@ use Rattle.jfolder.specs.declared.tree.Item.{Item}
 abbrev pub Ascend : List (List ℕ) → Type 0
 Ascend paths = AllPairs (λ path later. is_before later path ≡ false) paths
 
--- the path of this name is added if a listing can have the name, and else none
+-- nothing is added, or the path of this name, which a listing can have
 abbrev pub IsAdded : List ℕ → List ℕ → List (List ℕ) → List (List ℕ) → Type 0
 IsAdded directory name old new = (new ≡ old) ⊎ (IsShortName name × (new ≡ old ++ child directory name ∷ []))
 
