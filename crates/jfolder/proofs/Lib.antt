@@ -11,3 +11,5 @@ mod WalkLemmas
 mod NoteLemmas
 mod CompleteLemmas
 mod LinkLemmas
+mod PathOrderLemmas
+mod WalkOrderLemmas

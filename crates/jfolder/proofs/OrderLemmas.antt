@@ -20,16 +20,16 @@ before_at_end (suc i) (x ∷ xs) (y ∷ ys) a b e =
 -- ---- the order is strict
 
 -- by the first bytes, and else by the rest
-abbrev by_first : ℕ → ℕ → Bool → Bool
+abbrev pub by_first : ℕ → ℕ → Bool → Bool
 by_first m n rest = cond (m == n) rest (nat_lt m n)
 
-first_same : (m n : ℕ) (rest : Bool) → m ≡ n → by_first m n rest ≡ rest
+pub first_same : (m n : ℕ) (rest : Bool) → m ≡ n → by_first m n rest ≡ rest
 first_same m n rest e = grind (arith, nat_tests)
 
-first_lower : (m n : ℕ) (rest : Bool) → m < n → by_first m n rest ≡ true
+pub first_lower : (m n : ℕ) (rest : Bool) → m < n → by_first m n rest ≡ true
 first_lower m n rest less = grind (arith, nat_tests)
 
-first_parts : (m n : ℕ) (rest : Bool) → by_first m n rest ≡ true → ((m ≡ n) × (rest ≡ true)) ⊎ (m < n)
+pub first_parts : (m n : ℕ) (rest : Bool) → by_first m n rest ≡ true → ((m ≡ n) × (rest ≡ true)) ⊎ (m < n)
 first_parts m n rest e = grind (arith, nat_tests)
 
 pub before_itself : (xs : List ℕ) → is_before xs xs ≡ false

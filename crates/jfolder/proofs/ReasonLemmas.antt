@@ -5,13 +5,15 @@ use Rattle.std.specs.List.{All, slice_get}
 use Rattle.std.specs.Option.{MatchOption}
 use Rattle.std.specs.String.{string_bytes}
 use Rattle.std.specs.declared.alloc.Global.{Global}
-use Rattle.std.proofs.lemmas.List.Elements.{All-append, All-contains, All-nil, All-push, All-same, All-weaker, Contains-append_left, Contains-append_right, Contains-get_or, Contains-push}
-use Rattle.std.proofs.lemmas.List.{get_or-map, length-map}
+use Rattle.std.proofs.lemmas.List.Elements.{All-append, All-contains, All-nil, All-push, All-same, All-weaker, Contains-append_left, Contains-get_or}
+use Rattle.std.proofs.lemmas.Bool.{true≢false}
+use Rattle.std.proofs.lemmas.List.{get_or-map, length-map, map-append}
 use Rattle.std.proofs.lemmas.List.Sorted.{Contains-permutation, IsPermutation-map, IsPermutation-refl, IsPermutation-sym}
 use Rattle.jfolder.proofs.CompleteLemmas.{texts}
-use Rattle.jfolder.specs.Complete.{LeftOut, NamesFit, children_of, left_paths}
+use Rattle.jfolder.specs.Complete.{LeftOut, NamesFit, children_of, item_paths, left_paths}
 use Rattle.jfolder.specs.Known.{Known, inside, named_of}
 use Rattle.jfolder.specs.Reasons.{ComesAgain, IsRight, IsUnlisted, IsUnlistedIn, IsUnnamed, IsWrongChild}
+use Rattle.jfolder.specs.WalkOrder.{IsInTurn}
 use Rattle.jfolder.specs.Walking.{IsMore, comes_next}
 use Rattle.jfolder.specs.declared.found.Options.{Options}
 use Rattle.jfolder.specs.declared.host.Names.{Names}
@@ -25,17 +27,19 @@ pub one_left : (P : LeftOut → Type 0) (left : LeftOut) (lefts : List LeftOut) 
 one_left P left lefts is here = All-same P lefts (left ∷ []) is (All-push P [] left (All-nil P) here)
 
 -- a path that is not the next one
-pub comes_again : (items : List Item) (path : List ℕ) → comes_next items path ≡ false → ComesAgain items (path, reason.Repeated)
-comes_again [] path is = cc
-comes_again (i ∷ []) path is = (refl, (i, Contains-push [] i, is))
-comes_again (i ∷ j ∷ items) path is =
-    let later = comes_again (j ∷ items) path is in
-    (refl, (later.1.0, Contains-append_right (i ∷ []) (j ∷ items) later.1.0 later.1.1, later.1.2))
+pub comes_again : (items : List Item) (path : List ℕ) → IsInTurn items path → comes_next items path ≡ false → ComesAgain items (path, reason.Repeated)
+comes_again items path (inl next) is = absurd (true≢false (sym next ∙ is))
+comes_again items path (inr among) is = (refl, among)
 
 -- more items
 pub still_right : (known : Known) (options : Options) (items more : List Item) (left : LeftOut) → IsRight known options items left → IsRight known options (items ++ more) left
 still_right known options items more left (inl name) = inl name
-still_right known options items more left (inr (inl again)) = inr (inl (again.0, (again.1.0, Contains-append_left items more again.1.0 again.1.1, again.1.2)))
+still_right known options items more left (inr (inl again)) =
+    inr (inl (
+      again.0,
+      subst (λ (l : List (List ℕ)). Contains l left.0) (sym (map-append (λ (i : Item). string_bytes i.path) items more))
+          (Contains-append_left (item_paths items) (item_paths more) left.0 again.1),
+    ))
 still_right known options items more left (inr (inr object)) = inr (inr object)
 
 pub grown : {E : Type 0} (r : Result (Unit {0}) E) (items new : List Item) (i : Item) → IfOk r (λ _. new ≡ items ++ i ∷ []) → IfOk r (λ _. IsMore items new)

@@ -25,7 +25,7 @@ path_of i = string_bytes i.path
 -- ---- paths in their order
 
 -- each item is before what comes after the last
-comes_after_all : (items : List Item) (text : List ℕ) → Rise items → comes_next items text ≡ true → All (λ i. is_before (path_of i) text ≡ true) items
+pub comes_after_all : (items : List Item) (text : List ℕ) → Rise items → comes_next items text ≡ true → All (λ i. is_before (path_of i) text ≡ true) items
 comes_after_all [] text rise next = All-nil (λ i. is_before (path_of i) text ≡ true)
 comes_after_all (i ∷ []) text rise next = All-cons (λ i. is_before (path_of i) text ≡ true) i [] next (All-nil (λ i. is_before (path_of i) text ≡ true))
 comes_after_all (i ∷ j ∷ items) text rise next =

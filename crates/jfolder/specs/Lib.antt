@@ -10,4 +10,5 @@ pub mod Pieces
 pub mod Reasons
 pub mod Text
 pub mod Trees
+pub mod WalkOrder
 pub mod Walking

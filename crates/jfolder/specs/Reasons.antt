@@ -1,12 +1,10 @@
 -- Why a path is left out: each reason is right by what is known of what the host tells.
 use Rattle.std.specs.Prelude.{◌≡◌, ◌≢◌, ◌≤◌, ◌<◌, ◌^◌, ◌⊎◌, ◌∷◌, ℕ, false, List, [], length, All, Contains, IfSome, Option, None, Some, ⊤, pos}
-use Rattle.std.specs.String.{string_bytes}
 use Rattle.jmount.specs.Find.{is_name}
 use Rattle.jfolder.specs.Actions.{IsFileWord}
-use Rattle.jfolder.specs.Complete.{IsNamed, LeftOut, child}
+use Rattle.jfolder.specs.Complete.{IsNamed, LeftOut, child, item_paths}
 use Rattle.jfolder.specs.Known.{Known, Named, inside, named_of}
 use Rattle.jfolder.specs.Objects.{kind_bits}
-use Rattle.jfolder.specs.Order.{is_before}
 use Rattle.jfolder.specs.declared.fault.FolderFault.{FolderFault}
 use Rattle.jfolder.specs.declared.fault.FolderFault.TheVariants as folder
 use Rattle.jfolder.specs.declared.found.Options.{Options}
@@ -41,9 +39,9 @@ IsUnlisted directory names left = IsWrongChild directory names.texts left ⊎ Is
 abbrev pub HasWrongName : Known → LeftOut → Type 0
 HasWrongName known left = (directory : List ℕ) × (names : Named) × IsNamed known (directory, names) × IsUnlisted directory names left
 
--- an item's path is not before this one
+-- an item has this path
 abbrev pub ComesAgain : List Item → LeftOut → Type 0
-ComesAgain items left = (left.1 ≡ reason.Repeated) × ((i : Item) × Contains items i × (is_before (string_bytes i.path) left.0 ≡ false))
+ComesAgain items left = (left.1 ≡ reason.Repeated) × Contains (item_paths items) left.0
 
 -- ---- what the host refuses
 

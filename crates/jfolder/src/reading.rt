@@ -1,7 +1,8 @@
 //! Reading a folder of the host.
 
 ghost use Rattle.std.specs.Prelude.{◌≡◌, ◌∷◌, ◌++◌, ◌⊎◌, [], length, map, replicate, reverse, All, IfErr, IfNone, IfOk, IfSome, IsPermutation, IsSome, IsSomeAnd, IsTrue, None};
-ghost use Rattle.std.specs.String.{string_bytes};
+ghost use Rattle.std.specs.List.Sorted.{IsSorted};
+ghost use Rattle.std.specs.String.{string_bytes, string_cmp};
 ghost use Rattle.jfolder.specs.Actions.{AttributesFit, Fits, IsRooted, ItemFits};
 ghost use Rattle.jfolder.specs.Complete.{GoesOn, NamesFit, child, children, children_of, left_paths};
 ghost use Rattle.jfolder.specs.Known.{inside, named_of};
@@ -10,6 +11,7 @@ ghost use Rattle.jfolder.specs.Notes.{Tells, TellsMore};
 ghost use Rattle.jfolder.specs.Objects.{AreOne, HasObject, IsObjectTold, IsOfKind, kind_bits};
 ghost use Rattle.jfolder.specs.Reasons.{ComesAgain, IsRefusal, IsRight, IsRootWhy, IsUnlisted, IsUnlistedIn, IsUnnamed, IsWrongChild, IsWrongText, SkipsFor};
 ghost use Rattle.jfolder.specs.Trees.{IsRegular, IsTree, Rise};
+ghost use Rattle.jfolder.specs.WalkOrder.{Ascend, InOrder, IsAdded, IsInTurn};
 ghost use Rattle.jfolder.specs.Walking.{FoundFits, HasOptions, IsChild, IsFileOf, IsItemTold, IsMore, IsPending, IsShortName, IsToldAt, WalkFits, comes_next, item_of};
 
 use crate::fault::{FolderFault, ReadFault};
@@ -111,6 +113,7 @@ fn add_child<N: Sink>(
 ) -> Result<(), ReadFault>
     requires { All (λ path. IsChild directory.now (string_bytes path)) paths.old.items }
     ensures paths { IfOk result (λ _. All (λ path. IsChild directory.now (string_bytes path)) paths.new.items) }
+    ensures added { IfOk result (λ _. IsAdded directory.now name.now (map string_bytes paths.old.items) (map string_bytes paths.new.items)) }
     ensures told { TellsMore (λ _ lefts. (map string_bytes paths.old.items ++ child directory.now name.now ∷ [] ≡ map string_bytes paths.new.items ++ left_paths lefts)
         × All (IsWrongChild directory.now (name.now ∷ [])) lefts)
         (N.taken notes.old) (N.taken notes.new) (N.failures notes.old) (N.failures notes.new) left_out.old left_out.new result }
@@ -145,7 +148,7 @@ fn leave_out_others<N: Sink>(
     Ok(())
 }
 
-/// The paths of these names in a directory.
+/// The paths of these names in a directory, in byte order as the names are.
 fn paths_of<N: Sink>(
     alloc: Global,
     directory: &str,
@@ -153,7 +156,9 @@ fn paths_of<N: Sink>(
     notes: &mut N,
     left_out: &mut u64,
 ) -> Result<Vec<String>, ReadFault>
+    requires { IsSorted string_cmp names.now }
     ensures paths { IfOk result (λ paths. All (λ path. IsChild directory.now (string_bytes path)) paths.items) }
+    ensures order { IfOk result (λ paths. Ascend (map string_bytes paths.items)) }
     ensures told { TellsMore (λ paths lefts. IsPermutation (map (λ name. child directory.now (string_bytes name)) names.now) (map string_bytes paths.items ++ left_paths lefts)
         × All (IsWrongChild directory.now (map string_bytes names.now)) lefts)
         (N.taken notes.old) (N.taken notes.new) (N.failures notes.old) (N.failures notes.new) left_out.old left_out.new result }
@@ -175,6 +180,7 @@ fn children<N: Sink>(
     left_out: &mut u64,
 ) -> Result<Vec<String>, ReadFault>
     ensures paths { IfOk result (λ paths. All (λ path. IsChild directory.now (string_bytes path)) paths.items) }
+    ensures order { IfOk result (λ paths. Ascend (map string_bytes paths.items)) }
     ensures told { TellsMore (λ paths lefts. IsPermutation (children directory.now (named_of names)) (map string_bytes paths.items ++ left_paths lefts)
         × All (IsUnlisted directory.now (named_of names)) lefts)
         (N.taken notes.old) (N.taken notes.new) (N.failures notes.old) (N.failures notes.new) left_out.old left_out.new result }
@@ -225,6 +231,7 @@ impl Walk {
 
     /// What the host tells of a path that comes after those of all items. `rest` is the path as the host is asked for it.
     fn look<F: HostFolder>(&self, folder: &mut F, path: &str, rest: &str) -> Result<Looked, Skip>
+        requires { IsInTurn self.now.items.items path.now }
         ensures next { IfOk result (λ _. IsTrue (comes_next self.now.items.items path.now)) }
         ensures told { IfOk result (λ it. IfSome ((F.known folder.old).looked rest.now) (λ told. it ≡ told)) }
         ensures why { IfErr result (SkipsFor (λ why. ComesAgain self.now.items.items (path.now, why) ⊎ IsRefusal ((F.known folder.old).looked rest.now ≡ None) why)) }
@@ -247,6 +254,7 @@ impl Walk {
         requires items { All ItemFits self.now.items.items }
         requires path { IsRooted path.now }
         requires firsts { FirstsFit (F.known folder.old) self.now.items.items self.now.firsts }
+        requires order { IsInTurn self.now.items.items path.now }
         ensures found { IfOk result (FoundFits options.now self.now.items.items) }
         ensures rooted { IfOk result (λ _. IsRooted path.now) }
         ensures next { IfOk result (λ _. IsTrue (comes_next self.now.items.items path.now)) }
@@ -282,6 +290,7 @@ impl Walk {
         ensures pending { self.new.pending.items ≡ self.old.pending.items }
         ensures firsts { self.new.firsts ≡ self.old.firsts }
         ensures paths { IfOk result (λ paths. All (λ child. IsSome names × IsChild path.now (string_bytes child)) paths.items) }
+        ensures order { IfOk result (λ paths. Ascend (map string_bytes paths.items)) }
         ensures told { TellsMore (λ paths lefts. IsPermutation (children_of path.now names) (map string_bytes paths.items ++ left_paths lefts)
             × All (IsUnlistedIn path.now names) lefts)
             (N.taken notes.old) (N.taken notes.new) (N.failures notes.old) (N.failures notes.new) self.old.left_out self.new.left_out result }
@@ -339,9 +348,13 @@ impl Walk {
         requires directory { IsSome found.names → found.what ≡ What.Directory }
         requires path { IsPending self.old.items.items (string_bytes path) }
         requires pending { All (λ p. IsPending self.old.items.items (string_bytes p)) self.old.pending.items }
+        requires rise { Rise self.old.items.items }
+        requires next { IsTrue (comes_next self.old.items.items (string_bytes path)) }
+        requires order { InOrder self.old.items.items (map string_bytes self.old.pending.items ++ string_bytes path ∷ []) }
         ensures items { IfOk result (λ _. self.new.items.items ≡ self.old.items.items ++ item_of path found ∷ []) }
         ensures pending { IfOk result (λ _. All (λ p. IsPending self.new.items.items (string_bytes p)) self.new.pending.items) }
         ensures firsts { IfOk result (λ _. Remembers found.identity (length self.old.items.items) self.old.firsts self.new.firsts) }
+        ensures order { IfOk result (λ _. InOrder self.new.items.items (map string_bytes self.new.pending.items)) }
         ensures told { TellsMore (λ _ lefts. IsPermutation (children_of (string_bytes path) found.names ++ map string_bytes self.old.pending.items)
             (map string_bytes self.new.pending.items ++ left_paths lefts)
             × All (IsUnlistedIn (string_bytes path) found.names) lefts)
@@ -385,8 +398,10 @@ impl Walk {
         requires fits { WalkFits (F.known folder.old) options.now self.old.items.items self.old.pending.items }
         requires path { IsPending self.old.items.items (string_bytes path) }
         requires links { WalkLinks (F.known folder.old) self.old.items.items self.old.firsts }
+        requires order { InOrder self.old.items.items (map string_bytes self.old.pending.items ++ string_bytes path ∷ []) }
         ensures fits { IfOk result (λ _. WalkFits (F.known folder.old) options.now self.new.items.items self.new.pending.items) }
         ensures links { IfOk result (λ _. WalkLinks (F.known folder.old) self.new.items.items self.new.firsts) }
+        ensures order { IfOk result (λ _. InOrder self.new.items.items (map string_bytes self.new.pending.items)) }
         ensures more { IfOk result (λ _. IsMore self.old.items.items self.new.items.items) }
         ensures kept { F.known folder.new ≡ F.known folder.old }
         ensures told { TellsMore (λ _ lefts. GoesOn (F.known folder.old) self.old.items.items (map string_bytes self.old.pending.items ++ string_bytes path ∷ [])

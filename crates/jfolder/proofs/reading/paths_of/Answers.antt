@@ -12,6 +12,7 @@ use Rattle.jfolder.specs.Walking.{IsChild}
 use Rattle.jfolder.proofs.CompleteLemmas.{paths_more, texts}
 use Rattle.jfolder.proofs.NoteLemmas.{tells_nothing, tells_up_to, told_then}
 use Rattle.jfolder.proofs.ReasonLemmas.{wrong_of_one}
+use Rattle.jfolder.proofs.WalkOrderLemmas.{no_paths, order_more}
 use Rattle.jfolder.proofs.reading.paths_of.Goals as goal
 
 abbrev UpTo : List ℕ → List (String Global) → ℕ → List (String Global) → List LeftOut → Type 0
@@ -25,6 +26,7 @@ pub loop-name-init : goal.loop-name-init
 loop-name-init g c = record {
   paths = All-same (λ (path : String Global). IsChild c.args.directory.now (string_bytes path)) c.new-paths.result.items [] c.new-paths.ensures.items
       (All-nil (λ (path : String Global). IsChild c.args.directory.now (string_bytes path)));
+  order = no_paths c.args.directory.now c.args.names.now c.new-paths.result.items c.new-paths.ensures.items;
   told = tells_nothing (UpTo c.args.directory.now c.args.names.now 0 c.new-paths.result.items) (g.N.Sink.taken c.args.notes.now) (g.N.Sink.failures c.args.notes.now) c.args.left_out.now (omega arith) (
     subst (λ (l : List (String Global)). IsPermutation {X = List ℕ} [] (texts l ++ [])) (sym c.new-paths.ensures.items) (IsPermutation-refl []),
     All-nil (IsWrongChild c.args.directory.now (texts c.args.names.now)),
@@ -46,6 +48,8 @@ returns-in_err-add_child-clause-told g c =
 pub loop-name-preserved : goal.loop-name-preserved
 loop-name-preserved g c = record {
   paths = c.in_ok-add_child.ensures.paths;
+  order = order_more c.args.directory.now c.args.names.now c.loop-name.name-index c.name-item.result c.as_str.result.now (texts c.loop-name.paths.items) (texts c.add_child.new.paths.items)
+      c.requires (omega arith) c.name-item.is c.as_str.ensures.value c.loop-name.invariant.order c.in_ok-add_child.ensures.added;
   told = told_then (UpTo c.args.directory.now c.args.names.now c.loop-name.name-index c.loop-name.paths.items)
       (Added c.args.directory.now c.as_str.result.now c.loop-name.paths.items c.add_child.new.paths.items)
       (UpTo c.args.directory.now c.args.names.now (c.loop-name.name-index + 1) c.add_child.new.paths.items)

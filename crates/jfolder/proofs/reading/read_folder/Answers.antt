@@ -17,6 +17,7 @@ use Rattle.jfolder.proofs.LinkLemmas.{links_start}
 use Rattle.jfolder.proofs.WalkLemmas.{all_have_options, popped, walk_starts}
 use Rattle.jfolder.proofs.NoteLemmas.{read_failed, tells_then, told_same, told_then}
 use Rattle.jfolder.proofs.ReasonLemmas.{all_still_right, root_unlisted_right}
+use Rattle.jfolder.proofs.WalkOrderLemmas.{order_popped, order_starts}
 use Rattle.jfolder.proofs.reading.read_folder.Goals as goal
 
 abbrev ReachesRightly : Known → Options → List Item → List (String Global) → List LeftOut → Type 0
@@ -34,6 +35,7 @@ loop-init g c =
       kept = c.root_of.ensures.kept;
       fits = walk_starts known c.args.options.now c.put_off.new.self.items.items c.put_off.new.self.pending.items c.in_ok-paths.paths.items none later c.in_ok-paths.ensures.paths;
       links = links_start known c.put_off.new.self.items.items c.put_off.new.self.firsts none;
+      order = order_starts c.put_off.new.self.items.items c.in_ok-paths.paths.items c.put_off.new.self.pending.items none later c.in_ok-paths.ensures.order;
       told = told_same (λ lefts. IsPermutation (children [] (named_of c.in-Ok.found.1)) (texts c.in_ok-paths.paths.items ++ left_paths lefts)
           × All (IsUnlisted [] (named_of c.in-Ok.found.1)) lefts)
           (ReachesRightly known c.args.options.now c.put_off.new.self.items.items c.put_off.new.self.pending.items)
@@ -61,6 +63,10 @@ pub visit-requires-clause-links : goal.visit-requires-clause-links
 visit-requires-clause-links g c =
     subst (λ (known : Known). WalkLinks known c.loop.walk.items.items c.loop.walk.firsts) (sym c.loop.invariant.kept) c.loop.invariant.links
 
+pub visit-requires-clause-order : goal.visit-requires-clause-order
+visit-requires-clause-order g c =
+    order_popped c.loop.walk.items.items c.loop.walk.pending.items c.pop.new.self.items c.in-Some.path c.in-Some.ensures.items c.loop.invariant.order
+
 pub loop-preserved : goal.loop-preserved
 loop-preserved g c =
     let known = g.F.HostFolder.known c.args.folder.now in
@@ -69,6 +75,7 @@ loop-preserved g c =
       kept = c.visit.ensures.kept ∙ c.loop.invariant.kept;
       fits = subst (λ (k : Known). WalkFits k c.args.options.now c.visit.new.self.items.items c.visit.new.self.pending.items) c.loop.invariant.kept c.in_ok-visit.ensures.fits;
       links = subst (λ (k : Known). WalkLinks k c.visit.new.self.items.items c.visit.new.self.firsts) c.loop.invariant.kept c.in_ok-visit.ensures.links;
+      order = c.in_ok-visit.ensures.order;
       told = told_then (ReachesRightly known c.args.options.now c.loop.walk.items.items c.loop.walk.pending.items)
           (GoesRightly here c.args.options.now c.loop.walk.items.items (texts c.pop.new.self.items ++ string_bytes c.in-Some.path ∷ []) c.visit.new.self.items.items (texts c.visit.new.self.pending.items))
           (ReachesRightly known c.args.options.now c.visit.new.self.items.items c.visit.new.self.pending.items)

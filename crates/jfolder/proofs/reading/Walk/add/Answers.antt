@@ -1,13 +1,16 @@
 use Rattle.std.proofs.Common.{◌≡◌, ◌∙◌, ◌++◌, ◌∷◌, ℕ, List, [], subst, ap, reverse}
 use Rattle.std.specs.List.{All}
 use Rattle.std.specs.String.{string_bytes}
-use Rattle.std.specs.Prelude.{IsPermutation, IsSome}
+use Rattle.std.specs.Prelude.{IsPermutation, IsSome, String}
+use Rattle.std.specs.declared.alloc.Global.{Global}
+use Rattle.std.proofs.lemmas.List.Elements.{All-weaker}
 use Rattle.jfolder.specs.Complete.{children_of, left_paths}
 use Rattle.jfolder.specs.Reasons.{IsUnlistedIn}
 use Rattle.jfolder.specs.Walking.{IsChild, item_of}
 use Rattle.jfolder.specs.declared.tree.Item.{Item}
 use Rattle.jfolder.proofs.CompleteLemmas.{pending_order, texts}
 use Rattle.jfolder.proofs.WalkLemmas.{pending_after}
+use Rattle.jfolder.proofs.WalkOrderLemmas.{order_added}
 use Rattle.jfolder.proofs.reading.Walk.add.Goals as goal
 
 pub returns-clause-pending : goal.returns-clause-pending
@@ -40,3 +43,21 @@ returns-clause-told g c =
       c.put_off.ensures.left_out ∙ c.push_item.ensures.left_out ∙ c.remember.ensures.left_out ∙ told.3,
       (pending_order c.in_ok-paths.paths.items old.pending.items c.put_off.new.self.pending.items told.0 (children_of (string_bytes c.args.path) c.args.found.names) later given, unlisted),
     )
+
+pub returns-clause-order : goal.returns-clause-order
+returns-clause-order g c =
+    let old = c.args.self.now in
+    let i = item_of c.args.path c.args.found in
+    let kept = c.remember.ensures.items ∙ c.paths_in.ensures.items in
+    let more : c.put_off.new.self.items.items ≡ old.items.items ++ i ∷ [] =
+    c.put_off.ensures.items ∙ c.in_ok-push_item.ensures.items ∙ ap (λ (l : List Item). l ++ i ∷ []) kept in
+    let later : c.put_off.new.self.pending.items ≡ old.pending.items ++ reverse c.in_ok-paths.paths.items =
+    c.in_ok-put_off.ensures.pending
+    ∙ ap (λ l. l ++ reverse c.in_ok-paths.paths.items) (c.push_item.ensures.pending ∙ c.remember.ensures.pending ∙ c.paths_in.ensures.pending) in
+    let given = subst (λ (l : List ℕ). All (λ child. IsSome c.args.found.names × IsChild l (string_bytes child)) c.in_ok-paths.paths.items)
+    c.as_str.ensures.value c.in_ok-paths.ensures.paths in
+    let children : All (λ (p : String Global). IsChild (string_bytes c.args.path) (string_bytes p)) c.in_ok-paths.paths.items =
+    All-weaker (λ (p : String Global). IsSome c.args.found.names × IsChild (string_bytes c.args.path) (string_bytes p)) (λ (p : String Global). IsChild (string_bytes c.args.path) (string_bytes p))
+    (λ p h. h.1) c.in_ok-paths.paths.items given in
+    order_added old.items.items c.put_off.new.self.items.items i old.pending.items c.put_off.new.self.pending.items c.in_ok-paths.paths.items more later
+    c.requires.rise c.requires.next c.requires.path c.requires.pending children c.in_ok-paths.ensures.order c.requires.order

@@ -6,4 +6,4 @@ use Rattle.jfolder.proofs.reading.Walk.look.Goals as goal
 pub returns-then-not-is_next-clause-why : goal.returns-then-not-is_next-clause-why
 returns-then-not-is_next-clause-why g c =
     let no : comes_next c.args.self.now.items.items c.args.path.now ≡ false = cc in
-    inl (comes_again c.args.self.now.items.items c.args.path.now no)
+    inl (comes_again c.args.self.now.items.items c.args.path.now c.requires no)

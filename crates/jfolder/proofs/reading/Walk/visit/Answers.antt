@@ -1,4 +1,4 @@
-use Rattle.std.proofs.Common.{◌≡◌, ◌++◌, ◌∷◌, [], true, ℕ, List, subst}
+use Rattle.std.proofs.Common.{◌≡◌, ◌++◌, ◌∷◌, [], true, ℕ, List, subst, sym}
 use Rattle.std.specs.Prelude.{IfOk, IfSome, IsPermutation}
 use Rattle.std.specs.List.{All}
 use Rattle.std.specs.String.{string_bytes}
@@ -9,12 +9,14 @@ use Rattle.jfolder.specs.Links.{LinksFit}
 use Rattle.jfolder.specs.Objects.{HasObject, IsOfKind}
 use Rattle.jfolder.specs.Reasons.{IsRight, IsUnlistedIn, SkipsFor}
 use Rattle.jfolder.specs.declared.found.Skip.TheVariants as skip
+use Rattle.jfolder.specs.WalkOrder.{IsInTurn}
 use Rattle.jfolder.specs.Walking.{IsToldAt, comes_next, item_of}
 use Rattle.jfolder.proofs.CompleteLemmas.{goes_on, leaves_out, texts}
 use Rattle.jfolder.proofs.LinkLemmas.{links_go_on, links_stay}
 use Rattle.jfolder.proofs.NoteLemmas.{tells_as}
 use Rattle.jfolder.proofs.ReasonLemmas.{all_unlisted_right, grown, left_as, not_grown}
 use Rattle.jfolder.proofs.WalkLemmas.{walk_goes_on}
+use Rattle.jfolder.proofs.WalkOrderLemmas.{next_in_turn, order_left}
 use Rattle.jfolder.proofs.reading.Walk.visit.Goals as goal
 
 pub returns-in-Ok-clause-fits : goal.returns-in-Ok-clause-fits
@@ -86,3 +88,16 @@ returns-in-Ok-clause-links g c =
 pub returns-in-Err-LeftOut-clause-links : goal.returns-in-Err-LeftOut-clause-links
 returns-in-Err-LeftOut-clause-links g c =
     links_stay (g.F.HostFolder.known c.args.folder.now) c.args.self.now.items.items c.args.self.now.firsts c.leave_out.result c.requires.links
+
+pub find-requires-clause-order : goal.find-requires-clause-order
+find-requires-clause-order g c =
+    let old = c.args.self.now in
+    subst (IsInTurn old.items.items) (sym c.as_str.ensures.value) (next_in_turn old.items.items (texts old.pending.items) (string_bytes c.args.path) c.requires.order)
+
+pub add-requires-clause-next : goal.add-requires-clause-next
+add-requires-clause-next g c = subst (λ (l : List ℕ). comes_next c.args.self.now.items.items l ≡ true) c.as_str.ensures.value c.in-Ok.ensures.next
+
+pub returns-in-Err-LeftOut-clause-order : goal.returns-in-Err-LeftOut-clause-order
+returns-in-Err-LeftOut-clause-order g c =
+    let old = c.args.self.now in
+    order_left c.leave_out.result old.items.items (texts old.pending.items) (string_bytes c.args.path) c.requires.order
