@@ -5,7 +5,8 @@ use Rattle.std.proofs.lemmas.List.{take_rest, take-append-le}
 use Rattle.std.proofs.lemmas.Bool.{ltb-true, ltb-false}
 use Rattle.std.specs.Io.KnownBytes.{Appends}
 use Rattle.std.proofs.KnownBytes.{Appends-trans}
-use Rattle.flashbase.specs.Device.{PutsPart}
+use Rattle.std.specs.Prelude.{Result, Ok, Err, IsErr}
+use Rattle.flashbase.specs.Device.{PutsPart, Puts, next_count}
 
 -- the first i bytes went out, and then n more of the slice that begins there
 pub Appends-take : (a b c : Option (List ℕ)) (bytes : List ℕ) (i n : ℕ) → Appends a b (take i bytes)
@@ -28,3 +29,23 @@ part_before a b s t part = by (nat_lt (length s) part.0) refl
 pub part_behind : (a b c : Option (List ℕ)) (s t : List ℕ) → Appends a b s → PutsPart b c t → PutsPart a c (s ++ t)
 part_behind a b c s t whole part =
     (length s + part.0, subst (Appends a c) (sym (take-append-add s t part.0)) (Appends-trans a b c _ _ whole part.1))
+
+-- ---- two texts, up to a fault
+
+-- the first failed
+pub first_failed : {T E : Type 0} (old new : Option (List ℕ)) (before now : ℕ) (s t : List ℕ) (r : Result T E) → IsErr r
+    → PutsPart old new s → now ≡ next_count before → Puts old new before now (s ++ t) r
+first_failed old new before now s t (Ok x) err part failed = cc
+first_failed old new before now s t (Err e) err part failed = (part_before old new s t part, failed)
+
+-- the first went out, and then the other as far as it did
+pub then_puts : {T E : Type 0} (a b c : Option (List ℕ)) (before mid now : ℕ) (s t : List ℕ) (r : Result T E)
+    → Appends a b s → mid ≡ before → Puts b c mid now t r → Puts a c before now (s ++ t) r
+then_puts a b c before mid now s t (Ok x) put same next = (Appends-trans a b c s t put next.0, next.1 ∙ same)
+then_puts a b c before mid now s t (Err e) put same next = (part_behind a b c s t put next.0, next.1 ∙ ap next_count same)
+
+-- the call for the other failed
+pub then_failed : {T E : Type 0} (a b c : Option (List ℕ)) (before mid now : ℕ) (s t : List ℕ) (r : Result T E) → IsErr r
+    → Appends a b s → mid ≡ before → PutsPart b c t → now ≡ next_count mid → Puts a c before now (s ++ t) r
+then_failed a b c before mid now s t (Ok x) err put same part failed = cc
+then_failed a b c before mid now s t (Err e) err put same part failed = (part_behind a b c s t put part, failed ∙ ap next_count same)

@@ -4,4 +4,5 @@ pub mod CrcLemmas
 pub mod DeviceLemmas
 pub mod EightLemmas
 pub mod ListLemmas
+pub mod MemberLemmas
 pub mod TableLemmas

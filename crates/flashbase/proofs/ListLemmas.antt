@@ -1,15 +1,16 @@
 -- What the words on lists answer.
-use Rattle.std.proofs.Common.{◌≡◌, ℕ, zero, suc, ◌<◌, ◌≤◌, Bool, true, false, cond, List, [], ◌∷◌, ◌++◌, map, length, get_or, Option, Some, None, refl, ap, sym, ◌∙◌, subst, inl, inr, ◌⊎◌, ⊎_elim, ◌||◌, Ordering, ltb, arith}
+use Rattle.std.proofs.Common.{◌≡◌, ℕ, zero, suc, ◌+◌, ◌<◌, ◌≤◌, Bool, true, false, cond, List, [], ◌∷◌, ◌++◌, map, length, get_or, Option, Some, None, refl, ap, sym, ◌∙◌, subst, inl, inr, ◌⊎◌, ⊎_elim, ◌||◌, Ordering, ltb, arith}
 use Rattle.std.proofs.lemmas.Bool.Decides.{nat_tests}
-use Rattle.std.proofs.lemmas.Grind.{common_steps}
+use Rattle.std.proofs.lemmas.Grind.{common_steps, flat_map-append}
 use Rattle.std.proofs.lemmas.Bool.{cases_lt, cases_cond, cond-true, lt-ltb, true≢false, false≢true}
 use Rattle.std.proofs.lemmas.Option.{same_Some, slice_get-get_or}
 use Rattle.std.proofs.lemmas.List.Elements.{filter-append}
 use Rattle.std.proofs.lemmas.Grind.{fold-append}
 use Rattle.std.proofs.lemmas.List.{append-nil, get_or_append_left, get_or-map}
+use Rattle.std.proofs.lemmas.List.Sums.{sum_by-cons}
 use Rattle.std.proofs.lemmas.Map.Views.{tells_apart}
 use Rattle.std.proofs.Math.Seq.{get_or-append_seam}
-use Rattle.std.specs.Prelude.{option_map, filter_map, filter, fold, max, ◌==◌, Contains, is_some, slice_get}
+use Rattle.std.specs.Prelude.{option_map, filter_map, filter, fold, max, ◌==◌, Contains, is_some, slice_get, flat_map, count_by}
 use Rattle.std.specs.List.{list_any, cons_option}
 use Rattle.std.specs.Ordering.{eq_by_cmp, nat_cmp}
 use Rattle.std.specs.Cmp.{IsTotalOrder, nat_cmp_total, unsigned_tied}
@@ -61,6 +62,16 @@ pub get_or-each_below : {X : Type 0} (n i : ℕ) (f : ℕ → X) (d : X) → i <
 get_or-each_below n i f d h =
     let e : length (below n) ≡ n = length-below n in
     get_or-map f (below n) i 0 d (omega arith) ∙ ap f (get_or-below n i h)
+
+-- what gives nothing from n on adds nothing
+pub flat_map-below : {A : Type 0} (g : ℕ → List A) (n d : ℕ) → ((k : ℕ) → n ≤ k → g k ≡ []) → flat_map g (below (d + n)) ≡ flat_map g (below n)
+flat_map-below g n zero h = let same : 0 + n ≡ n = omega arith in ap (λ (m : ℕ). flat_map g (below m)) same
+flat_map-below g n (suc d) h =
+    let step : suc d + n ≡ suc (d + n) = omega arith in
+    ap (λ (m : ℕ). flat_map g (below m)) step
+    ∙ (flat_map-append g (below (d + n)) ((d + n) ∷ [])
+    ∙ (ap (λ ys. flat_map g (below (d + n)) ++ (ys ++ [])) (h (d + n) (omega arith))
+    ∙ (append-nil (flat_map g (below (d + n))) ∙ flat_map-below g n d h)))
 
 pub below_is_below : BelowIsBelow
 below_is_below n = (
@@ -279,3 +290,23 @@ greatest-contained (m ∷ n ∷ ns) h =
 
 pub greatest_is_greatest : GreatestIsGreatest
 greatest_is_greatest ns = (λ n at. greatest-le ns at.0 n at.1 at.2, greatest-contained ns)
+
+-- ---- how many pass a test
+
+-- each element passes as many of the one test as of the two others together
+pub count_apart : {X : Type 0} (p q r : X → Bool) → ((x : X) → cond (p x) 1 0 + cond (q x) 1 0 ≡ cond (r x) 1 0)
+    → (xs : List X) → count_by p xs + count_by q xs ≡ count_by r xs
+count_apart p q r apart [] = refl
+count_apart p q r apart (x ∷ xs) = omega (
+  arith,
+  apart x,
+  count_apart p q r apart xs,
+  sum_by-cons (λ y. cond (p y) 1 0) x xs,
+  sum_by-cons (λ y. cond (q y) 1 0) x xs,
+  sum_by-cons (λ y. cond (r y) 1 0) x xs,
+)
+
+pub count_fewer : {X : Type 0} (p r : X → Bool) → ((x : X) → cond (p x) 1 0 ≤ cond (r x) 1 0) → (xs : List X) → count_by p xs ≤ count_by r xs
+count_fewer p r fewer [] = omega arith
+count_fewer p r fewer (x ∷ xs) =
+    omega (arith, fewer x, count_fewer p r fewer xs, sum_by-cons (λ y. cond (p y) 1 0) x xs, sum_by-cons (λ y. cond (r y) 1 0) x xs)

@@ -21,6 +21,28 @@ pub trait Sink: Drop {
         ensures { PutsOnce (taken self.old) (taken self.new) (failures self.old) (failures self.new) bytes.now result };
 }
 
+/// Writes bytes by one call, and counts a failure: an error, also one that only interrupts, or nothing taken of a nonempty slice.
+pub fn write_once<W: Write>(
+    writer: &mut W,
+    failures: &mut u64,
+    bytes: &[u8],
+) -> Result<usize, DeviceFault>
+    ensures { PutsOnce (W.contents writer.old) (W.contents writer.new) failures.old failures.new bytes.now result }
+{
+    match writer.write(bytes) {
+        Ok(n) => {
+            if n == 0 && !bytes.is_empty() {
+                *failures = failures.wrapping_add(1);
+            }
+            Ok(n)
+        }
+        Err(_) => {
+            *failures = failures.wrapping_add(1);
+            Err(DeviceFault)
+        }
+    }
+}
+
 /// A sink over a writer. A call that was interrupted, or that takes nothing of a nonempty slice, is a failure.
 #[derive(Drop)]
 pub struct FromWriter<W: Write + Drop> {
@@ -53,18 +75,7 @@ impl<W: Write + Drop> Sink for FromWriter<W> {
     ghost failures = { λ s. s.failures };
 
     fn put(&mut self, bytes: &[u8]) -> Result<usize, DeviceFault> {
-        match self.writer.write(bytes) {
-            Ok(n) => {
-                if n == 0 && !bytes.is_empty() {
-                    self.failures = self.failures.wrapping_add(1);
-                }
-                Ok(n)
-            }
-            Err(_) => {
-                self.failures = self.failures.wrapping_add(1);
-                Err(DeviceFault)
-            }
-        }
+        write_once(&mut self.writer, &mut self.failures, bytes)
     }
 }
 

@@ -1,6 +1,6 @@
 //! Puts into sinks that take a little at a time, and fail.
 
-use flashbase::{FromWriter, PutFault, Sink, put_all};
+use flashbase::{FromWriter, PutFault, Sink, put_all, write_once};
 use std::io;
 use std::io::{ErrorKind, Write};
 use test_support::Taker;
@@ -58,6 +58,17 @@ fn a_put_meets_each_failure(rt: HostRuntime) {
             assert_eq!(rt; sink.failures, 0);
         }
     }
+}
+
+#[test]
+fn a_write_counts_what_fails(rt: HostRuntime) {
+    let mut failures = 0;
+    let mut bytes = Vec::new(rt.alloc());
+    assert_eq!(rt; write_once(&mut bytes, &mut failures, b"xy"), Ok(2));
+    assert!(rt; bytes.as_slice() == b"xy".as_slice());
+    assert_eq!(rt; failures, 0);
+    assert!(rt; write_once(&mut Interrupted, &mut failures, b"xy").is_err());
+    assert_eq!(rt; failures, 1);
 }
 
 #[test]

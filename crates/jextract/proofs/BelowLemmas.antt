@@ -3,7 +3,7 @@ use Rattle.std.proofs.Common.{◌≡◌, ℕ, Bool, true, false, List, [], ◌�
 use Rattle.std.specs.Prelude.{⊤, filter, option_map}
 use Rattle.std.specs.List.{flat_map}
 use Rattle.std.proofs.lemmas.List.Elements.{Contains-append_left, Contains-append_right}
-use Rattle.jname.proofs.MemberLemmas.{Contains-here, Contains-there}
+use Rattle.flashbase.proofs.MemberLemmas.{Contains-here, Contains-there}
 use Rattle.jmount.specs.Tree.{State, ObjectOf, object, has_bits, directory_bits, is_directory, is_there, entries_in}
 use Rattle.jmount.specs.Shown.{readable, shown}
 use Rattle.jmount.specs.declared.object.Kind.{Kind}

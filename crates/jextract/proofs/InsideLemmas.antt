@@ -6,7 +6,7 @@ use Rattle.std.proofs.lemmas.Bool.Decides.{nat_tests}
 use Rattle.std.proofs.lemmas.Str.{is_utf8-from_IsUtf8}
 use Rattle.std.proofs.lemmas.List.{take-append-drop}
 use Rattle.std.proofs.lemmas.List.Elements.{Contains-append_left, Contains-append_cases}
-use Rattle.jname.proofs.MemberLemmas.{Contains-none, Contains-cases, Contains-map_from}
+use Rattle.flashbase.proofs.MemberLemmas.{Contains-none, Contains-cases, Contains-map_from}
 use Rattle.jmount.specs.Tree.{State}
 use Rattle.jmount.specs.Find.{is_name}
 use Rattle.jextract.specs.Folders.{Made, Deed}

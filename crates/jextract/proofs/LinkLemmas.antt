@@ -7,7 +7,7 @@ use Rattle.std.proofs.lemmas.Bool.{eqb-true, false≢true}
 use Rattle.std.proofs.lemmas.List.{take-append-drop}
 use Rattle.std.proofs.lemmas.List.Elements.{Contains-append_left, Contains-append_right}
 use Rattle.std.proofs.lemmas.Option.{same_Some}
-use Rattle.jname.proofs.MemberLemmas.{Contains-none, Contains-here, Contains-there, Contains-cases, Contains-map_from}
+use Rattle.flashbase.proofs.MemberLemmas.{Contains-none, Contains-here, Contains-there, Contains-cases, Contains-map_from}
 use Rattle.jmount.specs.Shown.{readable, shown}
 use Rattle.jmount.specs.Tree.{State, object, is_directory}
 use Rattle.jmount.specs.declared.object.Kind.{Kind}

@@ -15,7 +15,7 @@ use Rattle.std.proofs.lemmas.List.Sums.{AllPass-from_list_all}
 use Rattle.std.proofs.lemmas.Option.{same_Some}
 use Rattle.std.proofs.lemmas.Slice.Eq.{bytes_eq-Decides}
 use Rattle.jname.specs.Live.{Key, key_cmp}
-use Rattle.jname.proofs.MemberLemmas.{Contains-none, Contains-here, Contains-cases, Contains-map, Contains-map_from, Contains-filter, Contains-filter_from}
+use Rattle.flashbase.proofs.MemberLemmas.{Contains-none, Contains-here, Contains-cases, Contains-map, Contains-map_from, Contains-filter, Contains-filter_from}
 use Rattle.jname.proofs.NamingLemmas.{key_cmp_total}
 use Rattle.jname.proofs.SortedLemmas.{T_first, T_second}
 use Rattle.jmount.specs.Find as find
@@ -36,6 +36,7 @@ use Rattle.jextract.specs.declared.reason.Reason.{Reason}
 use Rattle.jextract.specs.declared.reason.Reason.TheVariants as reason
 use Rattle.jextract.proofs.BelowLemmas.{directory_alone, makes_below}
 use Rattle.jextract.proofs.InsideLemmas.{host_has, makes_inside}
+use Rattle.jmount.proofs.DirectoryNameLemmas.{Others, names_among, others}
 
 -- ---- the text of names
 
@@ -143,39 +144,9 @@ stands_one deeds (Complete way i ∷ next ∷ todo) stands = absurd stands
 
 -- ---- the names of a directory differ
 
-abbrev Others : List ℕ → List (List ℕ × ℕ) → Type 0
-Others name [] = ⊤
-Others name (e ∷ es) = (name ≡ e.0 → ⊥) × Others name es
-
 abbrev Differ : List (List ℕ × ℕ) → Type 0
 Differ [] = ⊤
 Differ (e ∷ es) = Others e.0 es × Differ es
-
-abbrev names_among : ℕ → List (Key × ℕ) → List (List ℕ × ℕ)
-names_among dir es = map (λ e. (e.0.1, e.1)) (filter (λ e. e.0.0 == dir) es)
-
-not_less : (k : Key) → T (is_lt (key_cmp k k)) → ⊥
-not_less k less = by (key_cmp k k) (key_cmp_total.antisymm k k) less
-  where
-    by : (r : Ordering) → r ≡ ordering_reverse r → T (is_lt r) → ⊥
-    by Less e t = subst (λ q. T (is_lt q)) e tt
-    by Equal e t = t
-    by Greater e t = t
-
-others : (dir : ℕ) (k : Key) (es : List (Key × ℕ)) → k.0 ≡ dir → T (below_all key_cmp k es) → Others k.1 (names_among dir es)
-others dir k [] at below = tt
-others dir k (e ∷ es) at below = by (e.0.0 == dir) refl (others dir k es at (T_second (is_lt (key_cmp k e.0)) (below_all key_cmp k es) below))
-  where
-    by : (b : Bool) → (e.0.0 == dir) ≡ b → Others k.1 (names_among dir es)
-        → Others k.1 (map (λ e. (e.0.1, e.1)) (cond b (e ∷ filter (λ e. e.0.0 == dir) es) (filter (λ e. e.0.0 == dir) es)))
-    by true is rest = (
-      λ same.
-          let one : k.0 ≡ e.0.0 = at ∙ sym (eqb-true e.0.0 dir is) in
-          let key : k ≡ e.0 = (λ i. (one i, same i)) in
-          not_less e.0 (subst (λ q. T (is_lt (key_cmp q e.0))) key (T_first (is_lt (key_cmp k e.0)) (below_all key_cmp k es) below)),
-      rest,
-    )
-    by false is rest = rest
 
 differ : (dir : ℕ) (es : List (Key × ℕ)) → T (is_sorted key_cmp es) → Differ (names_among dir es)
 differ dir [] sorted = tt

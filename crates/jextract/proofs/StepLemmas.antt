@@ -9,9 +9,10 @@ use Rattle.std.proofs.lemmas.List.{map-append, reverse-append, length_push}
 use Rattle.std.proofs.Math.Seq.{take-append_seam}
 use Rattle.flashbase.specs.Device.{PutsPart}
 use Rattle.jmount.specs.Tree.{State, is_there, entries_in}
+use Rattle.jmount.specs.Find.{way_up}
 use Rattle.jextract.specs.Making.{firsts_of}
 use Rattle.jextract.specs.Outcomes.{Task, Make, Complete, Outcome, Firsts, AreFirstOutcomes, tasks_of, tasks_in, all_lines}
-use Rattle.jextract.specs.Walking.{Advances, Sight, Had, StopsBy, Visits, Completes, GoesUp, Steps, task_if, todo_then, todo_of, tasks_up, way_of, way_up, unmade}
+use Rattle.jextract.specs.Walking.{Advances, Sight, Had, StopsBy, Visits, Completes, GoesUp, Steps, task_if, todo_then, todo_of, tasks_up, way_of, unmade}
 use Rattle.jextract.specs.declared.extracting.Walk.{Walk}
 use Rattle.jextract.specs.declared.fault.ExtractFault.{ExtractFault}
 use Rattle.jextract.specs.declared.fault.ExtractFault.TheVariants as fault

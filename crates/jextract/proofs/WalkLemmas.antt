@@ -26,6 +26,8 @@ use Rattle.jextract.specs.declared.making.MakeFault.{MakeFault}
 use Rattle.jextract.specs.declared.making.MakeFault.TheVariants as make
 use Rattle.jextract.specs.declared.reason.Reason.{Reason}
 use Rattle.jextract.proofs.MakingLemmas.{Adds-nil}
+use Rattle.flashbase.proofs.ListLemmas.{count_apart, count_fewer}
+use Rattle.jmount.proofs.DirectoryNameLemmas.{length_entries}
 
 -- ---- one outcome
 
@@ -111,27 +113,6 @@ completes {T} s owners path i old new r (Err f) works tells = λ firsts todo. st
     anywhere firsts (Err make.OutOfMemory) works = works
 
 -- ---- the names whose directory was not made
-
-count_apart : {X : Type 0} (p q r : X → Bool) → ((x : X) → cond (p x) 1 0 + cond (q x) 1 0 ≡ cond (r x) 1 0)
-    → (xs : List X) → count_by p xs + count_by q xs ≡ count_by r xs
-count_apart p q r apart [] = refl
-count_apart p q r apart (x ∷ xs) = omega (
-  arith,
-  apart x,
-  count_apart p q r apart xs,
-  sum_by-cons (λ y. cond (p y) 1 0) x xs,
-  sum_by-cons (λ y. cond (q y) 1 0) x xs,
-  sum_by-cons (λ y. cond (r y) 1 0) x xs,
-)
-
-count_fewer : {X : Type 0} (p r : X → Bool) → ((x : X) → cond (p x) 1 0 ≤ cond (r x) 1 0) → (xs : List X) → count_by p xs ≤ count_by r xs
-count_fewer p r fewer [] = omega arith
-count_fewer p r fewer (x ∷ xs) =
-    omega (arith, fewer x, count_fewer p r fewer xs, sum_by-cons (λ y. cond (p y) 1 0) x xs, sum_by-cons (λ y. cond (r y) 1 0) x xs)
-
-length_entries : (s : State) (d : ℕ) → length (entries_in s d) ≡ count_by (λ e. e.0.0 == d) (entries s.names)
-length_entries s d =
-    length-map (filter (λ e. e.0.0 == d) (entries s.names)) (λ e. (e.0.1, e.1)) ∙ length-filter (λ e. e.0.0 == d) (entries s.names)
 
 -- a directory that is made for the first time takes its names along
 unmade_entered : (s : State) (firsts : Firsts) (text : List ℕ) (i : ℕ) → firsts i ≡ None

@@ -6,6 +6,7 @@ use Rattle.flashbase.specs.Device.{PutsPart, next_count}
 use Rattle.jmount.specs.Tree.{State, is_there, entries_in}
 use Rattle.jmount.specs.declared.object.Kind.{Kind}
 use Rattle.jmount.specs.declared.object.Kind.TheVariants as kind
+use Rattle.jmount.specs.Find.{way_up}
 use Rattle.jextract.specs.Folders.{Made, Adds}
 use Rattle.jextract.specs.Making.{firsts_of}
 use Rattle.jextract.specs.Extracts.{AreTreeOutcomes}
@@ -35,10 +36,6 @@ Tells (Err make.OutOfMemory) path old new before now n after (Err OutOfMemory) =
 Tells (Err make.OutOfMemory) path old new before now n after (Err _) = ⊥
 
 -- ---- what is still to be done at a place of the walk
-
--- the way to the directory above
-abbrev pub way_up : List (List ℕ) → List (List ℕ)
-way_up path = take (length path - 1) path
 
 -- what is left of these directories, where `path` leads to the first and each lies in the next
 abbrev pub tasks_up : State → List (ℕ × List (List ℕ × ℕ)) → List (List ℕ) → List Task

@@ -5,7 +5,7 @@ ghost use Rattle.std.specs.IoError.{error_kind};
 ghost use Rattle.std.specs.Io.Buffered.{writer_contents, writer_inner};
 ghost use Rattle.flashbase.specs.Device.{CountsErr};
 
-use flashbase::{DeviceFault, Sink};
+use flashbase::{DeviceFault, Sink, write_once};
 use std::alloc::Global;
 use std::io;
 use std::io::{BufWriter, ErrorKind, Write};
@@ -67,18 +67,7 @@ impl<W: Write + Drop> Sink for BufferedOutput<W> {
     ghost failures = { λ s. s.failures };
 
     fn put(&mut self, bytes: &[u8]) -> Result<usize, DeviceFault> {
-        match self.writer.write(bytes) {
-            Ok(n) => {
-                if n == 0 && !bytes.is_empty() {
-                    self.failures = self.failures.wrapping_add(1);
-                }
-                Ok(n)
-            }
-            Err(_) => {
-                self.failures = self.failures.wrapping_add(1);
-                Err(DeviceFault)
-            }
-        }
+        write_once(&mut self.writer, &mut self.failures, bytes)
     }
 }
 

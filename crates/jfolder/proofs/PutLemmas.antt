@@ -11,7 +11,7 @@ use Rattle.std.specs.Io.KnownBytes.{Appends}
 use Rattle.flashbase.specs.Device.{Puts, PutsPart, next_count}
 use Rattle.flashbase.specs.Lists.{below}
 use Rattle.flashbase.proofs.DeviceLemmas.{part_behind}
-use Rattle.jline.proofs.TurnLemmas.{first_failed, then_puts}
+use Rattle.flashbase.proofs.DeviceLemmas.{first_failed, then_puts}
 use Rattle.jfolder.specs.Text.{item_words, items_words, line_of, lines_text, piece, settings_with}
 use Rattle.jfolder.specs.declared.settings.Settings.{Settings}
 use Rattle.jfolder.specs.declared.tree.Item.{Item}

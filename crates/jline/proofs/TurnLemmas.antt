@@ -1,6 +1,6 @@
 -- Texts that go out one after another, up to a fault.
 use Rattle.std.proofs.Common.{◌≡◌, ℕ, ◌+◌, ◌<◌, List, [], ◌∷◌, ◌++◌, length, sym, ap, ◌∙◌, subst, take, drop, get_or, append-nil, Option}
-use Rattle.std.specs.Prelude.{Result, Ok, Err, IsErr}
+use Rattle.std.specs.Prelude.{Result, IsErr}
 use Rattle.std.proofs.lemmas.List.{take-append-drop}
 use Rattle.std.proofs.Math.Seq.{drop-cons, take-add}
 use Rattle.std.specs.List.{flat_map}
@@ -8,27 +8,7 @@ use Rattle.std.proofs.lemmas.Grind.{flat_map-append}
 use Rattle.std.specs.Io.KnownBytes.{Appends}
 use Rattle.std.proofs.KnownBytes.{Appends-trans}
 use Rattle.flashbase.specs.Device.{PutsPart, Puts, next_count}
-use Rattle.flashbase.proofs.DeviceLemmas.{part_before, part_behind}
-
--- ---- two texts
-
--- the first failed
-pub first_failed : {T E : Type 0} (old new : Option (List ℕ)) (before now : ℕ) (s t : List ℕ) (r : Result T E) → IsErr r
-    → PutsPart old new s → now ≡ next_count before → Puts old new before now (s ++ t) r
-first_failed old new before now s t (Ok x) err part failed = cc
-first_failed old new before now s t (Err e) err part failed = (part_before old new s t part, failed)
-
--- the first went out, and then the other as far as it did
-pub then_puts : {T E : Type 0} (a b c : Option (List ℕ)) (before mid now : ℕ) (s t : List ℕ) (r : Result T E)
-    → Appends a b s → mid ≡ before → Puts b c mid now t r → Puts a c before now (s ++ t) r
-then_puts a b c before mid now s t (Ok x) put same next = (Appends-trans a b c s t put next.0, next.1 ∙ same)
-then_puts a b c before mid now s t (Err e) put same next = (part_behind a b c s t put next.0, next.1 ∙ ap next_count same)
-
--- the call for the other failed
-pub then_failed : {T E : Type 0} (a b c : Option (List ℕ)) (before mid now : ℕ) (s t : List ℕ) (r : Result T E) → IsErr r
-    → Appends a b s → mid ≡ before → PutsPart b c t → now ≡ next_count mid → Puts a c before now (s ++ t) r
-then_failed a b c before mid now s t (Ok x) err put same part failed = cc
-then_failed a b c before mid now s t (Err e) err put same part failed = (part_behind a b c s t put part, failed ∙ ap next_count same)
+use Rattle.flashbase.proofs.DeviceLemmas.{first_failed, part_behind}
 
 -- ---- the texts of the items of a list
 

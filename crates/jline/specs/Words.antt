@@ -22,9 +22,12 @@ octal n = radix_digits 8 false n
 abbrev pub is_plain : ℕ → Bool
 is_plain b = nat_le 0x21 b && nat_le b 0x7E && not (b == 92) && not (b == 47)
 
--- any other byte is `\x` and its two hexadecimal digits
+-- `\x` and the two hexadecimal digits of a byte
+abbrev pub hex_escape : ℕ → List ℕ
+hex_escape b = 92 ∷ 120 ∷ hex_digit (b / 16) ∷ hex_digit (b % 16) ∷ []
+
 abbrev pub escaped_byte : ℕ → List ℕ
-escaped_byte b = if is_plain b then b ∷ [] else 92 ∷ 120 ∷ hex_digit (b / 16) ∷ hex_digit (b % 16) ∷ []
+escaped_byte b = if is_plain b then b ∷ [] else hex_escape b
 
 abbrev pub escaped : List ℕ → List ℕ
 escaped bytes = flat_map escaped_byte bytes
@@ -35,7 +38,7 @@ is_control b = nat_lt b 0x20 || b == 0x7F
 
 -- in a line it is `\x` and its two hexadecimal digits, and any other byte stands for itself
 abbrev pub in_line_byte : ℕ → List ℕ
-in_line_byte b = if is_control b then 92 ∷ 120 ∷ hex_digit (b / 16) ∷ hex_digit (b % 16) ∷ [] else b ∷ []
+in_line_byte b = if is_control b then hex_escape b else b ∷ []
 
 -- a text within a line
 abbrev pub in_line : List ℕ → List ℕ

@@ -1,7 +1,7 @@
 //! One line of what the program prints, in a buffer of fixed size that takes no memory.
 
 ghost use Rattle.std.specs.Prelude.{◌≡◌, ◌+◌, ◌*◌, ◌^◌, ◌<◌, ◌≤◌, ◌++◌, ◌∷◌, [], length, decimal};
-ghost use Rattle.jline.specs.Words.{hex, hex_digit, octal, escaped, escaped_byte, in_line_byte, spelled, spelled_byte, word_byte};
+ghost use Rattle.jline.specs.Words.{hex, hex_digit, hex_escape, octal, escaped, escaped_byte, in_line_byte, spelled, spelled_byte, word_byte};
 
 use crate::spelling::Spelling;
 use arrayvec::ArrayVec;
@@ -118,6 +118,15 @@ impl LineBuffer {
         self.push_octal_digits(n);
     }
 
+    /// `\x` and the two hexadecimal digits of a byte.
+    fn push_hex_escape(&mut self, byte: u8)
+        requires { length self.old + 4 ≤ MAX_LINE }
+        ensures text { self.new ≡ self.old ++ hex_escape byte }
+        ensures grows { length self.new ≡ length self.old + 4 }
+    {
+        self.push_text(&[b'\\', b'x', digit(byte / 16), digit(byte % 16)]);
+    }
+
     fn push_escaped_byte(&mut self, byte: u8)
         requires { length self.old + 4 ≤ MAX_LINE }
         ensures text { self.new ≡ self.old ++ escaped_byte byte }
@@ -126,7 +135,7 @@ impl LineBuffer {
         if byte >= 0x21 && byte <= 0x7E && byte != b'\\' && byte != b'/' {
             self.push(byte);
         } else {
-            self.push_text(&[b'\\', b'x', digit(byte / 16), digit(byte % 16)]);
+            self.push_hex_escape(byte);
         }
     }
 
@@ -136,7 +145,7 @@ impl LineBuffer {
         ensures grows { length self.new ≤ length self.old + 4 }
     {
         if byte < 0x20 || byte == 0x7F {
-            self.push_text(&[b'\\', b'x', digit(byte / 16), digit(byte % 16)]);
+            self.push_hex_escape(byte);
         } else {
             self.push(byte);
         }

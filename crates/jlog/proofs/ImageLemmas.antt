@@ -13,29 +13,14 @@ use Rattle.jnode.specs.declared.node.Seen.{Seen}
 use Rattle.jnode.specs.declared.order.Endian.{Endian}
 use Rattle.jscan.specs.Image.{is_block_size, block_of, block_count, sightings_in, sightings}
 use Rattle.jscan.specs.Blank.{marked, is_blank, AreBlankFrom}
-use Rattle.jscan.proofs.BlockLemmas.{block_past}
+use Rattle.flashbase.proofs.ListLemmas.{flat_map-below}
+use Rattle.jscan.proofs.BlockLemmas.{block_past, past_count, count_within}
 use Rattle.jscan.proofs.HeaderlessLemmas.{erased_has_no_nodes}
 use Rattle.jlog.specs.LeftLaws.{tells}
 use Rattle.jlog.proofs.SightLemmas.{told, marked_told}
 use Rattle.jlog.proofs.FlashLemmas.{up}
 
 -- ---- an image's sightings are those of the flash's blocks
-
--- what gives nothing from n on adds nothing
-flat_map-below : {A : Type 0} (g : ℕ → List A) (n d : ℕ) → ((k : ℕ) → n ≤ k → g k ≡ []) → flat_map g (below (d + n)) ≡ flat_map g (below n)
-flat_map-below g n zero h = let same : 0 + n ≡ n = omega arith in ap (λ (m : ℕ). flat_map g (below m)) same
-flat_map-below g n (suc d) h =
-    let step : suc d + n ≡ suc (d + n) = omega arith in
-    ap (λ (m : ℕ). flat_map g (below m)) step
-    ∙ (flat_map-append g (below (d + n)) ((d + n) ∷ [])
-    ∙ (ap (λ ys. flat_map g (below (d + n)) ++ (ys ++ [])) (h (d + n) (omega arith))
-    ∙ (append-nil (flat_map g (below (d + n))) ∙ flat_map-below g n d h)))
-
-past_count : (size : ℕ) (image : List ℕ) (k : ℕ) → 0 < size → block_count size image ≤ k → length image ≤ k * size
-past_count size image k p h = grind (arith, div_ceil_times (length image) size p)
-
-pub count_within : (size blocks : ℕ) (image : List ℕ) → 0 < size → length image ≤ blocks * size → block_count size image ≤ blocks
-count_within size blocks image p h = grind (arith, div_ceil_times (length image) size p)
 
 sightings_are_of_blocks : (e : Endian) (size blocks : ℕ) (image : List ℕ) → 0 < size → length image ≤ blocks * size
     → sightings e size image ≡ flat_map (λ k. sightings_in e (k * size) (block_of size image k)) (below blocks)

@@ -25,7 +25,8 @@ use Rattle.jlog.proofs.FlashLemmas.{BlockLeft, up}
 use Rattle.jlog.proofs.HereLemmas.{Sure, none_weak, none_cut}
 use Rattle.jlog.proofs.FlashLemmas.{Flash}
 use Rattle.jlog.proofs.WalkLemmas.{walks_all}
-use Rattle.jlog.proofs.ImageLemmas.{count_within, told_below, below_up, below_same, told_image, blank_up, block_size}
+use Rattle.jscan.proofs.BlockLemmas.{count_within}
+use Rattle.jlog.proofs.ImageLemmas.{told_below, below_up, below_same, told_image, blank_up, block_size}
 
 pub left_is_within : LeftIsWithin
 left_is_within e size blocks from k base out image some left = count_within size blocks image some left.no_longer

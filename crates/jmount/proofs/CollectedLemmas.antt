@@ -10,7 +10,7 @@ use Rattle.jnode.specs.declared.node.NodeRef.{NodeRef}
 use Rattle.jnode.specs.declared.node.NodeRef.TheVariants.{Entry, Inode}
 use Rattle.jname.specs.Clash as names
 use Rattle.jname.specs.Live.{Gains}
-use Rattle.jname.proofs.MemberLemmas.{Contains-none}
+use Rattle.flashbase.proofs.MemberLemmas.{Contains-none}
 use Rattle.jscan.specs.Image.{sightings, nodes}
 use Rattle.jscan.specs.Scans.{IsScannable, first_refused, nodes_before_refusal}
 use Rattle.jscan.specs.declared.geometry.ScanFault.{ScanFault}

@@ -14,7 +14,7 @@ use Rattle.std.proofs.lemmas.Option.{same_Some}
 use Rattle.jnode.specs.declared.node.InodeNode.{InodeNode}
 use Rattle.jname.proofs.ContentsByNameLemmas.{by_test}
 use Rattle.jname.proofs.EntriesLemmas.{nat_found}
-use Rattle.jname.proofs.MemberLemmas.{Contains-flat_map, Contains-flat_map_from}
+use Rattle.flashbase.proofs.MemberLemmas.{Contains-flat_map, Contains-flat_map_from}
 use Rattle.jmount.specs.declared.versions.Versions.{Versions}
 use Rattle.jmount.specs.Clash.{SomeInodeClashesWith, NoInodeClashesWith}
 use Rattle.jmount.specs.Inodes.{GainsInode, InodeAgrees, InodeDiffers, inode_of_version, NodesByNumber, inode_at, IsKeyed, nodes_in, nodes_of_numbers}

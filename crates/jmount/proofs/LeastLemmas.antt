@@ -6,7 +6,7 @@ use Rattle.std.proofs.lemmas.Bool.{eq-eqb, eqb-true}
 use Rattle.flashbase.specs.Lists.{greatest}
 use Rattle.flashbase.proofs.ListLemmas.{greatest_is_greatest}
 use Rattle.jnode.specs.declared.node.NodeRef.{NodeRef}
-use Rattle.jname.proofs.MemberLemmas.{Contains-here, Contains-there, Contains-cases, Contains-map, Contains-map_from, Contains-flat_map, Contains-flat_map_from, Contains-filter, Contains-filter_from}
+use Rattle.flashbase.proofs.MemberLemmas.{Contains-here, Contains-there, Contains-cases, Contains-map, Contains-map_from, Contains-flat_map, Contains-flat_map_from, Contains-filter, Contains-filter_from}
 use Rattle.jmount.specs.StateOf.{numbers_in, owner, version_of}
 use Rattle.jmount.specs.Laws as law
 

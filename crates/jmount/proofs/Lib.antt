@@ -1,3 +1,4 @@
+pub mod DirectoryNameLemmas
 pub mod NewestLemmas
 pub mod OlderLemmas
 pub mod InodesLemmas

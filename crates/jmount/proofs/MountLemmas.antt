@@ -13,7 +13,7 @@ use Rattle.jnode.specs.declared.node.NodeRef.{NodeRef}
 use Rattle.jnode.specs.declared.node.NodeRef.TheVariants.{Inode}
 use Rattle.jnode.specs.Writing.{IsWritable, IsWritableInode, HoldsRange}
 use Rattle.jfrag.specs.Pieces.{end_of, body_len}
-use Rattle.jname.proofs.MemberLemmas.{Contains-map_from}
+use Rattle.flashbase.proofs.MemberLemmas.{Contains-map_from}
 use Rattle.jscan.specs.Image.{sightings, nodes}
 use Rattle.jscan.specs.Scans.{IsScannable, first_refused, nodes_before_refusal, findings, is_read_only}
 use Rattle.jscan.specs.declared.geometry.ScanFault.{ScanFault}

@@ -9,7 +9,7 @@ use Rattle.flashbase.proofs.ListLemmas.{newest_is_newest, newest_of_none}
 use Rattle.jnode.specs.declared.node.Dirent.{Dirent}
 use Rattle.jname.specs.Live.{Key, is_at, ino_if_any}
 use Rattle.jname.proofs.LiveLemmas.{key_at}
-use Rattle.jname.proofs.MemberLemmas.{Contains-none, Contains-filter, Contains-filter_from}
+use Rattle.flashbase.proofs.MemberLemmas.{Contains-none, Contains-filter, Contains-filter_from}
 use Rattle.jmount.specs.StateOf.{entries}
 use Rattle.jmount.specs.Laws as law
 use Rattle.jmount.specs.Laws.{IsNewestEntry}

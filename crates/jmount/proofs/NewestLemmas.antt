@@ -8,7 +8,7 @@ use Rattle.jmount.specs.declared.versions.Versions.{Versions}
 use Rattle.jmount.specs.ByVersion.{node_of_version}
 use Rattle.jmount.specs.Inodes.{nodes_in, inode_of_version}
 use Rattle.jname.proofs.ContentsByNameLemmas.{by_test}
-use Rattle.jname.proofs.MemberLemmas.{Contains-cases}
+use Rattle.flashbase.proofs.MemberLemmas.{Contains-cases}
 use Rattle.jmount.proofs.NumbersLemmas.{eqb_symm}
 use Rattle.jmount.proofs.OlderLemmas.{choose, node_at, node_of_first, node_of_pushed}
 

@@ -14,7 +14,7 @@ use Rattle.jfrag.specs.declared.piece.Piece.{Piece}
 use Rattle.jfrag.specs.Pieces.{body_len, covers, byte_of}
 use Rattle.jfrag.specs.Overlays.{Visible, GivesAt, IsHighestAt, visible, byte_at}
 use Rattle.jfrag.proofs.OverlaysLemmas.{visible_is_highest, content_is_visible}
-use Rattle.jname.proofs.MemberLemmas.{Contains-none, Contains-map, Contains-map_from, Contains-filter, Contains-filter_from}
+use Rattle.flashbase.proofs.MemberLemmas.{Contains-none, Contains-map, Contains-map_from, Contains-filter, Contains-filter_from}
 use Rattle.jmount.specs.Tree.{ObjectOf}
 use Rattle.jmount.specs.StateOf.{versions_of, latest, body_of, piece_of, default_root, or_root, object_by}
 use Rattle.jmount.specs.Laws as law

@@ -11,7 +11,7 @@ use Rattle.std.proofs.lemmas.Map.Lookups.{exact_unsigned}
 use Rattle.std.proofs.lemmas.Map.Views.{Contains-from_lookup, tells_apart}
 use Rattle.jnode.specs.declared.node.InodeNode.{InodeNode}
 use Rattle.jname.proofs.ContentsByNameLemmas.{by_test}
-use Rattle.jname.proofs.MemberLemmas.{Contains-none, Contains-here, Contains-there, Contains-map_from}
+use Rattle.flashbase.proofs.MemberLemmas.{Contains-none, Contains-here, Contains-there, Contains-map_from}
 use Rattle.jmount.specs.ByVersion.{by_version, node_of_version, place_after, place_of_version}
 use Rattle.jmount.proofs.NumbersLemmas.{eqb_symm}
 

@@ -2,7 +2,7 @@
 use Rattle.std.proofs.Common.{◌≡◌, ℕ, suc, zero, ◌<◌, ◌≤◌, Bool, true, false, List, [], ◌∷◌, ◌++◌, length, length-append, filter, Ok, refl, ap, sym, ◌∙◌, subst, inl, inr, ◌⊎◌, ⊎_elim, arith}
 use Rattle.std.specs.Prelude.{Contains, not, ◌==◌}
 use Rattle.std.proofs.lemmas.Bool.{cond_both, eqb-true, eq-eqb, not_from_true, not_from_false, true≢false}
-use Rattle.jname.proofs.MemberLemmas.{Contains-none, Contains-cases, Contains-filter}
+use Rattle.flashbase.proofs.MemberLemmas.{Contains-none, Contains-cases, Contains-filter}
 use Rattle.jmount.specs.Tree.{Tree, is_directory}
 use Rattle.jmount.specs.Find.{walk}
 use Rattle.jmount.specs.Shape.{IsSingle, HasShape}

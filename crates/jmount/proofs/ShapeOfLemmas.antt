@@ -8,7 +8,7 @@ use Rattle.std.specs.FinMap.{keys, entries, entries_sorted, get-entries, contain
 use Rattle.std.proofs.lemmas.Bool.{and_from, eqb-true, eq-eqb, ne_eqb, true≢false, false≢true}
 use Rattle.std.proofs.lemmas.Map.Views.{Contains-from_any, tells_apart}
 use Rattle.jname.specs.Live.{Key, key_cmp}
-use Rattle.jname.proofs.MemberLemmas.{Contains-none, Contains-here, Contains-there, Contains-cases, Contains-filter, Contains-filter_from}
+use Rattle.flashbase.proofs.MemberLemmas.{Contains-none, Contains-here, Contains-there, Contains-cases, Contains-filter, Contains-filter_from}
 use Rattle.jname.proofs.NamingLemmas.{key_cmp_total, key_cmp-IsAntisymmetric}
 use Rattle.jname.proofs.SortedLemmas.{Contains-from_find, find-from_Contains}
 use Rattle.jmount.specs.Tree.{Tree, Outline, named, is_directory}

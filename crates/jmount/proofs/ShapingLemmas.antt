@@ -15,7 +15,7 @@ use Rattle.std.proofs.lemmas.Map.Views.{tells_apart, Contains-from_any, list_any
 use Rattle.std.proofs.lemmas.Option.{same_Some}
 use Rattle.jname.specs.Live.{Key, key_cmp}
 use Rattle.jname.proofs.ContentsByNameLemmas.{by_test}
-use Rattle.jname.proofs.MemberLemmas.{Contains-none, Contains-here, Contains-there, Contains-cases, Contains-map, Contains-map_from, Contains-filter, Contains-filter_from}
+use Rattle.flashbase.proofs.MemberLemmas.{Contains-none, Contains-here, Contains-there, Contains-cases, Contains-map, Contains-map_from, Contains-filter, Contains-filter_from}
 use Rattle.jname.proofs.NamingLemmas.{key_cmp_total}
 use Rattle.jname.proofs.SortedLemmas.{T_first, T_second, below_all-at, Contains-from_find}
 use Rattle.jmount.specs.Tree.{ObjectOf, State, object, named, is_directory, has_bits, directory_bits, entries_in, all_entries}

@@ -11,7 +11,7 @@ use Rattle.jfrag.specs.Pieces.{byte_of}
 use Rattle.jfrag.specs.Laws as overlay
 use Rattle.jname.specs.Live.{live_names}
 use Rattle.jname.proofs.LawLemmas.{live_names-same}
-use Rattle.jname.proofs.MemberLemmas.{Contains-map_from, Contains-filter_from}
+use Rattle.flashbase.proofs.MemberLemmas.{Contains-map_from, Contains-filter_from}
 use Rattle.jmount.specs.Clash.{NoInodesClash}
 use Rattle.jmount.specs.StateOf.{inodes, entries, inode_in, entry_in, versions_of, latest, piece_of, contents, object_by, object_of, objects_of, or_root, numbers_in, next_of, owner, version_of, top}
 use Rattle.jmount.specs.Laws as law

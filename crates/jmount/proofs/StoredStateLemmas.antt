@@ -17,7 +17,7 @@ use Rattle.jname.specs.Live.{live_names}
 use Rattle.jname.proofs.LawLemmas.{highest-same, live_names-same}
 use Rattle.jname.proofs.EntriesLemmas.{nat_found}
 use Rattle.jname.proofs.ContentsByNameLemmas.{by_test}
-use Rattle.jname.proofs.MemberLemmas.{Contains-none, Contains-here, Contains-there, Contains-cases, Contains-map, Contains-map_from, Contains-filter, Contains-filter_from}
+use Rattle.flashbase.proofs.MemberLemmas.{Contains-none, Contains-here, Contains-there, Contains-cases, Contains-map, Contains-map_from, Contains-filter, Contains-filter_from}
 use Rattle.jmount.specs.declared.stored.Stored.{Stored}
 use Rattle.jmount.specs.Laws.{SameElements}
 use Rattle.jmount.specs.StateOf.{inodes, entries, versions_of, latest, object_by, object_of, or_root, objects_of, owner, top, tops_of, next_of, state_of}

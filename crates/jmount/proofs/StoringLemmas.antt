@@ -21,7 +21,7 @@ use Rattle.jfrag.specs.Overlays.{Visible, byte_at, IsHighestAt, content}
 use Rattle.jfrag.specs.Laws as overlay
 use Rattle.jfrag.proofs.OverlaysLemmas.{only_one_is_highest}
 use Rattle.jname.proofs.ContentsByNameLemmas.{by_test}
-use Rattle.jname.proofs.MemberLemmas.{Contains-none, Contains-here, Contains-map_from, Contains-flat_map}
+use Rattle.flashbase.proofs.MemberLemmas.{Contains-none, Contains-here, Contains-map_from, Contains-flat_map}
 use Rattle.jmount.specs.declared.versions.Versions.{Versions}
 use Rattle.jmount.specs.declared.stored.Stored.{Stored}
 use Rattle.jmount.specs.Inodes.{inode_of_version, IsByVersion, IsKeyed, NodesByNumber, nodes_in, nodes_of_numbers}

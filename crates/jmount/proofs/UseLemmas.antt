@@ -9,7 +9,7 @@ use Rattle.jnode.specs.declared.node.Dirent.{Dirent}
 use Rattle.jnode.specs.declared.node.InodeNode.{InodeNode}
 use Rattle.jnode.specs.declared.node.NodeRef.{NodeRef}
 use Rattle.jnode.specs.declared.node.NodeRef.TheVariants.{Entry, Inode}
-use Rattle.jname.proofs.MemberLemmas.{Contains-here, Contains-there}
+use Rattle.flashbase.proofs.MemberLemmas.{Contains-here, Contains-there}
 use Rattle.jname.proofs.SortedLemmas.{Contains-filter_map_from}
 use Rattle.jmount.specs.Clash.{NodesClash}
 use Rattle.jmount.specs.Tree.{ObjectOf, object, named}

@@ -15,7 +15,7 @@ use Rattle.std.proofs.lemmas.List.Elements.{filter-append}
 use Rattle.jnode.specs.declared.node.InodeNode.{InodeNode}
 use Rattle.jname.proofs.EntriesLemmas.{nat_found}
 use Rattle.jname.proofs.ContentsByNameLemmas.{by_test}
-use Rattle.jname.proofs.MemberLemmas.{Contains-here, Contains-there}
+use Rattle.flashbase.proofs.MemberLemmas.{Contains-here, Contains-there}
 use Rattle.jmount.specs.declared.versions.Versions.{Versions}
 use Rattle.jmount.specs.Inodes.{NodesByNumber, IsKeyed, inode_at, inode_of_version, nodes_in, nodes_of_numbers}
 use Rattle.jmount.specs.StateOf.{versions_of}

@@ -1,5 +1,5 @@
 -- Paths, and what they name (POSIX.1-2017, 4.13 "Pathname Resolution", without relative paths and symlinks).
-use Rattle.std.specs.Prelude.{◌≡◌, ℕ, ◌==◌, ◌&&◌, not, Bool, nat_lt, bytes_eq, IsTrue, List, [], ◌∷◌, length, flat_map, Option, Some, None, Result, Ok, Err, All, if◌then◌else◌}
+use Rattle.std.specs.Prelude.{◌≡◌, ℕ, ◌-◌, ◌==◌, ◌&&◌, not, Bool, nat_lt, bytes_eq, IsTrue, List, [], ◌∷◌, length, take, flat_map, Option, Some, None, Result, Ok, Err, All, if◌then◌else◌}
 use Rattle.std.specs.List.{list_all}
 use Rattle.jmount.specs.Tree.{Tree, named, is_there, is_directory}
 use Rattle.jmount.specs.declared.fault.FindFault.{FindFault}
@@ -15,6 +15,10 @@ is_name name =
 abbrev pub path_text : List (List ℕ) → List ℕ
 path_text [] = 47 ∷ []
 path_text (name ∷ names) = flat_map (λ n. 47 ∷ n) (name ∷ names)
+
+-- the way to the directory above
+abbrev pub way_up : List (List ℕ) → List (List ℕ)
+way_up path = take (length path - 1) path
 
 -- the text is the path of these names
 abbrev pub IsPath : List ℕ → List (List ℕ) → Type 0

@@ -29,7 +29,7 @@ use Rattle.jname.specs.Directories.{DirectoriesByNumber, content_at, content_hel
 use Rattle.jname.specs.Entries.{content_of_entry, entry_of, entries_under, entries_in_directory, entries_of}
 use Rattle.jname.proofs.NameMapLemmas.{names_ordered}
 use Rattle.jname.proofs.VersionLemmas.{newest_at, older_at, only_at}
-use Rattle.jname.proofs.MemberLemmas.{Contains-none, Contains-cases, Contains-map, Contains-map_from, Contains-flat_map, Contains-flat_map_from, Contains-lookup}
+use Rattle.flashbase.proofs.MemberLemmas.{Contains-none, Contains-cases, Contains-map, Contains-map_from, Contains-flat_map, Contains-flat_map_from, Contains-lookup}
 
 -- what a step gives comes from a value
 and_then_from : {A B : Type 0} (f : A → Option B) (o : Option A) (b : B) → option_and_then f o ≡ Some b → (a : A) × (o ≡ Some a) × (f a ≡ Some b)

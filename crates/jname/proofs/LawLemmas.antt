@@ -12,7 +12,7 @@ use Rattle.jname.specs.Entries.{content_of_entry}
 use Rattle.jname.specs.Clash.{EntriesClash, NoEntriesClash}
 use Rattle.jname.specs.Live.{Key, is_at, ino_if_any, live, live_names, highest, SameEntries}
 use Rattle.jname.proofs.ContentsByNameLemmas.{by_test}
-use Rattle.jname.proofs.MemberLemmas.{Contains-none, Contains-filter, Contains-filter_from}
+use Rattle.flashbase.proofs.MemberLemmas.{Contains-none, Contains-filter, Contains-filter_from}
 use Rattle.jname.proofs.LiveLemmas.{key_at}
 use Rattle.jname.proofs.GainLemmas.{same_entry}
 use Rattle.jname.proofs.NamingLemmas.{key_cmp_total, key_cmp-IsAntisymmetric, get-live_names}

@@ -4,7 +4,6 @@ pub mod GainLemmas
 pub mod ContentsByNameLemmas
 pub mod LawLemmas
 pub mod LiveLemmas
-pub mod MemberLemmas
 pub mod NameMapLemmas
 pub mod NamingLemmas
 pub mod OrderLemmas

@@ -19,7 +19,7 @@ use Rattle.jname.specs.NameMaps.{names_in}
 use Rattle.jname.specs.Directories.{DirectoriesByNumber, content_at, content_held, highest_at}
 use Rattle.jname.specs.Entries.{content_of_entry, entry_of, entries_of}
 use Rattle.jname.specs.Live.{Key, is_at, ino_if_any, live, highest}
-use Rattle.jname.proofs.MemberLemmas.{Contains-none, Contains-filter, Contains-filter_from}
+use Rattle.flashbase.proofs.MemberLemmas.{Contains-none, Contains-filter, Contains-filter_from}
 use Rattle.jname.proofs.EntriesLemmas.{content_at-from_Contains, Contains-from_content_at}
 
 pub both_true : (b c : Bool) → (b && c) ≡ true → (b ≡ true) × (c ≡ true)

@@ -30,7 +30,7 @@ use Rattle.jname.specs.Directories.{DirectoriesByNumber, content_held}
 use Rattle.jname.specs.Entries.{entries_of}
 use Rattle.jname.specs.Live.{Key, key_cmp, live, live_names, names_of, all_names}
 use Rattle.jname.specs.Walk.{live_ino, live_name, names_under, placed, names_within}
-use Rattle.jname.proofs.MemberLemmas.{Contains-map, Contains-map_from, Contains-flat_map, Contains-flat_map_from, Contains-filter, Contains-filter_from, Contains-lookup, Contains-here}
+use Rattle.flashbase.proofs.MemberLemmas.{Contains-map, Contains-map_from, Contains-flat_map, Contains-flat_map_from, Contains-filter, Contains-filter_from, Contains-lookup, Contains-here}
 use Rattle.jname.proofs.NameMapLemmas.{names_ordered}
 use Rattle.jname.proofs.EntriesLemmas.{nat_found, name_found}
 use Rattle.jname.proofs.LiveLemmas.{live-is}

@@ -8,7 +8,7 @@ use Rattle.std.specs.FinMap.{get, entries, entries_sorted, get-entries}
 use Rattle.std.specs.FinMap.Entries.{below_all, is_sorted}
 use Rattle.std.proofs.lemmas.Bool.{eqb-true, false≢true}
 use Rattle.jname.specs.Live.{Key, key_cmp}
-use Rattle.jname.proofs.MemberLemmas.{Contains-none, Contains-here, Contains-there, Contains-cases}
+use Rattle.flashbase.proofs.MemberLemmas.{Contains-none, Contains-here, Contains-there, Contains-cases}
 use Rattle.jname.proofs.NamingLemmas.{key_cmp_total}
 use Rattle.jname.proofs.SortedLemmas.{T_first, T_second, find-from_Contains}
 use Rattle.jmount.specs.Tree.{State, object, named, is_there, is_directory, entries_in}
@@ -18,41 +18,13 @@ use Rattle.jmount.specs.Shown.{shown}
 use Rattle.jmount.proofs.ShapeLemmas.{Leads, IsShaped, leads_nowhere, leads_none, leads_more, leads_on, last_step, walk_begins, shaped}
 use Rattle.jreport.specs.ListedOnce.{IsNotAgain, ShapeIsListedOnce}
 use Rattle.jreport.specs.TreeText.{Item, Met, none_met, items_of, line_if, met_after, todo_after, is_entered, AreLinesOf}
+use Rattle.jmount.proofs.DirectoryNameLemmas.{Others, names_among, others}
 
 -- ---- the names of a directory differ
-
-abbrev Others : List ℕ → List (List ℕ × ℕ) → Type 0
-Others name [] = ⊤
-Others name (e ∷ es) = (name ≡ e.0 → ⊥) × Others name es
 
 abbrev AreNames : State → ℕ → List (List ℕ × ℕ) → Type 0
 AreNames s dir [] = ⊤
 AreNames s dir (e ∷ es) = (named s dir e.0 ≡ Some e.1) × Others e.0 es × AreNames s dir es
-
-abbrev names_among : ℕ → List (Key × ℕ) → List (List ℕ × ℕ)
-names_among dir es = map (λ e. (e.0.1, e.1)) (filter (λ e. e.0.0 == dir) es)
-
-not_less : (k : Key) → T (is_lt (key_cmp k k)) → ⊥
-not_less k less = by (key_cmp k k) (key_cmp_total.antisymm k k) less
-  where
-    by : (r : Ordering) → r ≡ ordering_reverse r → T (is_lt r) → ⊥
-    by Less e t = subst (λ q. T (is_lt q)) e tt
-    by Equal e t = t
-    by Greater e t = t
-
-others : (dir : ℕ) (k : Key) (es : List (Key × ℕ)) → k.0 ≡ dir → T (below_all key_cmp k es) → Others k.1 (names_among dir es)
-others dir k [] at below = tt
-others dir k (e ∷ es) at below = by (e.0.0 == dir) refl (others dir k es at (T_second (is_lt (key_cmp k e.0)) (below_all key_cmp k es) below))
-  where
-    by : (b : Bool) → (e.0.0 == dir) ≡ b → Others k.1 (names_among dir es) → Others k.1 (map (λ e. (e.0.1, e.1)) (cond b (e ∷ filter (λ e. e.0.0 == dir) es) (filter (λ e. e.0.0 == dir) es)))
-    by true is rest = (
-      λ same.
-          let one : k.0 ≡ e.0.0 = at ∙ sym (eqb-true e.0.0 dir is) in
-          let key : k ≡ e.0 = (λ i. (one i, same i)) in
-          not_less e.0 (subst (λ q. T (is_lt (key_cmp q e.0))) key (T_first (is_lt (key_cmp k e.0)) (below_all key_cmp k es) below)),
-      rest,
-    )
-    by false is rest = rest
 
 are_names : (s : State) (dir : ℕ) (es : List (Key × ℕ)) → T (is_sorted key_cmp es) → ((e : Key × ℕ) → Contains es e → get s.names e.0 ≡ Some e.1) → AreNames s dir (names_among dir es)
 are_names s dir [] sorted each = tt

@@ -12,30 +12,10 @@ use Rattle.jreport.specs.TreeText.{Item, Met, none_met, items_of, object_line, l
 use Rattle.jmount.specs.Shown.{shown}
 use Rattle.jreport.specs.TreeLaws.{EachTreeHasOneText, RootComesFirst}
 use Rattle.jreport.specs.Walking.{IsTextOf, unmet}
+use Rattle.flashbase.proofs.ListLemmas.{count_apart, count_fewer}
+use Rattle.jmount.proofs.DirectoryNameLemmas.{length_entries}
 
 -- ---- the names whose directory was not met
-
--- each element passes as many of the one test as of the two others together
-count_apart : {X : Type 0} (p q r : X → Bool) → ((x : X) → cond (p x) 1 0 + cond (q x) 1 0 ≡ cond (r x) 1 0)
-    → (xs : List X) → count_by p xs + count_by q xs ≡ count_by r xs
-count_apart p q r apart [] = refl
-count_apart p q r apart (x ∷ xs) = omega (
-  arith,
-  apart x,
-  count_apart p q r apart xs,
-  sum_by-cons (λ y. cond (p y) 1 0) x xs,
-  sum_by-cons (λ y. cond (q y) 1 0) x xs,
-  sum_by-cons (λ y. cond (r y) 1 0) x xs,
-)
-
-count_fewer : {X : Type 0} (p r : X → Bool) → ((x : X) → cond (p x) 1 0 ≤ cond (r x) 1 0) → (xs : List X) → count_by p xs ≤ count_by r xs
-count_fewer p r fewer [] = omega arith
-count_fewer p r fewer (x ∷ xs) =
-    omega (arith, fewer x, count_fewer p r fewer xs, sum_by-cons (λ y. cond (p y) 1 0) x xs, sum_by-cons (λ y. cond (r y) 1 0) x xs)
-
-pub length_entries : (s : State) (d : ℕ) → length (entries_in s d) ≡ count_by (λ e. e.0.0 == d) (entries s.names)
-length_entries s d =
-    length-map (filter (λ e. e.0.0 == d) (entries s.names)) (λ e. (e.0.1, e.1)) ∙ length-filter (λ e. e.0.0 == d) (entries s.names)
 
 -- a directory that is entered takes its names along
 pub unmet_entered : (s : State) (met : Met) (d : ℕ) → is_entered s met d ≡ true → unmet s (met_after s met d) + length (entries_in s d) ≡ unmet s met

@@ -12,8 +12,9 @@ use Rattle.flashbase.specs.Device.{PutsPart, next_count}
 use Rattle.flashbase.proofs.DeviceLemmas.{part_before, part_behind}
 use Rattle.jmount.specs.Tree.{ObjectOf, State, object, is_there, is_directory, has_bits, directory_bits, entries_in}
 use Rattle.jmount.specs.Shown.{readable, shown}
+use Rattle.jmount.specs.Find.{way_up}
 use Rattle.jreport.specs.TreeText.{Item, Met, items_of, line_if, line_of, none_met, met_after, todo_after, is_entered, AreLinesOf, IsTreeText, PutsPartOfTree, PutsTree}
-use Rattle.jreport.specs.Walking.{IsTextOf, PutsPartOf, PutsVisit, PutsStep, GoesUp, met_of, way_up, items_up, way_of, todo_of, unmet, names_left, steps_left}
+use Rattle.jreport.specs.Walking.{IsTextOf, PutsPartOf, PutsVisit, PutsStep, GoesUp, met_of, items_up, way_of, todo_of, unmet, names_left, steps_left}
 use Rattle.jreport.specs.declared.listing.Walk.{Walk}
 use Rattle.jreport.specs.declared.faults.ProgramFault.{ProgramFault}
 use Rattle.jreport.specs.declared.faults.ProgramFault.TheVariants as program

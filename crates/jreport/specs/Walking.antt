@@ -7,6 +7,7 @@ use Rattle.std.specs.List.{flat_map}
 use Rattle.std.specs.Io.KnownBytes.{Appends}
 use Rattle.flashbase.specs.Device.{PutsPart, next_count}
 use Rattle.jmount.specs.Tree.{State}
+use Rattle.jmount.specs.Find.{way_up}
 use Rattle.jreport.specs.TreeText.{Item, Met, items_of, line_of, met_after, is_entered, AreLinesOf}
 use Rattle.jreport.specs.declared.listing.Walk.{Walk}
 use Rattle.jreport.specs.declared.faults.ProgramFault.{ProgramFault}
@@ -34,10 +35,6 @@ PutsVisit s set set_after item old new before now (Err OutOfMemory) = Appends ol
 PutsVisit s set set_after item old new before now (Err _) = ⊥
 
 -- ---- what is still to print at a place of the walk
-
--- the way to the directory above
-abbrev pub way_up : List (List ℕ) → List (List ℕ)
-way_up path = take (length path - 1) path
 
 -- what is left of these directories, where `path` leads to the first and each lies in the next
 abbrev pub items_up : State → List (List (List ℕ × ℕ)) → List (List ℕ) → List Item

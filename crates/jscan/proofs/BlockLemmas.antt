@@ -1,8 +1,8 @@
 -- An image's nodes are those of its blocks.
-use Rattle.std.proofs.Common.{◌≡◌, ℕ, zero, suc, ◌+◌, ◌-◌, ◌*◌, ◌<◌, ◌≤◌, List, [], ◌∷◌, ◌++◌, length, take, refl, sym, ap, ◌∙◌, arith, Option}
+use Rattle.std.proofs.Common.{◌≡◌, ℕ, ◌+◌, ◌-◌, ◌*◌, ◌<◌, ◌≤◌, List, [], ◌∷◌, ◌++◌, length, take, refl, sym, ap, ◌∙◌, arith, Option}
 use Rattle.std.specs.Prelude.{flat_map, filter_map}
-use Rattle.std.proofs.lemmas.Grind.{div_ceil_times, flat_map-append}
-use Rattle.std.proofs.lemmas.List.{drop_all, take-replicate, append-nil}
+use Rattle.std.proofs.lemmas.Grind.{div_ceil_times}
+use Rattle.std.proofs.lemmas.List.{drop_all, take-replicate}
 use Rattle.std.proofs.lemmas.List.Elements.{filter_map-append}
 use Rattle.flashbase.specs.Bytes.{erased}
 use Rattle.flashbase.specs.Lists.{below}
@@ -10,20 +10,11 @@ use Rattle.jnode.specs.declared.order.Endian.{Endian}
 use Rattle.jscan.specs.Image.{block_of, block_count, sightings_in, node_sighted, nodes}
 use Rattle.jscan.specs.Laws.{nodes_in_block}
 use Rattle.jscan.proofs.HeaderlessLemmas.{erased_has_no_nodes}
+use Rattle.flashbase.proofs.ListLemmas.{flat_map-below}
 
 pub filter_map-flat_map : {A B C : Type 0} (h : B → Option C) (g : A → List B) (xs : List A) → filter_map h (flat_map g xs) ≡ flat_map (λ x. filter_map h (g x)) xs
 filter_map-flat_map h g [] = refl
 filter_map-flat_map h g (x ∷ xs) = filter_map-append h (g x) (flat_map g xs) ∙ ap (λ ys. filter_map h (g x) ++ ys) (filter_map-flat_map h g xs)
-
--- what gives nothing from n on adds nothing
-flat_map-below : {A : Type 0} (g : ℕ → List A) (n d : ℕ) → ((k : ℕ) → n ≤ k → g k ≡ []) → flat_map g (below (d + n)) ≡ flat_map g (below n)
-flat_map-below g n zero h = let same : 0 + n ≡ n = omega arith in ap (λ (m : ℕ). flat_map g (below m)) same
-flat_map-below g n (suc d) h =
-    let step : suc d + n ≡ suc (d + n) = omega arith in
-    ap (λ (m : ℕ). flat_map g (below m)) step
-    ∙ (flat_map-append g (below (d + n)) ((d + n) ∷ [])
-    ∙ (ap (λ ys. flat_map g (below (d + n)) ++ (ys ++ [])) (h (d + n) (omega arith))
-    ∙ (append-nil (flat_map g (below (d + n))) ∙ flat_map-below g n d h)))
 
 -- a block past the image's end is erased
 pub block_past : (size : ℕ) (image : List ℕ) (k : ℕ) → length image ≤ k * size → block_of size image k ≡ erased size

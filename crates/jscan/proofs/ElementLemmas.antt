@@ -1,30 +1,12 @@
 -- The elements of lists that are built from lists.
-use Rattle.std.proofs.Common.{◌≡◌, ℕ, zero, suc, ◌<◌, List, [], ◌∷◌, ◌++◌, Option, Some, None, get_or, refl, sym, ap, ◌∙◌, subst, ⊎_elim, inl, inr, arith}
-use Rattle.std.specs.Prelude.{◌⊎◌, Contains, filter_map, flat_map}
+use Rattle.std.proofs.Common.{◌≡◌, ℕ, zero, suc, ◌<◌, List, [], ◌∷◌, ◌++◌, Option, Some, None, refl, ap, ◌∙◌, subst, ⊎_elim, arith}
+use Rattle.std.specs.Prelude.{Contains, filter_map}
 use Rattle.std.specs.List.{cons_option}
 use Rattle.std.proofs.lemmas.Bool.{cases_lt}
 use Rattle.std.proofs.lemmas.Option.{same_Some}
-use Rattle.std.proofs.lemmas.List.Elements.{Contains-append_left, Contains-append_right, Contains-append_cases, Contains-push, Contains-push_cases}
+use Rattle.std.proofs.lemmas.List.Elements.{Contains-append_left, Contains-push, Contains-push_cases}
 use Rattle.flashbase.specs.Lists.{below}
-
-pub Contains-none : {X : Type 0} (x : X) → Contains [] x → ⊥
-Contains-none x h = let few : h.0 < 0 = h.1 in absurd (omega arith)
-
-pub Contains-here : {X : Type 0} (x : X) (xs : List X) → Contains (x ∷ xs) x
-Contains-here x xs = (zero, omega arith, refl)
-
-pub Contains-there : {X : Type 0} (y : X) (xs : List X) (x : X) → Contains xs x → Contains (y ∷ xs) x
-Contains-there y xs x h = Contains-append_right (y ∷ []) xs x h
-
-only_one : {X : Type 0} (y x : X) → Contains (y ∷ []) x → y ≡ x
-only_one y x h = by_index h.0 h.1 h.2
-  where
-    by_index : (k : ℕ) → k < 1 → get_or (y ∷ []) k x ≡ x → y ≡ x
-    by_index zero less is = is
-    by_index (suc k) less is = absurd (omega arith)
-
-pub Contains-cases : {X : Type 0} (y : X) (xs : List X) (x : X) → Contains (y ∷ xs) x → (y ≡ x) ⊎ Contains xs x
-Contains-cases y xs x h = ⊎_elim (λ here. inl (only_one y x here)) (λ there. inr there) (Contains-append_cases (y ∷ []) xs x h)
+use Rattle.flashbase.proofs.MemberLemmas.{Contains-none, Contains-here, Contains-there, Contains-cases}
 
 -- ---- the numbers below a bound
 
@@ -74,22 +56,6 @@ from_cons_option f z zs (Some w) ys y is h later =
 pub Contains-filter_map_from : {X Y : Type 0} (f : X → Option Y) (xs : List X) (y : Y) → Contains (filter_map f xs) y → (x : X) × Contains xs x × (f x ≡ Some y)
 Contains-filter_map_from f [] y h = absurd (Contains-none y h)
 Contains-filter_map_from f (z ∷ zs) y h = from_cons_option f z zs (f z) (filter_map f zs) y refl h (Contains-filter_map_from f zs y)
-
-pub Contains-flat_map : {X Y : Type 0} (f : X → List Y) (xs : List X) (x : X) (y : Y) → Contains xs x → Contains (f x) y → Contains (flat_map f xs) y
-Contains-flat_map f [] x y h has = absurd (Contains-none x h)
-Contains-flat_map f (z ∷ zs) x y h has =
-    ⊎_elim
-    (λ (same : z ≡ x). Contains-append_left (f z) (flat_map f zs) y (subst (λ w. Contains (f w) y) (sym same) has))
-    (λ later. Contains-append_right (f z) (flat_map f zs) y (Contains-flat_map f zs x y later has))
-    (Contains-cases z zs x h)
-
-pub Contains-flat_map_from : {X Y : Type 0} (f : X → List Y) (xs : List X) (y : Y) → Contains (flat_map f xs) y → (x : X) × Contains xs x × Contains (f x) y
-Contains-flat_map_from f [] y h = absurd (Contains-none y h)
-Contains-flat_map_from f (x ∷ xs) y h =
-    ⊎_elim
-    (λ here. (x, Contains-here x xs, here))
-    (λ later. let found = Contains-flat_map_from f xs y later in (found.0, Contains-there x xs found.0 found.1, found.2))
-    (Contains-append_cases (f x) (flat_map f xs) y h)
 
 -- a list around one of its elements
 pub split_around : {X : Type 0} (xs : List X) (x : X) → Contains xs x → (before after : List X) × (xs ≡ before ++ x ∷ after)

@@ -18,7 +18,7 @@ use Rattle.jscan.specs.declared.extent.ExtentKind.TheVariants.{Tiled, Erased, Ot
 use Rattle.jscan.specs.declared.extent.Extent.{Extent}
 use Rattle.jscan.specs.declared.tiles.TileKind.{TileKind}
 use Rattle.jscan.specs.declared.tiles.TileKind.TheVariants.{Node, Word, Rest}
-use Rattle.jscan.proofs.ElementLemmas.{Contains-none, Contains-here, Contains-there, Contains-cases}
+use Rattle.flashbase.proofs.MemberLemmas.{Contains-none, Contains-here, Contains-there, Contains-cases}
 use Rattle.jscan.proofs.ExtentLemmas.{one_run_same}
 use Rattle.jscan.proofs.TilingLaws.{whole_of}
 

@@ -12,7 +12,7 @@ use Rattle.jnode.specs.Writing.{Fits}
 use Rattle.jnode.specs.declared.node.NodeRef.{NodeRef}
 use Rattle.jnode.specs.declared.node.NodeRef.TheVariants.{Entry, Inode}
 use Rattle.jname.specs.Live.{Key, key_cmp}
-use Rattle.jname.proofs.MemberLemmas.{Contains-none, Contains-cases}
+use Rattle.flashbase.proofs.MemberLemmas.{Contains-none, Contains-cases}
 use Rattle.jname.proofs.NamingLemmas.{key_cmp_total, key_cmp-IsAntisymmetric}
 use Rattle.jmount.specs.Tree.{ObjectOf, sized, object, has_bits, is_directory, directory_bits}
 use Rattle.jmount.specs.StateOf.{state_of, inodes, numbers_in, next_of}

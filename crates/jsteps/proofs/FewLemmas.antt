@@ -35,14 +35,14 @@ most_pages page end is_page within =
     (λ few. few)
     (cases_lt 524288 count)
 
-flat_few : (f : ℕ → List Step) → ((n : ℕ) → length (f n) ≤ 2) → (ns : List ℕ) → length (flat_map f ns) ≤ 2 * length ns
+pub flat_few : (f : ℕ → List Step) → ((n : ℕ) → length (f n) ≤ 2) → (ns : List ℕ) → length (flat_map f ns) ≤ 2 * length ns
 flat_few f h [] = omega arith
 flat_few f h (n ∷ ns) =
     let here : length (f n) ≤ 2 = h n in
     let rest : length (flat_map f ns) ≤ 2 * length ns = flat_few f h ns in
     omega (arith, length-append (f n) (flat_map f ns))
 
-piece_few : (time ino start : ℕ) (piece : List ℕ) → length (piece_puts time ino start piece) ≤ 2
+pub piece_few : (time ino start : ℕ) (piece : List ℕ) → length (piece_puts time ino start piece) ≤ 2
 piece_few time ino start piece =
     cond_both (length piece == spelling_len) (step.Put time ino start (take plain_page piece) ∷ step.Put time ino (start + plain_page) (drop plain_page piece) ∷ []) (step.Put time ino start piece ∷ [])
     (λ steps. length steps ≤ 2) (λ yes. omega arith) (λ no. omega arith)

@@ -1,6 +1,6 @@
 -- What is kept, by look-up.
 use Rattle.jname.proofs.SortedLemmas.{find-from_Contains, Contains-from_find}
-use Rattle.jname.proofs.MemberLemmas.{Contains-map, Contains-map_from}
+use Rattle.flashbase.proofs.MemberLemmas.{Contains-map, Contains-map_from}
 use Rattle.std.proofs.lemmas.Map.Text.{is_eq-slice_cmp}
 use Rattle.std.proofs.lemmas.Slice.Eq.{bytes_eq-Decides}
 use Rattle.std.proofs.Common.{◌≡◌, ℕ, Bool, true, false, ◌||◌, List, [], ◌∷◌, map, cond, Option, Some, None, refl, ap, sym, ◌∙◌, length, arith}

@@ -14,6 +14,7 @@ use Rattle.jsteps.specs.declared.step.Step.{Step}
 use Rattle.jsteps.specs.declared.step.Step.TheVariants as step
 use Rattle.jtree.proofs.CountLemmas.{not_above}
 use Rattle.jtree.proofs.RewriteLemmas.{Rewrites, rewrites_none, rewrites_then, put_rewrites}
+use Rattle.jsteps.proofs.FewLemmas.{flat_few, piece_few}
 
 pub after-append : (s : State) (xs ys : List Step) → after bytes s (xs ++ ys) ≡ after bytes (after bytes s xs) ys
 after-append s [] ys = refl
@@ -140,19 +141,6 @@ write_appends page s time ino offset (b ∷ new) o old is_page e at =
     (puts_append page s time ino offset (b ∷ new) o old is_page e at)
 
 -- ---- how many steps these are
-
-flat_few : (f : ℕ → List Step) → ((n : ℕ) → length (f n) ≤ 2) → (ns : List ℕ) → length (flat_map f ns) ≤ 2 * length ns
-flat_few f h [] = omega arith
-flat_few f h (n ∷ ns) =
-    let here : length (f n) ≤ 2 = h n in
-    let rest : length (flat_map f ns) ≤ 2 * length ns = flat_few f h ns in
-    omega (arith, length-append (f n) (flat_map f ns))
-
-piece_few : (time ino start : ℕ) (piece : List ℕ) → length (piece_puts time ino start piece) ≤ 2
-piece_few time ino start piece =
-    cond_both (length piece == spelling_len) (step.Put time ino start (take plain_page piece) ∷ step.Put time ino (start + plain_page)
-    (drop plain_page piece) ∷ []) (step.Put time ino start piece ∷ [])
-    (λ steps. length steps ≤ 2) (λ yes. omega arith) (λ no. omega arith)
 
 -- bytes meet two pages at most besides one for each 4,096 of them
 pages_few : (page offset len : ℕ) → 4096 ≤ page → (offset + len + page - 1) / page - offset / page ≤ 2 + len / 4096

@@ -1,7 +1,7 @@
 use Rattle.std.proofs.Common.{◌≤◌, ◌-◌, length, List, ℕ, arith, subst}
 use Rattle.flashbase.specs.Bytes.{erased}
 use Rattle.flashbase.specs.Device.{Puts}
-use Rattle.jlog.proofs.PutLemmas.{first_failed, then_puts}
+use Rattle.flashbase.proofs.DeviceLemmas.{first_failed, then_puts}
 use Rattle.jbuild.proofs.FrontLemmas.{front_past}
 use Rattle.jbuild.proofs.emitting.put_front.Goals as goal
 

@@ -4,7 +4,7 @@ use Rattle.std.specs.Io.KnownBytes.{Appends}
 use Rattle.flashbase.specs.Device.{PutsPart}
 use Rattle.flashbase.proofs.DeviceLemmas.{part_before}
 use Rattle.jextract.specs.Outcomes.{reason_text}
-use Rattle.jline.proofs.TurnLemmas.{first_failed, then_failed, then_puts}
+use Rattle.flashbase.proofs.DeviceLemmas.{first_failed, then_failed, then_puts}
 use Rattle.jextract.proofs.notes.put_reason.Goals as goal
 
 pub returns-in_err-put_text : goal.returns-in_err-put_text

@@ -3,7 +3,7 @@ use Rattle.std.specs.Prelude.{codes}
 use Rattle.flashbase.proofs.DeviceLemmas.{part_before}
 use Rattle.jextract.specs.Outcomes.{left_out_line, reason_text}
 use Rattle.jline.specs.Paths.{path_shown}
-use Rattle.jline.proofs.TurnLemmas.{first_failed, then_failed, then_puts}
+use Rattle.flashbase.proofs.DeviceLemmas.{first_failed, then_failed, then_puts}
 use Rattle.jextract.proofs.notes.tell.Goals as goal
 
 pub returns-in_err-put_text : goal.returns-in_err-put_text

@@ -1,5 +1,5 @@
 use Rattle.std.proofs.Common.{codes}
-use Rattle.jline.proofs.TurnLemmas.{first_failed, then_puts}
+use Rattle.flashbase.proofs.DeviceLemmas.{first_failed, then_puts}
 use Rattle.jfolder.specs.Pieces.{moded_line}
 use Rattle.jfolder.specs.Text.{content_words, lines_text}
 use Rattle.jfolder.proofs.text.put_regular.Goals as goal

@@ -1,6 +1,6 @@
 use Rattle.std.proofs.Common.{[], ◌∷◌}
 use Rattle.jline.specs.Words.{escaped}
-use Rattle.jline.proofs.TurnLemmas.{first_failed, then_puts}
+use Rattle.flashbase.proofs.DeviceLemmas.{first_failed, then_puts}
 use Rattle.jline.proofs.paths.put_name.Goals as goal
 
 pub returns-in_err-put_text : goal.returns-in_err-put_text

@@ -3,7 +3,7 @@ use Rattle.std.specs.Prelude.{IsSome}
 use Rattle.std.specs.Ordering.{nat_cmp, eq_by_cmp}
 use Rattle.std.specs.BTreeMap.{Updates, get}
 use Rattle.jname.proofs.ContentsByNameLemmas.{err_map, err_always}
-use Rattle.jname.proofs.MemberLemmas.{map-set_value}
+use Rattle.flashbase.proofs.MemberLemmas.{map-set_value}
 use Rattle.jmount.specs.declared.versions.Versions.{Versions}
 use Rattle.jmount.specs.Inodes.{NodesByNumber, nodes_in}
 use Rattle.jmount.proofs.InodesLemmas.{first_of_number, nodes_of_numbers-same, nodes_of_numbers-unchanged, same_of_number}

@@ -9,7 +9,7 @@ use Rattle.jname.specs.declared.versions.Content.{Content}
 use Rattle.jname.specs.Versions.{version_at, Agrees}
 use Rattle.jname.specs.ContentsByName.{Name, ByName, versions_of_name, with_contents}
 use Rattle.jname.proofs.ContentsByNameLemmas.{ok_map, err_map, Replaces, content_in-replaced, content_in-none}
-use Rattle.jname.proofs.MemberLemmas.{map-set_value}
+use Rattle.flashbase.proofs.MemberLemmas.{map-set_value}
 use Rattle.jname.proofs.name_map.add_name.Goals as goal
 
 pub returns-in-Some-clause-alone : goal.returns-in-Some-clause-alone

@@ -9,7 +9,7 @@ use Rattle.jname.specs.declared.directory.Directory.{Directory}
 use Rattle.jname.specs.Directories.{DirectoriesByNumber, content_held, content_under}
 use Rattle.jname.specs.Entries.{entries_in_directory}
 use Rattle.jname.proofs.ContentsByNameLemmas.{ok_map, err_map, err_always}
-use Rattle.jname.proofs.MemberLemmas.{map-set_value}
+use Rattle.flashbase.proofs.MemberLemmas.{map-set_value}
 use Rattle.jname.proofs.EntriesLemmas.{entries_in_directory-same, entries_of-same, entries_of-unchanged}
 use Rattle.jname.proofs.GainLemmas.{content_at-replaced}
 use Rattle.jname.proofs.names.add_entry.Goals as goal

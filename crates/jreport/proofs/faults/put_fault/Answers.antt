@@ -2,7 +2,7 @@ use Rattle.std.proofs.Common.{◌≡◌, ◌++◌, List, ℕ, sym, ap, ◌∙◌
 use Rattle.std.proofs.lemmas.Grind.{flat_map-append}
 use Rattle.flashbase.specs.Device.{Puts}
 use Rattle.jline.specs.Words.{in_line, in_line_byte}
-use Rattle.jline.proofs.TurnLemmas.{first_failed, then_puts}
+use Rattle.flashbase.proofs.DeviceLemmas.{first_failed, then_puts}
 use Rattle.jreport.proofs.faults.put_fault.Goals as goal
 
 -- two texts within a line make up the whole within it

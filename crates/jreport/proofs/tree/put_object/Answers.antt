@@ -5,7 +5,7 @@ use Rattle.flashbase.proofs.DeviceLemmas.{part_before}
 use Rattle.jmount.specs.Shown.{readable}
 use Rattle.jline.specs.Paths.{path_shown}
 use Rattle.jreport.specs.TreeText.{object_start, tail_shown}
-use Rattle.jline.proofs.TurnLemmas.{first_failed, then_puts, then_failed}
+use Rattle.flashbase.proofs.DeviceLemmas.{first_failed, then_puts, then_failed}
 use Rattle.jreport.proofs.tree.put_object.Goals as goal
 
 pub returns-in_err-put_text : goal.returns-in_err-put_text

@@ -3,7 +3,7 @@ use Rattle.flashbase.specs.Device.{Puts}
 use Rattle.jmount.specs.Shown.{readable}
 use Rattle.jline.specs.Words.{escaped}
 use Rattle.jreport.proofs.PathTextLemmas.{target_short, target_read}
-use Rattle.jline.proofs.TurnLemmas.{first_failed, then_puts}
+use Rattle.flashbase.proofs.DeviceLemmas.{first_failed, then_puts}
 use Rattle.jreport.proofs.tree.put_target.Goals as goal
 
 pub returns-in_err-put_text : goal.returns-in_err-put_text

@@ -4,7 +4,7 @@ use Rattle.flashbase.specs.Device.{PutsPart}
 use Rattle.flashbase.proofs.DeviceLemmas.{part_before}
 use Rattle.jline.specs.Words.{escaped}
 use Rattle.jreport.specs.Verdict.{dangling_start}
-use Rattle.jline.proofs.TurnLemmas.{first_failed, then_puts, then_failed}
+use Rattle.flashbase.proofs.DeviceLemmas.{first_failed, then_puts, then_failed}
 use Rattle.jreport.proofs.verdict.put_dangling.Goals as goal
 
 pub returns-in_err-put_text : goal.returns-in_err-put_text

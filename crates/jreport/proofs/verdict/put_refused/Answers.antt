@@ -2,7 +2,7 @@ use Rattle.std.proofs.Common.{ℕ, List, [], ◌∷◌, ◌++◌, ◌≡◌, ◌
 use Rattle.flashbase.specs.Device.{Puts}
 use Rattle.jreport.specs.Faults.{mount_text}
 use Rattle.jreport.specs.Verdict.{refused_line}
-use Rattle.jline.proofs.TurnLemmas.{first_failed, then_puts}
+use Rattle.flashbase.proofs.DeviceLemmas.{first_failed, then_puts}
 use Rattle.jreport.proofs.verdict.put_refused.Goals as goal
 
 pub returns-in_err-put_text : goal.returns-in_err-put_text

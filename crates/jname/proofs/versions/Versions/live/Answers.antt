@@ -1,4 +1,4 @@
-use Rattle.std.proofs.Common.{◌≡◌, sym, ap, ◌∙◌}
+use Rattle.std.proofs.Common.{sym, ap, ◌∙◌}
 use Rattle.jname.specs.declared.versions.Content.{Content}
 use Rattle.jname.specs.Versions.{version_at, newest_of}
 use Rattle.jname.proofs.VersionLemmas.{greatest_of}
