@@ -17,8 +17,8 @@
 //! actions that make the tree.
 //!
 //! `specs/Text.antt` has the text of a tree, `specs/Actions.antt` the actions that make it, `specs/Order.antt` the order of paths,
-//! `specs/Trees.antt` what items make up a tree, `specs/Links.antt` which items are links, `specs/Notes.antt` what is told of what is left out, and `specs/Reasons.antt` why. `laws`
-//! has the law.
+//! `specs/Trees.antt` what items make up a tree, `specs/Links.antt` which of them are links, `specs/Notes.antt` what is told of what
+//! is left out, and `specs/Reasons.antt` why. `laws` has the law.
 #![tactic(auto)]
 
 mod fault;
