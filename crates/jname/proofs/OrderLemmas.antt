@@ -30,12 +30,12 @@ use Rattle.jname.specs.Directories.{DirectoriesByNumber, content_held}
 use Rattle.jname.specs.Entries.{entries_of}
 use Rattle.jname.specs.Live.{Key, key_cmp, live, live_names, names_of, all_names}
 use Rattle.jname.specs.Walk.{live_ino, live_name, names_under, placed, names_within}
-use Rattle.flashbase.proofs.MemberLemmas.{Contains-map, Contains-map_from, Contains-flat_map, Contains-flat_map_from, Contains-filter, Contains-filter_from, Contains-lookup, Contains-here}
+use Rattle.flashbase.proofs.MemberLemmas.{Contains-map, Contains-map_from, Contains-flat_map, Contains-flat_map_from, Contains-filter, Contains-filter_from, Contains-lookup, Contains-here, Contains-filter_map, Contains-filter_map_from}
 use Rattle.jname.proofs.NameMapLemmas.{names_ordered}
 use Rattle.jname.proofs.EntriesLemmas.{nat_found, name_found}
 use Rattle.jname.proofs.LiveLemmas.{live-is}
 use Rattle.jname.proofs.WalkLemmas.{live_ino-IsLiveIn}
-use Rattle.jname.proofs.SortedLemmas.{T_both, T_first, T_second, below_all-from, below_all-at, is_sorted-append, is_sorted-cons_option, same_members, Contains-filter_map, Contains-filter_map_from}
+use Rattle.jname.proofs.SortedLemmas.{T_both, T_first, T_second, below_all-from, below_all-at, is_sorted-append, is_sorted-cons_option, same_members}
 use Rattle.jname.proofs.NamingLemmas.{key_cmp_total, key_cmp-IsAntisymmetric, live-from_Contains, Contains-from_live}
 
 -- ---- what a name stands for, by what is stored

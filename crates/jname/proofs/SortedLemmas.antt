@@ -1,6 +1,6 @@
 -- Lists of entries whose keys strictly rise: two with the same elements are one list.
 use Rattle.std.proofs.Common.{◌≡◌, ◌↔◌, Bool, true, false, ◌&&◌, cond, List, [], ◌∷◌, ◌++◌, Option, Some, None, refl, ap, sym, ◌∙◌, subst, ⊎_elim, Ordering}
-use Rattle.std.specs.Prelude.{Contains, T, filter_map}
+use Rattle.std.specs.Prelude.{Contains, T}
 use Rattle.std.specs.declared.cmp.Ordering.TheVariants.{Less, Equal, Greater}
 use Rattle.std.specs.List.{cons_option}
 use Rattle.std.specs.Ordering.{is_lt, is_eq, eq_by_cmp}
@@ -87,33 +87,3 @@ module _ {K X : Type 0} (R : K → K → Ordering) where
 
   pub same_members : IsTotalOrder R → IsAntisymmetric R → (es fs : List (K × X)) → T (is_sorted R es) → T (is_sorted R fs) → ((e : K × X) → Contains es e ↔ Contains fs e) → es ≡ fs
   same_members o same es fs s t is = same_entries R o same es fs s t (λ q. both_find o same es fs s t is q (find R q es) (find R q fs) refl refl)
-
--- ---- the elements of a `filter_map`
-
-in_cons_option : {Y : Type 0} (o : Option Y) (ys : List Y) (y : Y) → o ≡ Some y → Contains (cons_option o ys) y
-in_cons_option None ys y e = let no : None ≡ Some y = e in cc
-in_cons_option (Some x) ys y e = subst (λ z. Contains (x ∷ ys) z) (same_Some x y e) (Contains-here x ys)
-
-in_cons_option_later : {Y : Type 0} (o : Option Y) (ys : List Y) (y : Y) → Contains ys y → Contains (cons_option o ys) y
-in_cons_option_later None ys y h = h
-in_cons_option_later (Some x) ys y h = Contains-there x ys y h
-
-pub Contains-filter_map : {X Y : Type 0} (f : X → Option Y) (xs : List X) (x : X) (y : Y) → Contains xs x → f x ≡ Some y → Contains (filter_map f xs) y
-Contains-filter_map f [] x y h e = absurd (Contains-none x h)
-Contains-filter_map f (z ∷ zs) x y h e =
-    ⊎_elim
-    (λ (is : z ≡ x). in_cons_option (f z) (filter_map f zs) y (ap f is ∙ e))
-    (λ later. in_cons_option_later (f z) (filter_map f zs) y (Contains-filter_map f zs x y later e))
-    (Contains-cases z zs x h)
-
-from_cons_option : {X Y : Type 0} (f : X → Option Y) (z : X) (zs : List X) (o : Option Y) (ys : List Y) (y : Y) → f z ≡ o → Contains (cons_option o ys) y → (Contains ys y → (x : X) × Contains zs x × (f x ≡ Some y)) → (x : X) × Contains (z ∷ zs) x × (f x ≡ Some y)
-from_cons_option f z zs None ys y e h later = let found = later h in (found.0, Contains-there z zs found.0 found.1, found.2)
-from_cons_option f z zs (Some w) ys y e h later =
-    ⊎_elim
-    (λ (is : w ≡ y). (z, Contains-here z zs, e ∙ ap Some is))
-    (λ there. let found = later there in (found.0, Contains-there z zs found.0 found.1, found.2))
-    (Contains-cases w ys y h)
-
-pub Contains-filter_map_from : {X Y : Type 0} (f : X → Option Y) (xs : List X) (y : Y) → Contains (filter_map f xs) y → (x : X) × Contains xs x × (f x ≡ Some y)
-Contains-filter_map_from f [] y h = absurd (Contains-none y h)
-Contains-filter_map_from f (z ∷ zs) y h = from_cons_option f z zs (f z) (filter_map f zs) y refl h (Contains-filter_map_from f zs y)

@@ -20,6 +20,5 @@ pub mod TakeLemmas
 pub mod AddressLaws
 pub mod RefusalLaws
 pub mod FitLaws
-pub mod ElementLemmas
 pub mod RunLaws
 pub mod NodeLaws

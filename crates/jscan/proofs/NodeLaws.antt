@@ -16,8 +16,7 @@ use Rattle.jscan.specs.ImageLaws.{HoldsNode}
 use Rattle.jscan.specs.Tiling.{Tile, bytes_of, IsByRule, tiling}
 use Rattle.jscan.specs.declared.tiles.TileKind.{TileKind}
 use Rattle.jscan.specs.declared.tiles.TileKind.TheVariants.{Node, Word, Rest}
-use Rattle.flashbase.proofs.MemberLemmas.{Contains-flat_map, Contains-flat_map_from}
-use Rattle.jscan.proofs.ElementLemmas.{split_around, Contains-below, Contains-below_from, Contains-filter_map, Contains-filter_map_from}
+use Rattle.flashbase.proofs.MemberLemmas.{split_around, Contains-below, Contains-below_from, Contains-filter_map, Contains-filter_map_from, Contains-flat_map, Contains-flat_map_from}
 use Rattle.jscan.proofs.PartLemmas.{block_length}
 use Rattle.jscan.proofs.TilingLaws.{exists, only, left_behind}
 
