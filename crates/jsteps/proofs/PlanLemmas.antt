@@ -22,7 +22,7 @@ use Rattle.jsteps.specs.declared.step.Step.{Step}
 use Rattle.jsteps.specs.declared.step.Step.TheVariants as step
 use Rattle.jsteps.proofs.IndexLemmas.{with_some}
 use Rattle.jsteps.proofs.ConsistentLemmas.{StepFits, root_below}
-use Rattle.jsteps.proofs.WhereLemmas.{HasLength, IsParent, IsTarget, IsReachedObject, last_name_length, bits_there, parent_is, target_is, not_missing, reached_is}
+use Rattle.jsteps.proofs.WhereLemmas.{HasLength, IsParent, IsTarget, last_name_length, bits_there, parent_is, target_is, not_missing, reached_is}
 use Rattle.jsteps.proofs.TakenLemmas.{IsFine, Shaped, AllFine, AllTaken, AllFine-one, AllFine-two, all_taken, taken_ready, taken_room, taken_written, taken_keeps_all, object_fits}
 use Rattle.jsteps.proofs.PutsLemmas.{HasSize, resize_fine, write_fine}
 
