@@ -3,9 +3,6 @@ use Rattle.std.proofs.Common.{◌≡◌, ℕ, zero, suc, ◌==◌, cond, Bool, t
 use Rattle.std.specs.Prelude.{⊤, T, filter, is_some, option_map}
 use Rattle.std.specs.Str.{bytes_eq}
 use Rattle.std.specs.List.{flat_map, list_all}
-use Rattle.std.specs.Ordering.{is_lt, ordering_reverse}
-use Rattle.std.specs.declared.cmp.Ordering.{Ordering}
-use Rattle.std.specs.declared.cmp.Ordering.TheVariants.{Less, Equal, Greater}
 use Rattle.std.specs.FinMap.{entries, entries_sorted}
 use Rattle.std.specs.FinMap.Entries.{below_all, is_sorted}
 use Rattle.std.proofs.lemmas.Bool.{eqb-true, false≢true}
@@ -16,7 +13,6 @@ use Rattle.std.proofs.lemmas.Option.{same_Some}
 use Rattle.std.proofs.lemmas.Slice.Eq.{bytes_eq-Decides}
 use Rattle.jname.specs.Live.{Key, key_cmp}
 use Rattle.flashbase.proofs.MemberLemmas.{Contains-none, Contains-here, Contains-cases, Contains-map, Contains-map_from, Contains-filter, Contains-filter_from}
-use Rattle.jname.proofs.NamingLemmas.{key_cmp_total}
 use Rattle.jname.proofs.SortedLemmas.{T_first, T_second}
 use Rattle.jmount.specs.Find as find
 use Rattle.jmount.specs.Find.{is_name}

@@ -1,5 +1,5 @@
 -- An image that grows by a block: the blocks before stay as they were.
-use Rattle.std.proofs.Common.{◌≡◌, ℕ, zero, suc, ◌+◌, ◌*◌, ◌-◌, ◌/◌, ◌%◌, ◌<◌, ◌≤◌, min, List, [], ◌++◌, length, refl, sym, ap, subst, ◌∙◌, arith, take, drop, length-append, length-drop, Option}
+use Rattle.std.proofs.Common.{◌≡◌, ℕ, zero, suc, ◌+◌, ◌*◌, ◌<◌, ◌≤◌, List, ◌++◌, length, refl, sym, ap, subst, ◌∙◌, arith, take, drop, length-append, length-drop, Option}
 use Rattle.std.specs.Io.KnownBytes.{Appends}
 use Rattle.std.proofs.KnownBytes.{Appends-trans}
 use Rattle.std.proofs.Math.Nat.{mul-le-mul_right}
@@ -11,7 +11,7 @@ use Rattle.flashbase.specs.Bytes.{erased}
 use Rattle.flashbase.specs.Device.{PutsPart}
 use Rattle.flashbase.proofs.DeviceLemmas.{part_before, part_behind}
 use Rattle.jnode.specs.declared.order.Endian.{Endian}
-use Rattle.jscan.specs.Counts.{counts_of, block_counted, extents_below, extents_of_block}
+use Rattle.jscan.specs.Counts.{counts_of, block_counted, extents_of_block}
 use Rattle.jscan.specs.Image.{block_count, block_of}
 use Rattle.jscan.specs.Extents.{extents}
 use Rattle.jscan.specs.declared.counts.Counts.{Counts}

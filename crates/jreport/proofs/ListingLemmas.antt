@@ -1,13 +1,13 @@
 -- The lines of a tree: that there is a text of them, and how a walk comes to it.
-use Rattle.std.proofs.Common.{◌≡◌, ℕ, zero, suc, ◌+◌, ◌-◌, ◌*◌, ◌<◌, ◌≤◌, ◌&&◌, ◌||◌, ◌==◌, nat_eq, not, cond, Bool, true, false, List, [], ◌∷◌, ◌++◌, length, map, take, refl, sym, ap, ◌∙◌, subst, arith, append_assoc, append-nil, Option, Some, None}
-use Rattle.std.specs.Prelude.{filter, reverse, sum_by, count_by, is_some, option_map}
+use Rattle.std.proofs.Common.{◌≡◌, ℕ, zero, suc, ◌+◌, ◌≤◌, ◌&&◌, ◌||◌, ◌==◌, not, cond, Bool, true, false, List, [], ◌∷◌, ◌++◌, length, refl, sym, ap, ◌∙◌, arith, Option}
+use Rattle.std.specs.Prelude.{filter, option_map}
 use Rattle.std.specs.FinMap.{entries}
 use Rattle.std.specs.List.{flat_map}
 use Rattle.std.proofs.lemmas.Grind.{common_steps}
 use Rattle.std.proofs.lemmas.Bool.Decides.{nat_tests}
-use Rattle.std.proofs.lemmas.List.Sums.{sum_by-cons, length-filter, count_by-le-length}
+use Rattle.std.proofs.lemmas.List.Sums.{length-filter, count_by-le-length}
 use Rattle.std.proofs.lemmas.List.{length-map, length-append}
-use Rattle.jmount.specs.Tree.{ObjectOf, State, object, is_there, is_directory, has_bits, directory_bits, entries_in}
+use Rattle.jmount.specs.Tree.{ObjectOf, State, object, is_there, is_directory, entries_in}
 use Rattle.jreport.specs.TreeText.{Item, Met, none_met, items_of, object_line, line_if, line_of, met_after, todo_after, is_entered, AreLinesOf}
 use Rattle.jmount.specs.Shown.{shown}
 use Rattle.jreport.specs.TreeLaws.{EachTreeHasOneText, RootComesFirst}

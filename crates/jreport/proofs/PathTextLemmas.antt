@@ -1,5 +1,5 @@
 -- Targets as they are printed.
-use Rattle.std.proofs.Common.{◌≡◌, ℕ, ◌<◌, ◌≤◌, ◌-◌, Bool, false, nat_lt, min, List, [], ◌∷◌, ◌++◌, length, take, drop, take_all, ap, arith, codes, if◌then◌else◌, map, Bor, sym, ◌∙◌}
+use Rattle.std.proofs.Common.{◌≡◌, ℕ, ◌≤◌, ◌-◌, Bool, false, nat_lt, min, List, ◌++◌, length, take, drop, take_all, ap, arith, codes, if◌then◌else◌, sym, ◌∙◌}
 use Rattle.std.proofs.lemmas.Grind.{common_steps}
 use Rattle.jline.specs.Words.{escaped}
 use Rattle.jmount.proofs.PieceLemmas.{piece_read}

@@ -12,7 +12,7 @@ use Rattle.flashbase.specs.declared.source.LoadFault.TheVariants as load
 use Rattle.flashbase.specs.declared.source.Source.{Ghosts as OfSource}
 use Rattle.flashbase.proofs.DeviceLemmas.{part_before, part_behind}
 use Rattle.jnode.specs.declared.order.Endian.{Endian}
-use Rattle.jscan.specs.Counts.{is_found, counts_of, block_counted, no_counts}
+use Rattle.jscan.specs.Counts.{counts_of, block_counted, no_counts}
 use Rattle.jscan.specs.Filling.{Breaks, StopsWithin}
 use Rattle.jscan.specs.Image.{block_count, greatest_image, is_block_size}
 use Rattle.jscan.specs.Stream.{IsNextBlock, GivesBlock, GivesNone, GivesFault, size_of, start_of, source_of, rest_of, failures_of, fault_of, has_ended}
@@ -25,7 +25,7 @@ use Rattle.jscan.proofs.StreamCounts.{Scanning, IsCounted, scanning_next, scanni
 use Rattle.jscan.proofs.StreamLemmas.{IsAtBlock, IsWhole, block_here}
 use Rattle.jreport.specs.Faults.{fault_of_stream}
 use Rattle.jreport.specs.WholeImage.{OfSomeImage}
-use Rattle.jreport.specs.Report.{scan_text, lines_of, lines_below, block_lines, totals_line, count_in_image}
+use Rattle.jreport.specs.Report.{scan_text, lines_of, lines_below, block_lines, totals_line}
 use Rattle.jreport.specs.Stream.{PutsStream}
 use Rattle.jreport.specs.declared.faults.ProgramFault.{ProgramFault}
 use Rattle.jreport.specs.declared.faults.ProgramFault.TheVariants as program

@@ -1,20 +1,20 @@
 -- The steps of a walk through a tree.
-use Rattle.std.proofs.Common.{◌≡◌, ℕ, suc, ◌+◌, ◌-◌, ◌*◌, ◌<◌, ◌≤◌, ◌&&◌, ◌||◌, ◌==◌, not, cond, Bool, true, false, List, [], ◌∷◌, ◌++◌, length, map, take, refl, sym, ap, ◌∙◌, subst, arith, append_assoc, append-nil, Option, Some, None, Result, Ok, Err, Bor}
-use Rattle.std.specs.Prelude.{filter, reverse, sum_by, count_by, is_some, option_map, IsErrAnd}
+use Rattle.std.proofs.Common.{◌≡◌, ℕ, ◌+◌, ◌-◌, ◌<◌, ◌≤◌, ◌&&◌, ◌||◌, ◌==◌, not, cond, Bool, true, false, List, [], ◌∷◌, ◌++◌, length, map, take, refl, sym, ap, ◌∙◌, subst, arith, append_assoc, append-nil, Option, Some, None, Result, Ok, Err, Bor}
+use Rattle.std.specs.Prelude.{filter, reverse, sum_by, is_some, option_map, IsErrAnd}
 use Rattle.std.specs.BTreeSet.{BTreeSet}
 use Rattle.std.specs.Io.KnownBytes.{Appends}
 use Rattle.std.proofs.KnownBytes.{Appends-nil, Appends-trans}
 use Rattle.std.proofs.lemmas.Grind.{common_steps}
 use Rattle.std.proofs.lemmas.List.Sums.{sum_by_push}
-use Rattle.std.proofs.lemmas.List.{map-append, reverse-append, length-append, length_push}
+use Rattle.std.proofs.lemmas.List.{map-append, reverse-append, length_push}
 use Rattle.std.proofs.Math.Seq.{take-append_seam}
 use Rattle.flashbase.specs.Device.{PutsPart, next_count}
 use Rattle.flashbase.proofs.DeviceLemmas.{part_before, part_behind}
 use Rattle.jmount.specs.Tree.{ObjectOf, State, object, is_there, is_directory, has_bits, directory_bits, entries_in}
-use Rattle.jmount.specs.Shown.{readable, shown}
+use Rattle.jmount.specs.Shown.{shown}
 use Rattle.jmount.specs.Find.{way_up}
-use Rattle.jreport.specs.TreeText.{Item, Met, items_of, line_if, line_of, none_met, met_after, todo_after, is_entered, AreLinesOf, IsTreeText, PutsPartOfTree, PutsTree}
-use Rattle.jreport.specs.Walking.{IsTextOf, PutsPartOf, PutsVisit, PutsStep, GoesUp, met_of, items_up, way_of, todo_of, unmet, names_left, steps_left}
+use Rattle.jreport.specs.TreeText.{Item, Met, items_of, line_if, line_of, none_met, met_after, todo_after, IsTreeText, PutsPartOfTree, PutsTree}
+use Rattle.jreport.specs.Walking.{IsTextOf, PutsPartOf, PutsVisit, PutsStep, GoesUp, met_of, items_up, way_of, todo_of, unmet, steps_left}
 use Rattle.jreport.specs.declared.listing.Walk.{Walk}
 use Rattle.jreport.specs.declared.faults.ProgramFault.{ProgramFault}
 use Rattle.jreport.specs.declared.faults.ProgramFault.TheVariants as program

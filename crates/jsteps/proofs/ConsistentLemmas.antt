@@ -23,7 +23,7 @@ use Rattle.jmount.proofs.LeastLemmas.{next_is_least}
 use Rattle.jmount.proofs.NumbersLemmas.{object-state_of, top_at-tops_of}
 use Rattle.jmount.proofs.OutlineLemmas.{object-outline, is_directory-outline}
 use Rattle.jmount.proofs.UseLemmas.{state_is_numbered, objects_fit, of_inodes}
-use Rattle.jsteps.specs.Steps.{renamed, rewritten, with_body, with_permissions, with_attributes, reattributed}
+use Rattle.jsteps.specs.Steps.{renamed, rewritten, with_body, with_attributes, reattributed}
 use Rattle.jsteps.specs.Nodes.{Indexed, index_by, no_object, object_at, advanced}
 use Rattle.jsteps.specs.Ready.{IsReady, HasRoom}
 use Rattle.jsteps.specs.Laws as law

@@ -22,7 +22,7 @@ use Rattle.jsteps.specs.declared.step.Step.{Step}
 use Rattle.jsteps.specs.declared.step.Step.TheVariants as step
 use Rattle.jsteps.proofs.IndexLemmas.{with_some}
 use Rattle.jsteps.proofs.ConsistentLemmas.{StepFits, root_below}
-use Rattle.jsteps.proofs.WhereLemmas.{HasLength, IsParent, IsTarget, IsReachedObject, last_name_length, bits_there, parent_is, target_is, not_missing, reached_is}
+use Rattle.jsteps.proofs.WhereLemmas.{HasLength, IsParent, IsTarget, last_name_length, bits_there, parent_is, target_is, not_missing, reached_is}
 use Rattle.jsteps.proofs.TakenLemmas.{IsFine, Shaped, AllFine, AllTaken, AllFine-one, AllFine-two, all_taken, taken_ready, taken_room, taken_written, taken_keeps_all, object_fits}
 use Rattle.jsteps.proofs.PutsLemmas.{HasSize, resize_fine, write_fine}
 
@@ -102,6 +102,29 @@ led x path same bad long found directory =
 pub targeted : (x : Indexed) (path : List ℕ) → IsConsistent x → IsLed x path → is_missing x.tree path ≡ false → IsTarget x path
 targeted x path same is_led there = target_is x path same (not_missing x.tree path is_led.ends there)
 
+-- the path that an operation has alone, and that nothing else is found to be amiss
+pub led_alone : (x : Indexed) (path : List ℕ) (amiss more : Bool) → IsConsistent x → (is_bad_path path || false) ≡ false → (is_long path || false) ≡ false
+    → ((meets_nothing (above x.tree path) || false) || amiss || more) ≡ false → (meets_other x.tree (above x.tree path) || false) ≡ false → IsLed x path × (amiss ≡ false)
+led_alone x path amiss more same bad long found directory =
+    let parts = three_false (meets_nothing (above x.tree path) || false) amiss more found in (
+      led x path same (one_false (is_bad_path path) bad) (one_false (is_long path) long) (one_false (meets_nothing (above x.tree path)) parts.0)
+          (one_false (meets_other x.tree (above x.tree path)) directory),
+      parts.1,
+    )
+
+-- the two that it has, the first of which names something
+pub led_both : (x : Indexed) (old new : List ℕ) → IsConsistent x → (is_bad_path old || (is_bad_path new || false)) ≡ false → (is_long old || (is_long new || false)) ≡ false
+    → ((meets_nothing (above x.tree old) || (meets_nothing (above x.tree new) || false)) || (is_missing x.tree old || false) || false) ≡ false
+    → (meets_other x.tree (above x.tree old) || (meets_other x.tree (above x.tree new) || false)) ≡ false → IsLed x old × IsLed x new × IsTarget x old
+led_both x old new same is_bad is_long_one is_found directory =
+    let found = three_false (meets_nothing (above x.tree old) || (meets_nothing (above x.tree new) || false)) (is_missing x.tree old || false) false is_found in
+    let bad = two_false (is_bad_path old) (is_bad_path new) is_bad in
+    let long = two_false (is_long old) (is_long new) is_long_one in
+    let nothing = two_false (meets_nothing (above x.tree old)) (meets_nothing (above x.tree new)) found.0 in
+    let other = two_false (meets_other x.tree (above x.tree old)) (meets_other x.tree (above x.tree new)) directory in
+    let led_old = led x old same bad.0 long.0 nothing.0 other.0 in
+    (led_old, led x new same bad.1 long.1 nothing.1 other.1, targeted x old same led_old (one_false (is_missing x.tree old) found.1))
+
 -- the size of what is named
 sized_target : (x : Indexed) (path : List ℕ) → IsTarget x path → HasSize x (number_or_zero x.tree path) (size_named x.tree path) (size_named x.tree path)
 sized_target x path is =
@@ -161,29 +184,21 @@ parent_some x path is_led = bits_there directory_bits (object x.tree (parent x.t
 
 all_fine : (page : ℕ) (x : Indexed) (o : Op) (steps : List Step) → IsPage page → IsConsistent x → OpFits o → IsAccepted page x o steps → AllFine page x (steps_of page x.tree o)
 all_fine page x (op.Mkdir time path mode uid gid) steps is_page same fits is =
-    let found = three_false (meets_nothing (above x.tree path) || false) false false is.found in
-    let is_led = led x path same (one_false (is_bad_path path) is.bad) (one_false (is_long path) is.long) (one_false (meets_nothing (above x.tree path)) found.0)
-    (one_false (meets_other x.tree (above x.tree path)) is.directory) in
+    let is_led = (led_alone x path false false same is.bad is.long is.found is.directory).0 in
     let bits : mode ≤ 0o7777 = ltb-false 0o7777 mode is.mode in
     make_fine page x time path (0o040000 + mode) uid gid [] same is_led fits.0 (omega arith) fits.1 fits.2 (omega arith)
 all_fine page x (op.Create time path mode uid gid) steps is_page same fits is =
-    let found = three_false (meets_nothing (above x.tree path) || false) false false is.found in
-    let is_led = led x path same (one_false (is_bad_path path) is.bad) (one_false (is_long path) is.long) (one_false (meets_nothing (above x.tree path)) found.0)
-    (one_false (meets_other x.tree (above x.tree path)) is.directory) in
+    let is_led = (led_alone x path false false same is.bad is.long is.found is.directory).0 in
     let bits : mode ≤ 0o7777 = ltb-false 0o7777 mode is.mode in
     make_fine page x time path (0o100000 + mode) uid gid [] same is_led fits.0 (omega arith) fits.1 fits.2 (omega arith)
 all_fine page x (op.Symlink time path link uid gid) steps is_page same fits is =
-    let found = three_false (meets_nothing (above x.tree path) || false) false false is.found in
-    let is_led = led x path same (one_false (is_bad_path path) is.bad) (one_false (is_long path) is.long) (one_false (meets_nothing (above x.tree path)) found.0)
-    (one_false (meets_other x.tree (above x.tree path)) is.directory) in
+    let is_led = (led_alone x path false false same is.bad is.long is.found is.directory).0 in
     let parts = three_false (length link == 0) (nat_lt 4095 (length link)) (list_any (λ b. b == 0) link) is.link in
     let short : length link ≤ 4095 = ltb-false 4095 (length link) parts.1 in
     make_fine page x time path 0o120777 uid gid link same is_led fits.0 (omega arith) fits.1 fits.2 short
 all_fine page x (op.Write time path offset bytes) steps is_page same fits is =
-    let found = three_false (meets_nothing (above x.tree path) || false) (is_missing x.tree path || false) false is.found in
-    let is_led = led x path same (one_false (is_bad_path path) is.bad) (one_false (is_long path) is.long) (one_false (meets_nothing (above x.tree path)) found.0)
-    (one_false (meets_other x.tree (above x.tree path)) is.directory) in
-    let is_target = targeted x path same is_led (one_false (is_missing x.tree path) found.1) in
+    let leads = led_alone x path (is_missing x.tree path || false) false same is.bad is.long is.found is.directory in
+    let is_target = targeted x path same leads.0 (one_false (is_missing x.tree path) leads.1) in
     write_fine page x time (number_or_zero x.tree path) (size_named x.tree path) offset bytes is_page fits is_target.positive (sized_target x path is_target) (size_is_word x path same is_target)
     (λ some. ends_within (nat_lt 0 (length bytes)) (offset + length bytes) (lt-ltb 0 (length bytes) some) is.large)
   where
@@ -191,42 +206,24 @@ all_fine page x (op.Write time path offset bytes) steps is_page same fits is =
     ends_within true n e h = let least : n ≤ 2147483647 = ltb-false greatest_size n h in omega arith
     ends_within false n e h = absurd (false≢true e)
 all_fine page x (op.Truncate time path size) steps is_page same fits is =
-    let found = three_false (meets_nothing (above x.tree path) || false) (is_missing x.tree path || false) false is.found in
-    let is_led = led x path same (one_false (is_bad_path path) is.bad) (one_false (is_long path) is.long) (one_false (meets_nothing (above x.tree path)) found.0)
-    (one_false (meets_other x.tree (above x.tree path)) is.directory) in
-    let is_target = targeted x path same is_led (one_false (is_missing x.tree path) found.1) in
+    let leads = led_alone x path (is_missing x.tree path || false) false same is.bad is.long is.found is.directory in
+    let is_target = targeted x path same leads.0 (one_false (is_missing x.tree path) leads.1) in
     let least : size ≤ 2147483647 = ltb-false greatest_size size is.large in
     resize_fine page x time (number_or_zero x.tree path) (size_named x.tree path) size fits is_target.positive (sized_target x path is_target) (size_is_word x path same is_target) (omega arith)
 all_fine page x (op.Link time old new) steps is_page same fits is =
-    let found = three_false (meets_nothing (above x.tree old) || (meets_nothing (above x.tree new) || false)) (is_missing x.tree old || false) false is.found in
-    let bad = two_false (is_bad_path old) (is_bad_path new) is.bad in
-    let long = two_false (is_long old) (is_long new) is.long in
-    let nothing = two_false (meets_nothing (above x.tree old)) (meets_nothing (above x.tree new)) found.0 in
-    let other = two_false (meets_other x.tree (above x.tree old)) (meets_other x.tree (above x.tree new)) is.directory in
-    let led_old = led x old same bad.0 long.0 nothing.0 other.0 in
-    let led_new = led x new same bad.1 long.1 nothing.1 other.1 in
-    let is_target = targeted x old same led_old (one_false (is_missing x.tree old) found.1) in
+    let both = led_both x old new same is.bad is.long is.found is.directory in
     AllFine-one page x (step.SetName time (parent x.tree new) (last_name new) (number_or_zero x.tree old))
-    (set_fine page x time (parent x.tree new) (last_name new) (number_or_zero x.tree old) fits led_new.parent_there.positive led_new.name (parent_some x new led_new) is_target.positive is_target.below)
+    (set_fine page x time (parent x.tree new) (last_name new) (number_or_zero x.tree old) fits both.1.parent_there.positive both.1.name (parent_some x new both.1) both.2.positive both.2.below)
 all_fine page x (op.Remove time path) steps is_page same fits is =
-    let found = three_false (meets_nothing (above x.tree path) || false) false (is_unnamed x.tree path || false) is.found in
-    let is_led = led x path same (one_false (is_bad_path path) is.bad) (one_false (is_long path) is.long) (one_false (meets_nothing (above x.tree path)) found.0)
-    (one_false (meets_other x.tree (above x.tree path)) is.directory) in
+    let is_led = (led_alone x path false (is_unnamed x.tree path || false) same is.bad is.long is.found is.directory).0 in
     AllFine-one page x (step.ClearName time (parent x.tree path) (last_name path))
     (clear_fine page x time (parent x.tree path) (last_name path) fits is_led.parent_there.positive is_led.name (parent_some x path is_led))
 all_fine page x (op.Rename time old new) steps is_page same fits is =
-    let found = three_false (meets_nothing (above x.tree old) || (meets_nothing (above x.tree new) || false)) (is_missing x.tree old || false) false is.found in
-    let bad = two_false (is_bad_path old) (is_bad_path new) is.bad in
-    let long = two_false (is_long old) (is_long new) is.long in
-    let nothing = two_false (meets_nothing (above x.tree old)) (meets_nothing (above x.tree new)) found.0 in
-    let other = two_false (meets_other x.tree (above x.tree old)) (meets_other x.tree (above x.tree new)) is.directory in
-    let led_old = led x old same bad.0 long.0 nothing.0 other.0 in
-    let led_new = led x new same bad.1 long.1 nothing.1 other.1 in
-    let is_target = targeted x old same led_old (one_false (is_missing x.tree old) found.1) in
+    let both = led_both x old new same is.bad is.long is.found is.directory in
     let set = step.SetName time (parent x.tree new) (last_name new) (number_or_zero x.tree old) in
     AllFine-two page x set (step.ClearName time (parent x.tree old) (last_name old))
-    (set_fine page x time (parent x.tree new) (last_name new) (number_or_zero x.tree old) fits led_new.parent_there.positive led_new.name (parent_some x new led_new) is_target.positive is_target.below)
-    (clear_fine page (advanced x set) time (parent x.tree old) (last_name old) fits led_old.parent_there.positive led_old.name (parent_some x old led_old))
+    (set_fine page x time (parent x.tree new) (last_name new) (number_or_zero x.tree old) fits both.1.parent_there.positive both.1.name (parent_some x new both.1) both.2.positive both.2.below)
+    (clear_fine page (advanced x set) time (parent x.tree old) (last_name old) fits both.0.parent_there.positive both.0.name (parent_some x old both.0))
 all_fine page x (op.SetAttributes time path attributes) steps is_page same fits is =
     let found = or_parts (meets_nothing (above x.tree path)) (is_unreached x.tree path) is.found in
     let above_it = parent_is x path same found.0 (one_false (meets_other x.tree (above x.tree path)) is.directory) in

@@ -1,6 +1,6 @@
 -- A plan keeps the shape of the tree.
 use Rattle.std.proofs.Common.{◌≡◌, ℕ, ◌+◌, ◌<◌, Bool, true, false, List, [], ◌∷◌, ◌++◌, length, Option, Some, None, Result, Ok, Err, refl, ap, sym, ◌∙◌, subst, arith}
-use Rattle.std.specs.Prelude.{is_some, unwrap_or, option_and_then, ◌&&◌, ◌||◌, ◌==◌}
+use Rattle.std.specs.Prelude.{is_some, unwrap_or, option_and_then, ◌&&◌, ◌==◌}
 use Rattle.std.specs.List.{list_any}
 use Rattle.std.proofs.lemmas.Bool.{eqb-false, or_parts, false≢true}
 use Rattle.jmount.specs.Tree.{ObjectOf, Outline, object, named, is_directory, has_bits, directory_bits}
@@ -8,8 +8,7 @@ use Rattle.jmount.specs.declared.fault.FindFault.{FindFault}
 use Rattle.jsteps.specs.Steps.{bytes, sizes, do_step, after}
 use Rattle.jsteps.specs.Nodes.{Indexed}
 use Rattle.jsteps.specs.Planning.{size_named, make_steps, steps_of}
-use Rattle.jsteps.specs.Refusals.{is_bad_path, is_long, meets_nothing, meets_other}
-use Rattle.jsteps.specs.Where.{names_above, last_name, above, number_or_none, parent, ends_in_directory, named_there, number_there, number_or_zero, number_reached, object_named, is_missing, met}
+use Rattle.jsteps.specs.Where.{names_above, last_name, above, number_or_none, parent, ends_in_directory, named_there, number_there, number_or_zero, number_reached, object_named, met}
 use Rattle.jsteps.specs.Laws.{IsConsistent}
 use Rattle.jmount.specs.Shape.{HasShape}
 use Rattle.jsteps.specs.ShapeLaws as law
@@ -19,7 +18,7 @@ use Rattle.jsteps.specs.declared.step.Step.{Step}
 use Rattle.jsteps.specs.declared.step.Step.TheVariants as step
 use Rattle.jsteps.proofs.IndexLemmas.{with_some}
 use Rattle.jsteps.proofs.WhereLemmas.{bits_there}
-use Rattle.jsteps.proofs.PlanLemmas.{IsAccepted, accepted, led, targeted, one_false, two_false, three_false}
+use Rattle.jsteps.proofs.PlanLemmas.{IsAccepted, accepted, led_alone, led_both}
 use Rattle.jmount.proofs.ShapeLemmas.{Leads, IsShaped, leads_none, leads_more, leads_on, leads_to_itself, walk_leads, shaped, has_shape, follows_keeps}
 use Rattle.jsteps.proofs.ShapeMetLemmas.{back_to}
 use Rattle.jsteps.proofs.ShapeStepLemmas.{insert_follows, object_keeps, write_on_object, resize_on_object, attributes_on_object, clear_follows, set_keeps, move_keeps}
@@ -91,54 +90,35 @@ not_below t old new shape is_old is_new entry none ns h =
 
 plan_keeps : (page : ℕ) (x : Indexed) (o : Op) (steps : List Step) → IsConsistent x → IsAccepted page x o steps → IsShaped x.tree → IsShaped (after sizes x.tree (steps_of page x.tree o))
 plan_keeps page x (op.Mkdir time path mode uid gid) steps same is shape =
-    let found = three_false (meets_nothing (above x.tree path) || false) false false is.found in
-    let is_led = led x path same (one_false (is_bad_path path) is.bad) (one_false (is_long path) is.long) (one_false (meets_nothing (above x.tree path)) found.0)
-    (one_false (meets_other x.tree (above x.tree path)) is.directory) in
+    let is_led = (led_alone x path false false same is.bad is.long is.found is.directory).0 in
     make_keeps x time path (0o040000 + mode) uid gid [] same is_led.parent_there.there shape
 plan_keeps page x (op.Create time path mode uid gid) steps same is shape =
-    let found = three_false (meets_nothing (above x.tree path) || false) false false is.found in
-    let is_led = led x path same (one_false (is_bad_path path) is.bad) (one_false (is_long path) is.long) (one_false (meets_nothing (above x.tree path)) found.0)
-    (one_false (meets_other x.tree (above x.tree path)) is.directory) in
+    let is_led = (led_alone x path false false same is.bad is.long is.found is.directory).0 in
     make_keeps x time path (0o100000 + mode) uid gid [] same is_led.parent_there.there shape
 plan_keeps page x (op.Symlink time path link uid gid) steps same is shape =
-    let found = three_false (meets_nothing (above x.tree path) || false) false false is.found in
-    let is_led = led x path same (one_false (is_bad_path path) is.bad) (one_false (is_long path) is.long) (one_false (meets_nothing (above x.tree path)) found.0)
-    (one_false (meets_other x.tree (above x.tree path)) is.directory) in
+    let is_led = (led_alone x path false false same is.bad is.long is.found is.directory).0 in
     make_keeps x time path 0o120777 uid gid link same is_led.parent_there.there shape
 plan_keeps page x (op.Write time path offset bytes) steps same is shape =
     object_keeps x.tree (steps_of page x.tree (op.Write time path offset bytes)) (write_on_object page time (number_or_zero x.tree path) (size_named x.tree path) offset bytes) shape
 plan_keeps page x (op.Truncate time path size) steps same is shape =
     object_keeps x.tree (steps_of page x.tree (op.Truncate time path size)) (resize_on_object time (number_or_zero x.tree path) (size_named x.tree path) size) shape
 plan_keeps page x (op.Link time old new) steps same is shape =
-    let found = three_false (meets_nothing (above x.tree old) || (meets_nothing (above x.tree new) || false)) (is_missing x.tree old || false) false is.found in
-    let bad = two_false (is_bad_path old) (is_bad_path new) is.bad in
-    let long = two_false (is_long old) (is_long new) is.long in
-    let nothing = two_false (meets_nothing (above x.tree old)) (meets_nothing (above x.tree new)) found.0 in
-    let other = two_false (meets_other x.tree (above x.tree old)) (meets_other x.tree (above x.tree new)) is.directory in
-    let led_old = led x old same bad.0 long.0 nothing.0 other.0 in
-    let is_target = targeted x old same led_old (one_false (is_missing x.tree old) found.1) in
-    let kind : is_directory x.tree (number_or_zero x.tree old) ≡ false = ap (has_bits directory_bits) is_target.same ∙ is.kind in
+    let both = led_both x old new same is.bad is.long is.found is.directory in
+    let kind : is_directory x.tree (number_or_zero x.tree old) ≡ false = ap (has_bits directory_bits) both.2.same ∙ is.kind in
     set_keeps x.tree (parent x.tree new) (last_name new) (number_or_zero x.tree old)
     (λ there d n e. absurd (false≢true (sym kind ∙ there))) (λ there ns h. absurd (false≢true (sym kind ∙ there))) shape
 plan_keeps page x (op.Remove time path) steps same is shape =
     follows_keeps x.tree (after sizes x.tree (steps_of page x.tree (op.Remove time path))) (clear_follows x.tree (parent x.tree path, last_name path)) shape
 plan_keeps page x (op.Rename time old new) steps same is shape =
-    let found = three_false (meets_nothing (above x.tree old) || (meets_nothing (above x.tree new) || false)) (is_missing x.tree old || false) false is.found in
-    let bad = two_false (is_bad_path old) (is_bad_path new) is.bad in
-    let long = two_false (is_long old) (is_long new) is.long in
-    let nothing = two_false (meets_nothing (above x.tree old)) (meets_nothing (above x.tree new)) found.0 in
-    let other = two_false (meets_other x.tree (above x.tree old)) (meets_other x.tree (above x.tree new)) is.directory in
-    let led_old = led x old same bad.0 long.0 nothing.0 other.0 in
-    let led_new = led x new same bad.1 long.1 nothing.1 other.1 in
-    let is_target = targeted x old same led_old (one_false (is_missing x.tree old) found.1) in
-    let above_old = above_is x.tree old led_old.ends in
-    let above_new = above_is x.tree new led_new.ends in
-    let entry = entry_is x.tree old above_old is_target.there in
+    let both = led_both x old new same is.bad is.long is.found is.directory in
+    let above_old = above_is x.tree old both.0.ends in
+    let above_new = above_is x.tree new both.1.ends in
+    let entry = entry_is x.tree old above_old both.2.there in
     let m = number_or_zero x.tree old in
     let none : is_directory x.tree m ≡ true → list_any (λ i. i == m) (met x.tree (names_above new) (Some 1)) ≡ false =
     λ there.
     both_not (has_bits directory_bits (object_named x.tree old)) (list_any (λ i. i == m) (met x.tree (names_above new) (Some 1))) is.into
-    (ap (has_bits directory_bits) (sym is_target.same) ∙ there) in
+    (ap (has_bits directory_bits) (sym both.2.same) ∙ there) in
     move_keeps x.tree (parent x.tree new) (last_name new) (parent x.tree old) (last_name old) m entry
     (λ there is_root. eqb-false 1 m (meets_root x.tree (names_above new) m (none there)) (sym is_root))
     (λ there. not_below x.tree old new shape above_old above_new entry (none there))

@@ -10,7 +10,7 @@ use Rattle.std.proofs.lemmas.Map.Views.{tells_apart}
 use Rattle.jname.specs.Live.{Key, key_cmp}
 use Rattle.jname.proofs.NamingLemmas.{key_cmp_total, key_cmp-IsAntisymmetric}
 use Rattle.jmount.specs.Tree.{ObjectOf, Outline, object, named, is_directory, has_bits, directory_bits}
-use Rattle.jsteps.specs.Steps.{sizes, do_step, after, renamed, rewritten, with_body, with_permissions, with_attributes, reattributed}
+use Rattle.jsteps.specs.Steps.{sizes, do_step, after, renamed, rewritten, with_body, with_attributes, reattributed}
 use Rattle.jsteps.specs.Planning.{piece_puts, page_puts, puts, spelling_len, zeros_to, write_steps, resize_steps}
 use Rattle.jsteps.specs.declared.op.Attributes.{Attributes}
 use Rattle.jsteps.specs.declared.step.Step.{Step}

@@ -13,7 +13,7 @@ use Rattle.jmount.proofs.PathLemmas.{walk-turn}
 use Rattle.jmount.proofs.PathNameLemmas.{path_names_exactly}
 use Rattle.jsteps.specs.Nodes.{Indexed}
 use Rattle.jsteps.specs.Laws.{IsConsistent}
-use Rattle.jsteps.specs.Refusals.{is_bad_path, is_no_path, is_long, meets_nothing, meets_other}
+use Rattle.jsteps.specs.Refusals.{is_bad_path, is_long, meets_nothing, meets_other}
 use Rattle.jsteps.specs.Where.{last_of, names_in, names_above, last_name, above, number_or_none, parent, ends_in_directory, named_there, number_there, number_or_zero, object_named, is_missing, number_reached, object_reached, is_unreached, met}
 use Rattle.jsteps.proofs.IndexLemmas.{with_some}
 

@@ -1,4 +1,4 @@
-use Rattle.std.proofs.Common.{◌≡◌, ◌<◌, Ok, Err, IfSome, IfNone, ap, sym, subst, ◌∙◌, arith}
+use Rattle.std.proofs.Common.{◌<◌, Ok, Err, IfSome, ap, subst, ◌∙◌, arith}
 use Rattle.jscan.specs.Stream.{Gives}
 use Rattle.jscan.proofs.StreamCounts.{readable_some}
 use Rattle.jreport.proofs.StreamLemmas.{Ended, all_put, block_failed, ended_within, finished, gone_to_limit, is_device, is_limit, source_failed, stopped, streaming_end, streaming_next, streaming_start, total_failed, unread_failed}
