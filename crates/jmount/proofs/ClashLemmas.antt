@@ -7,8 +7,7 @@ use Rattle.jnode.specs.declared.node.InodeNode.{InodeNode}
 use Rattle.jnode.specs.declared.node.NodeRef.{NodeRef}
 use Rattle.jnode.specs.declared.node.NodeRef.TheVariants.{Entry, Inode}
 use Rattle.jname.specs.Clash as names
-use Rattle.flashbase.proofs.MemberLemmas.{Contains-map, Contains-map_from}
-use Rattle.jname.proofs.SortedLemmas.{Contains-filter_map, Contains-filter_map_from}
+use Rattle.flashbase.proofs.MemberLemmas.{Contains-map, Contains-map_from, Contains-filter_map, Contains-filter_map_from}
 use Rattle.jmount.specs.Clash.{NodesClash, SomeInodeClashesWith, NoInodesClash, IsClashAt}
 use Rattle.jmount.specs.Collected.{without_addresses, HasNoClash, ClashesIn}
 use Rattle.jmount.specs.StateOf.{inode_in, entry_in, inodes, entries}

@@ -10,8 +10,7 @@ use Rattle.jnode.specs.Reading.{node_in}
 use Rattle.jnode.specs.declared.node.NodeRef.{NodeRef}
 use Rattle.jnode.specs.declared.node.Seen.{Seen}
 use Rattle.jnode.specs.declared.node.Seen.TheVariants as seen
-use Rattle.flashbase.proofs.MemberLemmas.{Contains-none, Contains-here, Contains-there, Contains-cases}
-use Rattle.jname.proofs.SortedLemmas.{Contains-filter_map, Contains-filter_map_from}
+use Rattle.flashbase.proofs.MemberLemmas.{Contains-none, Contains-here, Contains-there, Contains-cases, Contains-filter_map, Contains-filter_map_from}
 use Rattle.jscan.specs.Image.{node_sighted, sightings, nodes}
 use Rattle.jscan.specs.Scans.{IsScannable, IsNoNode, refusal_by, refusal_among, before_refusal, first_refused, nodes_before_refusal}
 use Rattle.jscan.specs.Findings.{refused_node}

@@ -11,8 +11,7 @@ use Rattle.std.proofs.lemmas.Map.Views.{tells_apart, list_any-from_Contains, Con
 use Rattle.flashbase.specs.Lists.{newest, tabled, greatest, each_below}
 use Rattle.flashbase.proofs.ListLemmas.{newest_is_newest, newest_of_none, greatest_is_greatest, get-tabled}
 use Rattle.jname.proofs.ContentsByNameLemmas.{by_test}
-use Rattle.flashbase.proofs.MemberLemmas.{Contains-none, Contains-here, Contains-there, Contains-cases, Contains-map, Contains-map_from, Contains-flat_map, Contains-flat_map_from, Contains-filter, Contains-filter_from}
-use Rattle.jname.proofs.SortedLemmas.{Contains-filter_map, Contains-filter_map_from}
+use Rattle.flashbase.proofs.MemberLemmas.{Contains-none, Contains-here, Contains-there, Contains-cases, Contains-map, Contains-map_from, Contains-flat_map, Contains-flat_map_from, Contains-filter, Contains-filter_from, Contains-filter_map, Contains-filter_map_from}
 use Rattle.jfrag.specs.declared.piece.Piece.{Piece}
 use Rattle.jfrag.specs.Pieces.{covers}
 use Rattle.jfrag.specs.Overlays.{Visible, IsHighestAt, GivesAt, visible, byte_at, content}

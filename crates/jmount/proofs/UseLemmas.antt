@@ -9,8 +9,7 @@ use Rattle.jnode.specs.declared.node.Dirent.{Dirent}
 use Rattle.jnode.specs.declared.node.InodeNode.{InodeNode}
 use Rattle.jnode.specs.declared.node.NodeRef.{NodeRef}
 use Rattle.jnode.specs.declared.node.NodeRef.TheVariants.{Entry, Inode}
-use Rattle.flashbase.proofs.MemberLemmas.{Contains-here, Contains-there}
-use Rattle.jname.proofs.SortedLemmas.{Contains-filter_map_from}
+use Rattle.flashbase.proofs.MemberLemmas.{Contains-here, Contains-there, Contains-filter_map_from}
 use Rattle.jmount.specs.Clash.{NodesClash}
 use Rattle.jmount.specs.Tree.{ObjectOf, object, named}
 use Rattle.jmount.specs.StateOf.{inode_in, entry_in, inodes, entries, default_root, numbers_in, next_of, owner, version_of, top, state_of}
