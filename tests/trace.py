@@ -1,10 +1,13 @@
 #!/usr/bin/env python3
-"""Looks up each name in the tables of docs/TRACE.md and docs/PROOFS.md: tests/trace.py. The last line is 'N passed, M failed'.
+"""Looks up each name in the tables of docs/TRACE.md and docs/PROOFS.md, and whether two files of specs/ define one name:
+tests/trace.py. The last line is 'N passed, M failed'.
 
 The names stand between backquotes, in three forms: `crate.File.name` is a definition in crates/crate/specs/File.antt,
 `crate::module::name` an item of crates/crate/src/module.rt, and `crate/name` an edit, crates/crate/must-fail/name.edit, or a
 module, crates/crate/src/name.rt.
 """
+import collections
+import glob
 import os
 import re
 import sys
@@ -42,6 +45,16 @@ def is_there(name):
     return None
 
 
+def shared_names():
+    """Returns each name that is defined in more than one file of specs/, with these files."""
+    files = collections.defaultdict(set)
+    for path in glob.glob(os.path.join(CRATES, "*", "specs", "**", "*.antt"), recursive=True):
+        with open(path, encoding="utf-8") as file:
+            for name in re.findall(r"^(?:(?:pub|unfoldable|abbrev|record|data|opaque) )+(\S+)", file.read(), re.M):
+                files[name].add(os.path.relpath(path, CRATES))
+    return {name: sorted(places) for name, places in sorted(files.items()) if len(places) > 1 and name not in ("use", "mod")}
+
+
 def main():
     names = set()
     for document in ("TRACE.md", "PROOFS.md"):
@@ -51,9 +64,13 @@ def main():
     missing = [name for name, answer in answers.items() if answer is False]
     for name in missing:
         print(f"FAILED: a table of docs names {name}, which is not there")
-    passed = sum(answer is True for answer in answers.values())
-    print(f"{passed} passed, {len(missing)} failed")
-    return 1 if missing or not passed else 0
+    shared = shared_names()
+    for name, places in shared.items():
+        print(f"FAILED: {name} is defined in {' and '.join(places)}")
+    passed = sum(answer is True for answer in answers.values()) + (not shared)
+    failed = len(missing) + len(shared)
+    print(f"{passed} passed, {failed} failed")
+    return 1 if failed or not passed else 0
 
 
 sys.exit(main())

@@ -1,6 +1,6 @@
 //! The nodes of a log laid down in every order: the same tree and content.
 
-use crate::nodes::{GEOMETRY, pad};
+use crate::nodes::GEOMETRY;
 use crate::sessions::{created, cut, run_on, written};
 use crate::trees::{Tree, tree_of};
 use byteorder::{BigEndian, LittleEndian};
@@ -9,6 +9,7 @@ use jmount::{Mounted, mount};
 use jnode::Order;
 use std::alloc::Global;
 use std::test::Fail;
+use test_support::fill_up;
 
 const TEN: [u8; 10] = [1, 2, 3, 4, 5, 6, 7, 8, 9, 10];
 
@@ -39,7 +40,7 @@ fn laid(alloc: Global, bytes: &[u8], places: &[Place], number: usize) -> Result<
             let start = place.addr as usize;
             let end = start.saturating_add(place.totlen as usize);
             image.extend_from_slice(bytes.get(start..end).ok_or("past the end")?)?;
-            pad(&mut image)?;
+            fill_up(&mut image)?;
         }
     }
     Ok(image)

@@ -1,12 +1,11 @@
 //! How images are laid down.
 
-use jnode::{Dirent, Fill, InodeNode, Order, Part, write_entry, write_inode};
+use jnode::{Fill, InodeNode, Order, Part, write_entry, write_inode};
 use jscan::Geometry;
 use std::test::Fail;
+use test_support::{entry, fill_up};
 
-pub const FILE: u32 = 0o100644;
-
-pub const DIRECTORY: u32 = 0o040755;
+pub use test_support::{DIRECTORY, FILE};
 
 /// Blocks that are read and written.
 pub const GEOMETRY: Geometry = Geometry { block: 8192 };
@@ -18,17 +17,6 @@ pub enum Node<'a> {
     Entry(u32, u32, u32, &'a [u8]),
     /// An inode node: its number, its version, its mode, its size, and its data from the file's start on.
     Inode(u32, u32, u32, u32, &'a [u8]),
-}
-
-fn entry(pino: u32, version: u32, ino: u32, name: &[u8]) -> Dirent<'_> {
-    Dirent {
-        pino,
-        version,
-        ino,
-        mctime: 0,
-        kind: 8,
-        name: Part::new(name, 0),
-    }
 }
 
 fn inode(ino: u32, version: u32, mode: u32, isize: u32, data: &[u8]) -> InodeNode<'_> {
@@ -48,12 +36,6 @@ fn inode(ino: u32, version: u32, mode: u32, isize: u32, data: &[u8]) -> InodeNod
     }
 }
 
-/// Fills an image up to whole words.
-pub fn pad(image: &mut Vec<u8>) -> Result<(), Fail> {
-    let missing = (4 - image.len() % 4) % 4;
-    Ok(image.extend_from_slice(&[0xFF; 3][..missing])?)
-}
-
 /// Writes a node at the end of an image, and fills it up to whole words. Blocks are not minded.
 pub fn push<E: Order>(image: &mut Vec<u8>, node: Node<'_>) -> Result<(), Fail> {
     match node {
@@ -64,7 +46,7 @@ pub fn push<E: Order>(image: &mut Vec<u8>, node: Node<'_>) -> Result<(), Fail> {
             write_inode::<E>(image, &inode(ino, version, mode, isize, data))?
         }
     }
-    pad(image)
+    Ok(fill_up(image)?)
 }
 
 /// The same, in the next block where the node would pass a block's end.

@@ -25,7 +25,7 @@ use Rattle.jlog.specs.declared.report.Place.{Place}
 use Rattle.jlog.proofs.CodeLemmas.{flash_limits}
 use Rattle.jlog.proofs.PlaceLemmas.{block_floor, div_at, pad4_behind, times_words}
 use Rattle.jlog.proofs.SightLemmas.{marker_long}
-use Rattle.jbuild.specs.Accepted.{end_of}
+use Rattle.jbuild.specs.Accepted.{end_of_places}
 use Rattle.jbuild.specs.Length.{LineTellsLength, PlacesTellLength, TellsLength}
 
 -- ---- one node
@@ -110,17 +110,17 @@ output_long e size from (node ∷ nodes) words room =
     omega (arith, out, there, last, length-append (before ++ filled node) (output e size end nodes), length-append before (filled node), length-filled node, rest, first)
 
 -- the last one counts
-end_skip : (from : ℕ) (place next : Place) (more : List Place) → end_of from (place ∷ next ∷ more) ≡ end_of from (next ∷ more)
+end_skip : (from : ℕ) (place next : Place) (more : List Place) → end_of_places from (place ∷ next ∷ more) ≡ end_of_places from (next ∷ more)
 end_skip from place next more =
     let one : length (place ∷ next ∷ more) - 1 ≡ suc (length (next ∷ more) - 1) = omega arith in
     ap (λ (i : ℕ). option_map_or (λ (p : Place). pad4_of (p.addr + p.totlen)) (slice_get (place ∷ next ∷ more) i) from) one
 
 -- where the first of several begins has no part in it
-end_same : (a b : ℕ) (place : Place) (more : List Place) → end_of a (place ∷ more) ≡ end_of b (place ∷ more)
+end_same : (a b : ℕ) (place : Place) (more : List Place) → end_of_places a (place ∷ more) ≡ end_of_places b (place ∷ more)
 end_same a b place [] = refl
 end_same a b place (next ∷ more) = end_skip a place next more ∙ (end_same a b next more ∙ sym (end_skip b place next more))
 
-ends : (size from : ℕ) (nodes : List (List ℕ)) → size % 4 ≡ 0 → 12 < size → end_of from (map shown_place (places size from nodes)) ≡ end_of_all size from nodes
+ends : (size from : ℕ) (nodes : List (List ℕ)) → size % 4 ≡ 0 → 12 < size → end_of_places from (map shown_place (places size from nodes)) ≡ end_of_all size from nodes
 ends size from [] words room = refl
 ends size from (node ∷ []) words room =
     let is = placed size from (length node) words room in

@@ -10,7 +10,7 @@ use Rattle.jlog.specs.Output.{output}
 use Rattle.jlog.specs.Places.{places}
 use Rattle.jlog.specs.Running.{shown_place, written}
 use Rattle.jlog.specs.declared.report.Place.{Place}
-use Rattle.jbuild.specs.Accepted.{end_of}
+use Rattle.jbuild.specs.Accepted.{end_of_places}
 use Rattle.jbuild.specs.Emitting.{IsEmitted}
 
 -- what goes out after the base's front for the first operations
@@ -22,12 +22,12 @@ output_of_first page e size blocks base ops accepted =
 -- the number of bytes that the line tells is its length
 abbrev pub TellsLength : Page → Endian → ℕ → ℕ → List ℕ → List Op → ℕ → List Place → Type 0
 TellsLength page e size blocks base ops accepted places =
-    end_of (resume_address e size blocks base) places - resume_address e size blocks base ≡ length (output_of_first page e size blocks base ops accepted)
+    end_of_places (resume_address e size blocks base) places - resume_address e size blocks base ≡ length (output_of_first page e size blocks base ops accepted)
 
 -- The places of nodes end where what goes out for them ends,
 abbrev pub PlacesTellLength : Type 0
 PlacesTellLength = (e : Endian) (size from : ℕ) (nodes : List (List ℕ)) → size % 4 ≡ 0 → 12 < size
-    → end_of from (map shown_place (places size from nodes)) - from ≡ length (output e size from nodes)
+    → end_of_places from (map shown_place (places size from nodes)) - from ≡ length (output e size from nodes)
 
 -- so the line tells how long what went out for operations is that were all accepted.
 abbrev pub LineTellsLength : Type 0

@@ -5,13 +5,13 @@ use Rattle.jlisting.specs.Listing.{file_of, op_of}
 use Rattle.jlisting.specs.declared.line.Line.{Line}
 
 -- the bytes of the file that a line names, if it names one
-abbrev pub bytes_of : (List ℕ → List ℕ) → Option (List ℕ) → List ℕ
-bytes_of files None = []
-bytes_of files (Some name) = files name
+abbrev pub bytes_of_file : (List ℕ → List ℕ) → Option (List ℕ) → List ℕ
+bytes_of_file files None = []
+bytes_of_file files (Some name) = files name
 
 -- the operation of a line
 abbrev pub op_in : (List ℕ → List ℕ) → Line → Op
-op_in files line = op_of line.action (bytes_of files (file_of line.action))
+op_in files line = op_of line.action (bytes_of_file files (file_of line.action))
 
 abbrev pub ops_in : (List ℕ → List ℕ) → List Line → List Op
 ops_in files lines = map (op_in files) lines

@@ -11,5 +11,5 @@ abbrev pub read_of : Parts → List ℕ → Option (List ℕ)
 read_of parts name = option_map (λ bytes. bytes.items) (get_by (λ key. slice_cmp nat_cmp name key.now) parts.files)
 
 -- the same, where one that was not read has no bytes
-abbrev pub contents : Parts → List ℕ → List ℕ
-contents parts name = option_map_or (λ bytes. bytes) (read_of parts name) []
+abbrev pub part_contents : Parts → List ℕ → List ℕ
+part_contents parts name = option_map_or (λ bytes. bytes) (read_of parts name) []

@@ -3,7 +3,7 @@
 ghost use Rattle.std.specs.Prelude.{◌≡◌, ◌+◌};
 ghost use Rattle.flashbase.specs.Bytes.{pad4_of};
 ghost use Rattle.flashbase.specs.Device.{Puts};
-ghost use Rattle.jbuild.specs.Accepted.{accepted_line, end_of};
+ghost use Rattle.jbuild.specs.Accepted.{accepted_line, end_of_places};
 
 use flashbase::{DeviceFault, Sink};
 use jline::{LineBuffer, put_text};
@@ -19,7 +19,7 @@ fn end_of_node(addr: u32, totlen: u32) -> u64
 
 /// Where what was written from an address on ends.
 fn end_of(from: u32, places: &[Place]) -> u64
-    ensures { result ≡ end_of from places.now }
+    ensures { result ≡ end_of_places from places.now }
 {
     match places.last() {
         Some(last) => end_of_node(last.addr, last.totlen),

@@ -1,7 +1,7 @@
 //! The operations of a listing.
 
 ghost use Rattle.std.specs.Prelude.{◌≡◌, IfOk};
-ghost use Rattle.jbuild.specs.Parts.{contents};
+ghost use Rattle.jbuild.specs.Parts.{part_contents};
 ghost use Rattle.jbuild.specs.Operations.{op_in, ops_in};
 
 use crate::parts::Parts;
@@ -11,7 +11,7 @@ use std::alloc::{AllocError, Global};
 
 /// The operation of a line.
 fn operation<'b, 'a: 'b>(line: Line<'a>, parts: &'b Parts<'_>) -> Op<'b>
-    ensures { result ≡ op_in (contents parts.now) line.entry }
+    ensures { result ≡ op_in (part_contents parts.now) line.entry }
 {
     let bytes: &[u8] = match line.action.file() {
         Some(name) => parts.bytes(name),
@@ -27,7 +27,7 @@ pub fn operations<'b, 'a: 'b>(
     lines: Vec<Line<'a>>,
     parts: &'b Parts<'_>,
 ) -> Result<Vec<Op<'b>>, AllocError>
-    ensures { IfOk result (λ ops. ops.items ≡ ops_in (contents parts.now) lines.entry.items) }
+    ensures { IfOk result (λ ops. ops.items ≡ ops_in (part_contents parts.now) lines.entry.items) }
 {
     let mut ops = Vec::with_capacity(alloc, lines.len())?;
     for line in lines {

@@ -1,7 +1,7 @@
 //! Files of the host that a listing names.
 
 ghost use Rattle.std.specs.Prelude.{◌≡◌, ℕ, List, bytes_eq, is_some, OnOk, OnErr, Some, None, if◌then◌else◌};
-ghost use Rattle.jbuild.specs.Parts.{contents, read_of};
+ghost use Rattle.jbuild.specs.Parts.{part_contents, read_of};
 
 use std::alloc::{AllocError, Global};
 use std::collections::BTreeMap;
@@ -43,7 +43,7 @@ impl<'a> Parts<'a> {
 
     /// The bytes of a file. One that was not read has none.
     pub(crate) fn bytes(&self, name: &str) -> &[u8]
-        ensures { result.now ≡ contents self.now name.now }
+        ensures { result.now ≡ part_contents self.now name.now }
     {
         match self.files.get(name) {
             Some(bytes) => bytes.as_slice(),

@@ -30,25 +30,25 @@ abbrev pub flag : Text → Rule
 flag id = record (new_rule id) { long = Some id; action = Some SetTrue }
 
 -- a subcommand with the options that each one has
-abbrev pub plain : Text → App
-plain name = with_rule (with_rule (new_app name) (option_or (codes "block") (codes "65536")))
+abbrev pub plain_command : Text → App
+plain_command name = with_rule (with_rule (new_app name) (option_or (codes "block") (codes "65536")))
     (option_or (codes "endian") (codes "little"))
 
 -- `check [--scan] [--shape] [--block N] [--endian ORDER] IMAGE`
 abbrev pub check_app : App
-check_app = with_rule (with_rule (with_rule (plain (codes "check")) (flag (codes "scan"))) (flag (codes "shape"))) (word (codes "IMAGE"))
+check_app = with_rule (with_rule (with_rule (plain_command (codes "check")) (flag (codes "scan"))) (flag (codes "shape"))) (word (codes "IMAGE"))
 
 -- `ls [--block N] [--endian ORDER] IMAGE`
 abbrev pub ls_app : App
-ls_app = with_rule (plain (codes "ls")) (word (codes "IMAGE"))
+ls_app = with_rule (plain_command (codes "ls")) (word (codes "IMAGE"))
 
 -- `cat [--block N] [--endian ORDER] IMAGE PATH`
 abbrev pub cat_app : App
-cat_app = with_rule (with_rule (plain (codes "cat")) (word (codes "IMAGE"))) (word (codes "PATH"))
+cat_app = with_rule (with_rule (plain_command (codes "cat")) (word (codes "IMAGE"))) (word (codes "PATH"))
 
 -- a subcommand that writes to flash of so many blocks, by pages
 abbrev pub writer : Text → App
-writer name = with_rule (with_rule (plain name) (required_option (codes "blocks"))) (option_or (codes "page") (codes "4096"))
+writer name = with_rule (with_rule (plain_command name) (required_option (codes "blocks"))) (option_or (codes "page") (codes "4096"))
 
 -- `build --blocks N [--page N] [--block N] [--endian ORDER] LISTING OUT`
 abbrev pub build_app : App
@@ -61,7 +61,7 @@ append_app = with_rule (with_rule (with_rule (writer (codes "append")) (word (co
 
 -- `extract [--block N] [--endian ORDER] [--owners] [--quiet] IMAGE DIR`
 abbrev pub extract_app : App
-extract_app = with_rule (with_rule (with_rule (with_rule (plain (codes "extract")) (flag (codes "owners"))) (flag (codes "quiet"))) (word (codes "IMAGE"))) (word (codes "DIR"))
+extract_app = with_rule (with_rule (with_rule (with_rule (plain_command (codes "extract")) (flag (codes "owners"))) (flag (codes "quiet"))) (word (codes "IMAGE"))) (word (codes "DIR"))
 
 -- `listing [--owner UID GID] [--time T] [--quiet] DIR`
 abbrev pub listing_app : App

@@ -9,6 +9,7 @@ use Rattle.jnode.specs.declared.order.Endian.{Endian}
 use Rattle.jnode.specs.declared.order.Endian.TheVariants.{Little, Big}
 use Rattle.jsteps.specs.declared.page.Page.{Page}
 use Rattle.jsteps.specs.declared.page.Page.TheVariants.{P4096, P8192, P16384}
+use Rattle.jword.specs.Words.{◌>>=◌}
 use Rattle.jcommand.specs.Commands.{program}
 use Rattle.jcommand.specs.declared.parsed.Options.{Options}
 use Rattle.jcommand.specs.declared.parsed.Owner.{Owner}
@@ -20,13 +21,13 @@ use Rattle.jcommand.specs.declared.parsed.Task.TheVariants as task
 -- ---- values
 
 -- a number below 2 ^ 32 in decimal digits, of which n stands for those before
-abbrev pub digits_from : ℕ → Text → Option ℕ
-digits_from n [] = Some n
-digits_from n (b ∷ bs) = if is_ascii_digit b && nat_lt (10 * n + (b - 48)) (2 ^ 32) then digits_from (10 * n + (b - 48)) bs else None
+abbrev pub decimal_from : ℕ → Text → Option ℕ
+decimal_from n [] = Some n
+decimal_from n (b ∷ bs) = if is_ascii_digit b && nat_lt (10 * n + (b - 48)) (2 ^ 32) then decimal_from (10 * n + (b - 48)) bs else None
 
-abbrev pub number_of : Text → Option ℕ
-number_of [] = None
-number_of (b ∷ bs) = digits_from 0 (b ∷ bs)
+abbrev pub decimal_number : Text → Option ℕ
+decimal_number [] = None
+decimal_number (b ∷ bs) = decimal_from 0 (b ∷ bs)
 
 abbrev pub endian_of : Text → Option Endian
 endian_of text = if bytes_eq text (codes "little") then Some Little else (if bytes_eq text (codes "big") then Some Big else None)
@@ -40,7 +41,7 @@ page_of text =
 
 -- the number of a user or a group, which has 16 bits
 abbrev pub owner_number : Text → Option ℕ
-owner_number text = option_and_then (λ n. if nat_lt 65535 n then None else Some n) (number_of text)
+owner_number text = option_and_then (λ n. if nat_lt 65535 n then None else Some n) (decimal_number text)
 
 abbrev pub owner_of : List Text → Option Owner
 owner_of (uid ∷ gid ∷ []) = option_and_then (λ u. option_and_then (λ g. Some (record { uid = u; gid = g })) (owner_number gid)) (owner_number uid)
@@ -52,7 +53,7 @@ if_given None read = Some None
 if_given (Some value) read = option_and_then (λ x. Some (Some x)) (read value)
 
 abbrev pub number_option : Text → List Row → Option ℕ
-number_option id rows = option_and_then number_of (first_of id rows)
+number_option id rows = option_and_then decimal_number (first_of id rows)
 
 -- ---- a request, without where its texts lie
 
@@ -92,11 +93,6 @@ options_of (request.Build target listing) = target.options
 options_of (request.Append target image listing) = target.options
 
 -- ---- by the rows of the subcommand's matches
-
-infixl 10 ◌>>=◌
-abbrev pub ◌>>=◌ : {A B : Type 0} → Option A → (A → Option B) → Option B
-(Some x) >>= f = f x
-None >>= f = None
 
 abbrev pub options_in : List Row → Option Options
 options_in rows = number_option (codes "block") rows >>= λ block.
@@ -139,7 +135,7 @@ extract_in rows = image_in rows >>= λ p. first_of (codes "DIR") rows >>= λ fol
     Some (ExtractParsed p.0 (is_given (first_of (codes "owners") rows)) (is_given (first_of (codes "quiet") rows)) p.1 folder)
 
 abbrev pub listing_in : List Row → Option TaskParsed
-listing_in rows = if_given (all_of (codes "owner") rows) owner_of >>= λ owner. if_given (first_of (codes "time") rows) number_of >>= λ time.
+listing_in rows = if_given (all_of (codes "owner") rows) owner_of >>= λ owner. if_given (first_of (codes "time") rows) decimal_number >>= λ time.
     first_of (codes "DIR") rows >>= λ folder. Some (ListingParsed owner time (is_given (first_of (codes "quiet") rows)) folder)
 
 -- what the subcommand of this name asks for, with these rows; None where it is no subcommand or a value can't be read

@@ -1,7 +1,7 @@
 //! The command line, built with clap: the program, its subcommands, and the words that each one takes.
 ghost use Rattle.std.specs.Prelude.{◌≡◌, Ok};
 ghost use Rattle.clap.specs.Words.{App, Rule, new_app, with_rule, with_subcommand};
-ghost use Rattle.jcommand.specs.Commands.{IsApp, IsRule, MakesApp, word, option_or, required_option, option_of, option_of_two, flag, plain, writer, check_app, ls_app, cat_app, build_app, append_app, extract_app, listing_app, bare, program};
+ghost use Rattle.jcommand.specs.Commands.{IsApp, IsRule, MakesApp, word, option_or, required_option, option_of, option_of_two, flag, plain_command, writer, check_app, ls_app, cat_app, build_app, append_app, extract_app, listing_app, bare, program};
 
 use crate::help;
 use clap::{Arg, ArgAction, Command};
@@ -101,7 +101,7 @@ fn add_subcommand<'a>(command: Made<'a>, subcommand: Made<'a>) -> Made<'a>
 
 /// A subcommand with the options that each one has.
 fn make_plain<'a>(alloc: Global, name: &'a str, about: &'a str, after: &'a str) -> Made<'a>
-    ensures { MakesApp result (plain name.now) }
+    ensures { MakesApp result (plain_command name.now) }
 {
     let block = make_option(alloc, "block", "N", "65536", help::BLOCK);
     let endian = make_option(alloc, "endian", "ORDER", "little", help::ENDIAN);

@@ -3,17 +3,17 @@ ghost use Rattle.std.specs.Prelude.{◌≡◌, true, false, [], ◌∷◌, Some,
 ghost use Rattle.clap.specs.Words.{fault_of};
 ghost use Rattle.clap.specs.declared.error.ErrorKind.TheVariants.{DisplayHelp, DisplayVersion, MissingSubcommand, MissingRequiredArgument, UnknownArgument, WrongNumberOfValues};
 ghost use Rattle.jnode.specs.declared.order.Endian.TheVariants.{Little, Big};
-ghost use Rattle.jcommand.specs.Parsed.{ScanParsed, CheckParsed, ListParsed, CatParsed, BuildParsed, AppendParsed, ImageParsed, ExtractParsed, ListingParsed, parsed_from, endian_of, number_of, owner_of, page_of};
+ghost use Rattle.jcommand.specs.Parsed.{ScanParsed, CheckParsed, ListParsed, CatParsed, BuildParsed, AppendParsed, ImageParsed, ExtractParsed, ListingParsed, parsed_from, endian_of, decimal_number, owner_of, page_of};
 ghost use Rattle.jsteps.specs.declared.page.Page.TheVariants.{P4096, P8192, P16384};
 ghost use Rattle.jcommand.specs.Commands.{program};
 
 /// The values of options.
 pub fn known_values()
-    ensures block { number_of (codes "65536") ≡ Some 65536 }
-    ensures greatest { number_of (codes "4294967295") ≡ Some 4294967295 }
-    ensures past_greatest { number_of (codes "4294967296") ≡ None }
-    ensures signed { number_of (codes "+1") ≡ None }
-    ensures empty { number_of [] ≡ None }
+    ensures block { decimal_number (codes "65536") ≡ Some 65536 }
+    ensures greatest { decimal_number (codes "4294967295") ≡ Some 4294967295 }
+    ensures past_greatest { decimal_number (codes "4294967296") ≡ None }
+    ensures signed { decimal_number (codes "+1") ≡ None }
+    ensures empty { decimal_number [] ≡ None }
     ensures little { endian_of (codes "little") ≡ Some Little }
     ensures big { endian_of (codes "big") ≡ Some Big }
     ensures other { endian_of (codes "middle") ≡ None }

@@ -1,7 +1,7 @@
 //! What the matches of the program's command line ask for.
 ghost use Rattle.std.specs.Prelude.{◌≡◌, IfSome, codes, map, option_map};
 ghost use Rattle.clap.specs.Words.{found_of, rows_of, all_of, first_of};
-ghost use Rattle.jcommand.specs.Parsed.{number_of, endian_of, page_of, number_option, options_in, image_in, is_given, check_in, ls_in, cat_in, writing_in, build_in, append_in, extract_in, listing_in, owner_number, owner_of, if_given, parsed, options_of, task_view, view};
+ghost use Rattle.jcommand.specs.Parsed.{decimal_number, endian_of, page_of, number_option, options_in, image_in, is_given, check_in, ls_in, cat_in, writing_in, build_in, append_in, extract_in, listing_in, owner_number, owner_of, if_given, parsed, options_of, task_view, view};
 
 use clap::ArgMatches;
 use jnode::Endian;
@@ -116,7 +116,7 @@ pub enum Task<'a> {
 
 /// A number below 2^32 in decimal digits.
 pub(crate) fn number(text: &str) -> Option<u32>
-    ensures { result ≡ number_of text.now }
+    ensures { result ≡ decimal_number text.now }
 {
     if text.is_empty() {
         return None;
@@ -327,7 +327,7 @@ fn owner_at(found: &ArgMatches<'_>) -> Option<Option<Owner>>
 
 /// The time, where one is given.
 fn time_at(found: &ArgMatches<'_>) -> Option<Option<u32>>
-    ensures { result ≡ if_given (first_of (codes "time") (rows_of (found_of found.now))) number_of }
+    ensures { result ≡ if_given (first_of (codes "time") (rows_of (found_of found.now))) decimal_number }
 {
     match text_at(found, "time") {
         None => Some(None),

@@ -11,8 +11,8 @@ use Rattle.jmount.specs.declared.object.Kind.TheVariants as kind
 use Rattle.jmount.specs.declared.object.Object.{Object}
 use Rattle.jextract.specs.Folders.{Made, Directory}
 use Rattle.jextract.specs.Laws.{HasNames, HasWay, AreMadeBelow, MakesBelow, directory_at}
-use Rattle.jextract.specs.Outcomes.{Task, Make, Complete, path_of, Outcome, Firsts, FollowsPlan, IsOutcomeOf, AreFirstOutcomes, attributes_of, plan_of, plan_made, firsts_after, todo_after, todo_if, root_made, root_alone, tasks_of, tasks_in}
-use Rattle.jextract.specs.Paths.{host_path, path_text}
+use Rattle.jextract.specs.Outcomes.{Task, Make, Complete, path_of_task, Outcome, FirstPaths, FollowsPlan, IsOutcomeOf, AreFirstOutcomes, attributes_of, plan_of, plan_made, firsts_after, tasks_after, todo_if, root_made, root_alone, tasks_of, tasks_in}
+use Rattle.jextract.specs.Paths.{host_path, relative_path}
 use Rattle.jextract.specs.declared.reason.Reason.{Reason}
 use Rattle.jextract.proofs.InsideLemmas.{host_has, outcome_there, root_has}
 use Rattle.jextract.proofs.WalkLemmas.{directory_is, kind_directory}
@@ -49,11 +49,11 @@ way_name before path last has there way name rest is =
 
 abbrev HaveWays : List Made → List Task → Type 0
 HaveWays before [] = ⊤
-HaveWays before (task ∷ todo) = HasWay before (path_of task) × HaveWays before todo
+HaveWays before (task ∷ todo) = HasWay before (path_of_task task) × HaveWays before todo
 
 ways_more : (before more : List Made) (todo : List Task) → HaveWays before todo → HaveWays (before ++ more) todo
 ways_more before more [] have = tt
-ways_more before more (task ∷ todo) have = (way_more before more (path_of task) have.0, ways_more before more todo have.1)
+ways_more before more (task ∷ todo) have = (way_more before more (path_of_task task) have.0, ways_more before more todo have.1)
 
 ways_append : (before : List Made) (some todo : List Task) → HaveWays before some → HaveWays before todo → HaveWays before (some ++ todo)
 ways_append before [] todo have rest = rest
@@ -78,14 +78,14 @@ no_directory (Some x) gone is = absurd (cc)
 directory_made : (known : Option (List ℕ)) (path : Result (List ℕ) Reason) (names : List (List ℕ)) (bytes : List ℕ) (owners : Bool) (object : Object) (o : Outcome)
     → host_path names ≡ path → FollowsPlan path (plan_of known kind.Directory bytes (attributes_of owners object)) o → o.left_out ≡ None → o.deeds ≡ directory_at names ∷ []
 directory_made None (Ok text) names bytes owners object o is (inl all) left =
-    let same : text ≡ path_text names = (host_has names text is).0 in
+    let same : text ≡ relative_path names = (host_has names text is).0 in
     all.0 ∙ ap (λ (t : List ℕ). let m : Made = record { path = t; deed = Directory } in m ∷ []) same
 directory_made None (Ok text) names bytes owners object o is (inr part) left = let other = part.3 in absurd (cc)
 directory_made None (Err why) names bytes owners object o is follows left = let other = follows.1 in absurd (cc)
 directory_made (Some first) (Ok text) names bytes owners object o is follows left = let other = follows.1 in absurd (cc)
 directory_made (Some first) (Err why) names bytes owners object o is follows left = let other = follows.1 in absurd (cc)
 
-pub directory_alone : (s : State) (owners : Bool) (firsts : Firsts) (path : List (List ℕ)) (i : ℕ) (o : Outcome) → IsOutcomeOf s owners firsts (Make path i) o → o.left_out ≡ None
+pub directory_alone : (s : State) (owners : Bool) (firsts : FirstPaths) (path : List (List ℕ)) (i : ℕ) (o : Outcome) → IsOutcomeOf s owners firsts (Make path i) o → o.left_out ≡ None
     → is_directory s i ≡ true → o.deeds ≡ directory_at path ∷ []
 directory_alone s owners firsts path i o is left dir = by (option_map shown (object s i)) refl is.1
   where
@@ -97,13 +97,13 @@ directory_alone s owners firsts path i o is left dir = by (option_map shown (obj
         (kind_directory x.kind (sym (directory_is (object s i) x e) ∙ dir)) follows)
         left
 
-directory_there : (s : State) (owners : Bool) (firsts : Firsts) (path : List (List ℕ)) (i : ℕ) (o : Outcome) → IsOutcomeOf s owners firsts (Make path i) o → o.left_out ≡ None
+directory_there : (s : State) (owners : Bool) (firsts : FirstPaths) (path : List (List ℕ)) (i : ℕ) (o : Outcome) → IsOutcomeOf s owners firsts (Make path i) o → o.left_out ≡ None
     → is_directory s i ≡ true → Contains o.deeds (directory_at path)
 directory_there s owners firsts path i o is left dir =
     subst (λ (l : List Made). Contains l (directory_at path)) (sym (directory_alone s owners firsts path i o is left dir)) (Contains-here (directory_at path) [])
 
-ways_after : (s : State) (owners : Bool) (firsts : Firsts) (task : Task) (o : Outcome) (todo : List Task) (before : List Made) → IsOutcomeOf s owners firsts task o
-    → HasWay before (path_of task) → HaveWays before todo → HaveWays (before ++ o.deeds) (todo_after s task o todo)
+ways_after : (s : State) (owners : Bool) (firsts : FirstPaths) (task : Task) (o : Outcome) (todo : List Task) (before : List Made) → IsOutcomeOf s owners firsts task o
+    → HasWay before (path_of_task task) → HaveWays before todo → HaveWays (before ++ o.deeds) (tasks_after s task o todo)
 ways_after s owners firsts (Complete path i) o todo before is has have = ways_more before o.deeds todo have
 ways_after s owners firsts (Make path i) o todo before is has have = by o.left_out refl
   where
@@ -136,14 +136,14 @@ below_append before (made ∷ some) more are rest = (
   below_append (before ++ made ∷ []) some more are.1 (subst (λ (l : List Made). AreMadeBelow l more) (sym (append_assoc before (made ∷ []) some)) rest),
 )
 
-below : (s : State) (owners : Bool) (firsts : Firsts) (todo : List Task) (outcomes : List Outcome) (before : List Made) → AreFirstOutcomes s owners firsts todo outcomes
+below : (s : State) (owners : Bool) (firsts : FirstPaths) (todo : List Task) (outcomes : List Outcome) (before : List Made) → AreFirstOutcomes s owners firsts todo outcomes
     → HaveWays before todo → AreMadeBelow before (flat_map (λ o. o.deeds) outcomes)
 below s owners firsts todo [] before are have = tt
 below s owners firsts [] (o ∷ outcomes) before are have = absurd are
 below s owners firsts (task ∷ todo) (o ∷ outcomes) before are have =
     below_append before o.deeds (flat_map (λ (x : Outcome). x.deeds) outcomes)
-    (below_deeds before (path_of task) o.deeds (λ made there. outcome_there s owners firsts task o made are.0 there) have.0)
-    (below s owners (firsts_after firsts task o) (todo_after s task o todo) outcomes (before ++ o.deeds) are.1 (ways_after s owners firsts task o todo before are.0 have.0 have.1))
+    (below_deeds before (path_of_task task) o.deeds (λ made there. outcome_there s owners firsts task o made are.0 there) have.0)
+    (below s owners (firsts_after firsts task o) (tasks_after s task o todo) outcomes (before ++ o.deeds) are.1 (ways_after s owners firsts task o todo before are.0 have.0 have.1))
 
 pub makes_below : MakesBelow
 makes_below s owners outcomes are = (

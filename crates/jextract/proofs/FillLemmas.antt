@@ -13,20 +13,20 @@ use Rattle.flashbase.specs.Device.{PutsPart, next_count}
 use Rattle.flashbase.proofs.DeviceLemmas.{part_behind}
 use Rattle.jmount.specs.Tree.{State, entries_in}
 use Rattle.jextract.specs.Extracts.{AreTreeOutcomes, Extracts, DoesPart}
-use Rattle.jextract.specs.Folders.{Made, Adds}
+use Rattle.jextract.specs.Folders.{Made, ReportsMore}
 use Rattle.jextract.specs.Making.{firsts_of}
-use Rattle.jextract.specs.Outcomes.{Task, Outcome, Firsts, AreOutcomes, AreFirstOutcomes, all_lines, all_made, root_made, failures_after, is_refusal, line_of, root_alone, tasks_in}
-use Rattle.jextract.specs.Walking.{Advances, Sight, Had, Stopped, StopsBy, Steps, Fills, counted, tasks_up, todo_of}
+use Rattle.jextract.specs.Outcomes.{Task, Outcome, FirstPaths, AreOutcomes, AreFirstOutcomes, all_lines, all_made, root_made, failures_after, is_refusal, outcome_line, root_alone, tasks_in}
+use Rattle.jextract.specs.Walking.{Advances, Sight, Had, Stopped, StopsBy, Steps, Fills, counted_up, tasks_up, extraction_todo}
 use Rattle.jextract.specs.declared.extracting.Walk.{Walk}
 use Rattle.jextract.specs.declared.fault.ExtractFault.{ExtractFault}
 use Rattle.jextract.specs.declared.fault.ExtractFault.TheVariants as fault
 use Rattle.jextract.proofs.WalkLemmas.{had_none}
 
-pub Adds-trans : (a b c : Option (List Made)) (xs ys : List Made) → Adds a b xs → Adds b c ys → Adds a c (xs ++ ys)
-Adds-trans None b c xs ys p q = tt
-Adds-trans (Some x) None c xs ys p q = absurd p
-Adds-trans (Some x) (Some y) None xs ys p q = absurd q
-Adds-trans (Some x) (Some y) (Some z) xs ys p q = q ∙ ap (λ l. l ++ ys) p ∙ append_assoc x xs ys
+pub ReportsMore-trans : (a b c : Option (List Made)) (xs ys : List Made) → ReportsMore a b xs → ReportsMore b c ys → ReportsMore a c (xs ++ ys)
+ReportsMore-trans None b c xs ys p q = tt
+ReportsMore-trans (Some x) None c xs ys p q = absurd p
+ReportsMore-trans (Some x) (Some y) None xs ys p q = absurd q
+ReportsMore-trans (Some x) (Some y) (Some z) xs ys p q = q ∙ ap (λ l. l ++ ys) p ∙ append_assoc x xs ys
 
 failures-append : (n : ℕ) (xs ys : List Outcome) → failures_after n (xs ++ ys) ≡ failures_after (failures_after n xs) ys
 failures-append n [] ys = refl
@@ -35,8 +35,8 @@ failures-append n (o ∷ xs) ys = failures-append (if is_refusal o.left_out then
 count-append : (test : Outcome → Bool) (xs ys : List Outcome) → count_by test (xs ++ ys) ≡ count_by test xs + count_by test ys
 count-append test xs ys = grind (arith, common_steps)
 
-counted-more : (n a b : ℕ) → counted (counted n a) b ≡ counted n (a + b)
-counted-more n a b = by (a == 0) (b == 0) (a + b == 0) refl refl refl
+counted_up-more : (n a b : ℕ) → counted_up (counted_up n a) b ≡ counted_up n (a + b)
+counted_up-more n a b = by (a == 0) (b == 0) (a + b == 0) refl refl refl
   where
     limit : ℕ
     limit = 2 ^ 64 - 1
@@ -48,17 +48,17 @@ counted-more n a b = by (a == 0) (b == 0) (a + b == 0) refl refl refl
 pub had_more : (a b c : Sight) (xs ys : List Outcome) → Had a b xs → Had b c ys → Had a c (xs ++ ys)
 had_more a b c xs ys one two =
     let left : Outcome → Bool = λ o. is_some o.left_out in (
-      subst (Adds a.made c.made) (sym (flat_map-append (λ (o : Outcome). o.deeds) xs ys)) (Adds-trans a.made b.made c.made (flat_map (λ o. o.deeds) xs) (flat_map (λ o. o.deeds) ys) one.0 two.0),
+      subst (ReportsMore a.made c.made) (sym (flat_map-append (λ (o : Outcome). o.deeds) xs ys)) (ReportsMore-trans a.made b.made c.made (flat_map (λ o. o.deeds) xs) (flat_map (λ o. o.deeds) ys) one.0 two.0),
       two.1 ∙ ap (λ n. failures_after n ys) one.1 ∙ sym (failures-append a.failures xs ys),
-      subst (Appends a.told c.told) (sym (flat_map-append line_of xs ys)) (Appends-trans a.told b.told c.told (all_lines xs) (all_lines ys) one.2 two.2),
+      subst (Appends a.told c.told) (sym (flat_map-append outcome_line xs ys)) (Appends-trans a.told b.told c.told (all_lines xs) (all_lines ys) one.2 two.2),
       two.3 ∙ one.3,
       two.4
-          ∙ ap (λ n. counted n (count_by left ys)) one.4
-          ∙ counted-more a.left_out (count_by left xs) (count_by left ys)
-          ∙ ap (counted a.left_out) (sym (count-append left xs ys)),
+          ∙ ap (λ n. counted_up n (count_by left ys)) one.4
+          ∙ counted_up-more a.left_out (count_by left xs) (count_by left ys)
+          ∙ ap (counted_up a.left_out) (sym (count-append left xs ys)),
     )
 
-pub advances_more : (s : State) (owners : Bool) (f g h : Firsts) (x y z : List Task) (xs ys : List Outcome) → Advances s owners f x g y xs → Advances s owners g y h z ys
+pub advances_more : (s : State) (owners : Bool) (f g h : FirstPaths) (x y z : List Task) (xs ys : List Outcome) → Advances s owners f x g y xs → Advances s owners g y h z ys
     → Advances s owners f x h z (xs ++ ys)
 advances_more s owners f g h x y z xs ys one two = (
   λ rest are. subst (AreOutcomes s owners f x) (sym (append_assoc xs ys rest)) (one.0 (ys ++ rest) (two.0 rest are)),
@@ -68,50 +68,50 @@ advances_more s owners f g h x y z xs ys one two = (
 -- a walk that has come so far
 abbrev pub Reached : State → Bool → Walk → Sight → Sight → Type 0
 Reached s owners w old now =
-    (outcomes : List Outcome) × Had old now outcomes × Advances s owners root_alone (tasks_in s [] 1) (firsts_of w.firsts) (todo_of s w) outcomes
+    (outcomes : List Outcome) × Had old now outcomes × Advances s owners root_alone (tasks_in s [] 1) (firsts_of w.firsts) (extraction_todo s w) outcomes
 
 pub reaches_on : (s : State) (owners : Bool) (w n : Walk) (old now next : Sight) → Reached s owners w old now → Steps s owners w n now next (Ok true) → Reached s owners n old next
 reaches_on s owners w n old now next far step = (
   far.0 ++ step.0,
   had_more old now next far.0 step.0 far.1 step.1,
-  advances_more s owners root_alone (firsts_of w.firsts) (firsts_of n.firsts) (tasks_in s [] 1) (todo_of s w) (todo_of s n) far.0 step.0 far.2 step.2,
+  advances_more s owners root_alone (firsts_of w.firsts) (firsts_of n.firsts) (tasks_in s [] 1) (extraction_todo s w) (extraction_todo s n) far.0 step.0 far.2 step.2,
 )
 
 pub reaches_end : (s : State) (owners : Bool) (w n : Walk) (old now next : Sight) → Reached s owners w old now → Steps s owners w n now next (Ok false)
     → (outcomes : List Outcome) × AreTreeOutcomes s owners outcomes × Had old next outcomes
 reaches_end s owners w n old now next far step =
     let all = far.0 ++ step.0 in
-    let way = advances_more s owners root_alone (firsts_of w.firsts) (firsts_of n.firsts) (tasks_in s [] 1) (todo_of s w) [] far.0 step.0 far.2 step.2 in
+    let way = advances_more s owners root_alone (firsts_of w.firsts) (firsts_of n.firsts) (tasks_in s [] 1) (extraction_todo s w) [] far.0 step.0 far.2 step.2 in
     (all, subst (AreTreeOutcomes s owners) (append-nil all) (way.0 [] refl), had_more old now next far.0 step.0 far.1 step.1)
 
-stopped_more : (s : State) (owners : Bool) (w : Walk) (old now next : Sight) → Reached s owners w old now → Stopped s owners (firsts_of w.firsts) (todo_of s w) now next
+stopped_more : (s : State) (owners : Bool) (w : Walk) (old now next : Sight) → Reached s owners w old now → Stopped s owners (firsts_of w.firsts) (extraction_todo s w) now next
     → Stopped s owners root_alone (tasks_in s [] 1) old next
 stopped_more s owners w old now next far stop = (
   far.0 ++ stop.0,
   far.2.1 stop.0 stop.1,
-  subst (Adds old.made next.made) (sym (flat_map-append (λ (o : Outcome). o.deeds) far.0 stop.0)) (Adds-trans old.made now.made next.made (flat_map (λ o. o.deeds) far.0) (flat_map (λ o. o.deeds) stop.0) far.1.0 stop.2),
-  subst (PutsPart old.told next.told) (sym (flat_map-append line_of far.0 stop.0)) (part_behind old.told now.told next.told (all_lines far.0) (all_lines stop.0) far.1.2 stop.3),
+  subst (ReportsMore old.made next.made) (sym (flat_map-append (λ (o : Outcome). o.deeds) far.0 stop.0)) (ReportsMore-trans old.made now.made next.made (flat_map (λ o. o.deeds) far.0) (flat_map (λ o. o.deeds) stop.0) far.1.0 stop.2),
+  subst (PutsPart old.told next.told) (sym (flat_map-append outcome_line far.0 stop.0)) (part_behind old.told now.told next.told (all_lines far.0) (all_lines stop.0) far.1.2 stop.3),
 )
 
 pub reaches_fault : (s : State) (owners : Bool) (w : Walk) (old now next : Sight) (f : ExtractFault) → Reached s owners w old now
-    → StopsBy s owners (firsts_of w.firsts) (todo_of s w) now next f → StopsBy s owners root_alone (tasks_in s [] 1) old next f
+    → StopsBy s owners (firsts_of w.firsts) (extraction_todo s w) now next f → StopsBy s owners root_alone (tasks_in s [] 1) old next f
 reaches_fault s owners w old now next fault.Folder far stop = stop
 reaches_fault s owners w old now next fault.Notes far stop = (stopped_more s owners w old now next far stop.0, stop.1 ∙ ap next_count far.1.3)
 reaches_fault s owners w old now next fault.OutOfMemory far stop = (stopped_more s owners w old now next far stop.0, stop.1 ∙ far.1.3)
 
 -- ---- the folder was made, and then the tree in it
 
-part_made : (s : State) (owners : Bool) (a b c : Option (List Made)) (told new_told : Option (List ℕ)) (outcomes : List Outcome) → Adds a b (root_made ∷ [])
-    → AreFirstOutcomes s owners root_alone (tasks_in s [] 1) outcomes → Adds b c (flat_map (λ o. o.deeds) outcomes) → PutsPart told new_told (all_lines outcomes)
+part_made : (s : State) (owners : Bool) (a b c : Option (List Made)) (told new_told : Option (List ℕ)) (outcomes : List Outcome) → ReportsMore a b (root_made ∷ [])
+    → AreFirstOutcomes s owners root_alone (tasks_in s [] 1) outcomes → ReportsMore b c (flat_map (λ o. o.deeds) outcomes) → PutsPart told new_told (all_lines outcomes)
     → DoesPart s owners a c told new_told
 part_made s owners a b c told new_told outcomes first are adds part =
-    (outcomes, are, (length (all_made outcomes), subst (Adds a c) (sym (take_whole (all_made outcomes))) (Adds-trans a b c (root_made ∷ []) (flat_map (λ o. o.deeds) outcomes) first adds)), part)
+    (outcomes, are, (length (all_made outcomes), subst (ReportsMore a c) (sym (take_whole (all_made outcomes))) (ReportsMore-trans a b c (root_made ∷ []) (flat_map (λ o. o.deeds) outcomes) first adds)), part)
   where
     take_whole : (xs : List Made) → take (length xs) xs ≡ xs
     take_whole xs = grind (arith, common_steps)
 
 pub extracts : (s : State) (owners : Bool) (a b c : Option (List Made)) (before mid now : ℕ) (told new_told : Option (List ℕ)) (told_before told_now : ℕ) (r : Result ℕ ExtractFault)
-    → Adds a b (root_made ∷ []) → mid ≡ before
+    → ReportsMore a b (root_made ∷ []) → mid ≡ before
     → Fills s owners (record { made = b; failures = mid; told = told; told_failures = told_before; left_out = 0 })
     (record { made = c; failures = now; told = new_told; told_failures = told_now; left_out = 0 }) r
     → Extracts s owners a c before now told new_told told_before told_now r
@@ -120,14 +120,14 @@ extracts s owners a b c before mid now told new_told told_before told_now (Ok n)
     let had = fills.2 in (
       outcomes,
       fills.1,
-      Adds-trans a b c (root_made ∷ []) (flat_map (λ o. o.deeds) outcomes) first had.0,
+      ReportsMore-trans a b c (root_made ∷ []) (flat_map (λ o. o.deeds) outcomes) first had.0,
       had.1 ∙ ap (λ k. failures_after k outcomes) same,
       had.2,
       had.3,
       had.4 ∙ from_zero (count_by (λ (o : Outcome). is_some o.left_out) outcomes),
     )
   where
-    from_zero : (k : ℕ) → counted 0 k ≡ min k (2 ^ 64 - 1)
+    from_zero : (k : ℕ) → counted_up 0 k ≡ min k (2 ^ 64 - 1)
     from_zero k = grind (arith, common_steps, nat_tests)
 extracts s owners a b c before mid now told new_told told_before told_now (Err fault.Folder) first same fills = absurd fills
 extracts s owners a b c before mid now told new_told told_before told_now (Err fault.Notes) first same fills = (part_made s owners a b c told new_told fills.0.0 first fills.0.1 fills.0.2 fills.0.3, fills.1)
@@ -160,7 +160,7 @@ root_known empty first text none blank updates = λ t j. one j t
 pub reached_first : (s : State) (owners : Bool) (w : Walk) (old : Sight) → w.path.items ≡ [] → w.ino ≡ 1 → w.left ≡ entries_in s 1 → w.above.items ≡ [] → firsts_of w.firsts ≡ root_alone
     → Reached s owners w old old
 reached_first s owners w old path ino left above firsts =
-    let todo : todo_of s w ≡ tasks_in s [] 1 =
+    let todo : extraction_todo s w ≡ tasks_in s [] 1 =
     ap (λ (p : List (Bor (List ℕ))). tasks_up s ((w.ino, w.left) ∷ reverse w.above.items) (map (λ n. n.now) p)) path
     ∙ ap (λ (a : List (ℕ × List (List ℕ × ℕ))). tasks_up s ((w.ino, w.left) ∷ reverse a) []) above
     ∙ ap (λ (i : ℕ). tasks_up s ((i, w.left) ∷ []) []) ino
@@ -168,8 +168,8 @@ reached_first s owners w old path ino left above firsts =
       [],
       had_none old,
       (
-        λ rest are. subst (λ (f : Firsts). AreOutcomes s owners f (tasks_in s [] 1) rest) firsts (subst (λ (t : List Task). AreOutcomes s owners (firsts_of w.firsts) t rest) todo are),
-        λ rest are. subst (λ (f : Firsts). AreFirstOutcomes s owners f (tasks_in s [] 1) rest) firsts (subst (λ (t : List Task). AreFirstOutcomes s owners (firsts_of w.firsts) t rest) todo are),
+        λ rest are. subst (λ (f : FirstPaths). AreOutcomes s owners f (tasks_in s [] 1) rest) firsts (subst (λ (t : List Task). AreOutcomes s owners (firsts_of w.firsts) t rest) todo are),
+        λ rest are. subst (λ (f : FirstPaths). AreFirstOutcomes s owners f (tasks_in s [] 1) rest) firsts (subst (λ (t : List Task). AreFirstOutcomes s owners (firsts_of w.firsts) t rest) todo are),
       ),
     )
 

@@ -14,8 +14,8 @@ use Rattle.jmount.specs.declared.object.Kind.{Kind}
 use Rattle.jmount.specs.declared.object.Kind.TheVariants as kind
 use Rattle.jmount.specs.declared.object.Object.{Object}
 use Rattle.jextract.specs.Folders.{Made, Deed, Directory, File, Content, Symlink, Link, Attributed}
-use Rattle.jextract.specs.Laws.{HasFile, AreLinkedBack, LinksBack, is_linkable}
-use Rattle.jextract.specs.Outcomes.{Task, Make, Complete, path_of, Outcome, Firsts, Plan, Do, LeaveOut, FollowsPlan, IsOutcomeOf, AreFirstOutcomes, plan_of, plan_at, plan_made, plan_completed, attributes_of, is_target, firsts_after, firsts_if, firsts_with, todo_after, root_made, root_alone, tasks_in, made_at}
+use Rattle.jextract.specs.Laws.{HasFile, AreLinkedBack, LinksLeadBack, is_linkable}
+use Rattle.jextract.specs.Outcomes.{Task, Make, Complete, path_of_task, Outcome, FirstPaths, Plan, Do, LeaveOut, FollowsPlan, IsOutcomeOf, AreFirstOutcomes, plan_of, plan_at, plan_made, plan_completed, attributes_of, is_target, firsts_after, firsts_if, firsts_with, tasks_after, root_made, root_alone, tasks_in, made_at}
 use Rattle.jextract.specs.Paths.{host_path}
 use Rattle.jextract.specs.declared.folder.Attributes.{Attributes}
 use Rattle.jextract.specs.declared.reason.Reason.{Reason}
@@ -31,11 +31,11 @@ is_linked kind.Symlink = true
 is_linked _ = false
 
 -- where a file or a symlink is known, it was made
-abbrev Known : State → Firsts → List Made → Type 0
+abbrev Known : State → FirstPaths → List Made → Type 0
 Known s firsts before = (i : ℕ) (first : List ℕ) (x : Object) → firsts i ≡ Some first → option_map shown (object s i) ≡ Some x → is_linked x.kind ≡ true
     → HasFile before first
 
-known_more : (s : State) (firsts : Firsts) (before more : List Made) → Known s firsts before → Known s firsts (before ++ more)
+known_more : (s : State) (firsts : FirstPaths) (before more : List Made) → Known s firsts before → Known s firsts (before ++ more)
 known_more s firsts before more known i first x at there linked =
     let has = known i first x at there linked in (has.0, Contains-append_left before more has.0 has.1, has.2, has.3)
 
@@ -62,7 +62,7 @@ plan_links None kind.Regular bytes attributes first there =
 plan_links None kind.Symlink bytes attributes first there = absurd (symlink_links bytes attributes first (is_target bytes) there)
 plan_links known kind bytes attributes first there = absurd (Contains-none (Link first) there)
 
-made_links : (s : State) (owners : Bool) (firsts : Firsts) (i : ℕ) (x : Option Object) (before : List Made) (first : List ℕ)
+made_links : (s : State) (owners : Bool) (firsts : FirstPaths) (i : ℕ) (x : Option Object) (before : List Made) (first : List ℕ)
     → option_map shown (object s i) ≡ x → Known s firsts before → Contains (deeds_of (plan_made s owners firsts i x)) (Link first) → HasFile before first
 made_links s owners firsts i None before first at known there = absurd (Contains-none (Link first) there)
 made_links s owners firsts i (Some x) before first at known there =
@@ -73,7 +73,7 @@ completed_links owners None first there = Contains-none (Link first) there
 completed_links owners (Some x) first there =
     let no : Attributed (attributes_of owners x) ≡ Link first = only (Attributed (attributes_of owners x)) (Link first) there in absurd (cc)
 
-task_links : (s : State) (owners : Bool) (firsts : Firsts) (task : Task) (before : List Made) (first : List ℕ) → Known s firsts before
+task_links : (s : State) (owners : Bool) (firsts : FirstPaths) (task : Task) (before : List Made) (first : List ℕ) → Known s firsts before
     → Contains (deeds_of (plan_at s owners firsts task)) (Link first) → HasFile before first
 task_links s owners firsts (Make way i) before first known there = made_links s owners firsts i (option_map shown (object s i)) before first refl known there
 task_links s owners firsts (Complete way i) before first known there = absurd (completed_links owners (option_map shown (object s i)) first there)
@@ -88,13 +88,13 @@ begun_there path plan all made (inr some) there =
     (subst (λ (l : List Deed). Contains l from.0) (take-append-drop some.1 (deeds_of plan))
     (Contains-append_left (take some.1 (deeds_of plan)) (drop some.1 (deeds_of plan)) from.0 from.1))
 
-outcome_links : (s : State) (owners : Bool) (firsts : Firsts) (task : Task) (o : Outcome) (before : List Made) → Known s firsts before → IsOutcomeOf s owners firsts task o
+outcome_links : (s : State) (owners : Bool) (firsts : FirstPaths) (task : Task) (o : Outcome) (before : List Made) → Known s firsts before → IsOutcomeOf s owners firsts task o
     → (made : Made) → Contains o.deeds made → (first : List ℕ) → made.deed ≡ Link first → HasFile before first
 outcome_links s owners firsts task o before known is made there first link =
     task_links s owners firsts task before first known
     (subst (λ (d : Deed). Contains (deeds_of (plan_at s owners firsts task)) d) link
-    (begun_there (host_path (path_of task)) (plan_at s owners firsts task) o.deeds made
-    (begun (host_path (path_of task)) (plan_at s owners firsts task) o is.1) there))
+    (begun_there (host_path (path_of_task task)) (plan_at s owners firsts task) o.deeds made
+    (begun (host_path (path_of_task task)) (plan_at s owners firsts task) o is.1) there))
 
 -- ---- what is known after a task
 
@@ -118,7 +118,7 @@ file_made text kind.Symlink bytes attributes o linked follows left = symlink_mad
 file_made text kind bytes attributes o linked follows left = absurd (false≢true linked)
 
 -- the object of a task that was done, where it was not made before
-new_file : (s : State) (owners : Bool) (firsts : Firsts) (way : List (List ℕ)) (i : ℕ) (o : Outcome) (text : List ℕ) (x : Object)
+new_file : (s : State) (owners : Bool) (firsts : FirstPaths) (way : List (List ℕ)) (i : ℕ) (o : Outcome) (text : List ℕ) (x : Object)
     → IsOutcomeOf s owners firsts (Make way i) o → o.left_out ≡ None → host_path way ≡ Ok text → firsts i ≡ None
     → option_map shown (object s i) ≡ Some x → is_linked x.kind ≡ true → HasFile o.deeds text
 new_file s owners firsts way i o text x is left path new there linked =
@@ -128,7 +128,7 @@ new_file s owners firsts way i o text x is left path new there linked =
     (subst (λ (p : Result (List ℕ) Reason). FollowsPlan p (plan_made s owners firsts i (option_map shown (object s i))) o) path is.1)))
     left
 
-known_after : (s : State) (owners : Bool) (firsts : Firsts) (task : Task) (o : Outcome) (before : List Made) → Known s firsts before → IsOutcomeOf s owners firsts task o
+known_after : (s : State) (owners : Bool) (firsts : FirstPaths) (task : Task) (o : Outcome) (before : List Made) → Known s firsts before → IsOutcomeOf s owners firsts task o
     → Known s (firsts_after firsts task o) (before ++ o.deeds)
 known_after s owners firsts (Complete way i) o before known is = known_more s firsts before o.deeds known
 known_after s owners firsts (Make way i) o before known is = by o.left_out refl
@@ -170,14 +170,14 @@ linked_append before (made ∷ some) more are rest = (
   linked_append (before ++ made ∷ []) some more are.1 (subst (λ (l : List Made). AreLinkedBack l more) (sym (append_assoc before (made ∷ []) some)) rest),
 )
 
-linked : (s : State) (owners : Bool) (firsts : Firsts) (todo : List Task) (outcomes : List Outcome) (before : List Made) → AreFirstOutcomes s owners firsts todo outcomes
+linked : (s : State) (owners : Bool) (firsts : FirstPaths) (todo : List Task) (outcomes : List Outcome) (before : List Made) → AreFirstOutcomes s owners firsts todo outcomes
     → Known s firsts before → AreLinkedBack before (flat_map (λ o. o.deeds) outcomes)
 linked s owners firsts todo [] before are known = tt
 linked s owners firsts [] (o ∷ outcomes) before are known = absurd are
 linked s owners firsts (task ∷ todo) (o ∷ outcomes) before are known =
     linked_append before o.deeds (flat_map (λ (x : Outcome). x.deeds) outcomes)
     (linked_deeds before o.deeds (outcome_links s owners firsts task o before known are.0))
-    (linked s owners (firsts_after firsts task o) (todo_after s task o todo) outcomes (before ++ o.deeds) are.1 (known_after s owners firsts task o before known are.0))
+    (linked s owners (firsts_after firsts task o) (tasks_after s task o todo) outcomes (before ++ o.deeds) are.1 (known_after s owners firsts task o before known are.0))
 
 root_known : (s : State) (before : List Made) → is_directory s 1 ≡ true → Known s root_alone before
 root_known s before root i first x at there linked = by (1 == i) refl at
@@ -190,7 +190,7 @@ root_known s before root i first x at there linked = by (1 == i) refl at
         absurd (false≢true (sym no ∙ linked))
     by false is e = absurd (cc)
 
-pub links_back : LinksBack
+pub links_back : LinksLeadBack
 links_back s owners outcomes root are = (
   λ first link. absurd (cc),
   linked s owners root_alone (tasks_in s [] 1) outcomes (root_made ∷ []) are (root_known s (root_made ∷ []) root),

@@ -18,10 +18,10 @@ use Rattle.jmount.specs.Shown.{readable, shown}
 use Rattle.jmount.specs.declared.object.Object.{Object}
 use Rattle.jmount.specs.declared.object.Kind.{Kind}
 use Rattle.jmount.specs.declared.object.Kind.TheVariants as k
-use Rattle.jextract.specs.Folders.{Made, Deed, Link, Symlink, Adds, Counts}
+use Rattle.jextract.specs.Folders.{Made, Deed, Link, Symlink, ReportsMore, Counts}
 use Rattle.jextract.specs.Making.{Does, Follows, IsPathOf, FirstsAfter, Works, fault_of, firsts_of}
-use Rattle.jextract.specs.Outcomes.{Plan, Do, LeaveOut, Task, Make, path_of, Outcome, Firsts, FollowsPlan, firsts_if, firsts_with, made_at, is_refusal, is_target, plan_again, plan_anew, plan_at, plan_made, plan_of, plan_symlink, attributes_of}
-use Rattle.jextract.specs.Paths.{greatest_path, host_path, path_text, text_if}
+use Rattle.jextract.specs.Outcomes.{Plan, Do, LeaveOut, Task, Make, path_of_task, Outcome, FirstPaths, FollowsPlan, firsts_if, firsts_with, made_at, is_refusal, is_target, plan_again, plan_anew, plan_at, plan_made, plan_of, plan_symlink, attributes_of}
+use Rattle.jextract.specs.Paths.{greatest_path, host_path, relative_path, text_if}
 use Rattle.jextract.specs.declared.folder.Attributes.{Attributes}
 use Rattle.jextract.specs.declared.folder.FolderFault.{FolderFault}
 use Rattle.jextract.specs.declared.folder.FolderFault.TheVariants.{Refused, OutOfMemory}
@@ -41,7 +41,7 @@ does_fail S {T} old new before now path plan deeds OutOfMemory (Err f) is does e
 
 -- the one deed of a plan was not done
 pub one_fails : (S : Type 0) {T : Type 0} (old new : Option (List Made)) (before now : ℕ) (path : List ℕ) (plan : Plan) (deed : Deed) (e : FolderFault) (r : Result T MakeFault)
-    → plan ≡ Do (deed ∷ []) → Adds old new [] → Counts {T = S} before now (Err e) → IsErrAnd r (λ x. x ≡ fault_of e) → Follows old new before now path plan r
+    → plan ≡ Do (deed ∷ []) → ReportsMore old new [] → Counts {T = S} before now (Err e) → IsErrAnd r (λ x. x ≡ fault_of e) → Follows old new before now path plan r
 one_fails S old new before now path plan deed Refused r is adds counts err =
     does_fail S old new before now path plan (deed ∷ []) Refused r is ((0, omega arith, adds), counts) err
 one_fails S old new before now path plan deed OutOfMemory r is adds counts err =
@@ -70,9 +70,9 @@ again_links kind first (inr is) = ap (λ (x : Kind). plan_again x first) is
 
 -- ---- a task, from its plan
 
-pub Adds-nil : (made : Option (List Made)) → Adds made made []
-Adds-nil None = tt
-Adds-nil (Some made) = sym (append-nil made)
+pub ReportsMore-nil : (made : Option (List Made)) → ReportsMore made made []
+ReportsMore-nil None = tt
+ReportsMore-nil (Some made) = sym (append-nil made)
 
 -- the plan of a task whose path the host may have
 follows_plan : (path : Result (List ℕ) Reason) (text : List ℕ) (plan planned : Plan) (o : Outcome) → path ≡ Ok text → plan ≡ planned
@@ -80,26 +80,26 @@ follows_plan : (path : Result (List ℕ) Reason) (text : List ℕ) (plan planned
 follows_plan path text plan planned o at is follows =
     subst (λ (p : Result (List ℕ) Reason). FollowsPlan p plan o) (sym at) (subst (λ (q : Plan). FollowsPlan (Ok text) q o) (sym is) follows)
 
-pub works_as_planned : {T : Type 0} (s : State) (owners : Bool) (firsts : Firsts) (task : Task) (text : List ℕ) (old new : Option (List Made)) (before now : ℕ) (r : Result T MakeFault)
-    → host_path (path_of task) ≡ Ok text → Follows old new before now text (plan_at s owners firsts task) r → Works s owners firsts task old new before now r
+pub works_as_planned : {T : Type 0} (s : State) (owners : Bool) (firsts : FirstPaths) (task : Task) (text : List ℕ) (old new : Option (List Made)) (before now : ℕ) (r : Result T MakeFault)
+    → host_path (path_of_task task) ≡ Ok text → Follows old new before now text (plan_at s owners firsts task) r → Works s owners firsts task old new before now r
 works_as_planned s owners firsts task text old new before now (Ok x) at follows =
-    let o : Outcome = record { path = path_of task; deeds = made_at text follows.0; left_out = None } in
-    (o, (refl, follows_plan (host_path (path_of task)) text (plan_at s owners firsts task) (Do follows.0) o at follows.1 (inl (refl, refl))), refl, follows.2, follows.3)
+    let o : Outcome = record { path = path_of_task task; deeds = made_at text follows.0; left_out = None } in
+    (o, (refl, follows_plan (host_path (path_of_task task)) text (plan_at s owners firsts task) (Do follows.0) o at follows.1 (inl (refl, refl))), refl, follows.2, follows.3)
 works_as_planned s owners firsts task text old new before now (Err (make.LeftOut why)) at (inl left) =
-    let o : Outcome = record { path = path_of task; deeds = []; left_out = Some why } in (
+    let o : Outcome = record { path = path_of_task task; deeds = []; left_out = Some why } in (
       o,
-      (refl, follows_plan (host_path (path_of task)) text (plan_at s owners firsts task) (LeaveOut why) o at left.0 (refl, refl)),
+      (refl, follows_plan (host_path (path_of_task task)) text (plan_at s owners firsts task) (LeaveOut why) o at left.0 (refl, refl)),
       refl,
       left.1,
       left.2 ∙ ap (λ (b : Bool). if b then next_count before else before) (sym left.3),
     )
 works_as_planned s owners firsts task text old new before now (Err (make.LeftOut why)) at (inr refused) =
     let some = refused.2 in
-    let o : Outcome = record { path = path_of task; deeds = take some.0 (made_at text refused.0); left_out = Some why } in (
+    let o : Outcome = record { path = path_of_task task; deeds = take some.0 (made_at text refused.0); left_out = Some why } in (
       o,
       (
         refl,
-        follows_plan (host_path (path_of task)) text (plan_at s owners firsts task) (Do refused.0) o at refused.1 (inr (some.0, some.1, refl, ap Some refused.4)),
+        follows_plan (host_path (path_of_task task)) text (plan_at s owners firsts task) (Do refused.0) o at refused.1 (inr (some.0, some.1, refl, ap Some refused.4)),
       ),
       refl,
       some.2,
@@ -107,16 +107,16 @@ works_as_planned s owners firsts task text old new before now (Err (make.LeftOut
     )
 works_as_planned s owners firsts task text old new before now (Err make.OutOfMemory) at follows =
     let some = follows.2 in
-    let o : Outcome = record { path = path_of task; deeds = take some.0 (made_at text follows.0); left_out = Some reason.Refused } in
+    let o : Outcome = record { path = path_of_task task; deeds = take some.0 (made_at text follows.0); left_out = Some reason.Refused } in
     inr (
       o,
-      (refl, follows_plan (host_path (path_of task)) text (plan_at s owners firsts task) (Do follows.0) o at follows.1 (inr (some.0, some.1, refl, refl))),
+      (refl, follows_plan (host_path (path_of_task task)) text (plan_at s owners firsts task) (Do follows.0) o at follows.1 (inr (some.0, some.1, refl, refl))),
       some.2,
     )
 
 -- all of a plan was done, and then memory ran out
-pub works_then_fails : {T : Type 0} (s : State) (owners : Bool) (firsts : Firsts) (task : Task) (text : List ℕ) (old new : Option (List Made)) (before now : ℕ) (r : Result T MakeFault) (S : Type 0) (x : S)
-    → host_path (path_of task) ≡ Ok text → Follows old new before now text (plan_at s owners firsts task) (Ok x) → IsErrAnd r (λ e. e ≡ make.OutOfMemory)
+pub works_then_fails : {T : Type 0} (s : State) (owners : Bool) (firsts : FirstPaths) (task : Task) (text : List ℕ) (old new : Option (List Made)) (before now : ℕ) (r : Result T MakeFault) (S : Type 0) (x : S)
+    → host_path (path_of_task task) ≡ Ok text → Follows old new before now text (plan_at s owners firsts task) (Ok x) → IsErrAnd r (λ e. e ≡ make.OutOfMemory)
     → Works s owners firsts task old new before now r
 works_then_fails s owners firsts task text old new before now (Ok y) S x at follows err = absurd err
 works_then_fails {T} s owners firsts task text old new before now (Err e) S x at follows err =
@@ -128,32 +128,32 @@ pub no_path_is_no_refusal : (path : List (List ℕ)) (why : Reason) → host_pat
 unfolding host_path
 no_path_is_no_refusal path why is = names (list_all is_name path) is
   where
-    text : (long utf8 : Bool) → (if long then Err reason.LongPath else if utf8 then Ok (path_text path) else Err reason.NoText) ≡ Err why → is_refusal (Some why) ≡ false
+    text : (long utf8 : Bool) → (if long then Err reason.LongPath else if utf8 then Ok (relative_path path) else Err reason.NoText) ≡ Err why → is_refusal (Some why) ≡ false
     text true utf8 is = let e : reason.LongPath ≡ why = cc in ap (λ (x : Reason). is_refusal (Some x)) (sym e)
     text false true is = absurd (cc)
     text false false is = let e : reason.NoText ≡ why = cc in ap (λ (x : Reason). is_refusal (Some x)) (sym e)
 
-    names : (all : Bool) → (if all then text_if (path_text path) else Err reason.BadName) ≡ Err why → is_refusal (Some why) ≡ false
-    names true is = text (nat_lt greatest_path (length (path_text path))) (is_utf8 (path_text path)) is
+    names : (all : Bool) → (if all then text_if (relative_path path) else Err reason.BadName) ≡ Err why → is_refusal (Some why) ≡ false
+    names true is = text (nat_lt greatest_path (length (relative_path path))) (is_utf8 (relative_path path)) is
     names false is = let e : reason.BadName ≡ why = cc in ap (λ (x : Reason). is_refusal (Some x)) (sym e)
 
 -- there is no path, or no memory for it
-pub works_without_path : {T : Type 0} (s : State) (owners : Bool) (firsts : Firsts) (task : Task) (made : Option (List Made)) (before : ℕ) (fault : MakeFault) (r : Result T MakeFault)
-    → IsPathOf (host_path (path_of task)) (Err fault) → IsErrAnd r (λ e. e ≡ fault) → Works s owners firsts task made made before before r
+pub works_without_path : {T : Type 0} (s : State) (owners : Bool) (firsts : FirstPaths) (task : Task) (made : Option (List Made)) (before : ℕ) (fault : MakeFault) (r : Result T MakeFault)
+    → IsPathOf (host_path (path_of_task task)) (Err fault) → IsErrAnd r (λ e. e ≡ fault) → Works s owners firsts task made made before before r
 works_without_path s owners firsts task made before fault (Ok x) gone err = absurd err
 works_without_path {T} s owners firsts task made before (make.LeftOut why) (Err e) gone err =
-    let o : Outcome = record { path = path_of task; deeds = []; left_out = Some why } in
+    let o : Outcome = record { path = path_of_task task; deeds = []; left_out = Some why } in
     subst (λ (f : MakeFault). Works {T = T} s owners firsts task made made before before (Err f)) (sym err) (
       o,
       (refl, subst (λ (p : Result (List ℕ) Reason). FollowsPlan p (plan_at s owners firsts task) o) (sym gone) (refl, refl)),
       refl,
-      Adds-nil made,
-      ap (λ (b : Bool). if b then next_count before else before) (sym (no_path_is_no_refusal (path_of task) why gone)),
+      ReportsMore-nil made,
+      ap (λ (b : Bool). if b then next_count before else before) (sym (no_path_is_no_refusal (path_of_task task) why gone)),
     )
 works_without_path {T} s owners firsts task made before make.OutOfMemory (Err e) gone err =
-    subst (λ (f : MakeFault). Works {T = T} s owners firsts task made made before before (Err f)) (sym err) (inl (Adds-nil made))
+    subst (λ (f : MakeFault). Works {T = T} s owners firsts task made made before before (Err f)) (sym err) (inl (ReportsMore-nil made))
 
-pub works_at_fault : {T : Type 0} (s : State) (owners : Bool) (firsts : Firsts) (task : Task) (old new : Option (List Made)) (before now : ℕ) (S : Type 0) (fault : MakeFault) (r : Result T MakeFault)
+pub works_at_fault : {T : Type 0} (s : State) (owners : Bool) (firsts : FirstPaths) (task : Task) (old new : Option (List Made)) (before now : ℕ) (S : Type 0) (fault : MakeFault) (r : Result T MakeFault)
     → IsErrAnd r (λ e. e ≡ fault) → Works {T = S} s owners firsts task old new before now (Err fault) → Works s owners firsts task old new before now r
 works_at_fault s owners firsts task old new before now S fault (Ok x) err works = absurd err
 works_at_fault {T} s owners firsts task old new before now S fault (Err e) err works =
@@ -163,12 +163,12 @@ works_at_fault {T} s owners firsts task old new before now S fault (Err e) err w
     same (make.LeftOut why) works = works
     same make.OutOfMemory works = works
 
-pub planned_again : (s : State) (owners : Bool) (firsts : Firsts) (path : List (List ℕ)) (i : ℕ) (o : Object) (first : List ℕ) → option_map shown (object s i) ≡ Some o
+pub planned_again : (s : State) (owners : Bool) (firsts : FirstPaths) (path : List (List ℕ)) (i : ℕ) (o : Object) (first : List ℕ) → option_map shown (object s i) ≡ Some o
     → firsts i ≡ Some first → plan_at s owners firsts (Make path i) ≡ plan_again o.kind first
 planned_again s owners firsts path i o first there known =
     ap (plan_made s owners firsts i) there ∙ ap (λ (f : Option (List ℕ)). plan_of f o.kind (readable s i) (attributes_of owners o)) known
 
-pub planned_anew : (s : State) (owners : Bool) (firsts : Firsts) (path : List (List ℕ)) (i : ℕ) (o : Object) → option_map shown (object s i) ≡ Some o
+pub planned_anew : (s : State) (owners : Bool) (firsts : FirstPaths) (path : List (List ℕ)) (i : ℕ) (o : Object) → option_map shown (object s i) ≡ Some o
     → firsts i ≡ None → plan_at s owners firsts (Make path i) ≡ plan_anew o.kind (readable s i) (attributes_of owners o)
 planned_anew s owners firsts path i o there known =
     ap (plan_made s owners firsts i) there ∙ ap (λ (f : Option (List ℕ)). plan_of f o.kind (readable s i) (attributes_of owners o)) known
@@ -183,7 +183,7 @@ pub first_unknown : (firsts : BTreeMap ℕ (String Global)) (i : ℕ) (found : O
     → found ≡ None → firsts_of firsts i ≡ None
 first_unknown firsts i found is none = ap (option_map string_bytes) (sym is ∙ ap option_copied none)
 
-pub link_keeps_firsts : (firsts : Firsts) (path : List (List ℕ)) (text first : List ℕ) (i : ℕ) → host_path path ≡ Ok text → firsts i ≡ Some first → firsts ≡ firsts_if firsts path i None
+pub link_keeps_firsts : (firsts : FirstPaths) (path : List (List ℕ)) (text first : List ℕ) (i : ℕ) → host_path path ≡ Ok text → firsts i ≡ Some first → firsts ≡ firsts_if firsts path i None
 link_keeps_firsts firsts path text first i at there =
     sym (ap (λ (p : Result (List ℕ) Reason). firsts_with firsts p i) at ∙ (λ t j. one j (i == j) refl t))
   where
@@ -202,7 +202,7 @@ link_keeps_firsts firsts path text first i at there =
     one j true is = ap (λ (b : Bool). option_or (firsts j) (if b then Some text else None)) is ∙ known (firsts j) (flip j is)
     one j false is = ap (λ (b : Bool). option_or (firsts j) (if b then Some text else None)) is ∙ other (firsts j)
 
-pub firsts_kept : {T : Type 0} (firsts : Firsts) (path : List (List ℕ)) (text first : List ℕ) (i : ℕ) (r : Result T MakeFault) → host_path path ≡ Ok text → firsts i ≡ Some first
+pub firsts_kept : {T : Type 0} (firsts : FirstPaths) (path : List (List ℕ)) (text first : List ℕ) (i : ℕ) (r : Result T MakeFault) → host_path path ≡ Ok text → firsts i ≡ Some first
     → FirstsAfter firsts firsts path i r
 firsts_kept firsts path text first i (Ok x) at there = link_keeps_firsts firsts path text first i at there
 firsts_kept firsts path text first i (Err e) at there = refl

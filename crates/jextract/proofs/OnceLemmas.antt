@@ -25,8 +25,8 @@ use Rattle.jmount.proofs.PathNameLemmas.{path_names_exactly}
 use Rattle.jextract.specs.Extracts.{AreFirstTreeOutcomes}
 use Rattle.jextract.specs.Folders.{Made, Deed, Directory, File, Content, Symlink, Link, Attributed}
 use Rattle.jextract.specs.Laws.{HasNames, HasWay, AreMadeBelow, MakesOnce, MakesThroughDirectories, deeds_at, directory_at, is_one, is_of_directory}
-use Rattle.jextract.specs.Outcomes.{Task, Make, Complete, path_of, Outcome, Firsts, Plan, Do, LeaveOut, FollowsPlan, IsOutcomeOf, AreFirstOutcomes, plan_of, plan_at, plan_made, plan_completed, attributes_of, is_target, firsts_after, todo_after, todo_if, made_at, all_made, root_made, root_alone, tasks_of, tasks_in}
-use Rattle.jextract.specs.Paths.{host_path, path_text}
+use Rattle.jextract.specs.Outcomes.{Task, Make, Complete, path_of_task, Outcome, FirstPaths, Plan, Do, LeaveOut, FollowsPlan, IsOutcomeOf, AreFirstOutcomes, plan_of, plan_at, plan_made, plan_completed, attributes_of, is_target, firsts_after, tasks_after, todo_if, made_at, all_made, root_made, root_alone, tasks_of, tasks_in}
+use Rattle.jextract.specs.Paths.{host_path, relative_path}
 use Rattle.jextract.specs.declared.folder.Attributes.{Attributes}
 use Rattle.jextract.specs.declared.reason.Reason.{Reason}
 use Rattle.jextract.specs.declared.reason.Reason.TheVariants as reason
@@ -36,14 +36,14 @@ use Rattle.jmount.proofs.DirectoryNameLemmas.{Others, names_among, others}
 
 -- ---- the text of names
 
-slash_before : (names : List (List ℕ)) → find.path_text names ≡ 47 ∷ path_text names
+slash_before : (names : List (List ℕ)) → find.path_text names ≡ 47 ∷ relative_path names
 slash_before [] = refl
 slash_before (name ∷ names) = refl
 
-names_found : (names : List (List ℕ)) → list_all is_name names ≡ true → find.path_names (47 ∷ path_text names) ≡ Some names
-names_found names are = (path_names_exactly (47 ∷ path_text names) names).1 (sym (slash_before names), AllPass-from_list_all is_name names are)
+names_found : (names : List (List ℕ)) → list_all is_name names ≡ true → find.path_names (47 ∷ relative_path names) ≡ Some names
+names_found names are = (path_names_exactly (47 ∷ relative_path names) names).1 (sym (slash_before names), AllPass-from_list_all is_name names are)
 
-same_names : (a b : List (List ℕ)) → list_all is_name a ≡ true → list_all is_name b ≡ true → path_text a ≡ path_text b → a ≡ b
+same_names : (a b : List (List ℕ)) → list_all is_name a ≡ true → list_all is_name b ≡ true → relative_path a ≡ relative_path b → a ≡ b
 same_names a b are is same =
     same_Some a b (sym (names_found a are) ∙ ap (λ (text : List ℕ). find.path_names (47 ∷ text)) same ∙ names_found b is)
 
@@ -271,23 +271,23 @@ done_here at path plan made (inl none) same = (0, ap (deeds_at at) none)
 done_here at path plan made (inr some) same = (some.1, ap (deeds_at at) some.3 ∙ deeds_here at some.0 (take some.1 (deeds_of plan)) (same some.0 some.2))
 
 -- a task that is not for this path does nothing there
-away : (s : State) (owners : Bool) (firsts : Firsts) (task : Task) (o : Outcome) (path : List (List ℕ)) → list_all is_name path ≡ true
-    → IsOutcomeOf s owners firsts task o → (rest_of (path_of task) path ≡ Some [] → ⊥) → deeds_at (path_text path) o.deeds ≡ []
+away : (s : State) (owners : Bool) (firsts : FirstPaths) (task : Task) (o : Outcome) (path : List (List ℕ)) → list_all is_name path ≡ true
+    → IsOutcomeOf s owners firsts task o → (rest_of (path_of_task task) path ≡ Some [] → ⊥) → deeds_at (relative_path path) o.deeds ≡ []
 away s owners firsts task o path are is other =
-    done_away (path_text path) (host_path (path_of task)) (plan_at s owners firsts task) o.deeds
-    (begun (host_path (path_of task)) (plan_at s owners firsts task) o is.1)
+    done_away (relative_path path) (host_path (path_of_task task)) (plan_at s owners firsts task) o.deeds
+    (begun (host_path (path_of_task task)) (plan_at s owners firsts task) o is.1)
     (λ text known same.
-    let has = host_has (path_of task) text known in
-    let one : path_of task ≡ path = same_names (path_of task) path has.1 are (sym has.0 ∙ same) in
-    other (subst (λ (p : List (List ℕ)). rest_of (path_of task) p ≡ Some []) one (rest_itself (path_of task))))
+    let has = host_has (path_of_task task) text known in
+    let one : path_of_task task ≡ path = same_names (path_of_task task) path has.1 are (sym has.0 ∙ same) in
+    other (subst (λ (p : List (List ℕ)). rest_of (path_of_task task) p ≡ Some []) one (rest_itself (path_of_task task))))
 
 -- one that is for it does a beginning of what its plan says
-here : (s : State) (owners : Bool) (firsts : Firsts) (task : Task) (o : Outcome) (path : List (List ℕ)) → IsOutcomeOf s owners firsts task o
-    → rest_of (path_of task) path ≡ Some [] → (k : ℕ) × (deeds_at (path_text path) o.deeds ≡ take k (deeds_of (plan_at s owners firsts task)))
+here : (s : State) (owners : Bool) (firsts : FirstPaths) (task : Task) (o : Outcome) (path : List (List ℕ)) → IsOutcomeOf s owners firsts task o
+    → rest_of (path_of_task task) path ≡ Some [] → (k : ℕ) × (deeds_at (relative_path path) o.deeds ≡ take k (deeds_of (plan_at s owners firsts task)))
 here s owners firsts task o path is same =
-    done_here (path_text path) (host_path (path_of task)) (plan_at s owners firsts task) o.deeds
-    (begun (host_path (path_of task)) (plan_at s owners firsts task) o is.1)
-    (λ text known. (host_has (path_of task) text known).0 ∙ ap path_text (whole_is (path_of task) path same))
+    done_here (relative_path path) (host_path (path_of_task task)) (plan_at s owners firsts task) o.deeds
+    (begun (host_path (path_of_task task)) (plan_at s owners firsts task) o is.1)
+    (λ text known. (host_has (path_of_task task) text known).0 ∙ ap relative_path (whole_is (path_of_task task) path same))
 
 -- ---- a plan makes one object
 
@@ -320,7 +320,7 @@ plan_one (Some first) kind.Regular bytes attributes k = one_of (Link first) refl
 plan_one (Some first) kind.Symlink bytes attributes k = one_of (Link first) refl k
 plan_one known kind bytes attributes k = none_of_plan k
 
-made_one : (s : State) (owners : Bool) (firsts : Firsts) (i : ℕ) (o : Option Object) (k : ℕ) → is_one (take k (deeds_of (plan_made s owners firsts i o))) ≡ true
+made_one : (s : State) (owners : Bool) (firsts : FirstPaths) (i : ℕ) (o : Option Object) (k : ℕ) → is_one (take k (deeds_of (plan_made s owners firsts i o))) ≡ true
 made_one s owners firsts i None k = none_of_plan k
 made_one s owners firsts i (Some o) k = plan_one (firsts i) o.kind (readable s i) (attributes_of owners o) k
 
@@ -362,53 +362,53 @@ stands_entered s path way i todo names last rest deeds a b c stands =
     ∙ ap (λ (l : List Task). names ++ (l ++ filter (leads path) todo)) b ∙ ap (λ (l : List Task). names ++ (last ++ l)) c)) stands
 
 Goes : State → List (List ℕ) → Task → Outcome → List Task → List Deed → List Deed → Type 0
-Goes s path task o todo before more = Stands before (filter (leads path) (task ∷ todo)) → Stands (before ++ more) (filter (leads path) (todo_after s task o todo))
+Goes s path task o todo before more = Stands before (filter (leads path) (task ∷ todo)) → Stands (before ++ more) (filter (leads path) (tasks_after s task o todo))
 
 no_more : (before more : List Deed) (todo : List Task) → more ≡ [] → Stands before todo → Stands (before ++ more) todo
 no_more before more todo none stands = subst (λ (l : List Deed). Stands l todo) (sym (append-nil before) ∙ ap (λ l. before ++ l) (sym none)) stands
 
-after_complete : (s : State) (owners : Bool) (firsts : Firsts) (way : List (List ℕ)) (i : ℕ) (o : Outcome) (todo : List Task) (path : List (List ℕ))
+after_complete : (s : State) (owners : Bool) (firsts : FirstPaths) (way : List (List ℕ)) (i : ℕ) (o : Outcome) (todo : List Task) (path : List (List ℕ))
     (before : List Deed) → list_all is_name path ≡ true → IsOutcomeOf s owners firsts (Complete way i) o
-    → Goes s path (Complete way i) o todo before (deeds_at (path_text path) o.deeds)
+    → Goes s path (Complete way i) o todo before (deeds_at (relative_path path) o.deeds)
 unfolding Goes
 after_complete s owners firsts way i o todo path before are is = by (rest_of way path) refl
   where
     by : (r : Option (List (List ℕ))) → rest_of way path ≡ r → Stands before (cond (is_end r) (Complete way i ∷ filter (leads path) todo) (filter (leads path) todo))
-        → Stands (before ++ deeds_at (path_text path) o.deeds) (filter (leads path) todo)
+        → Stands (before ++ deeds_at (relative_path path) o.deeds) (filter (leads path) todo)
     by None r stands =
-        no_more before (deeds_at (path_text path) o.deeds) (filter (leads path) todo)
+        no_more before (deeds_at (relative_path path) o.deeds) (filter (leads path) todo)
         (away s owners firsts (Complete way i) o path are is (not_there way path r)) stands
     by (Some (m ∷ rest)) r stands =
-        no_more before (deeds_at (path_text path) o.deeds) (filter (leads path) todo)
+        no_more before (deeds_at (relative_path path) o.deeds) (filter (leads path) todo)
         (away s owners firsts (Complete way i) o path are is (not_whole way path m rest r)) stands
     by (Some []) r stands =
         let last = complete_last before way i (filter (leads path) todo) stands in
         let done = here s owners firsts (Complete way i) o path is r in
-        subst (λ (l : List Task). Stands (before ++ deeds_at (path_text path) o.deeds) l) (sym last.1)
-        (ap (λ (d : List Deed). is_one (d ++ deeds_at (path_text path) o.deeds)) last.0
+        subst (λ (l : List Task). Stands (before ++ deeds_at (relative_path path) o.deeds) l) (sym last.1)
+        (ap (λ (d : List Deed). is_one (d ++ deeds_at (relative_path path) o.deeds)) last.0
         ∙ ap (λ (d : List Deed). is_one (Directory ∷ d)) done.1
         ∙ completed_one owners (option_map shown (object s i)) done.0)
 
-after_make : (s : State) (owners : Bool) (firsts : Firsts) (way : List (List ℕ)) (i : ℕ) (o : Outcome) (todo : List Task) (path : List (List ℕ))
+after_make : (s : State) (owners : Bool) (firsts : FirstPaths) (way : List (List ℕ)) (i : ℕ) (o : Outcome) (todo : List Task) (path : List (List ℕ))
     (before : List Deed) → list_all is_name path ≡ true → IsOutcomeOf s owners firsts (Make way i) o
-    → Goes s path (Make way i) o todo before (deeds_at (path_text path) o.deeds)
+    → Goes s path (Make way i) o todo before (deeds_at (relative_path path) o.deeds)
 unfolding Goes
 after_make s owners firsts way i o todo path before are is = by (rest_of way path) refl
   where
     by : (r : Option (List (List ℕ))) → rest_of way path ≡ r → Stands before (cond (is_some r) (Make way i ∷ filter (leads path) todo) (filter (leads path) todo))
-        → Stands (before ++ deeds_at (path_text path) o.deeds) (filter (leads path) (todo_if s way i o.left_out todo))
+        → Stands (before ++ deeds_at (relative_path path) o.deeds) (filter (leads path) (todo_if s way i o.left_out todo))
     by None r stands =
-        let now = no_more before (deeds_at (path_text path) o.deeds) (filter (leads path) todo)
+        let now = no_more before (deeds_at (relative_path path) o.deeds) (filter (leads path) todo)
         (away s owners firsts (Make way i) o path are is (not_there way path r)) stands in
-        stands_if s path way i todo (before ++ deeds_at (path_text path) o.deeds) o.left_out now
+        stands_if s path way i todo (before ++ deeds_at (relative_path path) o.deeds) o.left_out now
         (λ left d.
-        stands_entered s path way i todo [] [] (filter (leads path) todo) (before ++ deeds_at (path_text path) o.deeds)
+        stands_entered s path way i todo [] [] (filter (leads path) todo) (before ++ deeds_at (relative_path path) o.deeds)
         (none_of s way path (entries_in s i) (none_apart s way path r (entries_in s i)))
         (ap (λ (x : Option (List (List ℕ))). let l : List Task = cond (is_end x) (Complete way i ∷ []) [] in l) r) refl now)
     by (Some (m ∷ rest)) r stands =
         let last = make_last before way i (filter (leads path) todo) stands in
-        let nothing : before ++ deeds_at (path_text path) o.deeds ≡ [] =
-        ap (λ (d : List Deed). d ++ deeds_at (path_text path) o.deeds) last.0
+        let nothing : before ++ deeds_at (relative_path path) o.deeds ≡ [] =
+        ap (λ (d : List Deed). d ++ deeds_at (relative_path path) o.deeds) last.0
         ∙ away s owners firsts (Make way i) o path are is (not_whole way path m rest r) in
         subst (λ (d : List Deed). Stands d (filter (leads path) (todo_if s way i o.left_out todo))) (sym nothing)
         (stands_if s path way i todo [] o.left_out (subst (Stands []) (sym last.1) refl)
@@ -420,41 +420,41 @@ after_make s owners firsts way i o todo path before are is = by (rest_of way pat
     by (Some []) r stands =
         let last = make_last before way i (filter (leads path) todo) stands in
         let done = here s owners firsts (Make way i) o path is r in
-        let one : before ++ deeds_at (path_text path) o.deeds ≡ deeds_at (path_text path) o.deeds =
-        ap (λ (d : List Deed). d ++ deeds_at (path_text path) o.deeds) last.0 in
+        let one : before ++ deeds_at (relative_path path) o.deeds ≡ deeds_at (relative_path path) o.deeds =
+        ap (λ (d : List Deed). d ++ deeds_at (relative_path path) o.deeds) last.0 in
         subst (λ (d : List Deed). Stands d (filter (leads path) (todo_if s way i o.left_out todo))) (sym one)
-        (stands_if s path way i todo (deeds_at (path_text path) o.deeds) o.left_out
-        (subst (Stands (deeds_at (path_text path) o.deeds)) (sym last.1) (ap is_one done.1 ∙ made_one s owners firsts i (option_map shown (object s i)) done.0))
+        (stands_if s path way i todo (deeds_at (relative_path path) o.deeds) o.left_out
+        (subst (Stands (deeds_at (relative_path path) o.deeds)) (sym last.1) (ap is_one done.1 ∙ made_one s owners firsts i (option_map shown (object s i)) done.0))
         (λ left d.
-        stands_entered s path way i todo [] (Complete way i ∷ []) [] (deeds_at (path_text path) o.deeds)
+        stands_entered s path way i todo [] (Complete way i ∷ []) [] (deeds_at (relative_path path) o.deeds)
         (none_of s way path (entries_in s i) (none_here s way path r (entries_in s i)))
         (ap (λ (x : Option (List (List ℕ))). let l : List Task = cond (is_end x) (Complete way i ∷ []) [] in l) r) last.1
-        (ap (deeds_at (path_text path)) (directory_alone s owners firsts way i o is left d)
-        ∙ deeds_here (path_text path) (path_text way) (Directory ∷ []) (ap path_text (whole_is way path r)))))
+        (ap (deeds_at (relative_path path)) (directory_alone s owners firsts way i o is left d)
+        ∙ deeds_here (relative_path path) (relative_path way) (Directory ∷ []) (ap relative_path (whole_is way path r)))))
 
-stands_after : (s : State) (owners : Bool) (firsts : Firsts) (task : Task) (o : Outcome) (todo : List Task) (path : List (List ℕ))
-    (before : List Deed) → list_all is_name path ≡ true → IsOutcomeOf s owners firsts task o → Goes s path task o todo before (deeds_at (path_text path) o.deeds)
+stands_after : (s : State) (owners : Bool) (firsts : FirstPaths) (task : Task) (o : Outcome) (todo : List Task) (path : List (List ℕ))
+    (before : List Deed) → list_all is_name path ≡ true → IsOutcomeOf s owners firsts task o → Goes s path task o todo before (deeds_at (relative_path path) o.deeds)
 stands_after s owners firsts (Make way i) o todo path before are is = after_make s owners firsts way i o todo path before are is
 stands_after s owners firsts (Complete way i) o todo path before are is = after_complete s owners firsts way i o todo path before are is
 
 -- ---- the walk
 
-once : (s : State) (owners : Bool) (firsts : Firsts) (todo : List Task) (outcomes : List Outcome) (path : List (List ℕ)) (before : List Deed)
+once : (s : State) (owners : Bool) (firsts : FirstPaths) (todo : List Task) (outcomes : List Outcome) (path : List (List ℕ)) (before : List Deed)
     → list_all is_name path ≡ true → AreFirstOutcomes s owners firsts todo outcomes → Stands before (filter (leads path) todo)
-    → is_one (before ++ deeds_at (path_text path) (flat_map (λ o. o.deeds) outcomes)) ≡ true
+    → is_one (before ++ deeds_at (relative_path path) (flat_map (λ o. o.deeds) outcomes)) ≡ true
 unfolding Goes
 once s owners firsts todo [] path before is are stands = ap is_one (append-nil before) ∙ stands_one before (filter (leads path) todo) stands
 once s owners firsts [] (o ∷ outcomes) path before is are stands = absurd are
 once s owners firsts (task ∷ todo) (o ∷ outcomes) path before is are stands =
-    let more : List Deed = deeds_at (path_text path) o.deeds in
-    ap (λ (l : List Deed). is_one (before ++ l)) (deeds_append (path_text path) o.deeds (flat_map (λ (x : Outcome). x.deeds) outcomes))
-    ∙ ap is_one (sym (append_assoc before more (deeds_at (path_text path) (flat_map (λ (x : Outcome). x.deeds) outcomes))))
-    ∙ once s owners (firsts_after firsts task o) (todo_after s task o todo) outcomes path (before ++ more) is are.1
+    let more : List Deed = deeds_at (relative_path path) o.deeds in
+    ap (λ (l : List Deed). is_one (before ++ l)) (deeds_append (relative_path path) o.deeds (flat_map (λ (x : Outcome). x.deeds) outcomes))
+    ∙ ap is_one (sym (append_assoc before more (deeds_at (relative_path path) (flat_map (λ (x : Outcome). x.deeds) outcomes))))
+    ∙ once s owners (firsts_after firsts task o) (tasks_after s task o todo) outcomes path (before ++ more) is are.1
     (stands_after s owners firsts task o todo path before is are.0 stands)
 
 -- at the start the folder itself is made
 stands_first : (s : State) (path : List (List ℕ)) → list_all is_name path ≡ true
-    → Stands (deeds_at (path_text path) (root_made ∷ [])) (filter (leads path) (tasks_in s [] 1))
+    → Stands (deeds_at (relative_path path) (root_made ∷ [])) (filter (leads path) (tasks_in s [] 1))
 stands_first s [] is =
     subst (Stands (Directory ∷ []))
     (sym (filter-append (leads []) (tasks_of s [] (entries_in s 1)) (Complete [] 1 ∷ [])
@@ -462,17 +462,17 @@ stands_first s [] is =
     refl
 stands_first s (name ∷ rest) is =
     let path : List (List ℕ) = name ∷ rest in
-    let other : [] ≡ path_text path → ⊥ = λ same. let no : [] ≡ name ∷ rest = same_names [] (name ∷ rest) refl is same in absurd (cc) in
-    subst (λ (d : List Deed). Stands d (filter (leads path) (tasks_in s [] 1))) (sym (deeds_away (path_text path) [] (Directory ∷ []) other))
+    let other : [] ≡ relative_path path → ⊥ = λ same. let no : [] ≡ name ∷ rest = same_names [] (name ∷ rest) refl is same in absurd (cc) in
+    subst (λ (d : List Deed). Stands d (filter (leads path) (tasks_in s [] 1))) (sym (deeds_away (relative_path path) [] (Directory ∷ []) other))
     (subst (Stands []) (sym (filter-append (leads path) (tasks_of s [] (entries_in s 1)) (Complete [] 1 ∷ [])))
     (subst (Stands []) (sym (append-nil (filter (leads path) (tasks_of s [] (entries_in s 1)))))
     (one_leads s [] path name rest refl (entries_in s 1) (names_differ s 1))))
 
 once_at : (s : State) (owners : Bool) (outcomes : List Outcome) (names : List (List ℕ)) → list_all is_name names ≡ true → AreFirstTreeOutcomes s owners outcomes
-    → is_one (deeds_at (path_text names) (all_made outcomes)) ≡ true
+    → is_one (deeds_at (relative_path names) (all_made outcomes)) ≡ true
 once_at s owners outcomes names is are =
-    ap is_one (deeds_append (path_text names) (root_made ∷ []) (flat_map (λ (o : Outcome). o.deeds) outcomes))
-    ∙ once s owners root_alone (tasks_in s [] 1) outcomes names (deeds_at (path_text names) (root_made ∷ [])) is are (stands_first s names is)
+    ap is_one (deeds_append (relative_path names) (root_made ∷ []) (flat_map (λ (o : Outcome). o.deeds) outcomes))
+    ∙ once s owners root_alone (tasks_in s [] 1) outcomes names (deeds_at (relative_path names) (root_made ∷ [])) is are (stands_first s names is)
 
 done_at : (path : List ℕ) (all : List Made) (deed : Deed) → Contains (deeds_at path all) deed → (made : Made) × Contains all made × (made.path ≡ path)
 done_at path all deed there =
@@ -555,5 +555,5 @@ makes_through_directories s owners outcomes made other way name rest are there h
     let found = way_of [] all made (makes_below s owners outcomes are) there in
     let same : found.0 ≡ way ++ name ∷ rest = same_names found.0 (way ++ name ∷ rest) found.1.1 has.1 (sym found.1.0 ∙ has.0) in
     let on_way : Contains all (directory_at way) = found.2 way name rest same in
-    of_directory (deeds_at (path_text way) all) other.deed (whole_once s owners outcomes (path_text way) are)
-    (deed_there (path_text way) all (directory_at way) on_way refl) (deed_there (path_text way) all other besides at)
+    of_directory (deeds_at (relative_path way) all) other.deed (whole_once s owners outcomes (relative_path way) are)
+    (deed_there (relative_path way) all (directory_at way) on_way refl) (deed_there (relative_path way) all other besides at)

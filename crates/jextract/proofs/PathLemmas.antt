@@ -9,30 +9,30 @@ use Rattle.std.proofs.lemmas.Bool.Decides.{nat_tests}
 use Rattle.std.proofs.lemmas.Str.{is_utf8-from_IsUtf8, IsUtf8-from_is_utf8}
 use Rattle.jmount.specs.Find.{is_name}
 use Rattle.jmount.proofs.PieceLemmas.{piece_read}
-use Rattle.jextract.specs.Paths.{greatest_path, host_path, path_text, text_if}
+use Rattle.jextract.specs.Paths.{greatest_path, host_path, relative_path, text_if}
 use Rattle.jextract.specs.declared.reason.Reason.{Reason}
 use Rattle.jextract.specs.declared.reason.Reason.TheVariants as reason
 
 pub text_of_names : (first : Bor (List ℕ)) (rest : List (Bor (List ℕ)))
-    → first.now ++ flat_map (λ name. 47 ∷ name.now) rest ≡ path_text (map (λ name. name.now) (first ∷ rest))
+    → first.now ++ flat_map (λ name. 47 ∷ name.now) rest ≡ relative_path (map (λ name. name.now) (first ∷ rest))
 text_of_names first rest = ap (λ l. first.now ++ l) (sym (flat_map-map (λ n. 47 ∷ n) (λ (n : Bor (List ℕ)). n.now) rest))
 
 -- the text of names that are, where it is short
-short_path : (path : List (List ℕ)) (text : List ℕ) → list_all is_name path ≡ true → text ≡ path_text path → length text ≤ 4095
+short_path : (path : List (List ℕ)) (text : List ℕ) → list_all is_name path ≡ true → text ≡ relative_path path → length text ≤ 4095
     → host_path path ≡ (if is_utf8 text then Ok text else Err reason.NoText)
 unfolding host_path
 short_path path text names is short =
     let long : nat_lt greatest_path (length text) ≡ false = grind (arith, nat_tests) in
-    ap (λ (b : Bool). if b then text_if (path_text path) else Err reason.BadName) names
+    ap (λ (b : Bool). if b then text_if (relative_path path) else Err reason.BadName) names
     ∙ ap text_if (sym is)
     ∙ ap (λ (b : Bool). if b then Err reason.LongPath else if is_utf8 text then Ok text else Err reason.NoText) long
 
-pub path_is_text : (path : List (List ℕ)) (text : List ℕ) → list_all is_name path ≡ true → text ≡ path_text path → length text ≤ 4095 → IsUtf8 text → host_path path ≡ Ok text
+pub path_is_text : (path : List (List ℕ)) (text : List ℕ) → list_all is_name path ≡ true → text ≡ relative_path path → length text ≤ 4095 → IsUtf8 text → host_path path ≡ Ok text
 path_is_text path text names is short utf8 =
     short_path path text names is short
     ∙ ap (λ (b : Bool). let r : Result (List ℕ) Reason = if b then Ok text else Err reason.NoText in r) (is_utf8-from_IsUtf8 text utf8)
 
-pub path_is_no_text : (path : List (List ℕ)) (text : List ℕ) → list_all is_name path ≡ true → text ≡ path_text path → length text ≤ 4095 → (IsUtf8 text → ⊥) → host_path path ≡ Err reason.NoText
+pub path_is_no_text : (path : List (List ℕ)) (text : List ℕ) → list_all is_name path ≡ true → text ≡ relative_path path → length text ≤ 4095 → (IsUtf8 text → ⊥) → host_path path ≡ Err reason.NoText
 path_is_no_text path text names is short other = by (is_utf8 text) refl
   where
     by : (b : Bool) → is_utf8 text ≡ b → host_path path ≡ Err reason.NoText

@@ -11,12 +11,12 @@ use Rattle.flashbase.specs.Device.{PutsPart}
 use Rattle.jmount.specs.Tree.{State, is_there, entries_in}
 use Rattle.jmount.specs.Find.{way_up}
 use Rattle.jextract.specs.Making.{firsts_of}
-use Rattle.jextract.specs.Outcomes.{Task, Make, Complete, Outcome, Firsts, AreFirstOutcomes, tasks_of, tasks_in, all_lines}
-use Rattle.jextract.specs.Walking.{Advances, Sight, Had, StopsBy, Visits, Completes, GoesUp, Steps, task_if, todo_then, todo_of, tasks_up, way_of, unmade}
+use Rattle.jextract.specs.Outcomes.{Task, Make, Complete, Outcome, FirstPaths, AreFirstOutcomes, tasks_of, tasks_in, all_lines}
+use Rattle.jextract.specs.Walking.{Advances, Sight, Had, StopsBy, Visits, Completes, ExtractionGoesUp, Steps, task_if, todo_then, extraction_todo, tasks_up, extraction_way, unmade}
 use Rattle.jextract.specs.declared.extracting.Walk.{Walk}
 use Rattle.jextract.specs.declared.fault.ExtractFault.{ExtractFault}
 use Rattle.jextract.specs.declared.fault.ExtractFault.TheVariants as fault
-use Rattle.jextract.proofs.MakingLemmas.{Adds-nil}
+use Rattle.jextract.proofs.MakingLemmas.{ReportsMore-nil}
 
 -- ---- the tasks of a name
 
@@ -34,34 +34,34 @@ tasks_more s path name i names = by (is_there s i) refl
 
 -- what a walk has left, beside the names of the directory that it reads
 abbrev pub more_of : State → Walk → List Task
-more_of s w = Complete (way_of w) w.ino ∷ tasks_up s (reverse w.above.items) (way_up (way_of w))
+more_of s w = Complete (extraction_way w) w.ino ∷ tasks_up s (reverse w.above.items) (way_up (extraction_way w))
 
 -- what it has left, where it read a name
 todo_read : (s : State) (w : Walk) (name : List ℕ) (i : ℕ) (names : List (List ℕ × ℕ)) → w.left ≡ (name, i) ∷ names
-    → task_if s (way_of w ++ name ∷ []) i ++ (tasks_of s (way_of w) names ++ more_of s w) ≡ todo_of s w
+    → task_if s (extraction_way w ++ name ∷ []) i ++ (tasks_of s (extraction_way w) names ++ more_of s w) ≡ extraction_todo s w
 todo_read s w name i names read =
-    sym (append_assoc (task_if s (way_of w ++ name ∷ []) i) (tasks_of s (way_of w) names) (more_of s w))
-    ∙ ap (λ (t : List Task). t ++ more_of s w) (sym (tasks_more s (way_of w) name i names))
-    ∙ ap (λ (left : List (List ℕ × ℕ)). tasks_of s (way_of w) left ++ more_of s w) (sym read)
+    sym (append_assoc (task_if s (extraction_way w ++ name ∷ []) i) (tasks_of s (extraction_way w) names) (more_of s w))
+    ∙ ap (λ (t : List Task). t ++ more_of s w) (sym (tasks_more s (extraction_way w) name i names))
+    ∙ ap (λ (left : List (List ℕ × ℕ)). tasks_of s (extraction_way w) left ++ more_of s w) (sym read)
 
 -- ---- the walk goes on in the same directory, or in the one that the name leads to
 
-stays_todo : (s : State) (w n : Walk) (names : List (List ℕ × ℕ)) → n.left ≡ names → n.ino ≡ w.ino → n.above.items ≡ w.above.items → way_of n ≡ way_of w
-    → tasks_of s (way_of w) names ++ more_of s w ≡ todo_of s n
+stays_todo : (s : State) (w n : Walk) (names : List (List ℕ × ℕ)) → n.left ≡ names → n.ino ≡ w.ino → n.above.items ≡ w.above.items → extraction_way n ≡ extraction_way w
+    → tasks_of s (extraction_way w) names ++ more_of s w ≡ extraction_todo s n
 stays_todo s w n names left ino above way =
-    ap (λ (l : List (List ℕ × ℕ)). tasks_of s (way_of w) l ++ more_of s w) (sym left)
-    ∙ ap (λ (i : ℕ). tasks_of s (way_of w) n.left ++ Complete (way_of w) i ∷ tasks_up s (reverse w.above.items) (way_up (way_of w))) (sym ino)
-    ∙ ap (λ (a : List (ℕ × List (List ℕ × ℕ))). tasks_of s (way_of w) n.left ++ Complete (way_of w) n.ino ∷ tasks_up s (reverse a) (way_up (way_of w))) (sym above)
+    ap (λ (l : List (List ℕ × ℕ)). tasks_of s (extraction_way w) l ++ more_of s w) (sym left)
+    ∙ ap (λ (i : ℕ). tasks_of s (extraction_way w) n.left ++ Complete (extraction_way w) i ∷ tasks_up s (reverse w.above.items) (way_up (extraction_way w))) (sym ino)
+    ∙ ap (λ (a : List (ℕ × List (List ℕ × ℕ))). tasks_of s (extraction_way w) n.left ++ Complete (extraction_way w) n.ino ∷ tasks_up s (reverse a) (way_up (extraction_way w))) (sym above)
     ∙ ap (tasks_up s ((n.ino, n.left) ∷ reverse n.above.items)) (sym way)
 
-advances_to : (s : State) (owners : Bool) (firsts then_ : Firsts) (todo other todo_ todo_other : List Task) (outcomes : List Outcome)
+advances_to : (s : State) (owners : Bool) (firsts then_ : FirstPaths) (todo other todo_ todo_other : List Task) (outcomes : List Outcome)
     → todo ≡ other → todo_ ≡ todo_other → Advances s owners firsts todo then_ todo_ outcomes → Advances s owners firsts other then_ todo_other outcomes
 advances_to s owners firsts then_ todo other todo_ todo_other outcomes a c advances =
     subst (λ (t : List Task). Advances s owners firsts t then_ todo_other outcomes) a
     (subst (λ (t : List Task). Advances s owners firsts todo then_ t outcomes) c advances)
 
 pub stays : (s : State) (owners : Bool) (w n : Walk) (name : List ℕ) (i : ℕ) (old new : Sight) → w.left ≡ (name, i) ∷ n.left → n.ino ≡ w.ino
-    → n.above.items ≡ w.above.items → way_of n ≡ way_of w → Visits s owners (firsts_of w.firsts) (firsts_of n.firsts) (way_of w ++ name ∷ []) i old new (Ok false)
+    → n.above.items ≡ w.above.items → extraction_way n ≡ extraction_way w → Visits s owners (firsts_of w.firsts) (firsts_of n.firsts) (extraction_way w ++ name ∷ []) i old new (Ok false)
     → Steps s owners w n old new (Ok true)
 stays s owners w n name i old new read ino above way visits =
     let left : length w.left ≡ length n.left + 1 = ap (λ l. length l) read ∙ omega arith in
@@ -70,31 +70,31 @@ stays s owners w n name i old new read ino above way visits =
     let fewer = visits.3 in (
       visits.0,
       visits.1,
-      advances_to s owners (firsts_of w.firsts) (firsts_of n.firsts) (task_if s (way_of w ++ name ∷ []) i ++ (tasks_of s (way_of w) n.left ++ more_of s w)) (todo_of s w)
-          (tasks_of s (way_of w) n.left ++ more_of s w) (todo_of s n) visits.0 (todo_read s w name i n.left read) (stays_todo s w n n.left refl ino above way)
-          (visits.2 (tasks_of s (way_of w) n.left ++ more_of s w)),
+      advances_to s owners (firsts_of w.firsts) (firsts_of n.firsts) (task_if s (extraction_way w ++ name ∷ []) i ++ (tasks_of s (extraction_way w) n.left ++ more_of s w)) (extraction_todo s w)
+          (tasks_of s (extraction_way w) n.left ++ more_of s w) (extraction_todo s n) visits.0 (todo_read s w name i n.left read) (stays_todo s w n n.left refl ino above way)
+          (visits.2 (tasks_of s (extraction_way w) n.left ++ more_of s w)),
       omega arith,
     )
 
 pub enters : (s : State) (owners : Bool) (w n : Walk) (name : List ℕ) (i : ℕ) (names : List (List ℕ × ℕ)) (old new : Sight) → w.left ≡ (name, i) ∷ names → n.ino ≡ i
-    → n.left ≡ entries_in s i → n.above.items ≡ w.above.items ++ (w.ino, names) ∷ [] → way_of n ≡ way_of w ++ name ∷ []
-    → Visits s owners (firsts_of w.firsts) (firsts_of n.firsts) (way_of w ++ name ∷ []) i old new (Ok true) → Steps s owners w n old new (Ok true)
+    → n.left ≡ entries_in s i → n.above.items ≡ w.above.items ++ (w.ino, names) ∷ [] → extraction_way n ≡ extraction_way w ++ name ∷ []
+    → Visits s owners (firsts_of w.firsts) (firsts_of n.firsts) (extraction_way w ++ name ∷ []) i old new (Ok true) → Steps s owners w n old new (Ok true)
 enters s owners w n name i names old new read ino left above way visits =
-    let rest = tasks_of s (way_of w) names ++ more_of s w in
-    let back : way_up (way_of n) ≡ way_of w =
+    let rest = tasks_of s (extraction_way w) names ++ more_of s w in
+    let back : way_up (extraction_way n) ≡ extraction_way w =
     ap way_up way
-    ∙ ap (λ (k : ℕ). take k (way_of w ++ name ∷ [])) {x = length (way_of w ++ name ∷ []) - 1} {y = length (way_of w)} (omega (arith, length_push (way_of w) name))
-    ∙ take-append_seam (way_of w) (name ∷ []) in
+    ∙ ap (λ (k : ℕ). take k (extraction_way w ++ name ∷ [])) {x = length (extraction_way w ++ name ∷ []) - 1} {y = length (extraction_way w)} (omega (arith, length_push (extraction_way w) name))
+    ∙ take-append_seam (extraction_way w) (name ∷ []) in
     let reversed : reverse n.above.items ≡ (w.ino, names) ∷ reverse w.above.items = ap reverse above ∙ reverse-append w.above.items ((w.ino, names) ∷ []) in
-    let up : rest ≡ tasks_up s (reverse n.above.items) (way_up (way_of n)) =
+    let up : rest ≡ tasks_up s (reverse n.above.items) (way_up (extraction_way n)) =
     ap (λ (p : List (List ℕ)). tasks_up s ((w.ino, names) ∷ reverse w.above.items) p) (sym back)
-    ∙ ap (λ (l : List (ℕ × List (List ℕ × ℕ))). tasks_up s l (way_up (way_of n))) (sym reversed) in
-    let todo : tasks_in s (way_of w ++ name ∷ []) i ++ rest ≡ todo_of s n =
-    append_assoc (tasks_of s (way_of w ++ name ∷ []) (entries_in s i)) (Complete (way_of w ++ name ∷ []) i ∷ []) rest
+    ∙ ap (λ (l : List (ℕ × List (List ℕ × ℕ))). tasks_up s l (way_up (extraction_way n))) (sym reversed) in
+    let todo : tasks_in s (extraction_way w ++ name ∷ []) i ++ rest ≡ extraction_todo s n =
+    append_assoc (tasks_of s (extraction_way w ++ name ∷ []) (entries_in s i)) (Complete (extraction_way w ++ name ∷ []) i ∷ []) rest
     ∙ ap (λ (p : List (List ℕ)). tasks_of s p (entries_in s i) ++ Complete p i ∷ rest) (sym way)
-    ∙ ap (λ (l : List (List ℕ × ℕ)). tasks_of s (way_of n) l ++ Complete (way_of n) i ∷ rest) (sym left)
-    ∙ ap (λ (j : ℕ). tasks_of s (way_of n) n.left ++ Complete (way_of n) j ∷ rest) (sym ino)
-    ∙ ap (λ (t : List Task). tasks_of s (way_of n) n.left ++ Complete (way_of n) n.ino ∷ t) up in
+    ∙ ap (λ (l : List (List ℕ × ℕ)). tasks_of s (extraction_way n) l ++ Complete (extraction_way n) i ∷ rest) (sym left)
+    ∙ ap (λ (j : ℕ). tasks_of s (extraction_way n) n.left ++ Complete (extraction_way n) j ∷ rest) (sym ino)
+    ∙ ap (λ (t : List Task). tasks_of s (extraction_way n) n.left ++ Complete (extraction_way n) n.ino ∷ t) up in
     let own : length n.left ≡ length (entries_in s i) = ap (λ l. length l) left in
     let one : length w.left ≡ length names + 1 = ap (λ l. length l) read ∙ omega arith in
     let sum : sum_by (λ (d : ℕ × List (List ℕ × ℕ)). length d.1) n.above.items ≡ sum_by (λ (d : ℕ × List (List ℕ × ℕ)). length d.1) w.above.items + length names =
@@ -103,7 +103,7 @@ enters s owners w n name i names old new read ino left above way visits =
     let fewer = visits.3 in (
       visits.0,
       visits.1,
-      advances_to s owners (firsts_of w.firsts) (firsts_of n.firsts) (task_if s (way_of w ++ name ∷ []) i ++ rest) (todo_of s w) (tasks_in s (way_of w ++ name ∷ []) i ++ rest) (todo_of s n) visits.0
+      advances_to s owners (firsts_of w.firsts) (firsts_of n.firsts) (task_if s (extraction_way w ++ name ∷ []) i ++ rest) (extraction_todo s w) (tasks_in s (extraction_way w ++ name ∷ []) i ++ rest) (extraction_todo s n) visits.0
           (todo_read s w name i names read) todo (visits.2 rest),
       omega arith,
     )
@@ -111,18 +111,18 @@ enters s owners w n name i names old new read ino left above way visits =
 -- ---- faults
 
 pub step_at_fault : (s : State) (owners : Bool) (w n : Walk) (old new : Sight) (f : ExtractFault) (r : Result Bool ExtractFault) → IsErrAnd r (λ e. e ≡ f)
-    → StopsBy s owners (firsts_of w.firsts) (todo_of s w) old new f → Steps s owners w n old new r
+    → StopsBy s owners (firsts_of w.firsts) (extraction_todo s w) old new f → Steps s owners w n old new r
 step_at_fault s owners w n old new f (Ok x) err stops = absurd err
-step_at_fault s owners w n old new f (Err e) err stops = subst (λ (x : ExtractFault). StopsBy s owners (firsts_of w.firsts) (todo_of s w) old new x) (sym err) stops
+step_at_fault s owners w n old new f (Err e) err stops = subst (λ (x : ExtractFault). StopsBy s owners (firsts_of w.firsts) (extraction_todo s w) old new x) (sym err) stops
 
-pub stops_before : (s : State) (owners : Bool) (firsts : Firsts) (todo : List Task) (old : Sight) → StopsBy s owners firsts todo old old fault.OutOfMemory
-stops_before s owners firsts todo old = (([], tt {0}, Adds-nil old.made, (0, Appends-nil old.told)), refl)
+pub stops_before : (s : State) (owners : Bool) (firsts : FirstPaths) (todo : List Task) (old : Sight) → StopsBy s owners firsts todo old old fault.OutOfMemory
+stops_before s owners firsts todo old = (([], tt {0}, ReportsMore-nil old.made, (0, Appends-nil old.told)), refl)
 
-pub visit_failed : (s : State) (owners : Bool) (w n : Walk) (name : List ℕ) (i : ℕ) (names : List (List ℕ × ℕ)) (firsts_then : Firsts) (old new : Sight) (f : ExtractFault)
-    → w.left ≡ (name, i) ∷ names → Visits s owners (firsts_of w.firsts) firsts_then (way_of w ++ name ∷ []) i old new (Err f)
-    → StopsBy s owners (firsts_of w.firsts) (todo_of s w) old new f
+pub visit_failed : (s : State) (owners : Bool) (w n : Walk) (name : List ℕ) (i : ℕ) (names : List (List ℕ × ℕ)) (firsts_then : FirstPaths) (old new : Sight) (f : ExtractFault)
+    → w.left ≡ (name, i) ∷ names → Visits s owners (firsts_of w.firsts) firsts_then (extraction_way w ++ name ∷ []) i old new (Err f)
+    → StopsBy s owners (firsts_of w.firsts) (extraction_todo s w) old new f
 visit_failed s owners w n name i names firsts_then old new f read visits =
-    subst (λ (t : List Task). StopsBy s owners (firsts_of w.firsts) t old new f) (todo_read s w name i names read) (visits (tasks_of s (way_of w) names ++ more_of s w))
+    subst (λ (t : List Task). StopsBy s owners (firsts_of w.firsts) t old new f) (todo_read s w name i names read) (visits (tasks_of s (extraction_way w) names ++ more_of s w))
 
 whole_part : (old new : Option (List ℕ)) (line : List ℕ) → Appends old new line → PutsPart old new line
 whole_part old new line put = (length line, subst (Appends old new) (sym (take_whole line)) put)
@@ -131,7 +131,7 @@ whole_part old new line put = (length line, subst (Appends old new) (sym (take_w
     take_whole xs = grind (arith, common_steps)
 
 -- memory ran out after what was had
-pub stops_after : (s : State) (owners : Bool) (firsts firsts_then : Firsts) (todo todo_ : List Task) (outcomes : List Outcome) (old new : Sight) → Had old new outcomes
+pub stops_after : (s : State) (owners : Bool) (firsts firsts_then : FirstPaths) (todo todo_ : List Task) (outcomes : List Outcome) (old new : Sight) → Had old new outcomes
     → Advances s owners firsts todo firsts_then todo_ outcomes → StopsBy s owners firsts todo old new fault.OutOfMemory
 stops_after s owners firsts firsts_then todo todo_ outcomes old new had advances = (
   (
@@ -143,45 +143,45 @@ stops_after s owners firsts firsts_then todo todo_ outcomes old new had advances
   had.3,
 )
 
-pub visited_then_stops : (s : State) (owners : Bool) (w : Walk) (name : List ℕ) (i : ℕ) (names : List (List ℕ × ℕ)) (firsts_then : Firsts) (old new : Sight) (entered : Bool)
-    → w.left ≡ (name, i) ∷ names → Visits s owners (firsts_of w.firsts) firsts_then (way_of w ++ name ∷ []) i old new (Ok entered)
-    → StopsBy s owners (firsts_of w.firsts) (todo_of s w) old new fault.OutOfMemory
+pub visited_then_stops : (s : State) (owners : Bool) (w : Walk) (name : List ℕ) (i : ℕ) (names : List (List ℕ × ℕ)) (firsts_then : FirstPaths) (old new : Sight) (entered : Bool)
+    → w.left ≡ (name, i) ∷ names → Visits s owners (firsts_of w.firsts) firsts_then (extraction_way w ++ name ∷ []) i old new (Ok entered)
+    → StopsBy s owners (firsts_of w.firsts) (extraction_todo s w) old new fault.OutOfMemory
 visited_then_stops s owners w name i names firsts_then old new entered read visits =
-    let rest = tasks_of s (way_of w) names ++ more_of s w in
+    let rest = tasks_of s (extraction_way w) names ++ more_of s w in
     subst (λ (t : List Task). StopsBy s owners (firsts_of w.firsts) t old new fault.OutOfMemory) (todo_read s w name i names read)
-    (stops_after s owners (firsts_of w.firsts) firsts_then (task_if s (way_of w ++ name ∷ []) i ++ rest) (todo_then s (way_of w ++ name ∷ []) i entered rest) visits.0 old new visits.1 (visits.2 rest))
+    (stops_after s owners (firsts_of w.firsts) firsts_then (task_if s (extraction_way w ++ name ∷ []) i ++ rest) (todo_then s (extraction_way w ++ name ∷ []) i entered rest) visits.0 old new visits.1 (visits.2 rest))
 
 -- ---- where no name is left
 
-todo_left : (s : State) (w : Walk) → w.left ≡ [] → more_of s w ≡ todo_of s w
-todo_left s w none = ap (λ (left : List (List ℕ × ℕ)). tasks_of s (way_of w) left ++ more_of s w) (sym none)
+todo_left : (s : State) (w : Walk) → w.left ≡ [] → more_of s w ≡ extraction_todo s w
+todo_left s w none = ap (λ (left : List (List ℕ × ℕ)). tasks_of s (extraction_way w) left ++ more_of s w) (sym none)
 
-pub leave_failed : (s : State) (owners : Bool) (w : Walk) (old new : Sight) (f : ExtractFault) → w.left ≡ [] → Completes s owners (way_of w) w.ino old new (Err f)
-    → StopsBy s owners (firsts_of w.firsts) (todo_of s w) old new f
+pub leave_failed : (s : State) (owners : Bool) (w : Walk) (old new : Sight) (f : ExtractFault) → w.left ≡ [] → Completes s owners (extraction_way w) w.ino old new (Err f)
+    → StopsBy s owners (firsts_of w.firsts) (extraction_todo s w) old new f
 leave_failed s owners w old new f none completes =
     subst (λ (t : List Task). StopsBy s owners (firsts_of w.firsts) t old new f) (todo_left s w none)
-    (completes (firsts_of w.firsts) (tasks_up s (reverse w.above.items) (way_up (way_of w))))
+    (completes (firsts_of w.firsts) (tasks_up s (reverse w.above.items) (way_up (extraction_way w))))
 
 -- the walk went up, whatever it counts
 abbrev pub Up : Walk → Walk → Bool → Type 0
-Up w n true = (w.above.items ≡ n.above.items ++ (n.ino, n.left) ∷ []) × (way_of n ≡ way_up (way_of w)) × (n.firsts ≡ w.firsts)
+Up w n true = (w.above.items ≡ n.above.items ++ (n.ino, n.left) ∷ []) × (extraction_way n ≡ way_up (extraction_way w)) × (n.firsts ≡ w.firsts)
 Up w n false = (w.above.items ≡ []) × (n.firsts ≡ w.firsts)
 
-pub leaves : (s : State) (owners : Bool) (w n : Walk) (old new : Sight) (done up : Bool) → w.left ≡ [] → Completes s owners (way_of w) w.ino old new (Ok done)
+pub leaves : (s : State) (owners : Bool) (w n : Walk) (old new : Sight) (done up : Bool) → w.left ≡ [] → Completes s owners (extraction_way w) w.ino old new (Ok done)
     → Up w n up → Steps s owners w n old new (Ok up)
 leaves s owners w n old new done false none completes up =
-    let rest = tasks_up s (reverse w.above.items) (way_up (way_of w)) in
-    let empty : rest ≡ [] = ap (λ (above : List (ℕ × List (List ℕ × ℕ))). tasks_up s (reverse above) (way_up (way_of w))) up.0 in (
+    let rest = tasks_up s (reverse w.above.items) (way_up (extraction_way w)) in
+    let empty : rest ≡ [] = ap (λ (above : List (ℕ × List (List ℕ × ℕ))). tasks_up s (reverse above) (way_up (extraction_way w))) up.0 in (
       completes.0,
       completes.1,
-      subst (λ (f : Firsts). Advances s owners (firsts_of w.firsts) (todo_of s w) f [] completes.0) (sym (ap firsts_of up.1))
-          (advances_to s owners (firsts_of w.firsts) (firsts_of w.firsts) (more_of s w) (todo_of s w) rest [] completes.0 (todo_left s w none) empty (completes.2 (firsts_of w.firsts) rest)),
+      subst (λ (f : FirstPaths). Advances s owners (firsts_of w.firsts) (extraction_todo s w) f [] completes.0) (sym (ap firsts_of up.1))
+          (advances_to s owners (firsts_of w.firsts) (firsts_of w.firsts) (more_of s w) (extraction_todo s w) rest [] completes.0 (todo_left s w none) empty (completes.2 (firsts_of w.firsts) rest)),
     )
 leaves s owners w n old new done true none completes up =
-    let rest = tasks_up s (reverse w.above.items) (way_up (way_of w)) in
-    let todo : rest ≡ todo_of s n =
-    ap (λ (above : List (ℕ × List (List ℕ × ℕ))). tasks_up s (reverse above) (way_up (way_of w))) up.0
-    ∙ ap (λ (above : List (ℕ × List (List ℕ × ℕ))). tasks_up s above (way_up (way_of w))) (reverse-append n.above.items ((n.ino, n.left) ∷ []))
+    let rest = tasks_up s (reverse w.above.items) (way_up (extraction_way w)) in
+    let todo : rest ≡ extraction_todo s n =
+    ap (λ (above : List (ℕ × List (List ℕ × ℕ))). tasks_up s (reverse above) (way_up (extraction_way w))) up.0
+    ∙ ap (λ (above : List (ℕ × List (List ℕ × ℕ))). tasks_up s above (way_up (extraction_way w))) (reverse-append n.above.items ((n.ino, n.left) ∷ []))
     ∙ ap (tasks_up s ((n.ino, n.left) ∷ reverse n.above.items)) (sym up.1) in
     let left : length w.left ≡ 0 = ap (λ l. length l) none in
     let sum : sum_by (λ (d : ℕ × List (List ℕ × ℕ)). length d.1) w.above.items ≡ sum_by (λ (d : ℕ × List (List ℕ × ℕ)). length d.1) n.above.items + length n.left =
@@ -190,8 +190,8 @@ leaves s owners w n old new done true none completes up =
     let made : unmade s (firsts_of n.firsts) ≡ unmade s (firsts_of w.firsts) = ap (λ m. unmade s (firsts_of m)) up.2 in (
       completes.0,
       completes.1,
-      subst (λ (f : Firsts). Advances s owners (firsts_of w.firsts) (todo_of s w) f (todo_of s n) completes.0) (sym (ap firsts_of up.2))
-          (advances_to s owners (firsts_of w.firsts) (firsts_of w.firsts) (more_of s w) (todo_of s w) rest (todo_of s n) completes.0 (todo_left s w none) todo (completes.2 (firsts_of w.firsts) rest)),
+      subst (λ (f : FirstPaths). Advances s owners (firsts_of w.firsts) (extraction_todo s w) f (extraction_todo s n) completes.0) (sym (ap firsts_of up.2))
+          (advances_to s owners (firsts_of w.firsts) (firsts_of w.firsts) (more_of s w) (extraction_todo s w) rest (extraction_todo s n) completes.0 (todo_left s w none) todo (completes.2 (firsts_of w.firsts) rest)),
       omega arith,
     )
 
@@ -202,8 +202,8 @@ step_left s owners w n old seen on is steps =
     subst (λ (k : ℕ). Steps s owners w n old (record { made = seen.made; failures = seen.failures; told = seen.told; told_failures = seen.told_failures; left_out = k }) (Ok on)) (sym is) steps
 
 -- the same, of a walk that knows another count before it goes up
-pub leaves_as : (s : State) (owners : Bool) (w m n : Walk) (old new : Sight) (done up : Bool) → w.left ≡ [] → way_of m ≡ way_of w → m.above.items ≡ w.above.items → m.firsts ≡ w.firsts
-    → Completes s owners (way_of w) w.ino old new (Ok done) → GoesUp m n up → m.left_out ≡ new.left_out
+pub leaves_as : (s : State) (owners : Bool) (w m n : Walk) (old new : Sight) (done up : Bool) → w.left ≡ [] → extraction_way m ≡ extraction_way w → m.above.items ≡ w.above.items → m.firsts ≡ w.firsts
+    → Completes s owners (extraction_way w) w.ino old new (Ok done) → ExtractionGoesUp m n up → m.left_out ≡ new.left_out
     → Steps s owners w n old (record { made = new.made; failures = new.failures; told = new.told; told_failures = new.told_failures; left_out = n.left_out }) (Ok up)
 leaves_as s owners w m n old new done false none way above firsts completes up count =
     step_left s owners w n old new false (up.2 ∙ count) (leaves s owners w n old new done false none completes (sym above ∙ up.0, up.1 ∙ firsts))
@@ -212,15 +212,15 @@ leaves_as s owners w m n old new done true none way above firsts completes up co
 
 -- ---- the way to an object
 
-pub way_on : (w : Walk) (name : Bor (List ℕ)) (path pushed : List (Bor (List ℕ))) → path ≡ pushed → pushed ≡ w.path.items ++ name ∷ [] → map (λ n. n.now) path ≡ way_of w ++ name.now ∷ []
+pub way_on : (w : Walk) (name : Bor (List ℕ)) (path pushed : List (Bor (List ℕ))) → path ≡ pushed → pushed ≡ w.path.items ++ name ∷ [] → map (λ n. n.now) path ≡ extraction_way w ++ name.now ∷ []
 way_on w name path pushed same is = ap (map (λ n. n.now)) (same ∙ is) ∙ map-append (λ n. n.now) w.path.items (name ∷ [])
 
 pub way_back : (w : Walk) (name : Bor (List ℕ)) (pushed popped : List (Bor (List ℕ))) → pushed ≡ w.path.items ++ name ∷ [] → popped ≡ take (length pushed - 1) pushed
-    → map (λ n. n.now) popped ≡ way_of w
+    → map (λ n. n.now) popped ≡ extraction_way w
 way_back w name pushed popped is cut =
     let one : length pushed - 1 ≡ length w.path.items = omega (arith, ap (λ l. length l) is ∙ length_push w.path.items name) in
     ap (map (λ n. n.now)) (cut ∙ ap (λ (k : ℕ). take k pushed) one ∙ ap (take (length w.path.items)) is ∙ take-append_seam w.path.items (name ∷ []))
 
-pub visit_at : (s : State) (owners : Bool) (firsts firsts_then : Firsts) (path way : List (List ℕ)) (i : ℕ) (old new : Sight) (r : Result Bool ExtractFault)
+pub visit_at : (s : State) (owners : Bool) (firsts firsts_then : FirstPaths) (path way : List (List ℕ)) (i : ℕ) (old new : Sight) (r : Result Bool ExtractFault)
     → path ≡ way → Visits s owners firsts firsts_then path i old new r → Visits s owners firsts firsts_then way i old new r
 visit_at s owners firsts firsts_then path way i old new r is visits = subst (λ (p : List (List ℕ)). Visits s owners firsts firsts_then p i old new r) is visits

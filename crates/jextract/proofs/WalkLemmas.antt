@@ -13,43 +13,43 @@ use Rattle.jmount.specs.Shown.{kind_of, readable, shown}
 use Rattle.jmount.specs.declared.object.Kind.{Kind}
 use Rattle.jmount.specs.declared.object.Kind.TheVariants as kind
 use Rattle.jmount.specs.declared.object.Object.{Object}
-use Rattle.jextract.specs.Folders.{Adds}
+use Rattle.jextract.specs.Folders.{ReportsMore}
 use Rattle.jextract.specs.Making.{Works, FirstsAfter, count_after}
-use Rattle.jextract.specs.Outcomes.{Task, Make, Complete, path_of, Outcome, Firsts, Plan, FollowsPlan, IsOutcomeOf, AreOutcomes, AreFirstOutcomes, attributes_of, plan_of, plan_made, todo_after, todo_if, firsts_after, firsts_if, firsts_with, line_if, line_of}
+use Rattle.jextract.specs.Outcomes.{Task, Make, Complete, path_of_task, Outcome, FirstPaths, Plan, FollowsPlan, IsOutcomeOf, AreOutcomes, AreFirstOutcomes, attributes_of, plan_of, plan_made, tasks_after, todo_if, firsts_after, firsts_if, firsts_with, line_if_left_out, outcome_line}
 use Rattle.jextract.specs.Paths.{host_path}
-use Rattle.jextract.specs.Walking.{Tells, counted, Advances, Sight, Had, Stopped, StopsBy, Visits, Completes, task_if, todo_then, unmade, is_directory_kind}
+use Rattle.jextract.specs.Walking.{Settles, counted_up, Advances, Sight, Had, Stopped, StopsBy, Visits, Completes, task_if, todo_then, unmade, is_directory_kind}
 use Rattle.jextract.specs.declared.fault.ExtractFault.{ExtractFault}
 use Rattle.jextract.specs.declared.fault.ExtractFault.TheVariants as fault
 use Rattle.jextract.specs.declared.making.MakeFault.{MakeFault}
 use Rattle.jextract.specs.declared.making.MakeFault.TheVariants as make
 use Rattle.jextract.specs.declared.reason.Reason.{Reason}
-use Rattle.jextract.proofs.MakingLemmas.{Adds-nil}
+use Rattle.jextract.proofs.MakingLemmas.{ReportsMore-nil}
 use Rattle.flashbase.proofs.ListLemmas.{count_apart, count_fewer}
 use Rattle.jmount.proofs.DirectoryNameLemmas.{length_entries}
 
 -- ---- one outcome
 
-pub one_advances : (s : State) (owners : Bool) (firsts : Firsts) (task : Task) (o : Outcome) (todo : List Task) → IsOutcomeOf s owners firsts task o
-    → Advances s owners firsts (task ∷ todo) (firsts_after firsts task o) (todo_after s task o todo) (o ∷ [])
+pub one_advances : (s : State) (owners : Bool) (firsts : FirstPaths) (task : Task) (o : Outcome) (todo : List Task) → IsOutcomeOf s owners firsts task o
+    → Advances s owners firsts (task ∷ todo) (firsts_after firsts task o) (tasks_after s task o todo) (o ∷ [])
 one_advances s owners firsts task o todo is = (λ rest are. (is, are), λ rest are. (is, are))
 
 count_one : (o : Outcome) → count_by (λ (x : Outcome). is_some x.left_out) (o ∷ []) ≡ cond (is_some o.left_out) 1 0
 count_one o = omega (arith, sum_by-cons (λ (x : Outcome). cond (is_some x.left_out) 1 0) o [])
 
-had_one : (old new : Sight) (o : Outcome) (path : List (List ℕ)) (why : Option Reason) → o.left_out ≡ why → o.path ≡ path → Adds old.made new.made o.deeds
-    → new.failures ≡ count_after old.failures why → Appends old.told new.told (line_if path why) → new.told_failures ≡ old.told_failures
-    → new.left_out ≡ counted old.left_out (cond (is_some why) 1 0) → Had old new (o ∷ [])
+had_one : (old new : Sight) (o : Outcome) (path : List (List ℕ)) (why : Option Reason) → o.left_out ≡ why → o.path ≡ path → ReportsMore old.made new.made o.deeds
+    → new.failures ≡ count_after old.failures why → Appends old.told new.told (line_if_left_out path why) → new.told_failures ≡ old.told_failures
+    → new.left_out ≡ counted_up old.left_out (cond (is_some why) 1 0) → Had old new (o ∷ [])
 had_one old new o path why left at adds failures told same count = (
-  subst (Adds old.made new.made) (sym (append-nil o.deeds)) adds,
+  subst (ReportsMore old.made new.made) (sym (append-nil o.deeds)) adds,
   failures ∙ ap (count_after old.failures) (sym left),
   subst (Appends old.told new.told)
-      (ap (λ (p : List (List ℕ)). line_if p why) (sym at) ∙ ap (line_if o.path) (sym left) ∙ sym (append-nil (line_of o))) told,
+      (ap (λ (p : List (List ℕ)). line_if_left_out p why) (sym at) ∙ ap (line_if_left_out o.path) (sym left) ∙ sym (append-nil (outcome_line o))) told,
   same,
-  count ∙ ap (λ (w : Option Reason). counted old.left_out (cond (is_some w) 1 0)) (sym left) ∙ ap (counted old.left_out) (sym (count_one o)),
+  count ∙ ap (λ (w : Option Reason). counted_up old.left_out (cond (is_some w) 1 0)) (sym left) ∙ ap (counted_up old.left_out) (sym (count_one o)),
 )
 
 -- a task that was settled
-abbrev pub Settled : State → Bool → Firsts → Task → Sight → Sight → Bool → Option Reason → Type 0
+abbrev pub Settled : State → Bool → FirstPaths → Task → Sight → Sight → Bool → Option Reason → Type 0
 Settled s owners firsts task old new done why =
     (o : Outcome) × IsOutcomeOf s owners firsts task o × Had old new (o ∷ []) × (o.left_out ≡ why) × (done ≡ is_none why)
 
@@ -58,29 +58,29 @@ left_of (Ok x) = None
 left_of (Err (make.LeftOut why)) = Some why
 left_of (Err make.OutOfMemory) = None
 
-pub settled : {T : Type 0} (s : State) (owners : Bool) (firsts : Firsts) (task : Task) (old new : Sight) (r : Result T MakeFault) (done : Bool)
+pub settled : {T : Type 0} (s : State) (owners : Bool) (firsts : FirstPaths) (task : Task) (old new : Sight) (r : Result T MakeFault) (done : Bool)
     → Works s owners firsts task old.made new.made old.failures new.failures r
-    → Tells r (path_of task) old.told new.told old.told_failures new.told_failures old.left_out new.left_out (Ok done) → Settled s owners firsts task old new done (left_of r)
+    → Settles r (path_of_task task) old.told new.told old.told_failures new.told_failures old.left_out new.left_out (Ok done) → Settled s owners firsts task old new done (left_of r)
 settled s owners firsts task old new (Ok x) done works tells =
-    (works.0, works.1, had_one old new works.0 (path_of task) None works.2 works.1.0 works.3 works.4 tells.1 tells.2 tells.3, works.2, tells.0)
+    (works.0, works.1, had_one old new works.0 (path_of_task task) None works.2 works.1.0 works.3 works.4 tells.1 tells.2 tells.3, works.2, tells.0)
 settled s owners firsts task old new (Err (make.LeftOut why)) done works tells =
-    (works.0, works.1, had_one old new works.0 (path_of task) (Some why) works.2 works.1.0 works.3 works.4 tells.1 tells.2 tells.3, works.2, tells.0)
+    (works.0, works.1, had_one old new works.0 (path_of_task task) (Some why) works.2 works.1.0 works.3 works.4 tells.1 tells.2 tells.3, works.2, tells.0)
 settled s owners firsts task old new (Err make.OutOfMemory) done works tells = absurd tells
 
 -- a task at which the walk stops
-stops_told : (s : State) (owners : Bool) (firsts : Firsts) (task : Task) (todo : List Task) (old new : Sight) (o : Outcome) (why : Reason) → IsOutcomeOf s owners firsts task o
-    → o.left_out ≡ Some why → Adds old.made new.made o.deeds → PutsPart old.told new.told (line_if (path_of task) (Some why)) → Stopped s owners firsts (task ∷ todo) old new
+stops_told : (s : State) (owners : Bool) (firsts : FirstPaths) (task : Task) (todo : List Task) (old new : Sight) (o : Outcome) (why : Reason) → IsOutcomeOf s owners firsts task o
+    → o.left_out ≡ Some why → ReportsMore old.made new.made o.deeds → PutsPart old.told new.told (line_if_left_out (path_of_task task) (Some why)) → Stopped s owners firsts (task ∷ todo) old new
 stops_told s owners firsts task todo old new o why is left adds part = (
   o ∷ [],
   (is, tt {0}),
-  subst (Adds old.made new.made) (sym (append-nil o.deeds)) adds,
+  subst (ReportsMore old.made new.made) (sym (append-nil o.deeds)) adds,
   subst (PutsPart old.told new.told)
-      (ap (λ (p : List (List ℕ)). line_if p (Some why)) (sym is.0) ∙ ap (line_if o.path) (sym left) ∙ sym (append-nil (line_of o))) part,
+      (ap (λ (p : List (List ℕ)). line_if_left_out p (Some why)) (sym is.0) ∙ ap (line_if_left_out o.path) (sym left) ∙ sym (append-nil (outcome_line o))) part,
 )
 
-pub stops : {T : Type 0} (s : State) (owners : Bool) (firsts : Firsts) (task : Task) (todo : List Task) (old new : Sight) (r : Result T MakeFault) (f : ExtractFault)
+pub stops : {T : Type 0} (s : State) (owners : Bool) (firsts : FirstPaths) (task : Task) (todo : List Task) (old new : Sight) (r : Result T MakeFault) (f : ExtractFault)
     → Works s owners firsts task old.made new.made old.failures new.failures r
-    → Tells r (path_of task) old.told new.told old.told_failures new.told_failures old.left_out new.left_out (Err f) → StopsBy s owners firsts (task ∷ todo) old new f
+    → Settles r (path_of_task task) old.told new.told old.told_failures new.told_failures old.left_out new.left_out (Err f) → StopsBy s owners firsts (task ∷ todo) old new f
 stops s owners firsts task todo old new (Ok x) f works tells = absurd tells
 stops s owners firsts task todo old new (Err (make.LeftOut why)) fault.Folder works tells = absurd tells
 stops s owners firsts task todo old new (Err (make.LeftOut why)) fault.Notes works tells =
@@ -90,7 +90,7 @@ stops s owners firsts task todo old new (Err make.OutOfMemory) fault.Folder work
 stops s owners firsts task todo old new (Err make.OutOfMemory) fault.Notes works tells = absurd tells
 stops s owners firsts task todo old new (Err make.OutOfMemory) fault.OutOfMemory (inl adds) tells = (([], tt {0}, adds, (0, tells.0)), tells.1)
 stops s owners firsts task todo old new (Err make.OutOfMemory) fault.OutOfMemory (inr begun) tells = (
-  (begun.0 ∷ [], (begun.1, tt {0}), subst (Adds old.made new.made) (sym (append-nil begun.0.deeds)) begun.2, (0, tells.0)),
+  (begun.0 ∷ [], (begun.1, tt {0}), subst (ReportsMore old.made new.made) (sym (append-nil begun.0.deeds)) begun.2, (0, tells.0)),
   tells.1,
 )
 
@@ -98,13 +98,13 @@ stops s owners firsts task todo old new (Err make.OutOfMemory) fault.OutOfMemory
 
 pub completes : {T : Type 0} (s : State) (owners : Bool) (path : List (List ℕ)) (i : ℕ) (old new : Sight) (r : Result T MakeFault) (t : Result Bool ExtractFault)
     → Works s owners (λ j. None) (Complete path i) old.made new.made old.failures new.failures r
-    → Tells r path old.told new.told old.told_failures new.told_failures old.left_out new.left_out t → Completes s owners path i old new t
+    → Settles r path old.told new.told old.told_failures new.told_failures old.left_out new.left_out t → Completes s owners path i old new t
 completes {T} s owners path i old new r (Ok done) works tells =
     let by = settled s owners (λ j. None) (Complete path i) old new r done works tells in
     (by.0 ∷ [], by.2, λ firsts todo. one_advances s owners firsts (Complete path i) by.0 todo by.1)
 completes {T} s owners path i old new r (Err f) works tells = λ firsts todo. stops s owners firsts (Complete path i) todo old new r f (anywhere firsts r works) tells
   where
-    anywhere : (firsts : Firsts) (x : Result T MakeFault) → Works s owners (λ j. None) (Complete path i) old.made new.made old.failures new.failures x
+    anywhere : (firsts : FirstPaths) (x : Result T MakeFault) → Works s owners (λ j. None) (Complete path i) old.made new.made old.failures new.failures x
         → Works s owners firsts (Complete path i) old.made new.made old.failures new.failures x
     anywhere firsts (Ok y) works = works
     anywhere firsts (Err (make.LeftOut why)) works = works
@@ -113,7 +113,7 @@ completes {T} s owners path i old new r (Err f) works tells = λ firsts todo. st
 -- ---- the names whose directory was not made
 
 -- a directory that is made for the first time takes its names along
-unmade_entered : (s : State) (firsts : Firsts) (text : List ℕ) (i : ℕ) → firsts i ≡ None
+unmade_entered : (s : State) (firsts : FirstPaths) (text : List ℕ) (i : ℕ) → firsts i ≡ None
     → unmade s (firsts_with firsts (Ok text) i) + length (entries_in s i) ≡ unmade s firsts
 unmade_entered s firsts text i new =
     ap (λ n. unmade s (firsts_with firsts (Ok text) i) + n) (length_entries s i)
@@ -134,7 +134,7 @@ unmade_entered s firsts text i new =
     one (Some x) at true e gone = let none = gone refl in absurd (cc)
     one (Some x) at false e gone = refl
 
-unmade_after : (s : State) (firsts : Firsts) (path : Result (List ℕ) Reason) (i : ℕ) → unmade s (firsts_with firsts path i) ≤ unmade s firsts
+unmade_after : (s : State) (firsts : FirstPaths) (path : Result (List ℕ) Reason) (i : ℕ) → unmade s (firsts_with firsts path i) ≤ unmade s firsts
 unmade_after s firsts (Err why) i = omega arith
 unmade_after s firsts (Ok text) i =
     count_fewer (λ e. is_none (firsts_with firsts (Ok text) i e.0.0)) (λ e. is_none (firsts e.0.0)) (λ e. one (firsts e.0.0) (i == e.0.0)) (entries s.names)
@@ -194,13 +194,13 @@ kind_directory kind.Socket is = absurd (cc)
 kind_directory kind.Other is = absurd (cc)
 
 pub had_none : (old : Sight) → Had old old []
-had_none old = (Adds-nil old.made, refl, Appends-nil old.told, refl, refl)
+had_none old = (ReportsMore-nil old.made, refl, Appends-nil old.told, refl, refl)
 
 gone_is : (x : Option (ObjectOf (List ℕ))) → option_map shown x ≡ None → is_some x ≡ false
 gone_is None is = refl
 gone_is (Some x) is = absurd (cc)
 
-pub visit_gone : (s : State) (owners : Bool) (firsts : Firsts) (path : List (List ℕ)) (i : ℕ) (old : Sight) → option_map shown (object s i) ≡ None
+pub visit_gone : (s : State) (owners : Bool) (firsts : FirstPaths) (path : List (List ℕ)) (i : ℕ) (old : Sight) → option_map shown (object s i) ≡ None
     → Visits s owners firsts firsts path i old old (Ok false)
 visit_gone s owners firsts path i old gone =
     let same : (todo : List Task) → todo ≡ task_if s path i ++ todo = λ todo. ap (λ (b : Bool). (if b then Make path i ∷ [] else []) ++ todo) (sym (gone_is (object s i) gone)) in (
@@ -214,20 +214,20 @@ visit_gone s owners firsts path i old gone =
     )
 
 -- the same way, told with equal words
-advances_as : (s : State) (owners : Bool) (firsts : Firsts) (todo other : List Task) (then_ then_other : Firsts) (todo_ todo_other : List Task) (outcomes : List Outcome)
+advances_as : (s : State) (owners : Bool) (firsts : FirstPaths) (todo other : List Task) (then_ then_other : FirstPaths) (todo_ todo_other : List Task) (outcomes : List Outcome)
     → todo ≡ other → then_ ≡ then_other → todo_ ≡ todo_other → Advances s owners firsts todo then_ todo_ outcomes → Advances s owners firsts other then_other todo_other outcomes
 advances_as s owners firsts todo other then_ then_other todo_ todo_other outcomes a b c advances =
     subst (λ (t : List Task). Advances s owners firsts t then_other todo_other outcomes) a
-    (subst (λ (f : Firsts). Advances s owners firsts todo f todo_other outcomes) b
+    (subst (λ (f : FirstPaths). Advances s owners firsts todo f todo_other outcomes) b
     (subst (λ (t : List Task). Advances s owners firsts todo then_ t outcomes) c advances))
 
 there_task : (s : State) (path : List (List ℕ)) (i : ℕ) (o : Object) (todo : List Task) → option_map shown (object s i) ≡ Some o → Make path i ∷ todo ≡ task_if s path i ++ todo
 there_task s path i o todo there = ap (λ (b : Bool). (if b then Make path i ∷ [] else []) ++ todo) (sym (there_is (object s i) o there))
 
-pub visit_made : {T : Type 0} (s : State) (owners : Bool) (firsts firsts_then : Firsts) (path : List (List ℕ)) (i : ℕ) (o : Object) (old new : Sight) (r : Result T MakeFault) (done : Bool)
+pub visit_made : {T : Type 0} (s : State) (owners : Bool) (firsts firsts_then : FirstPaths) (path : List (List ℕ)) (i : ℕ) (o : Object) (old new : Sight) (r : Result T MakeFault) (done : Bool)
     → option_map shown (object s i) ≡ Some o
     → Works s owners firsts (Make path i) old.made new.made old.failures new.failures r → FirstsAfter firsts firsts_then path i r
-    → Tells r path old.told new.told old.told_failures new.told_failures old.left_out new.left_out (Ok done)
+    → Settles r path old.told new.told old.told_failures new.told_failures old.left_out new.left_out (Ok done)
     → Visits s owners firsts firsts_then path i old new (Ok (done && is_directory_kind o.kind))
 visit_made {T} s owners firsts firsts_then path i o old new (Err make.OutOfMemory) done there works after tells = absurd tells
 visit_made {T} s owners firsts firsts_then path i o old new (Err (make.LeftOut why)) done there works after tells =
@@ -253,7 +253,7 @@ visit_made {T} s owners firsts firsts_then path i o old new (Ok x) done there wo
           (ap (λ (w : Option Reason). todo_if s path i w todo) by.3 ∙ ap (λ (b : Bool). todo_then s path i b todo) (directory ∙ sym entered))
           (one_advances s owners firsts (Make path i) by.0 todo by.1),
       subst (λ (b : Bool). unmade s firsts_then + (if b then length (entries_in s i) else 0) ≤ unmade s firsts) (sym entered)
-          (subst (λ (f : Firsts). unmade s f + (if is_directory_kind o.kind then length (entries_in s i) else 0) ≤ unmade s firsts) (sym after) (fewer by.0 by.1 by.3 (is_directory_kind o.kind) refl)),
+          (subst (λ (f : FirstPaths). unmade s f + (if is_directory_kind o.kind then length (entries_in s i) else 0) ≤ unmade s firsts) (sym after) (fewer by.0 by.1 by.3 (is_directory_kind o.kind) refl)),
     )
   where
     fewer : (u : Outcome) → IsOutcomeOf s owners firsts (Make path i) u → u.left_out ≡ None → (b : Bool) → is_directory_kind o.kind ≡ b
@@ -266,14 +266,14 @@ visit_made {T} s owners firsts firsts_then path i o old new (Ok x) done there wo
         let count = unmade_entered s firsts is_new.1.0 i is_new.0 in
         subst (λ (p : Result (List ℕ) Reason). unmade s (firsts_with firsts p i) + length (entries_in s i) ≤ unmade s firsts) (sym is_new.1.1) (omega (arith, count))
 
-pub visit_stops : {T : Type 0} (s : State) (owners : Bool) (firsts firsts_then : Firsts) (path : List (List ℕ)) (i : ℕ) (o : Object) (old new : Sight) (r : Result T MakeFault) (f : ExtractFault)
+pub visit_stops : {T : Type 0} (s : State) (owners : Bool) (firsts firsts_then : FirstPaths) (path : List (List ℕ)) (i : ℕ) (o : Object) (old new : Sight) (r : Result T MakeFault) (f : ExtractFault)
     → option_map shown (object s i) ≡ Some o → Works s owners firsts (Make path i) old.made new.made old.failures new.failures r
-    → Tells r path old.told new.told old.told_failures new.told_failures old.left_out new.left_out (Err f)
+    → Settles r path old.told new.told old.told_failures new.told_failures old.left_out new.left_out (Err f)
     → Visits s owners firsts firsts_then path i old new (Err f)
 visit_stops s owners firsts firsts_then path i o old new r f there works tells =
     λ todo. subst (λ (t : List Task). StopsBy s owners firsts t old new f) (there_task s path i o todo there) (stops s owners firsts (Make path i) todo old new r f works tells)
 
-pub visits_at_fault : (s : State) (owners : Bool) (firsts firsts_then : Firsts) (path : List (List ℕ)) (i : ℕ) (old new : Sight) (f : ExtractFault) (r : Result Bool ExtractFault)
+pub visits_at_fault : (s : State) (owners : Bool) (firsts firsts_then : FirstPaths) (path : List (List ℕ)) (i : ℕ) (old new : Sight) (f : ExtractFault) (r : Result Bool ExtractFault)
     → IsErrAnd r (λ e. e ≡ f) → Visits s owners firsts firsts_then path i old new (Err f) → Visits s owners firsts firsts_then path i old new r
 visits_at_fault s owners firsts firsts_then path i old new f (Ok x) err visits = absurd err
 visits_at_fault s owners firsts firsts_then path i old new f (Err e) err visits =

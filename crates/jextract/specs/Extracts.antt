@@ -3,7 +3,7 @@ use Rattle.std.specs.Prelude.{◌≡◌, ℕ, Bool, List, [], take, Option, Resu
 use Rattle.std.specs.Io.KnownBytes.{Appends}
 use Rattle.flashbase.specs.Device.{PutsPart, next_count}
 use Rattle.jmount.specs.Tree.{State}
-use Rattle.jextract.specs.Folders.{Made, Adds}
+use Rattle.jextract.specs.Folders.{Made, ReportsMore}
 use Rattle.jextract.specs.Outcomes.{Outcome, root_alone, tasks_in, AreOutcomes, AreFirstOutcomes, all_made, all_lines, failures_after, count_left_out}
 use Rattle.jextract.specs.declared.fault.ExtractFault.{ExtractFault}
 use Rattle.jextract.specs.declared.fault.ExtractFault.TheVariants.{Folder, Notes, OutOfMemory}
@@ -19,13 +19,13 @@ AreFirstTreeOutcomes s owners outcomes = AreFirstOutcomes s owners root_alone (t
 -- the whole tree was gone through
 abbrev pub DoesAll : State → Bool → Option (List Made) → Option (List Made) → ℕ → ℕ → Option (List ℕ) → Option (List ℕ) → ℕ → ℕ → ℕ → Type 0
 DoesAll s owners old new before now told_old told_new told_before told_now n =
-    (outcomes : List Outcome) × AreTreeOutcomes s owners outcomes × Adds old new (all_made outcomes) × (now ≡ failures_after before outcomes)
+    (outcomes : List Outcome) × AreTreeOutcomes s owners outcomes × ReportsMore old new (all_made outcomes) × (now ≡ failures_after before outcomes)
     × Appends told_old told_new (all_lines outcomes) × (told_now ≡ told_before) × (n ≡ count_left_out outcomes)
 
 -- it was gone through up to a place; what was made stays, and a beginning of the lines was told
 abbrev pub DoesPart : State → Bool → Option (List Made) → Option (List Made) → Option (List ℕ) → Option (List ℕ) → Type 0
 DoesPart s owners old new told_old told_new =
-    (outcomes : List Outcome) × AreFirstTreeOutcomes s owners outcomes × ((k : ℕ) × Adds old new (take k (all_made outcomes)))
+    (outcomes : List Outcome) × AreFirstTreeOutcomes s owners outcomes × ((k : ℕ) × ReportsMore old new (take k (all_made outcomes)))
     × PutsPart told_old told_new (all_lines outcomes)
 
 -- A call extracts a file system. `before` and `now` count the failures of the folder, `told_before` and `told_now` those of
@@ -34,7 +34,7 @@ abbrev pub Extracts : State → Bool → Option (List Made) → Option (List Mad
 Extracts s owners old new before now told_old told_new told_before told_now (Ok n) =
     DoesAll s owners old new before now told_old told_new told_before told_now n
 Extracts s owners old new before now told_old told_new told_before told_now (Err Folder) =
-    Adds old new [] × (now ≡ next_count before) × Appends told_old told_new [] × (told_now ≡ told_before)
+    ReportsMore old new [] × (now ≡ next_count before) × Appends told_old told_new [] × (told_now ≡ told_before)
 Extracts s owners old new before now told_old told_new told_before told_now (Err Notes) =
     DoesPart s owners old new told_old told_new × (told_now ≡ next_count told_before)
 Extracts s owners old new before now told_old told_new told_before told_now (Err OutOfMemory) =

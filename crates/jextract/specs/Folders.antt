@@ -26,10 +26,10 @@ pub record Made : Type 0 where
   pub deed : Deed
 
 -- known deeds are followed by these
-abbrev pub Adds : Option (List Made) → Option (List Made) → List Made → Type 0
-Adds None new more = ⊤
-Adds (Some made) None more = ⊥
-Adds (Some made) (Some after) more = after ≡ made ++ more
+abbrev pub ReportsMore : Option (List Made) → Option (List Made) → List Made → Type 0
+ReportsMore None new more = ⊤
+ReportsMore (Some made) None more = ⊥
+ReportsMore (Some made) (Some after) more = after ≡ made ++ more
 
 -- the folder failed once where it refused
 abbrev pub Counts : {T : Type 0} → ℕ → ℕ → Result T FolderFault → Type 0
@@ -39,8 +39,8 @@ Counts before now (Err OutOfMemory) = now ≡ before
 
 -- a call does this, or at a fault nothing
 abbrev pub AddsOne : {T : Type 0} → Option (List Made) → Option (List Made) → Made → Result T FolderFault → Type 0
-AddsOne old new made (Ok _) = Adds old new (made ∷ [])
-AddsOne old new made (Err _) = Adds old new []
+AddsOne old new made (Ok _) = ReportsMore old new (made ∷ [])
+AddsOne old new made (Err _) = ReportsMore old new []
 
 -- a file took no byte yet, where the folder says what was made in it
 abbrev pub IsEmptyIn : Option (List Made) → Option (List ℕ) → Type 0

@@ -7,7 +7,7 @@ use Rattle.jmount.specs.Find.{is_name}
 use Rattle.jextract.specs.Extracts.{AreTreeOutcomes, AreFirstTreeOutcomes}
 use Rattle.jextract.specs.Folders.{Made, Deed, Directory, File, Content, Symlink, Link, Attributed}
 use Rattle.jextract.specs.Outcomes.{Outcome, all_made}
-use Rattle.jextract.specs.Paths.{greatest_path, path_text}
+use Rattle.jextract.specs.Paths.{greatest_path, relative_path}
 
 -- what comes of a whole tree is also a first part of it, so that the laws on such parts hold of it
 abbrev pub WholeIsFirst : Type 0
@@ -15,7 +15,7 @@ WholeIsFirst = (s : State) (owners : Bool) (outcomes : List Outcome) → AreTree
 
 -- a path of the host with these names, none of which is empty, `.` or `..`, or has a slash; no names are the folder itself
 abbrev pub HasNames : List ℕ → List (List ℕ) → Type 0
-HasNames path names = (path ≡ path_text names) × (list_all is_name names ≡ true) × (length path ≤ greatest_path) × (is_utf8 path ≡ true)
+HasNames path names = (path ≡ relative_path names) × (list_all is_name names ≡ true) × (length path ≤ greatest_path) × (is_utf8 path ≡ true)
 
 -- whatever a file system says, each path at which something is made has names that lead into the folder, and is UTF-8 of at
 -- most 4,095 bytes
@@ -25,7 +25,7 @@ MakesInside = (s : State) (owners : Bool) (outcomes : List Outcome) (made : Made
 
 -- the directory with these names, as it is made
 abbrev pub directory_at : List (List ℕ) → Made
-directory_at names = record { path = path_text names; deed = Directory }
+directory_at names = record { path = relative_path names; deed = Directory }
 
 -- each directory on the way to a path with these names is among what was made
 abbrev pub HasWay : List Made → List (List ℕ) → Type 0
@@ -71,7 +71,7 @@ is_of_directory _ = false
 abbrev pub MakesThroughDirectories : Type 0
 MakesThroughDirectories = (s : State) (owners : Bool) (outcomes : List Outcome) (made other : Made) (way : List (List ℕ)) (name : List ℕ) (rest : List (List ℕ))
     → AreFirstTreeOutcomes s owners outcomes → Contains (all_made outcomes) made → HasNames made.path (way ++ name ∷ rest)
-    → Contains (all_made outcomes) other → other.path ≡ path_text way → is_of_directory other.deed ≡ true
+    → Contains (all_made outcomes) other → other.path ≡ relative_path way → is_of_directory other.deed ≡ true
 
 -- a file or a symlink is made, which may have further names
 abbrev pub is_linkable : Deed → Bool
@@ -89,6 +89,6 @@ AreLinkedBack before (made ∷ more) = ((first : List ℕ) → made.deed ≡ Lin
 
 -- Where the root is a directory, as in each image that mounts: whatever else a file system says, a further name is of a file or
 -- a symlink that was made in the folder before.
-abbrev pub LinksBack : Type 0
-LinksBack = (s : State) (owners : Bool) (outcomes : List Outcome) → is_directory s 1 ≡ true → AreFirstTreeOutcomes s owners outcomes
+abbrev pub LinksLeadBack : Type 0
+LinksLeadBack = (s : State) (owners : Bool) (outcomes : List Outcome) → is_directory s 1 ≡ true → AreFirstTreeOutcomes s owners outcomes
     → AreLinkedBack [] (all_made outcomes)

@@ -5,8 +5,8 @@ use Rattle.std.specs.Ordering.{nat_cmp}
 use Rattle.std.specs.BTreeMap.{BTreeMap, get}
 use Rattle.flashbase.specs.Device.{next_count}
 use Rattle.jmount.specs.Tree.{State}
-use Rattle.jextract.specs.Folders.{Made, Adds, Deed}
-use Rattle.jextract.specs.Outcomes.{Plan, Do, LeaveOut, Task, Outcome, Firsts, IsOutcomeOf, made_at, is_refusal, firsts_if}
+use Rattle.jextract.specs.Folders.{Made, ReportsMore, Deed}
+use Rattle.jextract.specs.Outcomes.{Plan, Do, LeaveOut, Task, Outcome, FirstPaths, IsOutcomeOf, made_at, is_refusal, firsts_if}
 use Rattle.jextract.specs.declared.folder.FolderFault.{FolderFault}
 use Rattle.jextract.specs.declared.folder.FolderFault.TheVariants as folder
 use Rattle.jextract.specs.declared.reason.Reason.{Reason}
@@ -27,23 +27,23 @@ fault_of folder.OutOfMemory = OutOfMemory
 
 -- the first of these deeds were done, not all of them
 abbrev pub DoesSome : Option (List Made) → Option (List Made) → List Made → Type 0
-DoesSome old new deeds = (k : ℕ) × (k < length deeds) × Adds old new (take k deeds)
+DoesSome old new deeds = (k : ℕ) × (k < length deeds) × ReportsMore old new (take k deeds)
 
 -- A call does all of these. At a fault it did those before one of them, and where it was refused, the folder failed once.
 abbrev pub Does : {T : Type 0} → Option (List Made) → Option (List Made) → ℕ → ℕ → List Made → Result T FolderFault → Type 0
-Does old new before now deeds (Ok _) = Adds old new deeds × (now ≡ before)
+Does old new before now deeds (Ok _) = ReportsMore old new deeds × (now ≡ before)
 Does old new before now deeds (Err folder.Refused) = DoesSome old new deeds × (now ≡ next_count before)
 Does old new before now deeds (Err folder.OutOfMemory) = DoesSome old new deeds × (now ≡ before)
 
 -- why a plan was not followed: it is not to be, or the host refused a deed
 abbrev pub LeavesOut : Option (List Made) → Option (List Made) → ℕ → ℕ → List ℕ → Plan → Reason → Type 0
 LeavesOut old new before now path plan why =
-    ((plan ≡ LeaveOut why) × Adds old new [] × (now ≡ before) × (is_refusal (Some why) ≡ false))
+    ((plan ≡ LeaveOut why) × ReportsMore old new [] × (now ≡ before) × (is_refusal (Some why) ≡ false))
     ⊎ ((deeds : List Deed) × (plan ≡ Do deeds) × DoesSome old new (made_at path deeds) × (now ≡ next_count before) × (why ≡ Refused))
 
 -- a call follows a plan at a path
 abbrev pub Follows : {T : Type 0} → Option (List Made) → Option (List Made) → ℕ → ℕ → List ℕ → Plan → Result T MakeFault → Type 0
-Follows old new before now path plan (Ok _) = (deeds : List Deed) × (plan ≡ Do deeds) × Adds old new (made_at path deeds) × (now ≡ before)
+Follows old new before now path plan (Ok _) = (deeds : List Deed) × (plan ≡ Do deeds) × ReportsMore old new (made_at path deeds) × (now ≡ before)
 Follows old new before now path plan (Err (LeftOut why)) = LeavesOut old new before now path plan why
 Follows old new before now path plan (Err OutOfMemory) = (deeds : List Deed) × (plan ≡ Do deeds) × DoesSome old new (made_at path deeds)
 
@@ -52,25 +52,25 @@ abbrev pub count_after : ℕ → Option Reason → ℕ
 count_after n why = if is_refusal why then next_count n else n
 
 -- a task had this outcome
-abbrev pub HasOutcome : State → Bool → Firsts → Task → Option (List Made) → Option (List Made) → ℕ → ℕ → Option Reason → Type 0
+abbrev pub HasOutcome : State → Bool → FirstPaths → Task → Option (List Made) → Option (List Made) → ℕ → ℕ → Option Reason → Type 0
 HasOutcome s owners firsts task old new before now why =
-    (o : Outcome) × IsOutcomeOf s owners firsts task o × (o.left_out ≡ why) × Adds old new o.deeds × (now ≡ count_after before why)
+    (o : Outcome) × IsOutcomeOf s owners firsts task o × (o.left_out ≡ why) × ReportsMore old new o.deeds × (now ≡ count_after before why)
 
 -- a task was begun, or not even that
-abbrev pub HasBegun : State → Bool → Firsts → Task → Option (List Made) → Option (List Made) → Type 0
-HasBegun s owners firsts task old new = Adds old new [] ⊎ ((o : Outcome) × IsOutcomeOf s owners firsts task o × Adds old new o.deeds)
+abbrev pub HasBegun : State → Bool → FirstPaths → Task → Option (List Made) → Option (List Made) → Type 0
+HasBegun s owners firsts task old new = ReportsMore old new [] ⊎ ((o : Outcome) × IsOutcomeOf s owners firsts task o × ReportsMore old new o.deeds)
 
 -- a call does a task
-abbrev pub Works : {T : Type 0} → State → Bool → Firsts → Task → Option (List Made) → Option (List Made) → ℕ → ℕ → Result T MakeFault → Type 0
+abbrev pub Works : {T : Type 0} → State → Bool → FirstPaths → Task → Option (List Made) → Option (List Made) → ℕ → ℕ → Result T MakeFault → Type 0
 Works s owners firsts task old new before now (Ok _) = HasOutcome s owners firsts task old new before now None
 Works s owners firsts task old new before now (Err (LeftOut why)) = HasOutcome s owners firsts task old new before now (Some why)
 Works s owners firsts task old new before now (Err OutOfMemory) = HasBegun s owners firsts task old new
 
 -- the paths at which objects were made first
-abbrev pub firsts_of : BTreeMap ℕ (String Global) → Firsts
+abbrev pub firsts_of : BTreeMap ℕ (String Global) → FirstPaths
 firsts_of paths = λ i. option_map string_bytes (get nat_cmp paths i)
 
 -- those after a task at a path, which was done or was not
-abbrev pub FirstsAfter : {T : Type 0} → Firsts → Firsts → List (List ℕ) → ℕ → Result T MakeFault → Type 0
+abbrev pub FirstsAfter : {T : Type 0} → FirstPaths → FirstPaths → List (List ℕ) → ℕ → Result T MakeFault → Type 0
 FirstsAfter old new path i (Ok _) = new ≡ firsts_if old path i None
 FirstsAfter old new path i (Err _) = new ≡ old

@@ -67,11 +67,11 @@ plan_of (Some first) kind bytes attributes = plan_again kind first
 -- ---- the walk: what is still to be done
 
 -- the path at which the object of a number was made first
-abbrev pub Firsts : Type 0
-Firsts = ℕ → Option (List ℕ)
+abbrev pub FirstPaths : Type 0
+FirstPaths = ℕ → Option (List ℕ)
 
 -- at the start the root alone is made
-abbrev pub root_alone : Firsts
+abbrev pub root_alone : FirstPaths
 root_alone i = if 1 == i then Some [] else None
 
 -- A path leads to an object that is to be made, or to a directory that is complete. A path is given by its names.
@@ -79,9 +79,9 @@ pub data Task : Type 0 where
   Make : List (List ℕ) → ℕ → Task
   Complete : List (List ℕ) → ℕ → Task
 
-abbrev pub path_of : Task → List (List ℕ)
-path_of (Make path i) = path
-path_of (Complete path i) = path
+abbrev pub path_of_task : Task → List (List ℕ)
+path_of_task (Make path i) = path
+path_of_task (Complete path i) = path
 
 -- these names of a directory that lead to objects, each with its path
 abbrev pub tasks_of : State → List (List ℕ) → List (List ℕ × ℕ) → List Task
@@ -91,7 +91,7 @@ tasks_of s path names = map (λ e. Make (path ++ e.0 ∷ []) e.1) (filter (λ e.
 abbrev pub tasks_in : State → List (List ℕ) → ℕ → List Task
 tasks_in s path i = tasks_of s path (entries_in s i) ++ Complete path i ∷ []
 
-abbrev pub plan_made : State → Bool → Firsts → ℕ → Option Object → Plan
+abbrev pub plan_made : State → Bool → FirstPaths → ℕ → Option Object → Plan
 plan_made s owners firsts i None = Do []
 plan_made s owners firsts i (Some o) = plan_of (firsts i) o.kind (readable s i) (attributes_of owners o)
 
@@ -99,7 +99,7 @@ abbrev pub plan_completed : Bool → Option Object → Plan
 plan_completed owners None = Do []
 plan_completed owners (Some o) = Do (Attributed (attributes_of owners o) ∷ [])
 
-abbrev pub plan_at : State → Bool → Firsts → Task → Plan
+abbrev pub plan_at : State → Bool → FirstPaths → Task → Plan
 plan_at s owners firsts (Make path i) = plan_made s owners firsts i (option_map shown (object s i))
 plan_at s owners firsts (Complete path i) = plan_completed owners (option_map shown (object s i))
 
@@ -125,21 +125,21 @@ FollowsPlan (Err why) plan o = (o.deeds ≡ []) × (o.left_out ≡ Some why)
 FollowsPlan (Ok path) (LeaveOut why) o = (o.deeds ≡ []) × (o.left_out ≡ Some why)
 FollowsPlan (Ok path) (Do deeds) o = IsDone (made_at path deeds) o
 
-abbrev pub IsOutcomeOf : State → Bool → Firsts → Task → Outcome → Type 0
-IsOutcomeOf s owners firsts task o = (o.path ≡ path_of task) × FollowsPlan (host_path (path_of task)) (plan_at s owners firsts task) o
+abbrev pub IsOutcomeOf : State → Bool → FirstPaths → Task → Outcome → Type 0
+IsOutcomeOf s owners firsts task o = (o.path ≡ path_of_task task) × FollowsPlan (host_path (path_of_task task)) (plan_at s owners firsts task) o
 
 -- ---- what follows from an outcome
 
 -- an object that was made at a path, if it was not made before
-abbrev pub firsts_with : Firsts → Result (List ℕ) Reason → ℕ → Firsts
+abbrev pub firsts_with : FirstPaths → Result (List ℕ) Reason → ℕ → FirstPaths
 firsts_with firsts (Err why) i = firsts
 firsts_with firsts (Ok path) i = λ j. option_or (firsts j) (if i == j then Some path else None)
 
-abbrev pub firsts_if : Firsts → List (List ℕ) → ℕ → Option Reason → Firsts
+abbrev pub firsts_if : FirstPaths → List (List ℕ) → ℕ → Option Reason → FirstPaths
 firsts_if firsts path i (Some why) = firsts
 firsts_if firsts path i None = firsts_with firsts (host_path path) i
 
-abbrev pub firsts_after : Firsts → Task → Outcome → Firsts
+abbrev pub firsts_after : FirstPaths → Task → Outcome → FirstPaths
 firsts_after firsts (Make path i) o = firsts_if firsts path i o.left_out
 firsts_after firsts (Complete path i) o = firsts
 
@@ -148,23 +148,23 @@ abbrev pub todo_if : State → List (List ℕ) → ℕ → Option Reason → Lis
 todo_if s path i (Some why) todo = todo
 todo_if s path i None todo = if is_directory s i then tasks_in s path i ++ todo else todo
 
-abbrev pub todo_after : State → Task → Outcome → List Task → List Task
-todo_after s (Make path i) o todo = todo_if s path i o.left_out todo
-todo_after s (Complete path i) o todo = todo
+abbrev pub tasks_after : State → Task → Outcome → List Task → List Task
+tasks_after s (Make path i) o todo = todo_if s path i o.left_out todo
+tasks_after s (Complete path i) o todo = todo
 
 -- the outcomes of what is still to be done, first to last
-abbrev pub AreOutcomes : State → Bool → Firsts → List Task → List Outcome → Type 0
+abbrev pub AreOutcomes : State → Bool → FirstPaths → List Task → List Outcome → Type 0
 AreOutcomes s owners firsts [] outcomes = outcomes ≡ []
 AreOutcomes s owners firsts (task ∷ todo) [] = ⊥
 AreOutcomes s owners firsts (task ∷ todo) (o ∷ outcomes) =
-    IsOutcomeOf s owners firsts task o × AreOutcomes s owners (firsts_after firsts task o) (todo_after s task o todo) outcomes
+    IsOutcomeOf s owners firsts task o × AreOutcomes s owners (firsts_after firsts task o) (tasks_after s task o todo) outcomes
 
 -- the first of them, perhaps not all
-abbrev pub AreFirstOutcomes : State → Bool → Firsts → List Task → List Outcome → Type 0
+abbrev pub AreFirstOutcomes : State → Bool → FirstPaths → List Task → List Outcome → Type 0
 AreFirstOutcomes s owners firsts todo [] = Unit
 AreFirstOutcomes s owners firsts [] (o ∷ outcomes) = ⊥
 AreFirstOutcomes s owners firsts (task ∷ todo) (o ∷ outcomes) =
-    IsOutcomeOf s owners firsts task o × AreFirstOutcomes s owners (firsts_after firsts task o) (todo_after s task o todo) outcomes
+    IsOutcomeOf s owners firsts task o × AreFirstOutcomes s owners (firsts_after firsts task o) (tasks_after s task o todo) outcomes
 
 -- the folder itself is made first, and then filled
 abbrev pub root_made : Made
@@ -175,28 +175,28 @@ all_made outcomes = root_made ∷ flat_map (λ o. o.deeds) outcomes
 
 -- ---- what is told
 
-abbrev pub reason_text : Reason → List ℕ
-reason_text reason.BadName = codes "a name that no file has"
-reason_text reason.LongPath = codes "path too long"
-reason_text reason.NoText = codes "no text"
-reason_text reason.Again = codes "directory again"
-reason_text reason.CharacterDevice = codes "character device"
-reason_text reason.BlockDevice = codes "block device"
-reason_text reason.Fifo = codes "FIFO"
-reason_text reason.Socket = codes "socket"
-reason_text reason.UnknownKind = codes "a kind that is not known"
-reason_text reason.BadTarget = codes "bad target"
-reason_text reason.Refused = codes "the host refused it"
+abbrev pub left_out_reason : Reason → List ℕ
+left_out_reason reason.BadName = codes "a name that no file has"
+left_out_reason reason.LongPath = codes "path too long"
+left_out_reason reason.NoText = codes "no text"
+left_out_reason reason.Again = codes "directory again"
+left_out_reason reason.CharacterDevice = codes "character device"
+left_out_reason reason.BlockDevice = codes "block device"
+left_out_reason reason.Fifo = codes "FIFO"
+left_out_reason reason.Socket = codes "socket"
+left_out_reason reason.UnknownKind = codes "a kind that is not known"
+left_out_reason reason.BadTarget = codes "bad target"
+left_out_reason reason.Refused = codes "the host refused it"
 
-unfoldable pub left_out_line : List (List ℕ) → Reason → List ℕ
-left_out_line path why = codes "left out " ++ (path_shown path ++ (codes ": " ++ (reason_text why ++ 10 ∷ [])))
+unfoldable pub line_of_left_out : List (List ℕ) → Reason → List ℕ
+line_of_left_out path why = codes "left out " ++ (path_shown path ++ (codes ": " ++ (left_out_reason why ++ 10 ∷ [])))
 
-abbrev pub line_if : List (List ℕ) → Option Reason → List ℕ
-line_if path None = []
-line_if path (Some why) = left_out_line path why
+abbrev pub line_if_left_out : List (List ℕ) → Option Reason → List ℕ
+line_if_left_out path None = []
+line_if_left_out path (Some why) = line_of_left_out path why
 
-abbrev pub line_of : Outcome → List ℕ
-line_of o = line_if o.path o.left_out
+abbrev pub outcome_line : Outcome → List ℕ
+outcome_line o = line_if_left_out o.path o.left_out
 
 abbrev pub is_refusal : Option Reason → Bool
 is_refusal None = false
@@ -214,4 +214,4 @@ count_left_out outcomes = min (count_by (λ o. is_some o.left_out) outcomes) (2 
 
 -- all lines that are told
 abbrev pub all_lines : List Outcome → List ℕ
-all_lines outcomes = flat_map line_of outcomes
+all_lines outcomes = flat_map outcome_line outcomes

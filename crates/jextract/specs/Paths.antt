@@ -7,9 +7,9 @@ use Rattle.jextract.specs.declared.reason.Reason.{Reason}
 use Rattle.jextract.specs.declared.reason.Reason.TheVariants as reason
 
 -- the text of a path: its names with a slash between two
-abbrev pub path_text : List (List ℕ) → List ℕ
-path_text [] = []
-path_text (name ∷ names) = name ++ flat_map (λ n. 47 ∷ n) names
+abbrev pub relative_path : List (List ℕ) → List ℕ
+relative_path [] = []
+relative_path (name ∷ names) = name ++ flat_map (λ n. 47 ∷ n) names
 
 -- no host takes a longer one (Linux, include/uapi/linux/limits.h: PATH_MAX has room for a zero byte)
 abbrev pub greatest_path : ℕ
@@ -24,4 +24,4 @@ text_if text =
 -- The text of a path that a host may have, or why it may not: each name of it is one that a path may have (POSIX.1-2017,
 -- 3.170 "Filename"), and its text is UTF-8 and of no more than 4,095 bytes.
 unfoldable pub host_path : List (List ℕ) → Result (List ℕ) Reason
-host_path path = if list_all is_name path then text_if (path_text path) else Err reason.BadName
+host_path path = if list_all is_name path then text_if (relative_path path) else Err reason.BadName

@@ -7,10 +7,10 @@ use Rattle.jmount.specs.Tree.{State, is_there, entries_in}
 use Rattle.jmount.specs.declared.object.Kind.{Kind}
 use Rattle.jmount.specs.declared.object.Kind.TheVariants as kind
 use Rattle.jmount.specs.Find.{way_up}
-use Rattle.jextract.specs.Folders.{Made, Adds}
+use Rattle.jextract.specs.Folders.{Made, ReportsMore}
 use Rattle.jextract.specs.Making.{firsts_of}
 use Rattle.jextract.specs.Extracts.{AreTreeOutcomes}
-use Rattle.jextract.specs.Outcomes.{root_alone, Task, Make, Complete, Outcome, Firsts, AreOutcomes, AreFirstOutcomes, tasks_in, tasks_of, all_lines, failures_after, line_if}
+use Rattle.jextract.specs.Outcomes.{root_alone, Task, Make, Complete, Outcome, FirstPaths, AreOutcomes, AreFirstOutcomes, tasks_in, tasks_of, all_lines, failures_after, line_if_left_out}
 use Rattle.jextract.specs.declared.extracting.Walk.{Walk}
 use Rattle.jextract.specs.declared.making.MakeFault.{MakeFault}
 use Rattle.jextract.specs.declared.making.MakeFault.TheVariants as make
@@ -20,20 +20,20 @@ use Rattle.jextract.specs.declared.fault.ExtractFault.TheVariants.{Folder, Notes
 -- ---- what is told of a task
 
 -- one more that was left out, if it was, up to the greatest u64
-abbrev pub counted : ℕ → ℕ → ℕ
-counted n more = if more == 0 then n else min (n + more) (2 ^ 64 - 1)
+abbrev pub counted_up : ℕ → ℕ → ℕ
+counted_up n more = if more == 0 then n else min (n + more) (2 ^ 64 - 1)
 
 -- A call tells of a task what is to be told, and counts it. The answer is whether the task was done.
-abbrev pub Tells : {T : Type 0} → Result T MakeFault → List (List ℕ) → Option (List ℕ) → Option (List ℕ) → ℕ → ℕ → ℕ → ℕ → Result Bool ExtractFault → Type 0
-Tells (Ok _) path old new before now n after (Ok done) = (done ≡ true) × Appends old new [] × (now ≡ before) × (after ≡ n)
-Tells (Ok _) path old new before now n after (Err _) = ⊥
-Tells (Err (make.LeftOut why)) path old new before now n after (Ok done) =
-    (done ≡ false) × Appends old new (line_if path (Some why)) × (now ≡ before) × (after ≡ counted n 1)
-Tells (Err (make.LeftOut why)) path old new before now n after (Err Notes) = PutsPart old new (line_if path (Some why)) × (now ≡ next_count before)
-Tells (Err (make.LeftOut why)) path old new before now n after (Err _) = ⊥
-Tells (Err make.OutOfMemory) path old new before now n after (Ok done) = ⊥
-Tells (Err make.OutOfMemory) path old new before now n after (Err OutOfMemory) = Appends old new [] × (now ≡ before)
-Tells (Err make.OutOfMemory) path old new before now n after (Err _) = ⊥
+abbrev pub Settles : {T : Type 0} → Result T MakeFault → List (List ℕ) → Option (List ℕ) → Option (List ℕ) → ℕ → ℕ → ℕ → ℕ → Result Bool ExtractFault → Type 0
+Settles (Ok _) path old new before now n after (Ok done) = (done ≡ true) × Appends old new [] × (now ≡ before) × (after ≡ n)
+Settles (Ok _) path old new before now n after (Err _) = ⊥
+Settles (Err (make.LeftOut why)) path old new before now n after (Ok done) =
+    (done ≡ false) × Appends old new (line_if_left_out path (Some why)) × (now ≡ before) × (after ≡ counted_up n 1)
+Settles (Err (make.LeftOut why)) path old new before now n after (Err Notes) = PutsPart old new (line_if_left_out path (Some why)) × (now ≡ next_count before)
+Settles (Err (make.LeftOut why)) path old new before now n after (Err _) = ⊥
+Settles (Err make.OutOfMemory) path old new before now n after (Ok done) = ⊥
+Settles (Err make.OutOfMemory) path old new before now n after (Err OutOfMemory) = Appends old new [] × (now ≡ before)
+Settles (Err make.OutOfMemory) path old new before now n after (Err _) = ⊥
 
 -- ---- what is still to be done at a place of the walk
 
@@ -42,29 +42,29 @@ abbrev pub tasks_up : State → List (ℕ × List (List ℕ × ℕ)) → List (L
 tasks_up s [] path = []
 tasks_up s (directory ∷ above) path = tasks_of s path directory.1 ++ Complete path directory.0 ∷ tasks_up s above (way_up path)
 
-abbrev pub way_of : Walk → List (List ℕ)
-way_of w = map (λ name. name.now) w.path.items
+abbrev pub extraction_way : Walk → List (List ℕ)
+extraction_way w = map (λ name. name.now) w.path.items
 
-abbrev pub todo_of : State → Walk → List Task
-todo_of s w = tasks_up s ((w.ino, w.left) ∷ reverse w.above.items) (way_of w)
+abbrev pub extraction_todo : State → Walk → List Task
+extraction_todo s w = tasks_up s ((w.ino, w.left) ∷ reverse w.above.items) (extraction_way w)
 
 -- ---- how far it is to the end
 
 -- the names whose directory was not made
-abbrev pub unmade : State → Firsts → ℕ
+abbrev pub unmade : State → FirstPaths → ℕ
 unmade s firsts = count_by (λ e. is_none (firsts e.0.0)) (entries s.names)
 
 -- the names that the walk has not read, those of directories that it may make among them
-abbrev pub names_left : State → Walk → ℕ
-names_left s w = unmade s (firsts_of w.firsts) + length w.left + sum_by (λ directory. length directory.1) w.above.items
+abbrev pub extraction_names_left : State → Walk → ℕ
+extraction_names_left s w = unmade s (firsts_of w.firsts) + length w.left + sum_by (λ directory. length directory.1) w.above.items
 
-abbrev pub steps_left : State → Walk → ℕ
-steps_left s w = 2 * names_left s w + length w.above.items
+abbrev pub extraction_steps_left : State → Walk → ℕ
+extraction_steps_left s w = 2 * extraction_names_left s w + length w.above.items
 
 -- ---- a part of the walk
 
 -- from what is still to be done, after these outcomes, to what is to be done then
-abbrev pub Advances : State → Bool → Firsts → List Task → Firsts → List Task → List Outcome → Type 0
+abbrev pub Advances : State → Bool → FirstPaths → List Task → FirstPaths → List Task → List Outcome → Type 0
 Advances s owners firsts todo firsts_then todo_then outcomes =
     ((rest : List Outcome) → AreOutcomes s owners firsts_then todo_then rest → AreOutcomes s owners firsts todo (outcomes ++ rest))
     × ((rest : List Outcome) → AreFirstOutcomes s owners firsts_then todo_then rest → AreFirstOutcomes s owners firsts todo (outcomes ++ rest))
@@ -80,17 +80,17 @@ pub record Sight : Type 0 where
 -- these outcomes were had
 abbrev pub Had : Sight → Sight → List Outcome → Type 0
 Had old new outcomes =
-    Adds old.made new.made (flat_map (λ o. o.deeds) outcomes) × (new.failures ≡ failures_after old.failures outcomes)
+    ReportsMore old.made new.made (flat_map (λ o. o.deeds) outcomes) × (new.failures ≡ failures_after old.failures outcomes)
     × Appends old.told new.told (all_lines outcomes) × (new.told_failures ≡ old.told_failures)
-    × (new.left_out ≡ counted old.left_out (count_by (λ o. is_some o.left_out) outcomes))
+    × (new.left_out ≡ counted_up old.left_out (count_by (λ o. is_some o.left_out) outcomes))
 
 -- it stopped in the middle of an outcome, or before one
-abbrev pub Stopped : State → Bool → Firsts → List Task → Sight → Sight → Type 0
+abbrev pub Stopped : State → Bool → FirstPaths → List Task → Sight → Sight → Type 0
 Stopped s owners firsts todo old new =
-    (outcomes : List Outcome) × AreFirstOutcomes s owners firsts todo outcomes × Adds old.made new.made (flat_map (λ o. o.deeds) outcomes)
+    (outcomes : List Outcome) × AreFirstOutcomes s owners firsts todo outcomes × ReportsMore old.made new.made (flat_map (λ o. o.deeds) outcomes)
     × PutsPart old.told new.told (all_lines outcomes)
 
-abbrev pub StopsBy : State → Bool → Firsts → List Task → Sight → Sight → ExtractFault → Type 0
+abbrev pub StopsBy : State → Bool → FirstPaths → List Task → Sight → Sight → ExtractFault → Type 0
 StopsBy s owners firsts todo old new Folder = ⊥
 StopsBy s owners firsts todo old new Notes = Stopped s owners firsts todo old new × (new.told_failures ≡ next_count old.told_failures)
 StopsBy s owners firsts todo old new OutOfMemory = Stopped s owners firsts todo old new × (new.told_failures ≡ old.told_failures)
@@ -103,7 +103,7 @@ abbrev pub todo_then : State → List (List ℕ) → ℕ → Bool → List Task 
 todo_then s path i entered todo = if entered then tasks_in s path i ++ todo else todo
 
 -- An object is visited. The answer is whether it is a directory that was made; only then are its names among those to be read.
-abbrev pub Visits : State → Bool → Firsts → Firsts → List (List ℕ) → ℕ → Sight → Sight → Result Bool ExtractFault → Type 0
+abbrev pub Visits : State → Bool → FirstPaths → FirstPaths → List (List ℕ) → ℕ → Sight → Sight → Result Bool ExtractFault → Type 0
 Visits s owners firsts firsts_then path i old new (Ok entered) =
     (outcomes : List Outcome) × Had old new outcomes
     × ((todo : List Task) → Advances s owners firsts (task_if s path i ++ todo) firsts_then (todo_then s path i entered todo) outcomes)
@@ -113,13 +113,13 @@ Visits s owners firsts firsts_then path i old new (Err fault) = (todo : List Tas
 -- a directory is completed, whatever was made before
 abbrev pub Completes : State → Bool → List (List ℕ) → ℕ → Sight → Sight → Result Bool ExtractFault → Type 0
 Completes s owners path i old new (Ok done) =
-    (outcomes : List Outcome) × Had old new outcomes × ((firsts : Firsts) (todo : List Task) → Advances s owners firsts (Complete path i ∷ todo) firsts todo outcomes)
-Completes s owners path i old new (Err fault) = (firsts : Firsts) (todo : List Task) → StopsBy s owners firsts (Complete path i ∷ todo) old new fault
+    (outcomes : List Outcome) × Had old new outcomes × ((firsts : FirstPaths) (todo : List Task) → Advances s owners firsts (Complete path i ∷ todo) firsts todo outcomes)
+Completes s owners path i old new (Err fault) = (firsts : FirstPaths) (todo : List Task) → StopsBy s owners firsts (Complete path i ∷ todo) old new fault
 
 -- the walk went back to the directory above, or there is none
-abbrev pub GoesUp : Walk → Walk → Bool → Type 0
-GoesUp w w_after true = (w.above.items ≡ w_after.above.items ++ (w_after.ino, w_after.left) ∷ []) × (way_of w_after ≡ way_up (way_of w)) × (w_after.firsts ≡ w.firsts) × (w_after.left_out ≡ w.left_out)
-GoesUp w w_after false = (w.above.items ≡ []) × (w_after.firsts ≡ w.firsts) × (w_after.left_out ≡ w.left_out)
+abbrev pub ExtractionGoesUp : Walk → Walk → Bool → Type 0
+ExtractionGoesUp w w_after true = (w.above.items ≡ w_after.above.items ++ (w_after.ino, w_after.left) ∷ []) × (extraction_way w_after ≡ way_up (extraction_way w)) × (w_after.firsts ≡ w.firsts) × (w_after.left_out ≡ w.left_out)
+ExtractionGoesUp w w_after false = (w.above.items ≡ []) × (w_after.firsts ≡ w.firsts) × (w_after.left_out ≡ w.left_out)
 
 -- the walk went on to the directory of a number, which its path leads to already
 abbrev pub Enters : {T : Type 0} → State → ℕ → Walk → Walk → Result T ExtractFault → Type 0
@@ -130,11 +130,11 @@ Enters s i w w_after (Err fault) = fault ≡ OutOfMemory
 -- `false`: nothing is still to be done.
 abbrev pub Steps : State → Bool → Walk → Walk → Sight → Sight → Result Bool ExtractFault → Type 0
 Steps s owners w w_after old new (Ok true) =
-    (outcomes : List Outcome) × Had old new outcomes × Advances s owners (firsts_of w.firsts) (todo_of s w) (firsts_of w_after.firsts) (todo_of s w_after) outcomes
-    × (steps_left s w_after < steps_left s w)
+    (outcomes : List Outcome) × Had old new outcomes × Advances s owners (firsts_of w.firsts) (extraction_todo s w) (firsts_of w_after.firsts) (extraction_todo s w_after) outcomes
+    × (extraction_steps_left s w_after < extraction_steps_left s w)
 Steps s owners w w_after old new (Ok false) =
-    (outcomes : List Outcome) × Had old new outcomes × Advances s owners (firsts_of w.firsts) (todo_of s w) (firsts_of w_after.firsts) [] outcomes
-Steps s owners w w_after old new (Err fault) = StopsBy s owners (firsts_of w.firsts) (todo_of s w) old new fault
+    (outcomes : List Outcome) × Had old new outcomes × Advances s owners (firsts_of w.firsts) (extraction_todo s w) (firsts_of w_after.firsts) [] outcomes
+Steps s owners w w_after old new (Err fault) = StopsBy s owners (firsts_of w.firsts) (extraction_todo s w) old new fault
 
 abbrev pub is_directory_kind : Kind → Bool
 is_directory_kind kind.Directory = true

@@ -3,7 +3,7 @@
 ghost use Rattle.std.specs.Prelude.{◌≡◌, map};
 ghost use Rattle.jextract.specs.Extracts.{Extracts};
 ghost use Rattle.jextract.specs.Making.{firsts_of};
-ghost use Rattle.jextract.specs.Walking.{Completes, Enters, Fills, GoesUp, Steps, Tells, Visits, is_directory_kind};
+ghost use Rattle.jextract.specs.Walking.{Completes, Enters, Fills, ExtractionGoesUp, Steps, Settles, Visits, is_directory_kind};
 
 use crate::fault::ExtractFault;
 use crate::folder::{Folder, FolderFault};
@@ -25,7 +25,7 @@ fn settle<N: Sink>(
     left_out: &mut u64,
     notes: &mut N,
 ) -> Result<bool, ExtractFault>
-    ensures { Tells done (map (λ name. name.now) path.now) (N.taken notes.old) (N.taken notes.new)
+    ensures { Settles done (map (λ name. name.now) path.now) (N.taken notes.old) (N.taken notes.new)
         (N.failures notes.old) (N.failures notes.new) left_out.old left_out.new result }
 {
     match done {
@@ -111,7 +111,7 @@ struct Walk<'m, 'a> {
 impl<'m, 'a> Walk<'m, 'a> {
     /// Goes back to the directory above, if there is one.
     fn go_up(&mut self) -> bool
-        ensures { GoesUp self.old self.new result }
+        ensures { ExtractionGoesUp self.old self.new result }
     {
         let Some((ino, left)) = self.above.pop() else {
             return false;

@@ -2,7 +2,7 @@
 
 ghost use Rattle.std.specs.Prelude.{◌≡◌, [], ℕ, List, Option, IfOk};
 ghost use Rattle.flashbase.specs.Device.{next_count};
-ghost use Rattle.jextract.specs.Folders.{Adds, AddsContent, AddsOne, Counts, IsEmptyIn, Made, Attributed, Directory, File, Link, Symlink};
+ghost use Rattle.jextract.specs.Folders.{ReportsMore, AddsContent, AddsOne, Counts, IsEmptyIn, Made, Attributed, Directory, File, Link, Symlink};
 
 use flashbase::Sink;
 use thiserror::Error;
@@ -77,7 +77,7 @@ pub trait Folder: Drop {
 
     /// Takes back a file that failed before it had all its bytes. It counts as a refusal.
     fn give_up_file(&mut self, path: &str, file: Self::File)
-        ensures made { Adds (made self.old) (made self.new) [] }
+        ensures made { ReportsMore (made self.old) (made self.new) [] }
         ensures failures { failures self.new ≡ next_count (failures self.old) };
 
     /// Makes a symlink with these attributes, as far as a symlink of the host has them.

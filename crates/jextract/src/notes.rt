@@ -2,14 +2,14 @@
 
 ghost use Rattle.std.specs.Prelude.{◌≡◌, ◌++◌, ◌∷◌, [], codes, map};
 ghost use Rattle.flashbase.specs.Device.{Puts};
-ghost use Rattle.jextract.specs.Outcomes.{left_out_line, reason_text};
+ghost use Rattle.jextract.specs.Outcomes.{line_of_left_out, left_out_reason};
 
 use crate::reason::Reason;
 use flashbase::{DeviceFault, Sink};
 use jline::{put_path, put_text};
 
 fn reason_text(reason: Reason) -> &'static [u8]
-    ensures { result.now ≡ reason_text reason }
+    ensures { result.now ≡ left_out_reason reason }
 {
     match reason {
         Reason::BadName => b"a name that no file has",
@@ -29,7 +29,7 @@ fn reason_text(reason: Reason) -> &'static [u8]
 /// Puts why an object was left out, and ends its line.
 fn put_reason<T: Sink>(sink: &mut T, reason: Reason) -> Result<(), DeviceFault>
     ensures { Puts (T.taken sink.old) (T.taken sink.new) (T.failures sink.old) (T.failures sink.new)
-        (codes ": " ++ (reason_text reason ++ 10 ∷ [])) result }
+        (codes ": " ++ (left_out_reason reason ++ 10 ∷ [])) result }
 {
     put_text(sink, b": ")?;
     put_text(sink, reason_text(reason))?;
@@ -37,10 +37,10 @@ fn put_reason<T: Sink>(sink: &mut T, reason: Reason) -> Result<(), DeviceFault>
 }
 
 /// Puts the line of an object that was left out.
-#[tactic(auto, unfolding(crate::specs::Outcomes::left_out_line))]
+#[tactic(auto, unfolding(crate::specs::Outcomes::line_of_left_out))]
 pub(crate) fn tell<T: Sink>(sink: &mut T, path: &[&[u8]], reason: Reason) -> Result<(), DeviceFault>
     ensures { Puts (T.taken sink.old) (T.taken sink.new) (T.failures sink.old) (T.failures sink.new)
-        (left_out_line (map (λ name. name.now) path.now) reason) result }
+        (line_of_left_out (map (λ name. name.now) path.now) reason) result }
 {
     put_text(sink, b"left out ")?;
     put_path(sink, path)?;

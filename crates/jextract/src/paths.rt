@@ -4,7 +4,7 @@ ghost use Rattle.std.specs.Prelude.{◌≡◌, ◌++◌, ◌∷◌, flat_map, ma
 ghost use Rattle.std.specs.List.{list_all};
 ghost use Rattle.jmount.specs.Find.{is_name};
 ghost use Rattle.jextract.specs.Making.{IsPathOf};
-ghost use Rattle.jextract.specs.Paths.{host_path, path_text};
+ghost use Rattle.jextract.specs.Paths.{host_path, relative_path};
 
 use crate::making::MakeFault;
 use crate::reason::Reason;
@@ -34,7 +34,7 @@ fn push_names(text: &mut Vec<u8>, names: &[&[u8]]) -> Result<(), AllocError>
 
 /// The text of a path.
 fn path_text(alloc: Global, names: &[&[u8]]) -> Result<Vec<u8>, AllocError>
-    ensures { IfOk result (λ text. text.items ≡ path_text (map (λ name. name.now) names.now)) }
+    ensures { IfOk result (λ text. text.items ≡ relative_path (map (λ name. name.now) names.now)) }
 {
     let mut text = Vec::new(alloc);
     let Some((first, rest)) = names.split_first() else {

@@ -22,12 +22,12 @@ use Rattle.jbuild.specs.Length.{TellsLength}
 use Rattle.jbuild.proofs.LengthLemmas.{goes_on_flash, line_tells_length}
 use Rattle.jbuild.specs.Accepted.{accepted_line}
 use Rattle.jbuild.specs.Operations.{ops_in}
-use Rattle.jbuild.specs.Parts.{contents, read_of}
+use Rattle.jbuild.specs.Parts.{part_contents, read_of}
 use Rattle.jbuild.specs.declared.parts.Parts.{Parts}
 use Rattle.jreport.specs.declared.faults.ProgramFault.{ProgramFault}
 use Rattle.jreport.specs.declared.faults.ProgramFault.TheVariants as program
 use Rattle.jffs2_image.specs.Host.{AreOf, AreRead, Blames, BlamesMaker, HaveBytes, RunsFiles, IsMadeUntil, IsMakeFault, IsReadFault, Leaves}
-use Rattle.jffs2_image.specs.Writes.{IsMade, IsNotMade, IsPartUnread, IsUnread}
+use Rattle.jffs2_image.specs.Writes.{IsMade, IsNotMade, IsPartUnread, IsUnreadFile}
 
 -- ---- the file that is made
 
@@ -120,7 +120,7 @@ parts_blame T u v rb rn mb mn lines program.Output still not read = absurd not
 parts_blame T u v rb rn mb mn lines program.OutOfMemory still not read = inl still
 
 -- a file that the words name was not read
-pub file_blame : (T : Type 0) (u v : Type 0) (rb rn mb mn : ℕ) (name : List ℕ) (f : ProgramFault) → u → IsUnread name f → IsReadFault rb rn f → Blames {T = T} u v rb rn mb mn (Err f)
+pub file_blame : (T : Type 0) (u v : Type 0) (rb rn mb mn : ℕ) (name : List ℕ) (f : ProgramFault) → u → IsUnreadFile name f → IsReadFault rb rn f → Blames {T = T} u v rb rn mb mn (Err f)
 file_blame T u v rb rn mb mn name (program.Load load.Device) still not read = (still, read)
 file_blame T u v rb rn mb mn name (program.Load load.TooLarge) still not read = still
 file_blame T u v rb rn mb mn name (program.Load load.OutOfMemory) still not read = still
@@ -186,26 +186,26 @@ tells_on_base page e size blocks base ops m accepted places same made = subst (�
     (line_tells_length page e size blocks m.image ops accepted places _ _ _ _ (goes_on_flash page e size blocks m made.put.resumes) made.put.emitted)
 
 -- so they are those of the operations that were run
-have_bytes : (told : List ℕ → Option (List ℕ)) (lines : List Line) (parts : Parts) → AreRead told lines parts → HaveBytes told lines (contents parts)
+have_bytes : (told : List ℕ → Option (List ℕ)) (lines : List Line) (parts : Parts) → AreRead told lines parts → HaveBytes told lines (part_contents parts)
 have_bytes told lines parts are = λ name named. (are name named).1
 
 pub files_of_all : (told : List ℕ → Option (List ℕ)) (page : Page) (e : Endian) (size blocks : ℕ) (base text : List ℕ) (lines : List Line) (parts : Parts) (m : Mount) (accepted : ℕ) (places : List Place) (from : ℕ)
     (old new : Option (List ℕ)) (x : Unit {0}) → m.image ≡ base → from ≡ resume_address e size blocks base → AreRead told lines parts → lines_of text ≡ Ok lines → Answers e size base (Ok m)
-    → IsMade page e size blocks m (ops_in (contents parts) lines) accepted places None → Appends old new (accepted_line from accepted places)
+    → IsMade page e size blocks m (ops_in (part_contents parts) lines) accepted places None → Appends old new (accepted_line from accepted places)
     → RunsFiles {T = Unit {0}} told page e size blocks base text old new (Ok x)
 files_of_all told page e size blocks base text lines parts m accepted places from old new x same is are read mounts made put = (
   lines,
   accepted,
   places,
-  record { mount = m; files = contents parts; read = read; mounts = mounts; made = made },
+  record { mount = m; files = part_contents parts; read = read; mounts = mounts; made = made },
   have_bytes told lines parts are,
   subst (λ (at : ℕ). Appends old new (accepted_line at accepted places)) is put,
-  tells_on_base page e size blocks base (ops_in (contents parts) lines) m accepted places same made,
+  tells_on_base page e size blocks base (ops_in (part_contents parts) lines) m accepted places same made,
 )
 
 pub files_in_part : (told : List ℕ → Option (List ℕ)) (page : Page) (e : Endian) (size blocks : ℕ) (base text : List ℕ) (lines : List Line) (parts : Parts) (m : Mount) (accepted : ℕ) (places : List Place) (from : ℕ)
     (old new : Option (List ℕ)) (r : Result (Unit {0}) ProgramFault) → IsErrAnd r (λ is. is ≡ program.Output) → from ≡ resume_address e size blocks base → AreRead told lines parts → lines_of text ≡ Ok lines
-    → Answers e size base (Ok m) → IsMade page e size blocks m (ops_in (contents parts) lines) accepted places None → PutsPart old new (accepted_line from accepted places)
+    → Answers e size base (Ok m) → IsMade page e size blocks m (ops_in (part_contents parts) lines) accepted places None → PutsPart old new (accepted_line from accepted places)
     → RunsFiles {T = Unit {0}} told page e size blocks base text old new r
 files_in_part told page e size blocks base text lines parts m accepted places from old new (Ok x) fault is are read mounts made put = absurd fault
 files_in_part told page e size blocks base text lines parts m accepted places from old new (Err f) fault is are read mounts made put =
@@ -213,18 +213,18 @@ files_in_part told page e size blocks base text lines parts m accepted places fr
       lines,
       accepted,
       places,
-      record { mount = m; files = contents parts; read = read; mounts = mounts; made = made },
+      record { mount = m; files = part_contents parts; read = read; mounts = mounts; made = made },
       have_bytes told lines parts are,
       subst (λ (at : ℕ). PutsPart old new (accepted_line at accepted places)) is put,
     )
 
 pub files_until : (told : List ℕ → Option (List ℕ)) (page : Page) (e : Endian) (size blocks : ℕ) (base text : List ℕ) (lines : List Line) (parts : Parts) (m : Mount) (accepted : ℕ) (places : List Place)
     (old new : Option (List ℕ)) (f : SessionFault) (line : Option ℕ) → line ≡ option_map (λ l. l.number) (slice_get lines accepted) → AreRead told lines parts → lines_of text ≡ Ok lines
-    → Answers e size base (Ok m) → IsMade page e size blocks m (ops_in (contents parts) lines) accepted places (Some f)
+    → Answers e size base (Ok m) → IsMade page e size blocks m (ops_in (part_contents parts) lines) accepted places (Some f)
     → RunsFiles {T = Unit {0}} told page e size blocks base text old new (Err (program.Session f line))
 files_until told page e size blocks base text lines parts m accepted places old new f None is are read mounts made = tt
 files_until told page e size blocks base text lines parts m accepted places old new f (Some n) is are read mounts made =
-    (lines, accepted, places, record { mount = m; files = contents parts; read = read; mounts = mounts; made = made }, have_bytes told lines parts are, sym is)
+    (lines, accepted, places, record { mount = m; files = part_contents parts; read = read; mounts = mounts; made = made }, have_bytes told lines parts are, sym is)
 
 -- no fault of making is one of a line
 pub files_not_made : (told : List ℕ → Option (List ℕ)) (page : Page) (e : Endian) (size blocks : ℕ) (output base text : List ℕ) (m : Mount) (old new : Option (List ℕ)) (f : ProgramFault) (r : Result (Unit {0}) ProgramFault)

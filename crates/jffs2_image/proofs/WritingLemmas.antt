@@ -26,16 +26,16 @@ use Rattle.jscan.specs.declared.geometry.ScanFault.TheVariants as scan
 use Rattle.jcommand.specs.Parsed.{BuildParsed, AppendParsed}
 use Rattle.jcommand.specs.declared.parsed.Options.{Options}
 use Rattle.jffs2_image.specs.Runs.{Meets}
-use Rattle.jffs2_image.specs.Writes.{IsMade, IsNotMade, IsRunOn, IsSessionFault, Writes}
+use Rattle.jffs2_image.specs.Writes.{IsMade, IsNotMade, IsRunOn, IsSessionFault, WritesImage}
 
 -- the image is not gone on from
 pub not_resumed : (page : Page) (e : Endian) (size blocks : ℕ) (output base text : List ℕ) (m : Mount) (f : SessionFault) (old : Option (List ℕ)) (n : ℕ)
-    → Answers e size base (Ok m) → resumes_by page e size blocks m ≡ Err f → Writes {T = Unit {0}} page e size blocks output base text old old n n (Err (program.Session f None))
+    → Answers e size base (Ok m) → resumes_by page e size blocks m ≡ Err f → WritesImage {T = Unit {0}} page e size blocks output base text old old n n (Err (program.Session f None))
 not_resumed page e size blocks output base text m f old n mounts refused = (inl (refl, (m, mounts, inl refused)), refl, refl)
 
 -- no file was made, or not to its end
 pub not_made : (page : Page) (e : Endian) (size blocks : ℕ) (output base text : List ℕ) (m : Mount) (f : ProgramFault) (old : Option (List ℕ)) (n : ℕ)
-    → Answers e size base (Ok m) → IsNotMade page e size blocks m output f → Writes {T = Unit {0}} page e size blocks output base text old old n n (Err f)
+    → Answers e size base (Ok m) → IsNotMade page e size blocks m output f → WritesImage {T = Unit {0}} page e size blocks output base text old old n n (Err f)
 not_made page e size blocks output base text m (program.Load f) old n mounts not = absurd not
 not_made page e size blocks output base text m (program.Scan f) old n mounts not = absurd not
 not_made page e size blocks output base text m (program.Mount f) old n mounts not = absurd not
@@ -62,21 +62,21 @@ stopped_at page e size blocks base text lines accepted places f run = inr (lines
 
 -- the answer is that fault
 pub writes_fault : (page : Page) (e : Endian) (size blocks : ℕ) (output base text : List ℕ) (old new : Option (List ℕ)) (before now : ℕ) (f : ProgramFault) (r : Result (Unit {0}) ProgramFault)
-    → IsErrAnd r (λ is. is ≡ f) → Writes {T = Unit {0}} page e size blocks output base text old new before now (Err f) → Writes {T = Unit {0}} page e size blocks output base text old new before now r
+    → IsErrAnd r (λ is. is ≡ f) → WritesImage {T = Unit {0}} page e size blocks output base text old new before now (Err f) → WritesImage {T = Unit {0}} page e size blocks output base text old new before now r
 writes_fault page e size blocks output base text old new before now f (Ok x) is w = absurd is
 writes_fault page e size blocks output base text old new before now f (Err other) is w =
-    subst (λ (z : ProgramFault). Writes {T = Unit {0}} page e size blocks output base text old new before now (Err z)) (sym is) w
+    subst (λ (z : ProgramFault). WritesImage {T = Unit {0}} page e size blocks output base text old new before now (Err z)) (sym is) w
 
 -- the line that tells of it went out, or a beginning
 pub told : (page : Page) (e : Endian) (size blocks : ℕ) (output base text : List ℕ) (lines : List Line) (accepted : ℕ) (places : List Place) (from : ℕ) (old new : Option (List ℕ)) (before now : ℕ) (x : Unit {0})
     → from ≡ resume_address e size blocks base → IsRunOn page e size blocks base text lines accepted places None
-    → Appends old new (accepted_line from accepted places) → now ≡ before → Writes {T = Unit {0}} page e size blocks output base text old new before now (Ok x)
+    → Appends old new (accepted_line from accepted places) → now ≡ before → WritesImage {T = Unit {0}} page e size blocks output base text old new before now (Ok x)
 told page e size blocks output base text lines accepted places from old new before now x is run put same =
     (lines, accepted, places, run, subst (λ (at : ℕ). Appends old new (accepted_line at accepted places)) is put, same)
 
 pub told_in_part : (page : Page) (e : Endian) (size blocks : ℕ) (output base text : List ℕ) (lines : List Line) (accepted : ℕ) (places : List Place) (from : ℕ) (old new : Option (List ℕ)) (before now : ℕ)
     → from ≡ resume_address e size blocks base → IsRunOn page e size blocks base text lines accepted places None
-    → PutsPart old new (accepted_line from accepted places) → now ≡ next_count before → Writes {T = Unit {0}} page e size blocks output base text old new before now (Err program.Output)
+    → PutsPart old new (accepted_line from accepted places) → now ≡ next_count before → WritesImage {T = Unit {0}} page e size blocks output base text old new before now (Err program.Output)
 told_in_part page e size blocks output base text lines accepted places from old new before now is run put same =
     (lines, accepted, places, run, subst (λ (at : ℕ). PutsPart old new (accepted_line at accepted places)) is put, same)
 
@@ -91,7 +91,7 @@ goes_on_from page e size blocks m from is = by m.read_only (is_flash_of size blo
 
 -- a fault is none of an answer
 pub any_answer : (page : Page) (e : Endian) (size blocks : ℕ) (output base text : List ℕ) (old new : Option (List ℕ)) (before now : ℕ) (f : ProgramFault)
-    → Writes {T = Unit {0}} page e size blocks output base text old new before now (Err f) → Writes {T = ℕ} page e size blocks output base text old new before now (Err f)
+    → WritesImage {T = Unit {0}} page e size blocks output base text old new before now (Err f) → WritesImage {T = ℕ} page e size blocks output base text old new before now (Err f)
 any_answer page e size blocks output base text old new before now (program.Load f) w = w
 any_answer page e size blocks output base text old new before now (program.Scan f) w = w
 any_answer page e size blocks output base text old new before now (program.Mount f) w = w
@@ -104,39 +104,39 @@ any_answer page e size blocks output base text old new before now program.Output
 any_answer page e size blocks output base text old new before now program.OutOfMemory w = w
 
 answers_fault : (page : Page) (e : Endian) (size blocks : ℕ) (output base text : List ℕ) (old new : Option (List ℕ)) (before now : ℕ) (f : ProgramFault) (answer : Result ℕ ProgramFault)
-    → IsErrAnd answer (λ is. is ≡ f) → Writes {T = Unit {0}} page e size blocks output base text old new before now (Err f) → Writes {T = ℕ} page e size blocks output base text old new before now answer
+    → IsErrAnd answer (λ is. is ≡ f) → WritesImage {T = Unit {0}} page e size blocks output base text old new before now (Err f) → WritesImage {T = ℕ} page e size blocks output base text old new before now answer
 answers_fault page e size blocks output base text old new before now f (Ok x) is w = absurd is
 answers_fault page e size blocks output base text old new before now f (Err other) is w =
-    subst (λ (z : ProgramFault). Writes {T = ℕ} page e size blocks output base text old new before now (Err z)) (sym is) (any_answer page e size blocks output base text old new before now f w)
+    subst (λ (z : ProgramFault). WritesImage {T = ℕ} page e size blocks output base text old new before now (Err z)) (sym is) (any_answer page e size blocks output base text old new before now f w)
 
 -- it is not that a block has the wrong size for a report
 no_scan : (page : Page) (e : Endian) (size blocks : ℕ) (output base text : List ℕ) (old new : Option (List ℕ)) (before now : ℕ) (answer : Result ℕ ProgramFault)
-    → Writes {T = ℕ} page e size blocks output base text old new before now answer → answer ≡ Err (program.Scan scan.BlockSize) → IsFalse (is_block_size size)
+    → WritesImage {T = ℕ} page e size blocks output base text old new before now answer → answer ≡ Err (program.Scan scan.BlockSize) → IsFalse (is_block_size size)
 no_scan page e size blocks output base text old new before now answer w is =
-    absurd ((subst (λ (r : Result ℕ ProgramFault). Writes {T = ℕ} page e size blocks output base text old new before now r) is w).0)
+    absurd ((subst (λ (r : Result ℕ ProgramFault). WritesImage {T = ℕ} page e size blocks output base text old new before now r) is w).0)
 
 pub builds : (page : Page) (e : Endian) (options : Options) (blocks : ℕ) (listing output text : List ℕ) (old new : Option (List ℕ)) (before now : ℕ) (answer : Result ℕ ProgramFault)
-    → Writes {T = ℕ} page e options.geometry.block blocks output [] text old new before now answer → Meets e (BuildParsed options blocks page listing output) old new before now answer
+    → WritesImage {T = ℕ} page e options.geometry.block blocks output [] text old new before now answer → Meets e (BuildParsed options blocks page listing output) old new before now answer
 builds page e options blocks listing output text old new before now answer w = record {
   block_size = no_scan page e options.geometry.block blocks output [] text old new before now answer w;
   put = inl ([], (refl, (text, w)));
 }
 
 pub build_fault : (page : Page) (e : Endian) (options : Options) (blocks : ℕ) (listing output text : List ℕ) (old new : Option (List ℕ)) (before now : ℕ) (f : ProgramFault) (answer : Result ℕ ProgramFault)
-    → IsErrAnd answer (λ is. is ≡ f) → Writes {T = Unit {0}} page e options.geometry.block blocks output [] text old new before now (Err f)
+    → IsErrAnd answer (λ is. is ≡ f) → WritesImage {T = Unit {0}} page e options.geometry.block blocks output [] text old new before now (Err f)
     → Meets e (BuildParsed options blocks page listing output) old new before now answer
 build_fault page e options blocks listing output text old new before now f answer is w =
     builds page e options blocks listing output text old new before now answer (answers_fault page e options.geometry.block blocks output [] text old new before now f answer is w)
 
 pub appends : (page : Page) (e : Endian) (options : Options) (blocks : ℕ) (name listing output base text : List ℕ) (old new : Option (List ℕ)) (before now : ℕ) (answer : Result ℕ ProgramFault)
-    → Writes {T = ℕ} page e options.geometry.block blocks output base text old new before now answer → Meets e (AppendParsed options blocks page name listing output) old new before now answer
+    → WritesImage {T = ℕ} page e options.geometry.block blocks output base text old new before now answer → Meets e (AppendParsed options blocks page name listing output) old new before now answer
 appends page e options blocks name listing output base text old new before now answer w = record {
   block_size = no_scan page e options.geometry.block blocks output base text old new before now answer w;
   put = inl (base, (text, w));
 }
 
 pub append_fault : (page : Page) (e : Endian) (options : Options) (blocks : ℕ) (name listing output base text : List ℕ) (old new : Option (List ℕ)) (before now : ℕ) (f : ProgramFault) (answer : Result ℕ ProgramFault)
-    → IsErrAnd answer (λ is. is ≡ f) → Writes {T = Unit {0}} page e options.geometry.block blocks output base text old new before now (Err f)
+    → IsErrAnd answer (λ is. is ≡ f) → WritesImage {T = Unit {0}} page e options.geometry.block blocks output base text old new before now (Err f)
     → Meets e (AppendParsed options blocks page name listing output) old new before now answer
 append_fault page e options blocks name listing output base text old new before now f answer is w =
     appends page e options blocks name listing output base text old new before now answer (answers_fault page e options.geometry.block blocks output base text old new before now f answer is w)

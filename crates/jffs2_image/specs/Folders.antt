@@ -10,7 +10,7 @@ use Rattle.jextract.specs.Folders.{Made}
 use Rattle.jextract.specs.Extracts.{Extracts}
 use Rattle.jextract.specs.declared.fault.ExtractFault.{ExtractFault}
 use Rattle.jextract.specs.declared.fault.ExtractFault.TheVariants as extract
-use Rattle.jfolder.specs.Actions.{Fits}
+use Rattle.jfolder.specs.Actions.{FitsListing}
 use Rattle.jfolder.specs.Known.{Known}
 use Rattle.jfolder.specs.Links.{AreLinked}
 use Rattle.jfolder.specs.Notes.{Tells}
@@ -28,7 +28,7 @@ use Rattle.jreport.specs.Notes.{noted}
 use Rattle.jreport.specs.declared.faults.ProgramFault.{ProgramFault}
 use Rattle.jreport.specs.declared.faults.ProgramFault.TheVariants as program
 use Rattle.jffs2_image.specs.Host.{AreOf, IsReadFault}
-use Rattle.jffs2_image.specs.Writes.{IsUnread}
+use Rattle.jffs2_image.specs.Writes.{IsUnreadFile}
 use Rattle.jffs2_image.specs.declared.folders.Extracted.{Extracted}
 
 -- ---- extract
@@ -57,7 +57,7 @@ abbrev pub ExtractsImage : Endian → ℕ → Bool → Option (List ℕ) → ℕ
 ExtractsImage e size owners told read_before read_now image folder old new before now told_old told_new told_before told_now result =
     ((bytes : List ℕ) × AreOf told bytes × (read_now ≡ read_before)
     × ExtractsBytes e size owners bytes folder old new before now told_old told_new told_before told_now result)
-    ⊎ ((fault : ProgramFault) × (result ≡ Err fault) × IsUnread image fault × IsReadFault read_before read_now fault
+    ⊎ ((fault : ProgramFault) × (result ≡ Err fault) × IsUnreadFile image fault × IsReadFault read_before read_now fault
     × (new ≡ old) × (now ≡ before) × (told_new ≡ told_old) × (told_now ≡ told_before))
 
 -- The same by a host that gives the folder and takes it back: its count of refusals is that folder's own. Or there is no
@@ -86,7 +86,7 @@ settings owner time = record { owner = option_map owner_given owner; time = time
 -- what was read of a folder: a tree in the order of its paths, which a listing can say, with the owner and the time that the options give, and
 -- else as the host tells it, where that is known; each further name of a file is a link
 pub record IsListable (known : Known) (options : Options) (folder : Folder) : Type 0 where
-  pub fits : Fits folder.root folder.items.items
+  pub fits : FitsListing folder.root folder.items.items
   pub tree : IsTree folder.items.items
   pub rises : Rise folder.items.items
   pub options_hold : All (HasOptions options) (folder.root ∷ map (λ item. item.attributes) folder.items.items)

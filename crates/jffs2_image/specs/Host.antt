@@ -13,7 +13,7 @@ use Rattle.jlog.specs.declared.report.Place.{Place}
 use Rattle.jbuild.specs.Accepted.{accepted_line}
 use Rattle.jbuild.specs.Length.{TellsLength}
 use Rattle.jbuild.specs.Operations.{ops_in}
-use Rattle.jbuild.specs.Parts.{contents, read_of}
+use Rattle.jbuild.specs.Parts.{part_contents, read_of}
 use Rattle.jbuild.specs.declared.parts.Parts.{Parts}
 use Rattle.jcommand.specs.Parsed.{Parsed, BuildParsed, AppendParsed, view}
 use Rattle.jcommand.specs.declared.parsed.Request.{Request}
@@ -21,7 +21,7 @@ use Rattle.jcommand.specs.declared.command_line.RequestFault.{RequestFault}
 use Rattle.jreport.specs.declared.faults.ProgramFault.{ProgramFault}
 use Rattle.jreport.specs.declared.faults.ProgramFault.TheVariants as program
 use Rattle.jffs2_image.specs.Runs.{HasFailed}
-use Rattle.jffs2_image.specs.Writes.{IsNamed, IsRunOn}
+use Rattle.jffs2_image.specs.Writes.{IsNamedByLine, IsRunOn}
 use Rattle.jffs2_image.specs.declared.host.FileFault.{FileFault}
 use Rattle.jffs2_image.specs.declared.host.FileFault.TheVariants as file
 use Rattle.jffs2_image.specs.declared.host.MakeFault.{MakeFault}
@@ -52,11 +52,11 @@ AreOf told bytes = IfSome told (λ known. bytes ≡ known)
 
 -- Each file that a line names was read, and has the bytes that it has on the host.
 abbrev pub AreRead : (List ℕ → Option (List ℕ)) → List Line → Parts → Type 0
-AreRead told lines parts = (name : List ℕ) → IsNamed lines name → IsTrue (is_some (read_of parts name)) × AreOf (told name) (contents parts name)
+AreRead told lines parts = (name : List ℕ) → IsNamedByLine lines name → IsTrue (is_some (read_of parts name)) × AreOf (told name) (part_contents parts name)
 
 -- files have those bytes where lines name them
 abbrev pub HaveBytes : (List ℕ → Option (List ℕ)) → List Line → (List ℕ → List ℕ) → Type 0
-HaveBytes told lines files = (name : List ℕ) → IsNamed lines name → AreOf (told name) (files name)
+HaveBytes told lines files = (name : List ℕ) → IsNamedByLine lines name → AreOf (told name) (files name)
 
 -- The operations that were run have the bytes of the host's files: those of all lines, told in a line that has the length of
 -- what went out for them, or in a beginning of it; or those up to the one that stopped them.

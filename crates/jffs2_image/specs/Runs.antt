@@ -21,7 +21,7 @@ use Rattle.jcommand.specs.declared.command_line.RequestFault.TheVariants as refu
 use Rattle.jcommand.specs.Status.{outcome_of}
 use Rattle.jcommand.specs.declared.outcome.Outcome.{Outcome}
 use Rattle.jcommand.specs.declared.outcome.Outcome.TheVariants as outcome
-use Rattle.jffs2_image.specs.Writes.{IsUnread, Writes}
+use Rattle.jffs2_image.specs.Writes.{IsUnreadFile, WritesImage}
 use Rattle.jffs2_image.specs.declared.program.Success.{Success}
 use Rattle.jffs2_image.specs.declared.program.Success.TheVariants as success
 use Rattle.jffs2_image.specs.declared.program.Stop.{Stop}
@@ -54,9 +54,9 @@ PutsAnswer e (ListParsed options name) = PutsListing e options.geometry.block
 PutsAnswer e (CatParsed options name word) = λ image old new before now answer.
     (path : List ℕ) × (path_of word ≡ Some path) × PutsFile e options.geometry.block image path old new before now answer
 PutsAnswer e (BuildParsed options blocks page listing output) = λ image old new before now answer.
-    (image ≡ []) × ((text : List ℕ) × Writes page e options.geometry.block blocks output image text old new before now answer)
+    (image ≡ []) × ((text : List ℕ) × WritesImage page e options.geometry.block blocks output image text old new before now answer)
 PutsAnswer e (AppendParsed options blocks page name listing output) = λ image old new before now answer.
-    (text : List ℕ) × Writes page e options.geometry.block blocks output image text old new before now answer
+    (text : List ℕ) × WritesImage page e options.geometry.block blocks output image text old new before now answer
 
 -- its file can't be opened
 abbrev pub IsUnopened : List ℕ → ProgramFault → Type 0
@@ -72,8 +72,8 @@ IsEarlyFault (ListParsed options image) fault = IsUnopened image fault
 IsEarlyFault (CatParsed options image word) (program.Path find.BadPath) = path_of word ≡ None
 IsEarlyFault (CatParsed options image word) program.OutOfMemory = Unit {0}
 IsEarlyFault (CatParsed options image word) fault = IsUnopened image fault
-IsEarlyFault (BuildParsed options blocks page listing output) fault = IsUnread listing fault
-IsEarlyFault (AppendParsed options blocks page image listing output) fault = IsUnread image fault ⊎ IsUnread listing fault
+IsEarlyFault (BuildParsed options blocks page listing output) fault = IsUnreadFile listing fault
+IsEarlyFault (AppendParsed options blocks page image listing output) fault = IsUnreadFile image fault ⊎ IsUnreadFile listing fault
 
 -- A request is met in the byte order e: there is an image of which the answer is put, or a fault comes before any is read.
 pub record Meets (e : Endian) (parsed : Parsed) (old new : Option (List ℕ)) (before now : ℕ) (answer : Result ℕ ProgramFault) : Type 0 where

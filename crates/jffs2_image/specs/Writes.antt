@@ -21,18 +21,18 @@ use Rattle.jreport.specs.declared.faults.ProgramFault.{ProgramFault}
 use Rattle.jreport.specs.declared.faults.ProgramFault.TheVariants as program
 
 -- a file of this name can't be opened, or not be read to its end
-abbrev pub IsUnread : List ℕ → ProgramFault → Type 0
-IsUnread file (program.File name) = name.now ≡ file
-IsUnread file (program.Load fault) = Unit {0}
-IsUnread file _ = ⊥
+abbrev pub IsUnreadFile : List ℕ → ProgramFault → Type 0
+IsUnreadFile file (program.File name) = name.now ≡ file
+IsUnreadFile file (program.Load fault) = Unit {0}
+IsUnreadFile file _ = ⊥
 
 -- a line names this file of the host
-abbrev pub IsNamed : List Line → List ℕ → Type 0
-IsNamed lines name = Any (λ line. file_of line.action ≡ Some name) lines
+abbrev pub IsNamedByLine : List Line → List ℕ → Type 0
+IsNamedByLine lines name = Any (λ line. file_of line.action ≡ Some name) lines
 
 -- a file that a line names can't be read, or there is no memory for it
 abbrev pub IsPartUnread : List Line → ProgramFault → Type 0
-IsPartUnread lines (program.File name) = IsNamed lines name.now
+IsPartUnread lines (program.File name) = IsNamedByLine lines name.now
 IsPartUnread lines (program.Load fault) = Unit {0}
 IsPartUnread lines program.OutOfMemory = Unit {0}
 IsPartUnread lines _ = ⊥
@@ -92,7 +92,7 @@ IsSessionFault page e size blocks base text fault line =
 -- why an image is not written, or not to its end
 abbrev pub IsWriteFault : Page → Endian → ℕ → ℕ → List ℕ → List ℕ → List ℕ → ProgramFault → Type 0
 IsWriteFault page e size blocks output base text (program.Listing n) = lines_of text ≡ Err n
-IsWriteFault page e size blocks output base text (program.File name) = (name.now ≡ output) ⊎ ((lines : List Line) × (lines_of text ≡ Ok lines) × IsNamed lines name.now)
+IsWriteFault page e size blocks output base text (program.File name) = (name.now ≡ output) ⊎ ((lines : List Line) × (lines_of text ≡ Ok lines) × IsNamedByLine lines name.now)
 IsWriteFault page e size blocks output base text (program.Load fault) = (lines : List Line) × (lines_of text ≡ Ok lines)
 IsWriteFault page e size blocks output base text (program.Mount fault) = Answers e size base (Err fault)
 IsWriteFault page e size blocks output base text (program.Session fault line) = IsSessionFault page e size blocks base text fault line
@@ -101,11 +101,11 @@ IsWriteFault page e size blocks output base text _ = ⊥
 
 -- The operations of a listing's text are run on a base, and what they did is told in a line; or a fault is due, and nothing
 -- is told.
-abbrev pub Writes : {T : Type 0} → Page → Endian → ℕ → ℕ → List ℕ → List ℕ → List ℕ → Option (List ℕ) → Option (List ℕ) → ℕ → ℕ → Result T ProgramFault → Type 0
-Writes page e size blocks output base text old new before now (Ok _) =
+abbrev pub WritesImage : {T : Type 0} → Page → Endian → ℕ → ℕ → List ℕ → List ℕ → List ℕ → Option (List ℕ) → Option (List ℕ) → ℕ → ℕ → Result T ProgramFault → Type 0
+WritesImage page e size blocks output base text old new before now (Ok _) =
     (lines : List Line) × (accepted : ℕ) × (places : List Place) × IsRunOn page e size blocks base text lines accepted places None
     × Appends old new (accepted_line (resume_address e size blocks base) accepted places) × (now ≡ before)
-Writes page e size blocks output base text old new before now (Err program.Output) =
+WritesImage page e size blocks output base text old new before now (Err program.Output) =
     (lines : List Line) × (accepted : ℕ) × (places : List Place) × IsRunOn page e size blocks base text lines accepted places None
     × PutsPart old new (accepted_line (resume_address e size blocks base) accepted places) × (now ≡ next_count before)
-Writes page e size blocks output base text old new before now (Err fault) = IsWriteFault page e size blocks output base text fault × (new ≡ old) × (now ≡ before)
+WritesImage page e size blocks output base text old new before now (Err fault) = IsWriteFault page e size blocks output base text fault × (new ≡ old) × (now ≡ before)

@@ -4,7 +4,7 @@ ghost use Rattle.jmount.specs.Mounts.{IsMountOf};
 ghost use Rattle.jlisting.specs.Listing.{lines_of};
 ghost use Rattle.jlog.specs.Resuming.{resumes_by};
 ghost use Rattle.jffs2_image.specs.Host.{AreOf, AreRead, Blames, BlamesMaker, IsHandedBack, IsMadeUntil, IsMakeFault, IsReadFault, Leaves, MakesFile, RunsFiles};
-ghost use Rattle.jffs2_image.specs.Writes.{IsMade, IsNotGoneOn, IsNotMade, IsPartUnread, IsPut, IsUnread, Writes};
+ghost use Rattle.jffs2_image.specs.Writes.{IsMade, IsNotGoneOn, IsNotMade, IsPartUnread, IsPut, IsUnreadFile, WritesImage};
 
 use crate::host::{FileFault, Loader, MakeFault, Maker};
 use crate::output::Output;
@@ -22,7 +22,7 @@ use std::alloc::{AllocError, Global};
 
 /// The bytes of a file.
 pub fn load_file<'a, L: Loader>(loader: &mut L, name: &'a str) -> Result<Vec<u8>, ProgramFault<'a>>
-    ensures unread { IfErr result (λ fault. IsUnread name.entry.now fault) }
+    ensures unread { IfErr result (λ fault. IsUnreadFile name.entry.now fault) }
     ensures bytes { IfOk result (λ bytes. AreOf (L.told loader.old name.entry.now) bytes.items) }
     ensures read { OnOk result (L.failures loader.new ≡ L.failures loader.old) }
     ensures fault { IfErr result (λ fault. IsReadFault (L.failures loader.old) (L.failures loader.new) fault) }
@@ -166,7 +166,7 @@ fn write_lines<'a, 'p, 'b: 'p, E: Order, M: Maker, T: Sink>(
     sink: &mut T,
 ) -> Result<(), ProgramFault<'a>>
     ensures writes { (text : List ℕ) → lines_of text ≡ Ok lines.entry.items
-        → Writes target.entry.page E.order target.entry.options.geometry.block target.entry.blocks target.entry.output.now base.now text
+        → WritesImage target.entry.page E.order target.entry.options.geometry.block target.entry.blocks target.entry.output.now base.now text
         (T.taken sink.old) (T.taken sink.new) (T.failures sink.old) (T.failures sink.new) result }
     ensures files { (told : List ℕ → Option (List ℕ)) → (text : List ℕ) → lines_of text ≡ Ok lines.entry.items → AreRead told lines.entry.items parts.entry.now
         → RunsFiles told target.entry.page E.order target.entry.options.geometry.block target.entry.blocks base.now text (T.taken sink.old) (T.taken sink.new) result }
@@ -196,7 +196,7 @@ pub fn write_image<'a, E: Order, L: Loader, M: Maker, T: Sink>(
     text: &'a [u8],
     sink: &mut T,
 ) -> Result<(), ProgramFault<'a>>
-    ensures writes { Writes target.entry.page E.order target.entry.options.geometry.block target.entry.blocks target.entry.output.now base.now text.now
+    ensures writes { WritesImage target.entry.page E.order target.entry.options.geometry.block target.entry.blocks target.entry.output.now base.now text.now
         (T.taken sink.old) (T.taken sink.new) (T.failures sink.old) (T.failures sink.new) result }
     // Each file that a line names was read: its operation has the bytes that it has on the host.
     ensures files { RunsFiles (L.told loader.old) target.entry.page E.order target.entry.options.geometry.block target.entry.blocks base.now text.now (T.taken sink.old) (T.taken sink.new) result }

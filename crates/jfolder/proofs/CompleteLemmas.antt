@@ -8,7 +8,7 @@ use Rattle.std.proofs.lemmas.Grind.{flat_map-append}
 use Rattle.std.proofs.lemmas.List.{map-append, map_more, replicate_more}
 use Rattle.std.proofs.lemmas.List.Elements.{All-append, All-nil, All-push}
 use Rattle.std.proofs.lemmas.List.Sorted.{IsPermutation-append_comm, IsPermutation-append_left, IsPermutation-append_right, IsPermutation-map, IsPermutation-refl, IsPermutation-reverse, IsPermutation-sym, IsPermutation-to_front, IsPermutation-trans}
-use Rattle.jfolder.specs.Complete.{Covers, GoesOn, IsComplete, IsNamed, LeftOut, NamesFit, Opened, child, children, children_of, directories, item_paths, left_paths, path_if_directory}
+use Rattle.jfolder.specs.Complete.{Covers, StaysCovered, IsComplete, IsNamed, LeftOut, NamesFit, Opened, child, children, children_of, listed_directories, item_paths, left_paths, path_if_directory}
 use Rattle.jfolder.specs.Known.{Known, inside, named_of}
 use Rattle.jfolder.specs.Walking.{item_of}
 use Rattle.jfolder.specs.declared.found.Found.{Found}
@@ -144,7 +144,7 @@ opens known path (what.Symlink target) None fit = record { opened = []; each = r
 opens known path (what.Link first) (Some names) fit = absurd fit
 opens known path (what.Link first) None fit = record { opened = []; each = refl; told = All-nil (IsNamed known); gives = refl }
 
-directories_more : (items : List Item) (i : Item) → directories (items ++ i ∷ []) ≡ directories items ++ path_if_directory (string_bytes i.path) i.what
+directories_more : (items : List Item) (i : Item) → listed_directories (items ++ i ∷ []) ≡ listed_directories items ++ path_if_directory (string_bytes i.path) i.what
 directories_more items i =
     ap (λ (l : Paths). [] ∷ l) (flat_map-append (λ (j : Item). path_if_directory (string_bytes j.path) j.what) items (i ∷ [])
     ∙ ap (λ (l : Paths). flat_map (λ (j : Item). path_if_directory (string_bytes j.path) j.what) items ++ l) (append-nil (path_if_directory (string_bytes i.path) i.what)))
@@ -170,7 +170,7 @@ walk_covers known items i names pending later lefts before fit moved covers =
     record {
       opened = covers.opened ++ here.opened;
       each = map-append (λ (o : Opened). o.0) covers.opened here.opened ∙ ap (λ (l : Paths). l ++ map (λ (o : Opened). o.0) here.opened) covers.each
-          ∙ ap (λ (l : Paths). directories items ++ l) here.each ∙ sym (directories_more items i);
+          ∙ ap (λ (l : Paths). listed_directories items ++ l) here.each ∙ sym (directories_more items i);
       told = All-append (IsNamed known) covers.opened here.opened covers.told here.told;
       paths_are = subst (λ (l : Paths). IsPermutation l (item_paths (items ++ i ∷ []) ++ (later ++ left_paths (before ++ lefts)))) (sym given)
           (subst (IsPermutation (children_given covers.opened ++ children_of path names)) same moves);
@@ -178,11 +178,11 @@ walk_covers known items i names pending later lefts before fit moved covers =
 
 pub goes_on : (known : Known) (items new : List Item) (path : String Global) (found : Found) (pending later : Paths) (lefts : List LeftOut) → new ≡ items ++ item_of path found ∷ []
     → NamesFit (known.names (inside (string_bytes path))) found.what found.names → IsPermutation (children_of (string_bytes path) found.names ++ pending) (later ++ left_paths lefts)
-    → GoesOn known items (pending ++ string_bytes path ∷ []) new later lefts
+    → StaysCovered known items (pending ++ string_bytes path ∷ []) new later lefts
 goes_on known items new path found pending later lefts more names moved before covers =
     subst (λ (l : List Item). Covers known l (item_paths l ++ (later ++ left_paths (before ++ lefts)))) (sym more) (walk_covers known items (item_of path found) found.names pending later lefts before names moved covers)
 
-leaves_one_out : (known : Known) (items : List Item) (pending : Paths) (path : List ℕ) (why : Reason) → GoesOn known items (pending ++ path ∷ []) items pending ((path, why) ∷ [])
+leaves_one_out : (known : Known) (items : List Item) (pending : Paths) (path : List ℕ) (why : Reason) → StaysCovered known items (pending ++ path ∷ []) items pending ((path, why) ∷ [])
 leaves_one_out known items pending path why before covers = record {
   opened = covers.opened;
   each = covers.each;
@@ -194,9 +194,9 @@ leaves_one_out known items pending path why before covers = record {
 }
 
 pub leaves_out : (known : Known) (items : List Item) (pending : Paths) (path told : List ℕ) (why : Reason) (lefts : List LeftOut) → told ≡ path → lefts ≡ (told, why) ∷ []
-    → GoesOn known items (pending ++ path ∷ []) items pending lefts
+    → StaysCovered known items (pending ++ path ∷ []) items pending lefts
 leaves_out known items pending path told why lefts is these =
-    subst (λ (l : List LeftOut). GoesOn known items (pending ++ path ∷ []) items pending l) (sym (these ∙ ap (λ (p : List ℕ). (p, why) ∷ []) is)) (leaves_one_out known items pending path why)
+    subst (λ (l : List LeftOut). StaysCovered known items (pending ++ path ∷ []) items pending l) (sym (these ∙ ap (λ (p : List ℕ). (p, why) ∷ []) is)) (leaves_one_out known items pending path why)
 
 -- ---- the folder itself
 
@@ -205,10 +205,10 @@ abbrev pub Reaches : Known → List Item → List (String Global) → List LeftO
 Reaches known items pending lefts = Covers known items (item_paths items ++ (texts pending ++ left_paths lefts))
 
 pub reaches_on : (known here : Known) (items new : List Item) (old rest later : List (String Global)) (path : String Global) (before lefts : List LeftOut) → here ≡ known → old ≡ rest ++ path ∷ []
-    → Reaches known items old before → GoesOn here items (texts rest ++ string_bytes path ∷ []) new (texts later) lefts → Reaches known new later (before ++ lefts)
+    → Reaches known items old before → StaysCovered here items (texts rest ++ string_bytes path ∷ []) new (texts later) lefts → Reaches known new later (before ++ lefts)
 reaches_on known here items new old rest later path before lefts same is covers goes =
-    let on : GoesOn known items (texts rest ++ string_bytes path ∷ []) new (texts later) lefts =
-    subst (λ (k : Known). GoesOn k items (texts rest ++ string_bytes path ∷ []) new (texts later) lefts) same goes in
+    let on : StaysCovered known items (texts rest ++ string_bytes path ∷ []) new (texts later) lefts =
+    subst (λ (k : Known). StaysCovered k items (texts rest ++ string_bytes path ∷ []) new (texts later) lefts) same goes in
     on before (subst (λ (l : Paths). Covers known items (item_paths items ++ (l ++ left_paths before))) (ap texts is ∙ map-append (λ (p : String Global). string_bytes p) rest (path ∷ [])) covers)
 
 -- nothing is still to visit

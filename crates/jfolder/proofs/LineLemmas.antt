@@ -10,7 +10,7 @@ use Rattle.jlisting.specs.declared.line.Line.{Line}
 use Rattle.jlisting.specs.declared.statement.Settings.{Settings}
 use Rattle.jlisting.specs.declared.statement.Statement.{Statement}
 use Rattle.jlisting.specs.declared.statement.Statement.TheVariants as kind
-use Rattle.jfolder.specs.Text.{line_of}
+use Rattle.jfolder.specs.Text.{words_line}
 use Rattle.jfolder.proofs.SeenLemmas.{IsPlain}
 
 -- ---- words between single spaces
@@ -20,7 +20,7 @@ joined [] = []
 joined (w ∷ []) = w
 joined (w ∷ v ∷ ws) = w ++ 32 ∷ joined (v ∷ ws)
 
-line_joined : (w : List ℕ) (ws : List (List ℕ)) → line_of (w ∷ ws) ≡ joined (w ∷ ws) ++ 10 ∷ []
+line_joined : (w : List ℕ) (ws : List (List ℕ)) → words_line (w ∷ ws) ≡ joined (w ∷ ws) ++ 10 ∷ []
 line_joined w [] = refl
 line_joined w (v ∷ ws) = ap (λ (l : List ℕ). w ++ 32 ∷ l) (line_joined v ws) ∙ sym (append_assoc w (32 ∷ joined (v ∷ ws)) (10 ∷ []))
 
@@ -54,7 +54,7 @@ statement_joined s b w ws is all =
 
 line_read : (n : ℕ) (s : Settings) (b : ℕ) (w : List ℕ) (ws : List (List ℕ)) (rest : List ℕ) (m : Statement) → (b == 35) ≡ false
     → All IsPlain ((b ∷ w) ∷ ws) → statement_of_words s ((b ∷ w) ∷ ws) ≡ Some m
-    → lines_in n s (line_of ((b ∷ w) ∷ ws) ++ rest) ≡ prepend (action_lines n m) (lines_in (n + 1) (settings_after s m) rest)
+    → lines_in n s (words_line ((b ∷ w) ∷ ws) ++ rest) ≡ prepend (action_lines n m) (lines_in (n + 1) (settings_after s m) rest)
 line_read n s b w ws rest m is all means =
     let line = joined ((b ∷ w) ∷ ws) in
     ap (λ (l : List ℕ). lines_in n s (l ++ rest)) (line_joined (b ∷ w) ws)
@@ -73,7 +73,7 @@ reads_nothing s = λ n. ([], refl, refl)
 
 pub reads_action : (s : Settings) (b : ℕ) (w : List ℕ) (ws : List (List ℕ)) (rest : List ℕ) (a : Action) (actions : List Action)
     → (b == 35) ≡ false → All IsPlain ((b ∷ w) ∷ ws) → statement_of_words s ((b ∷ w) ∷ ws) ≡ Some (kind.Action a)
-    → Reads s rest actions → Reads s (line_of ((b ∷ w) ∷ ws) ++ rest) (a ∷ actions)
+    → Reads s rest actions → Reads s (words_line ((b ∷ w) ∷ ws) ++ rest) (a ∷ actions)
 reads_action s b w ws rest a actions is all means next = λ n.
     let more = next (n + 1) in
     let here : Line = record { number = n; action = a } in
@@ -81,7 +81,7 @@ reads_action s b w ws rest a actions is all means next = λ n.
 
 pub reads_settings : (s then : Settings) (b : ℕ) (w : List ℕ) (ws : List (List ℕ)) (rest : List ℕ) (actions : List Action)
     → (b == 35) ≡ false → All IsPlain ((b ∷ w) ∷ ws) → statement_of_words s ((b ∷ w) ∷ ws) ≡ Some (kind.Settings then)
-    → Reads then rest actions → Reads s (line_of ((b ∷ w) ∷ ws) ++ rest) actions
+    → Reads then rest actions → Reads s (words_line ((b ∷ w) ∷ ws) ++ rest) actions
 reads_settings s then b w ws rest actions is all means next = λ n.
     let more = next (n + 1) in
     (more.0, line_read n s b w ws rest (kind.Settings then) is all means ∙ ap (prepend []) more.1, more.2)

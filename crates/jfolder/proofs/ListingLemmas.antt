@@ -11,11 +11,12 @@ use Rattle.std.proofs.lemmas.Str.{IsUtf8-string_bytes, is_utf8-from_IsUtf8}
 use Rattle.flashbase.specs.Lists.{below}
 use Rattle.jline.specs.Words.{hex_of, octal, word_of}
 use Rattle.jsteps.specs.declared.op.Op.TheVariants as op
-use Rattle.jlisting.specs.Listing.{lines_in, lines_of, six_operands, statement_of_words, ◌>>=◌, operation, owner, number}
+use Rattle.jword.specs.Words.{◌>>=◌}
+use Rattle.jlisting.specs.Listing.{lines_in, lines_of, six_operands, statement_of_words, operation, owner_word, number}
 use Rattle.jlisting.specs.declared.line.Action.{Action}
 use Rattle.jlisting.specs.declared.line.Action.TheVariants as action
 use Rattle.jlisting.specs.declared.statement.Statement.TheVariants as kind
-use Rattle.jfolder.specs.Text.{content_words, is_link, item_words, items_words, line_of, lines_text, listing_text, object_words, owner_words, piece, piece_count, root_words, settings_of_root, settings_with, time_words, write_words}
+use Rattle.jfolder.specs.Text.{content_words, is_link, item_words, items_words, words_line, lines_text, listing_text, object_words, owner_words, written_piece, piece_count, root_words, settings_of_root, settings_with, time_words, write_words}
 use Rattle.jfolder.specs.Actions.{AttributesFit, ContentFits, IsRooted, ItemFits, WhatFits, actions_of, content_actions, item_actions, object_actions, write_of}
 use Rattle.jfolder.specs.Laws.{ListingIsReadBack}
 use Rattle.jfolder.specs.declared.settings.Settings.{Settings}
@@ -35,10 +36,10 @@ four_plain v w x y a b c d = with v (w ∷ x ∷ y ∷ []) a (with w (x ∷ y �
 
 -- ---- pieces of a file
 
-piece_some : (bytes : List ℕ) (k : ℕ) → 4096 * k < length bytes → 0 < length (piece bytes k)
+piece_some : (bytes : List ℕ) (k : ℕ) → 4096 * k < length bytes → 0 < length (written_piece bytes k)
 piece_some bytes k within = omega (arith, length-take 4096 (drop (4096 * k) bytes), length-drop (4096 * k) bytes)
 
-piece_text : (bytes : List ℕ) (k : ℕ) → All IsByte bytes → 4096 * k < length bytes → IsText (piece bytes k)
+piece_text : (bytes : List ℕ) (k : ℕ) → All IsByte bytes → 4096 * k < length bytes → IsText (written_piece bytes k)
 piece_text bytes k all within = record {
   bytes_fit = All-take IsByte 4096 (drop (4096 * k) bytes) (All-drop IsByte (4096 * k) bytes all);
   some = piece_some bytes k within;
@@ -53,11 +54,11 @@ reads_pieces : (s : Set) (path bytes : List ℕ) (ks : List ℕ) (rest : List �
 reads_pieces s path bytes [] rest actions is all short within next = next
 reads_pieces s path bytes (k ∷ ks) rest actions is all short within next =
     let here : 4096 * k < length bytes = All-head (Within bytes) k ks within in
-    then_action s 119 (codes "rite") (word_of path ∷ decimal (4096 * k) ∷ hex_of (piece bytes k) ∷ []) (map (write_words path bytes) ks) rest
+    then_action s 119 (codes "rite") (word_of path ∷ decimal (4096 * k) ∷ hex_of (written_piece bytes k) ∷ []) (map (write_words path bytes) ks) rest
     (write_of s.time path bytes k) (map (write_of s.time path bytes) ks ++ actions) refl
-    (four_plain (codes "write") (word_of path) (decimal (4096 * k)) (hex_of (piece bytes k)) (verb_plain (codes "write") refl) (path_plain path)
-    (decimal_plain (4096 * k) (omega arith)) (seen_plain (hex_of (piece bytes k)) (hex_of_seen (piece bytes k))))
-    (write_means s path (4096 * k) (piece bytes k) is (omega arith) (piece_text bytes k all here))
+    (four_plain (codes "write") (word_of path) (decimal (4096 * k)) (hex_of (written_piece bytes k)) (verb_plain (codes "write") refl) (path_plain path)
+    (decimal_plain (4096 * k) (omega arith)) (seen_plain (hex_of (written_piece bytes k)) (hex_of_seen (written_piece bytes k))))
+    (write_means s path (4096 * k) (written_piece bytes k) is (omega arith) (piece_text bytes k all here))
     (reads_pieces s path bytes ks rest actions is all short (All-tail (Within bytes) k ks within) next)
 
 below_within : (n m : ℕ) → n ≤ m → All (λ k. k < m) (below n)
@@ -210,7 +211,7 @@ reads_items s (i ∷ items) all =
     let more = reads_items (settings_with s i) items (All-tail ItemFits i items all) in
     let one = reads_item s i (lines_text (items_words (settings_with s i) items)) (flat_map item_actions items) (All-head ItemFits i items all) more in
     subst (λ (l : List ℕ). Reads (given s) l (item_actions i ++ flat_map item_actions items))
-    (sym (flat_map-append line_of (item_words s i) (items_words (settings_with s i) items))) one
+    (sym (flat_map-append words_line (item_words s i) (items_words (settings_with s i) items))) one
 
 -- ---- the root
 
@@ -219,9 +220,9 @@ attr_means : (s : Set) (a : Attributes) → AttributesFit a
     ≡ Some (kind.Action (action.Op (op.SetAttributes s.time (47 ∷ []) (record { mode = a.mode; uid = a.uid; gid = a.gid; atime = a.time; mtime = a.time }))))
 unfolding six_operands
 attr_means s a fit =
-    ap (λ (o : Option ℕ). o >>= λ mode. owner (decimal a.uid) >>= λ uid. owner (decimal a.gid) >>= λ gid. number (decimal a.time) >>= λ atime. number (decimal a.time) >>= λ mtime.
+    ap (λ (o : Option ℕ). o >>= λ mode. owner_word (decimal a.uid) >>= λ uid. owner_word (decimal a.gid) >>= λ gid. number (decimal a.time) >>= λ atime. number (decimal a.time) >>= λ mtime.
     operation (op.SetAttributes s.time (47 ∷ []) (record { mode = mode; uid = uid; gid = gid; atime = atime; mtime = mtime }))) (mode_read_back a.mode fit.mode)
-    ∙ ap (λ (o : Option ℕ). o >>= λ uid. owner (decimal a.gid) >>= λ gid. number (decimal a.time) >>= λ atime. number (decimal a.time) >>= λ mtime.
+    ∙ ap (λ (o : Option ℕ). o >>= λ uid. owner_word (decimal a.gid) >>= λ gid. number (decimal a.time) >>= λ atime. number (decimal a.time) >>= λ mtime.
     operation (op.SetAttributes s.time (47 ∷ []) (record { mode = a.mode; uid = uid; gid = gid; atime = atime; mtime = mtime }))) (owner_read_back a.uid fit.uid)
     ∙ ap (λ (o : Option ℕ). o >>= λ gid. number (decimal a.time) >>= λ atime. number (decimal a.time) >>= λ mtime.
     operation (op.SetAttributes s.time (47 ∷ []) (record { mode = a.mode; uid = a.uid; gid = gid; atime = atime; mtime = mtime }))) (owner_read_back a.gid fit.gid)
@@ -257,4 +258,4 @@ unfolding listing_text lines_of actions_of
 listing_is_read_back root items fits =
     let all = reads_root root (lines_text (items_words (settings_of_root root) items)) (flat_map item_actions items) fits.root_fits
     (reads_items (settings_of_root root) items fits.items_fit) 1 in
-    (all.0, ap (λ (l : List ℕ). lines_in 1 (record { time = 0; uid = 0; gid = 0 }) l) (flat_map-append line_of (root_words root) (items_words (settings_of_root root) items)) ∙ all.1, all.2)
+    (all.0, ap (λ (l : List ℕ). lines_in 1 (record { time = 0; uid = 0; gid = 0 }) l) (flat_map-append words_line (root_words root) (items_words (settings_of_root root) items)) ∙ all.1, all.2)

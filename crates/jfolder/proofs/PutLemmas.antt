@@ -12,7 +12,7 @@ use Rattle.flashbase.specs.Device.{Puts, PutsPart, next_count}
 use Rattle.flashbase.specs.Lists.{below}
 use Rattle.flashbase.proofs.DeviceLemmas.{part_behind}
 use Rattle.flashbase.proofs.DeviceLemmas.{first_failed, then_puts}
-use Rattle.jfolder.specs.Text.{item_words, items_words, line_of, lines_text, piece, settings_with}
+use Rattle.jfolder.specs.Text.{item_words, items_words, words_line, lines_text, written_piece, settings_with}
 use Rattle.jfolder.specs.declared.settings.Settings.{Settings}
 use Rattle.jfolder.specs.declared.tree.Item.{Item}
 
@@ -20,13 +20,13 @@ use Rattle.jfolder.specs.declared.tree.Item.{Item}
 pub lines_first_failed : {T E : Type 0} (old new : Option (List ℕ)) (before now : ℕ) (xs ys : List (List (List ℕ))) (r : Result T E) → IsErr r
     → PutsPart old new (lines_text xs) → now ≡ next_count before → Puts old new before now (lines_text (xs ++ ys)) r
 lines_first_failed old new before now xs ys r err part failed =
-    subst (λ (l : List ℕ). Puts old new before now l r) (sym (flat_map-append line_of xs ys)) (first_failed old new before now (lines_text xs) (lines_text ys) r err part failed)
+    subst (λ (l : List ℕ). Puts old new before now l r) (sym (flat_map-append words_line xs ys)) (first_failed old new before now (lines_text xs) (lines_text ys) r err part failed)
 
 -- the first went out, and then the other as far as it did
 pub lines_then_put : {T E : Type 0} (a b c : Option (List ℕ)) (before mid now : ℕ) (xs ys : List (List (List ℕ))) (r : Result T E)
     → Appends a b (lines_text xs) → mid ≡ before → Puts b c mid now (lines_text ys) r → Puts a c before now (lines_text (xs ++ ys)) r
 lines_then_put a b c before mid now xs ys r put same next =
-    subst (λ (l : List ℕ). Puts a c before now l r) (sym (flat_map-append line_of xs ys)) (then_puts a b c before mid now (lines_text xs) (lines_text ys) r put same next)
+    subst (λ (l : List ℕ). Puts a c before now l r) (sym (flat_map-append words_line xs ys)) (then_puts a b c before mid now (lines_text xs) (lines_text ys) r put same next)
 
 -- the bytes from a place on, up to an end that is not past the last
 take_upto : (bytes : List ℕ) (start n end : ℕ) → end ≡ min (length bytes) (start + n) → take (end - start) (drop start bytes) ≡ take n (drop start bytes)
@@ -40,7 +40,7 @@ take_upto bytes start n end is = ⊎_elim past within (cases_lt (start + n) (len
     past : start + n < length bytes → take (end - start) (drop start bytes) ≡ take n (drop start bytes)
     past long = ap (λ (m : ℕ). take m (drop start bytes)) (omega arith)
 
-pub piece_slice : (bytes : List ℕ) (k end : ℕ) → end ≡ min (length bytes) (4096 * k + 4096) → take (end - 4096 * k) (drop (4096 * k) bytes) ≡ piece bytes k
+pub piece_slice : (bytes : List ℕ) (k end : ℕ) → end ≡ min (length bytes) (4096 * k + 4096) → take (end - 4096 * k) (drop (4096 * k) bytes) ≡ written_piece bytes k
 piece_slice bytes k end is = take_upto bytes (4096 * k) 4096 end is
 
 -- ---- a line for each number below another
@@ -48,10 +48,10 @@ piece_slice bytes k end is = take_upto bytes (4096 * k) 4096 end is
 below_more : (k : ℕ) → below (k + 1) ≡ below k ++ k ∷ []
 below_more k = ap below {x = k + 1} {y = suc k} (omega arith)
 
-pub below_next : (f : ℕ → List (List ℕ)) (k : ℕ) → lines_text (map f (below k)) ++ line_of (f k) ≡ lines_text (map f (below (k + 1)))
+pub below_next : (f : ℕ → List (List ℕ)) (k : ℕ) → lines_text (map f (below k)) ++ words_line (f k) ≡ lines_text (map f (below (k + 1)))
 below_next f k =
-    ap (λ (l : List ℕ). lines_text (map f (below k)) ++ l) (sym (append-nil (line_of (f k))))
-    ∙ sym (flat_map-append line_of (map f (below k)) (f k ∷ []))
+    ap (λ (l : List ℕ). lines_text (map f (below k)) ++ l) (sym (append-nil (words_line (f k))))
+    ∙ sym (flat_map-append words_line (map f (below k)) (f k ∷ []))
     ∙ ap lines_text (sym (map-append f (below k) (k ∷ [])) ∙ ap (map f) (sym (below_more k)))
 
 below_split : (k n : ℕ) → k < n → (more : List ℕ) × (below n ≡ below (k + 1) ++ more)
@@ -64,15 +64,15 @@ below_split k (suc n) less = ⊎_elim
 
 -- the lines before one went out, and then a beginning of its own
 pub below_failed : {T E : Type 0} (f : ℕ → List (List ℕ)) (k n : ℕ) (a b c : Option (List ℕ)) (before mid now : ℕ) (r : Result T E) → IsErr r → k < n
-    → Appends a b (lines_text (map f (below k))) → mid ≡ before → PutsPart b c (line_of (f k)) → now ≡ next_count mid
+    → Appends a b (lines_text (map f (below k))) → mid ≡ before → PutsPart b c (words_line (f k)) → now ≡ next_count mid
     → Puts a c before now (lines_text (map f (below n))) r
 below_failed f k n a b c before mid now r err less put same part failed =
     let split = below_split k n less in
     let whole : lines_text (map f (below (k + 1))) ++ lines_text (map f split.0) ≡ lines_text (map f (below n)) =
-    sym (flat_map-append line_of (map f (below (k + 1))) (map f split.0)) ∙ ap lines_text (sym (map-append f (below (k + 1)) split.0) ∙ ap (map f) (sym split.1)) in
+    sym (flat_map-append words_line (map f (below (k + 1))) (map f split.0)) ∙ ap lines_text (sym (map-append f (below (k + 1)) split.0) ∙ ap (map f) (sym split.1)) in
     subst (λ (l : List ℕ). Puts a c before now l r) whole
     (first_failed a c before now (lines_text (map f (below (k + 1)))) (lines_text (map f split.0)) r err
-    (subst (PutsPart a c) (below_next f k) (part_behind a b c (lines_text (map f (below k))) (line_of (f k)) put part)) (failed ∙ ap next_count same))
+    (subst (PutsPart a c) (below_next f k) (part_behind a b c (lines_text (map f (below k))) (words_line (f k)) put part)) (failed ∙ ap next_count same))
 
 -- ---- the items of a tree
 
@@ -95,7 +95,7 @@ item_put s next items i x all a b c within here is before put =
     let words = item_words s x in
     record {
       done = before.done ++ words;
-      put = subst (Appends a c) (sym (flat_map-append line_of before.done words)) (Appends-trans a b c (lines_text before.done) (lines_text words) before.put put);
+      put = subst (Appends a c) (sym (flat_map-append words_line before.done words)) (Appends-trans a b c (lines_text before.done) (lines_text words) before.put put);
       left = ap (λ (n : Settings). (before.done ++ words) ++ items_words n (drop (i + 1) items)) is
           ∙ append_assoc before.done words (items_words (settings_with s x) (drop (i + 1) items))
           ∙ ap (λ (l : List (List (List ℕ))). before.done ++ l) (sym (item_left s items i x within here)) ∙ before.left;
@@ -108,7 +108,7 @@ item_failed s items i x all a b c before mid now r err within here upto same par
     let words = item_words s x in
     let rest = items_words (settings_with s x) (drop (i + 1) items) in
     let whole : lines_text upto.done ++ (lines_text words ++ lines_text rest) ≡ lines_text all =
-    ap (λ (l : List ℕ). lines_text upto.done ++ l) (sym (flat_map-append line_of words rest)) ∙ sym (flat_map-append line_of upto.done (words ++ rest))
+    ap (λ (l : List ℕ). lines_text upto.done ++ l) (sym (flat_map-append words_line words rest)) ∙ sym (flat_map-append words_line upto.done (words ++ rest))
     ∙ ap lines_text (ap (λ (l : List (List (List ℕ))). upto.done ++ l) (sym (item_left s items i x within here)) ∙ upto.left) in
     subst (λ (l : List ℕ). Puts a c before now l r) (append_assoc (lines_text upto.done) (lines_text words) (lines_text rest) ∙ whole)
     (first_failed a c before now (lines_text upto.done ++ lines_text words) (lines_text rest) r err

@@ -7,13 +7,14 @@ use Rattle.std.proofs.lemmas.List.Elements.{All-nil, All-cons}
 use Rattle.std.proofs.lemmas.Bool.Decides.{nat_tests}
 use Rattle.jline.specs.Words.{hex_of, octal, word_of}
 use Rattle.jsteps.specs.declared.op.Op.TheVariants as op
-use Rattle.jlisting.specs.Listing.{◌>>=◌, number, one_operand, operation, owner, statement_of_words, three_operands, two_operands}
-use Rattle.jlisting.specs.Words.{data_of, file_name_of, text_of}
+use Rattle.jword.specs.Words.{◌>>=◌}
+use Rattle.jlisting.specs.Listing.{number, one_operand, operation, owner_word, statement_of_words, three_operands, two_operands}
+use Rattle.jlisting.specs.Words.{hex_data_of, file_name_of, text_of}
 use Rattle.jlisting.specs.declared.line.Action.{Action}
 use Rattle.jlisting.specs.declared.line.Action.TheVariants as action
 use Rattle.jlisting.specs.declared.statement.Settings as theirs
 use Rattle.jlisting.specs.declared.statement.Statement.TheVariants as kind
-use Rattle.jfolder.specs.Text.{line_of, lines_text}
+use Rattle.jfolder.specs.Text.{words_line, lines_text}
 use Rattle.jfolder.proofs.SeenLemmas.{IsByte, IsPlain, IsSeen, Seen, decimal_seen, octal_seen, seen_plain, word_of_seen}
 use Rattle.jfolder.proofs.WordLemmas.{data_read_back, mode_read_back, number_read_back, owner_read_back, text_read_back}
 use Rattle.jfolder.proofs.LineLemmas.{Reads, reads_action, reads_settings}
@@ -62,11 +63,11 @@ text_read bytes is = text_read_back bytes is.bytes_fit is.some
 
 -- ---- one line more
 
-pub lines_cons : (words : List (List ℕ)) (more : List (List (List ℕ))) (rest : List ℕ) → lines_text (words ∷ more) ++ rest ≡ line_of words ++ (lines_text more ++ rest)
-lines_cons words more rest = append_assoc (line_of words) (lines_text more) rest
+pub lines_cons : (words : List (List ℕ)) (more : List (List (List ℕ))) (rest : List ℕ) → lines_text (words ∷ more) ++ rest ≡ words_line words ++ (lines_text more ++ rest)
+lines_cons words more rest = append_assoc (words_line words) (lines_text more) rest
 
 pub lines_append : (xs ys : List (List (List ℕ))) (rest : List ℕ) → lines_text (xs ++ ys) ++ rest ≡ lines_text xs ++ (lines_text ys ++ rest)
-lines_append xs ys rest = ap (λ (l : List ℕ). l ++ rest) (flat_map-append line_of xs ys) ∙ append_assoc (lines_text xs) (lines_text ys) rest
+lines_append xs ys rest = ap (λ (l : List ℕ). l ++ rest) (flat_map-append words_line xs ys) ∙ append_assoc (lines_text xs) (lines_text ys) rest
 
 pub then_action : (s : Set) (b : ℕ) (w : List ℕ) (ws : List (List ℕ)) (more : List (List (List ℕ))) (rest : List ℕ) (a : Action) (actions : List Action)
     → (b == 35) ≡ false → All IsPlain ((b ∷ w) ∷ ws) → statement_of_words s ((b ∷ w) ∷ ws) ≡ Some (kind.Action a)
@@ -93,7 +94,7 @@ pub owner_means : (s : Set) (u g : ℕ) → u < 2 ^ 16 → g < 2 ^ 16
     → statement_of_words s (codes "owner" ∷ decimal u ∷ decimal g ∷ []) ≡ Some (kind.Settings (record { time = s.time; uid = u; gid = g }))
 unfolding two_operands
 owner_means s u g small low =
-    ap (λ (o : Option ℕ). o >>= λ uid. owner (decimal g) >>= λ gid. Some (kind.Settings (record { time = s.time; uid = uid; gid = gid }))) (owner_read_back u small)
+    ap (λ (o : Option ℕ). o >>= λ uid. owner_word (decimal g) >>= λ gid. Some (kind.Settings (record { time = s.time; uid = uid; gid = gid }))) (owner_read_back u small)
     ∙ ap (λ (o : Option ℕ). o >>= λ gid. Some (kind.Settings (record { time = s.time; uid = u; gid = gid }))) (owner_read_back g low)
 
 pub mkdir_means : (s : Set) (mode : ℕ) (path : List ℕ) → mode ≤ 0o7777 → IsText path
@@ -135,6 +136,6 @@ pub write_means : (s : Set) (path : List ℕ) (offset : ℕ) (bytes : List ℕ) 
     → statement_of_words s (codes "write" ∷ word_of path ∷ decimal offset ∷ hex_of bytes ∷ []) ≡ Some (kind.Action (action.Op (op.Write s.time path offset bytes)))
 unfolding three_operands
 write_means s path offset bytes is small some =
-    ap (λ (o : Option (List ℕ)). o >>= λ path. number (decimal offset) >>= λ offset. data_of (hex_of bytes) >>= λ bytes. operation (op.Write s.time path offset bytes)) (text_read path is)
-    ∙ ap (λ (o : Option ℕ). o >>= λ offset. data_of (hex_of bytes) >>= λ bytes. operation (op.Write s.time path offset bytes)) (number_read_back offset small)
+    ap (λ (o : Option (List ℕ)). o >>= λ path. number (decimal offset) >>= λ offset. hex_data_of (hex_of bytes) >>= λ bytes. operation (op.Write s.time path offset bytes)) (text_read path is)
+    ∙ ap (λ (o : Option ℕ). o >>= λ offset. hex_data_of (hex_of bytes) >>= λ bytes. operation (op.Write s.time path offset bytes)) (number_read_back offset small)
     ∙ ap (λ (o : Option (List ℕ)). o >>= λ bytes. operation (op.Write s.time path offset bytes)) (data_read_back bytes some.bytes_fit some.some)

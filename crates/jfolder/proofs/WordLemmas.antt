@@ -10,7 +10,7 @@ use Rattle.jline.specs.Words.{hex, hex_digit, hex_of, octal, word_byte, word_of}
 use Rattle.jline.proofs.EscapeLemmas.{pairs_read_back, word_unescaped}
 use Rattle.jline.proofs.WordLemmas.{length_octal_more, octal_one_digit, octal_more}
 use Rattle.jword.specs.Words.{pairs_of, unescaped}
-use Rattle.jlisting.specs.Words.{data_of, decimal_of, digits_from, file_name_of, mode_of, text_of}
+use Rattle.jlisting.specs.Words.{hex_data_of, decimal_of, digits_from, file_name_of, mode_of, text_of}
 use Rattle.jlisting.proofs.NumberLemmas.{decimals_are_read_back}
 
 -- ---- paths and targets
@@ -40,7 +40,7 @@ pair_some : (b : ℕ) (rest : List ℕ) → 0 < length (hex 2 b ++ rest)
 unfolding hex
 pair_some b rest = omega arith
 
-pub data_read_back : (bytes : List ℕ) → All (λ b. b < 256) bytes → 0 < length bytes → data_of (hex_of bytes) ≡ Some bytes
+pub data_read_back : (bytes : List ℕ) → All (λ b. b < 256) bytes → 0 < length bytes → hex_data_of (hex_of bytes) ≡ Some bytes
 data_read_back [] all some = absurd (omega arith)
 data_read_back (b ∷ bytes) all some =
     read_of_some (hex_of (b ∷ bytes)) _ (pair_some b (hex_of bytes))

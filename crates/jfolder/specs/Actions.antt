@@ -6,7 +6,7 @@ use Rattle.flashbase.specs.Lists.{below}
 use Rattle.jsteps.specs.declared.op.Op.TheVariants as op
 use Rattle.jlisting.specs.declared.line.Action.{Action}
 use Rattle.jlisting.specs.declared.line.Action.TheVariants as action
-use Rattle.jfolder.specs.Text.{piece, piece_count}
+use Rattle.jfolder.specs.Text.{written_piece, piece_count}
 use Rattle.jfolder.specs.declared.tree.Attributes.{Attributes}
 use Rattle.jfolder.specs.declared.tree.Content.{Content}
 use Rattle.jfolder.specs.declared.tree.Content.TheVariants as content
@@ -17,7 +17,7 @@ use Rattle.jfolder.specs.declared.tree.What.TheVariants as what
 -- ---- the actions
 
 abbrev pub write_of : ℕ → List ℕ → List ℕ → ℕ → Action
-write_of time path bytes k = action.Op (op.Write time path (4096 * k) (piece bytes k))
+write_of time path bytes k = action.Op (op.Write time path (4096 * k) (written_piece bytes k))
 
 abbrev pub content_actions : ℕ → List ℕ → Content → List Action
 content_actions time path content.Empty = []
@@ -70,6 +70,6 @@ pub record ItemFits (i : Item) : Type 0 where
   pub attributes : AttributesFit i.attributes
   pub what : WhatFits i.what
 
-pub record Fits (root : Attributes) (items : List Item) : Type 0 where
+pub record FitsListing (root : Attributes) (items : List Item) : Type 0 where
   pub root_fits : AttributesFit root
   pub items_fit : All ItemFits items

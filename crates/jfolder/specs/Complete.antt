@@ -36,8 +36,8 @@ path_if_directory path what.Directory = path ∷ []
 path_if_directory path _ = []
 
 -- the folder itself, whose path is empty, and each item that is a directory
-abbrev pub directories : List Item → List (List ℕ)
-directories items = [] ∷ flat_map (λ i. path_if_directory (string_bytes i.path) i.what) items
+abbrev pub listed_directories : List Item → List (List ℕ)
+listed_directories items = [] ∷ flat_map (λ i. path_if_directory (string_bytes i.path) i.what) items
 
 -- a directory by its path, and the names that were told in it
 abbrev pub Opened : Type 0
@@ -52,7 +52,7 @@ IsNamed known opened = IfSome (known.names (inside opened.0)) (λ told. opened.1
 -- Names were told in each directory of these items, and they give these paths, each as often as it is told.
 pub record Covers (known : Known) (items : List Item) (paths : List (List ℕ)) : Type 0 where
   pub opened : List Opened
-  pub each : map (λ o. o.0) opened ≡ directories items
+  pub each : map (λ o. o.0) opened ≡ listed_directories items
   pub told : All (IsNamed known) opened
   pub paths_are : IsPermutation (flat_map (λ o. children o.0 o.1) opened) paths
 
@@ -74,6 +74,6 @@ children_of directory None = []
 children_of directory (Some names) = children directory (named_of names)
 
 -- Paths that were still to visit were read or left out, and others came in their place.
-abbrev pub GoesOn : Known → List Item → List (List ℕ) → List Item → List (List ℕ) → List LeftOut → Type 0
-GoesOn known items pending new later lefts = (before : List LeftOut) → Covers known items (item_paths items ++ (pending ++ left_paths before))
+abbrev pub StaysCovered : Known → List Item → List (List ℕ) → List Item → List (List ℕ) → List LeftOut → Type 0
+StaysCovered known items pending new later lefts = (before : List LeftOut) → Covers known items (item_paths items ++ (pending ++ left_paths before))
     → Covers known new (item_paths new ++ (later ++ left_paths (before ++ lefts)))

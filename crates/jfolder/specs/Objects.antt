@@ -43,13 +43,13 @@ abbrev pub AreOne : Looked → Looked → Type 0
 AreOne a b = (a.device ≡ b.device) × (a.number ≡ b.number)
 
 -- the host tells one object at both paths
-abbrev pub LeadsTo : Known → List ℕ → List ℕ → Type 0
-LeadsTo known path first = IfSome (known.looked path) (λ told. IfSome (known.looked (inside first)) (λ other. AreOne other told))
+abbrev pub LinkLeadsTo : Known → List ℕ → List ℕ → Type 0
+LinkLeadsTo known path first = IfSome (known.looked path) (λ told. IfSome (known.looked (inside first)) (λ other. AreOne other told))
 
 abbrev pub HasObject : Known → List ℕ → What → Type 0
 HasObject known path (what.Regular bytes) = HasContent known path bytes
 HasObject known path (what.Symlink target) = IfSome (known.target path) (λ told. string_bytes target ≡ told)
-HasObject known path (what.Link first) = LeadsTo known path (string_bytes first)
+HasObject known path (what.Link first) = LinkLeadsTo known path (string_bytes first)
 HasObject known path what.Directory = ⊤
 
 -- an item is what the host tells at its path, where that is known

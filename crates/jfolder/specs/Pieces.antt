@@ -3,7 +3,7 @@ use Rattle.std.specs.Prelude.{ℕ, List, [], ◌∷◌, ◌++◌, map, codes, de
 use Rattle.std.specs.List.{flat_map}
 use Rattle.flashbase.specs.Lists.{below}
 use Rattle.jline.specs.Words.{hex_of, octal, word_of}
-use Rattle.jfolder.specs.Text.{content_words, is_link, line_of, lines_text, owner_words, piece_count, write_words}
+use Rattle.jfolder.specs.Text.{content_words, is_link, words_line, lines_text, owner_words, piece_count, write_words}
 use Rattle.jfolder.specs.declared.settings.Settings.{Settings}
 use Rattle.jfolder.specs.declared.tree.Content.{Content}
 use Rattle.jfolder.specs.declared.tree.Item.{Item}
@@ -23,16 +23,16 @@ pieces_text pieces = flat_map piece_text pieces
 -- ---- lines by their pieces, as the words of `Text` are put
 
 abbrev pub moded_line : List ℕ → ℕ → List ℕ → List ℕ
-moded_line verb mode path = line_of (verb ∷ octal mode ∷ word_of path ∷ [])
+moded_line verb mode path = words_line (verb ∷ octal mode ∷ word_of path ∷ [])
 
 abbrev pub paths_line : List ℕ → List ℕ → List ℕ → List ℕ
-paths_line verb first second = line_of (verb ∷ word_of first ∷ word_of second ∷ [])
+paths_line verb first second = words_line (verb ∷ word_of first ∷ word_of second ∷ [])
 
-abbrev pub part_line : List ℕ → List ℕ → List ℕ
-part_line path file = line_of (codes "part" ∷ word_of path ∷ codes "0" ∷ file ∷ [])
+abbrev pub part_text : List ℕ → List ℕ → List ℕ
+part_text path file = words_line (codes "part" ∷ word_of path ∷ codes "0" ∷ file ∷ [])
 
-abbrev pub write_line : List ℕ → ℕ → List ℕ → List ℕ
-write_line path offset bytes = line_of (codes "write" ∷ word_of path ∷ decimal offset ∷ hex_of bytes ∷ [])
+abbrev pub write_text : List ℕ → ℕ → List ℕ → List ℕ
+write_text path offset bytes = words_line (codes "write" ∷ word_of path ∷ decimal offset ∷ hex_of bytes ∷ [])
 
 -- the owner of an item, which a link has already
 abbrev pub own_owner_text : Settings → Item → List ℕ

@@ -55,8 +55,8 @@ abbrev pub IsUntold : {X : Type 0} → Option X → FolderFault → Type 0
 IsUntold known fault = Refuses (known ≡ None) fault
 
 -- the bytes of a file are not known, or more than the limit
-abbrev pub IsUnread : Option (List ℕ) → ℕ → FolderFault → Type 0
-IsUnread known limit fault = Refuses (IfSome known (λ told. limit < length told)) fault
+abbrev pub BytesAreUnread : Option (List ℕ) → ℕ → FolderFault → Type 0
+BytesAreUnread known limit fault = Refuses (IfSome known (λ told. limit < length told)) fault
 
 -- a refusal is right where this holds
 abbrev pub IsRefusal : Type 0 → Reason → Type 0

@@ -15,10 +15,10 @@ use Rattle.jfolder.specs.declared.tree.What.TheVariants as what
 -- ---- lines, each by its words
 
 -- single spaces between the words, and a line feed
-abbrev pub line_of : List (List ℕ) → List ℕ
-line_of [] = 10 ∷ []
-line_of (word ∷ []) = word ++ 10 ∷ []
-line_of (word ∷ words) = word ++ 32 ∷ line_of words
+abbrev pub words_line : List (List ℕ) → List ℕ
+words_line [] = 10 ∷ []
+words_line (word ∷ []) = word ++ 10 ∷ []
+words_line (word ∷ words) = word ++ 32 ∷ words_line words
 
 -- The time and the owner of what follows are set where they are others than before.
 abbrev pub time_words : ℕ → ℕ → List (List (List ℕ))
@@ -28,11 +28,11 @@ abbrev pub owner_words : Settings → Attributes → List (List (List ℕ))
 owner_words s a = if (a.uid == s.uid) && (a.gid == s.gid) then [] else (codes "owner" ∷ decimal a.uid ∷ decimal a.gid ∷ []) ∷ []
 
 -- Bytes go by pieces of at most 4,096: the k-th, and the pieces of all.
-abbrev pub piece : List ℕ → ℕ → List ℕ
-piece bytes k = take 4096 (drop (4096 * k) bytes)
+abbrev pub written_piece : List ℕ → ℕ → List ℕ
+written_piece bytes k = take 4096 (drop (4096 * k) bytes)
 
 abbrev pub write_words : List ℕ → List ℕ → ℕ → List (List ℕ)
-write_words path bytes k = codes "write" ∷ word_of path ∷ decimal (4096 * k) ∷ hex_of (piece bytes k) ∷ []
+write_words path bytes k = codes "write" ∷ word_of path ∷ decimal (4096 * k) ∷ hex_of (written_piece bytes k) ∷ []
 
 abbrev pub piece_count : List ℕ → ℕ
 piece_count bytes = (length bytes + 4095) / 4096
@@ -85,7 +85,7 @@ settings_of_root a = record { time = a.time; uid = 0; gid = 0 }
 -- ---- the text
 
 abbrev pub lines_text : List (List (List ℕ)) → List ℕ
-lines_text lines = flat_map line_of lines
+lines_text lines = flat_map words_line lines
 
 unfoldable pub listing_text : Attributes → List Item → List ℕ
 listing_text root items = lines_text (root_words root ++ items_words (settings_of_root root) items)

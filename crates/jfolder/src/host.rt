@@ -3,7 +3,7 @@
 ghost use Rattle.std.specs.Prelude.{◌≡◌, IfErr, IfOk, IfSome};
 ghost use Rattle.std.specs.String.{string_bytes};
 ghost use Rattle.jfolder.specs.Known.{AreBytesOf, Known, named_of};
-ghost use Rattle.jfolder.specs.Reasons.{IsUnread, IsUntold};
+ghost use Rattle.jfolder.specs.Reasons.{BytesAreUnread, IsUntold};
 
 use crate::fault::FolderFault;
 
@@ -57,7 +57,7 @@ pub trait HostFolder {
     fn bytes(&mut self, path: &str, limit: usize) -> Result<Vec<u8>, FolderFault>
         ensures kept { known self.new ≡ known self.old }
         ensures told { IfOk result (λ it. IfSome ((known self.old).bytes path.now) (λ told. AreBytesOf told limit it.items)) }
-        ensures untold { IfErr result (IsUnread ((known self.old).bytes path.now) limit) };
+        ensures untold { IfErr result (BytesAreUnread ((known self.old).bytes path.now) limit) };
 
     /// The name by which another program opens the file.
     fn host_path(&mut self, path: &str) -> Result<String, FolderFault>

@@ -3,8 +3,8 @@
 ghost use Rattle.std.specs.Prelude.{◌≡◌, ◌∷◌, ◌++◌, ◌⊎◌, [], length, map, replicate, reverse, All, IfErr, IfNone, IfOk, IfSome, IsPermutation, IsSome, IsSomeAnd, IsTrue, None};
 ghost use Rattle.std.specs.List.Sorted.{IsSorted};
 ghost use Rattle.std.specs.String.{string_bytes, string_cmp};
-ghost use Rattle.jfolder.specs.Actions.{AttributesFit, Fits, IsRooted, ItemFits};
-ghost use Rattle.jfolder.specs.Complete.{GoesOn, NamesFit, child, children, children_of, left_paths};
+ghost use Rattle.jfolder.specs.Actions.{AttributesFit, FitsListing, IsRooted, ItemFits};
+ghost use Rattle.jfolder.specs.Complete.{StaysCovered, NamesFit, child, children, children_of, left_paths};
 ghost use Rattle.jfolder.specs.Known.{inside, named_of};
 ghost use Rattle.jfolder.specs.Links.{AreLinked, FirstsFit, HasOtherNames, IsFirst, LinksFit, Remembers, WalkLinks, id_of};
 ghost use Rattle.jfolder.specs.Notes.{Tells, TellsMore};
@@ -404,7 +404,7 @@ impl Walk {
         ensures order { IfOk result (λ _. InOrder self.new.items.items (map string_bytes self.new.pending.items)) }
         ensures more { IfOk result (λ _. IsMore self.old.items.items self.new.items.items) }
         ensures kept { F.known folder.new ≡ F.known folder.old }
-        ensures told { TellsMore (λ _ lefts. GoesOn (F.known folder.old) self.old.items.items (map string_bytes self.old.pending.items ++ string_bytes path ∷ [])
+        ensures told { TellsMore (λ _ lefts. StaysCovered (F.known folder.old) self.old.items.items (map string_bytes self.old.pending.items ++ string_bytes path ∷ [])
             self.new.items.items (map string_bytes self.new.pending.items) lefts
             × All (IsRight (F.known folder.old) options.now self.new.items.items) lefts)
             (N.taken notes.old) (N.taken notes.new) (N.failures notes.old) (N.failures notes.new) self.old.left_out self.new.left_out result }
@@ -453,7 +453,7 @@ pub fn read_folder<F: HostFolder, N: Sink>(
     options: &Options,
     notes: &mut N,
 ) -> Result<Folder, ReadFault>
-    ensures fits { IfOk result (λ read. Fits read.root read.items.items) }
+    ensures fits { IfOk result (λ read. FitsListing read.root read.items.items) }
     ensures tree { IfOk result (λ read. IsTree read.items.items) }
     ensures rises { IfOk result (λ read. Rise read.items.items) }
     ensures options { IfOk result (λ read. All (HasOptions options.now) (read.root ∷ map (λ item. item.attributes) read.items.items)) }

@@ -3,8 +3,8 @@
 ghost use Rattle.std.specs.Prelude.{◌≡◌, ◌*◌, ◌<◌, length};
 ghost use Rattle.std.specs.String.{string_bytes};
 ghost use Rattle.flashbase.specs.Device.{Puts};
-ghost use Rattle.jfolder.specs.Pieces.{bytes_text, moded_line, own_owner_text, part_line, paths_line, regular_text, write_line};
-ghost use Rattle.jfolder.specs.Text.{attr_words, content_words, is_link, item_words, line_of, lines_text, listing_text, object_words, owner_words, root_words, setting_words, settings_with, time_words, write_words};
+ghost use Rattle.jfolder.specs.Pieces.{bytes_text, moded_line, own_owner_text, part_text, paths_line, regular_text, write_text};
+ghost use Rattle.jfolder.specs.Text.{attr_words, content_words, is_link, item_words, words_line, lines_text, listing_text, object_words, owner_words, root_words, setting_words, settings_with, time_words, write_words};
 
 use crate::settings::Settings;
 use crate::tree::{Attributes, Content, Item, What};
@@ -125,7 +125,7 @@ fn put_two<'a, T: Sink>(
 
 /// `part PATH 0 FILE`
 fn put_part<'a, T: Sink>(sink: &mut T, path: &'a [u8], file: &'a [u8]) -> Result<(), DeviceFault>
-    ensures { Puts (T.taken sink.old) (T.taken sink.new) (T.failures sink.old) (T.failures sink.new) (part_line path.now file.now) result }
+    ensures { Puts (T.taken sink.old) (T.taken sink.new) (T.failures sink.old) (T.failures sink.new) (part_text path.now file.now) result }
 {
     put_pieces(
         sink,
@@ -146,7 +146,7 @@ fn put_write<'a, T: Sink>(
     offset: u64,
     bytes: &'a [u8],
 ) -> Result<(), DeviceFault>
-    ensures { Puts (T.taken sink.old) (T.taken sink.new) (T.failures sink.old) (T.failures sink.new) (write_line path.now offset bytes.now) result }
+    ensures { Puts (T.taken sink.old) (T.taken sink.new) (T.failures sink.old) (T.failures sink.new) (write_text path.now offset bytes.now) result }
 {
     put_pieces(
         sink,
@@ -170,7 +170,7 @@ fn put_piece_at<T: Sink>(
     k: usize,
 ) -> Result<(), DeviceFault>
     requires { PAGE * k < length bytes.now }
-    ensures { Puts (T.taken sink.old) (T.taken sink.new) (T.failures sink.old) (T.failures sink.new) (line_of (write_words path.now bytes.now k)) result }
+    ensures { Puts (T.taken sink.old) (T.taken sink.new) (T.failures sink.old) (T.failures sink.new) (words_line (write_words path.now bytes.now k)) result }
 {
     let start = PAGE * k;
     let end = bytes.len().min(start + PAGE);

@@ -25,12 +25,12 @@ laid_ends (One piece) = 2
 laid_ends (Map intervals) = btree_map_len intervals
 
 -- a piece alone has a byte at least, and ends below 2 ^ 32; of several each has what it wins, in one interval where it can
-abbrev pub IsWhole : Layout → Type 0
-IsWhole Empty = ⊤
-IsWhole (One piece) = (piece.offset < end_of piece) × (end_of piece < 2 ^ 32)
-IsWhole (Map intervals) = IsCovered intervals.entries × IsSettled intervals.entries × IsTight intervals
+abbrev pub IsSoundLayout : Layout → Type 0
+IsSoundLayout Empty = ⊤
+IsSoundLayout (One piece) = (piece.offset < end_of piece) × (end_of piece < 2 ^ 32)
+IsSoundLayout (Map intervals) = IsCovered intervals.entries × IsSettled intervals.entries × IsTight intervals
 
-pub IsWhole-prop : (layout : Layout) → IsProp (IsWhole layout)
-IsWhole-prop Empty = Prim.hlevel props
-IsWhole-prop (One piece) = Prim.hlevel props
-IsWhole-prop (Map intervals) = Prim.hlevel props
+pub IsSoundLayout-prop : (layout : Layout) → IsProp (IsSoundLayout layout)
+IsSoundLayout-prop Empty = Prim.hlevel props
+IsSoundLayout-prop (One piece) = Prim.hlevel props
+IsSoundLayout-prop (Map intervals) = Prim.hlevel props

@@ -1,7 +1,7 @@
 // An overlay in ordered intervals.
 ghost use Rattle.std.specs.Prelude.{◌≡◌, ℕ, ◌+◌, ◌*◌, ◌<◌, ◌≤◌};
 ghost use Rattle.jfrag.specs.IntervalMap.{seen};
-ghost use Rattle.jfrag.specs.Layouts.{IsWhole, IsWhole-prop};
+ghost use Rattle.jfrag.specs.Layouts.{IsSoundLayout, IsSoundLayout-prop};
 
 use super::layout::{self, Layout};
 use super::overlays::Overlay;
@@ -14,7 +14,7 @@ use std::alloc::{AllocError, Global};
 pub struct FragOverlay<'a> {
     layout: Layout<'a>,
     alloc: Global,
-    ghost whole: { IsWhole layout } by { IsWhole-prop layout },
+    ghost whole: { IsSoundLayout layout } by { IsSoundLayout-prop layout },
 }
 
 impl<'a> Overlay<'a> for FragOverlay<'a> {

@@ -5,7 +5,7 @@ ghost use Rattle.jfrag.specs.Pieces.{end_of};
 ghost use Rattle.jfrag.specs.Overlays.{byte_at};
 ghost use Rattle.jfrag.specs.IntervalMap.{interval_at, seen, overwritten, IsCovered, IsSettled, IsTight};
 ghost use Rattle.jfrag.specs.Intervals.{IsIntervalCount};
-ghost use Rattle.jfrag.specs.Layouts.{IsWhole, laid_at, laid_ends, of_one};
+ghost use Rattle.jfrag.specs.Layouts.{IsSoundLayout, laid_at, laid_ends, of_one};
 
 use super::interval_map::{self, Intervals, show_part};
 use super::piece::Piece;
@@ -28,9 +28,9 @@ pub(crate) fn add<'a>(
     piece: Piece<'a>,
 ) -> Result<(), AllocError>
     requires fits { end_of piece < 2 ^ 32 }
-    requires whole { IsWhole layout.old }
+    requires whole { IsSoundLayout layout.old }
     ensures overwritten { OnOk result ((i : ℕ) → laid_at layout.new i ≡ overwritten piece.entry i (laid_at layout.old i)) }
-    ensures whole { IsWhole layout.new }
+    ensures whole { IsSoundLayout layout.new }
     ensures ends { OnOk result (laid_ends layout.new ≤ laid_ends layout.old + 2) }
     ensures same { OnErr result ((i : ℕ) → laid_at layout.new i ≡ laid_at layout.old i) }
     ensures same_ends { OnErr result (laid_ends layout.new ≡ laid_ends layout.old) }
@@ -73,7 +73,7 @@ fn map_of<'a>(
 
 // Fills the slice with what is visible from a place on. Nothing is visible from 2 ^ 32 - 1 on.
 pub(crate) fn read(layout: &Layout<'_>, place: u64, out: &mut [u8])
-    requires { IsWhole layout.now }
+    requires { IsSoundLayout layout.now }
     ensures { EachIndex out.new (λ k. slice_index out.new k ≡ byte_at (seen (laid_at layout.now (place + k)) (place + k))) }
 {
     match layout {
@@ -116,7 +116,7 @@ fn index_of(place: u32, from: u32, count: usize) -> usize
 
 // How many intervals there are.
 pub(crate) fn count(layout: &Layout<'_>) -> usize
-    requires { IsWhole layout.now }
+    requires { IsSoundLayout layout.now }
     ensures exact { IsIntervalCount (laid_at layout.now) result }
     ensures bound { result ≤ laid_ends layout.now }
 {

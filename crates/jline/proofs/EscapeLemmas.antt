@@ -4,7 +4,7 @@ use Rattle.std.specs.List.{All}
 use Rattle.std.proofs.lemmas.List.Elements.{All-head, All-tail}
 use Rattle.std.proofs.lemmas.Bool.Decides.{nat_tests}
 use Rattle.jline.specs.Words.{escaped_byte, hex, hex_digit, hex_of, is_plain, word_byte, word_of}
-use Rattle.jword.specs.Words.{byte_of, digit_of, pairs_of, unescaped}
+use Rattle.jword.specs.Words.{byte_of_digits, digit_of, pairs_of, unescaped}
 use Rattle.jword.proofs.WordLemmas.{pairs_of_pair, unescaped_escape, unescaped_plain}
 
 -- ---- digits
@@ -12,7 +12,7 @@ use Rattle.jword.proofs.WordLemmas.{pairs_of_pair, unescaped_escape, unescaped_p
 digit_of_hex_digit : (d : ℕ) → d < 16 → digit_of (hex_digit d) ≡ Some d
 digit_of_hex_digit d small = grind (arith, nat_tests)
 
-byte_of_hex_digits : (b : ℕ) → b < 256 → byte_of (hex_digit (b / 16)) (hex_digit (b % 16)) ≡ Some b
+byte_of_hex_digits : (b : ℕ) → b < 256 → byte_of_digits (hex_digit (b / 16)) (hex_digit (b % 16)) ≡ Some b
 byte_of_hex_digits b small =
     let high = digit_of_hex_digit (b / 16) (omega arith) in
     let low = digit_of_hex_digit (b % 16) (omega arith) in

@@ -2,9 +2,10 @@
 use Rattle.std.specs.Prelude.{◌≡◌, ℕ, ◌+◌, ◌==◌, ◌||◌, Bool, List, [], ◌∷◌, ◌++◌, length, slice_index, codes, Option, Some, None, option_and_then, Result, Ok, Err, if◌then◌else◌}
 use Rattle.std.specs.List.{slice_split}
 use Rattle.std.specs.Str.{bytes_eq}
+use Rattle.jword.specs.Words.{◌>>=◌}
 use Rattle.jsteps.specs.declared.op.Op.{Op}
 use Rattle.jsteps.specs.declared.op.Op.TheVariants as op
-use Rattle.jlisting.specs.Words.{decimal_of, mode_of, text_of, data_of, file_name_of}
+use Rattle.jlisting.specs.Words.{decimal_of, mode_of, text_of, hex_data_of, file_name_of}
 use Rattle.jlisting.specs.declared.fault.ListingFault.{ListingFault}
 use Rattle.jlisting.specs.declared.fault.ListingFault.TheVariants as fault
 use Rattle.jlisting.specs.declared.line.Action.{Action}
@@ -16,16 +17,12 @@ use Rattle.jlisting.specs.declared.statement.Statement.TheVariants as kind
 
 -- ---- the forms of a line, each by the words after its first
 
-infixl 10 ◌>>=◌
-abbrev pub ◌>>=◌ : {A B : Type 0} → Option A → (A → Option B) → Option B
-o >>= f = option_and_then f o
-
 -- a number of 32 bits, and one of 16
 abbrev pub number : List ℕ → Option ℕ
 number word = decimal_of 4294967295 word
 
-abbrev pub owner : List ℕ → Option ℕ
-owner word = decimal_of 65535 word
+abbrev pub owner_word : List ℕ → Option ℕ
+owner_word word = decimal_of 65535 word
 
 abbrev pub operation : Op → Option Statement
 operation o = Some (kind.Action (action.Op o))
@@ -34,7 +31,7 @@ abbrev pub time_line : Settings → List ℕ → Option Statement
 time_line s a = number a >>= λ time. Some (kind.Settings (record { time = time; uid = s.uid; gid = s.gid }))
 
 abbrev pub owner_line : Settings → List ℕ → List ℕ → Option Statement
-owner_line s a b = owner a >>= λ uid. owner b >>= λ gid. Some (kind.Settings (record { time = s.time; uid = uid; gid = gid }))
+owner_line s a b = owner_word a >>= λ uid. owner_word b >>= λ gid. Some (kind.Settings (record { time = s.time; uid = uid; gid = gid }))
 
 abbrev pub mkdir_line : Settings → List ℕ → List ℕ → Option Statement
 mkdir_line s a b = mode_of a >>= λ mode. text_of b >>= λ path. operation (op.Mkdir s.time path mode s.uid s.gid)
@@ -46,7 +43,7 @@ abbrev pub symlink_line : Settings → List ℕ → List ℕ → Option Statemen
 symlink_line s a b = text_of a >>= λ path. text_of b >>= λ target. operation (op.Symlink s.time path target s.uid s.gid)
 
 abbrev pub write_line : Settings → List ℕ → List ℕ → List ℕ → Option Statement
-write_line s a b c = text_of a >>= λ path. number b >>= λ offset. data_of c >>= λ bytes. operation (op.Write s.time path offset bytes)
+write_line s a b c = text_of a >>= λ path. number b >>= λ offset. hex_data_of c >>= λ bytes. operation (op.Write s.time path offset bytes)
 
 abbrev pub part_line : Settings → List ℕ → List ℕ → List ℕ → Option Statement
 part_line s a b c = text_of a >>= λ path. number b >>= λ offset. file_name_of c >>= λ file. Some (kind.Action (action.Part s.time path offset file))
@@ -65,7 +62,7 @@ remove_line s a = text_of a >>= λ path. operation (op.Remove s.time path)
 
 abbrev pub attr_line : Settings → List ℕ → List ℕ → List ℕ → List ℕ → List ℕ → List ℕ → Option Statement
 attr_line s a b c d e f =
-    mode_of a >>= λ mode. owner b >>= λ uid. owner c >>= λ gid. number d >>= λ atime. number e >>= λ mtime. text_of f >>= λ path.
+    mode_of a >>= λ mode. owner_word b >>= λ uid. owner_word c >>= λ gid. number d >>= λ atime. number e >>= λ mtime. text_of f >>= λ path.
     operation (op.SetAttributes s.time path (record { mode = mode; uid = uid; gid = gid; atime = atime; mtime = mtime }))
 
 -- ---- a line

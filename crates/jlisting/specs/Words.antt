@@ -35,8 +35,8 @@ abbrev pub text_of : List ℕ → Option (List ℕ)
 text_of word = of_word word (unescaped word)
 
 -- what is to be written; a dash is no bytes
-abbrev pub data_of : List ℕ → Option (List ℕ)
-data_of word = of_word word (if bytes_eq word (codes "-") then Some [] else pairs_of word)
+abbrev pub hex_data_of : List ℕ → Option (List ℕ)
+hex_data_of word = of_word word (if bytes_eq word (codes "-") then Some [] else pairs_of word)
 
 -- the name of a file of the host: text, which stands as it is
 abbrev pub file_name_of : List ℕ → Option (List ℕ)

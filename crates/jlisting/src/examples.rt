@@ -2,7 +2,7 @@
 
 ghost use Rattle.std.specs.Prelude.{◌≡◌, [], ◌∷◌, Some, None, Ok, Err, codes};
 ghost use Rattle.jsteps.specs.declared.op.Op.TheVariants as op;
-ghost use Rattle.jlisting.specs.Words.{decimal_of, mode_of, text_of, data_of};
+ghost use Rattle.jlisting.specs.Words.{decimal_of, mode_of, text_of, hex_data_of};
 ghost use Rattle.jlisting.specs.Listing.{lines_of};
 ghost use Rattle.jlisting.specs.declared.line.Action.TheVariants as action;
 
@@ -52,8 +52,8 @@ pub fn bytes_are_read()
     ensures capital { text_of (codes "\\X2f") ≡ None }
     ensures short { text_of (codes "a\\x2") ≡ None }
     ensures double { text_of (codes "\\\\") ≡ None }
-    ensures data { data_of (codes "00aF") ≡ Some (0x00 ∷ 0xAF ∷ []) }
-    ensures odd { data_of (codes "00a") ≡ None }
-    ensures no_data { data_of (codes "-") ≡ Some [] }
-    ensures empty { data_of [] ≡ None }
+    ensures data { hex_data_of (codes "00aF") ≡ Some (0x00 ∷ 0xAF ∷ []) }
+    ensures odd { hex_data_of (codes "00a") ≡ None }
+    ensures no_data { hex_data_of (codes "-") ≡ Some [] }
+    ensures empty { hex_data_of [] ≡ None }
 {}

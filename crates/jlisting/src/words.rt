@@ -3,7 +3,7 @@
 ghost use Rattle.std.specs.Prelude.{◌≡◌, ◌<◌, ◌≤◌, ◌^◌, ◌∷◌, Some, None, Err, IfOk, IfErr, IfSome, length, option_map};
 ghost use Rattle.std.specs.Str.{bytes_eq};
 ghost use Rattle.jword.specs.Words.{IsRead};
-ghost use Rattle.jlisting.specs.Words.{digits_from, number_of, decimal_of, mode_of, text_of, data_of, file_name_of};
+ghost use Rattle.jlisting.specs.Words.{digits_from, number_of, decimal_of, mode_of, text_of, hex_data_of, file_name_of};
 
 use crate::line::FileName;
 use jsteps::Text;
@@ -94,7 +94,7 @@ pub fn is_word(word: &[u8], name: &[u8]) -> bool
 
 /// What is to be written; a dash is no bytes.
 pub fn data_word<'a>(alloc: Global, word: &'a [u8]) -> Result<Text<'a>, WordFault>
-    ensures { IsRead (data_of word.entry.now) result }
+    ensures { IsRead (hex_data_of word.entry.now) result }
 {
     if word.is_empty() {
         return Err(WordFault::Invalid);

@@ -27,7 +27,7 @@ use Rattle.jsteps.proofs.GoesOnLemmas.{planned_goes_on}
 use Rattle.jlog.specs.Places.{place_after, end_after, places, end_of_all, fit}
 use Rattle.jlog.specs.Output.{gap, output}
 use Rattle.jlog.specs.Left.{IsLeft, count_whole, intact}
-use Rattle.jlog.specs.Laws.{HasRoom}
+use Rattle.jlog.specs.Laws.{FitsBlock}
 use Rattle.jlog.specs.Headline.{IsBase, AreAccepted, Survives, resume_address, index_of_image, new_nodes}
 use Rattle.jlog.specs.Running.{written}
 use Rattle.jlog.specs.Done.{steps_on, GoesOnBy, EarlierStand, SurvivesAfter}
@@ -133,7 +133,7 @@ after_on s (step ∷ xs) ys = after_on (do_step bytes s step) xs ys
 -- ---- a stop after all bytes of the first nodes
 
 -- leaves all of them, and those after them by the bytes that they still get
-intact_on : (e : Endian) (size from k : ℕ) (xs ys : List (List ℕ)) → size % 4 ≡ 0 → AllByRecursion (HasRoom size) xs
+intact_on : (e : Endian) (size from k : ℕ) (xs ys : List (List ℕ)) → size % 4 ≡ 0 → AllByRecursion (FitsBlock size) xs
     → intact size from (length (output e size from xs) + k) (xs ++ ys) ≡ length xs + intact size (end_of_all size from xs) k ys
 intact_on e size from k [] ys words ok =
     let same : length (output e size from []) + k ≡ k = omega arith in
@@ -154,14 +154,14 @@ intact_on e size from k (node ∷ xs) ys words ok =
     ∙ (ap (λ (i : ℕ). suc (intact size end i (xs ++ ys))) later
     ∙ (ap suc (intact_on e size end k xs ys words ok.1) ∙ omega arith))
 
-count_on : (e : Endian) (size from k : ℕ) (xs ys : List (List ℕ)) → size % 4 ≡ 0 → AllByRecursion (HasRoom size) (xs ++ ys)
+count_on : (e : Endian) (size from k : ℕ) (xs ys : List (List ℕ)) → size % 4 ≡ 0 → AllByRecursion (FitsBlock size) (xs ++ ys)
     → count_whole from (output e size from (xs ++ ys)) (length (output e size from xs) + k) (places size from (xs ++ ys))
     ≡ length xs + count_whole (end_of_all size from xs) (output e size (end_of_all size from xs) ys) k (places size (end_of_all size from xs) ys)
 count_on e size from k xs ys words ok =
     let end : ℕ = end_of_all size from xs in
     intact_is_counted e size from (length (output e size from xs) + k) (xs ++ ys) words ok
-    ∙ (intact_on e size from k xs ys words (all_left (HasRoom size) xs ys ok)
-    ∙ ap (λ (i : ℕ). length xs + i) (sym (intact_is_counted e size end k ys words (all_right (HasRoom size) xs ys ok))))
+    ∙ (intact_on e size from k xs ys words (all_left (FitsBlock size) xs ys ok)
+    ∙ ap (λ (i : ℕ). length xs + i) (sym (intact_is_counted e size end k ys words (all_right (FitsBlock size) xs ys ok))))
 
 nodes_long : (x : Indexed) (steps : List Step) → length (nodes_of x steps) ≡ length steps
 nodes_long x [] = refl
@@ -184,8 +184,8 @@ earlier_stand page e size blocks base earlier steps is_page room is_base fits go
     let words : size % 4 ≡ 0 = (block_size size (readable e size blocks base is_base)).words in
     let is : all ≡ before ++ nodes = written_on e x earlier steps in
     let on : StepsGoOn e size start x earlier steps = steps_go_on e size start x earlier steps in
-    let roomy : AllByRecursion (HasRoom size) (before ++ nodes) =
-    subst (AllByRecursion (HasRoom size)) is (has_room e size (nodes_of x (earlier ++ steps)) (planned_loggable page e size (nodes_of x (earlier ++ steps)) is_page room (go.written e))) in
+    let roomy : AllByRecursion (FitsBlock size) (before ++ nodes) =
+    subst (AllByRecursion (FitsBlock size)) is (has_room e size (nodes_of x (earlier ++ steps)) (planned_loggable page e size (nodes_of x (earlier ++ steps)) is_page room (go.written e))) in
     let count : count_whole start (output e size start all) (front + k) (places size start all) ≡ length earlier + m =
     ap (λ (l : List (List ℕ)). count_whole start (output e size start l) (front + k) (places size start l)) is
     ∙ (count_on e size start k before nodes words roomy ∙ ap (λ (i : ℕ). i + m) (length-map (nodes_of x earlier) (canonical e) ∙ nodes_long x earlier)) in

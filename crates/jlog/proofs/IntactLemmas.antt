@@ -18,7 +18,7 @@ use Rattle.jnode.proofs.WeakLemmas.{behind}
 use Rattle.jlog.specs.Places.{IsLeastPlace, ArePlaces, place_after, end_after, places, end_of_all}
 use Rattle.jlog.specs.Output.{gap, output}
 use Rattle.jlog.specs.Left.{bytes_at, is_whole, intact}
-use Rattle.jlog.specs.Laws.{HasRoom, PlacesAreLeast, OutputIsLong, IntactIsCounted, WholeIsBeginning, AllIsIntact}
+use Rattle.jlog.specs.Laws.{FitsBlock, PlacesAreLeast, OutputIsLong, IntactIsCounted, WholeIsBeginning, AllIsIntact}
 use Rattle.jlog.specs.LeftLaws.{IsLoggable}
 use Rattle.jlog.proofs.PlaceLemmas.{pad4_same, pad4_behind, place_same, times_words, place_is_least, in_block}
 use Rattle.jlog.proofs.OutputLemmas.{places_skip}
@@ -42,7 +42,7 @@ places_are_least size from (node ∷ nodes) words ok =
     (least, refl, subst (ArePlaces size (at + len) nodes) (same_word size (at + len) (at + pad4_of len) nodes (up ∙ sym whole)) (places_are_least size (at + len) nodes words ok.1))
 
 -- they all are at or after the address from which on they are taken
-places_up : (size low from : ℕ) (nodes : List (List ℕ)) → size % 4 ≡ 0 → AllByRecursion (HasRoom size) nodes → low ≤ from → AllByRecursion (λ (place : ℕ × ℕ). low ≤ place.0) (places size from nodes)
+places_up : (size low from : ℕ) (nodes : List (List ℕ)) → size % 4 ≡ 0 → AllByRecursion (FitsBlock size) nodes → low ≤ from → AllByRecursion (λ (place : ℕ × ℕ). low ≤ place.0) (places size from nodes)
 places_up size low from [] words ok up = tt
 places_up size low from (node ∷ nodes) words ok up =
     let len : ℕ = length node in
@@ -66,13 +66,13 @@ gap_long e size from at len words some room is =
           ∙ (length-append (erased (start - from)) (clean_marker e) ∙ omega (arith, length-replicate {A = ℕ} (start - from) 0xFF, marker_long e))
     ]
 
-pub first_gap : (e : Endian) (size from : ℕ) (node : List ℕ) → size % 4 ≡ 0 → HasRoom size node
+pub first_gap : (e : Endian) (size from : ℕ) (node : List ℕ) → size % 4 ≡ 0 → FitsBlock size node
     → from + length (gap e size from (place_after size from (length node))) ≡ place_after size from (length node)
 first_gap e size from node words ok =
     let least = place_is_least size from (length node) words ok.some ok.within in
     omega (arith, gap_long e size from (place_after size from (length node)) (length node) words ok.some ok.within least, least.place.upwards)
 
-pub first_out : (e : Endian) (size from : ℕ) (node : List ℕ) → size % 4 ≡ 0 → HasRoom size node
+pub first_out : (e : Endian) (size from : ℕ) (node : List ℕ) → size % 4 ≡ 0 → FitsBlock size node
     → from + length (gap e size from (place_after size from (length node)) ++ filled node) ≡ end_after size from (length node)
 first_out e size from node words ok =
     omega (arith, length-append (gap e size from (place_after size from (length node))) (filled node), length-filled node, first_gap e size from node words ok)
@@ -157,7 +157,7 @@ whole_node at k node out =
     (ap (λ (n : ℕ). take (length node) (drop n (torn (filled node ++ out) k))) none ∙ (ap (λ (xs : List ℕ). take (length node) (torn xs k)) is ∙ torn_front node more k))
     (ap (λ (n : ℕ). take (length node) (drop n (filled node ++ out))) none ∙ (ap (take (length node)) is ∙ take_at node more (length node) refl))
 
-whole_first : (e : Endian) (size from k : ℕ) (node : List ℕ) (nodes : List (List ℕ)) → size % 4 ≡ 0 → HasRoom size node
+whole_first : (e : Endian) (size from k : ℕ) (node : List ℕ) (nodes : List (List ℕ)) → size % 4 ≡ 0 → FitsBlock size node
     → is_whole from (output e size from (node ∷ nodes)) k (place_after size from (length node), length node)
     ≡ bytes_eq (torn node (k - (place_after size from (length node) - from))) node
 whole_first e size from k node nodes words ok =
@@ -185,7 +185,7 @@ erased_differs node some written =
     let is : torn node 0 ≡ node = (bytes_eq-Decides _ _).0 same in
     written (sym (ap (λ (xs : List ℕ). slice_index xs 0) is) ∙ first))
 
-intact_none : (size c k : ℕ) (nodes : List (List ℕ)) → AllByRecursion (HasRoom size) nodes → k ≡ 0 → intact size c k nodes ≡ 0
+intact_none : (size c k : ℕ) (nodes : List (List ℕ)) → AllByRecursion (FitsBlock size) nodes → k ≡ 0 → intact size c k nodes ≡ 0
 intact_none size c k [] ok is = refl
 intact_none size c k (node ∷ nodes) ok is =
     let at : ℕ = place_after size c (length node) in
@@ -267,7 +267,7 @@ all_is_intact e size from k (node ∷ nodes) words ok all =
 
 -- ---- what may be written has room
 
-pub has_room : (e : Endian) (size : ℕ) (xs : List NodeRef) → AllByRecursion (IsLoggable e size) xs → AllByRecursion (HasRoom size) (map (canonical e) xs)
+pub has_room : (e : Endian) (size : ℕ) (xs : List NodeRef) → AllByRecursion (IsLoggable e size) xs → AllByRecursion (FitsBlock size) (map (canonical e) xs)
 has_room e size [] ok = tt
 has_room e size (x ∷ xs) ok =
     (record { some = omega (arith, canonical_long e x); written = canonical_is_not_erased e x; within = ok.0.room }, has_room e size xs ok.1)

@@ -18,7 +18,7 @@ use Rattle.jsteps.specs.declared.step.Step.{Step}
 use Rattle.jsteps.proofs.TakenLemmas.{advanced_all-append}
 use Rattle.jlog.specs.Places.{place_after, end_after, places, end_of_all}
 use Rattle.jlog.specs.Output.{output}
-use Rattle.jlog.specs.Laws.{HasRoom, GoesOn}
+use Rattle.jlog.specs.Laws.{FitsBlock, OutputIsJoined}
 use Rattle.jlog.specs.Running.{written, shown_place, places_of, IsWritten, IsBegun, CanWrite, CanWriteAll}
 use Rattle.jlog.specs.declared.report.Place.{Place}
 use Rattle.jlog.proofs.PlaceLemmas.{place_is_least}
@@ -38,7 +38,7 @@ pub record StepsGoOn (e : Endian) (size from : ℕ) (x : Indexed) (xs ys : List 
 
 pub steps_go_on : (e : Endian) (size from : ℕ) (x : Indexed) (xs ys : List Step) → StepsGoOn e size from x xs ys
 steps_go_on e size from x xs ys =
-    let on : GoesOn e size from (written e x xs) (written e (advanced_all x xs) ys) = output_goes_on e size from (written e x xs) (written e (advanced_all x xs) ys) in
+    let on : OutputIsJoined e size from (written e x xs) (written e (advanced_all x xs) ys) = output_goes_on e size from (written e x xs) (written e (advanced_all x xs) ys) in
     record {
       output_is = ap (output e size from) (written_on e x xs ys) ∙ on.output;
       places_are = ap (places size from) (written_on e x xs ys) ∙ on.places;
@@ -79,7 +79,7 @@ written_none e size from x a p = record { cursor = refl; index = refl; bytes = A
 
 -- ---- places that are within, and that are not
 
-none_within : (size from limit : ℕ) (nodes : List (List ℕ)) → size % 4 ≡ 0 → AllByRecursion (HasRoom size) nodes → limit ≤ from
+none_within : (size from limit : ℕ) (nodes : List (List ℕ)) → size % 4 ≡ 0 → AllByRecursion (FitsBlock size) nodes → limit ≤ from
     → filter (λ place. nat_le (place.0 + place.1) limit) (places size from nodes) ≡ []
 none_within size from limit [] words ok up = refl
 none_within size from limit (node ∷ nodes) words ok up =
@@ -91,7 +91,7 @@ none_within size from limit (node ∷ nodes) words ok up =
     cond-false (leb (at + len) limit) ((at, len) ∷ rest) rest (lt-leb (at + len) limit (omega arith))
     ∙ none_within size (end_after size from len) limit nodes words ok.1 (omega arith)
 
-all_within : (e : Endian) (size from limit : ℕ) (nodes : List (List ℕ)) → size % 4 ≡ 0 → AllByRecursion (HasRoom size) nodes → end_of_all size from nodes ≤ limit
+all_within : (e : Endian) (size from limit : ℕ) (nodes : List (List ℕ)) → size % 4 ≡ 0 → AllByRecursion (FitsBlock size) nodes → end_of_all size from nodes ≤ limit
     → filter (λ place. nat_le (place.0 + place.1) limit) (places size from nodes) ≡ places size from nodes
 all_within e size from limit [] words ok up = refl
 all_within e size from limit (node ∷ nodes) words ok up =
@@ -108,7 +108,7 @@ all_within e size from limit (node ∷ nodes) words ok up =
 
 -- steps are written, and a beginning of those after them
 begun_from : (e : Endian) (size from : ℕ) (x : Indexed) (xs ys : List Step) (t : ℕ) (a b c : Option (List ℕ)) (p q r : List Place)
-    → size % 4 ≡ 0 → AllByRecursion (HasRoom size) (written e x xs)
+    → size % 4 ≡ 0 → AllByRecursion (FitsBlock size) (written e x xs)
     → Appends a b (output e size from (written e x xs)) → q ≡ p ++ places_of e size from x xs
     → IsBegun e size (end_of_all size from (written e x xs)) (advanced_all x xs) ys t b c q r
     → IsBegun e size from x (xs ++ ys) (length (output e size from (written e x xs)) + t) a c p r
@@ -140,7 +140,7 @@ begun_from e size from x xs ys t a b c p q r words ok bytes shown then =
     }
 
 pub begun_then : (e : Endian) (size from : ℕ) (x : Indexed) (xs ys : List Step) (mid t : ℕ) (z : Indexed) (a b c : Option (List ℕ)) (p q r : List Place)
-    → size % 4 ≡ 0 → AllByRecursion (HasRoom size) (written e x xs)
+    → size % 4 ≡ 0 → AllByRecursion (FitsBlock size) (written e x xs)
     → IsWritten e size from x xs mid z a b p q → IsBegun e size mid z ys t b c q r
     → IsBegun e size from x (xs ++ ys) (length (output e size from (written e x xs)) + t) a c p r
 begun_then e size from x xs ys mid t z a b c p q r words ok first then =
@@ -150,7 +150,7 @@ begun_then e size from x xs ys mid t z a b c p q r words ok first then =
 
 -- a beginning of steps is one of more steps
 pub begun_more : (e : Endian) (size from : ℕ) (x : Indexed) (xs ys : List Step) (t : ℕ) (a b : Option (List ℕ)) (p q : List Place)
-    → size % 4 ≡ 0 → AllByRecursion (HasRoom size) (written e x xs) → AllByRecursion (HasRoom size) (written e (advanced_all x xs) ys)
+    → size % 4 ≡ 0 → AllByRecursion (FitsBlock size) (written e x xs) → AllByRecursion (FitsBlock size) (written e (advanced_all x xs) ys)
     → IsBegun e size from x xs t a b p q → IsBegun e size from x (xs ++ ys) t a b p q
 begun_more e size from x xs ys t a b p q words ok later begun =
     let on : StepsGoOn e size from x xs ys = steps_go_on e size from x xs ys in
@@ -175,7 +175,7 @@ begun_more e size from x xs ys t a b p q words ok later begun =
 
 -- all of the steps is a beginning as well
 pub written_begun : (e : Endian) (size from : ℕ) (x : Indexed) (xs : List Step) (mid : ℕ) (z : Indexed) (a b : Option (List ℕ)) (p q : List Place)
-    → size % 4 ≡ 0 → AllByRecursion (HasRoom size) (written e x xs)
+    → size % 4 ≡ 0 → AllByRecursion (FitsBlock size) (written e x xs)
     → IsWritten e size from x xs mid z a b p q → IsBegun e size from x xs (length (output e size from (written e x xs))) a b p q
 written_begun e size from x xs mid z a b p q words ok is =
     let out : List ℕ = output e size from (written e x xs) in
@@ -192,7 +192,7 @@ written_begun e size from x xs mid z a b p q words ok is =
 
 -- ---- steps that can be written
 
-pub can_room : (page : ℕ) (e : Endian) (size : ℕ) (x : Indexed) (steps : List Step) → IsPage page → page + 80 ≤ size → CanWriteAll page e x steps → AllByRecursion (HasRoom size) (written e x steps)
+pub can_room : (page : ℕ) (e : Endian) (size : ℕ) (x : Indexed) (steps : List Step) → IsPage page → page + 80 ≤ size → CanWriteAll page e x steps → AllByRecursion (FitsBlock size) (written e x steps)
 can_room page e size x steps is_page fits can = has_room e size (nodes_of x steps) (planned_loggable page e size (nodes_of x steps) is_page fits (planned page e x steps can))
   where
     planned : (page : ℕ) (e : Endian) (x : Indexed) (steps : List Step) → CanWriteAll page e x steps → AllByRecursion (IsPlanned page e) (nodes_of x steps)

@@ -18,7 +18,7 @@ use Rattle.jsteps.specs.declared.step.Step.{Step}
 use Rattle.jscan.specs.Image.{is_block_size, greatest_image}
 use Rattle.jlog.specs.Places.{place_after, places, end_of_all, is_writable_flash}
 use Rattle.jlog.specs.Output.{gap, output}
-use Rattle.jlog.specs.Laws.{HasRoom}
+use Rattle.jlog.specs.Laws.{FitsBlock}
 use Rattle.jlog.specs.Running.{written, shown_place, places_within, IsWritten, IsBegun, CanWrite}
 use Rattle.jlog.specs.declared.report.Place.{Place}
 use Rattle.jlog.proofs.IntactLemmas.{first_gap}
@@ -67,7 +67,7 @@ pub record Spot (e : Endian) (size c : ℕ) (x : Indexed) (s : Step) (node : Lis
   pub reach : c + length (gap e size c at) ≡ at
   pub some : 0 < length node
 
-spot_by : (e : Endian) (size c : ℕ) (x : Indexed) (s : Step) → size % 4 ≡ 0 → HasRoom size (canonical e (node_of x s))
+spot_by : (e : Endian) (size c : ℕ) (x : Indexed) (s : Step) → size % 4 ≡ 0 → FitsBlock size (canonical e (node_of x s))
     → Spot e size c x s (canonical e (node_of x s)) (place_after size c (length (canonical e (node_of x s)))) (pad4_of (length (canonical e (node_of x s))) - length (canonical e (node_of x s)))
 spot_by e size c x s words room =
     let node : List ℕ = canonical e (node_of x s) in
@@ -84,7 +84,7 @@ pub spot_of : (page : ℕ) (e : Endian) (size c : ℕ) (x : Indexed) (s : Step) 
     → CanWrite page e x s → node ≡ canonical e (node_of x s) → len ≡ length node → at ≡ place_after size c len → end ≡ pad4_of len
     → Spot e size c x s node at (end - len)
 spot_of page e size c x s node len at end is_page fits words can is long placed padded =
-    let room : HasRoom size (canonical e (node_of x s)) = (can_room page e size x (s ∷ []) is_page fits (can, tt)).0 in
+    let room : FitsBlock size (canonical e (node_of x s)) = (can_room page e size x (s ∷ []) is_page fits (can, tt)).0 in
     let first : Spot e size c x s node (place_after size c (length node)) (pad4_of (length node) - length node) =
     subst (λ (n : List ℕ). Spot e size c x s n (place_after size c (length n)) (pad4_of (length n) - length n)) (sym is) (spot_by e size c x s words room) in
     let second : Spot e size c x s node (place_after size c len) (pad4_of len - len) =

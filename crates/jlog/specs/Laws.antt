@@ -16,28 +16,28 @@ abbrev pub PlaceIsLeast : Type 0
 PlaceIsLeast = (size from len : ℕ) → size % 4 ≡ 0 → 0 < len → header_len + len ≤ size → IsLeastPlace size from len (place_after size from len)
 
 -- A node's bytes are not none, do not begin as erased ones do, and a block holds them after its marker.
-pub record HasRoom (size : ℕ) (node : List ℕ) : Type 0 where
+pub record FitsBlock (size : ℕ) (node : List ℕ) : Type 0 where
   pub some : 0 < length node
   pub written : slice_index node 0 ≢ 0xFF
   pub within : header_len + length node ≤ size
 
 -- So the places are the least ones, each after the one before it.
 abbrev pub PlacesAreLeast : Type 0
-PlacesAreLeast = (size from : ℕ) (nodes : List (List ℕ)) → size % 4 ≡ 0 → AllByRecursion (HasRoom size) nodes → ArePlaces size from nodes (places size from nodes)
+PlacesAreLeast = (size from : ℕ) (nodes : List (List ℕ)) → size % 4 ≡ 0 → AllByRecursion (FitsBlock size) nodes → ArePlaces size from nodes (places size from nodes)
 
 -- What goes out runs from the address where it begins to the last node's end,
 abbrev pub OutputIsLong : Type 0
-OutputIsLong = (e : Endian) (size from : ℕ) (nodes : List (List ℕ)) → size % 4 ≡ 0 → AllByRecursion (HasRoom size) nodes
+OutputIsLong = (e : Endian) (size from : ℕ) (nodes : List (List ℕ)) → size % 4 ≡ 0 → AllByRecursion (FitsBlock size) nodes
     → from + length (output e size from nodes) ≡ end_of_all size from nodes
 
 -- and more nodes go on there.
-pub record GoesOn (e : Endian) (size from : ℕ) (xs ys : List (List ℕ)) : Type 0 where
+pub record OutputIsJoined (e : Endian) (size from : ℕ) (xs ys : List (List ℕ)) : Type 0 where
   pub output : output e size from (xs ++ ys) ≡ output e size from xs ++ output e size (end_of_all size from xs) ys
   pub places : places size from (xs ++ ys) ≡ places size from xs ++ places size (end_of_all size from xs) ys
   pub end : end_of_all size from (xs ++ ys) ≡ end_of_all size (end_of_all size from xs) ys
 
 abbrev pub OutputGoesOn : Type 0
-OutputGoesOn = (e : Endian) (size from : ℕ) (xs ys : List (List ℕ)) → GoesOn e size from xs ys
+OutputGoesOn = (e : Endian) (size from : ℕ) (xs ys : List (List ℕ)) → OutputIsJoined e size from xs ys
 
 -- One more node goes out after them at its place, with what goes before it.
 pub record AddsNode (e : Endian) (size from : ℕ) (nodes : List (List ℕ)) (node : List ℕ) (cursor : ℕ) : Type 0 where
@@ -54,22 +54,22 @@ RoomGoesOn = (size blocks from : ℕ) (xs ys : List (List ℕ)) → fit size blo
 
 -- Where all fit, writing goes on within the flash, at a word.
 abbrev pub EndIsWithin : Type 0
-EndIsWithin = (size blocks from : ℕ) (nodes : List (List ℕ)) → size % 4 ≡ 0 → AllByRecursion (HasRoom size) nodes → from % 4 ≡ 0 → from ≤ blocks * size
+EndIsWithin = (size blocks from : ℕ) (nodes : List (List ℕ)) → size % 4 ≡ 0 → AllByRecursion (FitsBlock size) nodes → from % 4 ≡ 0 → from ≤ blocks * size
     → IsTrue (fit size blocks from nodes) → (end_of_all size from nodes ≤ blocks * size) × (end_of_all size from nodes % 4 ≡ 0)
 
 -- ---- whole nodes
 
 -- As many nodes stand whole as are kept,
 abbrev pub IntactIsCounted : Type 0
-IntactIsCounted = (e : Endian) (size from k : ℕ) (nodes : List (List ℕ)) → size % 4 ≡ 0 → AllByRecursion (HasRoom size) nodes
+IntactIsCounted = (e : Endian) (size from k : ℕ) (nodes : List (List ℕ)) → size % 4 ≡ 0 → AllByRecursion (FitsBlock size) nodes
     → count_whole from (output e size from nodes) k (places size from nodes) ≡ intact size from k nodes
 
 -- they are the first ones,
 abbrev pub WholeIsBeginning : Type 0
-WholeIsBeginning = (e : Endian) (size from k : ℕ) (nodes : List (List ℕ)) → size % 4 ≡ 0 → AllByRecursion (HasRoom size) nodes
+WholeIsBeginning = (e : Endian) (size from k : ℕ) (nodes : List (List ℕ)) → size % 4 ≡ 0 → AllByRecursion (FitsBlock size) nodes
     → filter (is_whole from (output e size from nodes) k) (places size from nodes) ≡ take (intact size from k nodes) (places size from nodes)
 
 -- and without a cut all of them.
 abbrev pub AllIsIntact : Type 0
-AllIsIntact = (e : Endian) (size from k : ℕ) (nodes : List (List ℕ)) → size % 4 ≡ 0 → AllByRecursion (HasRoom size) nodes
+AllIsIntact = (e : Endian) (size from k : ℕ) (nodes : List (List ℕ)) → size % 4 ≡ 0 → AllByRecursion (FitsBlock size) nodes
     → length (output e size from nodes) ≤ k → intact size from k nodes ≡ length nodes

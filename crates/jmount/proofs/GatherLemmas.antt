@@ -13,7 +13,7 @@ use Rattle.jname.specs.Clash as names
 use Rattle.jname.specs.Live.{Gains}
 use Rattle.jmount.specs.StateOf.{entry_in, inodes, entries}
 use Rattle.jmount.specs.Collected.{Collected, without_addresses}
-use Rattle.jmount.specs.Gathered.{Gathered, entries_of}
+use Rattle.jmount.specs.Gathered.{Gathered, pending_entries}
 use Rattle.jmount.specs.declared.gathering.Pending.{Pending}
 use Rattle.jmount.proofs.CollectedLemmas.{entries_push, inodes_push, same_push, entries_apart_push, collected_entries_apart}
 
@@ -34,13 +34,13 @@ gathered_more gained more given all entry before gains none is = record {
 }
 
 -- the order in which they were added says nothing
-pub gathered_permuted : (gained given : List Dirent) (pending sorted : List Pending) → entries_of pending ≡ given → IsPermutation pending sorted → Gathered gained (entries_of sorted) → Gathered gained given
+pub gathered_permuted : (gained given : List Dirent) (pending sorted : List Pending) → pending_entries pending ≡ given → IsPermutation pending sorted → Gathered gained (pending_entries sorted) → Gathered gained given
 gathered_permuted gained given pending sorted is moved all =
-    let same : IsPermutation given (entries_of sorted) = subst (λ (l : List Dirent). IsPermutation l (entries_of sorted)) is (IsPermutation-map (λ (p : Pending). p.entry.now) pending sorted moved) in
+    let same : IsPermutation given (pending_entries sorted) = subst (λ (l : List Dirent). IsPermutation l (pending_entries sorted)) is (IsPermutation-map (λ (p : Pending). p.entry.now) pending sorted moved) in
     record {
       same = λ x. (
-        λ h. Contains-permutation (entries_of sorted) given x (IsPermutation-sym given (entries_of sorted) same) ((all.same x).0 h),
-        λ h. (all.same x).1 (Contains-permutation given (entries_of sorted) x same h),
+        λ h. Contains-permutation (pending_entries sorted) given x (IsPermutation-sym given (pending_entries sorted) same) ((all.same x).0 h),
+        λ h. (all.same x).1 (Contains-permutation given (pending_entries sorted) x same h),
       );
       apart = all.apart;
     }

@@ -12,7 +12,7 @@ use Rattle.std.proofs.lemmas.Map.Views.{Contains-from_lookup, tells_apart}
 use Rattle.jnode.specs.declared.node.InodeNode.{InodeNode}
 use Rattle.jname.proofs.ContentsByNameLemmas.{by_test}
 use Rattle.flashbase.proofs.MemberLemmas.{Contains-none, Contains-here, Contains-there, Contains-map_from}
-use Rattle.jmount.specs.ByVersion.{by_version, node_of_version, place_after, place_of_version}
+use Rattle.jmount.specs.ByVersion.{by_version, node_of_version, last_place_from, place_of_version}
 use Rattle.jmount.proofs.NumbersLemmas.{eqb_symm}
 
 unfoldable pub choose : Bool → InodeNode → Option InodeNode → Option InodeNode
@@ -77,35 +77,35 @@ pushed_are_apart nodes node none apart x h =
 -- ---- the place of a version
 
 pub place_of_pushed : (place v : ℕ) (found : Option ℕ) (nodes : List InodeNode) (node : InodeNode)
-    → place_after place v found (nodes ++ node ∷ []) ≡ (if node.version == v then Some (place + length nodes) else place_after place v found nodes)
+    → last_place_from place v found (nodes ++ node ∷ []) ≡ (if node.version == v then Some (place + length nodes) else last_place_from place v found nodes)
 place_of_pushed place v found [] node = ap (λ (n : ℕ). if node.version == v then Some n else found) (omega arith)
 place_of_pushed place v found (first ∷ nodes) node =
     place_of_pushed (suc place) v (if first.version == v then Some place else found) nodes node
-    ∙ ap (λ (n : ℕ). if node.version == v then Some n else place_after (suc place) v (if first.version == v then Some place else found) nodes) (omega arith)
+    ∙ ap (λ (n : ℕ). if node.version == v then Some n else last_place_from (suc place) v (if first.version == v then Some place else found) nodes) (omega arith)
 
-some_place : (place v at : ℕ) (nodes : List InodeNode) → place_after place v (Some at) nodes ≡ None → ⊥
+some_place : (place v at : ℕ) (nodes : List InodeNode) → last_place_from place v (Some at) nodes ≡ None → ⊥
 some_place place v at [] h = let no : Some at ≡ None = h in cc
 some_place place v at (node ∷ nodes) h =
     by_test (node.version == v)
-    (λ e. some_place (suc place) v place nodes (sym (ap (λ (b : Bool). place_after (suc place) v (if b then Some place else Some at) nodes) e) ∙ h))
-    (λ e. some_place (suc place) v at nodes (sym (ap (λ (b : Bool). place_after (suc place) v (if b then Some place else Some at) nodes) e) ∙ h))
+    (λ e. some_place (suc place) v place nodes (sym (ap (λ (b : Bool). last_place_from (suc place) v (if b then Some place else Some at) nodes) e) ∙ h))
+    (λ e. some_place (suc place) v at nodes (sym (ap (λ (b : Bool). last_place_from (suc place) v (if b then Some place else Some at) nodes) e) ∙ h))
 
 -- a version that has no place has no node
-pub no_place : (place v : ℕ) (nodes : List InodeNode) → place_after place v None nodes ≡ None → node_of_version nodes v ≡ None
+pub no_place : (place v : ℕ) (nodes : List InodeNode) → last_place_from place v None nodes ≡ None → node_of_version nodes v ≡ None
 unfolding choose
 no_place place v [] h = refl
 no_place place v (node ∷ nodes) h =
     by_test (node.version == v)
-    (λ e. absurd (some_place (suc place) v place nodes (sym (ap (λ (b : Bool). place_after (suc place) v (if b then Some place else None) nodes) e) ∙ h)))
+    (λ e. absurd (some_place (suc place) v place nodes (sym (ap (λ (b : Bool). last_place_from (suc place) v (if b then Some place else None) nodes) e) ∙ h)))
     (λ e.
     node_of_first node nodes v ∙ ap (λ (b : Bool). choose b node (node_of_version nodes v)) (eqb_symm v node.version ∙ e)
-    ∙ no_place (suc place) v nodes (sym (ap (λ (b : Bool). place_after (suc place) v (if b then Some place else None) nodes) e) ∙ h))
+    ∙ no_place (suc place) v nodes (sym (ap (λ (b : Bool). last_place_from (suc place) v (if b then Some place else None) nodes) e) ∙ h))
 
 -- a node of the version stands at this place, the first of these at another
 abbrev pub StandsAt : ℕ → ℕ → List InodeNode → ℕ → Type 0
 StandsAt place v nodes at = (i : ℕ) × (at ≡ place + i) × (i < length nodes) × ((d : InodeNode) → (get_or nodes i d).version ≡ v)
 
-place_is : (place v : ℕ) (found : Option ℕ) (nodes : List InodeNode) (at : ℕ) → place_after place v found nodes ≡ Some at → (found ≡ Some at) ⊎ StandsAt place v nodes at
+place_is : (place v : ℕ) (found : Option ℕ) (nodes : List InodeNode) (at : ℕ) → last_place_from place v found nodes ≡ Some at → (found ≡ Some at) ⊎ StandsAt place v nodes at
 place_is place v found [] at h = inl h
 place_is place v found (node ∷ nodes) at h =
     ⊎_elim

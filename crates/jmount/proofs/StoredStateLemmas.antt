@@ -22,7 +22,7 @@ use Rattle.jmount.specs.declared.stored.Stored.{Stored}
 use Rattle.jmount.specs.Laws.{SameElements}
 use Rattle.jmount.specs.StateOf.{inodes, entries, versions_of, latest, object_by, object_of, or_root, objects_of, owner, top, tops_of, next_of, state_of}
 use Rattle.jmount.specs.Stored.{ObjectsByNumber, stored_object, stored_objects, stored_top, stored_tops, stored_state}
-use Rattle.jmount.specs.Storing.{Made, as_made, made_by, made_of, made_root, or_made_root}
+use Rattle.jmount.specs.Storing.{VersionedObject, as_made, made_by, made_of, made_root, or_made_root}
 use Rattle.jmount.specs.Collected.{Collected, without_addresses, greatest_number}
 use Rattle.jmount.proofs.ClashLemmas.{in_entries, in_inodes, from_entries, from_inodes}
 use Rattle.jmount.proofs.NumbersLemmas.{version-latest, top_of_both_kinds}
@@ -39,7 +39,7 @@ HasEach objects nodes = (i : ℕ) → option_map as_made (get nat_cmp objects i)
 abbrev IsNumber : List InodeNode → ℕ → Type 0
 IsNumber nodes i = (i ≡ 1) ⊎ Contains (map (λ (node : InodeNode). node.ino) nodes) i
 
-number_from : (nodes : List InodeNode) (i : ℕ) (m : Made) (o : Option InodeNode) → latest (versions_of nodes i) ≡ o
+number_from : (nodes : List InodeNode) (i : ℕ) (m : VersionedObject) (o : Option InodeNode) → latest (versions_of nodes i) ≡ o
     → or_made_root i (option_map (λ node. (object_by (versions_of nodes i) node, node.version)) o) ≡ Some m → IsNumber nodes i
 number_from nodes i m None e h = by_test (i == 1) (λ t. inl (eqb-true i 1 t)) (λ f. let no : None ≡ Some m = sym (ap (λ (b : Bool). if b then Some made_root else None) f) ∙ h in cc)
 number_from nodes i m (Some node) e h =
@@ -47,11 +47,11 @@ number_from nodes i m (Some node) e h =
     let found_one = Contains-filter_from (λ (n : InodeNode). i == n.ino) nodes node found.0 in
     inr (subst (λ j. Contains (map (λ (n : InodeNode). n.ino) nodes) j) (sym (eqb-true i node.ino found_one.1)) (Contains-map (λ (n : InodeNode). n.ino) nodes node found_one.0))
 
-none_at_one : (o : Option Made) → or_made_root 1 o ≡ None → ⊥
+none_at_one : (o : Option VersionedObject) → or_made_root 1 o ≡ None → ⊥
 none_at_one None h = let no : Some made_root ≡ None = h in cc
 none_at_one (Some m) h = let no : Some m ≡ None = h in cc
 
-none_or : (i : ℕ) (o : Option Made) → or_made_root i o ≡ None → o ≡ None
+none_or : (i : ℕ) (o : Option VersionedObject) → or_made_root i o ≡ None → o ≡ None
 none_or i None h = refl
 none_or i (Some m) h = h
 
@@ -89,11 +89,11 @@ key_of_number objects nodes each i number = by_found (get nat_cmp objects i) ref
 -- ---- objects
 
 object_made : (i : ℕ) (versions : List InodeNode) (o : Option InodeNode)
-    → option_map (λ (m : Made). m.0) (or_made_root i (option_map (λ node. (object_by versions node, node.version)) o)) ≡ or_root i (option_map (object_by versions) o)
+    → option_map (λ (m : VersionedObject). m.0) (or_made_root i (option_map (λ node. (object_by versions node, node.version)) o)) ≡ or_root i (option_map (object_by versions) o)
 object_made i versions None = by_test (i == 1) (λ t. rw t refl) (λ f. rw f refl)
 object_made i versions (Some node) = refl
 
-first_shown : (o : Option Stored) → option_map stored_object o ≡ option_map (λ (m : Made). m.0) (option_map as_made o)
+first_shown : (o : Option Stored) → option_map stored_object o ≡ option_map (λ (m : VersionedObject). m.0) (option_map as_made o)
 first_shown None = refl
 first_shown (Some stored) = refl
 
@@ -106,23 +106,23 @@ objects_stored objects nodes ordered each =
           (λ later. Contains-there 1 (map (λ (node : InodeNode). node.ino) nodes) i later) (number_of_key objects nodes ordered each i h),
       λ h. key_of_number objects nodes each i (⊎_elim (λ one. inl (sym one)) (λ later. inr later) (Contains-cases 1 (map (λ (node : InodeNode). node.ino) nodes) i h)),
     ))
-    (λ i. first_shown (get nat_cmp objects i) ∙ ap (option_map (λ (m : Made). m.0)) (each i) ∙ object_made i (versions_of nodes i) (latest (versions_of nodes i)))
+    (λ i. first_shown (get nat_cmp objects i) ∙ ap (option_map (λ (m : VersionedObject). m.0)) (each i) ∙ object_made i (versions_of nodes i) (latest (versions_of nodes i)))
 
 -- ---- greatest versions
 
-second_shown : (o : Option Stored) → option_map (λ (stored : Stored). stored.version) o ≡ option_map (λ (m : Made). m.1) (option_map as_made o)
+second_shown : (o : Option Stored) → option_map (λ (stored : Stored). stored.version) o ≡ option_map (λ (m : VersionedObject). m.1) (option_map as_made o)
 second_shown None = refl
 second_shown (Some stored) = refl
 
 version_made : (i : ℕ) (versions : List InodeNode) (o : Option InodeNode)
-    → unwrap_or (option_map (λ (m : Made). m.1) (or_made_root i (option_map (λ node. (object_by versions node, node.version)) o))) 0 ≡ unwrap_or (option_map (λ node. node.version) o) 0
+    → unwrap_or (option_map (λ (m : VersionedObject). m.1) (or_made_root i (option_map (λ node. (object_by versions node, node.version)) o))) 0 ≡ unwrap_or (option_map (λ node. node.version) o) 0
 version_made i versions None = by_test (i == 1) (λ t. rw t refl) (λ f. rw f refl)
 version_made i versions (Some node) = refl
 
 version_stored : (objects : ObjectsByNumber) (nodes : List InodeNode) (ns : List NodeRef) → HasEach objects nodes → SameElements nodes (inodes ns) → (i : ℕ)
     → unwrap_or (option_map (λ (stored : Stored). stored.version) (get nat_cmp objects i)) 0 ≡ greatest (map (λ (node : InodeNode). node.version) (versions_of (inodes ns) i))
 version_stored objects nodes ns each same i =
-    ap (λ o. unwrap_or o 0) (second_shown (get nat_cmp objects i) ∙ ap (option_map (λ (m : Made). m.1)) (each i))
+    ap (λ o. unwrap_or o 0) (second_shown (get nat_cmp objects i) ∙ ap (option_map (λ (m : VersionedObject). m.1)) (each i))
     ∙ version_made i (versions_of nodes i) (latest (versions_of nodes i))
     ∙ version-latest (versions_of nodes i)
     ∙ greatest-same (map (λ (node : InodeNode). node.version) (versions_of nodes i)) (map (λ (node : InodeNode). node.version) (versions_of (inodes ns) i))

@@ -26,7 +26,7 @@ use Rattle.jmount.specs.declared.versions.Versions.{Versions}
 use Rattle.jmount.specs.declared.stored.Stored.{Stored}
 use Rattle.jmount.specs.Inodes.{inode_of_version, IsByVersion, IsKeyed, NodesByNumber, nodes_in, nodes_of_numbers}
 use Rattle.jmount.specs.StateOf.{latest, piece_of}
-use Rattle.jmount.specs.Storing.{Made, as_made, made_by, made_at}
+use Rattle.jmount.specs.Storing.{VersionedObject, as_made, made_by, made_of_number}
 use Rattle.jmount.proofs.NumbersLemmas.{eqb_symm}
 use Rattle.jmount.proofs.NewestLemmas.{version_found, version_from, at_most_newest}
 
@@ -82,12 +82,12 @@ Objects = BTreeMap ℕ Stored
 replaced_at : (old new : Objects) (k : ℕ) (stored : Stored) → Updates nat_cmp old new k (Some stored) → (i : ℕ) → get nat_cmp new i ≡ (if k == i then Some stored else get nat_cmp old i)
 replaced_at old new k stored u i = u.0 i ∙ ap (λ (b : Bool). if b then Some stored else get nat_cmp old i) (unsigned_tied k i)
 
-made_of : Option Versions → Option Made
+made_of : Option Versions → Option VersionedObject
 made_of o = option_and_then (λ versions. made_by (nodes_in versions)) o
 
 -- the objects of all numbers but those that are left
 abbrev pub AreDone : NodesByNumber → List (ℕ × Versions) → Objects → Type 0
-AreDone numbers rest objects = (i : ℕ) → lookup (eq_by_cmp nat_cmp i) rest ≡ None → option_map as_made (get nat_cmp objects i) ≡ made_at numbers i
+AreDone numbers rest objects = (i : ℕ) → lookup (eq_by_cmp nat_cmp i) rest ≡ None → option_map as_made (get nat_cmp objects i) ≡ made_of_number numbers i
 
 one_object_done : (numbers : NodesByNumber) (old new : Objects) (k : ℕ) (versions : Versions) (rest : List (ℕ × Versions)) (stored : Stored)
     → get nat_cmp numbers k ≡ Some versions → Some (as_made stored) ≡ made_by (nodes_in versions) → Updates nat_cmp old new k (Some stored)
@@ -96,7 +96,7 @@ unfolding made_of
 one_object_done numbers old new k versions rest stored there made u before i none =
     by_test (k == i)
     (λ e. ap (option_map as_made) (replaced_at old new k stored u i ∙ ap (λ (b : Bool). if b then Some stored else get nat_cmp old i) e)
-    ∙ made ∙ sym (ap made_of there) ∙ ap (made_at numbers) (eqb-true k i e))
+    ∙ made ∙ sym (ap made_of there) ∙ ap (made_of_number numbers) (eqb-true k i e))
     (λ e. ap (option_map as_made) (replaced_at old new k stored u i ∙ ap (λ (b : Bool). if b then Some stored else get nat_cmp old i) e)
     ∙ before i (ap (λ (b : Bool). if b then Some versions else lookup (eq_by_cmp nat_cmp i) rest) (unsigned_tied i k ∙ eqb_symm i k ∙ e) ∙ none))
 

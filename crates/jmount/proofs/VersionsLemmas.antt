@@ -19,7 +19,7 @@ use Rattle.flashbase.proofs.MemberLemmas.{Contains-here, Contains-there}
 use Rattle.jmount.specs.declared.versions.Versions.{Versions}
 use Rattle.jmount.specs.Inodes.{NodesByNumber, IsKeyed, inode_at, inode_of_version, nodes_in, nodes_of_numbers}
 use Rattle.jmount.specs.StateOf.{versions_of}
-use Rattle.jmount.specs.Storing.{made_at, made_by}
+use Rattle.jmount.specs.Storing.{made_of_number, made_by}
 use Rattle.jmount.proofs.NewestLemmas.{version_found}
 
 filter_all : {X : Type 0} (p : X → Bool) (xs : List X) → ((x : X) → Contains xs x → p x ≡ true) → filter p xs ≡ xs
@@ -85,5 +85,5 @@ unfolding nodes_found
 made_found None = refl
 made_found (Some versions) = refl
 
-pub made_at-is : (numbers : NodesByNumber) → IsOrdered nat_cmp numbers → IsKeyed numbers → (i : ℕ) → made_at numbers i ≡ made_by (versions_of (nodes_of_numbers numbers) i)
+pub made_at-is : (numbers : NodesByNumber) → IsOrdered nat_cmp numbers → IsKeyed numbers → (i : ℕ) → made_of_number numbers i ≡ made_by (versions_of (nodes_of_numbers numbers) i)
 made_at-is numbers ordered keyed i = made_found (get nat_cmp numbers i) ∙ ap made_by (sym (versions_of-nodes numbers ordered keyed i))

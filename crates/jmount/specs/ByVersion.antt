@@ -13,10 +13,10 @@ abbrev pub node_of_version : List InodeNode → ℕ → Option InodeNode
 node_of_version nodes v = lookup (eq_by_cmp nat_cmp v) (by_version nodes)
 
 -- where the last node of a version stands, the first of these at this place
-abbrev pub place_after : ℕ → ℕ → Option ℕ → List InodeNode → Option ℕ
-place_after place v found [] = found
-place_after place v found (node ∷ nodes) = place_after (suc place) v (if node.version == v then Some place else found) nodes
+abbrev pub last_place_from : ℕ → ℕ → Option ℕ → List InodeNode → Option ℕ
+last_place_from place v found [] = found
+last_place_from place v found (node ∷ nodes) = last_place_from (suc place) v (if node.version == v then Some place else found) nodes
 
 -- where the last node of a version stands among these
 abbrev pub place_of_version : List InodeNode → ℕ → Option ℕ
-place_of_version nodes v = place_after 0 v None nodes
+place_of_version nodes v = last_place_from 0 v None nodes

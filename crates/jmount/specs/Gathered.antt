@@ -5,8 +5,8 @@ use Rattle.jname.specs.Clash as names
 use Rattle.jmount.specs.declared.gathering.Pending.{Pending}
 
 -- the entries that are to be added
-abbrev pub entries_of : List Pending → List Dirent
-entries_of pending = map (λ p. p.entry.now) pending
+abbrev pub pending_entries : List Pending → List Dirent
+pending_entries pending = map (λ p. p.entry.now) pending
 
 -- what was gathered of these entries, of which no two clash
 pub record Gathered (gained given : List Dirent) : Type 0 where

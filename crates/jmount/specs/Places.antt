@@ -7,6 +7,6 @@ use Rattle.jmount.specs.ByVersion.{place_of_version}
 use Rattle.jmount.specs.declared.places.Places.{Places}
 
 -- these are the places of the first of the nodes
-pub record ArePlaces (nodes : List InodeNode) (places : Places) : Type 0 where
+pub record AreVersionPlaces (nodes : List InodeNode) (places : Places) : Type 0 where
   pub within : places.listed ≤ length nodes
   pub at : (v : ℕ) → get nat_cmp places.map v ≡ place_of_version (take places.listed nodes) v

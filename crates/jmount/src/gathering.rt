@@ -4,7 +4,7 @@ ghost use Rattle.std.specs.Prelude.{◌≡◌, IfOk, IsPermutation, map};
 ghost use Rattle.jnode.specs.declared.node.Dirent.{Dirent};
 ghost use Rattle.jmount.specs.StateOf.{entries};
 ghost use Rattle.jmount.specs.Collected.{without_addresses};
-ghost use Rattle.jmount.specs.Gathered.{Gathered, entries_of};
+ghost use Rattle.jmount.specs.Gathered.{Gathered, pending_entries};
 
 use jname::{NameFault, Names};
 use jnode::{Dirent, NodeRef};
@@ -54,7 +54,7 @@ fn entries_in<'n, 'a>(
     alloc: Global,
     nodes: &'n [(u32, NodeRef<'a>)],
 ) -> Result<Vec<Pending<'n, 'a>>, AllocError>
-    ensures { IfOk result (λ pending. entries_of pending.items ≡ entries (without_addresses nodes.now)) }
+    ensures { IfOk result (λ pending. pending_entries pending.items ≡ entries (without_addresses nodes.now)) }
 {
     let mut pending = Vec::with_capacity(alloc, count_entries(nodes))?;
     for (_, node) in nodes {
@@ -83,7 +83,7 @@ fn key_of(entry: &Dirent<'_>) -> Key {
 
 /// The names of these entries.
 fn names_of<'a>(alloc: Global, pending: &[Pending<'_, 'a>]) -> Result<Names<'a>, NameFault>
-    ensures { IfOk result (λ names. Gathered names (entries_of pending.now)) }
+    ensures { IfOk result (λ names. Gathered names (pending_entries pending.now)) }
 {
     let mut names = Names::new(alloc);
     for Pending { entry, .. } in pending {

@@ -18,10 +18,10 @@ pub struct Places {
 }
 
 impl Places {
-    ghost use Rattle.jmount.specs.Places.{ArePlaces};
+    ghost use Rattle.jmount.specs.Places.{AreVersionPlaces};
 
     pub fn new(alloc: Global) -> Places
-        ensures { ArePlaces [] result }
+        ensures { AreVersionPlaces [] result }
     {
         Places {
             map: BTreeMap::new(alloc),
@@ -31,8 +31,8 @@ impl Places {
 
     /// Lists those that are not listed yet.
     pub fn list(&mut self, nodes: &[InodeNode<'_>]) -> Result<(), AllocError>
-        requires { ArePlaces nodes.now self.old }
-        ensures places { IfOk result (λ _. ArePlaces nodes.now self.new) }
+        requires { AreVersionPlaces nodes.now self.old }
+        ensures places { IfOk result (λ _. AreVersionPlaces nodes.now self.new) }
         ensures all { IfOk result (λ _. self.new.listed ≡ length nodes.now) }
     {
         while let Some(node) = nodes.get(self.listed) {

@@ -6,7 +6,7 @@ ghost use Rattle.std.specs.BTreeMap.{IsOrdered, get};
 ghost use Rattle.jfrag.specs.Pieces.{end_of};
 ghost use Rattle.jmount.specs.Inodes.{IsByVersion, IsKeyed, nodes_in, nodes_of_numbers};
 ghost use Rattle.jmount.specs.StateOf.{body_of, piece_of};
-ghost use Rattle.jmount.specs.Storing.{made_at, made_by, made_root, or_made_root, as_made};
+ghost use Rattle.jmount.specs.Storing.{made_of_number, made_by, made_root, or_made_root, as_made};
 
 use crate::inodes::NodesByNumber;
 use crate::mounted::ROOT;
@@ -24,7 +24,7 @@ pub fn objects_with_root<'a>(
 ) -> Result<BTreeMap<u32, Stored<'a>>, AllocError>
     requires keyed { IsKeyed numbers }
     requires ends { All (λ node. end_of (piece_of node) < 2 ^ 32) (nodes_of_numbers numbers) }
-    ensures each { IfOk result (λ objects. (i : ℕ) → option_map as_made (get nat_cmp objects i) ≡ or_made_root i (made_at numbers.entry i)) }
+    ensures each { IfOk result (λ objects. (i : ℕ) → option_map as_made (get nat_cmp objects i) ≡ or_made_root i (made_of_number numbers.entry i)) }
     ensures ordered { IfOk result (IsOrdered nat_cmp) }
 {
     let mut objects = objects_of(alloc, numbers)?;
@@ -58,7 +58,7 @@ fn objects_of<'a>(
 ) -> Result<BTreeMap<u32, Stored<'a>>, AllocError>
     requires keyed { IsKeyed numbers }
     requires ends { All (λ node. end_of (piece_of node) < 2 ^ 32) (nodes_of_numbers numbers) }
-    ensures each { IfOk result (λ objects. (i : ℕ) → option_map as_made (get nat_cmp objects i) ≡ made_at numbers.entry i) }
+    ensures each { IfOk result (λ objects. (i : ℕ) → option_map as_made (get nat_cmp objects i) ≡ made_of_number numbers.entry i) }
     ensures ordered { IfOk result (IsOrdered nat_cmp) }
 {
     let mut objects = BTreeMap::new(alloc);

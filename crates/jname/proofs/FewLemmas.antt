@@ -20,7 +20,7 @@ use Rattle.jname.specs.declared.versions.Content.{Content}
 use Rattle.jname.specs.declared.versions.Versions.{Versions}
 use Rattle.jname.specs.Versions.{contents_of, version_at}
 use Rattle.jname.specs.ContentsByName.{Name, name_cmp, versions_of_name, content_in, with_contents}
-use Rattle.jname.specs.Few.{index_of, one_further, place_in}
+use Rattle.jname.specs.Few.{place_or_gap, one_further, place_in}
 use Rattle.jname.proofs.ContentsByNameLemmas.{by_test, HasOneMore}
 
 abbrev order_of : List ℕ → Name × Versions → Ordering
@@ -30,15 +30,15 @@ order_of name e = slice_cmp nat_cmp name (cow_slice_items e.0)
 
 at_or_further : (o : Ordering) (r : Result ℕ ℕ) (i : ℕ) → match_ordering o (Err 0) (Ok 0) (one_further r) ≡ Ok i → ((o ≡ Equal) × (0 ≡ i)) ⊎ ((o ≡ Greater) × (j : ℕ) × (r ≡ Ok j) × (suc j ≡ i))
 at_or_further Less r i h = cc
-at_or_further Equal r i h = inl (refl, ap index_of h)
-at_or_further Greater (Ok j) i h = inr (refl, j, refl, ap index_of h)
+at_or_further Equal r i h = inl (refl, ap place_or_gap h)
+at_or_further Greater (Ok j) i h = inr (refl, j, refl, ap place_or_gap h)
 at_or_further Greater (Err j) i h = cc
 
 gap_or_further : (o : Ordering) (r : Result ℕ ℕ) (i : ℕ) → match_ordering o (Err 0) (Ok 0) (one_further r) ≡ Err i → ((o ≡ Less) × (0 ≡ i)) ⊎ ((o ≡ Greater) × (j : ℕ) × (r ≡ Err j) × (suc j ≡ i))
-gap_or_further Less r i h = inl (refl, ap index_of h)
+gap_or_further Less r i h = inl (refl, ap place_or_gap h)
 gap_or_further Equal r i h = cc
 gap_or_further Greater (Ok j) i h = cc
-gap_or_further Greater (Err j) i h = inr (refl, j, refl, ap index_of h)
+gap_or_further Greater (Err j) i h = inr (refl, j, refl, ap place_or_gap h)
 
 pub place_within : (es : List (Name × Versions)) (name : List ℕ) (i : ℕ) → place_in es name ≡ Ok i → i < length es
 place_within [] name i h = cc
@@ -208,7 +208,7 @@ put_one : (es : List (Name × Versions)) (name : List ℕ) (i : ℕ) (k : Name) 
     → ((v : ℕ) → version_at is v ≡ (if version == v then Some content else None)) → HasOneMore es (insert es i (k, is)) name version content
 unfolding IsStrictlySortedBy
 put_one [] name i k is version content sorted gap same more =
-    subst (λ (j : ℕ). HasOneMore [] (insert [] j (k, is)) name version content) (ap index_of gap)
+    subst (λ (j : ℕ). HasOneMore [] (insert [] j (k, is)) name version content) (ap place_or_gap gap)
     (subst (λ (n : List ℕ). HasOneMore [] ((k, is) ∷ []) n version content) same (more_new k is [] version content refl more))
 put_one (e ∷ es) name i k is version content sorted gap same more =
     ⊎_elim
@@ -228,7 +228,7 @@ all_put P (x ∷ es) (suc i) e all p = (all.0, all_put P es i e all.1 p)
 put_in_order : (es : List (Name × Versions)) (name : List ℕ) (i : ℕ) (k : Name) (is : Versions) → IsStrictlySortedBy name_cmp (keys_of es) → place_in es name ≡ Err i → cow_slice_items k ≡ name
     → IsStrictlySortedBy name_cmp (keys_of (insert es i (k, is)))
 unfolding IsStrictlySortedBy
-put_in_order [] name i k is sorted gap same = subst (λ (j : ℕ). IsStrictlySortedBy name_cmp (keys_of (insert [] j (k, is)))) (ap index_of gap) (tt, tt)
+put_in_order [] name i k is sorted gap same = subst (λ (j : ℕ). IsStrictlySortedBy name_cmp (keys_of (insert [] j (k, is)))) (ap place_or_gap gap) (tt, tt)
 put_in_order (e ∷ es) name i k is sorted gap same =
     ⊎_elim
     (λ at. subst (λ (j : ℕ). IsStrictlySortedBy name_cmp (keys_of (insert (e ∷ es) j (k, is)))) at.1

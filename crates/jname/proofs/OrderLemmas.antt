@@ -29,7 +29,7 @@ use Rattle.jname.specs.NameMaps.{names_in}
 use Rattle.jname.specs.Directories.{DirectoriesByNumber, content_held}
 use Rattle.jname.specs.Entries.{entries_of}
 use Rattle.jname.specs.Live.{Key, key_cmp, live, live_names, names_of, all_names}
-use Rattle.jname.specs.Walk.{live_ino, live_name, names_under, placed, names_within}
+use Rattle.jname.specs.Walk.{live_ino, live_name, names_under, with_parent, names_within}
 use Rattle.flashbase.proofs.MemberLemmas.{Contains-map, Contains-map_from, Contains-flat_map, Contains-flat_map_from, Contains-filter, Contains-filter_from, Contains-lookup, Contains-here, Contains-filter_map, Contains-filter_map_from}
 use Rattle.jname.proofs.NameMapLemmas.{names_ordered}
 use Rattle.jname.proofs.EntriesLemmas.{nat_found, name_found}
@@ -174,7 +174,7 @@ entries-live_names directories ordered =
 abbrev spread : Key × ℕ → ℕ × List ℕ × ℕ
 spread e = (e.0.0, e.0.1, e.1)
 
-map-spread_keyed : (pino : ℕ) (xs : List (List ℕ × ℕ)) → map spread (map (keyed pino) xs) ≡ map (placed pino) xs
+map-spread_keyed : (pino : ℕ) (xs : List (List ℕ × ℕ)) → map spread (map (keyed pino) xs) ≡ map (with_parent pino) xs
 map-spread_keyed pino [] = refl
 map-spread_keyed pino (x ∷ xs) = ap (λ (ys : List (ℕ × List ℕ × ℕ)). (pino, x.0, x.1) ∷ ys) (map-spread_keyed pino xs)
 
@@ -183,7 +183,7 @@ map-spread [] = refl
 map-spread (e ∷ es) =
     map-append spread (map (keyed e.0) (names_under (names_in e.1.directory.value.names))) (keyed_within es)
     ∙ ap (λ (xs : List (ℕ × List ℕ × ℕ)). xs ++ map spread (keyed_within es)) (map-spread_keyed e.0 (names_under (names_in e.1.directory.value.names)))
-    ∙ ap (λ (ys : List (ℕ × List ℕ × ℕ)). map (placed e.0) (names_under (names_in e.1.directory.value.names)) ++ ys) (map-spread es)
+    ∙ ap (λ (ys : List (ℕ × List ℕ × ℕ)). map (with_parent e.0) (names_under (names_in e.1.directory.value.names)) ++ ys) (map-spread es)
 
 pub names_within-is : (directories : DirectoriesByNumber) → IsOrdered nat_cmp directories → names_within directories.entries ≡ all_names (entries_of directories)
 names_within-is directories ordered = sym (map-spread directories.entries) ∙ ap (λ (es : List (Key × ℕ)). map spread es) (entries-live_names directories ordered)

@@ -7,9 +7,9 @@ use Rattle.jname.specs.declared.versions.Versions.{Versions}
 use Rattle.jname.specs.ContentsByName.{Name}
 
 -- the place itself, whether a name stands there or would stand
-abbrev pub index_of : Result ℕ ℕ → ℕ
-index_of (Ok place) = place
-index_of (Err place) = place
+abbrev pub place_or_gap : Result ℕ ℕ → ℕ
+place_or_gap (Ok place) = place
+place_or_gap (Err place) = place
 
 -- one place further
 abbrev pub one_further : Result ℕ ℕ → Result ℕ ℕ

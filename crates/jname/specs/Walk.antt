@@ -22,9 +22,9 @@ abbrev pub names_under : List (Name × Versions) → List (List ℕ × ℕ)
 names_under es = filter_map live_name es
 
 -- the same, with the directory's number
-abbrev pub placed : ℕ → List ℕ × ℕ → ℕ × List ℕ × ℕ
-placed pino e = (pino, e.0, e.1)
+abbrev pub with_parent : ℕ → List ℕ × ℕ → ℕ × List ℕ × ℕ
+with_parent pino e = (pino, e.0, e.1)
 
 -- the live names of directories
 abbrev pub names_within : List (ℕ × Apart) → List (ℕ × List ℕ × ℕ)
-names_within es = flat_map (λ e. map (placed e.0) (names_under (names_in e.1.directory.value.names))) es
+names_within es = flat_map (λ e. map (with_parent e.0) (names_under (names_in e.1.directory.value.names))) es

@@ -7,7 +7,7 @@ ghost use Rattle.std.specs.List.{insert};
 ghost use Rattle.std.specs.List.Sorted.{IsStrictlySortedBy};
 ghost use Rattle.std.specs.Map.{keys_of};
 ghost use Rattle.jname.specs.ContentsByName.{name_cmp};
-ghost use Rattle.jname.specs.Few.{index_of, place_in};
+ghost use Rattle.jname.specs.Few.{place_or_gap, place_in};
 
 use crate::NameFault;
 use crate::name_map::ByName;
@@ -22,7 +22,7 @@ pub type Few<'a> = Vec<(CowSlice<'a, u8>, Versions)>;
 /// Where a name stands in a row, or else would stand.
 pub fn place_of(few: &[(CowSlice<'_, u8>, Versions)], name: &[u8]) -> Result<usize, usize>
     ensures place { result ≡ place_in few.now name.now }
-    ensures within { index_of result ≤ length few.now }
+    ensures within { place_or_gap result ≤ length few.now }
 {
     let Some((first, others)) = few.split_first() else {
         return Err(0);

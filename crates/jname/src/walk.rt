@@ -66,11 +66,11 @@ pub struct All<'n, 'a> {
 
 impl<'n, 'a> Model for All<'n, 'a> {
     ghost use Rattle.std.specs.Prelude.{ℕ, List, ◌++◌, map};
-    ghost use Rattle.jname.specs.Walk.{placed, names_within};
+    ghost use Rattle.jname.specs.Walk.{with_parent, names_within};
 
     ghost Value = { List (ℕ × List ℕ × ℕ) };
 
-    ghost view = { λ all. map (placed all.pino) all.names ++ names_within all.directories };
+    ghost view = { λ all. map (with_parent all.pino) all.names ++ names_within all.directories };
 }
 
 impl<'n, 'a> All<'n, 'a> {

@@ -16,7 +16,7 @@ use Rattle.jscan.specs.declared.extent.ExtentKind.{ExtentKind}
 use Rattle.jscan.specs.declared.extent.Extent.{Extent}
 use Rattle.jscan.specs.Counts.{is_entry_tile, is_inode_tile, is_found, count_in, extents_of_block, extents_below, counts_of, block_counted}
 use Rattle.jscan.specs.declared.counts.Counts.{Counts}
-use Rattle.jreport.specs.Report.{lines_of, lines_below, block_lines, CountsHaveRoom}
+use Rattle.jreport.specs.Report.{lines_of_block, lines_below, block_lines, CountsHaveRoom}
 use Rattle.jreport.proofs.ExtentLemmas.{length_extents, count_in-le}
 use Rattle.jreport.proofs.PutLemmas.{count_by-append}
 
@@ -146,10 +146,10 @@ room_for_block e size image k n c is fits small next within = subst (λ (x : Cou
 
 -- the lines of a block, as `put_block` says them
 pub block_text : (e : Endian) (size : ℕ) (image : List ℕ) (k : ℕ) (c : Counts) (block : List ℕ) → c ≡ counts_of e size image k → block ≡ block_of size image k
-    → lines_of c.blocks (extents e (k * size) block) ≡ block_lines e size image k
+    → lines_of_block c.blocks (extents e (k * size) block) ≡ block_lines e size image k
 unfolding block_lines
 block_text e size image k c block is same =
-    ap (λ (n : Counts). lines_of n.blocks (extents e (k * size) block)) is ∙ ap (λ (l : List ℕ). lines_of k (extents e (k * size) l)) same
+    ap (λ (n : Counts). lines_of_block n.blocks (extents e (k * size) block)) is ∙ ap (λ (l : List ℕ). lines_of_block k (extents e (k * size) l)) same
 
 pub block_counts : (e : Endian) (size : ℕ) (image : List ℕ) (k : ℕ) (c : Counts) (block : List ℕ) → c ≡ counts_of e size image k → block ≡ block_of size image k
     → block_counted c (extents e (k * size) block) ≡ counts_of e size image (k + 1)

@@ -15,7 +15,7 @@ use Rattle.jscan.specs.Counts.{counts_of, block_counted, extents_of_block}
 use Rattle.jscan.specs.Image.{block_count, block_of}
 use Rattle.jscan.specs.Extents.{extents}
 use Rattle.jscan.specs.declared.counts.Counts.{Counts}
-use Rattle.jreport.specs.Report.{block_lines, lines_below, lines_of, scan_text, totals_line}
+use Rattle.jreport.specs.Report.{block_lines, lines_below, lines_of_block, scan_text, totals_line}
 use Rattle.jreport.proofs.BlockLemmas.{block_counts, block_text, counts_of_more, lines_below_more, one_more}
 
 -- ---- a block more
@@ -44,7 +44,7 @@ lines_stay e size (suc n) image more within =
     let fits : n * size + size ≤ length image = omega (arith, within, one_more n size, ap (λ (k : ℕ). k * size) here) in
     let before = lines_stay e size n image more (omega (arith, fits)) in
     let line : block_lines e size (image ++ more) n ≡ block_lines e size image n =
-    ap (λ (l : List ℕ). lines_of n (extents e (n * size) l)) (earlier_block size n image more fits) in
+    ap (λ (l : List ℕ). lines_of_block n (extents e (n * size) l)) (earlier_block size n image more fits) in
     ap (lines_below e size (image ++ more)) here ∙ lines_below_more e size (image ++ more) n
     ∙ ap (λ (l : List ℕ). l ++ block_lines e size (image ++ more) n) before
     ∙ ap (λ (l : List ℕ). lines_below e size image n ++ l) line
@@ -79,7 +79,7 @@ record Grown (e : Endian) (size start : ℕ) (counts : Counts) (block : List ℕ
   counted : counts ≡ counts_of e size image counts.blocks
   same : block ≡ block_of size image counts.blocks
   gone : Appends old new (lines_below e size image counts.blocks)
-  line : lines_of counts.blocks (extents e start block) ≡ block_lines e size image counts.blocks
+  line : lines_of_block counts.blocks (extents e start block) ≡ block_lines e size image counts.blocks
 
 grown : (e : Endian) (size start : ℕ) (counts : Counts) (block : List ℕ) (a b : Option (List ℕ)) → Untold e size counts a b → length block ≡ size
     → counts.blocks * size ≡ start → Grown e size start counts block a b
@@ -89,7 +89,7 @@ grown e size start counts block a b before long here = record {
   counted = counted;
   same = same;
   gone = subst (Appends a b) (sym (lines_stay e size n before.image block within)) before.gone;
-  line = ap (λ (s : ℕ). lines_of n (extents e s block)) (sym here) ∙ block_text e size image n counts block counted same;
+  line = ap (λ (s : ℕ). lines_of_block n (extents e s block)) (sym here) ∙ block_text e size image n counts block counted same;
 }
   where
     n : ℕ
@@ -109,7 +109,7 @@ grown e size start counts block a b before long here = record {
 
 pub untold_next : (e : Endian) (size start : ℕ) (counts now : Counts) (block : List ℕ) (a b c : Option (List ℕ))
     → Untold e size counts a b → length block ≡ size → counts.blocks * size ≡ start
-    → now ≡ block_counted counts (extents e start block) → Appends b c (lines_of counts.blocks (extents e start block))
+    → now ≡ block_counted counts (extents e start block) → Appends b c (lines_of_block counts.blocks (extents e start block))
     → Untold e size now a c
 untold_next e size start counts now block a b c before long here is put =
     let n = counts.blocks in
@@ -143,7 +143,7 @@ untold_count size n image some whole =
 
 -- a beginning of the next block's lines went out
 pub untold_part : (e : Endian) (size start : ℕ) (counts : Counts) (block : List ℕ) (a b c : Option (List ℕ)) → 0 < size
-    → Untold e size counts a b → length block ≡ size → counts.blocks * size ≡ start → PutsPart b c (lines_of counts.blocks (extents e start block))
+    → Untold e size counts a b → length block ≡ size → counts.blocks * size ≡ start → PutsPart b c (lines_of_block counts.blocks (extents e start block))
     → (image : List ℕ) × PutsPart a c (scan_text e size image)
 unfolding scan_text
 untold_part e size start counts block a b c some before long here part =

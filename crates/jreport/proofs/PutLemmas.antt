@@ -16,7 +16,7 @@ use Rattle.jscan.specs.Counts.{is_entry_tile, is_inode_tile, is_found, count_in,
 use Rattle.jscan.specs.declared.counts.Counts.{Counts}
 use Rattle.jscan.specs.declared.extent.ExtentKind.{ExtentKind}
 use Rattle.jline.specs.Forms.{block_line, extent_line}
-use Rattle.jreport.specs.Report.{lines_of, CountsHaveRoom}
+use Rattle.jreport.specs.Report.{lines_of_block, CountsHaveRoom}
 use Rattle.jreport.proofs.ExtentLemmas.{count_in-le}
 
 pub count_by-append : {X : Type 0} (test : X → Bool) (xs ys : List X) → count_by test (xs ++ ys) ≡ count_by test xs + count_by test ys
@@ -85,14 +85,14 @@ lines_more k xs x =
 
 -- a fault at the line of an extent
 pub part_of_lines : (k : ℕ) (all xs rest : List Extent) (x : Extent) (a b c : Option (List ℕ)) → all ≡ (xs ++ x ∷ []) ++ rest
-    → Appends a b (block_line k ++ flat_map extent_line xs) → PutsPart b c (extent_line x) → PutsPart a c (lines_of k all)
+    → Appends a b (block_line k ++ flat_map extent_line xs) → PutsPart b c (extent_line x) → PutsPart a c (lines_of_block k all)
 part_of_lines k all xs rest x a b c split put part =
     let upto = part_behind a b c (block_line k ++ flat_map extent_line xs) (extent_line x) put part in
-    let whole : ((block_line k ++ flat_map extent_line xs) ++ extent_line x) ++ flat_map extent_line rest ≡ lines_of k all =
+    let whole : ((block_line k ++ flat_map extent_line xs) ++ extent_line x) ++ flat_map extent_line rest ≡ lines_of_block k all =
     ap (λ (l : List ℕ). l ++ flat_map extent_line rest) (lines_more k xs x)
     ∙ append_assoc (block_line k) (flat_map extent_line (xs ++ x ∷ [])) (flat_map extent_line rest)
     ∙ ap (λ (l : List ℕ). block_line k ++ l) (sym (flat_map-append extent_line (xs ++ x ∷ []) rest))
-    ∙ ap (lines_of k) (sym split) in
+    ∙ ap (lines_of_block k) (sym split) in
     subst (PutsPart a c) whole (part_before a c _ (flat_map extent_line rest) upto)
 
 -- ---- counts

@@ -25,7 +25,7 @@ use Rattle.jscan.proofs.StreamCounts.{Scanning, IsCounted, scanning_next, scanni
 use Rattle.jscan.proofs.StreamLemmas.{IsAtBlock, IsWhole, block_here}
 use Rattle.jreport.specs.Faults.{fault_of_stream}
 use Rattle.jreport.specs.WholeImage.{OfSomeImage}
-use Rattle.jreport.specs.Report.{scan_text, lines_of, lines_below, block_lines, totals_line}
+use Rattle.jreport.specs.Report.{scan_text, lines_of_block, lines_below, block_lines, totals_line}
 use Rattle.jreport.specs.Stream.{PutsStream}
 use Rattle.jreport.specs.declared.faults.ProgramFault.{ProgramFault}
 use Rattle.jreport.specs.declared.faults.ProgramFault.TheVariants as program
@@ -54,11 +54,11 @@ pub record Ended (e : Endian) (size : ℕ) (counts : Counts) (old new : Option (
 -- ---- the next block of an image
 
 lines_here : (e : Endian) (size start n : ℕ) (image : List ℕ) (rest new : Option (List ℕ)) (block : List ℕ) → n * size ≡ start
-    → IsAtBlock size start image rest → IsNextBlock size start rest new block → lines_of n (extents e start block) ≡ block_lines e size image n
+    → IsAtBlock size start image rest → IsNextBlock size start rest new block → lines_of_block n (extents e start block) ≡ block_lines e size image n
 unfolding block_lines
 lines_here e size start n image rest new block here at next =
-    ap (λ (s : ℕ). lines_of n (extents e s block)) (sym here)
-    ∙ ap (λ (l : List ℕ). lines_of n (extents e (n * size) l)) (block_here size start n image rest new block here at next)
+    ap (λ (s : ℕ). lines_of_block n (extents e s block)) (sym here)
+    ∙ ap (λ (l : List ℕ). lines_of_block n (extents e (n * size) l)) (block_here size start n image rest new block here at next)
 
 -- there is such a block
 inside : (size start n : ℕ) (image : List ℕ) (rest new : Option (List ℕ)) (block : List ℕ) → 0 < size → n * size ≡ start
@@ -149,7 +149,7 @@ module _ {S : Type 0} {o : OfSource S} where
 
   pub streaming_next : (e : Endian) (source : S) (size start : ℕ) (counts now : Counts) (old new : BlockReader S o) (block : List ℕ)
       (a b c : Option (List ℕ)) (n m k : ℕ) → Streaming e source size start counts old a b n m → GivesBlock old new block
-      → now ≡ block_counted counts (extents e start block) → Appends b c (lines_of counts.blocks (extents e start block)) → k ≡ m
+      → now ≡ block_counted counts (extents e start block) → Appends b c (lines_of_block counts.blocks (extents e start block)) → k ≡ m
       → Streaming e source size (start + size) now new a c n k
   streaming_next e source size start counts now old new block a b c n m k before gives is put none =
       record {
@@ -178,7 +178,7 @@ module _ {S : Type 0} {o : OfSource S} where
   -- the sink failed at a block
   pub began_at_block : (e : Endian) (source : S) (size start : ℕ) (counts : Counts) (old new : BlockReader S o) (block : List ℕ)
       (a b c : Option (List ℕ)) (n m : ℕ) → Streaming e source size start counts old a b n m → GivesBlock old new block
-      → PutsPart b c (lines_of counts.blocks (extents e start block)) → IfSome (o.rest source) (λ image. PutsPart a c (scan_text e size image))
+      → PutsPart b c (lines_of_block counts.blocks (extents e start block)) → IfSome (o.rest source) (λ image. PutsPart a c (scan_text e size image))
   unfolding scan_text
   began_at_block e source size start counts old new block a b c n m before gives part = known (o.rest source) before.scanning.known before.put
     where
@@ -327,7 +327,7 @@ module _ {S : Type 0} {o : OfSource S} where
   pub block_failed : (e : Endian) (source : S) (size start : ℕ) (counts : Counts) (old new : BlockReader S o) (block : List ℕ)
       (a b c : Option (List ℕ)) (before mid now : ℕ) (r : Result ℕ ProgramFault) → IsErrAnd r (λ x. x ≡ program.Output)
       → Streaming e source size start counts old a b before mid → GivesBlock old new block
-      → PutsPart b c (lines_of counts.blocks (extents e start block)) → now ≡ next_count mid
+      → PutsPart b c (lines_of_block counts.blocks (extents e start block)) → now ≡ next_count mid
       → OfSomeImage (o.rest source) (λ image. PutsStream e size image a c before now r)
   block_failed e source size start counts old new block a b c before mid now (Ok x) is so_far gives part failed = absurd is
   block_failed e source size start counts old new block a b c before mid now (Err x) is so_far gives part failed =

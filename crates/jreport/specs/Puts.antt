@@ -14,12 +14,12 @@ use Rattle.jreport.specs.Report.{scan_text, count_in_image}
 
 -- The fault that fits the image: its block size comes first, and then its length. A report meets no other fault of
 -- a scan than out of memory.
-abbrev pub IsFaultOf : ℕ → List ℕ → ScanFault → Type 0
-IsFaultOf size image scan.BlockSize = is_block_size size ≡ false
-IsFaultOf size image scan.TooLarge = IsTrue (is_block_size size) × (greatest_image < length image)
-IsFaultOf size image scan.OutOfMemory = IsScannable size image
-IsFaultOf size image (scan.Incompatible addr nodetype) = ⊥
-IsFaultOf size image (scan.Compressed addr compr) = ⊥
+abbrev pub IsScanFaultOf : ℕ → List ℕ → ScanFault → Type 0
+IsScanFaultOf size image scan.BlockSize = is_block_size size ≡ false
+IsScanFaultOf size image scan.TooLarge = IsTrue (is_block_size size) × (greatest_image < length image)
+IsScanFaultOf size image scan.OutOfMemory = IsScannable size image
+IsScanFaultOf size image (scan.Incompatible addr nodetype) = ⊥
+IsScanFaultOf size image (scan.Compressed addr compr) = ⊥
 
 -- A report puts its whole text and answers the number of findings; at a fault a beginning of the text went out. An
 -- image that can't be scanned is refused before anything is put. No memory is taken.
@@ -30,4 +30,4 @@ PutsReport e size image old new before now (Ok findings) =
 PutsReport e size image old new before now (Err Output) =
     IsScannable size image × PutsPart old new (scan_text e size image) × (now ≡ next_count before)
 PutsReport e size image old new before now (Err (Scan scan.OutOfMemory)) = ⊥
-PutsReport e size image old new before now (Err (Scan fault)) = IsFaultOf size image fault × (new ≡ old) × (now ≡ before)
+PutsReport e size image old new before now (Err (Scan fault)) = IsScanFaultOf size image fault × (new ≡ old) × (now ≡ before)

@@ -26,11 +26,11 @@ abbrev pub count_in_image : (ExtentKind → Bool) → Endian → ℕ → List �
 count_in_image test e size image = count_in test (extents_below e size image (block_count size image))
 
 -- the lines of block k, which has these extents
-abbrev pub lines_of : ℕ → List Extent → List ℕ
-lines_of k ss = block_line k ++ flat_map extent_line ss
+abbrev pub lines_of_block : ℕ → List Extent → List ℕ
+lines_of_block k ss = block_line k ++ flat_map extent_line ss
 
 unfoldable pub block_lines : Endian → ℕ → List ℕ → ℕ → List ℕ
-block_lines e size image k = lines_of k (extents_of_block e size image k)
+block_lines e size image k = lines_of_block k (extents_of_block e size image k)
 
 -- the lines of the first n blocks
 abbrev pub lines_below : Endian → ℕ → List ℕ → ℕ → List ℕ

@@ -54,11 +54,11 @@ abbrev pub unmet : State → Met → ℕ
 unmet s met = count_by (λ e. not (met e.0.0)) (entries s.names)
 
 -- the names that the walk has not read, those of directories that it may meet among them
-abbrev pub names_left : State → Walk → ℕ
-names_left s w = unmet s (met_of w.met) + length w.left + sum_by (λ left. length left) w.above.items
+abbrev pub listing_names_left : State → Walk → ℕ
+listing_names_left s w = unmet s (met_of w.met) + length w.left + sum_by (λ left. length left) w.above.items
 
 abbrev pub steps_left : State → Walk → ℕ
-steps_left s w = 2 * names_left s w + length w.above.items
+steps_left s w = 2 * listing_names_left s w + length w.above.items
 
 -- ---- a step
 

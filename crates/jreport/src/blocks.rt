@@ -7,7 +7,7 @@ ghost use Rattle.jscan.specs.Extents.{extents};
 ghost use Rattle.jscan.specs.PartialScans.{HasScanned};
 ghost use Rattle.jscan.specs.declared.extent.Extent.{Extent};
 ghost use Rattle.jline.specs.Forms.{extent_line, shown_name};
-ghost use Rattle.jreport.specs.Report.{lines_of, totals_line, CountsHaveRoom};
+ghost use Rattle.jreport.specs.Report.{lines_of_block, totals_line, CountsHaveRoom};
 
 use flashbase::{DeviceFault, Part, Sink};
 use jline::{LineBuffer, put_text, write_block, write_extent, write_total};
@@ -69,7 +69,7 @@ pub fn put_part<'a, E: Order, T: Sink>(
     requires addressed { start + length block < 2 ^ 32 }
     requires room { CountsHaveRoom counts.old (length block + 1) }
     ensures puts { Puts (T.taken sink.old) (T.taken sink.new) (T.failures sink.old) (T.failures sink.new)
-        (lines_of counts.old.blocks (extents E.order start block.entry)) result }
+        (lines_of_block counts.old.blocks (extents E.order start block.entry)) result }
     ensures counts { OnOk result (counts.new ≡ block_counted counts.old (extents E.order start block.entry)) }
     ensures scan { (before : List Extent) → IfSome partial.old (HasScanned before)
         → OnOk result (IfSome partial.new (HasScanned (before ++ extents E.order start block.entry))) }
@@ -96,7 +96,7 @@ pub fn put_block<E: Order, T: Sink>(
     requires addressed { start + length block.now < 2 ^ 32 }
     requires room { CountsHaveRoom counts.old (length block.now + 1) }
     ensures puts { Puts (T.taken sink.old) (T.taken sink.new) (T.failures sink.old) (T.failures sink.new)
-        (lines_of counts.old.blocks (extents E.order start block.now)) result }
+        (lines_of_block counts.old.blocks (extents E.order start block.now)) result }
     ensures counts { OnOk result (counts.new ≡ block_counted counts.old (extents E.order start block.now)) }
 {
     put_part::<E, T>(sink, start, whole(block), counts, &mut None)

@@ -8,7 +8,7 @@ ghost use Rattle.jscan.specs.PartialScans.{HasScanned};
 ghost use Rattle.jscan.specs.Scans.{image_extents};
 ghost use Rattle.jreport.specs.Report.{scan_text, lines_below, block_lines, count_in_image};
 ghost use Rattle.jscan.specs.Scans.{IsScannable};
-ghost use Rattle.jreport.specs.Puts.{IsFaultOf, PutsReport};
+ghost use Rattle.jreport.specs.Puts.{IsScanFaultOf, PutsReport};
 
 use crate::blocks::{nothing, put_part, put_total};
 use crate::report_fault::ReportFault;
@@ -121,7 +121,7 @@ pub fn scan_lines<E: Order>(
     ensures limits { OnOk result (IsScannable geometry.block image.now) }
     ensures text { IfOk result (λ lines. lines.text.items ≡ scan_text E.order geometry.block image.now) }
     ensures findings { IfOk result (λ lines. lines.findings ≡ count_in_image is_found E.order geometry.block image.now) }
-    ensures fault { IfErr result (IsFaultOf geometry.block image.now) }
+    ensures fault { IfErr result (IsScanFaultOf geometry.block image.now) }
 {
     let mut sink = FromWriter::new(Vec::new(alloc));
     match put_report::<E, FromWriter<Vec<u8>>>(image, geometry, &mut sink) {

@@ -27,7 +27,7 @@ use Rattle.jsteps.specs.Steps.{renamed, rewritten, with_body, with_attributes, r
 use Rattle.jsteps.specs.Nodes.{Indexed, index_by, no_object, object_at, advanced}
 use Rattle.jsteps.specs.Ready.{IsReady, HasRoom}
 use Rattle.jsteps.specs.Laws as law
-use Rattle.jsteps.specs.Laws.{AttributesFit, GivenFit, IsConsistent}
+use Rattle.jsteps.specs.Laws.{OutlineObjectFits, GivenFit, IsConsistent}
 use Rattle.jsteps.specs.declared.op.Attributes.{Attributes}
 use Rattle.jsteps.specs.declared.step.Step.{Step}
 use Rattle.jsteps.specs.declared.step.Step.TheVariants as step
@@ -54,7 +54,7 @@ sized_from : (o : Option (ObjectOf (List ℕ))) (p : ObjectOf ℕ) → option_ma
 sized_from None p e = absurd (false≢true (ap is_some e))
 sized_from (Some q) p e = (q, refl, same_Some (sized q) p e)
 
-attributes_fit : (o : ObjectOf (List ℕ)) → ObjectFits o → AttributesFit (sized o)
+attributes_fit : (o : ObjectOf (List ℕ)) → ObjectFits o → OutlineObjectFits (sized o)
 attributes_fit o fits = record { mode = fits.mode; uid = fits.uid; gid = fits.gid; atime = fits.atime; size = fits.size }
 
 pub index_is_consistent : law.IndexIsConsistent
@@ -66,7 +66,7 @@ index_is_consistent ns fits root =
       numbered = λ i p e. let found = sized_from (object s i) p (sym (object-outline s i) ∙ e) in (state_is_numbered ns).objects i found.0 found.1;
       fits = λ i p e.
           let found = sized_from (object s i) p (sym (object-outline s i) ∙ e) in
-          subst AttributesFit found.2
+          subst OutlineObjectFits found.2
           (attributes_fit found.0 (objects_fit (inodes ns) i found.0 (λ node there. fits (Inode node) (of_inodes ns node there)) (sym (object-state_of ns i) ∙ found.1)));
       linked = λ dir name i e. (state_is_numbered ns).linked dir name i e;
       directories = λ dir name i e. (state_is_numbered ns).directories dir name i e;
@@ -94,7 +94,7 @@ bits_either bits false v o h old = old
 pub tied : (i j : ℕ) → eq_by_cmp nat_cmp i j ≡ true → i ≡ j
 tied i j h = eqb-true i j (sym (unsigned_tied i j) ∙ h)
 
-insert_keeps : (x : Indexed) (ino : ℕ) (o : ObjectOf ℕ) (next : ℕ) (tops : FinMap nat_cmp ℕ) → IsConsistent x → ino < next → x.tree.next ≤ next → next ≤ 2 ^ 32 → AttributesFit o
+insert_keeps : (x : Indexed) (ino : ℕ) (o : ObjectOf ℕ) (next : ℕ) (tops : FinMap nat_cmp ℕ) → IsConsistent x → ino < next → x.tree.next ≤ next → next ≤ 2 ^ 32 → OutlineObjectFits o
     → (1 ≡ ino → has_bits directory_bits (Some o) ≡ true)
     → IsConsistent (record { tree = record { objects = insert x.tree.objects ino o; names = x.tree.names; next = next }; tops = tops })
 insert_keeps x ino o next tops same below more within fits root = record {
@@ -108,7 +108,7 @@ insert_keeps x ino o next tops same below more within fits root = record {
       (cond_some_cases (eq_by_cmp nat_cmp i ino) o (get x.tree.objects i) p (sym (get-insert nat_cmp_total x.tree.objects ino o i) ∙ e));
   fits = λ i p e.
       ⊎_elim
-      (λ (here : (eq_by_cmp nat_cmp i ino ≡ true) × (o ≡ p)). subst AttributesFit here.1 fits)
+      (λ (here : (eq_by_cmp nat_cmp i ino ≡ true) × (o ≡ p)). subst OutlineObjectFits here.1 fits)
       (λ old. same.fits i p old)
       (cond_some_cases (eq_by_cmp nat_cmp i ino) o (get x.tree.objects i) p (sym (get-insert nat_cmp_total x.tree.objects ino o i) ∙ e));
   linked = λ dir name i e. let h = same.linked dir name i e in (h.0, omega arith);

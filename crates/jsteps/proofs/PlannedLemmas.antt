@@ -13,7 +13,7 @@ use Rattle.jsteps.specs.Nodes.{Indexed, nodes_of}
 use Rattle.jsteps.specs.Planning.{steps_of, make_steps}
 use Rattle.jsteps.specs.Refusals.{paths, has_bad_path, is_bad_path, is_long, meets_nothing, meets_other, is_exhausted, is_past, is_bad_target, planned_by}
 use Rattle.jsteps.specs.Site.{IsSiteOf}
-use Rattle.jsteps.specs.Tests.{GivesPlan, listed, first_of, made_plan, full_by, spent_by, into_itself_at, tests_of, plan_from, made_tests, removed_tests, named_tests, unnamed_at}
+use Rattle.jsteps.specs.Tests.{GivesPlan, listed, first_refusal, made_plan, full_by, spent_by, into_itself_at, tests_of, plan_from, made_tests, removed_tests, named_tests, unnamed_at}
 use Rattle.jsteps.specs.Where.{above, number_there, number_or_none, parent, last_name, number_or_zero, object_named}
 use Rattle.jsteps.specs.declared.fault.OpFault.{OpFault}
 use Rattle.jsteps.specs.declared.fault.OpFault.TheVariants as refused
@@ -83,17 +83,17 @@ pub record IsFrom (plan : Result (List Step) OpFault) (tests : Tests) (spent : B
   pub is : plan ≡ plan_from false tests spent steps
 
 pub answer_refused : {plan : Result (List Step) OpFault} {tests : Tests} {spent : Bool} {steps : List Step} → IsFrom plan tests spent steps → (found : Tests) (r : Option OpFault) (f : OpFault)
-    → found ≡ tests → r ≡ first_of (listed found) → r ≡ Some f → plan ≡ Err f
-answer_refused {plan} {tests} {spent} {steps} from found r f same is e = from.is ∙ from_refused false tests spent steps f refl (ap (λ t. first_of (listed t)) (sym same) ∙ sym is ∙ e)
+    → found ≡ tests → r ≡ first_refusal (listed found) → r ≡ Some f → plan ≡ Err f
+answer_refused {plan} {tests} {spent} {steps} from found r f same is e = from.is ∙ from_refused false tests spent steps f refl (ap (λ t. first_refusal (listed t)) (sym same) ∙ sym is ∙ e)
 
 pub answer_spent : {plan : Result (List Step) OpFault} {tests : Tests} {spent : Bool} {steps : List Step} → IsFrom plan tests spent steps → (found : Tests) (r : Option OpFault) (b : Bool)
-    → found ≡ tests → r ≡ first_of (listed found) → r ≡ None → b ≡ spent → b ≡ true → plan ≡ Err refused.Exhausted
-answer_spent {plan} {tests} {spent} {steps} from found r b same is e b_is is_b = from.is ∙ from_spent false tests spent steps refl (ap (λ t. first_of (listed t)) (sym same) ∙ sym is ∙ e) (sym b_is ∙ is_b)
+    → found ≡ tests → r ≡ first_refusal (listed found) → r ≡ None → b ≡ spent → b ≡ true → plan ≡ Err refused.Exhausted
+answer_spent {plan} {tests} {spent} {steps} from found r b same is e b_is is_b = from.is ∙ from_spent false tests spent steps refl (ap (λ t. first_refusal (listed t)) (sym same) ∙ sym is ∙ e) (sym b_is ∙ is_b)
 
 pub answer_none : {plan : Result (List Step) OpFault} {tests : Tests} {spent : Bool} {steps : List Step} → IsFrom plan tests spent steps → (found : Tests) (r : Option OpFault) (b : Bool) (items : List Step)
-    → found ≡ tests → r ≡ first_of (listed found) → r ≡ None → b ≡ spent → b ≡ false → items ≡ steps → plan ≡ Ok items
+    → found ≡ tests → r ≡ first_refusal (listed found) → r ≡ None → b ≡ spent → b ≡ false → items ≡ steps → plan ≡ Ok items
 answer_none {plan} {tests} {spent} {steps} from found r b items same is e b_is is_b are =
-    from.is ∙ from_none false tests spent steps refl (ap (λ t. first_of (listed t)) (sym same) ∙ sym is ∙ e) (sym b_is ∙ is_b) ∙ ap Ok (sym are)
+    from.is ∙ from_none false tests spent steps refl (ap (λ t. first_refusal (listed t)) (sym same) ∙ sym is ∙ e) (sym b_is ∙ is_b) ∙ ap Ok (sym are)
 
 pub bad_plan : (page : ℕ) (x : Indexed) (o : Op) → has_bad_path o ≡ true → planned_by page x o ≡ Err refused.BadPath
 bad_plan page x o e = planned_from page x o ∙ from_bad (has_bad_path o) (tests_of x.tree o) (is_exhausted page x o) (steps_of page x.tree o) e

@@ -9,7 +9,7 @@ use Rattle.jmount.specs.Tree.{Outline}
 use Rattle.jmount.specs.declared.fault.FindFault.{FindFault}
 use Rattle.jsteps.specs.Site.{IsSite, IsSiteOf}
 use Rattle.jsteps.specs.Refusals.{is_bad_path}
-use Rattle.jsteps.specs.Where.{all_but_last, last_of, named_there, names_in, names_above}
+use Rattle.jsteps.specs.Where.{all_but_last, last_of, named_there, names_on_path, names_above}
 use Rattle.jsteps.specs.declared.site.Site.{Site}
 
 pub all_but_last-push : (xs : List (List ℕ)) (x : List ℕ) → all_but_last (xs ++ x ∷ []) ≡ xs
@@ -48,7 +48,7 @@ not_empty (x ∷ xs) h = ne_eqb (length (x ∷ xs)) 0 (λ z. omega arith)
 
 pub site_of_path : (t : Outline) (path : List ℕ) (names : List (List ℕ)) (site : Site) → path_names path ≡ Some names → IsSite t names site → IsSiteOf t path site
 site_of_path t path names site is has =
-    let same : names_in path ≡ names = ap (λ (o : Option (List (List ℕ))). unwrap_or o []) is in
+    let same : names_on_path path ≡ names = ap (λ (o : Option (List (List ℕ))). unwrap_or o []) is in
     record {
       long = has.long ∙ ap (list_any (λ (name : List ℕ). nat_lt 254 (length name))) (sym same);
       good = ap (λ (ns : List (List ℕ)). length ns == 0) same ∙ not_empty names has.some;

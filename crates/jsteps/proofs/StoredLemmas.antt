@@ -24,7 +24,7 @@ use Rattle.jmount.specs.Tree.{object, type_bits, has_bits, directory_bits}
 use Rattle.jmount.specs.Shown.{shown_outline}
 use Rattle.jmount.proofs.StoredLemmas.{lookup-no_key}
 use Rattle.jsteps.specs.Nodes.{Indexed}
-use Rattle.jsteps.specs.Stored.{stored_outline, Objects, OwnedName, Directories, names_in, is_without_names, ino_in, ino_at, keys_under, stored_index}
+use Rattle.jsteps.specs.Stored.{stored_outline, Objects, OwnedName, Directories, index_names, is_without_names, ino_in, ino_at, keys_under, stored_index}
 use Rattle.jsteps.specs.declared.directories.Names.{Names}
 use Rattle.jsteps.specs.declared.stored.Stored.{Stored}
 
@@ -61,7 +61,7 @@ none_at q (e ∷ es) none =
     let parts = or_parts (list_any (eq_by_cmp key_cmp q) (keys_under e)) (list_any (eq_by_cmp key_cmp q) (flat_map keys_under es))
     (sym (list_any-append (eq_by_cmp key_cmp q) (keys_under e) (flat_map keys_under es)) ∙ none) in
     found_under q (eq_by_cmp nat_cmp q.0 e.0) e.1 (lookup (eq_by_cmp nat_cmp q.0) es)
-    (λ tied. none_in q e.0 (names_in e.1) tied parts.0)
+    (λ tied. none_in q e.0 (index_names e.1) tied parts.0)
     (none_at q es parts.1)
 
 -- ---- what the index has at each number and name
@@ -123,7 +123,7 @@ both_true false false f g = refl
 
 some_kept : (names : Option Names) (name : List ℕ) (v : ℕ) → option_and_then (λ names. ino_in names name) names ≡ Some v → unwrap_or (option_map (λ names. not (is_without_names names)) names) false ≡ true
 some_kept None name v e = absurd (true≢false (sym (ap is_some e)))
-some_kept (Some names) name v e = by_entries (names_in names) (λ (es : List (OwnedName × ℕ)). lookup (λ (k : OwnedName). is_eq (slice_cmp nat_cmp name k.items)) es) refl e
+some_kept (Some names) name v e = by_entries (index_names names) (λ (es : List (OwnedName × ℕ)). lookup (λ (k : OwnedName). is_eq (slice_cmp nat_cmp name k.items)) es) refl e
   where
     by_entries : (es : List (OwnedName × ℕ)) (f : List (OwnedName × ℕ) → Option ℕ) → f [] ≡ None → f es ≡ Some v → not (length es == 0) ≡ true
     by_entries [] f none e = absurd (true≢false (sym (ap is_some (sym none ∙ e))))
@@ -137,9 +137,9 @@ first_found n v es =
 kept_name : (names : Option Names) → unwrap_or (option_map (λ names. not (is_without_names names)) names) false ≡ true
     → (name : List ℕ) × (v : ℕ) × (option_and_then (λ names. ino_in names name) names ≡ Some v)
 kept_name None h = absurd (true≢false (sym h))
-kept_name (Some names) h = by_entries (names_in names) refl h
+kept_name (Some names) h = by_entries (index_names names) refl h
   where
-    by_entries : (es : List (OwnedName × ℕ)) → names_in names ≡ es → not (length es == 0) ≡ true → (name : List ℕ) × (v : ℕ) × (ino_in names name ≡ Some v)
+    by_entries : (es : List (OwnedName × ℕ)) → index_names names ≡ es → not (length es == 0) ≡ true → (name : List ℕ) × (v : ℕ) × (ino_in names name ≡ Some v)
     by_entries [] e h = absurd (true≢false (sym h))
     by_entries (x ∷ es) e h = (x.0.items, x.1, ap (lookup (λ (k : OwnedName). is_eq (slice_cmp nat_cmp x.0.items k.items))) e ∙ first_found x.0 x.1 es)
 

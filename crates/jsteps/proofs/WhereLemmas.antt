@@ -14,7 +14,7 @@ use Rattle.jmount.proofs.PathNameLemmas.{path_names_exactly}
 use Rattle.jsteps.specs.Nodes.{Indexed}
 use Rattle.jsteps.specs.Laws.{IsConsistent}
 use Rattle.jsteps.specs.Refusals.{is_bad_path, is_long, meets_nothing, meets_other}
-use Rattle.jsteps.specs.Where.{last_of, names_in, names_above, last_name, above, number_or_none, parent, ends_in_directory, named_there, number_there, number_or_zero, object_named, is_missing, number_reached, object_reached, is_unreached, met}
+use Rattle.jsteps.specs.Where.{last_of, names_on_path, names_above, last_name, above, number_or_none, parent, ends_in_directory, named_there, number_there, number_or_zero, object_named, is_missing, number_reached, object_reached, is_unreached, met}
 use Rattle.jsteps.proofs.IndexLemmas.{with_some}
 
 -- ---- names
@@ -50,7 +50,7 @@ some_length : {X : Type 0} (xs : List X) → (length xs == 0) ≡ false → 0 < 
 some_length [] h = absurd (true≢false h)
 some_length (x ∷ xs) h = omega arith
 
-all_names : (path : List ℕ) → All (λ name. IsTrue (is_name name)) (names_in path)
+all_names : (path : List ℕ) → All (λ name. IsTrue (is_name name)) (names_on_path path)
 all_names path = at_most (path_names path) refl
   where
     at_most : (o : Option (List (List ℕ))) → path_names path ≡ o → All (λ name. IsTrue (is_name name)) (unwrap_or o [])
@@ -59,8 +59,8 @@ all_names path = at_most (path_names path) refl
 
 pub last_name_length : (path : List ℕ) → is_bad_path path ≡ false → is_long path ≡ false → HasLength (last_name path)
 last_name_length path bad long =
-    let some : 0 < length (names_in path) = some_length (names_in path) bad in
-    record { some = last_is_name (names_in path) some (all_names path); most = last_is_short (names_in path) some long }
+    let some : 0 < length (names_on_path path) = some_length (names_on_path path) bad in
+    record { some = last_is_name (names_on_path path) some (all_names path); most = last_is_short (names_on_path path) some long }
 
 -- ---- the walk
 
@@ -166,7 +166,7 @@ reached_by x path same false there = let is = target_is x path same there in (is
 
 pub reached_is : (x : Indexed) (path : List ℕ) → IsConsistent x → ends_in_directory x.tree (above x.tree path) ≡ true → is_unreached x.tree path ≡ false → IsReachedObject x path
 reached_is x path same directory h =
-    let both = reached_by x path same (length (names_in path) == 0) (by_both (ends_in_directory x.tree (above x.tree path)) (is_some (object_reached x.tree path)) directory h) in
+    let both = reached_by x path same (length (names_on_path path) == 0) (by_both (ends_in_directory x.tree (above x.tree path)) (is_some (object_reached x.tree path)) directory h) in
     record { positive = both.0; there = both.1 }
 
 -- ---- the walk over names that are borrowed

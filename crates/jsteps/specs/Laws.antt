@@ -69,7 +69,7 @@ FirstStepsAreReady = (x : Indexed) (steps : List Step) (m : ℕ) → AllReady x 
 -- ---- what an index holds
 
 -- what is kept of an object that is written again
-pub record AttributesFit (o : ObjectOf ℕ) : Type 0 where
+pub record OutlineObjectFits (o : ObjectOf ℕ) : Type 0 where
   pub mode : IsWord o.mode
   pub uid : IsHalf o.uid
   pub gid : IsHalf o.gid
@@ -82,7 +82,7 @@ pub record IsConsistent (x : Indexed) : Type 0 where
   pub root : IsTrue (is_directory x.tree 1)
   pub next : x.tree.next ≤ 2 ^ 32
   pub numbered : (i : ℕ) (o : ObjectOf ℕ) → object x.tree i ≡ Some o → i < x.tree.next
-  pub fits : (i : ℕ) (o : ObjectOf ℕ) → object x.tree i ≡ Some o → AttributesFit o
+  pub fits : (i : ℕ) (o : ObjectOf ℕ) → object x.tree i ≡ Some o → OutlineObjectFits o
   pub linked : (dir : ℕ) (name : List ℕ) (i : ℕ) → named x.tree dir name ≡ Some i → (0 < i) × (i < x.tree.next)
   pub directories : (dir : ℕ) (name : List ℕ) (i : ℕ) → named x.tree dir name ≡ Some i → dir < x.tree.next
 

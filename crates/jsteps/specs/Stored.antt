@@ -36,29 +36,29 @@ abbrev pub Directories : Type 0
 Directories = BTreeMap ℕ Names
 
 -- the names of a directory: the one that is apart, and the others
-abbrev pub names_in : Names → List (OwnedName × ℕ)
-names_in names = cons_option names.apart names.others.entries
+abbrev pub index_names : Names → List (OwnedName × ℕ)
+index_names names = cons_option names.apart names.others.entries
 
 -- the number that a name stands for
 abbrev pub ino_among : List (OwnedName × ℕ) → List ℕ → Option ℕ
 ino_among entries name = lookup (λ k. is_eq (slice_cmp nat_cmp name k.items)) entries
 
 abbrev pub ino_in : Names → List ℕ → Option ℕ
-ino_in names name = ino_among (names_in names) name
+ino_in names name = ino_among (index_names names) name
 
 abbrev pub ino_at : Directories → Key → Option ℕ
 ino_at directories key = option_and_then (λ names. ino_in names key.1) (get nat_cmp directories key.0)
 
 -- whether there are no names, and whether a name is apart
 abbrev pub is_without_names : Names → Bool
-is_without_names names = length (names_in names) == 0
+is_without_names names = length (index_names names) == 0
 
 abbrev pub stands_apart : Names → List ℕ → Bool
 stands_apart names name = unwrap_or (option_map (λ e. bytes_eq e.0.items name) names.apart) false
 
 -- all names that are kept, each with its directory's number
 abbrev pub keys_under : ℕ × Names → List Key
-keys_under e = map (λ n. (e.0, n.0.items)) (names_in e.1)
+keys_under e = map (λ n. (e.0, n.0.items)) (index_names e.1)
 
 -- what is kept, as callers see it
 unfoldable pub stored_index : Objects → Directories → ℕ → Indexed

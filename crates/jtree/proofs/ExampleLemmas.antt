@@ -7,16 +7,16 @@ use Rattle.std.specs.declared.alloc.Global.{Global}
 use Rattle.std.specs.declared.string.String.{String}
 use Rattle.std.proofs.lemmas.List.Elements.{All-nil, All-cons, All-contains, Contains-append_left, Contains-push}
 use Rattle.jmount.specs.Find.{IsPath, is_name, path_text}
-use Rattle.jfolder.specs.Actions.{AttributesFit, Fits, IsFileWord, IsRooted, ItemFits}
+use Rattle.jfolder.specs.Actions.{AttributesFit, FitsListing, IsFileWord, IsRooted, ItemFits}
 use Rattle.jfolder.specs.Trees.{IsTree, MayFollow}
 use Rattle.jfolder.specs.declared.tree.Item.{Item}
 use Rattle.jfolder.specs.declared.tree.Content.TheVariants as content
 use Rattle.jfolder.specs.declared.tree.What.{What}
 use Rattle.jfolder.specs.declared.tree.What.TheVariants as what
-use Rattle.jtree.specs.Making.{bytes_of}
-use Rattle.jtree.specs.Examples.{AreTexts, SmallIsMade, Texts, each_file, plain, small}
+use Rattle.jtree.specs.Making.{bytes_of_what}
+use Rattle.jtree.specs.Examples.{AreTexts, SmallIsMade, Texts, each_file, plain_attributes, small_items}
 
-plain_fits : AttributesFit plain
+plain_fits : AttributesFit plain_attributes
 plain_fits = record { mode = omega arith; uid = omega arith; gid = omega arith; time = omega arith }
 
 rooted : (text : List ℕ) (rest : List ℕ) → text ≡ 47 ∷ rest → IsRooted text
@@ -28,12 +28,12 @@ no_item x (k, less, e) = absurd (omega arith)
 -- each path of the small tree
 
 abbrev item : String Global → What → Item
-item path w = record { path = path; attributes = plain; what = w }
+item path w = record { path = path; attributes = plain_attributes; what = w }
 
 no_byte : (text : List ℕ) (b c : ℕ) → text ≡ b ∷ [] → b ≢ c → All (λ b. b ≢ c) text
 no_byte text b c e other = subst (All (λ b. b ≢ c)) (sym e) (All-cons (λ b. b ≢ c) b [] other (All-nil (λ b. b ≢ c)))
 
-small_fits : (t : Texts) → AreTexts t → Fits plain (small t)
+small_fits : (t : Texts) → AreTexts t → FitsListing plain_attributes (small_items t)
 small_fits t are =
     let one : length (string_bytes t.source) ≡ 1 = ap (λ (xs : List ℕ). length xs) are.source in
     let d = item t.directory what.Directory in
@@ -85,7 +85,7 @@ other_byte k a b x y is_x is_y apart e = apart (ap (λ (xs : List ℕ). get_or x
 abbrev IsOther : String Global → Item → Type 0
 IsOther text o = string_bytes o.path ≢ string_bytes text
 
-small_tree : (t : Texts) → AreTexts t → IsTree (small t)
+small_tree : (t : Texts) → AreTexts t → IsTree (small_items t)
 small_tree t are =
     let one : length (string_bytes t.source) ≡ 1 = ap (λ (xs : List ℕ). length xs) are.source in
     let d = item t.directory what.Directory in
@@ -154,7 +154,7 @@ small_tree t are =
     (first, (second, (third, (fourth, tt))))
 
 abbrev IsShort : Item → Type 0
-IsShort i = length (bytes_of each_file i.what) < 2 ^ 31
+IsShort i = length (bytes_of_what each_file i.what) < 2 ^ 31
 
 pub small_is_made : SmallIsMade
 small_is_made t are =

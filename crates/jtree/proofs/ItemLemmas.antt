@@ -9,23 +9,23 @@ use Rattle.jmount.specs.Tree.{ObjectOf, State, named, is_directory, has_bits, di
 use Rattle.jmount.specs.Find.{IsPath, path_text, is_name, walk}
 use Rattle.jmount.proofs.ShapePathLemmas.{one_path_to_each}
 use Rattle.jsteps.specs.Nodes.{Indexed}
-use Rattle.jsteps.specs.Where.{names_in}
+use Rattle.jsteps.specs.Where.{names_on_path}
 use Rattle.jfolder.specs.Actions.{ItemFits}
 use Rattle.jfolder.specs.Trees.{HasDirectory, MayFollow}
 use Rattle.jfolder.specs.declared.tree.Item.{Item}
 use Rattle.jfolder.specs.declared.tree.What.TheVariants as what
 use Rattle.jtree.specs.Making.{Files}
-use Rattle.jtree.specs.Holding.{first_path, first_of, object_of}
+use Rattle.jtree.specs.Holding.{first_path, first_path_of, object_of_what}
 use Rattle.jtree.proofs.CountLemmas.{not_above}
 use Rattle.jtree.proofs.WayLemmas.{IsPlaced, has_long, long_push, path_is, placed}
 use Rattle.jtree.proofs.StandLemmas.{Made, Stands}
 use Rattle.jtree.proofs.RunLemmas.{IsAt, at_walk, at_directory}
 
 abbrev pub names_of : Item → List (List ℕ)
-names_of i = names_in (string_bytes i.path)
+names_of i = names_on_path (string_bytes i.path)
 
 abbrev pub made_of : Files → Item → Made
-made_of files i = record { names = names_of i; origin = names_in (first_of i); object_is = object_of files i.attributes i.what }
+made_of files i = record { names = names_of i; origin = names_on_path (first_path_of i); object_is = object_of_what files i.attributes i.what }
 
 -- what is known of an item that stands
 pub record IsKnown (j : Item) : Type 0 where
@@ -34,7 +34,7 @@ pub record IsKnown (j : Item) : Type 0 where
   pub name : List ℕ
   pub last : names_of j ≡ way ++ name ∷ []
   pub path : IsPath (string_bytes j.path) (names_of j)
-  pub origin : IsPath (first_of j) (names_in (first_of j))
+  pub origin : IsPath (first_path_of j) (names_on_path (first_path_of j))
 
 pub record IsBuilt (files : Files) (root : ObjectOf (List ℕ)) (before : List Item) (n : ℕ) (x : Indexed) (s : State) : Type 0 where
   pub is_at : IsAt n x s
@@ -43,7 +43,7 @@ pub record IsBuilt (files : Files) (root : ObjectOf (List ℕ)) (before : List I
 
 -- ---- lists
 
-pub names_are : (path : List ℕ) (names : List (List ℕ)) → IsPath path names → names_in path ≡ names
+pub names_are : (path : List ℕ) (names : List (List ℕ)) → IsPath path names → names_on_path path ≡ names
 names_are path names is = ap (λ (o : Option (List (List ℕ))). unwrap_or o []) (path_is path names is)
 
 pub Contains-mapped : {X Y : Type 0} (f : X → Y) (xs : List X) (x : X) → Contains xs x → Contains (map f xs) (f x)
@@ -87,12 +87,12 @@ way_of files root before n x s way built all has =
     let m = made_of files i in
     let h = built.stands.held m (Contains-mapped (made_of files) before i p.1) in
     let names : names_of i ≡ way = names_are (string_bytes i.path) way (p.2, all) in
-    let origin : m.names ≡ m.origin = ap (λ w. names_in (first_path (string_bytes i.path) w)) (sym p.3) in
+    let origin : m.names ≡ m.origin = ap (λ w. names_on_path (first_path (string_bytes i.path) w)) (sym p.3) in
     let mode : i.attributes.mode ≤ 0o7777 = (built.known i p.1).fits.attributes.mode in
     record {
       dir = h.number;
       leads = ap (λ ns. walk s ns (Ok 1)) (sym names) ∙ h.leads;
-      directory = ap (has_bits directory_bits) (h.there origin ∙ ap (λ w. Some (object_of files i.attributes w)) p.3) ∙ directory_mode i.attributes.mode mode;
+      directory = ap (has_bits directory_bits) (h.there origin ∙ ap (λ w. Some (object_of_what files i.attributes w)) p.3) ∙ directory_mode i.attributes.mode mode;
       short = ap has_long (sym names) ∙ h.short;
     })
     has

@@ -8,7 +8,7 @@ use Rattle.jmount.specs.Tree.{ObjectOf, State, type_bits, regular_bits, director
 use Rattle.jsteps.specs.Nodes.{Indexed}
 use Rattle.jsteps.specs.Planning.{IsPage}
 use Rattle.jsteps.specs.Steps.{bytes, after}
-use Rattle.jsteps.specs.Where.{names_in}
+use Rattle.jsteps.specs.Where.{names_on_path}
 use Rattle.jsteps.specs.declared.op.Op.TheVariants as op
 use Rattle.jfolder.specs.Actions.{AttributesFit, content_actions, object_actions}
 use Rattle.jfolder.specs.Trees.{HasTarget, IsRegular, LinksBack}
@@ -17,8 +17,8 @@ use Rattle.jfolder.specs.declared.tree.Content.{Content}
 use Rattle.jfolder.specs.declared.tree.Item.{Item}
 use Rattle.jfolder.specs.declared.tree.What.{What}
 use Rattle.jfolder.specs.declared.tree.What.TheVariants as what
-use Rattle.jtree.specs.Making.{Files, bytes_of, content_bytes, ops_with}
-use Rattle.jtree.specs.Holding.{first_path, object_of, object_with}
+use Rattle.jtree.specs.Making.{Files, bytes_of_what, content_bytes, ops_with}
+use Rattle.jtree.specs.Holding.{first_path, object_of_what, object_with}
 use Rattle.jtree.proofs.AcceptLemmas.{create_free, make_steps_are, mkdir_free, symlink_free}
 use Rattle.jtree.proofs.GainLemmas.{own}
 use Rattle.jtree.proofs.ItemLemmas.{IsAhead, IsBuilt, Contains-from_map, Contains-mapped, ahead_placed, made_of, names_are, names_of}
@@ -29,7 +29,7 @@ use Rattle.jtree.proofs.StandLemmas.{Made, Stands}
 use Rattle.jtree.proofs.WriteLemmas.{content_reaches}
 
 abbrev pub made_at : Files → List ℕ → Attributes → What → Made
-made_at files path a w = record { names = names_in path; origin = names_in (first_path path w); object_is = object_of files a w }
+made_at files path a w = record { names = names_on_path path; origin = names_on_path (first_path path w); object_is = object_of_what files a w }
 
 -- no item has this path yet
 abbrev pub IsFresh : List Item → List ℕ → Type 0
@@ -46,7 +46,7 @@ directory_reaches : (page n : ℕ) (x : Indexed) (s : State) (files : Files) (pa
     → Reaches page n x s (ops_with files (object_actions path a what.Directory)) root (made ++ made_at files path a what.Directory ∷ []) 2
 directory_reaches page n x s files path a root made is_page at stands ahead fits few =
     let p = ahead_placed n x s path at ahead in
-    subst (λ ns. Reaches page n x s (op.Mkdir a.time path a.mode a.uid a.gid ∷ []) root (made ++ own ns (object_of files a what.Directory) ∷ []) 2)
+    subst (λ ns. Reaches page n x s (op.Mkdir a.time path a.mode a.uid a.gid ∷ []) root (made ++ own ns (object_of_what files a what.Directory) ∷ []) 2)
     (sym (names_are path (ahead.way ++ ahead.name ∷ []) ahead.path_is))
     (make_reaches page n x s (op.Mkdir a.time path a.mode a.uid a.gid) a.time (0o040000 + a.mode) a.uid a.gid [] ahead.way ahead.name ahead.dir root made
     is_page at stands
@@ -59,7 +59,7 @@ symlink_reaches : (page n : ℕ) (x : Indexed) (s : State) (files : Files) (path
     (made : List Made)
     → IsPage page → IsAt n x s → Stands root made s → IsAhead path s → AttributesFit a → 0 < length target → length target ≤ 4095
     → All (λ b. b ≢ 0) target → n + 4 ≤ 0xFFFFFFFF
-    → Reaches page n x s (op.Symlink a.time path target a.uid a.gid ∷ []) root (made ++ own (names_in path) (object_with 0o120777 a target) ∷ []) 2
+    → Reaches page n x s (op.Symlink a.time path target a.uid a.gid ∷ []) root (made ++ own (names_on_path path) (object_with 0o120777 a target) ∷ []) 2
 symlink_reaches page n x s files path a target root made is_page at stands ahead fits some short none few =
     let p = ahead_placed n x s path at ahead in
     subst (λ ns. Reaches page n x s (op.Symlink a.time path target a.uid a.gid ∷ []) root (made ++ own ns (object_with 0o120777 a target) ∷ []) 2)
@@ -94,10 +94,10 @@ regular_reaches page n x s files path a c root made is_page at stands ahead fres
     (record { path_is = ahead.path_is; regular = regular_mode a.mode fits.mode; plain = plain_mode a.mode fits.mode; fresh = fresh; time_fits = fits.time })
     short (omega arith) in
     subst (λ ns. Reaches page n x s (ops_with files (object_actions path a (what.Regular c))) root
-    (made ++ own ns (object_of files a (what.Regular c)) ∷ []) (2 + (6 + length (content_bytes files c) / 512)))
+    (made ++ own ns (object_of_what files a (what.Regular c)) ∷ []) (2 + (6 + length (content_bytes files c) / 512)))
     (sym (names_are path names ahead.path_is))
     (reaches_then page n x s (create ∷ []) (ops_with files (content_actions a.time path c)) root (made ++ own names o ∷ [])
-    (made ++ own names (object_of files a (what.Regular c)) ∷ []) 2 (6 + length (content_bytes files c) / 512) one two)
+    (made ++ own names (object_of_what files a (what.Regular c)) ∷ []) 2 (6 + length (content_bytes files c) / 512) one two)
 
 -- a regular file that stands may have further names
 target_of : (files : Files) (root : ObjectOf (List ℕ)) (before : List Item) (n : ℕ) (x : Indexed) (s : State) (i : Item) (first : List ℕ)
@@ -106,14 +106,14 @@ target_of : (files : Files) (root : ObjectOf (List ℕ)) (before : List Item) (n
 target_of files root before n x s i first built among path (what.Regular c) is regular =
     let known = built.known i among in
     let mode : i.attributes.mode ≤ 0o7777 = known.fits.attributes.mode in
-    let object : object_of files i.attributes i.what ≡ object_of files i.attributes (what.Regular c) = ap (object_of files i.attributes) is in
+    let object : object_of_what files i.attributes i.what ≡ object_of_what files i.attributes (what.Regular c) = ap (object_of_what files i.attributes) is in
     record {
       among = Contains-mapped (made_of files) before i among;
       way = known.way;
       name = known.name;
       names = known.last;
       path_is = subst (λ text. IsPath text (known.way ++ known.name ∷ [])) path (subst (IsPath (string_bytes i.path)) known.last known.path);
-      first = ap (λ w. names_in (first_path (string_bytes i.path) w)) (sym is);
+      first = ap (λ w. names_on_path (first_path (string_bytes i.path) w)) (sym is);
       regular = ap (λ (o : ObjectOf (List ℕ)). type_bits o.mode == regular_bits) object ∙ regular_mode i.attributes.mode mode;
       plain = ap (λ (o : ObjectOf (List ℕ)). type_bits o.mode == directory_bits) object ∙ plain_mode i.attributes.mode mode;
     }
@@ -133,12 +133,12 @@ fresh_names files root before n x s path names built is fresh p among e =
 pub object_reaches : (page n : ℕ) (x : Indexed) (s : State) (files : Files) (path : List ℕ) (a : Attributes) (w : What) (root : ObjectOf (List ℕ))
     (before : List Item)
     → IsPage page → IsBuilt files root before n x s → IsAhead path s → IsFresh before path → LinksBack before w → HasTarget w → AttributesFit a
-    → length (bytes_of files w) ≤ 2147483647 → n + (8 + length (bytes_of files w) / 512) + 4 ≤ 0xFFFFFFFF
+    → length (bytes_of_what files w) ≤ 2147483647 → n + (8 + length (bytes_of_what files w) / 512) + 4 ≤ 0xFFFFFFFF
     → Reaches page n x s (ops_with files (object_actions path a w)) root (map (made_of files) before ++ made_at files path a w ∷ [])
-    (8 + length (bytes_of files w) / 512)
+    (8 + length (bytes_of_what files w) / 512)
 object_reaches page n x s files path a what.Directory root before is_page built ahead fresh links target fits short few =
     reaches_weaker page n x s (ops_with files (object_actions path a what.Directory)) root
-    (map (made_of files) before ++ made_at files path a what.Directory ∷ []) 2 (8 + length (bytes_of files what.Directory) / 512) (omega arith)
+    (map (made_of files) before ++ made_at files path a what.Directory ∷ []) 2 (8 + length (bytes_of_what files what.Directory) / 512) (omega arith)
     (directory_reaches page n x s files path a root (map (made_of files) before) is_page built.is_at built.stands ahead fits (omega arith))
 object_reaches page n x s files path a (what.Regular c) root before is_page built ahead fresh links target fits short few =
     let size = length (content_bytes files c) in
@@ -148,7 +148,7 @@ object_reaches page n x s files path a (what.Regular c) root before is_page buil
     (fresh_names files root before n x s path (ahead.way ++ ahead.name ∷ []) built ahead.path_is fresh) fits short few)
 object_reaches page n x s files path a (what.Symlink t) root before is_page built ahead fresh links target fits short few =
     reaches_weaker page n x s (ops_with files (object_actions path a (what.Symlink t))) root
-    (map (made_of files) before ++ made_at files path a (what.Symlink t) ∷ []) 2 (8 + length (bytes_of files (what.Symlink t)) / 512) (omega arith)
+    (map (made_of files) before ++ made_at files path a (what.Symlink t) ∷ []) 2 (8 + length (bytes_of_what files (what.Symlink t)) / 512) (omega arith)
     (symlink_reaches page n x s files path a (string_bytes t) root (map (made_of files) before) is_page built.is_at built.stands ahead fits target.0
     target.1 target.2 (omega arith))
 object_reaches page n x s files path a (what.Link first) root before is_page built ahead fresh links target fits short few =
@@ -157,10 +157,10 @@ object_reaches page n x s files path a (what.Link first) root before is_page bui
     let f = made_of files i in
     let m = made_at files path a (what.Link first) in
     let is = target_of files root before n x s i (string_bytes first) built links.1 links.2 i.what refl links.3 in
-    let origin : m.origin ≡ f.names = ap names_in (sym links.2) in
+    let origin : m.origin ≡ f.names = ap names_on_path (sym links.2) in
     let here : m.names ≡ names = names_are path names ahead.path_is in
     reaches_weaker page n x s (ops_with files (object_actions path a (what.Link first))) root (map (made_of files) before ++ m ∷ []) 1
-    (8 + length (bytes_of files (what.Link first)) / 512) (omega arith)
+    (8 + length (bytes_of_what files (what.Link first)) / 512) (omega arith)
     (link_reaches page n x s a.time (string_bytes first) path f m root (map (made_of files) before) is_page built.is_at built.stands is ahead fits.time
     here origin
     (λ e. fresh_names files root before n x s path names built ahead.path_is fresh f is.among (sym origin ∙ sym e ∙ here)) (omega arith))

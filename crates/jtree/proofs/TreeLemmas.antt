@@ -20,17 +20,17 @@ use Rattle.jmount.proofs.PathNameLemmas.{path_names_exactly}
 use Rattle.jmount.proofs.ShapePathLemmas.{one_path_to_each}
 use Rattle.jsteps.specs.Nodes.{index_of, nodes_of}
 use Rattle.jsteps.specs.Steps.{bytes, after}
-use Rattle.jsteps.specs.Where.{names_in}
+use Rattle.jsteps.specs.Where.{names_on_path}
 use Rattle.jsteps.specs.declared.op.Op.{Op}
 use Rattle.jlisting.specs.declared.line.Line.{Line}
 use Rattle.jbuild.specs.Operations.{ops_in}
-use Rattle.jfolder.specs.Actions.{Fits, actions_of, item_actions}
+use Rattle.jfolder.specs.Actions.{FitsListing, actions_of, item_actions}
 use Rattle.jfolder.specs.declared.tree.Attributes.{Attributes}
 use Rattle.jfolder.specs.declared.tree.Item.{Item}
 use Rattle.jfolder.specs.declared.tree.What.{What}
 use Rattle.jfolder.specs.declared.tree.What.TheVariants as what
 use Rattle.jfolder.proofs.ListingLemmas.{listing_is_read_back}
-use Rattle.jtree.specs.Holding.{HoldsObject, HoldsTree, first_of, first_path, root_object}
+use Rattle.jtree.specs.Holding.{HoldsObject, HoldsTree, first_path_of, first_path, root_object}
 use Rattle.jtree.specs.Image as image
 use Rattle.jtree.specs.Laws as law
 use Rattle.jtree.specs.Laws.{MakesTree}
@@ -67,33 +67,33 @@ split_last x (y ∷ ys) = let rest = split_last y ys in (x ∷ rest.0, rest.1, a
 
 -- ---- items
 
-holds_object : (s : State) (files : Files) (path : List ℕ) (a : Attributes) (w : What) → IsHeld s (made_at files path a w) → IsPath path (names_in path)
-    → IsPath (first_path path w) (names_in (first_path path w)) → HoldsObject files s path a w
+holds_object : (s : State) (files : Files) (path : List ℕ) (a : Attributes) (w : What) → IsHeld s (made_at files path a w) → IsPath path (names_on_path path)
+    → IsPath (first_path path w) (names_on_path (first_path path w)) → HoldsObject files s path a w
 holds_object s files path a what.Directory h is first = record {
   number = h.number;
-  found = found_is s path (names_in path) is ∙ h.leads;
+  found = found_is s path (names_on_path path) is ∙ h.leads;
   below_root =
       h.below_root;
   object = h.there refl;
 }
 holds_object s files path a (what.Regular c) h is first = record {
   number = h.number;
-  found = found_is s path (names_in path) is ∙ h.leads;
+  found = found_is s path (names_on_path path) is ∙ h.leads;
   below_root =
       h.below_root;
   object = h.there refl;
 }
 holds_object s files path a (what.Symlink t) h is first = record {
   number = h.number;
-  found = found_is s path (names_in path) is ∙ h.leads;
+  found = found_is s path (names_on_path path) is ∙ h.leads;
   below_root =
       h.below_root;
   object = h.there refl;
 }
 holds_object s files path a (what.Link old) h is first =
-    found_is s path (names_in path) is ∙ h.leads ∙ sym (found_is s (string_bytes old) (names_in (string_bytes old)) first ∙ h.first)
+    found_is s path (names_on_path path) is ∙ h.leads ∙ sym (found_is s (string_bytes old) (names_on_path (string_bytes old)) first ∙ h.first)
 
-same_first : (a b : List ℕ) → IsPath a (names_in a) → IsPath b (names_in b) → names_in a ≡ names_in b → a ≡ b
+same_first : (a b : List ℕ) → IsPath a (names_on_path a) → IsPath b (names_on_path b) → names_on_path a ≡ names_on_path b → a ≡ b
 same_first a b is_a is_b e = is_a.0 ∙ ap path_text e ∙ sym is_b.0
 
 only_items : (s : State) (files : Files) (root : ObjectOf (List ℕ)) (items : List Item) → Stands root (map (made_of files) items) s
@@ -127,7 +127,7 @@ holds_tree s files root items stands known shape = record {
       let h = stands.held (made_of files i) m in
       let leads : walk s (names_of j) (Ok 1) ≡ Ok h.number = sym (found_is s (string_bytes j.path) (names_of j) l.path) ∙ sym e ∙ found_is s
       (string_bytes i.path) (names_of i) k.path ∙ h.leads in
-      same_first (first_of i) (first_of j) k.origin l.origin (stands.apart (made_of files i) (made_of files j) m o h.number h.leads leads);
+      same_first (first_path_of i) (first_path_of j) k.origin l.origin (stands.apart (made_of files i) (made_of files j) m o h.number h.leads leads);
   nothing_else = λ path number e.
       let f = found_names s path number e in
       only_items s files (root_object root) items stands known shape path number f.names f.path_of f.leads;
@@ -152,7 +152,7 @@ pub record IsLawful (page : ℕ) (files : Files) (root : Attributes) (items : Li
   pub makes : MakesTree page files root items ops
   pub op_fits : AllByRecursion OpFits ops
 
-lawful : (page : ℕ) (files : Files) (root : Attributes) (items : List Item) → IsPage page → Fits root items → IsTree items
+lawful : (page : ℕ) (files : Files) (root : Attributes) (items : List Item) → IsPage page → FitsListing root items → IsTree items
     → FilesFit files items → AreFew files items → IsLawful page files root items (ops_with files (actions_of root items))
 unfolding actions_of
 lawful page files root items is_page fits tree short few =
@@ -189,7 +189,7 @@ same_lines : (a b : List Line) → ◌≡◌ {A = Result (List Line) ℕ} (Ok a)
 same_lines a b e = cc
 
 -- whatever lines the text is read as
-lines_lawful : (page : ℕ) (files : Files) (root : Attributes) (items : List Item) (lines : List Line) → IsPage page → Fits root items → IsTree items
+lines_lawful : (page : ℕ) (files : Files) (root : Attributes) (items : List Item) (lines : List Line) → IsPage page → FitsListing root items → IsTree items
     → FilesFit files items → AreFew files items → lines_of (listing_text root items) ≡ Ok lines → IsLawful page files root items (ops_in files lines)
 lines_lawful page files root items lines is_page fits tree short few is =
     let read = listing_is_read_back root items fits in

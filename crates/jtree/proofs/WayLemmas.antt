@@ -8,7 +8,7 @@ use Rattle.jmount.specs.Find.{IsPath, path_names, step_to, step, walk}
 use Rattle.jmount.specs.declared.fault.FindFault.TheVariants as find
 use Rattle.jmount.proofs.PathNameLemmas.{path_names_exactly}
 use Rattle.jmount.proofs.ShapeLemmas.{walk_begins, step_leads, same_ok}
-use Rattle.jsteps.specs.Where.{all_but_last, last_of, names_in, last_name, above, number_there, named_there}
+use Rattle.jsteps.specs.Where.{all_but_last, last_of, names_on_path, last_name, above, number_there, named_there}
 use Rattle.jsteps.specs.Refusals.{is_bad_path, is_long}
 use Rattle.jsteps.proofs.SiteLemmas.{all_but_last-push, last_of-push}
 use Rattle.std.specs.Prelude.{unwrap_or}
@@ -117,7 +117,7 @@ pub placed : (t : Outline) (path : List ℕ) (way : List (List ℕ)) (name : Lis
     → has_long (way ++ name ∷ []) ≡ false
     → walk t way (Ok 1) ≡ Ok dir → is_directory t dir ≡ true → IsPlaced t path dir name
 placed t path way name dir is short leads there =
-    let names : names_in path ≡ way ++ name ∷ [] = ap (λ (o : Option (List (List ℕ))). unwrap_or o []) (path_is path (way ++ name ∷ []) is) in
+    let names : names_on_path path ≡ way ++ name ∷ [] = ap (λ (o : Option (List (List ℕ))). unwrap_or o []) (path_is path (way ++ name ∷ []) is) in
     let above_it : above t path ≡ Ok dir = ap (λ ns. walk t (all_but_last ns) (Ok 1)) names ∙ ap (λ ns. walk t ns (Ok 1)) (all_but_last-push way name) ∙
     leads in
     let last : last_name path ≡ name = ap last_of names ∙ last_of-push way name in

@@ -10,14 +10,14 @@ use Rattle.jmount.specs.Tree.{ObjectOf, State}
 use Rattle.jsteps.specs.Nodes.{Indexed}
 use Rattle.jsteps.specs.Planning.{IsPage}
 use Rattle.jsteps.specs.Steps.{bytes, after}
-use Rattle.jsteps.specs.Where.{names_in}
+use Rattle.jsteps.specs.Where.{names_on_path}
 use Rattle.jlisting.specs.declared.line.Action.{Action}
 use Rattle.jfolder.specs.Actions.{ItemFits, item_actions}
 use Rattle.jfolder.specs.Trees.{IsTreeAfter, LinksBack, MayFollow}
 use Rattle.jfolder.specs.declared.tree.Item.{Item}
 use Rattle.jfolder.specs.declared.tree.What.{What}
 use Rattle.jfolder.specs.declared.tree.What.TheVariants as what
-use Rattle.jtree.specs.Making.{Files, FilesFit, bytes_of, op_with, ops_with, weight}
+use Rattle.jtree.specs.Making.{Files, FilesFit, bytes_of_what, op_with, ops_with, weight}
 use Rattle.jtree.specs.Holding.{first_path}
 use Rattle.jtree.proofs.ItemLemmas.{IsBuilt, IsKnown, ahead, made_of, names_are, names_of}
 use Rattle.jtree.proofs.ObjectLemmas.{object_reaches}
@@ -33,12 +33,12 @@ ops_append files [] ys = refl
 ops_append files (x ∷ xs) ys = ap (λ ops. op_with files x ∷ ops) (ops_append files xs ys)
 
 -- the first path of an item is a path
-origin_of : (before : List Item) (path : List ℕ) (w : What) → ((j : Item) → Contains before j → IsKnown j) → LinksBack before w → IsPath path (names_in path)
-    → IsPath (first_path path w) (names_in (first_path path w))
+origin_of : (before : List Item) (path : List ℕ) (w : What) → ((j : Item) → Contains before j → IsKnown j) → LinksBack before w → IsPath path (names_on_path path)
+    → IsPath (first_path path w) (names_on_path (first_path path w))
 origin_of before path what.Directory known links is = is
 origin_of before path (what.Regular c) known links is = is
 origin_of before path (what.Symlink target) known links is = is
-origin_of before path (what.Link first) known links is = subst (λ text. IsPath text (names_in text)) links.2 (known links.0 links.1).path
+origin_of before path (what.Link first) known links is = subst (λ text. IsPath text (names_on_path text)) links.2 (known links.0 links.1).path
 
 known_of : (before : List Item) (i : Item) → ((j : Item) → Contains before j → IsKnown j) → MayFollow before i → ItemFits i → IsKnown i
 known_of before i known may fits =
@@ -70,8 +70,8 @@ items_done page n x s files root before [] is_page built tree fits short few =
 items_done page n x s files root before (i ∷ items) is_page built tree fits short few =
     let may = tree.0 in
     let i_fits = All-head ItemFits i items fits in
-    let size = length (bytes_of files i.what) in
-    let i_short : size < 2 ^ 31 = All-head (λ i. length (bytes_of files i.what) < 2 ^ 31) i items short in
+    let size = length (bytes_of_what files i.what) in
+    let i_short : size < 2 ^ 31 = All-head (λ i. length (bytes_of_what files i.what) < 2 ^ 31) i items short in
     let one = object_reaches page n x s files (string_bytes i.path) i.attributes i.what root before is_page built
     (ahead files root before n x s i built may) may.new may.link may.target i_fits.attributes (omega arith) (omega arith) in
     let used : length one.steps ≤ 8 + size / 512 = one.few in
@@ -83,7 +83,7 @@ items_done page n x s files root before (i ∷ items) is_page built tree fits sh
           (Contains-push_cases before i j among);
     } in
     let rest = items_done page (n + length one.steps) _ (after bytes s one.steps) files root more items is_page next tree.1
-    (All-tail ItemFits i items fits) (All-tail (λ i. length (bytes_of files i.what) < 2 ^ 31) i items short) (omega arith) in
+    (All-tail ItemFits i items fits) (All-tail (λ i. length (bytes_of_what files i.what) < 2 ^ 31) i items short) (omega arith) in
     let list : more ++ items ≡ before ++ i ∷ items = append_assoc before (i ∷ []) items in
     let both = reaches_then page n x s (ops_with files (item_actions i)) (ops_with files (flat_map item_actions items)) root
     (map (made_of files) before ++ made_of files i ∷ []) (map (made_of files) (more ++ items))

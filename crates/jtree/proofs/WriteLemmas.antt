@@ -19,7 +19,7 @@ use Rattle.jsteps.specs.declared.op.Op.TheVariants as op
 use Rattle.jsteps.proofs.FileLemmas.{spent_all, write_next}
 use Rattle.jlisting.specs.declared.line.Action.{Action}
 use Rattle.jfolder.specs.Actions.{content_actions, write_of}
-use Rattle.jfolder.specs.Text.{piece, piece_count}
+use Rattle.jfolder.specs.Text.{written_piece, piece_count}
 use Rattle.jfolder.specs.declared.tree.Content.{Content}
 use Rattle.jfolder.specs.declared.tree.Content.TheVariants as content
 use Rattle.jtree.specs.Making.{Files, content_bytes, op_with, ops_with}
@@ -99,7 +99,7 @@ pieces_reach page n x s files time path all way name o root made zero is_page at
 pieces_reach page n x s files time path all way name o root made (suc k) is_page at stands is within fits few =
     let r = pieces_reach page n x s files time path all way name o root made k is_page at stands is (omega arith) fits few in
     let old = take (4096 * k) all in
-    let new = piece all k in
+    let new = written_piece all k in
     let here : 4096 * k < length all = omega arith in
     let next : 4096 * k + 4096 ≡ 4096 * suc k = omega arith in
     let start : 4096 * k ≡ length old = omega (arith, length-take (4096 * k) all) in

@@ -7,13 +7,13 @@ use Rattle.jfolder.specs.declared.tree.Attributes.{Attributes}
 use Rattle.jfolder.specs.declared.tree.Item.{Item}
 use Rattle.jfolder.specs.declared.tree.What.{What}
 use Rattle.jfolder.specs.declared.tree.What.TheVariants as what
-use Rattle.jtree.specs.Making.{Files, bytes_of}
+use Rattle.jtree.specs.Making.{Files, bytes_of_what}
 
 -- the mode of an object: its kind's bits with its permissions, and a symlink has all permissions
-abbrev pub mode_of : ℕ → What → ℕ
-mode_of permissions what.Directory = 0o040000 + permissions
-mode_of permissions (what.Symlink target) = 0o120777
-mode_of permissions _ = 0o100000 + permissions
+abbrev pub mode_of_what : ℕ → What → ℕ
+mode_of_what permissions what.Directory = 0o040000 + permissions
+mode_of_what permissions (what.Symlink target) = 0o120777
+mode_of_what permissions _ = 0o100000 + permissions
 
 -- the object with these attributes and bytes
 abbrev pub object_with : ℕ → Attributes → List ℕ → ObjectOf (List ℕ)
@@ -22,16 +22,16 @@ object_with mode a bytes = record { mode = mode; uid = a.uid; gid = a.gid; atime
 abbrev pub root_object : Attributes → ObjectOf (List ℕ)
 root_object a = object_with (0o040000 + a.mode) a []
 
-abbrev pub object_of : Files → Attributes → What → ObjectOf (List ℕ)
-object_of files a w = object_with (mode_of a.mode w) a (bytes_of files w)
+abbrev pub object_of_what : Files → Attributes → What → ObjectOf (List ℕ)
+object_of_what files a w = object_with (mode_of_what a.mode w) a (bytes_of_what files w)
 
 -- the first path of an item's object: a link's is the one that it names
 abbrev pub first_path : List ℕ → What → List ℕ
 first_path path (what.Link first) = string_bytes first
 first_path path _ = path
 
-abbrev pub first_of : Item → List ℕ
-first_of i = first_path (string_bytes i.path) i.what
+abbrev pub first_path_of : Item → List ℕ
+first_path_of i = first_path (string_bytes i.path) i.what
 
 -- a path leads to this object, which is not the root
 pub record LeadsTo (s : State) (path : List ℕ) (o : ObjectOf (List ℕ)) : Type 0 where
@@ -43,7 +43,7 @@ pub record LeadsTo (s : State) (path : List ℕ) (o : ObjectOf (List ℕ)) : Typ
 -- an item's path leads to its object, and a link's to where its first path leads
 abbrev pub HoldsObject : Files → State → List ℕ → Attributes → What → Type 0
 HoldsObject files s path a (what.Link first) = find s path ≡ find s (string_bytes first)
-HoldsObject files s path a w = LeadsTo s path (object_of files a w)
+HoldsObject files s path a w = LeadsTo s path (object_of_what files a w)
 
 abbrev pub HoldsItem : Files → State → Item → Type 0
 HoldsItem files s i = HoldsObject files s (string_bytes i.path) i.attributes i.what
@@ -53,7 +53,7 @@ HoldsItem files s i = HoldsObject files s (string_bytes i.path) i.attributes i.w
 pub record HoldsTree (files : Files) (root : Attributes) (items : List Item) (s : State) : Type 0 where
   pub root_is : object s 1 ≡ Some (root_object root)
   pub items_are : (i : Item) → Contains items i → HoldsItem files s i
-  pub apart : (i j : Item) → Contains items i → Contains items j → find s (string_bytes i.path) ≡ find s (string_bytes j.path) → first_of i ≡ first_of j
+  pub apart : (i j : Item) → Contains items i → Contains items j → find s (string_bytes i.path) ≡ find s (string_bytes j.path) → first_path_of i ≡ first_path_of j
   pub nothing_else : (path : List ℕ) (number : ℕ) → find s path ≡ Ok number
       → (path ≡ 47 ∷ []) ⊎ ((i : Item) × Contains items i × (string_bytes i.path ≡ path))
   pub no_more_objects : (number : ℕ) → is_there s number ≡ true → (number ≡ 1) ⊎ ((i : Item) × Contains items i × (find s (string_bytes i.path) ≡ Ok number))

@@ -15,7 +15,7 @@ use Rattle.jlog.specs.Left.{IsLeft}
 use Rattle.jlog.specs.Output.{output}
 use Rattle.jlog.specs.Places.{fit}
 use Rattle.jbuild.specs.Operations.{ops_in}
-use Rattle.jfolder.specs.Actions.{Fits}
+use Rattle.jfolder.specs.Actions.{FitsListing}
 use Rattle.jfolder.specs.Text.{listing_text}
 use Rattle.jfolder.specs.Trees.{IsTree}
 use Rattle.jfolder.specs.declared.tree.Attributes.{Attributes}
@@ -45,7 +45,7 @@ pub record IsWrittenFor (page : ℕ) (e : Endian) (size blocks : ℕ) (base : Li
 -- The image that is written for the lines of a tree's text mounts, as a file system that holds the tree and nothing else.
 abbrev pub ImageHoldsTree : Type 0
 ImageHoldsTree = (page : ℕ) (e : Endian) (size blocks : ℕ) (base image : List ℕ) (files : Files) (root : Attributes) (items : List Item) (lines : List Line)
-    → Fits root items → IsTree items → FilesFit files items → AreFew files items → lines_of (listing_text root items) ≡ Ok lines
+    → FitsListing root items → IsTree items → FilesFit files items → AreFew files items → lines_of (listing_text root items) ≡ Ok lines
     → IsWrittenFor page e size blocks base (ops_in files lines) image
     → (s : State) × MountsAs e size image s × HoldsTree files root items s
 

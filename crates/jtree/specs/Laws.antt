@@ -9,7 +9,7 @@ use Rattle.jsteps.specs.declared.op.Op.{Op}
 use Rattle.jlisting.specs.Listing.{lines_of}
 use Rattle.jlisting.specs.declared.line.Line.{Line}
 use Rattle.jbuild.specs.Operations.{ops_in}
-use Rattle.jfolder.specs.Actions.{actions_of, Fits}
+use Rattle.jfolder.specs.Actions.{actions_of, FitsListing}
 use Rattle.jfolder.specs.Text.{listing_text}
 use Rattle.jfolder.specs.Trees.{IsTree}
 use Rattle.jfolder.specs.declared.tree.Attributes.{Attributes}
@@ -25,11 +25,11 @@ pub record MakesTree (page : ℕ) (files : Files) (root : Attributes) (items : L
 
 -- The actions of a tree make exactly that tree.
 abbrev pub ListingMakesTree : Type 0
-ListingMakesTree = (page : ℕ) (files : Files) (root : Attributes) (items : List Item) → IsPage page → Fits root items → IsTree items
+ListingMakesTree = (page : ℕ) (files : Files) (root : Attributes) (items : List Item) → IsPage page → FitsListing root items → IsTree items
     → FilesFit files items → AreFew files items → MakesTree page files root items (ops_with files (actions_of root items))
 
 -- The text of a tree is read, and what it is read as makes exactly that tree.
 abbrev pub TextMakesTree : Type 0
-TextMakesTree = (page : ℕ) (files : Files) (root : Attributes) (items : List Item) → IsPage page → Fits root items → IsTree items
+TextMakesTree = (page : ℕ) (files : Files) (root : Attributes) (items : List Item) → IsPage page → FitsListing root items → IsTree items
     → FilesFit files items → AreFew files items
     → (lines : List Line) × (lines_of (listing_text root items) ≡ Ok lines) × MakesTree page files root items (ops_in files lines)

@@ -28,19 +28,19 @@ content_bytes files content.Empty = []
 content_bytes files (content.File file) = files (string_bytes file)
 content_bytes files (content.Bytes bytes) = bytes.items
 
-abbrev pub bytes_of : Files → What → List ℕ
-bytes_of files (what.Regular bytes) = content_bytes files bytes
-bytes_of files (what.Symlink target) = string_bytes target
-bytes_of files _ = []
+abbrev pub bytes_of_what : Files → What → List ℕ
+bytes_of_what files (what.Regular bytes) = content_bytes files bytes
+bytes_of_what files (what.Symlink target) = string_bytes target
+bytes_of_what files _ = []
 
 -- no file is longer than an image's may be
 abbrev pub FilesFit : Files → List Item → Type 0
-FilesFit files items = All (λ i. length (bytes_of files i.what) < 2 ^ 31) items
+FilesFit files items = All (λ i. length (bytes_of_what files i.what) < 2 ^ 31) items
 
 -- eight for each item, and one for each 512 of its bytes
 abbrev pub weight : Files → List Item → ℕ
 weight files [] = 0
-weight files (i ∷ items) = 8 + length (bytes_of files i.what) / 512 + weight files items
+weight files (i ∷ items) = 8 + length (bytes_of_what files i.what) / 512 + weight files items
 
 -- the items and their bytes are so few that no number and no version passes 32 bits
 abbrev pub AreFew : Files → List Item → Type 0

@@ -3,6 +3,11 @@ use Rattle.std.specs.Prelude.{◌≡◌, Result, Ok, Err, ℕ, ◌+◌, ◌-◌,
 use Rattle.jword.specs.declared.fault.WordFault.{WordFault}
 use Rattle.jword.specs.declared.fault.WordFault.TheVariants.{Invalid, OutOfMemory}
 
+-- one reading after another, where each may find nothing
+infixl 10 ◌>>=◌
+abbrev pub ◌>>=◌ : {A B : Type 0} → Option A → (A → Option B) → Option B
+o >>= f = option_and_then f o
+
 abbrev pub is_within : ℕ → ℕ → ℕ → Bool
 is_within low b high = nat_le low b && nat_le b high
 
@@ -15,8 +20,8 @@ digit_of b =
     else None
 
 -- the byte that two hexadecimal digits are
-abbrev pub byte_of : ℕ → ℕ → Option ℕ
-byte_of high low = option_and_then (λ h. option_map (λ l. 16 * h + l) (digit_of low)) (digit_of high)
+abbrev pub byte_of_digits : ℕ → ℕ → Option ℕ
+byte_of_digits high low = option_and_then (λ h. option_map (λ l. 16 * h + l) (digit_of low)) (digit_of high)
 
 abbrev pub and_byte : Option ℕ → Option (List ℕ) → Option (List ℕ)
 and_byte byte bytes = option_and_then (λ b. option_map (λ bs. b ∷ bs) bytes) byte
@@ -24,14 +29,14 @@ and_byte byte bytes = option_and_then (λ b. option_map (λ bs. b ∷ bs) bytes)
 -- the bytes of pairs of hexadecimal digits
 abbrev pub pairs_of : List ℕ → Option (List ℕ)
 pairs_of [] = Some []
-pairs_of (high ∷ low ∷ word) = and_byte (byte_of high low) (pairs_of word)
+pairs_of (high ∷ low ∷ word) = and_byte (byte_of_digits high low) (pairs_of word)
 pairs_of (b ∷ []) = None
 
 -- `\x` and two hexadecimal digits are one byte, and there is no other use of `\`
 abbrev pub unescaped : List ℕ → Option (List ℕ)
 unescaped [] = Some []
 unescaped (a ∷ b ∷ c ∷ d ∷ word) =
-    if a == 92 then (if b == 120 then and_byte (byte_of c d) (unescaped word) else None)
+    if a == 92 then (if b == 120 then and_byte (byte_of_digits c d) (unescaped word) else None)
     else and_byte (Some a) (unescaped (b ∷ c ∷ d ∷ word))
 unescaped (a ∷ word) = if a == 92 then None else and_byte (Some a) (unescaped word)
 

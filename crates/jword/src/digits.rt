@@ -1,7 +1,7 @@
 //! Hexadecimal digits.
 
 ghost use Rattle.std.specs.Prelude.{◌≡◌};
-ghost use Rattle.jword.specs.Words.{byte_of, digit_of};
+ghost use Rattle.jword.specs.Words.{byte_of_digits, digit_of};
 
 /// What a hexadecimal digit stands for, in either case.
 fn digit(byte: u8) -> Option<u8>
@@ -17,7 +17,7 @@ fn digit(byte: u8) -> Option<u8>
 
 /// The byte that two hexadecimal digits are.
 pub fn byte_of(high: u8, low: u8) -> Option<u8>
-    ensures { result ≡ byte_of high low }
+    ensures { result ≡ byte_of_digits high low }
 {
     Some(16 * digit(high)? + digit(low)?)
 }

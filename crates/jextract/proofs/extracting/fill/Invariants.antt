@@ -1,4 +1,4 @@
-use Rattle.jextract.specs.Walking.{steps_left}
+use Rattle.jextract.specs.Walking.{extraction_steps_left}
 use Rattle.jextract.proofs.FillLemmas.{Reached}
 use Rattle.jextract.proofs.extracting.fill.Given as goal
 
@@ -9,4 +9,4 @@ invariant-loop-walk g l =
     (record { made = g.F.Folder.made l.folder; failures = g.F.Folder.failures l.folder; told = g.N.Sink.taken l.notes; told_failures = g.N.Sink.failures l.notes; left_out = l.walk.left_out })
 
 abbrev pub decreases-loop-walk : goal.decreases-loop-walk
-decreases-loop-walk g l = steps_left l.mounted.state l.walk
+decreases-loop-walk g l = extraction_steps_left l.mounted.state l.walk

@@ -1,11 +1,11 @@
 use Rattle.std.proofs.Common.{[], ◌∷◌, ap, ◌∙◌, sym, refl}
 use Rattle.jextract.specs.Folders.{Attributed}
 use Rattle.jextract.specs.Outcomes.{Do, attributes_of, plan_completed}
-use Rattle.jextract.proofs.MakingLemmas.{Adds-nil, one_fails}
+use Rattle.jextract.proofs.MakingLemmas.{ReportsMore-nil, one_fails}
 use Rattle.jextract.proofs.making.complete_at.Goals as goal
 
 pub returns-in_default : goal.returns-in_default
-returns-in_default g c = ([], ap (plan_completed c.args.owners) (sym c.object.ensures ∙ c.in_default.is), Adds-nil (g.F.Folder.made c.args.folder.now), refl)
+returns-in_default g c = ([], ap (plan_completed c.args.owners) (sym c.object.ensures ∙ c.in_default.is), ReportsMore-nil (g.F.Folder.made c.args.folder.now), refl)
 
 pub returns-in_err-finish_directory : goal.returns-in_err-finish_directory
 returns-in_err-finish_directory g c =

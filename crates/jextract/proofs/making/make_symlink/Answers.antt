@@ -1,6 +1,6 @@
 use Rattle.std.proofs.Common.{ℕ, List, [], ◌∷◌, ap, ◌∙◌, sym, subst, arith}
 use Rattle.jmount.specs.Shown.{readable}
-use Rattle.jextract.specs.Folders.{Adds, Symlink}
+use Rattle.jextract.specs.Folders.{ReportsMore, Symlink}
 use Rattle.jextract.specs.Outcomes.{is_target}
 use Rattle.jextract.proofs.PathLemmas.{target_read}
 use Rattle.jextract.proofs.MakingLemmas.{one_fails, symlink_planned}
@@ -21,7 +21,7 @@ returns g c =
     let same = target_read bytes _ c.read_at-count.new.out c.read_at-count.result c.read_at-count.ensures.count c.read_at-count.ensures.bytes (omega (arith, c.requires)) in (
       Symlink bytes c.args.attributes ∷ [],
       symlink_planned bytes c.args.attributes (ap is_target (sym same) ∙ c.in-Some.ensures.1),
-      subst (λ (t : List ℕ). Adds (g.F.Folder.made c.args.folder.now) (g.F.Folder.made c.make_symlink.new.self) (record { path = c.args.path.now; deed = Symlink t c.args.attributes } ∷ []))
+      subst (λ (t : List ℕ). ReportsMore (g.F.Folder.made c.args.folder.now) (g.F.Folder.made c.make_symlink.new.self) (record { path = c.args.path.now; deed = Symlink t c.args.attributes } ∷ []))
           (c.in-Some.ensures.0 ∙ same) put.adds,
       put.counts,
     )

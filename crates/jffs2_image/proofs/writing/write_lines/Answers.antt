@@ -7,7 +7,7 @@ use Rattle.jbuild.specs.Accepted.{accepted_line}
 use Rattle.jmount.specs.Mounts.{Answers}
 use Rattle.jlog.specs.Headline.{resume_address}
 use Rattle.jlog.specs.Resuming.{resumes_by}
-use Rattle.jbuild.specs.Parts.{contents}
+use Rattle.jbuild.specs.Parts.{part_contents}
 use Rattle.jbuild.specs.Operations.{ops_in}
 use Rattle.jsteps.specs.declared.op.Op.{Op}
 use Rattle.jreport.specs.declared.faults.ProgramFault.TheVariants as program
@@ -45,14 +45,14 @@ returns-in-Some-clause-writes g c = λ text read.
     let m = c.in_ok-mounted.mounted in
     let r = c.in_ok-report.report in
     let mounts : Answers e a.target.options.geometry.block a.base.now (Ok m) = search rules in
-    let same : c.deref-2.result.now ≡ ops_in (contents a.parts.now) a.lines.items = search rules in
+    let same : c.deref-2.result.now ≡ ops_in (part_contents a.parts.now) a.lines.items = search rules in
     let stopped : r.stopped ≡ Some c.in-Some.fault = search rules in
     let numbers : c.in_ok-numbers.numbers.items ≡ map (λ l. l.number) a.lines.items = search rules in
     let line : c.number_at-line.result ≡ slice_get c.in_ok-numbers.numbers.items r.accepted = search rules in
-    let made : IsMade a.target.page e a.target.options.geometry.block a.target.blocks m (ops_in (contents a.parts.now) a.lines.items) r.accepted r.places.items (Some c.in-Some.fault) =
+    let made : IsMade a.target.page e a.target.options.geometry.block a.target.blocks m (ops_in (part_contents a.parts.now) a.lines.items) r.accepted r.places.items (Some c.in-Some.fault) =
     subst (λ (o : List Op). IsMade a.target.page e a.target.options.geometry.block a.target.blocks m o r.accepted r.places.items (Some c.in-Some.fault)) same
     (subst (λ s. IsMade a.target.page e a.target.options.geometry.block a.target.blocks m c.deref-2.result.now r.accepted r.places.items s) stopped c.in_ok-report.ensures.made) in
-    let run = run_on a.target.page e a.target.options.geometry.block a.target.blocks a.base.now text a.lines.items (contents a.parts.now) m r.accepted r.places.items (Some c.in-Some.fault) read mounts made in
+    let run = run_on a.target.page e a.target.options.geometry.block a.target.blocks a.base.now text a.lines.items (part_contents a.parts.now) m r.accepted r.places.items (Some c.in-Some.fault) read mounts made in
     let shown = line ∙ (ap (λ (l : List ℕ). slice_get l r.accepted) numbers ∙ slice_get-map (λ l. l.number) a.lines.items r.accepted) in (
       subst (λ n. IsSessionFault a.target.page e a.target.options.geometry.block a.target.blocks a.base.now text c.in-Some.fault n) (sym shown)
           (stopped_at a.target.page e a.target.options.geometry.block a.target.blocks a.base.now text a.lines.items r.accepted r.places.items c.in-Some.fault run),
@@ -67,14 +67,14 @@ returns-in_err-put_accepted-clause-writes g c = λ text read.
     let m = c.in_ok-mounted.mounted in
     let r = c.in_ok-report.report in
     let mounts : Answers e a.target.options.geometry.block a.base.now (Ok m) = search rules in
-    let same : c.deref-2.result.now ≡ ops_in (contents a.parts.now) a.lines.items = search rules in
+    let same : c.deref-2.result.now ≡ ops_in (part_contents a.parts.now) a.lines.items = search rules in
     let image : m.image ≡ a.base.now = search rules in
     let at : resumes_by a.target.page e a.target.options.geometry.block a.target.blocks m ≡ Ok c.in_ok-from.from = search rules in
     let stopped : r.stopped ≡ None = search rules in
-    let made : IsMade a.target.page e a.target.options.geometry.block a.target.blocks m (ops_in (contents a.parts.now) a.lines.items) r.accepted r.places.items None =
+    let made : IsMade a.target.page e a.target.options.geometry.block a.target.blocks m (ops_in (part_contents a.parts.now) a.lines.items) r.accepted r.places.items None =
     subst (λ (o : List Op). IsMade a.target.page e a.target.options.geometry.block a.target.blocks m o r.accepted r.places.items None) same
     (subst (λ s. IsMade a.target.page e a.target.options.geometry.block a.target.blocks m c.deref-2.result.now r.accepted r.places.items s) stopped c.in_ok-report.ensures.made) in
-    let run = run_on a.target.page e a.target.options.geometry.block a.target.blocks a.base.now text a.lines.items (contents a.parts.now) m r.accepted r.places.items None read mounts made in
+    let run = run_on a.target.page e a.target.options.geometry.block a.target.blocks a.base.now text a.lines.items (part_contents a.parts.now) m r.accepted r.places.items None read mounts made in
     let from = goes_on_from a.target.page e a.target.options.geometry.block a.target.blocks m c.in_ok-from.from at ∙ ap (λ (l : List ℕ). resume_address e a.target.options.geometry.block a.target.blocks l) image in
     let put = c.in_err-put_accepted.ensures in
     writes_fault a.target.page e a.target.options.geometry.block a.target.blocks a.target.output.now a.base.now text _ _ _ _ program.Output _ c.from_residual-in_err-put_accepted.ensures.1
@@ -88,14 +88,14 @@ returns-clause-writes g c = λ text read.
     let m = c.in_ok-mounted.mounted in
     let r = c.in_ok-report.report in
     let mounts : Answers e a.target.options.geometry.block a.base.now (Ok m) = search rules in
-    let same : c.deref-2.result.now ≡ ops_in (contents a.parts.now) a.lines.items = search rules in
+    let same : c.deref-2.result.now ≡ ops_in (part_contents a.parts.now) a.lines.items = search rules in
     let image : m.image ≡ a.base.now = search rules in
     let at : resumes_by a.target.page e a.target.options.geometry.block a.target.blocks m ≡ Ok c.in_ok-from.from = search rules in
     let stopped : r.stopped ≡ None = search rules in
-    let made : IsMade a.target.page e a.target.options.geometry.block a.target.blocks m (ops_in (contents a.parts.now) a.lines.items) r.accepted r.places.items None =
+    let made : IsMade a.target.page e a.target.options.geometry.block a.target.blocks m (ops_in (part_contents a.parts.now) a.lines.items) r.accepted r.places.items None =
     subst (λ (o : List Op). IsMade a.target.page e a.target.options.geometry.block a.target.blocks m o r.accepted r.places.items None) same
     (subst (λ s. IsMade a.target.page e a.target.options.geometry.block a.target.blocks m c.deref-2.result.now r.accepted r.places.items s) stopped c.in_ok-report.ensures.made) in
-    let run = run_on a.target.page e a.target.options.geometry.block a.target.blocks a.base.now text a.lines.items (contents a.parts.now) m r.accepted r.places.items None read mounts made in
+    let run = run_on a.target.page e a.target.options.geometry.block a.target.blocks a.base.now text a.lines.items (part_contents a.parts.now) m r.accepted r.places.items None read mounts made in
     let from = goes_on_from a.target.page e a.target.options.geometry.block a.target.blocks m c.in_ok-from.from at ∙ ap (λ (l : List ℕ). resume_address e a.target.options.geometry.block a.target.blocks l) image in
     let put = c.in_ok-put_accepted.ensures in
     told a.target.page e a.target.options.geometry.block a.target.blocks a.target.output.now a.base.now text a.lines.items r.accepted r.places.items c.in_ok-from.from _ _ _ _ _ from run
@@ -138,11 +138,11 @@ returns-clause-files g c = λ known text read are.
     let m = c.in_ok-mounted.mounted in
     let r = c.in_ok-report.report in
     let mounts : Answers e a.target.options.geometry.block a.base.now (Ok m) = search rules in
-    let same : c.deref-2.result.now ≡ ops_in (contents a.parts.now) a.lines.items = search rules in
+    let same : c.deref-2.result.now ≡ ops_in (part_contents a.parts.now) a.lines.items = search rules in
     let image : m.image ≡ a.base.now = search rules in
     let at : resumes_by a.target.page e a.target.options.geometry.block a.target.blocks m ≡ Ok c.in_ok-from.from = search rules in
     let stopped : r.stopped ≡ None = search rules in
-    let made : IsMade a.target.page e a.target.options.geometry.block a.target.blocks m (ops_in (contents a.parts.now) a.lines.items) r.accepted r.places.items None =
+    let made : IsMade a.target.page e a.target.options.geometry.block a.target.blocks m (ops_in (part_contents a.parts.now) a.lines.items) r.accepted r.places.items None =
     subst (λ (o : List Op). IsMade a.target.page e a.target.options.geometry.block a.target.blocks m o r.accepted r.places.items None) same
     (subst (λ s. IsMade a.target.page e a.target.options.geometry.block a.target.blocks m c.deref-2.result.now r.accepted r.places.items s) stopped c.in_ok-report.ensures.made) in
     let from = goes_on_from a.target.page e a.target.options.geometry.block a.target.blocks m c.in_ok-from.from at ∙ ap (λ (l : List ℕ). resume_address e a.target.options.geometry.block a.target.blocks l) image in
@@ -157,11 +157,11 @@ returns-in_err-put_accepted-clause-files g c = λ known text read are.
     let m = c.in_ok-mounted.mounted in
     let r = c.in_ok-report.report in
     let mounts : Answers e a.target.options.geometry.block a.base.now (Ok m) = search rules in
-    let same : c.deref-2.result.now ≡ ops_in (contents a.parts.now) a.lines.items = search rules in
+    let same : c.deref-2.result.now ≡ ops_in (part_contents a.parts.now) a.lines.items = search rules in
     let image : m.image ≡ a.base.now = search rules in
     let at : resumes_by a.target.page e a.target.options.geometry.block a.target.blocks m ≡ Ok c.in_ok-from.from = search rules in
     let stopped : r.stopped ≡ None = search rules in
-    let made : IsMade a.target.page e a.target.options.geometry.block a.target.blocks m (ops_in (contents a.parts.now) a.lines.items) r.accepted r.places.items None =
+    let made : IsMade a.target.page e a.target.options.geometry.block a.target.blocks m (ops_in (part_contents a.parts.now) a.lines.items) r.accepted r.places.items None =
     subst (λ (o : List Op). IsMade a.target.page e a.target.options.geometry.block a.target.blocks m o r.accepted r.places.items None) same
     (subst (λ s. IsMade a.target.page e a.target.options.geometry.block a.target.blocks m c.deref-2.result.now r.accepted r.places.items s) stopped c.in_ok-report.ensures.made) in
     let from = goes_on_from a.target.page e a.target.options.geometry.block a.target.blocks m c.in_ok-from.from at ∙ ap (λ (l : List ℕ). resume_address e a.target.options.geometry.block a.target.blocks l) image in
@@ -176,11 +176,11 @@ returns-in-Some-clause-files g c = λ known text read are.
     let m = c.in_ok-mounted.mounted in
     let r = c.in_ok-report.report in
     let mounts : Answers e a.target.options.geometry.block a.base.now (Ok m) = search rules in
-    let same : c.deref-2.result.now ≡ ops_in (contents a.parts.now) a.lines.items = search rules in
+    let same : c.deref-2.result.now ≡ ops_in (part_contents a.parts.now) a.lines.items = search rules in
     let stopped : r.stopped ≡ Some c.in-Some.fault = search rules in
     let numbers : c.in_ok-numbers.numbers.items ≡ map (λ l. l.number) a.lines.items = search rules in
     let line : c.number_at-line.result ≡ slice_get c.in_ok-numbers.numbers.items r.accepted = search rules in
-    let made : IsMade a.target.page e a.target.options.geometry.block a.target.blocks m (ops_in (contents a.parts.now) a.lines.items) r.accepted r.places.items (Some c.in-Some.fault) =
+    let made : IsMade a.target.page e a.target.options.geometry.block a.target.blocks m (ops_in (part_contents a.parts.now) a.lines.items) r.accepted r.places.items (Some c.in-Some.fault) =
     subst (λ (o : List Op). IsMade a.target.page e a.target.options.geometry.block a.target.blocks m o r.accepted r.places.items (Some c.in-Some.fault)) same
     (subst (λ s. IsMade a.target.page e a.target.options.geometry.block a.target.blocks m c.deref-2.result.now r.accepted r.places.items s) stopped c.in_ok-report.ensures.made) in
     let shown = line ∙ (ap (λ (l : List ℕ). slice_get l r.accepted) numbers ∙ slice_get-map (λ l. l.number) a.lines.items r.accepted) in

@@ -5,7 +5,7 @@ use Rattle.std.specs.String.{string_bytes}
 use Rattle.std.proofs.lemmas.List.Elements.{All-append}
 use Rattle.std.specs.declared.alloc.Global.{Global}
 use Rattle.std.proofs.lemmas.Result.{err_from_is_err_and}
-use Rattle.jfolder.specs.Complete.{GoesOn, LeftOut, children, left_paths}
+use Rattle.jfolder.specs.Complete.{StaysCovered, LeftOut, children, left_paths}
 use Rattle.jfolder.specs.Known.{Known, named_of}
 use Rattle.jfolder.specs.Links.{WalkLinks}
 use Rattle.jfolder.specs.Reasons.{IsRight, IsUnlisted}
@@ -24,7 +24,7 @@ abbrev ReachesRightly : Known → Options → List Item → List (String Global)
 ReachesRightly known options items pending lefts = Reaches known items pending lefts × All (IsRight known options items) lefts
 
 abbrev GoesRightly : Known → Options → List Item → List (List ℕ) → List Item → List (List ℕ) → List LeftOut → Type 0
-GoesRightly known options items pending new later lefts = GoesOn known items pending new later lefts × All (IsRight known options new) lefts
+GoesRightly known options items pending new later lefts = StaysCovered known items pending new later lefts × All (IsRight known options new) lefts
 
 pub loop-init : goal.loop-init
 loop-init g c =

@@ -2,7 +2,7 @@ use Rattle.std.proofs.Common.{◌≡◌, ℕ, ◌∙◌, map, subst, arith}
 use Rattle.std.specs.Io.KnownBytes.{Appends}
 use Rattle.std.proofs.KnownBytes.{Appends-trans}
 use Rattle.flashbase.specs.Lists.{below}
-use Rattle.jfolder.specs.Text.{line_of, lines_text, piece_count, write_words}
+use Rattle.jfolder.specs.Text.{words_line, lines_text, piece_count, write_words}
 use Rattle.jfolder.proofs.PutLemmas.{below_failed, below_next}
 use Rattle.jfolder.proofs.text.put_bytes.Goals as goal
 
@@ -24,7 +24,7 @@ loop-k-preserved g c =
     let k = c.loop-k.k in
     record {
       put = subst (Appends (g.T.Sink.taken c.args.sink.now) (g.T.Sink.taken c.put_piece_at.new.sink)) (below_next words k)
-          (Appends-trans _ (g.T.Sink.taken c.loop-k.sink) _ (lines_text (map words (below k))) (line_of (words k)) before.put put.0);
+          (Appends-trans _ (g.T.Sink.taken c.loop-k.sink) _ (lines_text (map words (below k))) (words_line (words k)) before.put put.0);
       failed = put.1 ∙ before.failed;
     }
 

@@ -1,15 +1,15 @@
 use Rattle.std.proofs.Common.{List, subst}
 use Rattle.jmount.specs.StateOf.{entries}
 use Rattle.jmount.specs.Collected.{without_addresses}
-use Rattle.jmount.specs.Gathered.{Gathered, entries_of}
+use Rattle.jmount.specs.Gathered.{Gathered, pending_entries}
 use Rattle.jmount.specs.declared.gathering.Pending.{Pending}
 use Rattle.jmount.proofs.GatherLemmas.{gathered_permuted, if_ok}
 use Rattle.jmount.proofs.gathering.gather_names.Goals as goal
 
 pub returns : goal.returns
 returns c =
-    if_ok c.names_of.result (λ names. Gathered names (entries_of c.deref.result.now)) (λ names. Gathered names (entries (without_addresses c.args.nodes.now)))
+    if_ok c.names_of.result (λ names. Gathered names (pending_entries c.deref.result.now)) (λ names. Gathered names (entries (without_addresses c.args.nodes.now)))
     (λ names h.
     gathered_permuted names (entries (without_addresses c.args.nodes.now)) c.in_ok-pending.pending.items c.sort_unstable_by_key.new.self.items c.in_ok-pending.ensures c.sort_unstable_by_key.ensures.permutation
-    (subst (λ (l : List Pending). Gathered names (entries_of l)) c.deref.ensures.value h))
+    (subst (λ (l : List Pending). Gathered names (pending_entries l)) c.deref.ensures.value h))
     c.names_of.ensures

@@ -12,7 +12,7 @@ use Rattle.jscan.specs.declared.extent.Extent.{Extent}
 use Rattle.jscan.specs.Counts.{block_counted, counted}
 use Rattle.jscan.specs.declared.counts.Counts.{Counts}
 use Rattle.jline.specs.Forms.{block_line, extent_line}
-use Rattle.jreport.specs.Report.{lines_of}
+use Rattle.jreport.specs.Report.{lines_of_block}
 use Rattle.jreport.proofs.ExtentLemmas.{short_extents, length_extents}
 use Rattle.jreport.proofs.PutLemmas.{turn, all_given, puts_err, lines_more, part_of_lines, split_behind, block_counted_more, counted_has_room}
 use Rattle.jreport.proofs.blocks.put_part.Goals as goal
@@ -76,7 +76,7 @@ returns-clause-puts g c =
     let given = all_given extents_left _ _ c.next.new.self all c.loop-extent.yielded _
     (ap extents_left c.into_iter-extent-iterator.ensures.into_iter_gives ∙ c.of_part-extent-items.ensures) c.loop-extent.yielded_by c.in-None.is c.next.ensures.steps in
     let done = c.loop-extent.invariant in
-    (subst (λ (ss : List Extent). Appends (g.T.Sink.taken c.args.sink.now) (g.T.Sink.taken c.loop-extent.sink) (lines_of c.args.counts.now.blocks ss)) given done.put, done.failed)
+    (subst (λ (ss : List Extent). Appends (g.T.Sink.taken c.args.sink.now) (g.T.Sink.taken c.loop-extent.sink) (lines_of_block c.args.counts.now.blocks ss)) given done.put, done.failed)
 
 pub returns-clause-scan : goal.returns-clause-scan
 returns-clause-scan g c = λ before_it has.

@@ -1,7 +1,7 @@
 use Rattle.std.proofs.Common.{◌≡◌, map, ℕ, Bool, true, List, [], ◌∷◌, ◌++◌, ◌-◌, refl, sym, ap, ◌∙◌, subst, take, Ok, Err}
 use Rattle.std.specs.Prelude.{IsErrAnd}
 use Rattle.jextract.specs.Making.{firsts_of}
-use Rattle.jextract.specs.Walking.{Sight, todo_of, Visits, Completes, way_of}
+use Rattle.jextract.specs.Walking.{Sight, extraction_todo, Visits, Completes, extraction_way}
 use Rattle.jextract.specs.declared.extracting.Walk.{Walk}
 use Rattle.jextract.specs.declared.fault.ExtractFault.{ExtractFault}
 use Rattle.jextract.specs.declared.fault.ExtractFault.TheVariants.{OutOfMemory}
@@ -37,7 +37,7 @@ returns-in_err-push g c =
     let w = c.args.self.now in
     let old : Sight = record { made = g.F.Folder.made c.args.folder.now; failures = g.F.Folder.failures c.args.folder.now; told = g.N.Sink.taken c.args.notes.now; told_failures = g.N.Sink.failures c.args.notes.now; left_out = c.args.self.now.left_out } in
     let n : Walk = record { path = c.push.new.self; ino = w.ino; left = c.next.new.self; above = w.above; firsts = w.firsts; left_out = w.left_out } in
-    step_at_fault s c.args.owners w n old old OutOfMemory c.from_residual-in_err-push.result c.from_residual-in_err-push.ensures.1 (stops_before s c.args.owners (firsts_of w.firsts) (todo_of s w) old)
+    step_at_fault s c.args.owners w n old old OutOfMemory c.from_residual-in_err-push.result c.from_residual-in_err-push.ensures.1 (stops_before s c.args.owners (firsts_of w.firsts) (extraction_todo s w) old)
 
 pub returns-in_err-visit : goal.returns-in_err-visit
 returns-in_err-visit g c =
@@ -48,7 +48,7 @@ returns-in_err-visit g c =
     let n : Walk = record { path = c.push.new.self; ino = w.ino; left = c.next.new.self; above = w.above; firsts = c.visit.new.firsts; left_out = c.visit.new.left_out } in
     let way = way_on w c.in-Some.name c.deref-2.result.now c.push.new.self.items c.deref-2.ensures.value c.in_ok-push.ensures.items in
     let fault = c.in_err-visit.field-0.0 in
-    let visits = visit_at s c.args.owners (firsts_of w.firsts) (firsts_of c.visit.new.firsts) _ (way_of w ++ c.in-Some.name.now ∷ []) c.in-Some.ino old new (Err fault) way c.in_err-visit.ensures in
+    let visits = visit_at s c.args.owners (firsts_of w.firsts) (firsts_of c.visit.new.firsts) _ (extraction_way w ++ c.in-Some.name.now ∷ []) c.in-Some.ino old new (Err fault) way c.in_err-visit.ensures in
     step_at_fault s c.args.owners w n old new fault c.from_residual-in_err-visit.result c.from_residual-in_err-visit.ensures.1
     (visit_failed s c.args.owners w n c.in-Some.name.now c.in-Some.ino c.next.new.self (firsts_of c.visit.new.firsts) old new fault c.in-Some.ensures.steps visits)
 
@@ -61,7 +61,7 @@ returns-in_err-enter g c =
     let way = way_on w c.in-Some.name c.deref-2.result.now c.push.new.self.items c.deref-2.ensures.value c.in_ok-push.ensures.items in
     let entered = c.in_ok-visit.field-0 in
     let seen : Sight = record { made = g.F.Folder.made c.visit.new.folder; failures = g.F.Folder.failures c.visit.new.folder; told = g.N.Sink.taken c.visit.new.notes; told_failures = g.N.Sink.failures c.visit.new.notes; left_out = c.visit.new.left_out } in
-    let visits = visit_at s c.args.owners (firsts_of w.firsts) (firsts_of c.visit.new.firsts) _ (way_of w ++ c.in-Some.name.now ∷ []) c.in-Some.ino old seen (Ok entered) way c.in_ok-visit.ensures in
+    let visits = visit_at s c.args.owners (firsts_of w.firsts) (firsts_of c.visit.new.firsts) _ (extraction_way w ++ c.in-Some.name.now ∷ []) c.in-Some.ino old seen (Ok entered) way c.in_ok-visit.ensures in
     let is : c.in_err-enter.field-0.0 ≡ OutOfMemory = c.in_err-enter.ensures in
     step_at_fault s c.args.owners w c.enter.new.self old new OutOfMemory c.from_residual-in_err-enter.result
     (subst (λ (f : ExtractFault). IsErrAnd c.from_residual-in_err-enter.result (λ e. e ≡ f)) is c.from_residual-in_err-enter.ensures.1)
@@ -74,14 +74,14 @@ returns-in_ok-enter g c =
     let old : Sight = record { made = g.F.Folder.made c.args.folder.now; failures = g.F.Folder.failures c.args.folder.now; told = g.N.Sink.taken c.args.notes.now; told_failures = g.N.Sink.failures c.args.notes.now; left_out = c.args.self.now.left_out } in
     let seen : Sight = record { made = g.F.Folder.made c.visit.new.folder; failures = g.F.Folder.failures c.visit.new.folder; told = g.N.Sink.taken c.visit.new.notes; told_failures = g.N.Sink.failures c.visit.new.notes; left_out = c.visit.new.left_out } in
     let way = way_on w c.in-Some.name c.deref-2.result.now c.push.new.self.items c.deref-2.ensures.value c.in_ok-push.ensures.items in
-    let visits = visit_at s c.args.owners (firsts_of w.firsts) (firsts_of c.visit.new.firsts) _ (way_of w ++ c.in-Some.name.now ∷ []) c.in-Some.ino old seen (Ok c.in_ok-visit.field-0) way c.in_ok-visit.ensures in
+    let visits = visit_at s c.args.owners (firsts_of w.firsts) (firsts_of c.visit.new.firsts) _ (extraction_way w ++ c.in-Some.name.now ∷ []) c.in-Some.ino old seen (Ok c.in_ok-visit.field-0) way c.in_ok-visit.ensures in
     let is = c.in_ok-enter.ensures in
     let n = c.enter.new.self in
     step_left s c.args.owners w n old seen true is.5
     (enters s c.args.owners w n c.in-Some.name.now c.in-Some.ino c.next.new.self old seen c.in-Some.ensures.steps is.1 is.0 is.2
     (ap (λ p. map (λ name. name.now) p.items) is.3 ∙ way_on w c.in-Some.name c.push.new.self.items c.push.new.self.items refl c.in_ok-push.ensures.items)
-    (subst (λ f. Visits s c.args.owners (firsts_of w.firsts) (firsts_of f) (way_of w ++ c.in-Some.name.now ∷ []) c.in-Some.ino old seen (Ok true)) (sym is.4)
-    (subst (λ (b : Bool). Visits s c.args.owners (firsts_of w.firsts) (firsts_of c.visit.new.firsts) (way_of w ++ c.in-Some.name.now ∷ []) c.in-Some.ino old seen (Ok b)) c.if-branch.true visits)))
+    (subst (λ f. Visits s c.args.owners (firsts_of w.firsts) (firsts_of f) (extraction_way w ++ c.in-Some.name.now ∷ []) c.in-Some.ino old seen (Ok true)) (sym is.4)
+    (subst (λ (b : Bool). Visits s c.args.owners (firsts_of w.firsts) (firsts_of c.visit.new.firsts) (extraction_way w ++ c.in-Some.name.now ∷ []) c.in-Some.ino old seen (Ok b)) c.if-branch.true visits)))
 
 pub returns-else-branch : goal.returns-else-branch
 returns-else-branch g c =
@@ -90,9 +90,9 @@ returns-else-branch g c =
     let old : Sight = record { made = g.F.Folder.made c.args.folder.now; failures = g.F.Folder.failures c.args.folder.now; told = g.N.Sink.taken c.args.notes.now; told_failures = g.N.Sink.failures c.args.notes.now; left_out = c.args.self.now.left_out } in
     let seen : Sight = record { made = g.F.Folder.made c.visit.new.folder; failures = g.F.Folder.failures c.visit.new.folder; told = g.N.Sink.taken c.visit.new.notes; told_failures = g.N.Sink.failures c.visit.new.notes; left_out = c.visit.new.left_out } in
     let way = way_on w c.in-Some.name c.deref-2.result.now c.push.new.self.items c.deref-2.ensures.value c.in_ok-push.ensures.items in
-    let visits = visit_at s c.args.owners (firsts_of w.firsts) (firsts_of c.visit.new.firsts) _ (way_of w ++ c.in-Some.name.now ∷ []) c.in-Some.ino old seen (Ok c.in_ok-visit.field-0) way c.in_ok-visit.ensures in
+    let visits = visit_at s c.args.owners (firsts_of w.firsts) (firsts_of c.visit.new.firsts) _ (extraction_way w ++ c.in-Some.name.now ∷ []) c.in-Some.ino old seen (Ok c.in_ok-visit.field-0) way c.in_ok-visit.ensures in
     let n : Walk = record { path = c.pop.new.self; ino = w.ino; left = c.next.new.self; above = w.above; firsts = c.visit.new.firsts; left_out = c.visit.new.left_out } in
     stays s c.args.owners w n c.in-Some.name.now c.in-Some.ino old seen c.in-Some.ensures.steps refl refl
     (way_back w c.in-Some.name c.push.new.self.items c.pop.new.self.items c.in_ok-push.ensures.items
     (c.pop.ensures.rest ∙ ap (λ (k : ℕ). take (k - 1) c.push.new.self.items) c.push.new.self.ok.0))
-    (subst (λ (b : Bool). Visits s c.args.owners (firsts_of w.firsts) (firsts_of c.visit.new.firsts) (way_of w ++ c.in-Some.name.now ∷ []) c.in-Some.ino old seen (Ok b)) c.if-branch.false visits)
+    (subst (λ (b : Bool). Visits s c.args.owners (firsts_of w.firsts) (firsts_of c.visit.new.firsts) (extraction_way w ++ c.in-Some.name.now ∷ []) c.in-Some.ino old seen (Ok b)) c.if-branch.false visits)

@@ -3,7 +3,7 @@ use Rattle.std.specs.Prelude.{IfOk, IfSome, IsPermutation}
 use Rattle.std.specs.List.{All}
 use Rattle.std.specs.String.{string_bytes}
 use Rattle.jfolder.specs.Actions.{IsRooted}
-use Rattle.jfolder.specs.Complete.{GoesOn, NamesFit, children_of, left_paths}
+use Rattle.jfolder.specs.Complete.{StaysCovered, NamesFit, children_of, left_paths}
 use Rattle.jfolder.specs.Known.{inside}
 use Rattle.jfolder.specs.Links.{LinksFit}
 use Rattle.jfolder.specs.Objects.{HasObject, IsOfKind}
@@ -42,7 +42,7 @@ returns-in-Ok-clause-told g c =
     subst (λ (l : List ℕ). NamesFit (known.names (inside l)) c.in-Ok.found.what c.in-Ok.found.names) c.as_str.ensures.value c.in-Ok.ensures.names in
     tells_as (λ _ lefts. IsPermutation (children_of (string_bytes c.args.path) c.in-Ok.found.names ++ texts old.pending.items) (texts c.add.new.self.pending.items ++ left_paths lefts)
     × All (IsUnlistedIn (string_bytes c.args.path) c.in-Ok.found.names) lefts)
-    (λ _ lefts. GoesOn known old.items.items (texts old.pending.items ++ string_bytes c.args.path ∷ []) c.add.new.self.items.items (texts c.add.new.self.pending.items) lefts
+    (λ _ lefts. StaysCovered known old.items.items (texts old.pending.items ++ string_bytes c.args.path ∷ []) c.add.new.self.items.items (texts c.add.new.self.pending.items) lefts
     × All (IsRight known c.args.options.now c.add.new.self.items.items) lefts)
     (g.N.Sink.taken c.args.notes.now) (g.N.Sink.taken c.add.new.notes) (g.N.Sink.failures c.args.notes.now) (g.N.Sink.failures c.add.new.notes)
     old.left_out c.add.new.self.left_out c.add.result
@@ -60,7 +60,7 @@ returns-in-Err-LeftOut-clause-told g c =
     let is : c.in-Err-LeftOut.field-0 ≡ skip.LeftOut c.in-Err-LeftOut.reason = cc in
     let right : IsRight known c.args.options.now old.items.items (c.as_str.result.now, c.in-Err-LeftOut.reason) =
     subst (SkipsFor (λ why. IsRight known c.args.options.now old.items.items (c.as_str.result.now, why))) is c.in-Err-LeftOut.ensures.why in
-    tells_as _ (λ _ lefts. GoesOn known old.items.items (texts old.pending.items ++ string_bytes c.args.path ∷ []) old.items.items (texts old.pending.items) lefts
+    tells_as _ (λ _ lefts. StaysCovered known old.items.items (texts old.pending.items ++ string_bytes c.args.path ∷ []) old.items.items (texts old.pending.items) lefts
     × All (IsRight known c.args.options.now old.items.items) lefts)
     (g.N.Sink.taken c.args.notes.now) (g.N.Sink.taken c.leave_out.new.notes) (g.N.Sink.failures c.args.notes.now) (g.N.Sink.failures c.leave_out.new.notes)
     old.left_out c.leave_out.new.count c.leave_out.result
