@@ -4,7 +4,6 @@ use jnode::{Fill, InodeNode, Order, Part, write_entry, write_inode};
 use jscan::Geometry;
 use std::test::Fail;
 use test_support::{entry, fill_up};
-
 pub use test_support::{DIRECTORY, FILE};
 
 /// Blocks that are read and written.

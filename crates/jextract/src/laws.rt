@@ -29,5 +29,5 @@ pub fn makes_through_directories()
 
 /// A further name is of a file or a symlink that was made in the folder before, if the root is a directory.
 pub fn links_back()
-    ensures { law.LinksBack }
+    ensures { law.LinksLeadBack }
 {}

@@ -105,34 +105,34 @@ lines_blame u v rb rn mb mn (Err program.Output) read made = made
 lines_blame u v rb rn mb mn (Err program.OutOfMemory) read made = made
 
 -- a file that a line names was not read
-pub parts_blame : (T : Type 0) (u v : Type 0) (rb rn mb mn : ℕ) (lines : List Line) (f : ProgramFault) → u → IsPartUnread lines f → IsReadFault rb rn f → Blames {T = T} u v rb rn mb mn (Err f)
-parts_blame T u v rb rn mb mn lines (program.Load load.Device) still not read = (still, read)
-parts_blame T u v rb rn mb mn lines (program.Load load.TooLarge) still not read = still
-parts_blame T u v rb rn mb mn lines (program.Load load.OutOfMemory) still not read = still
-parts_blame T u v rb rn mb mn lines (program.Scan f) still not read = absurd not
-parts_blame T u v rb rn mb mn lines (program.Mount f) still not read = absurd not
-parts_blame T u v rb rn mb mn lines (program.File name) still not read = inl (still, read)
-parts_blame T u v rb rn mb mn lines (program.Listing k) still not read = absurd not
-parts_blame T u v rb rn mb mn lines (program.Session f line) still not read = absurd not
-parts_blame T u v rb rn mb mn lines (program.Path f) still not read = absurd not
-parts_blame T u v rb rn mb mn lines program.NotRegular still not read = absurd not
-parts_blame T u v rb rn mb mn lines program.Output still not read = absurd not
-parts_blame T u v rb rn mb mn lines program.OutOfMemory still not read = inl still
+pub parts_blame : (T : Type 0) (u v : Type 0) (rb rn mb mn : ℕ) (told : List ℕ → Option (List ℕ)) (lines : List Line) (f : ProgramFault) → u → IsPartUnread told lines f → IsReadFault rb rn f → Blames {T = T} u v rb rn mb mn (Err f)
+parts_blame T u v rb rn mb mn told lines (program.Load load.Device) still not read = (still, read)
+parts_blame T u v rb rn mb mn told lines (program.Load load.TooLarge) still not read = still
+parts_blame T u v rb rn mb mn told lines (program.Load load.OutOfMemory) still not read = still
+parts_blame T u v rb rn mb mn told lines (program.Scan f) still not read = absurd not
+parts_blame T u v rb rn mb mn told lines (program.Mount f) still not read = absurd not
+parts_blame T u v rb rn mb mn told lines (program.File name) still not read = inl (still, read)
+parts_blame T u v rb rn mb mn told lines (program.Listing k) still not read = absurd not
+parts_blame T u v rb rn mb mn told lines (program.Session f line) still not read = absurd not
+parts_blame T u v rb rn mb mn told lines (program.Path f) still not read = absurd not
+parts_blame T u v rb rn mb mn told lines program.NotRegular still not read = absurd not
+parts_blame T u v rb rn mb mn told lines program.Output still not read = absurd not
+parts_blame T u v rb rn mb mn told lines program.OutOfMemory still not read = inl still
 
 -- a file that the words name was not read
-pub file_blame : (T : Type 0) (u v : Type 0) (rb rn mb mn : ℕ) (name : List ℕ) (f : ProgramFault) → u → IsUnreadFile name f → IsReadFault rb rn f → Blames {T = T} u v rb rn mb mn (Err f)
-file_blame T u v rb rn mb mn name (program.Load load.Device) still not read = (still, read)
-file_blame T u v rb rn mb mn name (program.Load load.TooLarge) still not read = still
-file_blame T u v rb rn mb mn name (program.Load load.OutOfMemory) still not read = still
-file_blame T u v rb rn mb mn name (program.Scan f) still not read = absurd not
-file_blame T u v rb rn mb mn name (program.Mount f) still not read = absurd not
-file_blame T u v rb rn mb mn name (program.File other) still not read = inl (still, read)
-file_blame T u v rb rn mb mn name (program.Listing k) still not read = absurd not
-file_blame T u v rb rn mb mn name (program.Session f line) still not read = absurd not
-file_blame T u v rb rn mb mn name (program.Path f) still not read = absurd not
-file_blame T u v rb rn mb mn name program.NotRegular still not read = absurd not
-file_blame T u v rb rn mb mn name program.Output still not read = absurd not
-file_blame T u v rb rn mb mn name program.OutOfMemory still not read = absurd not
+pub file_blame : (T : Type 0) (u v : Type 0) (rb rn mb mn : ℕ) (name : List ℕ) (told : Option (List ℕ)) (f : ProgramFault) → u → IsUnreadFile name told f → IsReadFault rb rn f → Blames {T = T} u v rb rn mb mn (Err f)
+file_blame T u v rb rn mb mn name told (program.Load load.Device) still not read = (still, read)
+file_blame T u v rb rn mb mn name told (program.Load load.TooLarge) still not read = still
+file_blame T u v rb rn mb mn name told (program.Load load.OutOfMemory) still not read = still
+file_blame T u v rb rn mb mn name told (program.Scan f) still not read = absurd not
+file_blame T u v rb rn mb mn name told (program.Mount f) still not read = absurd not
+file_blame T u v rb rn mb mn name told (program.File other) still not read = inl (still, read)
+file_blame T u v rb rn mb mn name told (program.Listing k) still not read = absurd not
+file_blame T u v rb rn mb mn name told (program.Session f line) still not read = absurd not
+file_blame T u v rb rn mb mn name told (program.Path f) still not read = absurd not
+file_blame T u v rb rn mb mn name told program.NotRegular still not read = absurd not
+file_blame T u v rb rn mb mn name told program.Output still not read = absurd not
+file_blame T u v rb rn mb mn name told program.OutOfMemory still not read = absurd not
 
 -- a fault is none of an answer
 pub any_blame : (T : Type 0) (u v : Type 0) (rb rn mb mn : ℕ) (f : ProgramFault) → Blames {T = Unit {0}} u v rb rn mb mn (Err f) → Blames {T = T} u v rb rn mb mn (Err f)
@@ -234,7 +234,7 @@ files_not_made told page e size blocks output base text m old new f (Err g) faul
     subst (λ (z : ProgramFault). RunsFiles {T = Unit {0}} told page e size blocks base text old new (Err z)) (sym fault) (by f not)
   where
     by : (f : ProgramFault) → IsNotMade page e size blocks m output f → RunsFiles {T = Unit {0}} told page e size blocks base text old new (Err f)
-    by (program.Load f) not = tt
+    by (program.Load f) not = absurd not
     by (program.Scan f) not = tt
     by (program.Mount f) not = tt
     by (program.File name) not = tt

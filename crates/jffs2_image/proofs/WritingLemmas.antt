@@ -20,12 +20,15 @@ use Rattle.jbuild.specs.Operations.{ops_in}
 use Rattle.jreport.specs.declared.faults.ProgramFault.{ProgramFault}
 use Rattle.jreport.specs.declared.faults.ProgramFault.TheVariants as program
 use Rattle.std.proofs.Common.{[]}
+use Rattle.std.proofs.Math.Path.{fun_ext}
+use Rattle.flashbase.specs.declared.source.LoadFault.TheVariants as load
 use Rattle.std.specs.Prelude.{IsFalse}
 use Rattle.jscan.specs.Image.{is_block_size}
 use Rattle.jscan.specs.declared.geometry.ScanFault.TheVariants as scan
 use Rattle.jcommand.specs.Parsed.{BuildParsed, AppendParsed}
 use Rattle.jcommand.specs.declared.parsed.Options.{Options}
-use Rattle.jffs2_image.specs.Runs.{Meets}
+use Rattle.jffs2_image.specs.Host.{AreOf, RunsFiles}
+use Rattle.jffs2_image.specs.Runs.{Meets, RunsListed}
 use Rattle.jffs2_image.specs.Writes.{IsMade, IsNotMade, IsRunOn, IsSessionFault, WritesImage}
 
 -- the image is not gone on from
@@ -103,40 +106,64 @@ any_answer page e size blocks output base text old new before now program.NotReg
 any_answer page e size blocks output base text old new before now program.Output w = w
 any_answer page e size blocks output base text old new before now program.OutOfMemory w = w
 
-answers_fault : (page : Page) (e : Endian) (size blocks : ℕ) (output base text : List ℕ) (old new : Option (List ℕ)) (before now : ℕ) (f : ProgramFault) (answer : Result ℕ ProgramFault)
-    → IsErrAnd answer (λ is. is ≡ f) → WritesImage {T = Unit {0}} page e size blocks output base text old new before now (Err f) → WritesImage {T = ℕ} page e size blocks output base text old new before now answer
-answers_fault page e size blocks output base text old new before now f (Ok x) is w = absurd is
-answers_fault page e size blocks output base text old new before now f (Err other) is w =
-    subst (λ (z : ProgramFault). WritesImage {T = ℕ} page e size blocks output base text old new before now (Err z)) (sym is) (any_answer page e size blocks output base text old new before now f w)
-
 -- it is not that a block has the wrong size for a report
 no_scan : (page : Page) (e : Endian) (size blocks : ℕ) (output base text : List ℕ) (old new : Option (List ℕ)) (before now : ℕ) (answer : Result ℕ ProgramFault)
     → WritesImage {T = ℕ} page e size blocks output base text old new before now answer → answer ≡ Err (program.Scan scan.BlockSize) → IsFalse (is_block_size size)
 no_scan page e size blocks output base text old new before now answer w is =
     absurd ((subst (λ (r : Result ℕ ProgramFault). WritesImage {T = ℕ} page e size blocks output base text old new before now r) is w).0)
 
-pub builds : (page : Page) (e : Endian) (options : Options) (blocks : ℕ) (listing output text : List ℕ) (old new : Option (List ℕ)) (before now : ℕ) (answer : Result ℕ ProgramFault)
-    → WritesImage {T = ℕ} page e options.geometry.block blocks output [] text old new before now answer → Meets e (BuildParsed options blocks page listing output) old new before now answer
-builds page e options blocks listing output text old new before now answer w = record {
-  block_size = no_scan page e options.geometry.block blocks output [] text old new before now answer w;
-  put = inl ([], (refl, (text, w)));
+-- nor is it that a file is too long
+any_files : (told : List ℕ → Option (List ℕ)) (page : Page) (e : Endian) (size blocks : ℕ) (base text : List ℕ) (old new : Option (List ℕ)) (f : ProgramFault)
+    → RunsFiles {T = Unit {0}} told page e size blocks base text old new (Err f) → RunsFiles {T = ℕ} told page e size blocks base text old new (Err f)
+any_files told page e size blocks base text old new (program.Load load.Device) w = w
+any_files told page e size blocks base text old new (program.Load load.TooLarge) w = w
+any_files told page e size blocks base text old new (program.Load load.OutOfMemory) w = w
+any_files told page e size blocks base text old new (program.Scan f) w = w
+any_files told page e size blocks base text old new (program.Mount f) w = w
+any_files told page e size blocks base text old new (program.File f) w = w
+any_files told page e size blocks base text old new (program.Listing f) w = w
+any_files told page e size blocks base text old new (program.Session f None) w = w
+any_files told page e size blocks base text old new (program.Session f (Some line)) w = w
+any_files told page e size blocks base text old new (program.Path f) w = w
+any_files told page e size blocks base text old new program.NotRegular w = w
+any_files told page e size blocks base text old new program.Output w = w
+any_files told page e size blocks base text old new program.OutOfMemory w = w
+
+-- What a listing of these bytes comes to is what that of a name does, whose bytes these are; the host tells the same of its files
+-- as when they were not read yet.
+pub listed : (told later : List ℕ → Option (List ℕ)) (page : Page) (e : Endian) (size blocks : ℕ) (listing output base text : List ℕ) (old new : Option (List ℕ)) (before now : ℕ) (answer : Result ℕ ProgramFault)
+    → ((name : List ℕ) → later name ≡ told name) → AreOf (told listing) text
+    → WritesImage {T = ℕ} page e size blocks output base text old new before now answer → RunsFiles {T = ℕ} later page e size blocks base text old new answer
+    → RunsListed told page e size blocks listing output base old new before now answer
+listed told later page e size blocks listing output base text old new before now answer same is w files =
+    (text, (is, (w, subst (λ (t : List ℕ → Option (List ℕ)). RunsFiles {T = ℕ} t page e size blocks base text old new answer) (fun_ext same) files)))
+
+pub listed_fault : (told later : List ℕ → Option (List ℕ)) (page : Page) (e : Endian) (size blocks : ℕ) (listing output base text : List ℕ) (old new : Option (List ℕ)) (before now : ℕ) (f : ProgramFault) (answer : Result ℕ ProgramFault)
+    → IsErrAnd answer (λ is. is ≡ f) → ((name : List ℕ) → later name ≡ told name) → AreOf (told listing) text
+    → WritesImage {T = Unit {0}} page e size blocks output base text old new before now (Err f) → RunsFiles {T = Unit {0}} later page e size blocks base text old new (Err f)
+    → RunsListed told page e size blocks listing output base old new before now answer
+listed_fault told later page e size blocks listing output base text old new before now f (Ok x) fault same is w files = absurd fault
+listed_fault told later page e size blocks listing output base text old new before now f (Err other) fault same is w files =
+    subst (λ (z : ProgramFault). RunsListed told page e size blocks listing output base old new before now (Err z)) (sym fault)
+    (listed told later page e size blocks listing output base text old new before now (Err f) same is
+    (any_answer page e size blocks output base text old new before now f w) (any_files later page e size blocks base text old new f files))
+
+-- it is not that a block has the wrong size for a report
+not_scanned : (told : List ℕ → Option (List ℕ)) (page : Page) (e : Endian) (size blocks : ℕ) (listing output base : List ℕ) (old new : Option (List ℕ)) (before now : ℕ) (answer : Result ℕ ProgramFault)
+    → RunsListed told page e size blocks listing output base old new before now answer → answer ≡ Err (program.Scan scan.BlockSize) → IsFalse (is_block_size size)
+not_scanned told page e size blocks listing output base old new before now answer runs is = no_scan page e size blocks output base runs.0 old new before now answer runs.2 is
+
+pub builds : (told : List ℕ → Option (List ℕ)) (page : Page) (e : Endian) (options : Options) (blocks : ℕ) (listing output : List ℕ) (old new : Option (List ℕ)) (before now : ℕ) (answer : Result ℕ ProgramFault)
+    → RunsListed told page e options.geometry.block blocks listing output [] old new before now answer → Meets told e (BuildParsed options blocks page listing output) old new before now answer
+builds told page e options blocks listing output old new before now answer runs = record {
+  block_size = not_scanned told page e options.geometry.block blocks listing output [] old new before now answer runs;
+  put = inl ([], (refl, runs));
 }
 
-pub build_fault : (page : Page) (e : Endian) (options : Options) (blocks : ℕ) (listing output text : List ℕ) (old new : Option (List ℕ)) (before now : ℕ) (f : ProgramFault) (answer : Result ℕ ProgramFault)
-    → IsErrAnd answer (λ is. is ≡ f) → WritesImage {T = Unit {0}} page e options.geometry.block blocks output [] text old new before now (Err f)
-    → Meets e (BuildParsed options blocks page listing output) old new before now answer
-build_fault page e options blocks listing output text old new before now f answer is w =
-    builds page e options blocks listing output text old new before now answer (answers_fault page e options.geometry.block blocks output [] text old new before now f answer is w)
-
-pub appends : (page : Page) (e : Endian) (options : Options) (blocks : ℕ) (name listing output base text : List ℕ) (old new : Option (List ℕ)) (before now : ℕ) (answer : Result ℕ ProgramFault)
-    → WritesImage {T = ℕ} page e options.geometry.block blocks output base text old new before now answer → Meets e (AppendParsed options blocks page name listing output) old new before now answer
-appends page e options blocks name listing output base text old new before now answer w = record {
-  block_size = no_scan page e options.geometry.block blocks output base text old new before now answer w;
-  put = inl (base, (text, w));
+pub appends : (told : List ℕ → Option (List ℕ)) (page : Page) (e : Endian) (options : Options) (blocks : ℕ) (name listing output base : List ℕ) (old new : Option (List ℕ)) (before now : ℕ) (answer : Result ℕ ProgramFault)
+    → AreOf (told name) base → RunsListed told page e options.geometry.block blocks listing output base old new before now answer
+    → Meets told e (AppendParsed options blocks page name listing output) old new before now answer
+appends told page e options blocks name listing output base old new before now answer is runs = record {
+  block_size = not_scanned told page e options.geometry.block blocks listing output base old new before now answer runs;
+  put = inl (base, (is, runs));
 }
-
-pub append_fault : (page : Page) (e : Endian) (options : Options) (blocks : ℕ) (name listing output base text : List ℕ) (old new : Option (List ℕ)) (before now : ℕ) (f : ProgramFault) (answer : Result ℕ ProgramFault)
-    → IsErrAnd answer (λ is. is ≡ f) → WritesImage {T = Unit {0}} page e options.geometry.block blocks output base text old new before now (Err f)
-    → Meets e (AppendParsed options blocks page name listing output) old new before now answer
-append_fault page e options blocks name listing output base text old new before now f answer is w =
-    appends page e options blocks name listing output base text old new before now answer (answers_fault page e options.geometry.block blocks output base text old new before now f answer is w)

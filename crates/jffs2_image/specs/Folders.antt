@@ -57,7 +57,7 @@ abbrev pub ExtractsImage : Endian → ℕ → Bool → Option (List ℕ) → ℕ
 ExtractsImage e size owners told read_before read_now image folder old new before now told_old told_new told_before told_now result =
     ((bytes : List ℕ) × AreOf told bytes × (read_now ≡ read_before)
     × ExtractsBytes e size owners bytes folder old new before now told_old told_new told_before told_now result)
-    ⊎ ((fault : ProgramFault) × (result ≡ Err fault) × IsUnreadFile image fault × IsReadFault read_before read_now fault
+    ⊎ ((fault : ProgramFault) × (result ≡ Err fault) × IsUnreadFile image told fault × IsReadFault read_before read_now fault
     × (new ≡ old) × (now ≡ before) × (told_new ≡ told_old) × (told_now ≡ told_before))
 
 -- The same by a host that gives the folder and takes it back: its count of refusals is that folder's own. Or there is no

@@ -3,6 +3,7 @@ use Rattle.std.specs.Prelude.{◌≡◌, ◌⊎◌, ◌++◌, ℕ, List, [], ◌
 use Rattle.std.specs.Io.KnownBytes.{Appends}
 use Rattle.flashbase.specs.Device.{PutsPart, next_count}
 use Rattle.flashbase.specs.declared.source.LoadFault.TheVariants as load
+use Rattle.jlisting.specs.Listing.{lines_of}
 use Rattle.jlisting.specs.declared.line.Line.{Line}
 use Rattle.jsteps.specs.declared.page.Page.{Page}
 use Rattle.jlog.specs.declared.fault.SessionFault.{SessionFault}
@@ -20,8 +21,7 @@ use Rattle.jcommand.specs.declared.parsed.Request.{Request}
 use Rattle.jcommand.specs.declared.command_line.RequestFault.{RequestFault}
 use Rattle.jreport.specs.declared.faults.ProgramFault.{ProgramFault}
 use Rattle.jreport.specs.declared.faults.ProgramFault.TheVariants as program
-use Rattle.jffs2_image.specs.Runs.{HasFailed}
-use Rattle.jffs2_image.specs.Writes.{IsNamedByLine, IsRunOn}
+use Rattle.jffs2_image.specs.Writes.{IsNamedByLine, IsPartUnread, IsRunOn}
 use Rattle.jffs2_image.specs.declared.host.FileFault.{FileFault}
 use Rattle.jffs2_image.specs.declared.host.FileFault.TheVariants as file
 use Rattle.jffs2_image.specs.declared.host.MakeFault.{MakeFault}
@@ -45,6 +45,10 @@ abbrev pub IsReadFault : ℕ → ℕ → ProgramFault → Type 0
 IsReadFault before now (program.File name) = now ≡ next_count before
 IsReadFault before now (program.Load load.Device) = now ≡ next_count before
 IsReadFault before now _ = Unit {0}
+
+-- a source gives the bytes of the file, where the host tells them
+abbrev pub GivesFile : Option (List ℕ) → Option (List ℕ) → Type 0
+GivesFile told rest = IfSome told (λ bytes. rest ≡ Some bytes)
 
 -- the bytes are those of the file, where the host tells them
 abbrev pub AreOf : Option (List ℕ) → List ℕ → Type 0
@@ -71,6 +75,8 @@ RunsFiles told page e size blocks base text old new (Err program.Output) =
 RunsFiles told page e size blocks base text old new (Err (program.Session fault (Some number))) =
     (lines : List Line) × (accepted : ℕ) × (places : List Place) × (run : IsRunOn page e size blocks base text lines accepted places (Some fault))
     × HaveBytes told lines run.files × (option_map (λ l. l.number) (slice_get lines accepted) ≡ Some number)
+RunsFiles told page e size blocks base text old new (Err (program.Load load.TooLarge)) =
+    (lines : List Line) × (lines_of text ≡ Ok lines) × IsPartUnread told lines (program.Load load.TooLarge)
 RunsFiles told page e size blocks base text old new (Err _) = Unit {0}
 
 -- ---- the file that is made
@@ -91,6 +97,10 @@ Leaves makes same (program.File name) = same
 Leaves makes same _ = makes
 
 -- ---- who is to blame
+
+-- the output failed, once or twice
+abbrev pub HasFailed : ℕ → ℕ → Type 0
+HasFailed before now = (now ≡ next_count before) ⊎ (now ≡ next_count (next_count before))
 
 -- the output failed, and is handed back with a count that rose; at any other fault it may be gone
 abbrev pub IsHandedBack : ℕ → SessionFault → Option ℕ → Type 0
@@ -145,18 +155,24 @@ Blames untouched makes read_before read_now made_before made_now (Err program.Ou
 Blames untouched makes read_before read_now made_before made_now (Err program.OutOfMemory) = untouched ⊎ makes
 Blames untouched makes read_before read_now made_before made_now (Err _) = Unit {0}
 
--- the same of a request that writes an image, whose file has the name of its output; any other touches nothing
-abbrev pub BlamesFor : {T : Type 0} → Parsed → Type 0 → Type 0 → Option (List (List ℕ)) → Option (List (List ℕ)) → ℕ → ℕ → ℕ → ℕ → Result T ProgramFault → Type 0
-BlamesFor (BuildParsed options blocks page listing output) unread untouched names_old names_new read_before read_now made_before made_now result =
+-- a file that is only read counts once where it can't be opened
+abbrev pub OpensFile : {T : Type 0} → ℕ → ℕ → Result T ProgramFault → Type 0
+OpensFile before now (Err (program.File name)) = now ≡ next_count before
+OpensFile before now _ = now ≡ before
+
+-- the same of a request that writes an image, whose file has the name of its output; any other opens the file of its image, and
+-- makes none
+abbrev pub BlamesFor : {T : Type 0} → Parsed → Type 0 → Option (List (List ℕ)) → Option (List (List ℕ)) → ℕ → ℕ → ℕ → ℕ → Result T ProgramFault → Type 0
+BlamesFor (BuildParsed options blocks page listing output) untouched names_old names_new read_before read_now made_before made_now result =
     Blames untouched (MakesFile output names_old names_new) read_before read_now made_before made_now result
-BlamesFor (AppendParsed options blocks page image listing output) unread untouched names_old names_new read_before read_now made_before made_now result =
+BlamesFor (AppendParsed options blocks page image listing output) untouched names_old names_new read_before read_now made_before made_now result =
     Blames untouched (MakesFile output names_old names_new) read_before read_now made_before made_now result
-BlamesFor _ unread untouched names_old names_new read_before read_now made_before made_now result = unread × untouched
+BlamesFor _ untouched names_old names_new read_before read_now made_before made_now result = OpensFile read_before read_now result × untouched
 
 -- the same of a command line; one that makes no request touches nothing
 abbrev pub BlamesCommand : Result Request RequestFault → Type 0 → Type 0 → Option (List (List ℕ)) → Option (List (List ℕ)) → ℕ → ℕ → ℕ → ℕ → Result Success Stop → Type 0
 BlamesCommand (Ok request) unread untouched names_old names_new read_before read_now made_before made_now (Ok ended) =
-    BlamesFor {T = Success} (view request) unread untouched names_old names_new read_before read_now made_before made_now (Ok ended)
+    BlamesFor {T = Success} (view request) untouched names_old names_new read_before read_now made_before made_now (Ok ended)
 BlamesCommand (Ok request) unread untouched names_old names_new read_before read_now made_before made_now (Err (stop.Fault fault)) =
-    BlamesFor {T = Success} (view request) unread untouched names_old names_new read_before read_now made_before made_now (Err fault)
+    BlamesFor {T = Success} (view request) untouched names_old names_new read_before read_now made_before made_now (Err fault)
 BlamesCommand _ unread untouched names_old names_new read_before read_now made_before made_now _ = unread × untouched

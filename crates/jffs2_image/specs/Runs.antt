@@ -21,6 +21,8 @@ use Rattle.jcommand.specs.declared.command_line.RequestFault.TheVariants as refu
 use Rattle.jcommand.specs.Status.{outcome_of}
 use Rattle.jcommand.specs.declared.outcome.Outcome.{Outcome}
 use Rattle.jcommand.specs.declared.outcome.Outcome.TheVariants as outcome
+use Rattle.jsteps.specs.declared.page.Page.{Page}
+use Rattle.jffs2_image.specs.Host.{AreOf, HasFailed, RunsFiles}
 use Rattle.jffs2_image.specs.Writes.{IsUnreadFile, WritesImage}
 use Rattle.jffs2_image.specs.declared.program.Success.{Success}
 use Rattle.jffs2_image.specs.declared.program.Success.TheVariants as success
@@ -46,17 +48,29 @@ abbrev pub PutsJudged : Endian → ℕ → Bool → List ℕ → Option (List �
 PutsJudged e size asked image old new before now (Ok n) = (found : Bool) × (n ≡ number_found found) × PutsCheck e size image asked old new before now (Ok found)
 PutsJudged e size asked image old new before now (Err fault) = PutsCheck e size image asked old new before now (Err fault)
 
+-- the image of a request is the file of the name that it gives, where the host tells its bytes; `build` has none
+abbrev pub IsImageOf : (List ℕ → Option (List ℕ)) → Parsed → List ℕ → Type 0
+IsImageOf told (ScanParsed options name) image = AreOf (told name) image
+IsImageOf told (CheckParsed options shape name) image = AreOf (told name) image
+IsImageOf told (ListParsed options name) image = AreOf (told name) image
+IsImageOf told (CatParsed options name word) image = AreOf (told name) image
+IsImageOf told (BuildParsed options blocks page listing output) image = image ≡ []
+IsImageOf told (AppendParsed options blocks page name listing output) image = AreOf (told name) image
+
+-- the listing of a name is run on an image, with the bytes of the files that its lines name; each where the host tells its bytes
+abbrev pub RunsListed : (List ℕ → Option (List ℕ)) → Page → Endian → ℕ → ℕ → List ℕ → List ℕ → List ℕ → Option (List ℕ) → Option (List ℕ) → ℕ → ℕ → Result ℕ ProgramFault → Type 0
+RunsListed told page e size blocks listing output image old new before now answer = (text : List ℕ) × AreOf (told listing) text
+    × WritesImage page e size blocks output image text old new before now answer × RunsFiles told page e size blocks image text old new answer
+
 -- what is put of an image, or why no more of it is
-abbrev pub PutsAnswer : Endian → Parsed → List ℕ → Option (List ℕ) → Option (List ℕ) → ℕ → ℕ → Result ℕ ProgramFault → Type 0
-PutsAnswer e (ScanParsed options name) = PutsStream e options.geometry.block
-PutsAnswer e (CheckParsed options shape name) = PutsJudged e options.geometry.block shape
-PutsAnswer e (ListParsed options name) = PutsListing e options.geometry.block
-PutsAnswer e (CatParsed options name word) = λ image old new before now answer.
+abbrev pub PutsAnswer : (List ℕ → Option (List ℕ)) → Endian → Parsed → List ℕ → Option (List ℕ) → Option (List ℕ) → ℕ → ℕ → Result ℕ ProgramFault → Type 0
+PutsAnswer told e (ScanParsed options name) = PutsStream e options.geometry.block
+PutsAnswer told e (CheckParsed options shape name) = PutsJudged e options.geometry.block shape
+PutsAnswer told e (ListParsed options name) = PutsListing e options.geometry.block
+PutsAnswer told e (CatParsed options name word) = λ image old new before now answer.
     (path : List ℕ) × (path_of word ≡ Some path) × PutsFile e options.geometry.block image path old new before now answer
-PutsAnswer e (BuildParsed options blocks page listing output) = λ image old new before now answer.
-    (image ≡ []) × ((text : List ℕ) × WritesImage page e options.geometry.block blocks output image text old new before now answer)
-PutsAnswer e (AppendParsed options blocks page name listing output) = λ image old new before now answer.
-    (text : List ℕ) × WritesImage page e options.geometry.block blocks output image text old new before now answer
+PutsAnswer told e (BuildParsed options blocks page listing output) = RunsListed told page e options.geometry.block blocks listing output
+PutsAnswer told e (AppendParsed options blocks page name listing output) = RunsListed told page e options.geometry.block blocks listing output
 
 -- its file can't be opened
 abbrev pub IsUnopened : List ℕ → ProgramFault → Type 0
@@ -65,21 +79,22 @@ IsUnopened file _ = ⊥
 
 -- why no image is read: its file can't be opened, or the word of the path can't be read; where an image is written, it or
 -- the listing can't be opened, or not be read to its end
-abbrev pub IsEarlyFault : Parsed → ProgramFault → Type 0
-IsEarlyFault (ScanParsed options image) fault = IsUnopened image fault
-IsEarlyFault (CheckParsed options shape image) fault = IsUnopened image fault
-IsEarlyFault (ListParsed options image) fault = IsUnopened image fault
-IsEarlyFault (CatParsed options image word) (program.Path find.BadPath) = path_of word ≡ None
-IsEarlyFault (CatParsed options image word) program.OutOfMemory = Unit {0}
-IsEarlyFault (CatParsed options image word) fault = IsUnopened image fault
-IsEarlyFault (BuildParsed options blocks page listing output) fault = IsUnreadFile listing fault
-IsEarlyFault (AppendParsed options blocks page image listing output) fault = IsUnreadFile image fault ⊎ IsUnreadFile listing fault
+abbrev pub IsEarlyFault : (List ℕ → Option (List ℕ)) → Parsed → ProgramFault → Type 0
+IsEarlyFault told (ScanParsed options image) fault = IsUnopened image fault
+IsEarlyFault told (CheckParsed options shape image) fault = IsUnopened image fault
+IsEarlyFault told (ListParsed options image) fault = IsUnopened image fault
+IsEarlyFault told (CatParsed options image word) (program.Path find.BadPath) = path_of word ≡ None
+IsEarlyFault told (CatParsed options image word) program.OutOfMemory = Unit {0}
+IsEarlyFault told (CatParsed options image word) fault = IsUnopened image fault
+IsEarlyFault told (BuildParsed options blocks page listing output) fault = IsUnreadFile listing (told listing) fault
+IsEarlyFault told (AppendParsed options blocks page image listing output) fault = IsUnreadFile image (told image) fault ⊎ IsUnreadFile listing (told listing) fault
 
--- A request is met in the byte order e: there is an image of which the answer is put, or a fault comes before any is read.
-pub record Meets (e : Endian) (parsed : Parsed) (old new : Option (List ℕ)) (before now : ℕ) (answer : Result ℕ ProgramFault) : Type 0 where
+-- A request is met in the byte order e, where the host tells these bytes of its files: there is an image, that of the name where
+-- it is told, of which the answer is put, or a fault comes before any is read.
+pub record Meets (told : List ℕ → Option (List ℕ)) (e : Endian) (parsed : Parsed) (old new : Option (List ℕ)) (before now : ℕ) (answer : Result ℕ ProgramFault) : Type 0 where
   pub block_size : IsErrOf answer (program.Scan scan.BlockSize) → IsFalse (is_block_size (options_parsed parsed).geometry.block)
-  pub put : ((image : List ℕ) × PutsAnswer e parsed image old new before now answer)
-      ⊎ ((fault : ProgramFault) × (answer ≡ Err fault) × IsEarlyFault parsed fault × (new ≡ old) × (now ≡ before))
+  pub put : ((image : List ℕ) × IsImageOf told parsed image × PutsAnswer told e parsed image old new before now answer)
+      ⊎ ((fault : ProgramFault) × (answer ≡ Err fault) × IsEarlyFault told parsed fault × (new ≡ old) × (now ≡ before))
 
 -- the output gave on what it took, or failed once more
 abbrev pub Finishes : Option (List ℕ) → Option (List ℕ) → ℕ → ℕ → Bool → Type 0
@@ -93,12 +108,12 @@ answer_finished (Ok n) false = Err program.Output
 answer_finished (Err fault) finished = Err fault
 
 -- A request is met in the order that it names, and all that was put is given on.
-pub record MeetsWhole (parsed : Parsed) (old given : Option (List ℕ)) (before now : ℕ) (result : Result ℕ ProgramFault) : Type 0 where
+pub record MeetsWhole (told : List ℕ → Option (List ℕ)) (parsed : Parsed) (old given : Option (List ℕ)) (before now : ℕ) (result : Result ℕ ProgramFault) : Type 0 where
   pub taken : Option (List ℕ)
   pub count : ℕ
   pub answer : Result ℕ ProgramFault
   pub finished : Bool
-  pub meets : Meets (options_parsed parsed).endian parsed old taken before count answer
+  pub meets : Meets told (options_parsed parsed).endian parsed old taken before count answer
   pub finishes : Finishes taken given count now finished
   pub comes_to : result ≡ answer_finished answer finished
 
@@ -113,21 +128,17 @@ success_of (CatParsed options image path) n = success.Shown n
 success_of (BuildParsed options blocks page listing output) n = success.Shown n
 success_of (AppendParsed options blocks page image listing output) n = success.Shown n
 
--- the output failed, once or twice
-abbrev pub HasFailed : ℕ → ℕ → Type 0
-HasFailed before now = (now ≡ next_count before) ⊎ (now ≡ next_count (next_count before))
-
 -- What a command line is answered: the request is met; help goes out; a refusal and out of memory stay what they are.
-abbrev pub MeetsCommand : Result Request RequestFault → Option (List ℕ) → Option (List ℕ) → ℕ → ℕ → Result Success Stop → Type 0
-MeetsCommand (Ok request) old given before now (Ok ended) =
-    (n : ℕ) × (ended ≡ success_of (view request) n) × MeetsWhole (view request) old given before now (Ok n)
-MeetsCommand (Ok request) old given before now (Err (stop.Fault fault)) = MeetsWhole (view request) old given before now (Err fault)
-MeetsCommand (Err (refused.Help text)) old given before now (Ok ended) =
+abbrev pub MeetsCommand : (List ℕ → Option (List ℕ)) → Result Request RequestFault → Option (List ℕ) → Option (List ℕ) → ℕ → ℕ → Result Success Stop → Type 0
+MeetsCommand told (Ok request) old given before now (Ok ended) =
+    (n : ℕ) × (ended ≡ success_of (view request) n) × MeetsWhole told (view request) old given before now (Ok n)
+MeetsCommand told (Ok request) old given before now (Err (stop.Fault fault)) = MeetsWhole told (view request) old given before now (Err fault)
+MeetsCommand told (Err (refused.Help text)) old given before now (Ok ended) =
     (ended ≡ success.Shown 0) × Appends old given (string_bytes text) × (now ≡ before)
-MeetsCommand (Err (refused.Help text)) old given before now (Err (stop.Fault fault)) = (fault ≡ program.Output) × HasFailed before now
-MeetsCommand (Err (refused.Usage text)) old given before now (Err (stop.Usage said)) = said ≡ text
-MeetsCommand (Err refused.OutOfMemory) old given before now (Err (stop.Fault fault)) = fault ≡ program.OutOfMemory
-MeetsCommand _ old given before now _ = ⊥
+MeetsCommand told (Err (refused.Help text)) old given before now (Err (stop.Fault fault)) = (fault ≡ program.Output) × HasFailed before now
+MeetsCommand told (Err (refused.Usage text)) old given before now (Err (stop.Usage said)) = said ≡ text
+MeetsCommand told (Err refused.OutOfMemory) old given before now (Err (stop.Fault fault)) = fault ≡ program.OutOfMemory
+MeetsCommand told _ old given before now _ = ⊥
 
 -- what the words make of a command line
 abbrev pub IsCommand : List (List ℕ) → Result Request RequestFault → Type 0
@@ -159,8 +170,8 @@ Says untouched old new before now None = untouched
 Says untouched old new before now (Some text) = now ≡ before → Appends old new text
 
 -- A run of a command line that asks for no folder: what it is answered, and how it ends.
-pub record RunsCommand (command : Result Request RequestFault) (old given : Option (List ℕ)) (before now : ℕ) (says : Option (List ℕ) → Type 0) (result : Outcome) : Type 0 where
+pub record RunsCommand (told : List ℕ → Option (List ℕ)) (command : Result Request RequestFault) (old given : Option (List ℕ)) (before now : ℕ) (says : Option (List ℕ) → Type 0) (result : Outcome) : Type 0 where
   pub answer : Result Success Stop
-  pub meets : MeetsCommand command old given before now answer
+  pub meets : MeetsCommand told command old given before now answer
   pub ends : result ≡ outcome_after answer
   pub said : says (said_after answer)

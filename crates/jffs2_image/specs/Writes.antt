@@ -1,8 +1,10 @@
 -- What a command that writes an image does.
-use Rattle.std.specs.Prelude.{◌≡◌, ◌⊎◌, ℕ, List, Any, slice_get, option_map, Option, Some, None, Result, Ok, Err, IsOk}
+use Rattle.std.specs.Prelude.{◌≡◌, ◌⊎◌, ◌<◌, ℕ, List, Any, IfSome, length, slice_get, option_map, Option, Some, None, Result, Ok, Err, IsOk}
 use Rattle.std.specs.Io.KnownBytes.{Appends, Keeps}
 use Rattle.flashbase.specs.Device.{PutsPart, next_count}
+use Rattle.flashbase.specs.declared.source.LoadFault.TheVariants as load
 use Rattle.jnode.specs.declared.order.Endian.{Endian}
+use Rattle.jscan.specs.Image.{greatest_image}
 use Rattle.jmount.specs.Mount.{Mount}
 use Rattle.jmount.specs.Mounts.{Answers}
 use Rattle.jsteps.specs.declared.op.Op.{Op}
@@ -20,22 +22,30 @@ use Rattle.jbuild.specs.Operations.{ops_in}
 use Rattle.jreport.specs.declared.faults.ProgramFault.{ProgramFault}
 use Rattle.jreport.specs.declared.faults.ProgramFault.TheVariants as program
 
--- a file of this name can't be opened, or not be read to its end
-abbrev pub IsUnreadFile : List ℕ → ProgramFault → Type 0
-IsUnreadFile file (program.File name) = name.now ≡ file
-IsUnreadFile file (program.Load fault) = Unit {0}
-IsUnreadFile file _ = ⊥
+-- a file is longer than the greatest image, where the host tells its bytes
+abbrev pub IsTooLong : Option (List ℕ) → Type 0
+IsTooLong told = IfSome told (λ bytes. greatest_image < length bytes)
+
+-- A file of this name, of which the host tells these bytes, can't be opened, or not be read to its end.
+abbrev pub IsUnreadFile : List ℕ → Option (List ℕ) → ProgramFault → Type 0
+IsUnreadFile file told (program.File name) = name.now ≡ file
+IsUnreadFile file told (program.Load load.Device) = Unit {0}
+IsUnreadFile file told (program.Load load.TooLarge) = IsTooLong told
+IsUnreadFile file told (program.Load load.OutOfMemory) = Unit {0}
+IsUnreadFile file told _ = ⊥
 
 -- a line names this file of the host
 abbrev pub IsNamedByLine : List Line → List ℕ → Type 0
 IsNamedByLine lines name = Any (λ line. file_of line.action ≡ Some name) lines
 
 -- a file that a line names can't be read, or there is no memory for it
-abbrev pub IsPartUnread : List Line → ProgramFault → Type 0
-IsPartUnread lines (program.File name) = IsNamedByLine lines name.now
-IsPartUnread lines (program.Load fault) = Unit {0}
-IsPartUnread lines program.OutOfMemory = Unit {0}
-IsPartUnread lines _ = ⊥
+abbrev pub IsPartUnread : (List ℕ → Option (List ℕ)) → List Line → ProgramFault → Type 0
+IsPartUnread told lines (program.File name) = IsNamedByLine lines name.now
+IsPartUnread told lines (program.Load load.Device) = Unit {0}
+IsPartUnread told lines (program.Load load.TooLarge) = (name : List ℕ) × IsNamedByLine lines name × IsTooLong (told name)
+IsPartUnread told lines (program.Load load.OutOfMemory) = Unit {0}
+IsPartUnread told lines program.OutOfMemory = Unit {0}
+IsPartUnread told lines _ = ⊥
 
 -- ---- what goes out to the file that is made
 

@@ -1,10 +1,10 @@
 //! Files of the host: those that are read whole, and the one that is made.
-ghost use Rattle.std.specs.Prelude.{◌≡◌, ℕ, List, Option, IfOk, None};
-ghost use Rattle.flashbase.specs.Device.{next_count};
-ghost use Rattle.jffs2_image.specs.Host.{AreOf, CountsFile, MakesBy};
+ghost use Rattle.std.specs.Prelude.{◌≡◌, ◌<◌, ℕ, List, Option, IfOk, IfSome, None, Err, length};
+ghost use Rattle.flashbase.specs.Device.{CountsErr, next_count};
+ghost use Rattle.jffs2_image.specs.Host.{AreOf, CountsFile, GivesFile, MakesBy};
 
 use crate::output::{BufferedOutput, Output};
-use flashbase::{FromReader, LoadFault, load};
+use flashbase::{DeviceFault, FromReader, LoadFault, Source, load};
 use std::fs;
 use std::rt::Files;
 
@@ -17,8 +17,10 @@ pub enum FileFault {
     Load(LoadFault),
 }
 
-/// Reads files whole.
+/// Reads files, whole or as sources.
 pub trait Loader {
+    type Opened: Source;
+
     /// The bytes of the file of a name, where they are told.
     ghost told: { Self → List ℕ → Option (List ℕ) };
 
@@ -28,7 +30,14 @@ pub trait Loader {
     /// The bytes of the file of a name, if they are at most `limit`.
     fn load(&mut self, name: &str, limit: usize) -> Result<Vec<u8>, FileFault>
         ensures bytes { IfOk result (λ bytes. AreOf (told self.old name.now) bytes.items) }
+        ensures large { result ≡ Err (FileFault.Load LoadFault.TooLarge) → IfSome (told self.old name.now) (λ bytes. limit < length bytes) }
         ensures count { CountsFile (failures self.old) (failures self.new) result }
+        ensures stays { (other : List ℕ) → told self.new other ≡ told self.old other };
+
+    /// The file of a name, to be read from its start. How it then fails is its own count.
+    fn open(&mut self, name: &str) -> Result<Self::Opened, DeviceFault>
+        ensures opened { IfOk result (λ opened. GivesFile (told self.old name.now) (Self.Opened.rest opened)) }
+        ensures count { CountsErr (failures self.old) (failures self.new) result }
         ensures stays { (other : List ℕ) → told self.new other ≡ told self.old other };
 }
 
@@ -78,16 +87,17 @@ impl<'r, R: Files + AllocGlobal> FileLoader<'r, R> {
 }
 
 impl<'r, R: Files + AllocGlobal> Loader for FileLoader<'r, R> {
+    type Opened = FromReader<R::File>;
+
     ghost told = { λ _ _. None };
 
     ghost failures = { λ s. s.failures };
 
     fn load(&mut self, name: &str, limit: usize) -> Result<Vec<u8>, FileFault> {
-        let Ok(file) = fs::open(self.rt, name) else {
-            self.failures = self.failures.wrapping_add(1);
+        let Ok(mut file) = self.open(name) else {
             return Err(FileFault::NotOpened);
         };
-        match load(self.rt.alloc(), &mut FromReader::new(file), limit) {
+        match load(self.rt.alloc(), &mut file, limit) {
             Ok(bytes) => Ok(bytes),
             Err(fault) => {
                 if fault == LoadFault::Device {
@@ -96,6 +106,14 @@ impl<'r, R: Files + AllocGlobal> Loader for FileLoader<'r, R> {
                 Err(FileFault::Load(fault))
             }
         }
+    }
+
+    fn open(&mut self, name: &str) -> Result<FromReader<R::File>, DeviceFault> {
+        let Ok(file) = fs::open(self.rt, name) else {
+            self.failures = self.failures.wrapping_add(1);
+            return Err(DeviceFault);
+        };
+        Ok(FromReader::new(file))
     }
 }
 

@@ -58,7 +58,7 @@ fn run(rt: &HostRuntime) -> Outcome {
     let mut maker = FileMaker::new(rt);
     let mut folders = SystemFolders::new(rt, rt.stderr().is_terminal());
     program::run(
-        rt,
+        rt.alloc(),
         &mut loader,
         &mut maker,
         &mut folders,

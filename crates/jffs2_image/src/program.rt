@@ -3,16 +3,17 @@ ghost use Rattle.std.specs.Prelude.{◌≡◌, IfErr, OnOk, Some, map};
 ghost use Rattle.std.specs.Io.KnownBytes.{Appends};
 ghost use Rattle.jcommand.specs.Parsed.{Parsed, ScanParsed, CheckParsed, ListParsed, CatParsed, BuildParsed, AppendParsed, options_of, view};
 ghost use Rattle.jreport.specs.Faults.{fault_line_of};
-ghost use Rattle.jffs2_image.specs.Host.{Blames, BlamesCommand, BlamesFor, MakesFile};
+ghost use Rattle.flashbase.specs.Device.{CountsErr};
+ghost use Rattle.jffs2_image.specs.Host.{Blames, BlamesCommand, BlamesFor, GivesFile, HasFailed, MakesFile, OpensFile};
 ghost use Rattle.jffs2_image.specs.FolderRuns.{RunsExtract, RunsListing, RunsTask};
-ghost use Rattle.jffs2_image.specs.Runs.{HasFailed, IsCommand, Meets, MeetsCommand, MeetsWhole, RunsCommand, Says, note_after, success_of};
+ghost use Rattle.jffs2_image.specs.Runs.{IsCommand, Meets, MeetsCommand, MeetsWhole, RunsCommand, Says, note_after, success_of};
 
 use crate::folders::{Folders, run_extract, run_listing};
 use crate::host::{Loader, Maker};
 use crate::output::Output;
 use crate::writing::{load_file, write_image};
 use byteorder::{BigEndian, LittleEndian};
-use flashbase::{FromReader, Sink, put_all};
+use flashbase::{Sink, put_all};
 use jcommand::{Options, Outcome, Request, RequestFault, Target, Task, task};
 use jnode::{Endian, Order};
 use jreport::{
@@ -20,8 +21,6 @@ use jreport::{
     stream_lines,
 };
 use std::alloc::Global;
-use std::fs;
-use std::rt::Files;
 
 /// What a run comes to that went well.
 pub enum Success {
@@ -39,69 +38,80 @@ pub enum Stop<'a> {
     Fault(ProgramFault<'a>),
 }
 
-fn open<'a, R: Files>(rt: &R, image: &'a str) -> Result<FromReader<R::File>, ProgramFault<'a>>
-    ensures { IfErr result (λ fault. fault ≡ ProgramFault.File image.entry) }
+/// The file of an image.
+fn open<'a, L: Loader>(loader: &mut L, image: &'a str) -> Result<L::Opened, ProgramFault<'a>>
+    ensures fault { IfErr result (λ fault. fault ≡ ProgramFault.File image.entry) }
+    ensures opened { IfOk result (λ source. GivesFile (L.told loader.old image.entry.now) (L.Opened.rest source)) }
+    ensures count { CountsErr (L.failures loader.old) (L.failures loader.new) result }
 {
-    match fs::open(rt, image) {
-        Ok(file) => Ok(FromReader::new(file)),
+    match loader.open(image) {
+        Ok(source) => Ok(source),
         Err(_) => Err(ProgramFault::File(image)),
     }
 }
 
 /// `check --scan`: answers how much was found.
-fn scan<'a, E: Order, R: Files + AllocGlobal, T: Sink>(
-    rt: &R,
+fn scan<'a, E: Order, L: Loader, T: Sink>(
+    alloc: Global,
+    loader: &mut L,
     options: Options,
     image: &'a str,
     sink: &mut T,
 ) -> Result<u64, ProgramFault<'a>>
-    ensures { Meets E.order (ScanParsed options image.now) (T.taken sink.old) (T.taken sink.new) (T.failures sink.old) (T.failures sink.new) result }
+    ensures meets { Meets (L.told loader.old) E.order (ScanParsed options image.now) (T.taken sink.old) (T.taken sink.new) (T.failures sink.old) (T.failures sink.new) result }
+    ensures host { OpensFile (L.failures loader.old) (L.failures loader.new) result }
 {
-    let source = open(rt, image)?;
-    stream_lines::<E, _, _>(rt.alloc(), source, options.geometry, sink)
+    let source = open(loader, image)?;
+    stream_lines::<E, _, _>(alloc, source, options.geometry, sink)
 }
 
 /// `check`: answers whether anything was found, as a number.
-fn check<'a, E: Order, R: Files + AllocGlobal, T: Sink>(
-    rt: &R,
+fn check<'a, E: Order, L: Loader, T: Sink>(
+    alloc: Global,
+    loader: &mut L,
     options: Options,
     shape: bool,
     image: &'a str,
     sink: &mut T,
 ) -> Result<u64, ProgramFault<'a>>
-    ensures { Meets E.order (CheckParsed options shape image.now) (T.taken sink.old) (T.taken sink.new) (T.failures sink.old) (T.failures sink.new) result }
+    ensures meets { Meets (L.told loader.old) E.order (CheckParsed options shape image.now) (T.taken sink.old) (T.taken sink.new) (T.failures sink.old) (T.failures sink.new) result }
+    ensures host { OpensFile (L.failures loader.old) (L.failures loader.new) result }
 {
-    let mut source = open(rt, image)?;
-    let found = check_lines::<E, _, _>(rt.alloc(), &mut source, options.geometry, shape, sink)?;
+    let mut source = open(loader, image)?;
+    let found = check_lines::<E, _, _>(alloc, &mut source, options.geometry, shape, sink)?;
     Ok(u64::from(found))
 }
 
 /// `ls`: answers how many findings to note.
-fn list<'a, E: Order, R: Files + AllocGlobal, T: Sink>(
-    rt: &R,
+fn list<'a, E: Order, L: Loader, T: Sink>(
+    alloc: Global,
+    loader: &mut L,
     options: Options,
     image: &'a str,
     sink: &mut T,
 ) -> Result<u64, ProgramFault<'a>>
-    ensures { Meets E.order (ListParsed options image.now) (T.taken sink.old) (T.taken sink.new) (T.failures sink.old) (T.failures sink.new) result }
+    ensures meets { Meets (L.told loader.old) E.order (ListParsed options image.now) (T.taken sink.old) (T.taken sink.new) (T.failures sink.old) (T.failures sink.new) result }
+    ensures host { OpensFile (L.failures loader.old) (L.failures loader.new) result }
 {
-    let mut source = open(rt, image)?;
-    list_lines::<E, _, _>(rt.alloc(), &mut source, options.geometry, sink)
+    let mut source = open(loader, image)?;
+    list_lines::<E, _, _>(alloc, &mut source, options.geometry, sink)
 }
 
 /// `cat`: answers how many findings to note. The word of the path is judged before the image is opened.
-fn cat<'a, E: Order, R: Files + AllocGlobal, T: Sink>(
-    rt: &R,
+fn cat<'a, E: Order, L: Loader, T: Sink>(
+    alloc: Global,
+    loader: &mut L,
     options: Options,
     image: &'a str,
     path: &str,
     sink: &mut T,
 ) -> Result<u64, ProgramFault<'a>>
-    ensures { Meets E.order (CatParsed options image.now path.now) (T.taken sink.old) (T.taken sink.new) (T.failures sink.old) (T.failures sink.new) result }
+    ensures meets { Meets (L.told loader.old) E.order (CatParsed options image.now path.now) (T.taken sink.old) (T.taken sink.new) (T.failures sink.old) (T.failures sink.new) result }
+    ensures host { OpensFile (L.failures loader.old) (L.failures loader.new) result }
 {
-    let path = path_word(rt.alloc(), path.as_bytes())?;
-    let mut source = open(rt, image)?;
-    file_bytes::<E, _, _>(rt.alloc(), &mut source, options.geometry, &path, sink)
+    let path = path_word(alloc, path.as_bytes())?;
+    let mut source = open(loader, image)?;
+    file_bytes::<E, _, _>(alloc, &mut source, options.geometry, &path, sink)
 }
 
 /// `build`: an image of what a listing makes of an empty file system. The listing's text is kept, since a fault may name a
@@ -115,7 +125,7 @@ fn build<'a, E: Order, L: Loader, M: Maker, T: Sink>(
     text: &'a mut Vec<u8>,
     sink: &mut T,
 ) -> Result<u64, ProgramFault<'a>>
-    ensures meets { Meets E.order (BuildParsed target.entry.options target.entry.blocks target.entry.page listing.entry.now target.entry.output.now) (T.taken sink.old) (T.taken sink.new) (T.failures sink.old) (T.failures sink.new) result }
+    ensures meets { Meets (L.told loader.old) E.order (BuildParsed target.entry.options target.entry.blocks target.entry.page listing.entry.now target.entry.output.now) (T.taken sink.old) (T.taken sink.new) (T.failures sink.old) (T.failures sink.new) result }
     ensures host { Blames (maker.new ≡ maker.old) (MakesFile target.entry.output.now (M.names maker.old) (M.names maker.new)) (L.failures loader.old) (L.failures loader.new) (M.failures maker.old) (M.failures maker.new) result }
 {
     *text = load_file(loader, listing)?;
@@ -135,7 +145,7 @@ fn append<'a, E: Order, L: Loader, M: Maker, T: Sink>(
     text: &'a mut Vec<u8>,
     sink: &mut T,
 ) -> Result<u64, ProgramFault<'a>>
-    ensures meets { Meets E.order (AppendParsed target.entry.options target.entry.blocks target.entry.page image.entry.now listing.entry.now target.entry.output.now) (T.taken sink.old) (T.taken sink.new) (T.failures sink.old) (T.failures sink.new) result }
+    ensures meets { Meets (L.told loader.old) E.order (AppendParsed target.entry.options target.entry.blocks target.entry.page image.entry.now listing.entry.now target.entry.output.now) (T.taken sink.old) (T.taken sink.new) (T.failures sink.old) (T.failures sink.new) result }
     ensures host { Blames (maker.new ≡ maker.old) (MakesFile target.entry.output.now (M.names maker.old) (M.names maker.new)) (L.failures loader.old) (L.failures loader.new) (M.failures maker.old) (M.failures maker.new) result }
 {
     let base = load_file(loader, image)?;
@@ -145,32 +155,31 @@ fn append<'a, E: Order, L: Loader, M: Maker, T: Sink>(
 }
 
 /// Runs the request in the byte order `E`, and answers how much was found.
-fn run_in_order<'a, E: Order, R: Files + AllocGlobal, L: Loader, M: Maker, T: Sink>(
-    rt: &R,
+fn run_in_order<'a, E: Order, L: Loader, M: Maker, T: Sink>(
+    alloc: Global,
     loader: &mut L,
     maker: &mut M,
     request: Request<'a>,
     text: &'a mut Vec<u8>,
     sink: &mut T,
 ) -> Result<u64, ProgramFault<'a>>
-    ensures meets { Meets E.order (view request.entry) (T.taken sink.old) (T.taken sink.new) (T.failures sink.old) (T.failures sink.new) result }
-    ensures host { BlamesFor (view request.entry) (loader.new ≡ loader.old) (maker.new ≡ maker.old) (M.names maker.old) (M.names maker.new) (L.failures loader.old) (L.failures loader.new)
+    ensures meets { Meets (L.told loader.old) E.order (view request.entry) (T.taken sink.old) (T.taken sink.new) (T.failures sink.old) (T.failures sink.new) result }
+    ensures host { BlamesFor (view request.entry) (maker.new ≡ maker.old) (M.names maker.old) (M.names maker.new) (L.failures loader.old) (L.failures loader.new)
         (M.failures maker.old) (M.failures maker.new) result }
 {
-    let alloc = rt.alloc();
     match request {
-        Request::Scan { options, image } => scan::<E, _, _>(rt, options, image, sink),
+        Request::Scan { options, image } => scan::<E, _, _>(alloc, loader, options, image, sink),
         Request::Check {
             options,
             shape,
             image,
-        } => check::<E, _, _>(rt, options, shape, image, sink),
-        Request::List { options, image } => list::<E, _, _>(rt, options, image, sink),
+        } => check::<E, _, _>(alloc, loader, options, shape, image, sink),
+        Request::List { options, image } => list::<E, _, _>(alloc, loader, options, image, sink),
         Request::Cat {
             options,
             image,
             path,
-        } => cat::<E, _, _>(rt, options, image, path, sink),
+        } => cat::<E, _, _>(alloc, loader, options, image, path, sink),
         Request::Build { target, listing } => {
             build::<E, _, _, _>(alloc, loader, maker, target, listing, text, sink)
         }
@@ -183,42 +192,42 @@ fn run_in_order<'a, E: Order, R: Files + AllocGlobal, L: Loader, M: Maker, T: Si
 }
 
 /// Runs the request in the byte order that it names, and answers how much was found.
-fn run_request<'a, R: Files + AllocGlobal, L: Loader, M: Maker, T: Sink>(
-    rt: &R,
+fn run_request<'a, L: Loader, M: Maker, T: Sink>(
+    alloc: Global,
     loader: &mut L,
     maker: &mut M,
     request: Request<'a>,
     text: &'a mut Vec<u8>,
     sink: &mut T,
 ) -> Result<u64, ProgramFault<'a>>
-    ensures meets { Meets (options_of request.entry).endian (view request.entry) (T.taken sink.old) (T.taken sink.new) (T.failures sink.old) (T.failures sink.new) result }
-    ensures host { BlamesFor (view request.entry) (loader.new ≡ loader.old) (maker.new ≡ maker.old) (M.names maker.old) (M.names maker.new) (L.failures loader.old) (L.failures loader.new)
+    ensures meets { Meets (L.told loader.old) (options_of request.entry).endian (view request.entry) (T.taken sink.old) (T.taken sink.new) (T.failures sink.old) (T.failures sink.new) result }
+    ensures host { BlamesFor (view request.entry) (maker.new ≡ maker.old) (M.names maker.old) (M.names maker.new) (L.failures loader.old) (L.failures loader.new)
         (M.failures maker.old) (M.failures maker.new) result }
 {
     match request.options().endian {
         Endian::Little => {
-            run_in_order::<LittleEndian, _, _, _, _>(rt, loader, maker, request, text, sink)
+            run_in_order::<LittleEndian, _, _, _>(alloc, loader, maker, request, text, sink)
         }
         Endian::Big => {
-            run_in_order::<BigEndian, _, _, _, _>(rt, loader, maker, request, text, sink)
+            run_in_order::<BigEndian, _, _, _>(alloc, loader, maker, request, text, sink)
         }
     }
 }
 
 /// Runs the request. What was put goes out, also before a fault.
-fn run_whole<'a, R: Files + AllocGlobal, L: Loader, M: Maker, T: Output>(
-    rt: &R,
+fn run_whole<'a, L: Loader, M: Maker, T: Output>(
+    alloc: Global,
     loader: &mut L,
     maker: &mut M,
     request: Request<'a>,
     text: &'a mut Vec<u8>,
     output: &mut T,
 ) -> Result<u64, ProgramFault<'a>>
-    ensures meets { MeetsWhole (view request.entry) (T.taken output.old) (T.given output.new) (T.failures output.old) (T.failures output.new) result }
-    ensures host { BlamesFor (view request.entry) (loader.new ≡ loader.old) (maker.new ≡ maker.old) (M.names maker.old) (M.names maker.new) (L.failures loader.old) (L.failures loader.new)
+    ensures meets { MeetsWhole (L.told loader.old) (view request.entry) (T.taken output.old) (T.given output.new) (T.failures output.old) (T.failures output.new) result }
+    ensures host { BlamesFor (view request.entry) (maker.new ≡ maker.old) (M.names maker.old) (M.names maker.new) (L.failures loader.old) (L.failures loader.new)
         (M.failures maker.old) (M.failures maker.new) result }
 {
-    let answer = run_request(rt, loader, maker, request, text, output);
+    let answer = run_request(alloc, loader, maker, request, text, output);
     let finished = output.finish();
     let findings = answer?;
     match finished {
@@ -254,20 +263,20 @@ fn as_success(request: &Request<'_>, findings: u64) -> Success
 }
 
 /// Answers a command line.
-fn run_command<'a, R: Files + AllocGlobal, L: Loader, M: Maker, T: Output>(
-    rt: &R,
+fn run_command<'a, L: Loader, M: Maker, T: Output>(
+    alloc: Global,
     loader: &mut L,
     maker: &mut M,
     command: Result<Request<'a>, RequestFault>,
     text: &'a mut Vec<u8>,
     output: &mut T,
 ) -> Result<Success, Stop<'a>>
-    ensures meets { MeetsCommand command.entry (T.taken output.old) (T.given output.new) (T.failures output.old) (T.failures output.new) result }
+    ensures meets { MeetsCommand (L.told loader.old) command.entry (T.taken output.old) (T.given output.new) (T.failures output.old) (T.failures output.new) result }
     ensures host { BlamesCommand command.entry (loader.new ≡ loader.old) (maker.new ≡ maker.old) (M.names maker.old) (M.names maker.new) (L.failures loader.old) (L.failures loader.new)
         (M.failures maker.old) (M.failures maker.new) result }
 {
     match command {
-        Ok(request) => match run_whole(rt, loader, maker, request, text, output) {
+        Ok(request) => match run_whole(alloc, loader, maker, request, text, output) {
             Ok(findings) => Ok(as_success(&request, findings)),
             Err(fault) => Err(Stop::Fault(fault)),
         },
@@ -312,8 +321,8 @@ pub fn note<E: Sink>(findings: u64, errors: &mut E) -> Outcome
 }
 
 /// Runs a command line that asks for no folder.
-fn run_image<R: Files + AllocGlobal, L: Loader, M: Maker, T: Output, E: Sink>(
-    rt: &R,
+fn run_image<L: Loader, M: Maker, T: Output, E: Sink>(
+    alloc: Global,
     loader: &mut L,
     maker: &mut M,
     command: Result<Request<'_>, RequestFault>,
@@ -322,13 +331,13 @@ fn run_image<R: Files + AllocGlobal, L: Loader, M: Maker, T: Output, E: Sink>(
 ) -> Outcome
     // A fault is one that is due, and is told in one line; `ls` and `cat` note what they passed over. What is told of the
     // host's files is so.
-    ensures { (ran : RunsCommand command.entry (T.taken output.old) (T.given output.new) (T.failures output.old) (T.failures output.new)
+    ensures { (ran : RunsCommand (L.told loader.old) command.entry (T.taken output.old) (T.given output.new) (T.failures output.old) (T.failures output.new)
         (Says (errors.new ≡ errors.old) (E.taken errors.old) (E.taken errors.new) (E.failures errors.old) (E.failures errors.new)) result)
         × BlamesCommand command.entry (loader.new ≡ loader.old) (maker.new ≡ maker.old) (M.names maker.old) (M.names maker.new) (L.failures loader.old) (L.failures loader.new)
         (M.failures maker.old) (M.failures maker.new) ran.answer }
 {
-    let mut text = Vec::new(rt.alloc());
-    match run_command(rt, loader, maker, command, &mut text, output) {
+    let mut text = Vec::new(alloc);
+    match run_command(alloc, loader, maker, command, &mut text, output) {
         Ok(Success::Found(findings)) => Outcome::of(findings),
         Ok(Success::Shown(findings)) => note(findings, errors),
         Err(Stop::Usage { text }) => report_usage(text.as_str(), errors),
@@ -337,8 +346,8 @@ fn run_image<R: Files + AllocGlobal, L: Loader, M: Maker, T: Output, E: Sink>(
 }
 
 /// Runs the program on its arguments, of which the first is its own name.
-pub fn run<R: Files + AllocGlobal, L: Loader, M: Maker, D: Folders, T: Output, E: Sink>(
-    rt: &R,
+pub fn run<L: Loader, M: Maker, D: Folders, T: Output, E: Sink>(
+    alloc: Global,
     loader: &mut L,
     maker: &mut M,
     folders: &mut D,
@@ -348,7 +357,7 @@ pub fn run<R: Files + AllocGlobal, L: Loader, M: Maker, D: Folders, T: Output, E
 ) -> Outcome
     // The words make a request, whose answer goes out, or are answered by a text; or they ask to fill or to read a folder.
     ensures { RunsTask (map (λ w. w.now) args.now)
-        (λ command. (ran : RunsCommand command (T.taken output.old) (T.given output.new) (T.failures output.old) (T.failures output.new)
+        (λ command. (ran : RunsCommand (L.told loader.old) command (T.taken output.old) (T.given output.new) (T.failures output.old) (T.failures output.new)
         (Says (errors.new ≡ errors.old) (E.taken errors.old) (E.taken errors.new) (E.failures errors.old) (E.failures errors.new)) result)
         × BlamesCommand command (loader.new ≡ loader.old) (maker.new ≡ maker.old) (M.names maker.old) (M.names maker.new) (L.failures loader.old) (L.failures loader.new)
         (M.failures maker.old) (M.failures maker.new) ran.answer)
@@ -357,10 +366,10 @@ pub fn run<R: Files + AllocGlobal, L: Loader, M: Maker, D: Folders, T: Output, E
         ((loader.new ≡ loader.old) × (maker.new ≡ maker.old) × RunsListing (map (λ w. w.now) args.now) (output.new ≡ output.old) (D.reads folders.old) (T.taken output.old) (T.given output.new) (T.failures output.old) (T.failures output.new)
         (E.taken errors.old) (E.taken errors.new) (E.failures errors.old) (E.failures errors.new) result) }
 {
-    match task(rt.alloc(), args) {
-        Ok(Task::Image(request)) => run_image(rt, loader, maker, Ok(request), output, errors),
-        Ok(Task::Extract(asked)) => run_extract(rt.alloc(), loader, folders, asked, errors),
-        Ok(Task::Listing(asked)) => run_listing(rt.alloc(), folders, asked, output, errors),
-        Err(fault) => run_image(rt, loader, maker, Err(fault), output, errors),
+    match task(alloc, args) {
+        Ok(Task::Image(request)) => run_image(alloc, loader, maker, Ok(request), output, errors),
+        Ok(Task::Extract(asked)) => run_extract(alloc, loader, folders, asked, errors),
+        Ok(Task::Listing(asked)) => run_listing(alloc, folders, asked, output, errors),
+        Err(fault) => run_image(alloc, loader, maker, Err(fault), output, errors),
     }
 }

@@ -22,7 +22,7 @@ use std::alloc::{AllocError, Global};
 
 /// The bytes of a file.
 pub fn load_file<'a, L: Loader>(loader: &mut L, name: &'a str) -> Result<Vec<u8>, ProgramFault<'a>>
-    ensures unread { IfErr result (λ fault. IsUnreadFile name.entry.now fault) }
+    ensures unread { IfErr result (λ fault. IsUnreadFile name.entry.now (L.told loader.old name.entry.now) fault) }
     ensures bytes { IfOk result (λ bytes. AreOf (L.told loader.old name.entry.now) bytes.items) }
     ensures read { OnOk result (L.failures loader.new ≡ L.failures loader.old) }
     ensures fault { IfErr result (λ fault. IsReadFault (L.failures loader.old) (L.failures loader.new) fault) }
@@ -41,7 +41,7 @@ fn load_parts<'a, L: Loader>(
     loader: &mut L,
     lines: &[Line<'a>],
 ) -> Result<Parts<'a>, ProgramFault<'a>>
-    ensures unread { IfErr result (λ fault. IsPartUnread lines.now fault) }
+    ensures unread { IfErr result (λ fault. IsPartUnread (L.told loader.old) lines.now fault) }
     ensures parts { IfOk result (λ parts. AreRead (L.told loader.old) lines.now parts) }
     ensures read { OnOk result (L.failures loader.new ≡ L.failures loader.old) }
     ensures fault { IfErr result (λ fault. IsReadFault (L.failures loader.old) (L.failures loader.new) fault) }

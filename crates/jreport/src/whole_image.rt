@@ -90,7 +90,7 @@ pub fn list_lines<E: Order, S: Source, T: Sink>(
         (T.taken sink.old) (T.taken sink.new) (T.failures sink.old) (T.failures sink.new) result) }
 {
     let image = load(alloc, source, GREATEST_IMAGE)?;
-    let mounted = mount::<E>(alloc, image.as_slice(), geometry)?;
-    tree_lines(alloc, &mounted, sink)?;
-    Ok(noted(&mounted))
+    let tree = mount::<E>(alloc, image.as_slice(), geometry)?;
+    tree_lines(alloc, &tree, sink)?;
+    Ok(noted(&tree))
 }
