@@ -136,7 +136,7 @@ pub listed : (told later : List ℕ → Option (List ℕ)) (page : Page) (e : En
     → WritesImage {T = ℕ} page e size blocks output base text old new before now answer → RunsFiles {T = ℕ} later page e size blocks base text old new answer
     → RunsListed told page e size blocks listing output base old new before now answer
 listed told later page e size blocks listing output base text old new before now answer same is w files =
-    (text, (is, (w, subst (λ (t : List ℕ → Option (List ℕ)). RunsFiles {T = ℕ} t page e size blocks base text old new answer) (fun_ext same) files)))
+    (text, is, w, subst (λ (t : List ℕ → Option (List ℕ)). RunsFiles {T = ℕ} t page e size blocks base text old new answer) (fun_ext same) files)
 
 pub listed_fault : (told later : List ℕ → Option (List ℕ)) (page : Page) (e : Endian) (size blocks : ℕ) (listing output base text : List ℕ) (old new : Option (List ℕ)) (before now : ℕ) (f : ProgramFault) (answer : Result ℕ ProgramFault)
     → IsErrAnd answer (λ is. is ≡ f) → ((name : List ℕ) → later name ≡ told name) → AreOf (told listing) text
@@ -157,7 +157,7 @@ pub builds : (told : List ℕ → Option (List ℕ)) (page : Page) (e : Endian) 
     → RunsListed told page e options.geometry.block blocks listing output [] old new before now answer → Meets told e (BuildParsed options blocks page listing output) old new before now answer
 builds told page e options blocks listing output old new before now answer runs = record {
   block_size = not_scanned told page e options.geometry.block blocks listing output [] old new before now answer runs;
-  put = inl ([], (refl, runs));
+  put = inl ([], refl, runs);
 }
 
 pub appends : (told : List ℕ → Option (List ℕ)) (page : Page) (e : Endian) (options : Options) (blocks : ℕ) (name listing output base : List ℕ) (old new : Option (List ℕ)) (before now : ℕ) (answer : Result ℕ ProgramFault)
@@ -165,5 +165,5 @@ pub appends : (told : List ℕ → Option (List ℕ)) (page : Page) (e : Endian)
     → Meets told e (AppendParsed options blocks page name listing output) old new before now answer
 appends told page e options blocks name listing output base old new before now answer is runs = record {
   block_size = not_scanned told page e options.geometry.block blocks listing output base old new before now answer runs;
-  put = inl (base, (is, runs));
+  put = inl (base, is, runs);
 }

@@ -1,5 +1,5 @@
 //! The program on its arguments: it opens the image, lets `jreport` do the work, and says how that ended.
-ghost use Rattle.std.specs.Prelude.{◌≡◌, IfErr, OnOk, Some, map};
+ghost use Rattle.std.specs.Prelude.{◌≡◌, IfErr, IfOk, OnOk, Some, map};
 ghost use Rattle.std.specs.Io.KnownBytes.{Appends};
 ghost use Rattle.jcommand.specs.Parsed.{Parsed, ScanParsed, CheckParsed, ListParsed, CatParsed, BuildParsed, AppendParsed, options_of, view};
 ghost use Rattle.jreport.specs.Faults.{fault_line_of};
