@@ -4,7 +4,7 @@ use Rattle.std.specs.String.{string_bytes}
 use Rattle.jlisting.specs.Listing.{file_of, op_of}
 use Rattle.jlisting.specs.declared.line.Action.{Action}
 use Rattle.jsteps.specs.declared.op.Op.{Op}
-use Rattle.jbuild.specs.Operations as build
+use Rattle.jbuild.specs.Operations.{bytes_of_file}
 use Rattle.jfolder.specs.declared.tree.Content.{Content}
 use Rattle.jfolder.specs.declared.tree.Content.TheVariants as content
 use Rattle.jfolder.specs.declared.tree.Item.{Item}
@@ -17,7 +17,7 @@ Files = List ℕ → List ℕ
 
 -- an action's operation, where its file has these bytes
 abbrev pub op_with : Files → Action → Op
-op_with files a = op_of a (build.bytes_of files (file_of a))
+op_with files a = op_of a (bytes_of_file files (file_of a))
 
 abbrev pub ops_with : Files → List Action → List Op
 ops_with files actions = map (op_with files) actions
