@@ -27,7 +27,7 @@ use Rattle.jbuild.specs.declared.parts.Parts.{Parts}
 use Rattle.jreport.specs.declared.faults.ProgramFault.{ProgramFault}
 use Rattle.jreport.specs.declared.faults.ProgramFault.TheVariants as program
 use Rattle.jffs2_image.specs.Host.{AreOf, AreRead, Blames, BlamesMaker, HaveBytes, RunsFiles, IsMadeUntil, IsMakeFault, IsReadFault, Leaves}
-use Rattle.jffs2_image.specs.Writes.{IsMade, IsNotMade, IsPartUnread, IsUnreadFile}
+use Rattle.jffs2_image.specs.Writes.{Held, IsMade, IsNotMade, IsPartUnread, IsUnreadFile}
 
 -- ---- the file that is made
 
@@ -66,15 +66,15 @@ resume_fault page e size blocks m u v before now f line is still = by m.read_onl
     by false false same = let is : session.Geometry ≡ f = cc in subst (λ (z : SessionFault). BlamesMaker {T = Unit {0}} u v before now (Err (program.Session z line))) is still
 
 -- a run on it stopped
-pub run_fault : (page : Page) (e : Endian) (size blocks : ℕ) (m : Mount) (ops : List Op) (accepted : ℕ) (places : List Place) (u v : Type 0) (before now : ℕ) (f : SessionFault) (line : Option ℕ)
-    → IsMade page e size blocks m ops accepted places (Some f) → IsMadeUntil before now (Some f) → v → BlamesMaker {T = Unit {0}} u v before now (Err (program.Session f line))
-run_fault page e size blocks m ops accepted places u v before now session.ReadOnly line made until left = absurd (made.put.emitted.runs.5.stop)
-run_fault page e size blocks m ops accepted places u v before now session.Geometry line made until left = absurd (made.put.emitted.runs.5.stop)
-run_fault page e size blocks m ops accepted places u v before now session.Sink line made until left = (inl until, left)
-run_fault page e size blocks m ops accepted places u v before now (session.Refused f) line made until left = left
-run_fault page e size blocks m ops accepted places u v before now (session.Full a b) line made until left = left
-run_fault page e size blocks m ops accepted places u v before now session.OutOfMemory line made until left = left
-run_fault page e size blocks m ops accepted places u v before now session.Broken line made until left = left
+pub run_fault : (held : Held) (page : Page) (e : Endian) (size blocks : ℕ) (m : Mount) (ops : List Op) (accepted : ℕ) (places : List Place) (u v : Type 0) (before now : ℕ) (f : SessionFault) (line : Option ℕ)
+    → IsMade held page e size blocks m ops accepted places (Some f) → IsMadeUntil before now (Some f) → v → BlamesMaker {T = Unit {0}} u v before now (Err (program.Session f line))
+run_fault held page e size blocks m ops accepted places u v before now session.ReadOnly line made until left = absurd (made.put.emitted.runs.5.stop)
+run_fault held page e size blocks m ops accepted places u v before now session.Geometry line made until left = absurd (made.put.emitted.runs.5.stop)
+run_fault held page e size blocks m ops accepted places u v before now session.Sink line made until left = (inl until, left)
+run_fault held page e size blocks m ops accepted places u v before now (session.Refused f) line made until left = left
+run_fault held page e size blocks m ops accepted places u v before now (session.Full a b) line made until left = left
+run_fault held page e size blocks m ops accepted places u v before now session.OutOfMemory line made until left = left
+run_fault held page e size blocks m ops accepted places u v before now session.Broken line made until left = left
 
 -- the answer is that fault
 pub maker_fault : (u v : Type 0) (before now : ℕ) (f : ProgramFault) (r : Result (Unit {0}) ProgramFault)
@@ -180,36 +180,36 @@ all_read told lines n parts was all = λ name named.
     (is, got_of (told name) (read_of parts name) is (was.own name))
 
 -- the line tells the length of what went out for them
-tells_on_base : (page : Page) (e : Endian) (size blocks : ℕ) (base : List ℕ) (ops : List Op) (m : Mount) (accepted : ℕ) (places : List Place) → m.image ≡ base
-    → IsMade page e size blocks m ops accepted places None → TellsLength page e size blocks base ops accepted places
-tells_on_base page e size blocks base ops m accepted places same made = subst (λ (image : List ℕ). TellsLength page e size blocks image ops accepted places) same
+tells_on_base : (held : Held) (page : Page) (e : Endian) (size blocks : ℕ) (base : List ℕ) (ops : List Op) (m : Mount) (accepted : ℕ) (places : List Place) → m.image ≡ base
+    → IsMade held page e size blocks m ops accepted places None → TellsLength page e size blocks base ops accepted places
+tells_on_base held page e size blocks base ops m accepted places same made = subst (λ (image : List ℕ). TellsLength page e size blocks image ops accepted places) same
     (line_tells_length page e size blocks m.image ops accepted places _ _ _ _ (goes_on_flash page e size blocks m made.put.resumes) made.put.emitted)
 
 -- so they are those of the operations that were run
 have_bytes : (told : List ℕ → Option (List ℕ)) (lines : List Line) (parts : Parts) → AreRead told lines parts → HaveBytes told lines (part_contents parts)
 have_bytes told lines parts are = λ name named. (are name named).1
 
-pub files_of_all : (told : List ℕ → Option (List ℕ)) (page : Page) (e : Endian) (size blocks : ℕ) (base text : List ℕ) (lines : List Line) (parts : Parts) (m : Mount) (accepted : ℕ) (places : List Place) (from : ℕ)
+pub files_of_all : (told : List ℕ → Option (List ℕ)) (held : Held) (page : Page) (e : Endian) (size blocks : ℕ) (base text : List ℕ) (lines : List Line) (parts : Parts) (m : Mount) (accepted : ℕ) (places : List Place) (from : ℕ)
     (old new : Option (List ℕ)) (x : Unit {0}) → m.image ≡ base → from ≡ resume_address e size blocks base → AreRead told lines parts → lines_of text ≡ Ok lines → Answers e size base (Ok m)
-    → IsMade page e size blocks m (ops_in (part_contents parts) lines) accepted places None → Appends old new (accepted_line from accepted places)
-    → RunsFiles {T = Unit {0}} told page e size blocks base text old new (Ok x)
-files_of_all told page e size blocks base text lines parts m accepted places from old new x same is are read mounts made put = (
+    → IsMade held page e size blocks m (ops_in (part_contents parts) lines) accepted places None → Appends old new (accepted_line from accepted places)
+    → RunsFiles {T = Unit {0}} told held page e size blocks base text old new (Ok x)
+files_of_all told held page e size blocks base text lines parts m accepted places from old new x same is are read mounts made put = (
   lines,
   accepted,
   places,
   record { mount = m; files = part_contents parts; read = read; mounts = mounts; made = made },
   have_bytes told lines parts are,
   subst (λ (at : ℕ). Appends old new (accepted_line at accepted places)) is put,
-  tells_on_base page e size blocks base (ops_in (part_contents parts) lines) m accepted places same made,
+  tells_on_base held page e size blocks base (ops_in (part_contents parts) lines) m accepted places same made,
 )
 
-pub files_in_part : (told : List ℕ → Option (List ℕ)) (page : Page) (e : Endian) (size blocks : ℕ) (base text : List ℕ) (lines : List Line) (parts : Parts) (m : Mount) (accepted : ℕ) (places : List Place) (from : ℕ)
+pub files_in_part : (told : List ℕ → Option (List ℕ)) (held : Held) (page : Page) (e : Endian) (size blocks : ℕ) (base text : List ℕ) (lines : List Line) (parts : Parts) (m : Mount) (accepted : ℕ) (places : List Place) (from : ℕ)
     (old new : Option (List ℕ)) (r : Result (Unit {0}) ProgramFault) → IsErrAnd r (λ is. is ≡ program.Output) → from ≡ resume_address e size blocks base → AreRead told lines parts → lines_of text ≡ Ok lines
-    → Answers e size base (Ok m) → IsMade page e size blocks m (ops_in (part_contents parts) lines) accepted places None → PutsPart old new (accepted_line from accepted places)
-    → RunsFiles {T = Unit {0}} told page e size blocks base text old new r
-files_in_part told page e size blocks base text lines parts m accepted places from old new (Ok x) fault is are read mounts made put = absurd fault
-files_in_part told page e size blocks base text lines parts m accepted places from old new (Err f) fault is are read mounts made put =
-    subst (λ (z : ProgramFault). RunsFiles {T = Unit {0}} told page e size blocks base text old new (Err z)) (sym fault) (
+    → Answers e size base (Ok m) → IsMade held page e size blocks m (ops_in (part_contents parts) lines) accepted places None → PutsPart old new (accepted_line from accepted places)
+    → RunsFiles {T = Unit {0}} told held page e size blocks base text old new r
+files_in_part told held page e size blocks base text lines parts m accepted places from old new (Ok x) fault is are read mounts made put = absurd fault
+files_in_part told held page e size blocks base text lines parts m accepted places from old new (Err f) fault is are read mounts made put =
+    subst (λ (z : ProgramFault). RunsFiles {T = Unit {0}} told held page e size blocks base text old new (Err z)) (sym fault) (
       lines,
       accepted,
       places,
@@ -218,22 +218,22 @@ files_in_part told page e size blocks base text lines parts m accepted places fr
       subst (λ (at : ℕ). PutsPart old new (accepted_line at accepted places)) is put,
     )
 
-pub files_until : (told : List ℕ → Option (List ℕ)) (page : Page) (e : Endian) (size blocks : ℕ) (base text : List ℕ) (lines : List Line) (parts : Parts) (m : Mount) (accepted : ℕ) (places : List Place)
+pub files_until : (told : List ℕ → Option (List ℕ)) (held : Held) (page : Page) (e : Endian) (size blocks : ℕ) (base text : List ℕ) (lines : List Line) (parts : Parts) (m : Mount) (accepted : ℕ) (places : List Place)
     (old new : Option (List ℕ)) (f : SessionFault) (line : Option ℕ) → line ≡ option_map (λ l. l.number) (slice_get lines accepted) → AreRead told lines parts → lines_of text ≡ Ok lines
-    → Answers e size base (Ok m) → IsMade page e size blocks m (ops_in (part_contents parts) lines) accepted places (Some f)
-    → RunsFiles {T = Unit {0}} told page e size blocks base text old new (Err (program.Session f line))
-files_until told page e size blocks base text lines parts m accepted places old new f None is are read mounts made = tt
-files_until told page e size blocks base text lines parts m accepted places old new f (Some n) is are read mounts made =
+    → Answers e size base (Ok m) → IsMade held page e size blocks m (ops_in (part_contents parts) lines) accepted places (Some f)
+    → RunsFiles {T = Unit {0}} told held page e size blocks base text old new (Err (program.Session f line))
+files_until told held page e size blocks base text lines parts m accepted places old new f None is are read mounts made = tt
+files_until told held page e size blocks base text lines parts m accepted places old new f (Some n) is are read mounts made =
     (lines, accepted, places, record { mount = m; files = part_contents parts; read = read; mounts = mounts; made = made }, have_bytes told lines parts are, sym is)
 
 -- no fault of making is one of a line
-pub files_not_made : (told : List ℕ → Option (List ℕ)) (page : Page) (e : Endian) (size blocks : ℕ) (output base text : List ℕ) (m : Mount) (old new : Option (List ℕ)) (f : ProgramFault) (r : Result (Unit {0}) ProgramFault)
-    → IsErrAnd r (λ is. is ≡ f) → IsNotMade page e size blocks m output f → RunsFiles {T = Unit {0}} told page e size blocks base text old new r
-files_not_made told page e size blocks output base text m old new f (Ok x) fault not = absurd fault
-files_not_made told page e size blocks output base text m old new f (Err g) fault not =
-    subst (λ (z : ProgramFault). RunsFiles {T = Unit {0}} told page e size blocks base text old new (Err z)) (sym fault) (by f not)
+pub files_not_made : (told : List ℕ → Option (List ℕ)) (held : Held) (page : Page) (e : Endian) (size blocks : ℕ) (output base text : List ℕ) (m : Mount) (old new : Option (List ℕ)) (f : ProgramFault) (r : Result (Unit {0}) ProgramFault)
+    → IsErrAnd r (λ is. is ≡ f) → IsNotMade page e size blocks m output f → RunsFiles {T = Unit {0}} told held page e size blocks base text old new r
+files_not_made told held page e size blocks output base text m old new f (Ok x) fault not = absurd fault
+files_not_made told held page e size blocks output base text m old new f (Err g) fault not =
+    subst (λ (z : ProgramFault). RunsFiles {T = Unit {0}} told held page e size blocks base text old new (Err z)) (sym fault) (by f not)
   where
-    by : (f : ProgramFault) → IsNotMade page e size blocks m output f → RunsFiles {T = Unit {0}} told page e size blocks base text old new (Err f)
+    by : (f : ProgramFault) → IsNotMade page e size blocks m output f → RunsFiles {T = Unit {0}} told held page e size blocks base text old new (Err f)
     by (program.Load f) not = absurd not
     by (program.Scan f) not = tt
     by (program.Mount f) not = tt

@@ -21,7 +21,7 @@ use Rattle.jcommand.specs.declared.parsed.Request.{Request}
 use Rattle.jcommand.specs.declared.command_line.RequestFault.{RequestFault}
 use Rattle.jreport.specs.declared.faults.ProgramFault.{ProgramFault}
 use Rattle.jreport.specs.declared.faults.ProgramFault.TheVariants as program
-use Rattle.jffs2_image.specs.Writes.{IsNamedByLine, IsPartUnread, IsRunOn}
+use Rattle.jffs2_image.specs.Writes.{Held, IsNamedByLine, IsPartUnread, IsRunOn}
 use Rattle.jffs2_image.specs.declared.host.FileFault.{FileFault}
 use Rattle.jffs2_image.specs.declared.host.FileFault.TheVariants as file
 use Rattle.jffs2_image.specs.declared.host.MakeFault.{MakeFault}
@@ -64,20 +64,20 @@ HaveBytes told lines files = (name : List ℕ) → IsNamedByLine lines name → 
 
 -- The operations that were run have the bytes of the host's files: those of all lines, told in a line that has the length of
 -- what went out for them, or in a beginning of it; or those up to the one that stopped them.
-abbrev pub RunsFiles : {T : Type 0} → (List ℕ → Option (List ℕ)) → Page → Endian → ℕ → ℕ → List ℕ → List ℕ → Option (List ℕ) → Option (List ℕ) → Result T ProgramFault → Type 0
-RunsFiles told page e size blocks base text old new (Ok _) =
-    (lines : List Line) × (accepted : ℕ) × (places : List Place) × (run : IsRunOn page e size blocks base text lines accepted places None)
+abbrev pub RunsFiles : {T : Type 0} → (List ℕ → Option (List ℕ)) → Held → Page → Endian → ℕ → ℕ → List ℕ → List ℕ → Option (List ℕ) → Option (List ℕ) → Result T ProgramFault → Type 0
+RunsFiles told held page e size blocks base text old new (Ok _) =
+    (lines : List Line) × (accepted : ℕ) × (places : List Place) × (run : IsRunOn held page e size blocks base text lines accepted places None)
     × HaveBytes told lines run.files × Appends old new (accepted_line (resume_address e size blocks base) accepted places)
     × TellsLength page e size blocks base (ops_in run.files lines) accepted places
-RunsFiles told page e size blocks base text old new (Err program.Output) =
-    (lines : List Line) × (accepted : ℕ) × (places : List Place) × (run : IsRunOn page e size blocks base text lines accepted places None)
+RunsFiles told held page e size blocks base text old new (Err program.Output) =
+    (lines : List Line) × (accepted : ℕ) × (places : List Place) × (run : IsRunOn held page e size blocks base text lines accepted places None)
     × HaveBytes told lines run.files × PutsPart old new (accepted_line (resume_address e size blocks base) accepted places)
-RunsFiles told page e size blocks base text old new (Err (program.Session fault (Some number))) =
-    (lines : List Line) × (accepted : ℕ) × (places : List Place) × (run : IsRunOn page e size blocks base text lines accepted places (Some fault))
+RunsFiles told held page e size blocks base text old new (Err (program.Session fault (Some number))) =
+    (lines : List Line) × (accepted : ℕ) × (places : List Place) × (run : IsRunOn held page e size blocks base text lines accepted places (Some fault))
     × HaveBytes told lines run.files × (option_map (λ l. l.number) (slice_get lines accepted) ≡ Some number)
-RunsFiles told page e size blocks base text old new (Err (program.Load load.TooLarge)) =
+RunsFiles told held page e size blocks base text old new (Err (program.Load load.TooLarge)) =
     (lines : List Line) × (lines_of text ≡ Ok lines) × IsPartUnread told lines (program.Load load.TooLarge)
-RunsFiles told page e size blocks base text old new (Err _) = Unit {0}
+RunsFiles told held page e size blocks base text old new (Err _) = Unit {0}
 
 -- ---- the file that is made
 

@@ -23,7 +23,7 @@ use Rattle.jcommand.specs.declared.outcome.Outcome.{Outcome}
 use Rattle.jcommand.specs.declared.outcome.Outcome.TheVariants as outcome
 use Rattle.jsteps.specs.declared.page.Page.{Page}
 use Rattle.jffs2_image.specs.Host.{AreOf, HasFailed, RunsFiles}
-use Rattle.jffs2_image.specs.Writes.{IsUnreadFile, WritesImage}
+use Rattle.jffs2_image.specs.Writes.{Held, IsUnreadFile, WritesImage}
 use Rattle.jffs2_image.specs.declared.program.Success.{Success}
 use Rattle.jffs2_image.specs.declared.program.Success.TheVariants as success
 use Rattle.jffs2_image.specs.declared.program.Stop.{Stop}
@@ -58,19 +58,19 @@ IsImageOf told (BuildParsed options blocks page listing output) image = image �
 IsImageOf told (AppendParsed options blocks page name listing output) image = AreOf (told name) image
 
 -- the listing of a name is run on an image, with the bytes of the files that its lines name; each where the host tells its bytes
-abbrev pub RunsListed : (List ℕ → Option (List ℕ)) → Page → Endian → ℕ → ℕ → List ℕ → List ℕ → List ℕ → Option (List ℕ) → Option (List ℕ) → ℕ → ℕ → Result ℕ ProgramFault → Type 0
-RunsListed told page e size blocks listing output image old new before now answer = (text : List ℕ) × AreOf (told listing) text
-    × WritesImage page e size blocks output image text old new before now answer × RunsFiles told page e size blocks image text old new answer
+abbrev pub RunsListed : (List ℕ → Option (List ℕ)) → Held → Page → Endian → ℕ → ℕ → List ℕ → List ℕ → List ℕ → Option (List ℕ) → Option (List ℕ) → ℕ → ℕ → Result ℕ ProgramFault → Type 0
+RunsListed told held page e size blocks listing output image old new before now answer = (text : List ℕ) × AreOf (told listing) text
+    × WritesImage held page e size blocks output image text old new before now answer × RunsFiles told held page e size blocks image text old new answer
 
 -- what is put of an image, or why no more of it is
-abbrev pub PutsAnswer : (List ℕ → Option (List ℕ)) → Endian → Parsed → List ℕ → Option (List ℕ) → Option (List ℕ) → ℕ → ℕ → Result ℕ ProgramFault → Type 0
-PutsAnswer told e (ScanParsed options name) = PutsStream e options.geometry.block
-PutsAnswer told e (CheckParsed options shape name) = PutsJudged e options.geometry.block shape
-PutsAnswer told e (ListParsed options name) = PutsListing e options.geometry.block
-PutsAnswer told e (CatParsed options name word) = λ image old new before now answer.
+abbrev pub PutsAnswer : (List ℕ → Option (List ℕ)) → Held → Endian → Parsed → List ℕ → Option (List ℕ) → Option (List ℕ) → ℕ → ℕ → Result ℕ ProgramFault → Type 0
+PutsAnswer told held e (ScanParsed options name) = PutsStream e options.geometry.block
+PutsAnswer told held e (CheckParsed options shape name) = PutsJudged e options.geometry.block shape
+PutsAnswer told held e (ListParsed options name) = PutsListing e options.geometry.block
+PutsAnswer told held e (CatParsed options name word) = λ image old new before now answer.
     (path : List ℕ) × (path_of word ≡ Some path) × PutsFile e options.geometry.block image path old new before now answer
-PutsAnswer told e (BuildParsed options blocks page listing output) = RunsListed told page e options.geometry.block blocks listing output
-PutsAnswer told e (AppendParsed options blocks page name listing output) = RunsListed told page e options.geometry.block blocks listing output
+PutsAnswer told held e (BuildParsed options blocks page listing output) = RunsListed told held page e options.geometry.block blocks listing output
+PutsAnswer told held e (AppendParsed options blocks page name listing output) = RunsListed told held page e options.geometry.block blocks listing output
 
 -- its file can't be opened
 abbrev pub IsUnopened : List ℕ → ProgramFault → Type 0
@@ -91,9 +91,9 @@ IsEarlyFault told (AppendParsed options blocks page image listing output) fault 
 
 -- A request is met in the byte order e, where the host tells these bytes of its files: there is an image, that of the name where
 -- it is told, of which the answer is put, or a fault comes before any is read.
-pub record Meets (told : List ℕ → Option (List ℕ)) (e : Endian) (parsed : Parsed) (old new : Option (List ℕ)) (before now : ℕ) (answer : Result ℕ ProgramFault) : Type 0 where
+pub record Meets (told : List ℕ → Option (List ℕ)) (held : Held) (e : Endian) (parsed : Parsed) (old new : Option (List ℕ)) (before now : ℕ) (answer : Result ℕ ProgramFault) : Type 0 where
   pub block_size : IsErrOf answer (program.Scan scan.BlockSize) → IsFalse (is_block_size (options_parsed parsed).geometry.block)
-  pub put : ((image : List ℕ) × IsImageOf told parsed image × PutsAnswer told e parsed image old new before now answer)
+  pub put : ((image : List ℕ) × IsImageOf told parsed image × PutsAnswer told held e parsed image old new before now answer)
       ⊎ ((fault : ProgramFault) × (answer ≡ Err fault) × IsEarlyFault told parsed fault × (new ≡ old) × (now ≡ before))
 
 -- the output gave on what it took, or failed once more
@@ -108,12 +108,12 @@ answer_finished (Ok n) false = Err program.Output
 answer_finished (Err fault) finished = Err fault
 
 -- A request is met in the order that it names, and all that was put is given on.
-pub record MeetsWhole (told : List ℕ → Option (List ℕ)) (parsed : Parsed) (old given : Option (List ℕ)) (before now : ℕ) (result : Result ℕ ProgramFault) : Type 0 where
+pub record MeetsWhole (told : List ℕ → Option (List ℕ)) (held : Held) (parsed : Parsed) (old given : Option (List ℕ)) (before now : ℕ) (result : Result ℕ ProgramFault) : Type 0 where
   pub taken : Option (List ℕ)
   pub count : ℕ
   pub answer : Result ℕ ProgramFault
   pub finished : Bool
-  pub meets : Meets told (options_parsed parsed).endian parsed old taken before count answer
+  pub meets : Meets told held (options_parsed parsed).endian parsed old taken before count answer
   pub finishes : Finishes taken given count now finished
   pub comes_to : result ≡ answer_finished answer finished
 
@@ -129,16 +129,16 @@ success_of (BuildParsed options blocks page listing output) n = success.Shown n
 success_of (AppendParsed options blocks page image listing output) n = success.Shown n
 
 -- What a command line is answered: the request is met; help goes out; a refusal and out of memory stay what they are.
-abbrev pub MeetsCommand : (List ℕ → Option (List ℕ)) → Result Request RequestFault → Option (List ℕ) → Option (List ℕ) → ℕ → ℕ → Result Success Stop → Type 0
-MeetsCommand told (Ok request) old given before now (Ok ended) =
-    (n : ℕ) × (ended ≡ success_of (view request) n) × MeetsWhole told (view request) old given before now (Ok n)
-MeetsCommand told (Ok request) old given before now (Err (stop.Fault fault)) = MeetsWhole told (view request) old given before now (Err fault)
-MeetsCommand told (Err (refused.Help text)) old given before now (Ok ended) =
+abbrev pub MeetsCommand : (List ℕ → Option (List ℕ)) → Held → Result Request RequestFault → Option (List ℕ) → Option (List ℕ) → ℕ → ℕ → Result Success Stop → Type 0
+MeetsCommand told held (Ok request) old given before now (Ok ended) =
+    (n : ℕ) × (ended ≡ success_of (view request) n) × MeetsWhole told held (view request) old given before now (Ok n)
+MeetsCommand told held (Ok request) old given before now (Err (stop.Fault fault)) = MeetsWhole told held (view request) old given before now (Err fault)
+MeetsCommand told held (Err (refused.Help text)) old given before now (Ok ended) =
     (ended ≡ success.Shown 0) × Appends old given (string_bytes text) × (now ≡ before)
-MeetsCommand told (Err (refused.Help text)) old given before now (Err (stop.Fault fault)) = (fault ≡ program.Output) × HasFailed before now
-MeetsCommand told (Err (refused.Usage text)) old given before now (Err (stop.Usage said)) = said ≡ text
-MeetsCommand told (Err refused.OutOfMemory) old given before now (Err (stop.Fault fault)) = fault ≡ program.OutOfMemory
-MeetsCommand told _ old given before now _ = ⊥
+MeetsCommand told held (Err (refused.Help text)) old given before now (Err (stop.Fault fault)) = (fault ≡ program.Output) × HasFailed before now
+MeetsCommand told held (Err (refused.Usage text)) old given before now (Err (stop.Usage said)) = said ≡ text
+MeetsCommand told held (Err refused.OutOfMemory) old given before now (Err (stop.Fault fault)) = fault ≡ program.OutOfMemory
+MeetsCommand told held _ old given before now _ = ⊥
 
 -- what the words make of a command line
 abbrev pub IsCommand : List (List ℕ) → Result Request RequestFault → Type 0
@@ -170,8 +170,8 @@ Says untouched old new before now None = untouched
 Says untouched old new before now (Some text) = now ≡ before → Appends old new text
 
 -- A run of a command line that asks for no folder: what it is answered, and how it ends.
-pub record RunsCommand (told : List ℕ → Option (List ℕ)) (command : Result Request RequestFault) (old given : Option (List ℕ)) (before now : ℕ) (says : Option (List ℕ) → Type 0) (result : Outcome) : Type 0 where
+pub record RunsCommand (told : List ℕ → Option (List ℕ)) (held : Held) (command : Result Request RequestFault) (old given : Option (List ℕ)) (before now : ℕ) (says : Option (List ℕ) → Type 0) (result : Outcome) : Type 0 where
   pub answer : Result Success Stop
-  pub meets : MeetsCommand told command old given before now answer
+  pub meets : MeetsCommand told held command old given before now answer
   pub ends : result ≡ outcome_after answer
   pub said : says (said_after answer)

@@ -1,5 +1,5 @@
 -- What a command that writes an image does.
-use Rattle.std.specs.Prelude.{◌≡◌, ◌⊎◌, ◌<◌, ℕ, List, Any, IfSome, length, slice_get, option_map, Option, Some, None, Result, Ok, Err, IsOk}
+use Rattle.std.specs.Prelude.{◌≡◌, ◌⊎◌, ◌<◌, ◌++◌, ℕ, List, [], ◌∷◌, Any, IfSome, length, slice_get, option_map, Option, Some, None, Result, Ok, Err, IsOk}
 use Rattle.std.specs.Io.KnownBytes.{Appends, Keeps}
 use Rattle.flashbase.specs.Device.{PutsPart, next_count}
 use Rattle.flashbase.specs.declared.source.LoadFault.TheVariants as load
@@ -57,22 +57,31 @@ pub record IsPut (page : Page) (e : Endian) (size blocks : ℕ) (m : Mount) (ops
   pub emitted : IsEmitted page e size blocks m.image ops accepted places stopped old taken before now
   pub finished : Keeps taken given
 
--- there is a file to which they were
-pub record IsMade (page : Page) (e : Endian) (size blocks : ℕ) (m : Mount) (ops : List Op) (accepted : ℕ) (places : List Place) (stopped : Option SessionFault) : Type 0 where
+-- What was given to the files that were made and handed back, in order, where the host tells it: before and after.
+abbrev pub Held : Type 0
+Held = Option (List (List ℕ)) × Option (List (List ℕ))
+
+-- a file that was empty when it was made was handed back, and this was given to it
+abbrev pub IsHanded : Held → Option (List ℕ) → Option (List ℕ) → Type 0
+IsHanded held old given = IfSome held.0 (λ files. (old ≡ Some []) × IfSome given (λ bytes. held.1 ≡ Some (files ++ bytes ∷ [])))
+
+-- there is a file to which they were, and to which nothing else was given
+pub record IsMade (held : Held) (page : Page) (e : Endian) (size blocks : ℕ) (m : Mount) (ops : List Op) (accepted : ℕ) (places : List Place) (stopped : Option SessionFault) : Type 0 where
   pub old : Option (List ℕ)
   pub given : Option (List ℕ)
   pub before : ℕ
   pub now : ℕ
   pub put : IsPut page e size blocks m ops accepted places stopped old given before now
+  pub handed : IsHanded held old given
 
 -- The lines of the listing were run on a base, with some bytes for the files that they name: so many were accepted, their
 -- nodes have these places, and this stopped them. What they did survives a stop of writing at any byte.
-pub record IsRunOn (page : Page) (e : Endian) (size blocks : ℕ) (base text : List ℕ) (lines : List Line) (accepted : ℕ) (places : List Place) (stopped : Option SessionFault) : Type 0 where
+pub record IsRunOn (held : Held) (page : Page) (e : Endian) (size blocks : ℕ) (base text : List ℕ) (lines : List Line) (accepted : ℕ) (places : List Place) (stopped : Option SessionFault) : Type 0 where
   pub mount : Mount
   pub files : List ℕ → List ℕ
   pub read : lines_of text ≡ Ok lines
   pub mounts : Answers e size base (Ok mount)
-  pub made : IsMade page e size blocks mount (ops_in files lines) accepted places stopped
+  pub made : IsMade held page e size blocks mount (ops_in files lines) accepted places stopped
 
 -- the file that is made failed, or memory ran out
 abbrev pub IsFaultOfMaking : SessionFault → Type 0
@@ -93,29 +102,29 @@ IsNotMade page e size blocks m output program.OutOfMemory = Unit {0}
 IsNotMade page e size blocks m output _ = ⊥
 
 -- the fault of a session, and the line of the listing that it came to
-abbrev pub IsSessionFault : Page → Endian → ℕ → ℕ → List ℕ → List ℕ → SessionFault → Option ℕ → Type 0
-IsSessionFault page e size blocks base text fault line =
+abbrev pub IsSessionFault : Held → Page → Endian → ℕ → ℕ → List ℕ → List ℕ → SessionFault → Option ℕ → Type 0
+IsSessionFault held page e size blocks base text fault line =
     ((line ≡ None) × ((m : Mount) × Answers e size base (Ok m) × IsNotGoneOn page e size blocks m fault))
-    ⊎ ((lines : List Line) × (accepted : ℕ) × (places : List Place) × IsRunOn page e size blocks base text lines accepted places (Some fault)
+    ⊎ ((lines : List Line) × (accepted : ℕ) × (places : List Place) × IsRunOn held page e size blocks base text lines accepted places (Some fault)
     × (line ≡ option_map (λ l. l.number) (slice_get lines accepted)))
 
 -- why an image is not written, or not to its end
-abbrev pub IsWriteFault : Page → Endian → ℕ → ℕ → List ℕ → List ℕ → List ℕ → ProgramFault → Type 0
-IsWriteFault page e size blocks output base text (program.Listing n) = lines_of text ≡ Err n
-IsWriteFault page e size blocks output base text (program.File name) = (name.now ≡ output) ⊎ ((lines : List Line) × (lines_of text ≡ Ok lines) × IsNamedByLine lines name.now)
-IsWriteFault page e size blocks output base text (program.Load fault) = (lines : List Line) × (lines_of text ≡ Ok lines)
-IsWriteFault page e size blocks output base text (program.Mount fault) = Answers e size base (Err fault)
-IsWriteFault page e size blocks output base text (program.Session fault line) = IsSessionFault page e size blocks base text fault line
-IsWriteFault page e size blocks output base text program.OutOfMemory = Unit {0}
-IsWriteFault page e size blocks output base text _ = ⊥
+abbrev pub IsWriteFault : Held → Page → Endian → ℕ → ℕ → List ℕ → List ℕ → List ℕ → ProgramFault → Type 0
+IsWriteFault held page e size blocks output base text (program.Listing n) = lines_of text ≡ Err n
+IsWriteFault held page e size blocks output base text (program.File name) = (name.now ≡ output) ⊎ ((lines : List Line) × (lines_of text ≡ Ok lines) × IsNamedByLine lines name.now)
+IsWriteFault held page e size blocks output base text (program.Load fault) = (lines : List Line) × (lines_of text ≡ Ok lines)
+IsWriteFault held page e size blocks output base text (program.Mount fault) = Answers e size base (Err fault)
+IsWriteFault held page e size blocks output base text (program.Session fault line) = IsSessionFault held page e size blocks base text fault line
+IsWriteFault held page e size blocks output base text program.OutOfMemory = Unit {0}
+IsWriteFault held page e size blocks output base text _ = ⊥
 
 -- The operations of a listing's text are run on a base, and what they did is told in a line; or a fault is due, and nothing
 -- is told.
-abbrev pub WritesImage : {T : Type 0} → Page → Endian → ℕ → ℕ → List ℕ → List ℕ → List ℕ → Option (List ℕ) → Option (List ℕ) → ℕ → ℕ → Result T ProgramFault → Type 0
-WritesImage page e size blocks output base text old new before now (Ok _) =
-    (lines : List Line) × (accepted : ℕ) × (places : List Place) × IsRunOn page e size blocks base text lines accepted places None
+abbrev pub WritesImage : {T : Type 0} → Held → Page → Endian → ℕ → ℕ → List ℕ → List ℕ → List ℕ → Option (List ℕ) → Option (List ℕ) → ℕ → ℕ → Result T ProgramFault → Type 0
+WritesImage held page e size blocks output base text old new before now (Ok _) =
+    (lines : List Line) × (accepted : ℕ) × (places : List Place) × IsRunOn held page e size blocks base text lines accepted places None
     × Appends old new (accepted_line (resume_address e size blocks base) accepted places) × (now ≡ before)
-WritesImage page e size blocks output base text old new before now (Err program.Output) =
-    (lines : List Line) × (accepted : ℕ) × (places : List Place) × IsRunOn page e size blocks base text lines accepted places None
+WritesImage held page e size blocks output base text old new before now (Err program.Output) =
+    (lines : List Line) × (accepted : ℕ) × (places : List Place) × IsRunOn held page e size blocks base text lines accepted places None
     × PutsPart old new (accepted_line (resume_address e size blocks base) accepted places) × (now ≡ next_count before)
-WritesImage page e size blocks output base text old new before now (Err fault) = IsWriteFault page e size blocks output base text fault × (new ≡ old) × (now ≡ before)
+WritesImage held page e size blocks output base text old new before now (Err fault) = IsWriteFault held page e size blocks output base text fault × (new ≡ old) × (now ≡ before)

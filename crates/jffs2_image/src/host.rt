@@ -1,5 +1,5 @@
 //! Files of the host: those that are read whole, and the one that is made.
-ghost use Rattle.std.specs.Prelude.{◌≡◌, ◌<◌, ℕ, List, Option, IfOk, IfSome, None, Err, length};
+ghost use Rattle.std.specs.Prelude.{◌≡◌, ◌<◌, ◌++◌, ℕ, List, [], ◌∷◌, Option, IfOk, IfSome, None, Some, Err, length};
 ghost use Rattle.flashbase.specs.Device.{CountsErr, next_count};
 ghost use Rattle.jffs2_image.specs.Host.{AreOf, CountsFile, GivesFile, MakesBy};
 
@@ -59,16 +59,22 @@ pub trait Maker {
     /// The names of the files that it made, in order, where they are told.
     ghost names: { Self → Option (List (List ℕ)) };
 
+    /// What was given to each file that was handed back, in order, where it is told.
+    ghost held: { Self → Option (List (List ℕ)) };
+
     /// Makes the file of a name, empty, also in place of one that is there. It goes on with the count of failures.
     fn make(&mut self, name: &str) -> Result<Self::Made, MakeFault>
         ensures made { IfOk result (λ made. Self.Made.failures made ≡ failures self.old) }
         ensures not_made { result ≡ Err MakeFault.NotMade → failures self.new ≡ next_count (failures self.old) }
-        ensures names { MakesBy name.now (names self.old) (names self.new) result };
+        ensures names { MakesBy name.now (names self.old) (names self.new) result }
+        ensures empty { IfOk result (λ made. IfSome (held self.old) (λ _. Self.Made.taken made ≡ Some [])) }
+        ensures held { held self.new ≡ held self.old };
 
     /// Takes back a file that was made, with its count of failures.
     fn take_back(&mut self, made: Self::Made)
         ensures count { failures self.new ≡ Self.Made.failures made }
-        ensures names { names self.new ≡ names self.old };
+        ensures names { names self.new ≡ names self.old }
+        ensures held { IfSome (held self.old) (λ files. IfSome (Self.Made.given made) (λ bytes. held self.new ≡ Some (files ++ bytes ∷ []))) };
 }
 
 /// Reads files of the system.
@@ -138,6 +144,8 @@ impl<'r, R: Files + AllocGlobal> Maker for FileMaker<'r, R> {
     ghost failures = { λ s. s.failures };
 
     ghost names = { λ _. None };
+
+    ghost held = { λ _. None };
 
     fn make(&mut self, name: &str) -> Result<BufferedOutput<R::File>, MakeFault> {
         let Ok(file) = fs::create(self.rt, name) else {

@@ -1,5 +1,5 @@
 //! The program on its arguments: it opens the image, lets `jreport` do the work, and says how that ended.
-ghost use Rattle.std.specs.Prelude.{◌≡◌, IfErr, IfOk, OnOk, Some, map};
+ghost use Rattle.std.specs.Prelude.{◌≡◌, IfErr, IfOk, None, OnOk, Some, map};
 ghost use Rattle.std.specs.Io.KnownBytes.{Appends};
 ghost use Rattle.jcommand.specs.Parsed.{Parsed, ScanParsed, CheckParsed, ListParsed, CatParsed, BuildParsed, AppendParsed, options_of, view};
 ghost use Rattle.jreport.specs.Faults.{fault_line_of};
@@ -58,7 +58,7 @@ fn scan<'a, E: Order, L: Loader, T: Sink>(
     image: &'a str,
     sink: &mut T,
 ) -> Result<u64, ProgramFault<'a>>
-    ensures meets { Meets (L.told loader.old) E.order (ScanParsed options image.now) (T.taken sink.old) (T.taken sink.new) (T.failures sink.old) (T.failures sink.new) result }
+    ensures meets { Meets (L.told loader.old) (None, None) E.order (ScanParsed options image.now) (T.taken sink.old) (T.taken sink.new) (T.failures sink.old) (T.failures sink.new) result }
     ensures host { OpensFile (L.failures loader.old) (L.failures loader.new) result }
 {
     let source = open(loader, image)?;
@@ -74,7 +74,7 @@ fn check<'a, E: Order, L: Loader, T: Sink>(
     image: &'a str,
     sink: &mut T,
 ) -> Result<u64, ProgramFault<'a>>
-    ensures meets { Meets (L.told loader.old) E.order (CheckParsed options shape image.now) (T.taken sink.old) (T.taken sink.new) (T.failures sink.old) (T.failures sink.new) result }
+    ensures meets { Meets (L.told loader.old) (None, None) E.order (CheckParsed options shape image.now) (T.taken sink.old) (T.taken sink.new) (T.failures sink.old) (T.failures sink.new) result }
     ensures host { OpensFile (L.failures loader.old) (L.failures loader.new) result }
 {
     let mut source = open(loader, image)?;
@@ -90,7 +90,7 @@ fn list<'a, E: Order, L: Loader, T: Sink>(
     image: &'a str,
     sink: &mut T,
 ) -> Result<u64, ProgramFault<'a>>
-    ensures meets { Meets (L.told loader.old) E.order (ListParsed options image.now) (T.taken sink.old) (T.taken sink.new) (T.failures sink.old) (T.failures sink.new) result }
+    ensures meets { Meets (L.told loader.old) (None, None) E.order (ListParsed options image.now) (T.taken sink.old) (T.taken sink.new) (T.failures sink.old) (T.failures sink.new) result }
     ensures host { OpensFile (L.failures loader.old) (L.failures loader.new) result }
 {
     let mut source = open(loader, image)?;
@@ -106,7 +106,7 @@ fn cat<'a, E: Order, L: Loader, T: Sink>(
     path: &str,
     sink: &mut T,
 ) -> Result<u64, ProgramFault<'a>>
-    ensures meets { Meets (L.told loader.old) E.order (CatParsed options image.now path.now) (T.taken sink.old) (T.taken sink.new) (T.failures sink.old) (T.failures sink.new) result }
+    ensures meets { Meets (L.told loader.old) (None, None) E.order (CatParsed options image.now path.now) (T.taken sink.old) (T.taken sink.new) (T.failures sink.old) (T.failures sink.new) result }
     ensures host { OpensFile (L.failures loader.old) (L.failures loader.new) result }
 {
     let path = path_word(alloc, path.as_bytes())?;
@@ -125,7 +125,7 @@ fn build<'a, E: Order, L: Loader, M: Maker, T: Sink>(
     text: &'a mut Vec<u8>,
     sink: &mut T,
 ) -> Result<u64, ProgramFault<'a>>
-    ensures meets { Meets (L.told loader.old) E.order (BuildParsed target.entry.options target.entry.blocks target.entry.page listing.entry.now target.entry.output.now) (T.taken sink.old) (T.taken sink.new) (T.failures sink.old) (T.failures sink.new) result }
+    ensures meets { Meets (L.told loader.old) (M.held maker.old, M.held maker.new) E.order (BuildParsed target.entry.options target.entry.blocks target.entry.page listing.entry.now target.entry.output.now) (T.taken sink.old) (T.taken sink.new) (T.failures sink.old) (T.failures sink.new) result }
     ensures host { Blames (maker.new ≡ maker.old) (MakesFile target.entry.output.now (M.names maker.old) (M.names maker.new)) (L.failures loader.old) (L.failures loader.new) (M.failures maker.old) (M.failures maker.new) result }
 {
     *text = load_file(loader, listing)?;
@@ -145,7 +145,7 @@ fn append<'a, E: Order, L: Loader, M: Maker, T: Sink>(
     text: &'a mut Vec<u8>,
     sink: &mut T,
 ) -> Result<u64, ProgramFault<'a>>
-    ensures meets { Meets (L.told loader.old) E.order (AppendParsed target.entry.options target.entry.blocks target.entry.page image.entry.now listing.entry.now target.entry.output.now) (T.taken sink.old) (T.taken sink.new) (T.failures sink.old) (T.failures sink.new) result }
+    ensures meets { Meets (L.told loader.old) (M.held maker.old, M.held maker.new) E.order (AppendParsed target.entry.options target.entry.blocks target.entry.page image.entry.now listing.entry.now target.entry.output.now) (T.taken sink.old) (T.taken sink.new) (T.failures sink.old) (T.failures sink.new) result }
     ensures host { Blames (maker.new ≡ maker.old) (MakesFile target.entry.output.now (M.names maker.old) (M.names maker.new)) (L.failures loader.old) (L.failures loader.new) (M.failures maker.old) (M.failures maker.new) result }
 {
     let base = load_file(loader, image)?;
@@ -163,7 +163,7 @@ fn run_in_order<'a, E: Order, L: Loader, M: Maker, T: Sink>(
     text: &'a mut Vec<u8>,
     sink: &mut T,
 ) -> Result<u64, ProgramFault<'a>>
-    ensures meets { Meets (L.told loader.old) E.order (view request.entry) (T.taken sink.old) (T.taken sink.new) (T.failures sink.old) (T.failures sink.new) result }
+    ensures meets { Meets (L.told loader.old) (M.held maker.old, M.held maker.new) E.order (view request.entry) (T.taken sink.old) (T.taken sink.new) (T.failures sink.old) (T.failures sink.new) result }
     ensures host { BlamesFor (view request.entry) (maker.new ≡ maker.old) (M.names maker.old) (M.names maker.new) (L.failures loader.old) (L.failures loader.new)
         (M.failures maker.old) (M.failures maker.new) result }
 {
@@ -200,7 +200,7 @@ fn run_request<'a, L: Loader, M: Maker, T: Sink>(
     text: &'a mut Vec<u8>,
     sink: &mut T,
 ) -> Result<u64, ProgramFault<'a>>
-    ensures meets { Meets (L.told loader.old) (options_of request.entry).endian (view request.entry) (T.taken sink.old) (T.taken sink.new) (T.failures sink.old) (T.failures sink.new) result }
+    ensures meets { Meets (L.told loader.old) (M.held maker.old, M.held maker.new) (options_of request.entry).endian (view request.entry) (T.taken sink.old) (T.taken sink.new) (T.failures sink.old) (T.failures sink.new) result }
     ensures host { BlamesFor (view request.entry) (maker.new ≡ maker.old) (M.names maker.old) (M.names maker.new) (L.failures loader.old) (L.failures loader.new)
         (M.failures maker.old) (M.failures maker.new) result }
 {
@@ -223,7 +223,7 @@ fn run_whole<'a, L: Loader, M: Maker, T: Output>(
     text: &'a mut Vec<u8>,
     output: &mut T,
 ) -> Result<u64, ProgramFault<'a>>
-    ensures meets { MeetsWhole (L.told loader.old) (view request.entry) (T.taken output.old) (T.given output.new) (T.failures output.old) (T.failures output.new) result }
+    ensures meets { MeetsWhole (L.told loader.old) (M.held maker.old, M.held maker.new) (view request.entry) (T.taken output.old) (T.given output.new) (T.failures output.old) (T.failures output.new) result }
     ensures host { BlamesFor (view request.entry) (maker.new ≡ maker.old) (M.names maker.old) (M.names maker.new) (L.failures loader.old) (L.failures loader.new)
         (M.failures maker.old) (M.failures maker.new) result }
 {
@@ -271,7 +271,7 @@ fn run_command<'a, L: Loader, M: Maker, T: Output>(
     text: &'a mut Vec<u8>,
     output: &mut T,
 ) -> Result<Success, Stop<'a>>
-    ensures meets { MeetsCommand (L.told loader.old) command.entry (T.taken output.old) (T.given output.new) (T.failures output.old) (T.failures output.new) result }
+    ensures meets { MeetsCommand (L.told loader.old) (M.held maker.old, M.held maker.new) command.entry (T.taken output.old) (T.given output.new) (T.failures output.old) (T.failures output.new) result }
     ensures host { BlamesCommand command.entry (loader.new ≡ loader.old) (maker.new ≡ maker.old) (M.names maker.old) (M.names maker.new) (L.failures loader.old) (L.failures loader.new)
         (M.failures maker.old) (M.failures maker.new) result }
 {
@@ -331,7 +331,7 @@ fn run_image<L: Loader, M: Maker, T: Output, E: Sink>(
 ) -> Outcome
     // A fault is one that is due, and is told in one line; `ls` and `cat` note what they passed over. What is told of the
     // host's files is so.
-    ensures { (ran : RunsCommand (L.told loader.old) command.entry (T.taken output.old) (T.given output.new) (T.failures output.old) (T.failures output.new)
+    ensures { (ran : RunsCommand (L.told loader.old) (M.held maker.old, M.held maker.new) command.entry (T.taken output.old) (T.given output.new) (T.failures output.old) (T.failures output.new)
         (Says (errors.new ≡ errors.old) (E.taken errors.old) (E.taken errors.new) (E.failures errors.old) (E.failures errors.new)) result)
         × BlamesCommand command.entry (loader.new ≡ loader.old) (maker.new ≡ maker.old) (M.names maker.old) (M.names maker.new) (L.failures loader.old) (L.failures loader.new)
         (M.failures maker.old) (M.failures maker.new) ran.answer }
@@ -357,7 +357,7 @@ pub fn run<L: Loader, M: Maker, D: Folders, T: Output, E: Sink>(
 ) -> Outcome
     // The words make a request, whose answer goes out, or are answered by a text; or they ask to fill or to read a folder.
     ensures { RunsTask (map (λ w. w.now) args.now)
-        (λ command. (ran : RunsCommand (L.told loader.old) command (T.taken output.old) (T.given output.new) (T.failures output.old) (T.failures output.new)
+        (λ command. (ran : RunsCommand (L.told loader.old) (M.held maker.old, M.held maker.new) command (T.taken output.old) (T.given output.new) (T.failures output.old) (T.failures output.new)
         (Says (errors.new ≡ errors.old) (E.taken errors.old) (E.taken errors.new) (E.failures errors.old) (E.failures errors.new)) result)
         × BlamesCommand command (loader.new ≡ loader.old) (maker.new ≡ maker.old) (M.names maker.old) (M.names maker.new) (L.failures loader.old) (L.failures loader.new)
         (M.failures maker.old) (M.failures maker.new) ran.answer)

@@ -129,7 +129,7 @@ fn make_image<'a, E: Order, M: Maker>(
     ops: &[Op<'_>],
 ) -> Result<RunReport, ProgramFault<'a>>
     requires { IsMountOf E.order target.options.geometry.block mounted.now }
-    ensures made { IfOk result (λ report. IsMade target.entry.page E.order target.entry.options.geometry.block target.entry.blocks mounted.now ops.now report.accepted report.places.items report.stopped) }
+    ensures made { IfOk result (λ report. IsMade (M.held maker.old, M.held maker.new) target.entry.page E.order target.entry.options.geometry.block target.entry.blocks mounted.now ops.now report.accepted report.places.items report.stopped) }
     ensures fault { IfErr result (λ fault. IsNotMade target.entry.page E.order target.entry.options.geometry.block target.entry.blocks mounted.now target.entry.output.now fault) }
     ensures stopped { IfOk result (λ report. IsMadeUntil (M.failures maker.old) (M.failures maker.new) report.stopped) }
     ensures failed { IfErr result (λ fault. IsMakeFault (M.failures maker.old) (M.failures maker.new) fault) }
@@ -166,10 +166,10 @@ fn write_lines<'a, 'p, 'b: 'p, E: Order, M: Maker, T: Sink>(
     sink: &mut T,
 ) -> Result<(), ProgramFault<'a>>
     ensures writes { (text : List ℕ) → lines_of text ≡ Ok lines.entry.items
-        → WritesImage target.entry.page E.order target.entry.options.geometry.block target.entry.blocks target.entry.output.now base.now text
+        → WritesImage (M.held maker.old, M.held maker.new) target.entry.page E.order target.entry.options.geometry.block target.entry.blocks target.entry.output.now base.now text
         (T.taken sink.old) (T.taken sink.new) (T.failures sink.old) (T.failures sink.new) result }
     ensures files { (told : List ℕ → Option (List ℕ)) → (text : List ℕ) → lines_of text ≡ Ok lines.entry.items → AreRead told lines.entry.items parts.entry.now
-        → RunsFiles told target.entry.page E.order target.entry.options.geometry.block target.entry.blocks base.now text (T.taken sink.old) (T.taken sink.new) result }
+        → RunsFiles told (M.held maker.old, M.held maker.new) target.entry.page E.order target.entry.options.geometry.block target.entry.blocks base.now text (T.taken sink.old) (T.taken sink.new) result }
     ensures maker { BlamesMaker (maker.new ≡ maker.old) (MakesFile target.entry.output.now (M.names maker.old) (M.names maker.new)) (M.failures maker.old) (M.failures maker.new) result }
 {
     let numbers = numbers_of(alloc, &lines)?;
@@ -196,10 +196,10 @@ pub fn write_image<'a, E: Order, L: Loader, M: Maker, T: Sink>(
     text: &'a [u8],
     sink: &mut T,
 ) -> Result<(), ProgramFault<'a>>
-    ensures writes { WritesImage target.entry.page E.order target.entry.options.geometry.block target.entry.blocks target.entry.output.now base.now text.now
+    ensures writes { WritesImage (M.held maker.old, M.held maker.new) target.entry.page E.order target.entry.options.geometry.block target.entry.blocks target.entry.output.now base.now text.now
         (T.taken sink.old) (T.taken sink.new) (T.failures sink.old) (T.failures sink.new) result }
     // Each file that a line names was read: its operation has the bytes that it has on the host.
-    ensures files { RunsFiles (L.told loader.old) target.entry.page E.order target.entry.options.geometry.block target.entry.blocks base.now text.now (T.taken sink.old) (T.taken sink.new) result }
+    ensures files { RunsFiles (L.told loader.old) (M.held maker.old, M.held maker.new) target.entry.page E.order target.entry.options.geometry.block target.entry.blocks base.now text.now (T.taken sink.old) (T.taken sink.new) result }
     // Files are blamed only where they failed, and the image's is made only after all else was judged.
     ensures host { Blames (maker.new ≡ maker.old) (MakesFile target.entry.output.now (M.names maker.old) (M.names maker.new)) (L.failures loader.old) (L.failures loader.new) (M.failures maker.old) (M.failures maker.new) result }
 {

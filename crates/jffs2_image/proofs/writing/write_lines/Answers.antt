@@ -26,8 +26,8 @@ returns-in_err-from-clause-writes g c = λ text read.
     let m = c.in_ok-mounted.mounted in
     let mounts : Answers e a.target.options.geometry.block a.base.now (Ok m) = search rules in
     let refused : resumes_by a.target.page e a.target.options.geometry.block a.target.blocks m ≡ Err c.in_err-from.field-0.0 = search rules in
-    writes_fault a.target.page e a.target.options.geometry.block a.target.blocks a.target.output.now a.base.now text _ _ _ _ (program.Session c.in_err-from.field-0.0 None) _ c.from_residual-in_err-from.ensures.1
-    (not_resumed a.target.page e a.target.options.geometry.block a.target.blocks a.target.output.now a.base.now text m c.in_err-from.field-0.0 _ _ mounts refused)
+    writes_fault _ a.target.page e a.target.options.geometry.block a.target.blocks a.target.output.now a.base.now text _ _ _ _ (program.Session c.in_err-from.field-0.0 None) _ c.from_residual-in_err-from.ensures.1
+    (not_resumed _ a.target.page e a.target.options.geometry.block a.target.blocks a.target.output.now a.base.now text m c.in_err-from.field-0.0 _ _ mounts refused)
 
 pub returns-in_err-report-clause-writes : goal.returns-in_err-report-clause-writes
 returns-in_err-report-clause-writes g c = λ text read.
@@ -35,8 +35,8 @@ returns-in_err-report-clause-writes g c = λ text read.
     let a = c.args in
     let m = c.in_ok-mounted.mounted in
     let mounts : Answers e a.target.options.geometry.block a.base.now (Ok m) = search rules in
-    writes_fault a.target.page e a.target.options.geometry.block a.target.blocks a.target.output.now a.base.now text _ _ _ _ c.in_err-report.field-0.0 _ c.from_residual-in_err-report.ensures.1
-    (not_made a.target.page e a.target.options.geometry.block a.target.blocks a.target.output.now a.base.now text m c.in_err-report.field-0.0 _ _ mounts c.in_err-report.ensures.fault)
+    writes_fault _ a.target.page e a.target.options.geometry.block a.target.blocks a.target.output.now a.base.now text _ _ _ _ c.in_err-report.field-0.0 _ c.from_residual-in_err-report.ensures.1
+    (not_made _ a.target.page e a.target.options.geometry.block a.target.blocks a.target.output.now a.base.now text m c.in_err-report.field-0.0 _ _ mounts c.in_err-report.ensures.fault)
 
 pub returns-in-Some-clause-writes : goal.returns-in-Some-clause-writes
 returns-in-Some-clause-writes g c = λ text read.
@@ -49,13 +49,13 @@ returns-in-Some-clause-writes g c = λ text read.
     let stopped : r.stopped ≡ Some c.in-Some.fault = search rules in
     let numbers : c.in_ok-numbers.numbers.items ≡ map (λ l. l.number) a.lines.items = search rules in
     let line : c.number_at-line.result ≡ slice_get c.in_ok-numbers.numbers.items r.accepted = search rules in
-    let made : IsMade a.target.page e a.target.options.geometry.block a.target.blocks m (ops_in (part_contents a.parts.now) a.lines.items) r.accepted r.places.items (Some c.in-Some.fault) =
-    subst (λ (o : List Op). IsMade a.target.page e a.target.options.geometry.block a.target.blocks m o r.accepted r.places.items (Some c.in-Some.fault)) same
-    (subst (λ s. IsMade a.target.page e a.target.options.geometry.block a.target.blocks m c.deref-2.result.now r.accepted r.places.items s) stopped c.in_ok-report.ensures.made) in
-    let run = run_on a.target.page e a.target.options.geometry.block a.target.blocks a.base.now text a.lines.items (part_contents a.parts.now) m r.accepted r.places.items (Some c.in-Some.fault) read mounts made in
+    let made : IsMade (g.M.Maker.held a.maker.now, g.M.Maker.held c.make_image.new.maker) a.target.page e a.target.options.geometry.block a.target.blocks m (ops_in (part_contents a.parts.now) a.lines.items) r.accepted r.places.items (Some c.in-Some.fault) =
+    subst (λ (o : List Op). IsMade (g.M.Maker.held a.maker.now, g.M.Maker.held c.make_image.new.maker) a.target.page e a.target.options.geometry.block a.target.blocks m o r.accepted r.places.items (Some c.in-Some.fault)) same
+    (subst (λ s. IsMade (g.M.Maker.held a.maker.now, g.M.Maker.held c.make_image.new.maker) a.target.page e a.target.options.geometry.block a.target.blocks m c.deref-2.result.now r.accepted r.places.items s) stopped c.in_ok-report.ensures.made) in
+    let run = run_on _ a.target.page e a.target.options.geometry.block a.target.blocks a.base.now text a.lines.items (part_contents a.parts.now) m r.accepted r.places.items (Some c.in-Some.fault) read mounts made in
     let shown = line ∙ (ap (λ (l : List ℕ). slice_get l r.accepted) numbers ∙ slice_get-map (λ l. l.number) a.lines.items r.accepted) in (
-      subst (λ n. IsSessionFault a.target.page e a.target.options.geometry.block a.target.blocks a.base.now text c.in-Some.fault n) (sym shown)
-          (stopped_at a.target.page e a.target.options.geometry.block a.target.blocks a.base.now text a.lines.items r.accepted r.places.items c.in-Some.fault run),
+      subst (λ n. IsSessionFault (g.M.Maker.held a.maker.now, g.M.Maker.held c.make_image.new.maker) a.target.page e a.target.options.geometry.block a.target.blocks a.base.now text c.in-Some.fault n) (sym shown)
+          (stopped_at _ a.target.page e a.target.options.geometry.block a.target.blocks a.base.now text a.lines.items r.accepted r.places.items c.in-Some.fault run),
       refl,
       refl,
     )
@@ -71,14 +71,14 @@ returns-in_err-put_accepted-clause-writes g c = λ text read.
     let image : m.image ≡ a.base.now = search rules in
     let at : resumes_by a.target.page e a.target.options.geometry.block a.target.blocks m ≡ Ok c.in_ok-from.from = search rules in
     let stopped : r.stopped ≡ None = search rules in
-    let made : IsMade a.target.page e a.target.options.geometry.block a.target.blocks m (ops_in (part_contents a.parts.now) a.lines.items) r.accepted r.places.items None =
-    subst (λ (o : List Op). IsMade a.target.page e a.target.options.geometry.block a.target.blocks m o r.accepted r.places.items None) same
-    (subst (λ s. IsMade a.target.page e a.target.options.geometry.block a.target.blocks m c.deref-2.result.now r.accepted r.places.items s) stopped c.in_ok-report.ensures.made) in
-    let run = run_on a.target.page e a.target.options.geometry.block a.target.blocks a.base.now text a.lines.items (part_contents a.parts.now) m r.accepted r.places.items None read mounts made in
+    let made : IsMade (g.M.Maker.held a.maker.now, g.M.Maker.held c.make_image.new.maker) a.target.page e a.target.options.geometry.block a.target.blocks m (ops_in (part_contents a.parts.now) a.lines.items) r.accepted r.places.items None =
+    subst (λ (o : List Op). IsMade (g.M.Maker.held a.maker.now, g.M.Maker.held c.make_image.new.maker) a.target.page e a.target.options.geometry.block a.target.blocks m o r.accepted r.places.items None) same
+    (subst (λ s. IsMade (g.M.Maker.held a.maker.now, g.M.Maker.held c.make_image.new.maker) a.target.page e a.target.options.geometry.block a.target.blocks m c.deref-2.result.now r.accepted r.places.items s) stopped c.in_ok-report.ensures.made) in
+    let run = run_on _ a.target.page e a.target.options.geometry.block a.target.blocks a.base.now text a.lines.items (part_contents a.parts.now) m r.accepted r.places.items None read mounts made in
     let from = goes_on_from a.target.page e a.target.options.geometry.block a.target.blocks m c.in_ok-from.from at ∙ ap (λ (l : List ℕ). resume_address e a.target.options.geometry.block a.target.blocks l) image in
     let put = c.in_err-put_accepted.ensures in
-    writes_fault a.target.page e a.target.options.geometry.block a.target.blocks a.target.output.now a.base.now text _ _ _ _ program.Output _ c.from_residual-in_err-put_accepted.ensures.1
-    (told_in_part a.target.page e a.target.options.geometry.block a.target.blocks a.target.output.now a.base.now text a.lines.items r.accepted r.places.items c.in_ok-from.from _ _ _ _ from run
+    writes_fault _ a.target.page e a.target.options.geometry.block a.target.blocks a.target.output.now a.base.now text _ _ _ _ program.Output _ c.from_residual-in_err-put_accepted.ensures.1
+    (told_in_part _ a.target.page e a.target.options.geometry.block a.target.blocks a.target.output.now a.base.now text a.lines.items r.accepted r.places.items c.in_ok-from.from _ _ _ _ from run
     (subst (λ (l : List Place). PutsPart (g.T.Sink.taken a.sink.now) (g.T.Sink.taken c.put_accepted.new.sink) (accepted_line c.in_ok-from.from r.accepted l)) c.deref-3.ensures.value put.0) put.1)
 
 pub returns-clause-writes : goal.returns-clause-writes
@@ -92,13 +92,13 @@ returns-clause-writes g c = λ text read.
     let image : m.image ≡ a.base.now = search rules in
     let at : resumes_by a.target.page e a.target.options.geometry.block a.target.blocks m ≡ Ok c.in_ok-from.from = search rules in
     let stopped : r.stopped ≡ None = search rules in
-    let made : IsMade a.target.page e a.target.options.geometry.block a.target.blocks m (ops_in (part_contents a.parts.now) a.lines.items) r.accepted r.places.items None =
-    subst (λ (o : List Op). IsMade a.target.page e a.target.options.geometry.block a.target.blocks m o r.accepted r.places.items None) same
-    (subst (λ s. IsMade a.target.page e a.target.options.geometry.block a.target.blocks m c.deref-2.result.now r.accepted r.places.items s) stopped c.in_ok-report.ensures.made) in
-    let run = run_on a.target.page e a.target.options.geometry.block a.target.blocks a.base.now text a.lines.items (part_contents a.parts.now) m r.accepted r.places.items None read mounts made in
+    let made : IsMade (g.M.Maker.held a.maker.now, g.M.Maker.held c.make_image.new.maker) a.target.page e a.target.options.geometry.block a.target.blocks m (ops_in (part_contents a.parts.now) a.lines.items) r.accepted r.places.items None =
+    subst (λ (o : List Op). IsMade (g.M.Maker.held a.maker.now, g.M.Maker.held c.make_image.new.maker) a.target.page e a.target.options.geometry.block a.target.blocks m o r.accepted r.places.items None) same
+    (subst (λ s. IsMade (g.M.Maker.held a.maker.now, g.M.Maker.held c.make_image.new.maker) a.target.page e a.target.options.geometry.block a.target.blocks m c.deref-2.result.now r.accepted r.places.items s) stopped c.in_ok-report.ensures.made) in
+    let run = run_on _ a.target.page e a.target.options.geometry.block a.target.blocks a.base.now text a.lines.items (part_contents a.parts.now) m r.accepted r.places.items None read mounts made in
     let from = goes_on_from a.target.page e a.target.options.geometry.block a.target.blocks m c.in_ok-from.from at ∙ ap (λ (l : List ℕ). resume_address e a.target.options.geometry.block a.target.blocks l) image in
     let put = c.in_ok-put_accepted.ensures in
-    told a.target.page e a.target.options.geometry.block a.target.blocks a.target.output.now a.base.now text a.lines.items r.accepted r.places.items c.in_ok-from.from _ _ _ _ _ from run
+    told _ a.target.page e a.target.options.geometry.block a.target.blocks a.target.output.now a.base.now text a.lines.items r.accepted r.places.items c.in_ok-from.from _ _ _ _ _ from run
     (subst (λ (l : List Place). Appends (g.T.Sink.taken a.sink.now) (g.T.Sink.taken c.put_accepted.new.sink) (accepted_line c.in_ok-from.from r.accepted l)) c.deref-3.ensures.value put.0) put.1
 
 pub returns-in_err-from-clause-maker : goal.returns-in_err-from-clause-maker
@@ -126,8 +126,8 @@ returns-in-Some-clause-maker g c =
     let m = c.in_ok-mounted.mounted in
     let r = c.in_ok-report.report in
     let stopped : r.stopped ≡ Some c.in-Some.fault = search rules in
-    run_fault a.target.page e a.target.options.geometry.block a.target.blocks m c.deref-2.result.now r.accepted r.places.items _ _ _ _ c.in-Some.fault _
-    (subst (λ s. IsMade a.target.page e a.target.options.geometry.block a.target.blocks m c.deref-2.result.now r.accepted r.places.items s) stopped c.in_ok-report.ensures.made)
+    run_fault _ a.target.page e a.target.options.geometry.block a.target.blocks m c.deref-2.result.now r.accepted r.places.items _ _ _ _ c.in-Some.fault _
+    (subst (λ s. IsMade (g.M.Maker.held a.maker.now, g.M.Maker.held c.make_image.new.maker) a.target.page e a.target.options.geometry.block a.target.blocks m c.deref-2.result.now r.accepted r.places.items s) stopped c.in_ok-report.ensures.made)
     (subst (λ s. IsMadeUntil (g.M.Maker.failures a.maker.now) (g.M.Maker.failures c.make_image.new.maker) s) stopped c.in_ok-report.ensures.stopped)
     c.in_ok-report.ensures.file
 
@@ -142,12 +142,12 @@ returns-clause-files g c = λ known text read are.
     let image : m.image ≡ a.base.now = search rules in
     let at : resumes_by a.target.page e a.target.options.geometry.block a.target.blocks m ≡ Ok c.in_ok-from.from = search rules in
     let stopped : r.stopped ≡ None = search rules in
-    let made : IsMade a.target.page e a.target.options.geometry.block a.target.blocks m (ops_in (part_contents a.parts.now) a.lines.items) r.accepted r.places.items None =
-    subst (λ (o : List Op). IsMade a.target.page e a.target.options.geometry.block a.target.blocks m o r.accepted r.places.items None) same
-    (subst (λ s. IsMade a.target.page e a.target.options.geometry.block a.target.blocks m c.deref-2.result.now r.accepted r.places.items s) stopped c.in_ok-report.ensures.made) in
+    let made : IsMade (g.M.Maker.held a.maker.now, g.M.Maker.held c.make_image.new.maker) a.target.page e a.target.options.geometry.block a.target.blocks m (ops_in (part_contents a.parts.now) a.lines.items) r.accepted r.places.items None =
+    subst (λ (o : List Op). IsMade (g.M.Maker.held a.maker.now, g.M.Maker.held c.make_image.new.maker) a.target.page e a.target.options.geometry.block a.target.blocks m o r.accepted r.places.items None) same
+    (subst (λ s. IsMade (g.M.Maker.held a.maker.now, g.M.Maker.held c.make_image.new.maker) a.target.page e a.target.options.geometry.block a.target.blocks m c.deref-2.result.now r.accepted r.places.items s) stopped c.in_ok-report.ensures.made) in
     let from = goes_on_from a.target.page e a.target.options.geometry.block a.target.blocks m c.in_ok-from.from at ∙ ap (λ (l : List ℕ). resume_address e a.target.options.geometry.block a.target.blocks l) image in
     let put = c.in_ok-put_accepted.ensures in
-    files_of_all known a.target.page e a.target.options.geometry.block a.target.blocks a.base.now text a.lines.items a.parts.now m r.accepted r.places.items c.in_ok-from.from _ _ _ image from are read mounts made
+    files_of_all known _ a.target.page e a.target.options.geometry.block a.target.blocks a.base.now text a.lines.items a.parts.now m r.accepted r.places.items c.in_ok-from.from _ _ _ image from are read mounts made
     (subst (λ (l : List Place). Appends (g.T.Sink.taken a.sink.now) (g.T.Sink.taken c.put_accepted.new.sink) (accepted_line c.in_ok-from.from r.accepted l)) c.deref-3.ensures.value put.0)
 
 pub returns-in_err-put_accepted-clause-files : goal.returns-in_err-put_accepted-clause-files
@@ -161,12 +161,12 @@ returns-in_err-put_accepted-clause-files g c = λ known text read are.
     let image : m.image ≡ a.base.now = search rules in
     let at : resumes_by a.target.page e a.target.options.geometry.block a.target.blocks m ≡ Ok c.in_ok-from.from = search rules in
     let stopped : r.stopped ≡ None = search rules in
-    let made : IsMade a.target.page e a.target.options.geometry.block a.target.blocks m (ops_in (part_contents a.parts.now) a.lines.items) r.accepted r.places.items None =
-    subst (λ (o : List Op). IsMade a.target.page e a.target.options.geometry.block a.target.blocks m o r.accepted r.places.items None) same
-    (subst (λ s. IsMade a.target.page e a.target.options.geometry.block a.target.blocks m c.deref-2.result.now r.accepted r.places.items s) stopped c.in_ok-report.ensures.made) in
+    let made : IsMade (g.M.Maker.held a.maker.now, g.M.Maker.held c.make_image.new.maker) a.target.page e a.target.options.geometry.block a.target.blocks m (ops_in (part_contents a.parts.now) a.lines.items) r.accepted r.places.items None =
+    subst (λ (o : List Op). IsMade (g.M.Maker.held a.maker.now, g.M.Maker.held c.make_image.new.maker) a.target.page e a.target.options.geometry.block a.target.blocks m o r.accepted r.places.items None) same
+    (subst (λ s. IsMade (g.M.Maker.held a.maker.now, g.M.Maker.held c.make_image.new.maker) a.target.page e a.target.options.geometry.block a.target.blocks m c.deref-2.result.now r.accepted r.places.items s) stopped c.in_ok-report.ensures.made) in
     let from = goes_on_from a.target.page e a.target.options.geometry.block a.target.blocks m c.in_ok-from.from at ∙ ap (λ (l : List ℕ). resume_address e a.target.options.geometry.block a.target.blocks l) image in
     let put = c.in_err-put_accepted.ensures in
-    files_in_part known a.target.page e a.target.options.geometry.block a.target.blocks a.base.now text a.lines.items a.parts.now m r.accepted r.places.items c.in_ok-from.from _ _ _ c.from_residual-in_err-put_accepted.ensures.1 from are read mounts made
+    files_in_part known _ a.target.page e a.target.options.geometry.block a.target.blocks a.base.now text a.lines.items a.parts.now m r.accepted r.places.items c.in_ok-from.from _ _ _ c.from_residual-in_err-put_accepted.ensures.1 from are read mounts made
     (subst (λ (l : List Place). PutsPart (g.T.Sink.taken a.sink.now) (g.T.Sink.taken c.put_accepted.new.sink) (accepted_line c.in_ok-from.from r.accepted l)) c.deref-3.ensures.value put.0)
 
 pub returns-in-Some-clause-files : goal.returns-in-Some-clause-files
@@ -180,14 +180,14 @@ returns-in-Some-clause-files g c = λ known text read are.
     let stopped : r.stopped ≡ Some c.in-Some.fault = search rules in
     let numbers : c.in_ok-numbers.numbers.items ≡ map (λ l. l.number) a.lines.items = search rules in
     let line : c.number_at-line.result ≡ slice_get c.in_ok-numbers.numbers.items r.accepted = search rules in
-    let made : IsMade a.target.page e a.target.options.geometry.block a.target.blocks m (ops_in (part_contents a.parts.now) a.lines.items) r.accepted r.places.items (Some c.in-Some.fault) =
-    subst (λ (o : List Op). IsMade a.target.page e a.target.options.geometry.block a.target.blocks m o r.accepted r.places.items (Some c.in-Some.fault)) same
-    (subst (λ s. IsMade a.target.page e a.target.options.geometry.block a.target.blocks m c.deref-2.result.now r.accepted r.places.items s) stopped c.in_ok-report.ensures.made) in
+    let made : IsMade (g.M.Maker.held a.maker.now, g.M.Maker.held c.make_image.new.maker) a.target.page e a.target.options.geometry.block a.target.blocks m (ops_in (part_contents a.parts.now) a.lines.items) r.accepted r.places.items (Some c.in-Some.fault) =
+    subst (λ (o : List Op). IsMade (g.M.Maker.held a.maker.now, g.M.Maker.held c.make_image.new.maker) a.target.page e a.target.options.geometry.block a.target.blocks m o r.accepted r.places.items (Some c.in-Some.fault)) same
+    (subst (λ s. IsMade (g.M.Maker.held a.maker.now, g.M.Maker.held c.make_image.new.maker) a.target.page e a.target.options.geometry.block a.target.blocks m c.deref-2.result.now r.accepted r.places.items s) stopped c.in_ok-report.ensures.made) in
     let shown = line ∙ (ap (λ (l : List ℕ). slice_get l r.accepted) numbers ∙ slice_get-map (λ l. l.number) a.lines.items r.accepted) in
-    files_until known a.target.page e a.target.options.geometry.block a.target.blocks a.base.now text a.lines.items a.parts.now m r.accepted r.places.items (g.T.Sink.taken a.sink.now) (g.T.Sink.taken a.sink.now) c.in-Some.fault _ shown are read mounts made
+    files_until known _ a.target.page e a.target.options.geometry.block a.target.blocks a.base.now text a.lines.items a.parts.now m r.accepted r.places.items (g.T.Sink.taken a.sink.now) (g.T.Sink.taken a.sink.now) c.in-Some.fault _ shown are read mounts made
 
 pub returns-in_err-report-clause-files : goal.returns-in_err-report-clause-files
 returns-in_err-report-clause-files g c = λ known text read are.
     let e = g.E.Order.order in
     let a = c.args in
-    files_not_made known a.target.page e a.target.options.geometry.block a.target.blocks a.target.output.now a.base.now text c.in_ok-mounted.mounted _ _ c.in_err-report.field-0.0 _ c.from_residual-in_err-report.ensures.1 c.in_err-report.ensures.fault
+    files_not_made known _ a.target.page e a.target.options.geometry.block a.target.blocks a.target.output.now a.base.now text c.in_ok-mounted.mounted _ _ c.in_err-report.field-0.0 _ c.from_residual-in_err-report.ensures.1 c.in_err-report.ensures.fault

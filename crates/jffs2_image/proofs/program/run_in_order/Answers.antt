@@ -1,0 +1,26 @@
+use Rattle.std.proofs.Common.{rules, ◌≡◌, None, subst, sym}
+use Rattle.jcommand.specs.Parsed.{Parsed, CheckParsed, ListParsed, CatParsed, view}
+use Rattle.jffs2_image.specs.Runs.{Meets}
+use Rattle.jffs2_image.proofs.WritingLemmas.{met_by_any}
+use Rattle.jffs2_image.proofs.program.run_in_order.Goals as goal
+
+pub returns-in-Check-clause-meets : goal.returns-in-Check-clause-meets
+returns-in-Check-clause-meets g c =
+    let is : view c.args.request ≡ CheckParsed c.in-Check.options c.in-Check.shape c.in-Check.image.now = search rules in
+    subst (λ (p : Parsed). Meets (g.L.Loader.told c.args.loader.now) (g.M.Maker.held c.args.maker.now, g.M.Maker.held c.args.maker.now) g.E.Order.order p (g.T.Sink.taken c.args.sink.now) (g.T.Sink.taken c.check.new.sink)
+    (g.T.Sink.failures c.args.sink.now) (g.T.Sink.failures c.check.new.sink) c.check.result) (sym is)
+    (met_by_any _ (None, None) _ g.E.Order.order (CheckParsed c.in-Check.options c.in-Check.shape c.in-Check.image.now) _ _ _ _ c.check.result tt c.check.ensures.meets)
+
+pub returns-in-List-clause-meets : goal.returns-in-List-clause-meets
+returns-in-List-clause-meets g c =
+    let is : view c.args.request ≡ ListParsed c.in-List.options c.in-List.image.now = search rules in
+    subst (λ (p : Parsed). Meets (g.L.Loader.told c.args.loader.now) (g.M.Maker.held c.args.maker.now, g.M.Maker.held c.args.maker.now) g.E.Order.order p (g.T.Sink.taken c.args.sink.now) (g.T.Sink.taken c.list.new.sink)
+    (g.T.Sink.failures c.args.sink.now) (g.T.Sink.failures c.list.new.sink) c.list.result) (sym is)
+    (met_by_any _ (None, None) _ g.E.Order.order (ListParsed c.in-List.options c.in-List.image.now) _ _ _ _ c.list.result tt c.list.ensures.meets)
+
+pub returns-in-Cat-clause-meets : goal.returns-in-Cat-clause-meets
+returns-in-Cat-clause-meets g c =
+    let is : view c.args.request ≡ CatParsed c.in-Cat.options c.in-Cat.image.now c.in-Cat.path.now = search rules in
+    subst (λ (p : Parsed). Meets (g.L.Loader.told c.args.loader.now) (g.M.Maker.held c.args.maker.now, g.M.Maker.held c.args.maker.now) g.E.Order.order p (g.T.Sink.taken c.args.sink.now) (g.T.Sink.taken c.cat.new.sink)
+    (g.T.Sink.failures c.args.sink.now) (g.T.Sink.failures c.cat.new.sink) c.cat.result) (sym is)
+    (met_by_any _ (None, None) _ g.E.Order.order (CatParsed c.in-Cat.options c.in-Cat.image.now c.in-Cat.path.now) _ _ _ _ c.cat.result tt c.cat.ensures.meets)
