@@ -1,6 +1,6 @@
 -- What the commands do that work with a folder of the host.
 use Rattle.std.specs.Prelude.{◌≡◌, ◌⊎◌, ℕ, Bool, List, [], ◌∷◌, All, map, Option, option_map, Result, Ok, Err}
-use Rattle.std.specs.Io.KnownBytes.{Appends, Keeps}
+use Rattle.std.specs.Io.KnownBytes.{Appends}
 use Rattle.flashbase.specs.Device.{PutsPart, next_count}
 use Rattle.jnode.specs.declared.order.Endian.{Endian}
 use Rattle.jmount.specs.Mount.{Mount}
