@@ -44,10 +44,22 @@ impl<R: Read + Drop> FromReader<R> {
         ensures rest { ⟦<FromReader<R> as Source>⟧.rest result ≡ R.remaining reader }
         ensures failures { ⟦<FromReader<R> as Source>⟧.failures result ≡ 0 }
     {
-        FromReader {
-            reader,
-            failures: 0,
-        }
+        FromReader::counting_from(reader, 0)
+    }
+
+    /// The same, which goes on with a count of failures.
+    pub fn counting_from(reader: R, failures: u64) -> Self
+        ensures rest { ⟦<FromReader<R> as Source>⟧.rest result ≡ R.remaining reader }
+        ensures failures { ⟦<FromReader<R> as Source>⟧.failures result ≡ failures }
+    {
+        FromReader { reader, failures }
+    }
+
+    /// How often it failed, modulo 2^64.
+    pub fn failures(&self) -> u64
+        ensures { result ≡ ⟦<FromReader<R> as Source>⟧.failures self.now }
+    {
+        self.failures
     }
 
     /// The reader, after what was read.

@@ -64,6 +64,24 @@ fn a_reader_that_is_not_loaded(rt: HostRuntime) {
 }
 
 #[test]
+fn a_reader_that_goes_on_counting(rt: HostRuntime) {
+    let mut source = FromReader::new(Interrupted);
+    assert_eq!(rt; source.failures(), 0);
+    assert!(rt; source.fill(&mut [0u8; 3]).is_err());
+    assert_eq!(rt; source.failures(), 1);
+    for (before, after) in [(0, 1), (7, 8), (u64::MAX, 0)] {
+        let mut source = FromReader::counting_from(Interrupted, before);
+        assert_eq!(rt; source.failures(), before);
+        assert!(rt; source.fill(&mut [0u8; 3]).is_err());
+        assert_eq!(rt; source.failures(), after);
+    }
+    let mut source = FromReader::counting_from(b"abcd".as_slice(), 7);
+    let mut buf = [0u8; 3];
+    assert_eq!(rt; source.fill(&mut buf), Ok(3));
+    assert!(rt; source.failures() == 7 && buf == *b"abc");
+}
+
+#[test]
 fn a_reader_behind_a_fill(rt: HostRuntime) {
     let mut source = FromReader::new(b"abcd".as_slice());
     let mut buf = [0u8; 3];

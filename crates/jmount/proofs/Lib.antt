@@ -24,7 +24,7 @@ pub mod WalkLemmas
 pub mod UseLemmas
 pub mod VersionsLemmas
 pub mod CollectLemmas
-pub mod GatherLemmas
+pub mod CollectedEntriesLemmas
 pub mod StoredStateLemmas
 pub mod MountLemmas
 pub mod ShapeLemmas

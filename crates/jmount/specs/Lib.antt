@@ -2,9 +2,9 @@ pub mod ByVersion
 pub mod Clash
 pub mod Codes
 pub mod Collected
+pub mod CollectedEntries
 pub mod Examples
 pub mod Find
-pub mod Gathered
 pub mod Inodes
 pub mod Laws
 pub mod Mount

@@ -6,13 +6,13 @@ ghost use Rattle.jname.specs.Clash as clash;
 ghost use Rattle.jname.specs.Live as live;
 ghost use Rattle.jmount.specs.Clash.{NoInodeClashesWith, SomeInodeClashesWith};
 ghost use Rattle.jmount.specs.Inodes.{GainsInode};
-ghost use Rattle.jmount.specs.Gathered.{Gathered};
 ghost use Rattle.jmount.specs.StateOf.{entries, numbers_in};
+ghost use Rattle.jmount.specs.CollectedEntries.{CollectedEntries};
 ghost use Rattle.jmount.specs.Collected.{Collected, IsRefused, StopsCollecting, without_addresses, greatest_number};
 
 use crate::fault::MountFault;
-use crate::gathering::{are_in_order, gather_names};
 use crate::inodes::Inodes;
+use crate::sorting::{are_in_order, collect_names};
 use crate::versions::InodeFault;
 use jname::{NameFault, Names};
 use jnode::{Dirent, InodeNode, NodeRef};
@@ -39,7 +39,7 @@ pub fn collect<'a>(
     if are_in_order(&nodes) {
         return collect_in_turn(alloc, nodes);
     }
-    match gather_names(alloc, &nodes) {
+    match collect_names(alloc, &nodes) {
         Ok(names) => collect_inodes(alloc, nodes, names),
         // Which node of which clash is the first is told by their order.
         Err(NameFault::Clash) => collect_in_turn(alloc, nodes),
@@ -73,13 +73,13 @@ fn collect_in_turn<'a>(
     })
 }
 
-/// Collects the inode nodes of nodes whose names are gathered.
+/// Collects the inode nodes of nodes whose names are collected.
 fn collect_inodes<'a>(
     alloc: Global,
     nodes: Vec<(u32, NodeRef<'a>)>,
     names: Names<'a>,
 ) -> Result<NodeTables<'a>, MountFault>
-    requires { Gathered names (entries (without_addresses nodes.items)) }
+    requires { CollectedEntries names (entries (without_addresses nodes.items)) }
     ensures ok { IfOk result (λ tables. Collected tables.names tables.inodes nodes.entry.items) }
     ensures greatest { IfOk result (λ tables. tables.greatest ≡ greatest_number (without_addresses nodes.entry.items)) }
     ensures err { IfErr result (StopsCollecting nodes.entry.items) }

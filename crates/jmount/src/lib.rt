@@ -11,7 +11,6 @@
 mod collecting;
 pub mod examples;
 mod fault;
-mod gathering;
 mod inodes;
 pub mod laws;
 mod mounted;
@@ -24,6 +23,7 @@ mod read;
 mod sameness;
 mod shape;
 mod shown;
+mod sorting;
 mod stored;
 mod storing;
 mod versions;

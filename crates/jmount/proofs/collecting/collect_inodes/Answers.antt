@@ -6,7 +6,7 @@ use Rattle.jmount.specs.StateOf.{entries}
 use Rattle.jmount.specs.Collected.{Collected, StopsCollecting, without_addresses}
 use Rattle.jmount.proofs.CollectedLemmas.{collected_inode}
 use Rattle.jmount.proofs.CollectLemmas.{number_push, inode_refused}
-use Rattle.jmount.proofs.GatherLemmas.{collected_entries, collected_past_entry, collected_of_gathered, gathered_apart}
+use Rattle.jmount.proofs.CollectedEntriesLemmas.{collected_entries, collected_past_entry, collected_of_entries, entries_collected_apart}
 use Rattle.jmount.proofs.collecting.collect_inodes.Goals as goal
 
 pub loop-addr-preserved-in-Continue-1 : goal.loop-addr-preserved-in-Continue-1
@@ -37,7 +37,7 @@ loop-addr-preserved c =
       can = tt;
       finite = tt;
       collected = collected_past_entry c.loop-addr.inodes ys (into_iter_items c.next.new.self) c.args.nodes.items c.in-Some.addr c.in-Some.node c.in_default.field-0 c.loop-addr.invariant.collected
-          c.in_default.is whole (gathered_apart c.args.names (entries (without_addresses c.args.nodes.items)) c.requires);
+          c.in_default.is whole (entries_collected_apart c.args.names (entries (without_addresses c.args.nodes.items)) c.requires);
       number = number_push ys c.in-Some.addr c.in-Some.node c.loop-addr.greatest c.number_in.result c.max-greatest.result c.loop-addr.invariant.number c.number_in.ensures greatest;
       whole = whole;
     }
@@ -57,4 +57,4 @@ returns-clause-ok c =
     let ys = c.loop-addr.yielded in
     let none : into_iter_items c.loop-addr.addr-iterator ≡ [] = nil_from_length (into_iter_items c.loop-addr.addr-iterator) (search rules) in
     let all : ys ≡ c.args.nodes.items = sym (append-nil ys) ∙ ap (λ (ns : List (ℕ × NodeRef)). ys ++ ns) (sym none) ∙ c.loop-addr.invariant.whole in
-    collected_of_gathered c.args.names c.loop-addr.inodes ys c.args.nodes.items c.requires c.loop-addr.invariant.collected all
+    collected_of_entries c.args.names c.loop-addr.inodes ys c.args.nodes.items c.requires c.loop-addr.invariant.collected all

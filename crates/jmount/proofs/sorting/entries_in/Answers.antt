@@ -2,11 +2,11 @@ use Rattle.std.proofs.Common.{[], ◌∷◌, ◌++◌, sym, ap, ◌∙◌}
 use Rattle.std.proofs.lemmas.List.{append-nil, map_push}
 use Rattle.jnode.specs.declared.node.NodeRef.{NodeRef}
 use Rattle.jmount.specs.StateOf.{entries}
-use Rattle.jmount.specs.Gathered.{pending_entries}
-use Rattle.jmount.specs.declared.gathering.Pending.{Pending}
-use Rattle.jmount.proofs.GatherLemmas.{entries_more}
-use Rattle.jmount.proofs.gathering.entries_in.Goals as goal
-use Rattle.jmount.proofs.gathering.entries_in.Goals.{in-Entry+in_ok-push, in_default}
+use Rattle.jmount.specs.CollectedEntries.{pending_entries}
+use Rattle.jmount.specs.declared.sorting.Pending.{Pending}
+use Rattle.jmount.proofs.CollectedEntriesLemmas.{entries_more}
+use Rattle.jmount.proofs.sorting.entries_in.Goals as goal
+use Rattle.jmount.proofs.sorting.entries_in.Goals.{in-Entry+in_ok-push, in_default}
 
 pub loop-node-preserved : goal.loop-node-preserved
 loop-node-preserved c =

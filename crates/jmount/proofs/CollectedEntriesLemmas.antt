@@ -1,4 +1,4 @@
--- Entries gathered from nodes, and inode nodes collected beside them.
+-- Entries collected from nodes, and inode nodes collected beside them.
 use Rattle.std.proofs.Common.{◌≡◌, ℕ, ◌+◌, ◌<◌, List, [], ◌∷◌, ◌++◌, length, take, sym, ap, ◌∙◌, subst, get_or}
 use Rattle.std.specs.Prelude.{Contains, filter_map, ◌↔◌, IfOk, Result, Ok, Err}
 use Rattle.std.specs.List.Sorted.{IsPermutation}
@@ -13,11 +13,11 @@ use Rattle.jname.specs.Clash as names
 use Rattle.jname.specs.Live.{Gains}
 use Rattle.jmount.specs.StateOf.{entry_in, inodes, entries}
 use Rattle.jmount.specs.Collected.{Collected, without_addresses}
-use Rattle.jmount.specs.Gathered.{Gathered, pending_entries}
-use Rattle.jmount.specs.declared.gathering.Pending.{Pending}
+use Rattle.jmount.specs.CollectedEntries.{CollectedEntries, pending_entries}
+use Rattle.jmount.specs.declared.sorting.Pending.{Pending}
 use Rattle.jmount.proofs.CollectedLemmas.{entries_push, inodes_push, same_push, entries_apart_push, collected_entries_apart}
 
--- ---- entries gathered
+-- ---- entries collected
 
 -- those of a list of nodes up to one of them, and then its own
 pub entries_more : (ns : List (ℕ × NodeRef)) (i : ℕ) (n : ℕ × NodeRef) (known more : List Dirent) → i < length ns → n ≡ get_or ns i n
@@ -26,16 +26,16 @@ entries_more ns i n known more lt is was gains =
     gains ∙ ap (λ (l : List Dirent). l ++ entries (n.1 ∷ [])) was ∙ sym (entries_push (take i ns) n.0 n.1)
     ∙ ap (λ (l : List (ℕ × NodeRef)). entries (without_addresses l)) (sym (take_more ns i n lt ∙ ap (λ (m : ℕ × NodeRef). take i ns ++ m ∷ []) (sym is)))
 
-pub gathered_more : (gained more given all : List Dirent) (entry : Dirent) → Gathered gained given → Gains gained more entry → names.NoEntryClashesWith gained entry
-    → all ≡ given ++ entry ∷ [] → Gathered more all
-gathered_more gained more given all entry before gains none is = record {
+pub entries_collected_more : (gained more given all : List Dirent) (entry : Dirent) → CollectedEntries gained given → Gains gained more entry → names.NoEntryClashesWith gained entry
+    → all ≡ given ++ entry ∷ [] → CollectedEntries more all
+entries_collected_more gained more given all entry before gains none is = record {
   same = subst (λ (l : List Dirent). (x : Dirent) → Contains more x ↔ Contains l x) (sym is) (same_push gained more given entry before.same gains);
   apart = entries_apart_push gained more entry before.apart gains none;
 }
 
 -- the order in which they were added says nothing
-pub gathered_permuted : (gained given : List Dirent) (pending sorted : List Pending) → pending_entries pending ≡ given → IsPermutation pending sorted → Gathered gained (pending_entries sorted) → Gathered gained given
-gathered_permuted gained given pending sorted is moved all =
+pub entries_collected_permuted : (gained given : List Dirent) (pending sorted : List Pending) → pending_entries pending ≡ given → IsPermutation pending sorted → CollectedEntries gained (pending_entries sorted) → CollectedEntries gained given
+entries_collected_permuted gained given pending sorted is moved all =
     let same : IsPermutation given (pending_entries sorted) = subst (λ (l : List Dirent). IsPermutation l (pending_entries sorted)) is (IsPermutation-map (λ (p : Pending). p.entry.now) pending sorted moved) in
     record {
       same = λ x. (
@@ -50,8 +50,8 @@ if_ok (Ok x) P Q f h = f x h
 if_ok (Err e) P Q f h = h
 
 -- none of the entries themselves clash
-pub gathered_apart : (gained given : List Dirent) → Gathered gained given → names.NoEntriesClash given
-gathered_apart gained given all a h b g c = all.apart a ((all.same a).1 h) b ((all.same b).1 g) c
+pub entries_collected_apart : (gained given : List Dirent) → CollectedEntries gained given → names.NoEntriesClash given
+entries_collected_apart gained given all a h b g c = all.apart a ((all.same a).1 h) b ((all.same b).1 g) c
 
 -- ---- inode nodes collected beside them
 
@@ -90,11 +90,11 @@ collected_past_entry inode_list ns rest all addr node entry before is whole apar
 }
 
 -- both together
-pub collected_of_gathered : (gained : List Dirent) (inode_list : List InodeNode) (ns all : List (ℕ × NodeRef))
-    → Gathered gained (entries (without_addresses all)) → Collected (entries (without_addresses ns)) inode_list ns → ns ≡ all → Collected gained inode_list all
-collected_of_gathered gained inode_list ns all gathered collected is = record {
-  same_entries = gathered.same;
+pub collected_of_entries : (gained : List Dirent) (inode_list : List InodeNode) (ns all : List (ℕ × NodeRef))
+    → CollectedEntries gained (entries (without_addresses all)) → Collected (entries (without_addresses ns)) inode_list ns → ns ≡ all → Collected gained inode_list all
+collected_of_entries gained inode_list ns all sorted collected is = record {
+  same_entries = sorted.same;
   same_inodes = subst (λ (l : List (ℕ × NodeRef)). (x : InodeNode) → Contains inode_list x ↔ Contains (inodes (without_addresses l)) x) is collected.same_inodes;
-  entries_apart = gathered.apart;
+  entries_apart = sorted.apart;
   inodes_apart = collected.inodes_apart;
 }

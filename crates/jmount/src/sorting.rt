@@ -4,7 +4,7 @@ ghost use Rattle.std.specs.Prelude.{◌≡◌, IfOk, IsPermutation, map};
 ghost use Rattle.jnode.specs.declared.node.Dirent.{Dirent};
 ghost use Rattle.jmount.specs.StateOf.{entries};
 ghost use Rattle.jmount.specs.Collected.{without_addresses};
-ghost use Rattle.jmount.specs.Gathered.{Gathered, pending_entries};
+ghost use Rattle.jmount.specs.CollectedEntries.{CollectedEntries, pending_entries};
 
 use jname::{NameFault, Names};
 use jnode::{Dirent, NodeRef};
@@ -41,8 +41,11 @@ pub fn are_in_order(nodes: &[(u32, NodeRef<'_>)]) -> bool {
 ///
 /// # Errors
 /// `Clash`: it is not told where.
-pub fn gather_names<'a>(alloc: Global, nodes: &[(u32, NodeRef<'a>)]) -> Result<Names<'a>, NameFault>
-    ensures { IfOk result (λ names. Gathered names (entries (without_addresses nodes.now))) }
+pub fn collect_names<'a>(
+    alloc: Global,
+    nodes: &[(u32, NodeRef<'a>)],
+) -> Result<Names<'a>, NameFault>
+    ensures { IfOk result (λ names. CollectedEntries names (entries (without_addresses nodes.now))) }
 {
     let mut pending = entries_in(alloc, nodes)?;
     pending.sort_unstable_by_key(|pending| pending.key);
@@ -83,7 +86,7 @@ fn key_of(entry: &Dirent<'_>) -> Key {
 
 /// The names of these entries.
 fn names_of<'a>(alloc: Global, pending: &[Pending<'_, 'a>]) -> Result<Names<'a>, NameFault>
-    ensures { IfOk result (λ names. Gathered names (pending_entries pending.now)) }
+    ensures { IfOk result (λ names. CollectedEntries names (pending_entries pending.now)) }
 {
     let mut names = Names::new(alloc);
     for Pending { entry, .. } in pending {
