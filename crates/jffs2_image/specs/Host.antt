@@ -16,12 +16,12 @@ use Rattle.jbuild.specs.Length.{TellsLength}
 use Rattle.jbuild.specs.Operations.{ops_in}
 use Rattle.jbuild.specs.Parts.{part_contents, read_of}
 use Rattle.jbuild.specs.declared.parts.Parts.{Parts}
-use Rattle.jcommand.specs.Parsed.{Parsed, BuildParsed, AppendParsed, view}
+use Rattle.jcommand.specs.Parsed.{Parsed, ScanParsed, CheckParsed, ListParsed, CatParsed, BuildParsed, AppendParsed, view}
 use Rattle.jcommand.specs.declared.parsed.Request.{Request}
 use Rattle.jcommand.specs.declared.command_line.RequestFault.{RequestFault}
 use Rattle.jreport.specs.declared.faults.ProgramFault.{ProgramFault}
 use Rattle.jreport.specs.declared.faults.ProgramFault.TheVariants as program
-use Rattle.jffs2_image.specs.Writes.{Held, IsNamedByLine, IsPartUnread, IsRunOn}
+use Rattle.jffs2_image.specs.Writes.{Held, IsNamedByLine, IsPartUnread, IsRunOn, IsTooLong}
 use Rattle.jffs2_image.specs.declared.host.FileFault.{FileFault}
 use Rattle.jffs2_image.specs.declared.host.FileFault.TheVariants as file
 use Rattle.jffs2_image.specs.declared.host.MakeFault.{MakeFault}
@@ -155,24 +155,34 @@ Blames untouched makes read_before read_now made_before made_now (Err program.Ou
 Blames untouched makes read_before read_now made_before made_now (Err program.OutOfMemory) = untouched ⊎ makes
 Blames untouched makes read_before read_now made_before made_now (Err _) = Unit {0}
 
--- a file that is only read counts once where it can't be opened
-abbrev pub OpensFile : {T : Type 0} → ℕ → ℕ → Result T ProgramFault → Type 0
-OpensFile before now (Err (program.File name)) = now ≡ next_count before
-OpensFile before now _ = now ≡ before
+-- A file of which the host tells these bytes is only read. It counts once where it can't be opened, or fails while it is read,
+-- and only then; it is too large only where it is.
+abbrev pub OpensFile : {T : Type 0} → Option (List ℕ) → ℕ → ℕ → Result T ProgramFault → Type 0
+OpensFile told before now (Err (program.File name)) = now ≡ next_count before
+OpensFile told before now (Err (program.Load load.Device)) = now ≡ next_count before
+OpensFile told before now (Err (program.Load load.TooLarge)) = IsTooLong told × (now ≡ before)
+OpensFile told before now _ = now ≡ before
 
--- the same of a request that writes an image, whose file has the name of its output; any other opens the file of its image, and
+-- the same of a request that writes an image, whose file has the name of its output; any other reads the file of its image, and
 -- makes none
-abbrev pub BlamesFor : {T : Type 0} → Parsed → Type 0 → Option (List (List ℕ)) → Option (List (List ℕ)) → ℕ → ℕ → ℕ → ℕ → Result T ProgramFault → Type 0
-BlamesFor (BuildParsed options blocks page listing output) untouched names_old names_new read_before read_now made_before made_now result =
+abbrev pub BlamesFor : {T : Type 0} → (List ℕ → Option (List ℕ)) → Parsed → Type 0 → Option (List (List ℕ)) → Option (List (List ℕ)) → ℕ → ℕ → ℕ → ℕ → Result T ProgramFault → Type 0
+BlamesFor told (ScanParsed options image) untouched names_old names_new read_before read_now made_before made_now result =
+    OpensFile (told image) read_before read_now result × untouched
+BlamesFor told (CheckParsed options shape image) untouched names_old names_new read_before read_now made_before made_now result =
+    OpensFile (told image) read_before read_now result × untouched
+BlamesFor told (ListParsed options image) untouched names_old names_new read_before read_now made_before made_now result =
+    OpensFile (told image) read_before read_now result × untouched
+BlamesFor told (CatParsed options image path) untouched names_old names_new read_before read_now made_before made_now result =
+    OpensFile (told image) read_before read_now result × untouched
+BlamesFor told (BuildParsed options blocks page listing output) untouched names_old names_new read_before read_now made_before made_now result =
     Blames untouched (MakesFile output names_old names_new) read_before read_now made_before made_now result
-BlamesFor (AppendParsed options blocks page image listing output) untouched names_old names_new read_before read_now made_before made_now result =
+BlamesFor told (AppendParsed options blocks page image listing output) untouched names_old names_new read_before read_now made_before made_now result =
     Blames untouched (MakesFile output names_old names_new) read_before read_now made_before made_now result
-BlamesFor _ untouched names_old names_new read_before read_now made_before made_now result = OpensFile read_before read_now result × untouched
 
 -- the same of a command line; one that makes no request touches nothing
-abbrev pub BlamesCommand : Result Request RequestFault → Type 0 → Type 0 → Option (List (List ℕ)) → Option (List (List ℕ)) → ℕ → ℕ → ℕ → ℕ → Result Success Stop → Type 0
-BlamesCommand (Ok request) unread untouched names_old names_new read_before read_now made_before made_now (Ok ended) =
-    BlamesFor {T = Success} (view request) untouched names_old names_new read_before read_now made_before made_now (Ok ended)
-BlamesCommand (Ok request) unread untouched names_old names_new read_before read_now made_before made_now (Err (stop.Fault fault)) =
-    BlamesFor {T = Success} (view request) untouched names_old names_new read_before read_now made_before made_now (Err fault)
-BlamesCommand _ unread untouched names_old names_new read_before read_now made_before made_now _ = unread × untouched
+abbrev pub BlamesCommand : (List ℕ → Option (List ℕ)) → Result Request RequestFault → Type 0 → Type 0 → Option (List (List ℕ)) → Option (List (List ℕ)) → ℕ → ℕ → ℕ → ℕ → Result Success Stop → Type 0
+BlamesCommand told (Ok request) unread untouched names_old names_new read_before read_now made_before made_now (Ok ended) =
+    BlamesFor {T = Success} told (view request) untouched names_old names_new read_before read_now made_before made_now (Ok ended)
+BlamesCommand told (Ok request) unread untouched names_old names_new read_before read_now made_before made_now (Err (stop.Fault fault)) =
+    BlamesFor {T = Success} told (view request) untouched names_old names_new read_before read_now made_before made_now (Err fault)
+BlamesCommand told _ unread untouched names_old names_new read_before read_now made_before made_now _ = unread × untouched

@@ -34,10 +34,16 @@ pub trait Loader {
         ensures count { CountsFile (failures self.old) (failures self.new) result }
         ensures stays { (other : List ℕ) → told self.new other ≡ told self.old other };
 
-    /// The file of a name, to be read from its start. How it then fails is its own count.
+    /// The file of a name, to be read from its start. It goes on with the count of failures.
     fn open(&mut self, name: &str) -> Result<Self::Opened, DeviceFault>
         ensures opened { IfOk result (λ opened. GivesFile (told self.old name.now) (Self.Opened.rest opened)) }
+        ensures counting { IfOk result (λ opened. Self.Opened.failures opened ≡ failures self.old) }
         ensures count { CountsErr (failures self.old) (failures self.new) result }
+        ensures stays { (other : List ℕ) → told self.new other ≡ told self.old other };
+
+    /// Takes back a file that was opened, with its count of failures.
+    fn close(&mut self, opened: Self::Opened)
+        ensures count { failures self.new ≡ Self.Opened.failures opened }
         ensures stays { (other : List ℕ) → told self.new other ≡ told self.old other };
 }
 
@@ -103,14 +109,11 @@ impl<'r, R: Files + AllocGlobal> Loader for FileLoader<'r, R> {
         let Ok(mut file) = self.open(name) else {
             return Err(FileFault::NotOpened);
         };
-        match load(self.rt.alloc(), &mut file, limit) {
+        let loaded = load(self.rt.alloc(), &mut file, limit);
+        self.close(file);
+        match loaded {
             Ok(bytes) => Ok(bytes),
-            Err(fault) => {
-                if fault == LoadFault::Device {
-                    self.failures = self.failures.wrapping_add(1);
-                }
-                Err(FileFault::Load(fault))
-            }
+            Err(fault) => Err(FileFault::Load(fault)),
         }
     }
 
@@ -119,7 +122,11 @@ impl<'r, R: Files + AllocGlobal> Loader for FileLoader<'r, R> {
             self.failures = self.failures.wrapping_add(1);
             return Err(DeviceFault);
         };
-        Ok(FromReader::new(file))
+        Ok(FromReader::counting_from(file, self.failures))
+    }
+
+    fn close(&mut self, opened: FromReader<R::File>) {
+        self.failures = opened.failures();
     }
 }
 

@@ -42,6 +42,7 @@ pub enum Stop<'a> {
 fn open<'a, L: Loader>(loader: &mut L, image: &'a str) -> Result<L::Opened, ProgramFault<'a>>
     ensures fault { IfErr result (λ fault. fault ≡ ProgramFault.File image.entry) }
     ensures opened { IfOk result (λ source. GivesFile (L.told loader.old image.entry.now) (L.Opened.rest source)) }
+    ensures counting { IfOk result (λ source. L.Opened.failures source ≡ L.failures loader.old) }
     ensures count { CountsErr (L.failures loader.old) (L.failures loader.new) result }
 {
     match loader.open(image) {
@@ -59,10 +60,14 @@ fn scan<'a, E: Order, L: Loader, T: Sink>(
     sink: &mut T,
 ) -> Result<u64, ProgramFault<'a>>
     ensures meets { Meets (L.told loader.old) (None, None) E.order (ScanParsed options image.now) (T.taken sink.old) (T.taken sink.new) (T.failures sink.old) (T.failures sink.new) result }
-    ensures host { OpensFile (L.failures loader.old) (L.failures loader.new) result }
+    ensures host { OpensFile (L.told loader.old image.now) (L.failures loader.old) (L.failures loader.new) result }
 {
     let source = open(loader, image)?;
-    stream_lines::<E, _, _>(alloc, source, options.geometry, sink)
+    let (answer, read) = stream_lines::<E, _, _>(alloc, source, options.geometry, sink);
+    if let Some(source) = read {
+        loader.close(source);
+    }
+    answer
 }
 
 /// `check`: answers whether anything was found, as a number.
@@ -75,11 +80,12 @@ fn check<'a, E: Order, L: Loader, T: Sink>(
     sink: &mut T,
 ) -> Result<u64, ProgramFault<'a>>
     ensures meets { Meets (L.told loader.old) (None, None) E.order (CheckParsed options shape image.now) (T.taken sink.old) (T.taken sink.new) (T.failures sink.old) (T.failures sink.new) result }
-    ensures host { OpensFile (L.failures loader.old) (L.failures loader.new) result }
+    ensures host { OpensFile (L.told loader.old image.now) (L.failures loader.old) (L.failures loader.new) result }
 {
     let mut source = open(loader, image)?;
-    let found = check_lines::<E, _, _>(alloc, &mut source, options.geometry, shape, sink)?;
-    Ok(u64::from(found))
+    let answer = check_lines::<E, _, _>(alloc, &mut source, options.geometry, shape, sink);
+    loader.close(source);
+    Ok(u64::from(answer?))
 }
 
 /// `ls`: answers how many findings to note.
@@ -91,10 +97,12 @@ fn list<'a, E: Order, L: Loader, T: Sink>(
     sink: &mut T,
 ) -> Result<u64, ProgramFault<'a>>
     ensures meets { Meets (L.told loader.old) (None, None) E.order (ListParsed options image.now) (T.taken sink.old) (T.taken sink.new) (T.failures sink.old) (T.failures sink.new) result }
-    ensures host { OpensFile (L.failures loader.old) (L.failures loader.new) result }
+    ensures host { OpensFile (L.told loader.old image.now) (L.failures loader.old) (L.failures loader.new) result }
 {
     let mut source = open(loader, image)?;
-    list_lines::<E, _, _>(alloc, &mut source, options.geometry, sink)
+    let answer = list_lines::<E, _, _>(alloc, &mut source, options.geometry, sink);
+    loader.close(source);
+    answer
 }
 
 /// `cat`: answers how many findings to note. The word of the path is judged before the image is opened.
@@ -107,11 +115,13 @@ fn cat<'a, E: Order, L: Loader, T: Sink>(
     sink: &mut T,
 ) -> Result<u64, ProgramFault<'a>>
     ensures meets { Meets (L.told loader.old) (None, None) E.order (CatParsed options image.now path.now) (T.taken sink.old) (T.taken sink.new) (T.failures sink.old) (T.failures sink.new) result }
-    ensures host { OpensFile (L.failures loader.old) (L.failures loader.new) result }
+    ensures host { OpensFile (L.told loader.old image.now) (L.failures loader.old) (L.failures loader.new) result }
 {
     let path = path_word(alloc, path.as_bytes())?;
     let mut source = open(loader, image)?;
-    file_bytes::<E, _, _>(alloc, &mut source, options.geometry, &path, sink)
+    let answer = file_bytes::<E, _, _>(alloc, &mut source, options.geometry, &path, sink);
+    loader.close(source);
+    answer
 }
 
 /// `build`: an image of what a listing makes of an empty file system. The listing's text is kept, since a fault may name a
@@ -164,7 +174,7 @@ fn run_in_order<'a, E: Order, L: Loader, M: Maker, T: Sink>(
     sink: &mut T,
 ) -> Result<u64, ProgramFault<'a>>
     ensures meets { Meets (L.told loader.old) (M.held maker.old, M.held maker.new) E.order (view request.entry) (T.taken sink.old) (T.taken sink.new) (T.failures sink.old) (T.failures sink.new) result }
-    ensures host { BlamesFor (view request.entry) (maker.new ≡ maker.old) (M.names maker.old) (M.names maker.new) (L.failures loader.old) (L.failures loader.new)
+    ensures host { BlamesFor (L.told loader.old) (view request.entry) (maker.new ≡ maker.old) (M.names maker.old) (M.names maker.new) (L.failures loader.old) (L.failures loader.new)
         (M.failures maker.old) (M.failures maker.new) result }
 {
     match request {
@@ -201,7 +211,7 @@ fn run_request<'a, L: Loader, M: Maker, T: Sink>(
     sink: &mut T,
 ) -> Result<u64, ProgramFault<'a>>
     ensures meets { Meets (L.told loader.old) (M.held maker.old, M.held maker.new) (options_of request.entry).endian (view request.entry) (T.taken sink.old) (T.taken sink.new) (T.failures sink.old) (T.failures sink.new) result }
-    ensures host { BlamesFor (view request.entry) (maker.new ≡ maker.old) (M.names maker.old) (M.names maker.new) (L.failures loader.old) (L.failures loader.new)
+    ensures host { BlamesFor (L.told loader.old) (view request.entry) (maker.new ≡ maker.old) (M.names maker.old) (M.names maker.new) (L.failures loader.old) (L.failures loader.new)
         (M.failures maker.old) (M.failures maker.new) result }
 {
     match request.options().endian {
@@ -224,7 +234,7 @@ fn run_whole<'a, L: Loader, M: Maker, T: Output>(
     output: &mut T,
 ) -> Result<u64, ProgramFault<'a>>
     ensures meets { MeetsWhole (L.told loader.old) (M.held maker.old, M.held maker.new) (view request.entry) (T.taken output.old) (T.given output.new) (T.failures output.old) (T.failures output.new) result }
-    ensures host { BlamesFor (view request.entry) (maker.new ≡ maker.old) (M.names maker.old) (M.names maker.new) (L.failures loader.old) (L.failures loader.new)
+    ensures host { BlamesFor (L.told loader.old) (view request.entry) (maker.new ≡ maker.old) (M.names maker.old) (M.names maker.new) (L.failures loader.old) (L.failures loader.new)
         (M.failures maker.old) (M.failures maker.new) result }
 {
     let answer = run_request(alloc, loader, maker, request, text, output);
@@ -272,7 +282,7 @@ fn run_command<'a, L: Loader, M: Maker, T: Output>(
     output: &mut T,
 ) -> Result<Success, Stop<'a>>
     ensures meets { MeetsCommand (L.told loader.old) (M.held maker.old, M.held maker.new) command.entry (T.taken output.old) (T.given output.new) (T.failures output.old) (T.failures output.new) result }
-    ensures host { BlamesCommand command.entry (loader.new ≡ loader.old) (maker.new ≡ maker.old) (M.names maker.old) (M.names maker.new) (L.failures loader.old) (L.failures loader.new)
+    ensures host { BlamesCommand (L.told loader.old) command.entry (loader.new ≡ loader.old) (maker.new ≡ maker.old) (M.names maker.old) (M.names maker.new) (L.failures loader.old) (L.failures loader.new)
         (M.failures maker.old) (M.failures maker.new) result }
 {
     match command {
@@ -333,7 +343,7 @@ fn run_image<L: Loader, M: Maker, T: Output, E: Sink>(
     // host's files is so.
     ensures { (ran : RunsCommand (L.told loader.old) (M.held maker.old, M.held maker.new) command.entry (T.taken output.old) (T.given output.new) (T.failures output.old) (T.failures output.new)
         (Says (errors.new ≡ errors.old) (E.taken errors.old) (E.taken errors.new) (E.failures errors.old) (E.failures errors.new)) result)
-        × BlamesCommand command.entry (loader.new ≡ loader.old) (maker.new ≡ maker.old) (M.names maker.old) (M.names maker.new) (L.failures loader.old) (L.failures loader.new)
+        × BlamesCommand (L.told loader.old) command.entry (loader.new ≡ loader.old) (maker.new ≡ maker.old) (M.names maker.old) (M.names maker.new) (L.failures loader.old) (L.failures loader.new)
         (M.failures maker.old) (M.failures maker.new) ran.answer }
 {
     let mut text = Vec::new(alloc);
@@ -359,7 +369,7 @@ pub fn run<L: Loader, M: Maker, D: Folders, T: Output, E: Sink>(
     ensures { RunsTask (map (λ w. w.now) args.now)
         (λ command. (ran : RunsCommand (L.told loader.old) (M.held maker.old, M.held maker.new) command (T.taken output.old) (T.given output.new) (T.failures output.old) (T.failures output.new)
         (Says (errors.new ≡ errors.old) (E.taken errors.old) (E.taken errors.new) (E.failures errors.old) (E.failures errors.new)) result)
-        × BlamesCommand command (loader.new ≡ loader.old) (maker.new ≡ maker.old) (M.names maker.old) (M.names maker.new) (L.failures loader.old) (L.failures loader.new)
+        × BlamesCommand (L.told loader.old) command (loader.new ≡ loader.old) (maker.new ≡ maker.old) (M.names maker.old) (M.names maker.new) (L.failures loader.old) (L.failures loader.new)
         (M.failures maker.old) (M.failures maker.new) ran.answer)
         ((output.new ≡ output.old) × (maker.new ≡ maker.old) × RunsExtract (map (λ w. w.now) args.now) (L.told loader.old) (L.failures loader.old) (L.failures loader.new) (D.made folders.old) (D.made folders.new)
         (E.taken errors.old) (E.taken errors.new) (E.failures errors.old) (E.failures errors.new) result)

@@ -21,12 +21,13 @@ use Rattle.jscan.specs.declared.counts.Counts.{Counts}
 use Rattle.jscan.specs.declared.stream.BlockReader.{BlockReader}
 use Rattle.jscan.specs.declared.stream.StreamFault.{StreamFault}
 use Rattle.jscan.specs.declared.stream.StreamFault.TheVariants as stream
-use Rattle.jscan.proofs.StreamCounts.{Scanning, IsCounted, scanning_next, scanning_end, scanning_torn, readable_some}
+use Rattle.jscan.specs.declared.geometry.ScanFault.TheVariants as scan
+use Rattle.jscan.proofs.StreamCounts.{Scanning, IsCounted, scanning_next, scanning_end, readable_some}
 use Rattle.jscan.proofs.StreamLemmas.{IsAtBlock, IsWhole, block_here}
 use Rattle.jreport.specs.Faults.{fault_of_stream}
 use Rattle.jreport.specs.WholeImage.{OfSomeImage}
 use Rattle.jreport.specs.Report.{scan_text, lines_of_block, lines_below, block_lines, totals_line}
-use Rattle.jreport.specs.Stream.{PutsStream}
+use Rattle.jreport.specs.Stream.{BreaksOff, HandsBack, PutsStream}
 use Rattle.jreport.specs.declared.faults.ProgramFault.{ProgramFault}
 use Rattle.jreport.specs.declared.faults.ProgramFault.TheVariants as program
 use Rattle.jreport.proofs.BlockLemmas.{lines_below_more, lines_begin, one_more}
@@ -214,19 +215,23 @@ module _ {S : Type 0} {o : OfSource S} where
   -- where the device failed, less than a block is gone of what follows the blocks whose lines have gone out
   pub stopped : (e : Endian) (source : S) (size start : ℕ) (counts : Counts) (old new : BlockReader S o) (fault : StreamFault)
       (a b : Option (List ℕ)) (n m : ℕ) → Streaming e source size start counts old a b n m → GivesFault old new fault → fault ≡ stream.Device
-      → (left : S) × (o.failures left ≡ next_count (o.failures source))
-      × IfSome (o.rest source) (λ image. (k : ℕ) × (k ≤ block_count size image) × StopsWithin (Some (drop (k * size) image)) (o.rest left) size × Gone e size k a b image)
-  stopped e source size start counts old new fault a b n m before gives is =
-      let torn = scanning_torn e source size start counts old new fault before.scanning gives is in
-      (torn.0, torn.1, known torn.0 (o.rest source) before.scanning.known before.put torn.2)
+      → IfSome (o.rest source) (BreaksOff e size a b (rest_of new))
+  stopped e source size start counts old new fault a b n m before gives is = known (o.rest source) before.scanning.known before.put
     where
-      known : (left : S) (known_bytes : Option (List ℕ)) → IfSome known_bytes (λ image. IsCounted e size start counts image (rest_of old)) → IfSome known_bytes (Gone e size counts.blocks a b)
-          → IfSome known_bytes (λ image. StopsWithin (Some (drop (counts.blocks * size) image)) (o.rest left) size)
-          → IfSome known_bytes (λ image. (k : ℕ) × (k ≤ block_count size image) × StopsWithin (Some (drop (k * size) image)) (o.rest left) size × Gone e size k a b image)
-      known left None so_far gone torn = tt
-      known left (Some image) so_far gone torn =
+      torn : StopsWithin (rest_of old) (rest_of new) size
+      torn = subst (StopsWithin (rest_of old) (rest_of new)) before.scanning.blocks_of (gives.torn is before.scanning.well)
+
+      known : (known_bytes : Option (List ℕ)) → IfSome known_bytes (λ image. IsCounted e size start counts image (rest_of old)) → IfSome known_bytes (Gone e size counts.blocks a b)
+          → IfSome known_bytes (BreaksOff e size a b (rest_of new))
+      known None so_far gone = tt
+      known (Some image) so_far gone =
           let some : 0 < size = omega (arith, readable_some size before.scanning.readable) in
-          (counts.blocks, upto_count size start counts.blocks image (rest_of old) some before.scanning.blocks so_far.place, torn, gone)
+          let behind : rest_of old ≡ Some (drop (counts.blocks * size) image) = so_far.place.left ∙ ap (λ (k : ℕ). Some (drop k image)) (sym before.scanning.blocks) in (
+            counts.blocks,
+            upto_count size start counts.blocks image (rest_of old) some before.scanning.blocks so_far.place,
+            subst (λ (r : Option (List ℕ)). StopsWithin r (rest_of new) size) behind torn,
+            gone,
+          )
 
   pub gone_to_limit : (e : Endian) (source : S) (size start : ℕ) (counts : Counts) (old new : BlockReader S o) (fault : StreamFault)
       (a b : Option (List ℕ)) (n m : ℕ) → Streaming e source size start counts old a b n m → GivesFault old new fault → fault ≡ stream.TooLarge
@@ -374,6 +379,51 @@ module _ {S : Type 0} {o : OfSource S} where
           let count = untold_count size counts.blocks untold.image some untold.whole in
           (untold.image, tt, put untold.image (counts.blocks, omega (arith, count), untold.gone))
       known (Some image) untold gone = (image, refl, put image gone)
+
+  -- and it failed once where it is blamed
+  pub source_blamed : (e : Endian) (source : S) (size start : ℕ) (counts : Counts) (old new : BlockReader S o) (fault : StreamFault)
+      (a b : Option (List ℕ)) (before mid : ℕ) (r : Result ℕ ProgramFault) → IsErrAnd r (λ x. x ≡ fault_of_stream fault)
+      → Streaming e source size start counts old a b before mid → GivesFault old new fault → HandsBack (o.failures source) (Some (failures_of new)) r
+  source_blamed e source size start counts old new fault a b before mid (Ok x) is so_far gives = absurd is
+  source_blamed e source size start counts old new fault a b before mid (Err x) is so_far gives =
+      subst (λ (y : ProgramFault). HandsBack (o.failures source) (Some (failures_of new)) (Err y)) (sym is) (by fault first.1)
+    where
+      first : (has_ended old ≡ false) × Breaks (rest_of old) (failures_of old) (failures_of new) (size_of old) (greatest_image - start_of old) fault
+      first = subst (λ (f : Option StreamFault). IfNone f ((has_ended old ≡ false)
+          × Breaks (rest_of old) (failures_of old) (failures_of new) (size_of old) (greatest_image - start_of old) fault)) so_far.scanning.well gives.first
+
+      by : (f : StreamFault) → Breaks (rest_of old) (failures_of old) (failures_of new) (size_of old) (greatest_image - start_of old) f
+          → HandsBack (o.failures source) (Some (failures_of new)) (Err (fault_of_stream f))
+      by stream.Device breaks = breaks ∙ ap next_count so_far.scanning.none_failed
+      by stream.TooLarge breaks = breaks.1 ∙ so_far.scanning.none_failed
+      by stream.BlockSize breaks = absurd breaks
+      by stream.OutOfMemory breaks = absurd breaks
+
+-- ---- the source is handed back
+
+-- it did not fail, and the sink did
+pub sink_blamed : (before now : ℕ) (r : Result ℕ ProgramFault) → IsErrAnd r (λ x. x ≡ program.Output) → now ≡ before → HandsBack before (Some now) r
+sink_blamed before now (Ok x) is same = absurd is
+sink_blamed before now (Err x) is same = subst (λ (y : ProgramFault). HandsBack before (Some now) (Err y)) (sym is) same
+
+-- it is gone
+pub unread_back : (before : ℕ) (f : StreamFault) (x : ProgramFault) → x ≡ fault_of_stream f → f ≢ stream.Device → f ≢ stream.TooLarge → HandsBack before None (Err x)
+unread_back before f x is no_device no_limit = subst (λ (y : ProgramFault). HandsBack before None (Err y)) (sym is) (by f no_device no_limit)
+  where
+    by : (g : StreamFault) → g ≢ stream.Device → g ≢ stream.TooLarge → HandsBack before None (Err (fault_of_stream g))
+    by stream.BlockSize no_device no_limit = tt
+    by stream.OutOfMemory no_device no_limit = tt
+    by stream.Device no_device no_limit = absurd (no_device refl)
+    by stream.TooLarge no_device no_limit = absurd (no_limit refl)
+
+-- what was read is not refused unread
+pub read_not_refused : (before now : ℕ) (r : Result ℕ ProgramFault) → HandsBack before (Some now) r → IsErrOf r (program.Scan scan.BlockSize) → ⊥
+read_not_refused before now (Ok n) back is = absurd is
+read_not_refused before now (Err x) back is = subst (λ (y : ProgramFault). HandsBack before (Some now) (Err y)) is back
+
+pub read_not_wanting : (before now : ℕ) (r : Result ℕ ProgramFault) → HandsBack before (Some now) r → IsErrOf r (program.Load load.OutOfMemory) → ⊥
+read_not_wanting before now (Ok n) back is = absurd is
+read_not_wanting before now (Err x) back is = subst (λ (y : ProgramFault). HandsBack before (Some now) (Err y)) is back
 
 -- nothing was read
 pub unread_failed : (e : Endian) (size : ℕ) (a : Option (List ℕ)) (n : ℕ) (known_bytes : Option (List ℕ)) (f : StreamFault) (r : Result ℕ ProgramFault)

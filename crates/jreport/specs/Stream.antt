@@ -1,11 +1,15 @@
 -- What is put of a source that is read block by block.
-use Rattle.std.specs.Prelude.{◌≡◌, ℕ, ◌≤◌, List, Option, Result, Ok, Err}
+use Rattle.std.specs.Prelude.{◌≡◌, ℕ, ◌*◌, ◌≤◌, List, drop, Option, None, Some, Result, Ok, Err, true, ⊤}
 use Rattle.std.specs.Io.KnownBytes.{Appends}
 use Rattle.flashbase.specs.Device.{PutsPart, next_count}
 use Rattle.flashbase.specs.declared.source.LoadFault.TheVariants as load
+use Rattle.flashbase.specs.declared.source.Source.{Ghosts as OfSource}
 use Rattle.jnode.specs.declared.order.Endian.{Endian}
 use Rattle.jscan.specs.Counts.{is_found}
-use Rattle.jscan.specs.Image.{block_count}
+use Rattle.jscan.specs.Filling.{StopsWithin}
+use Rattle.jscan.specs.Image.{block_count, is_block_size}
+use Rattle.jscan.specs.Stream.{fault_of, size_of, start_of}
+use Rattle.jscan.specs.declared.stream.BlockReader.{BlockReader}
 use Rattle.jscan.specs.declared.geometry.ScanFault.TheVariants as scan
 use Rattle.jreport.specs.Report.{lines_below, count_in_image, scan_text}
 use Rattle.jreport.specs.declared.faults.ProgramFault.{ProgramFault}
@@ -24,3 +28,25 @@ PutsStream e size image old new before now (Err (program.Load load.TooLarge)) =
 PutsStream e size image old new before now (Err (program.Load load.OutOfMemory)) = (new ≡ old) × (now ≡ before)
 PutsStream e size image old new before now (Err (program.Scan scan.BlockSize)) = (new ≡ old) × (now ≡ before)
 PutsStream e size image old new before now (Err _) = ⊥
+
+-- The lines of the blocks in front of the one that the source broke off have gone out, and less than a block is gone past them.
+abbrev pub BreaksOff : Endian → ℕ → Option (List ℕ) → Option (List ℕ) → Option (List ℕ) → List ℕ → Type 0
+BreaksOff e size old new left image =
+    (n : ℕ) × (n ≤ block_count size image) × StopsWithin (Some (drop (n * size) image)) left size × Appends old new (lines_below e size image n)
+
+-- ---- the source
+
+-- A source is handed back with the count of its failures, which rose by one where it is blamed, and else stayed. It is gone
+-- exactly where nothing is read of it.
+abbrev pub HandsBack : ℕ → Option ℕ → Result ℕ ProgramFault → Type 0
+HandsBack before None (Err (program.Scan scan.BlockSize)) = ⊤
+HandsBack before None (Err (program.Load load.OutOfMemory)) = ⊤
+HandsBack before None _ = ⊥
+HandsBack before (Some now) (Err (program.Scan scan.BlockSize)) = ⊥
+HandsBack before (Some now) (Err (program.Load load.OutOfMemory)) = ⊥
+HandsBack before (Some now) (Err (program.Load load.Device)) = now ≡ next_count before
+HandsBack before (Some now) _ = now ≡ before
+
+-- a reader of blocks of this size that has given none
+abbrev pub IsAtStart : {S : Type 0} {o : OfSource S} → ℕ → BlockReader S o → Type 0
+IsAtStart size reader = (is_block_size size ≡ true) × (size_of reader ≡ size) × (start_of reader ≡ 0) × (fault_of reader ≡ None)

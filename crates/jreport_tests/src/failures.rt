@@ -91,12 +91,19 @@ fn streams_that_fail_once(rt: HostRuntime) {
     for calls in 0..4usize {
         let mut sink = Taker::limited(rt.alloc(), 1, usize::MAX);
         let source = Giver::failing(&MADE, 100, calls);
-        let answer = stream_lines::<LittleEndian, _, _>(rt.alloc(), source, GEOMETRY, &mut sink);
+        let (answer, left) = stream_lines::<LittleEndian, _, _>(
+            rt.alloc(),
+            source,
+            GEOMETRY,
+            &mut sink,
+        );
+        let failures = left.map(|left| left.failures);
         if calls < 3 {
             assert_eq!(rt; answer, Err(ProgramFault::Load(LoadFault::Device)));
-            assert!(rt; sink.took(0, b""));
+            assert!(rt; sink.took(0, b"") && failures == Some(1));
         } else {
             assert_eq!(rt; answer, Ok(0));
+            assert_eq!(rt; failures, Some(0));
         }
     }
 }

@@ -126,9 +126,9 @@ fn stream_fault(alloc: Global) -> Option<ProgramFault<'static>> {
     };
     let source = Giver::failing(&MADE, 100, usize::MAX);
     match stream_lines::<LittleEndian, _, _>(alloc, source, GEOMETRY, &mut sink) {
-        Ok(0) if sink.rest.is_empty() => None,
-        Ok(_) => Some(ProgramFault::Output),
-        Err(fault) => Some(fault),
+        (Ok(0), Some(_)) if sink.rest.is_empty() => None,
+        (Ok(_), _) => Some(ProgramFault::Output),
+        (Err(fault), _) => Some(fault),
     }
 }
 

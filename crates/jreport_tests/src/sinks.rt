@@ -91,7 +91,8 @@ fn put(
             put_report::<LittleEndian, _>(image, GEOMETRY, sink)?;
         }
         Text::Stream => {
-            stream_lines::<LittleEndian, _, _>(alloc, FromReader::new(image), GEOMETRY, sink)?;
+            let source = FromReader::new(image);
+            stream_lines::<LittleEndian, _, _>(alloc, source, GEOMETRY, sink).0?;
         }
         Text::Verdict => {
             verdict_lines::<LittleEndian, _>(alloc, image, GEOMETRY, true, sink)?;

@@ -15,7 +15,7 @@ type Answer = (Result<u64, ProgramFault<'static>>, Vec<u8>);
 
 fn answer_and_text<E: Order, S: Source>(alloc: Global, source: S, geometry: Geometry) -> Answer {
     let mut sink = FromWriter::new(Vec::new(alloc));
-    let answer = stream_lines::<E, _, _>(alloc, source, geometry, &mut sink);
+    let (answer, _) = stream_lines::<E, _, _>(alloc, source, geometry, &mut sink);
     (answer, sink.into_writer())
 }
 
@@ -59,9 +59,15 @@ fn a_source_that_fails(rt: HostRuntime) -> Result<(), Fail> {
 fn block_sizes_that_are_refused_unread(rt: HostRuntime) {
     for block in [0, 4092, 4095, 4097, 4098, 4194305, 4194308, u32::MAX] {
         let broken = Giver::limited(&[], 1, 0);
-        let (answer, put) = answer_and_text::<BigEndian, _>(rt.alloc(), broken, Geometry { block });
+        let mut sink = FromWriter::new(Vec::new(rt.alloc()));
+        let (answer, left) = stream_lines::<BigEndian, _, _>(
+            rt.alloc(),
+            broken,
+            Geometry { block },
+            &mut sink,
+        );
         assert_eq!(rt; answer, Err(ProgramFault::Scan(ScanFault::BlockSize)));
-        assert!(rt; put.is_empty());
+        assert!(rt; left.is_none() && sink.into_writer().is_empty());
     }
 }
 
