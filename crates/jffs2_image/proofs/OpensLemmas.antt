@@ -101,8 +101,7 @@ check_names_none e size image asked old new before now (Err program.OutOfMemory)
 
 -- a block size that is refused is refused unread
 refused_unread : (told : Option (List ℕ)) (before now : ℕ) (r : Result Bool ProgramFault) → IsErrOf r (program.Scan scan.BlockSize) → now ≡ before → OpensFile told before now r
-refused_unread told before now (Ok found) is same = absurd is
-refused_unread told before now (Err f) is same = subst (λ (g : ProgramFault). OpensFile {T = Bool} told before now (Err g)) (sym is) same
+refused_unread told before now r is same = subst (OpensFile {T = Bool} told before now) (sym is) same
 
 pub check_opens : (told rest left : Option (List ℕ)) (e : Endian) (size : ℕ) (asked readable : Bool) (old new : Option (List ℕ)) (before count now after a b : ℕ) (r : Result Bool ProgramFault) → GivesFile told rest → count ≡ before → after ≡ now
     → (IsTrue readable → ReadsWhole rest left count now r) → (IsFalse readable → IsErrOf r (program.Scan scan.BlockSize)) → (IsFalse readable → now ≡ count)

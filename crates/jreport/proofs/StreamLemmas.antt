@@ -418,12 +418,10 @@ unread_back before f x is no_device no_limit = subst (λ (y : ProgramFault). Han
 
 -- what was read is not refused unread
 pub read_not_refused : (before now : ℕ) (r : Result ℕ ProgramFault) → HandsBack before (Some now) r → IsErrOf r (program.Scan scan.BlockSize) → ⊥
-read_not_refused before now (Ok n) back is = absurd is
-read_not_refused before now (Err x) back is = subst (λ (y : ProgramFault). HandsBack before (Some now) (Err y)) is back
+read_not_refused before now r back is = subst (HandsBack before (Some now)) is back
 
 pub read_not_wanting : (before now : ℕ) (r : Result ℕ ProgramFault) → HandsBack before (Some now) r → IsErrOf r (program.Load load.OutOfMemory) → ⊥
-read_not_wanting before now (Ok n) back is = absurd is
-read_not_wanting before now (Err x) back is = subst (λ (y : ProgramFault). HandsBack before (Some now) (Err y)) is back
+read_not_wanting before now r back is = subst (HandsBack before (Some now)) is back
 
 -- nothing was read
 pub unread_failed : (e : Endian) (size : ℕ) (a : Option (List ℕ)) (n : ℕ) (known_bytes : Option (List ℕ)) (f : StreamFault) (r : Result ℕ ProgramFault)

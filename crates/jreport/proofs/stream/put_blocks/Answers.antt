@@ -1,4 +1,4 @@
-use Rattle.std.proofs.Common.{◌<◌, refl, Ok, Err, IfSome, ap, subst, ◌∙◌, arith}
+use Rattle.std.proofs.Common.{◌<◌, refl, Ok, ap, subst, ◌∙◌, arith}
 use Rattle.jscan.specs.Stream.{Gives, source_of}
 use Rattle.jscan.proofs.StreamCounts.{readable_some}
 use Rattle.jreport.proofs.StreamLemmas.{all_put, block_failed, ended_within, finished, gone_to_limit, is_device, is_limit, sink_blamed, source_blamed, source_failed, stopped, streaming_end, streaming_next, streaming_start, total_failed}
@@ -21,22 +21,22 @@ loop-block-preserved g c =
 pub returns-in_err-block-clause-put : goal.returns-in_err-block-clause-put
 returns-in_err-block-clause-put g c =
     let gives = subst (Gives c.loop-block.reader c.next.follows.lender-at-none) c.in_err-block.was c.next.follows.holds-at-none in
-    source_failed _ _ _ _ _ _ _ _ _ _ _ _ _ c.from_residual-in_err-block.ensures.1 c.loop-block.invariant gives
+    source_failed _ _ _ _ _ _ _ _ _ _ _ _ _ c.from_residual.ensures.1 c.loop-block.invariant gives
 
 pub returns-in_err-block-clause-read : goal.returns-in_err-block-clause-read
 returns-in_err-block-clause-read g c =
     let gives = subst (Gives c.loop-block.reader c.next.follows.lender-at-none) c.in_err-block.was c.next.follows.holds-at-none in
-    source_blamed _ _ _ _ _ _ _ _ _ _ _ _ _ c.from_residual-in_err-block.ensures.1 c.loop-block.invariant gives
+    source_blamed _ _ _ _ _ _ _ _ _ _ _ _ _ c.from_residual.ensures.1 c.loop-block.invariant gives
 
 pub returns-in_err-block-clause-device : goal.returns-in_err-block-clause-device
 returns-in_err-block-clause-device g c = λ device.
     let gives = subst (Gives c.loop-block.reader c.next.follows.lender-at-none) c.in_err-block.was c.next.follows.holds-at-none in
-    stopped _ _ _ _ _ _ _ _ _ _ _ _ c.loop-block.invariant gives (is_device _ _ c.from_residual-in_err-block.ensures.1 device)
+    stopped _ _ _ _ _ _ _ _ _ _ _ _ c.loop-block.invariant gives (is_device _ _ c.from_residual.ensures.1 device)
 
 pub returns-in_err-block-clause-before_limit : goal.returns-in_err-block-clause-before_limit
 returns-in_err-block-clause-before_limit g c = λ limit.
     let gives = subst (Gives c.loop-block.reader c.next.follows.lender-at-none) c.in_err-block.was c.next.follows.holds-at-none in
-    gone_to_limit _ _ _ _ _ _ _ _ _ _ _ _ c.loop-block.invariant gives (is_limit _ _ c.from_residual-in_err-block.ensures.1 limit)
+    gone_to_limit _ _ _ _ _ _ _ _ _ _ _ _ c.loop-block.invariant gives (is_limit _ _ c.from_residual.ensures.1 limit)
 
 -- ---- the sink failed
 

@@ -1,4 +1,4 @@
-use Rattle.std.proofs.Common.{ℕ, List, Option, Err, IfSome, ap, sym, subst, refl}
+use Rattle.std.proofs.Common.{Err, ap}
 use Rattle.jreport.proofs.StreamLemmas.{unread_back, unread_failed}
 use Rattle.jreport.proofs.stream.stream_lines.Goals as goal
 
@@ -11,4 +11,4 @@ returns-in-Err-clause-put g c =
 pub returns-in-Err-clause-back : goal.returns-in-Err-clause-back
 returns-in-Err-clause-back g c =
     let others = c.in-Err.ensures.no_other in
-    unread_back _ c.in-Err.fault c.from.result c.from.ensures (λ e. others.0 (ap Err e)) (λ e. others.1 (ap Err e))
+    unread_back (g.S.Source.failures c.args.source) c.in-Err.fault c.from.result c.from.ensures (λ e. others.0 (ap Err e)) (λ e. others.1 (ap Err e))
