@@ -1,5 +1,5 @@
 #!/usr/bin/env python3
-"""Shows that the prover refuses wrong bodies: tests/edits.py [--jobs N] [--built DIR] [CRATE ..]
+"""Shows that the prover refuses wrong bodies: tests/edits.py [--jobs N] [--built DIR] [--controls] [CRATE ..]
 
 A file crates/NAME/must-fail/*.edit is one wrong body, in the form of `rt must-fail` and with a first line of its own:
 
@@ -8,11 +8,14 @@ A file crates/NAME/must-fail/*.edit is one wrong body, in the form of `rt must-f
     old: TEXT                     a part of one line, which stands once in the file
     new: TEXT                     what is put in its place; further pairs apply to what those before them made
 
-A check proves each function from the contracts of what it calls. So many edits, each of another function, go into one copy
-of the crate, and a check of those functions judges them all. An edit is refused where its function's own proof fails; where
-the check only says that what it calls is not proved, it is tried again without the edits of others. In each check every
-function that no edit is in must be proved, so nothing but the edits is to blame. The libraries below a crate are those
-that `rt ci` or `rt check` made, here or in DIR. The last line is 'N passed, M failed'.
+A check proves each function from the contracts of what it calls. So a wrong body stands beside the right one, as a function
+NAME_edit_K with the same contract and the same proof, which nothing calls, and one check of a copy of the crate judges all of
+them. A method of a trait can't stand twice: its wrong body takes the place of the right one, in a copy with edits of other
+functions; where that check only says that what a function calls is not proved, its edit is tried again without the others.
+An edit is refused where its function's own proof fails. In each check every function that no edit is in must be proved, so
+nothing but the edits is to blame. With --controls the right body stands in the place of each that stands beside it, and must be
+proved there, so that a refusal is the wrong body's own. The libraries below a crate are those that `rt ci` or `rt check` made,
+here or in DIR. The last line is 'N passed, M failed'.
 """
 import argparse
 import concurrent.futures
@@ -37,17 +40,35 @@ class BadEdit(Exception):
 
 
 class Edit:
-    """A wrong body: the function that is to be refused, and the runs of lines that change in each file."""
+    """A wrong body: the function that is to be refused, and the runs of lines that change in each file; where it can stand
+    beside the right one, its copy."""
 
     def __init__(self, folder, file):
         """Reads an edit of the crate in this folder."""
-        self.name, self.function, self.changes = os.path.basename(file).removesuffix(".edit"), None, {}
+        self.name, self.function, self.changes, self.copy = os.path.basename(file).removesuffix(".edit"), None, {}, None
         with open(file, encoding="utf-8") as it:
             texts = self.applied(folder, it.read().split("\n"))
         for path, (before, after) in texts.items():
             self.changes[path] = changed_lines(before.split("\n"), after.split("\n"))
         if not self.function or not any(self.changes.values()):
             raise BadEdit("it names no function, or changes nothing")
+        self.proved = self.function
+
+    def stand_beside(self, folder, number, is_control=False):
+        """Makes a copy of the function with the wrong body, or the right one, under a name of its own, if there can be one."""
+        (path, runs), *others = self.changes.items()
+        with open(f"{folder}/{path}", encoding="utf-8") as it:
+            lines = it.read().split("\n")
+        item = item_of(lines, path, self.function)
+        if others or not item or any(low < item[1] or item[2] < high for low, high, _ in runs):
+            return
+        start, head, end = item
+        *_, name = self.function.split("::")
+        for low, high, after in [] if is_control else sorted(runs, key=lambda run: run[0], reverse=True):
+            lines[low:high], end = after, end + len(after) - (high - low)
+        lines[head] = re.sub(rf"\bfn {name}\b", f"fn {name}_edit_{number}", lines[head], count=1)
+        self.copy = path, item[2], ["", *lines[start:end]]
+        self.proved = f"{self.function}_edit_{number}"
 
     def applied(self, folder, lines):
         """Returns each file that the edit names, before and after it."""
@@ -74,10 +95,65 @@ class Edit:
         return texts
 
 
+def item_of(lines, path, function):
+    """Returns where the function's attributes, its own text and what follows it begin; None for a method of a trait, and for
+    one of a cycle of calls."""
+    module = [it for it in path.removeprefix("src/").removesuffix(".rt").split("/") if it not in ("lib", "main")]
+    *types, name = function.split("::")[len(module) :]
+    blocks = [(0, len(lines))]
+    if types:
+        heads = [i for i, line in enumerate(lines) if re.match(rf"impl(<.*>)? {types[0]}\b", line) and " for " not in line]
+        blocks = [(i, lines.index("}", i)) for i in heads]
+    indent = "    " * len(types)
+    for low, high in blocks:
+        for head in range(low, high):
+            if re.match(rf"{indent}(pub(\([a-z]+\))? )?fn {name}\b", lines[head]):
+                start = head
+                while lines[start - 1].startswith((f"{indent}#[", f"{indent}    ", f"{indent})]")) and start > low + 1:
+                    start -= 1
+                is_apart = not any("#[cycle" in line for line in lines[start:head])
+                return (start, head, lines.index(f"{indent}}}", head) + 1) if is_apart else None
+    return None
+
+
 def changed_lines(before, after):
     """Returns the runs of lines that differ: where each begins and ends before, and what is there after."""
     steps = difflib.SequenceMatcher(None, before, after, autojunk=False).get_opcodes()
     return [(low, high, after[i:j]) for kind, low, high, i, j in steps if kind != "equal"]
+
+
+class Beside:
+    """Edits whose wrong bodies stand beside the right ones, to be judged by one check."""
+
+    def __init__(self, edits):
+        self.edits = edits
+
+    def write(self, folder, crate):
+        """Writes the wrong bodies, and their proofs, into a copy of the crate."""
+        for path in {edit.copy[0] for edit in self.edits}:
+            with open(f"{folder}/{path}", encoding="utf-8") as it:
+                lines = it.read().split("\n")
+            here = [edit.copy for edit in self.edits if edit.copy[0] == path]
+            for _, at, copy in sorted(here, key=lambda it: it[1], reverse=True):
+                lines[at:at] = copy
+            with open(f"{folder}/{path}", "w", encoding="utf-8") as it:
+                it.write("\n".join(lines))
+        for edit in self.edits:
+            copy_proofs(folder, crate, edit.function, edit.proved)
+
+
+def copy_proofs(folder, crate, function, copy):
+    """Gives a copy of a function the proof files of the function."""
+    proofs = f"{folder}/proofs/{function.replace('::', '/')}"
+    to = f"{folder}/proofs/{copy.replace('::', '/')}"
+    for at, _, names in os.walk(proofs):
+        os.makedirs(at.replace(proofs, to, 1))
+        for name in names:
+            with open(f"{at}/{name}", encoding="utf-8") as it:
+                text = it.read()
+            own = rf"\bRattle\.{crate}\.proofs\.{function.replace('::', '.')}\b"
+            with open(f"{at.replace(proofs, to, 1)}/{name}", "w", encoding="utf-8") as it:
+                it.write(re.sub(own, f"Rattle.{crate}.proofs.{copy.replace('::', '.')}", text))
 
 
 class Batch:
@@ -101,7 +177,7 @@ class Batch:
             self.changes.setdefault(path, []).extend(runs)
         return True
 
-    def write(self, folder):
+    def write(self, folder, _crate):
         """Writes the wrong bodies into a copy of the crate."""
         for path, runs in self.changes.items():
             with open(f"{folder}/{path}", encoding="utf-8") as it:
@@ -113,13 +189,14 @@ class Batch:
 
 
 def batches_of(edits):
-    """Returns batches with these edits, each in the first that takes it."""
-    made = []
+    """Returns batches with these edits: those that stand beside the right bodies in one, each of the others in the first that
+    takes it."""
+    beside, made = [edit for edit in edits if edit.copy], []
     for edit in edits:
-        if not any(batch.takes(edit) for batch in made):
+        if not edit.copy and not any(batch.takes(edit) for batch in made):
             made.append(Batch())
             made[-1].takes(edit)
-    return made
+    return [*([Beside(beside)] if beside else []), *made]
 
 
 def check(crate, batch, kept):
@@ -128,8 +205,8 @@ def check(crate, batch, kept):
         for part in rtlib.PARTS:
             if os.path.isdir(f"{crate.folder}/{part}"):
                 shutil.copytree(f"{crate.folder}/{part}", f"{room}/{part}")
-        batch.write(room)
-        only = [word for edit in batch.edits for word in ("--only", edit.function)]
+        batch.write(room, crate.name)
+        only = [word for edit in batch.edits for word in ("--only", edit.proved)]
         words = [rtlib.RATTLE, "check", *crate.words(["--jobs", "1"], keeps=False), "--incremental", kept, *only]
         how = {"stdin": subprocess.DEVNULL, "stdout": subprocess.PIPE, "stderr": subprocess.STDOUT, "errors": "replace"}
         said = subprocess.run([*rtlib.guarded(), *words], cwd=room, check=False, **how).stdout.rstrip()
@@ -137,7 +214,7 @@ def check(crate, batch, kept):
     if not re.fullmatch(r"only=\d+ proved=\d+", lines[-1]) or rtlib.STALE.search(said):
         raise BadEdit("the check did not come to the proofs: " + next((it for it in lines if ": error" in it), lines[-1]))
     found = dict(re.findall(rf"^fn {crate.name}::(\S+): (.*)$", said, re.M))
-    edited = {edit.function for edit in batch.edits}
+    edited = {edit.proved for edit in batch.edits}
     spoilt = [it for it, status in found.items() if it not in edited and status != "proved" and not status.startswith(CALLEE_FAILED)]
     if spoilt or not edited <= found.keys():
         raise BadEdit(f"not proved, though no edit is in it: {spoilt}; not a function of the crate: {sorted(edited - found.keys())}")
@@ -157,12 +234,12 @@ def tried(crate, batch, kept):
         if len(batch.edits) == 1:
             return [(batch.edits[0], False, f"BAD EDIT: {error}")]
         half = len(batch.edits) // 2
-        parts = [*batches_of(batch.edits[:half]), *batches_of(batch.edits[half:])]
+        parts = [part for edits in (batch.edits[:half], batch.edits[half:]) for part in batches_of(edits)]
         return [it for part in parts for it in tried(crate, part, kept)]
-    again = [edit for edit in batch.edits if found[edit.function].startswith(CALLEE_FAILED)]
+    again = [edit for edit in batch.edits if found[edit.proved].startswith(CALLEE_FAILED)]
     if len(again) == len(batch.edits):
-        return [(edit, False, f"NOT REFUSED: {found[edit.function]}") for edit in again]
-    judged = [(edit, is_refused(found[edit.function]), found[edit.function]) for edit in batch.edits if edit not in again]
+        return [(edit, False, f"NOT REFUSED: {found[edit.proved]}") for edit in again]
+    judged = [(edit, is_refused(found[edit.proved]), found[edit.proved]) for edit in batch.edits if edit not in again]
     return [*judged, *(it for part in batches_of(again) for it in tried(crate, part, kept))]
 
 
@@ -178,30 +255,32 @@ def edits_of(crate):
     return sorted(f"{folder}/{it}" for it in os.listdir(folder)) if os.path.isdir(folder) else []
 
 
-def try_all(crate):
-    """Returns a line for each edit of the crate, and how many are refused."""
+def try_all(crate, is_control):
+    """Returns a line for each edit of the crate, and how many are refused; or for each control, and how many are proved."""
     if unmade(crate):
         return [f"{crate.name}: run rt check first: {', '.join(unmade(crate))}"], 0
     lines, edits = [], []
     for file in edits_of(crate):
         try:
             edits.append(Edit(crate.folder, file))
+            edits[-1].stand_beside(crate.folder, len(edits), is_control)
         except (BadEdit, KeyError, OSError) as error:
             lines.append(f"{crate.name}/{os.path.basename(file)}: BAD EDIT: {error}")
-    refused = 0
+    good = 0
     with tempfile.TemporaryDirectory(prefix="edits-kept-") as kept:
-        for batch in batches_of(edits):
+        for batch in batches_of([it for it in edits if it.copy or not is_control]):
             for edit, is_good, said in tried(crate, batch, kept):
-                verdict = "refused" if is_good else "NOT REFUSED"
-                lines.append(f"{crate.name}/{edit.name}: {verdict}: {edit.function}: {said[:160]}")
-                refused += is_good
-    return lines, refused
+                is_good, verdict = (said == "proved", "") if is_control else (is_good, "refused: " if is_good else "NOT REFUSED: ")
+                lines.append(f"{crate.name}/{edit.name}: {verdict}{edit.function}: {said[:160]}")
+                good += is_good
+    return lines, good
 
 
 def main():
     parser = argparse.ArgumentParser(description="Shows that the prover refuses the wrong bodies in crates/*/must-fail.")
     parser.add_argument("--jobs", type=int, default=len(os.sched_getaffinity(0)), help="how many crates at a time")
     parser.add_argument("--built", metavar="DIR", default=ROOT, help="a copy of the repository in which the crates were proved")
+    parser.add_argument("--controls", action="store_true", help="show that the right bodies are proved where the wrong ones stand")
     parser.add_argument("crates", metavar="CRATE", nargs="*", help="these crates alone")
     asked = parser.parse_args()
     os.chdir(asked.built)
@@ -212,10 +291,10 @@ def main():
     crates.sort(key=lambda it: -len(edits_of(it)))
     passed = failed = 0
     with concurrent.futures.ThreadPoolExecutor(asked.jobs) as pool:
-        for done in concurrent.futures.as_completed([pool.submit(try_all, it) for it in crates]):
-            lines, refused = done.result()
+        for done in concurrent.futures.as_completed([pool.submit(try_all, it, asked.controls) for it in crates]):
+            lines, good = done.result()
             print("\n".join(lines), flush=True)
-            passed, failed = passed + refused, failed + len(lines) - refused
+            passed, failed = passed + good, failed + len(lines) - good
     print(f"{passed} passed, {failed} failed")
     return 1 if failed or not passed else 0
 

@@ -1,3 +1,2 @@
 pub mod WritingLemmas
 pub mod HostLemmas
-pub mod OpensLemmas
