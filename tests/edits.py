@@ -8,13 +8,12 @@ A file crates/NAME/must-fail/*.edit is one wrong body, in the form of `rt must-f
     old: TEXT                     a part of one line, which stands once in the file
     new: TEXT                     what is put in its place; further pairs apply to what those before them made
 
-A check proves each function from the contracts of what it calls. So a wrong body stands beside the right one, as a function
-NAME_edit_K with the same contract and the same proof, which nothing calls, and one check of a copy of the crate judges all of
-them. A method of a trait can't stand twice: its wrong body takes the place of the right one, in a copy with edits of other
-functions; where that check only says that what a function calls is not proved, its edit is tried again without the others.
-An edit is refused where its function's own proof fails. In each check every function that no edit is in must be proved, so
-nothing but the edits is to blame. With --controls the right body stands in the place of each that stands beside it, and must be
-proved there, so that a refusal is the wrong body's own. The libraries below a crate are those that `rt ci` or `rt check` made,
+A check proves each function from the contracts of what it calls. So many edits, each of another function, go into one copy
+of the crate, and a check of those functions judges them all. A further edit of a function stands beside it, as a function
+NAME_edit_K with the same contract and the same proof. An edit is refused where its function's own proof fails; where
+the check only says that what it calls is not proved, it is tried again without the edits of others. In each check every
+function that no edit is in must be proved, so nothing but the edits is to blame. With --controls the right body of each
+function stands beside it so, and must be proved there. The libraries below a crate are those that `rt ci` or `rt check` made,
 here or in DIR. The last line is 'N passed, M failed'.
 """
 import argparse
@@ -40,35 +39,36 @@ class BadEdit(Exception):
 
 
 class Edit:
-    """A wrong body: the function that is to be refused, and the runs of lines that change in each file; where it can stand
-    beside the right one, its copy."""
+    """A wrong body: the function that is to be refused, and the runs of lines that change in each file."""
 
     def __init__(self, folder, file):
-        """Reads an edit of the crate in this folder."""
-        self.name, self.function, self.changes, self.copy = os.path.basename(file).removesuffix(".edit"), None, {}, None
+        """Reads an edit of the crate in this folder. Its wrong body takes the place of the right one."""
+        self.name, self.function, self.changes = os.path.basename(file).removesuffix(".edit"), None, {}
         with open(file, encoding="utf-8") as it:
             texts = self.applied(folder, it.read().split("\n"))
         for path, (before, after) in texts.items():
             self.changes[path] = changed_lines(before.split("\n"), after.split("\n"))
         if not self.function or not any(self.changes.values()):
             raise BadEdit("it names no function, or changes nothing")
+        # the function that has the wrong body
         self.proved = self.function
 
-    def stand_beside(self, folder, number, is_control=False):
-        """Makes a copy of the function with the wrong body, or the right one, under a name of its own, if there can be one."""
+    def stand_beside(self, folder, number, is_control):
+        """Has the wrong body stand beside the right one, as a function of its own, and says whether it can. A control is the right
+        body there."""
         (path, runs), *others = self.changes.items()
         with open(f"{folder}/{path}", encoding="utf-8") as it:
             lines = it.read().split("\n")
         item = item_of(lines, path, self.function)
         if others or not item or any(low < item[1] or item[2] < high for low, high, _ in runs):
-            return
+            return False
         start, head, end = item
-        *_, name = self.function.split("::")
+        copy, name = lines[start:end], self.function.split("::")[-1]
         for low, high, after in [] if is_control else sorted(runs, key=lambda run: run[0], reverse=True):
-            lines[low:high], end = after, end + len(after) - (high - low)
-        lines[head] = re.sub(rf"\bfn {name}\b", f"fn {name}_edit_{number}", lines[head], count=1)
-        self.copy = path, item[2], ["", *lines[start:end]]
-        self.proved = f"{self.function}_edit_{number}"
+            copy[low - start : high - start] = after
+        copy[head - start] = re.sub(rf"\bfn {name}\b", f"fn {name}_edit_{number}", lines[head], count=1)
+        self.changes, self.proved = {path: [(end, end, ["", *copy])]}, f"{self.function}_edit_{number}"
+        return True
 
     def applied(self, folder, lines):
         """Returns each file that the edit names, before and after it."""
@@ -122,26 +122,6 @@ def changed_lines(before, after):
     return [(low, high, after[i:j]) for kind, low, high, i, j in steps if kind != "equal"]
 
 
-class Beside:
-    """Edits whose wrong bodies stand beside the right ones, to be judged by one check."""
-
-    def __init__(self, edits):
-        self.edits = edits
-
-    def write(self, folder, crate):
-        """Writes the wrong bodies, and their proofs, into a copy of the crate."""
-        for path in {edit.copy[0] for edit in self.edits}:
-            with open(f"{folder}/{path}", encoding="utf-8") as it:
-                lines = it.read().split("\n")
-            here = [edit.copy for edit in self.edits if edit.copy[0] == path]
-            for _, at, copy in sorted(here, key=lambda it: it[1], reverse=True):
-                lines[at:at] = copy
-            with open(f"{folder}/{path}", "w", encoding="utf-8") as it:
-                it.write("\n".join(lines))
-        for edit in self.edits:
-            copy_proofs(folder, crate, edit.function, edit.proved)
-
-
 def copy_proofs(folder, crate, function, copy):
     """Gives a copy of a function the proof files of the function."""
     proofs = f"{folder}/proofs/{function.replace('::', '/')}"
@@ -157,7 +137,7 @@ def copy_proofs(folder, crate, function, copy):
 
 
 class Batch:
-    """Edits of distinct functions, no two of which touch or adjoin, to be judged by one check."""
+    """Edits no two of which are of one function, or touch or adjoin, but where both stand beside, to be judged by one check."""
 
     def __init__(self):
         self.edits, self.changes = [], {}
@@ -165,20 +145,20 @@ class Batch:
     def takes(self, edit):
         """Adds the edit, if it is apart from those that are here."""
         is_apart = all(
-            high < other_low or other_high < low
+            high < other_low or other_high < low or low == high == other_low == other_high
             for path, runs in edit.changes.items()
             for low, high, _ in runs
             for other_low, other_high, _ in self.changes.get(path, [])
         )
-        if not is_apart or any(edit.function == it.function for it in self.edits):
+        if not is_apart or any(edit.proved == it.proved for it in self.edits):
             return False
         self.edits.append(edit)
         for path, runs in edit.changes.items():
             self.changes.setdefault(path, []).extend(runs)
         return True
 
-    def write(self, folder, _crate):
-        """Writes the wrong bodies into a copy of the crate."""
+    def write(self, folder, crate):
+        """Writes the wrong bodies, and the proofs of those that stand beside the right ones, into a copy of the crate."""
         for path, runs in self.changes.items():
             with open(f"{folder}/{path}", encoding="utf-8") as it:
                 lines = it.read().split("\n")
@@ -186,17 +166,32 @@ class Batch:
                 lines[low:high] = after
             with open(f"{folder}/{path}", "w", encoding="utf-8") as it:
                 it.write("\n".join(lines))
+        for edit in self.edits:
+            if edit.proved != edit.function:
+                copy_proofs(folder, crate, edit.function, edit.proved)
 
 
 def batches_of(edits):
-    """Returns batches with these edits: those that stand beside the right bodies in one, each of the others in the first that
-    takes it."""
-    beside, made = [edit for edit in edits if edit.copy], []
+    """Returns batches with these edits, each in the first that takes it."""
+    made = []
     for edit in edits:
-        if not edit.copy and not any(batch.takes(edit) for batch in made):
+        if not any(batch.takes(edit) for batch in made):
             made.append(Batch())
             made[-1].takes(edit)
-    return [*([Beside(beside)] if beside else []), *made]
+    return made
+
+
+def placed(crate, edits, is_control):
+    """Has each further edit of a function stand beside the right body, if it can; of a control, each. Returns those that can be
+    judged together, and the others."""
+    together, others, taken = [], [], set()
+    for number, edit in enumerate(edits):
+        if edit.function in taken or is_control:
+            (together if edit.stand_beside(crate.folder, number, is_control) else others).append(edit)
+        else:
+            together.append(edit)
+        taken.add(edit.function)
+    return together, [] if is_control else others
 
 
 def check(crate, batch, kept):
@@ -263,12 +258,11 @@ def try_all(crate, is_control):
     for file in edits_of(crate):
         try:
             edits.append(Edit(crate.folder, file))
-            edits[-1].stand_beside(crate.folder, len(edits), is_control)
         except (BadEdit, KeyError, OSError) as error:
             lines.append(f"{crate.name}/{os.path.basename(file)}: BAD EDIT: {error}")
     good = 0
     with tempfile.TemporaryDirectory(prefix="edits-kept-") as kept:
-        for batch in batches_of([it for it in edits if it.copy or not is_control]):
+        for batch in [it for part in placed(crate, edits, is_control) for it in batches_of(part)]:
             for edit, is_good, said in tried(crate, batch, kept):
                 is_good, verdict = (said == "proved", "") if is_control else (is_good, "refused: " if is_good else "NOT REFUSED: ")
                 lines.append(f"{crate.name}/{edit.name}: {verdict}{edit.function}: {said[:160]}")
