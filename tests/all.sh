@@ -1,9 +1,9 @@
 #!/usr/bin/env bash
 # Passes all tests: `rt ci` (every proof from nothing, the tests, the program's stored run), then the wrong bodies that the
 # prover must refuse, the names in the tables of docs, and the finished program as a user meets it and on what is made to do
-# harm. `rt ci` gets a copy of the tree without the wrong bodies, which it would try one after another: tests/edits.py tries
-# many at once. The last lines are where the processor time of the two went, crate by crate in minutes, and 'N passed, M
-# failed'.
+# harm. `rt ci` gets a copy of the tree without the wrong bodies, which it would try one after another (tests/edits.py tries
+# many at once), and without the benchmarks, which judge nothing and are proved where they are built. The last lines are where
+# the processor time of the two went, crate by crate in minutes, and 'N passed, M failed'.
 set -uo pipefail
 cd "$(dirname "$0")/.."
 log=$(mktemp)
@@ -23,7 +23,8 @@ suite() {
   failed=$((failed + bad))
 }
 
-tar -c --exclude=./.git --exclude=out --exclude=must-fail . | tar -x -C "$copy"
+tar -c --exclude=./.git --exclude=out --exclude=must-fail --exclude='./crates/bench_*' . | tar -x -C "$copy"
+sed -i '/^bench_/d' "$copy/crates.txt"
 suite tests/gate_clock.py "$times" bash -c '(cd "$0" && rt ci) && tests/edits.py --built "$0"' "$copy"
 suite tests/growths.py --built "$copy"
 suite tests/trace.py
