@@ -12,9 +12,9 @@ A check proves each function from the contracts of what it calls. So many edits,
 of the crate, and a check of those functions judges them all. A further edit of a function stands beside it, as a function
 NAME_edit_K with the same contract and the same proof. An edit is refused where its function's own proof fails; where
 the check only says that what it calls is not proved, it is tried again without the edits of others. In each check every
-function that no edit is in must be proved, so nothing but the edits is to blame. With --controls the right body of each
-function stands beside it so, and must be proved there. The libraries below a crate are those that `rt ci` or `rt check` made,
-here or in DIR. The last line is 'N passed, M failed'.
+function that no edit is in must be proved, so nothing but the edits is to blame. With --controls the right body stands in the
+place of each wrong one that stands beside, and must be proved there. The libraries below a crate are those that `rt ci` or
+`rt check` made, here or in DIR. The last line is 'N passed, M failed'.
 """
 import argparse
 import concurrent.futures
@@ -112,6 +112,7 @@ def item_of(lines, path, function):
                 while lines[start - 1].startswith((f"{indent}#[", f"{indent}    ", f"{indent})]")) and start > low + 1:
                     start -= 1
                 is_apart = not any("#[cycle" in line for line in lines[start:head])
+                is_apart = is_apart and f"{indent}}}" in lines[head:]
                 return (start, head, lines.index(f"{indent}}}", head) + 1) if is_apart else None
     return None
 
@@ -182,16 +183,18 @@ def batches_of(edits):
 
 
 def placed(crate, edits, is_control):
-    """Has each further edit of a function stand beside the right body, if it can; of a control, each. Returns those that can be
-    judged together, and the others."""
-    together, others, taken = [], [], set()
+    """Has each further edit of a function stand beside the right body, if it can. Returns those that can be judged together, and
+    the others; or of controls, the right bodies that stand beside."""
+    together, others, beside, taken = [], [], [], set()
     for number, edit in enumerate(edits):
-        if edit.function in taken or is_control:
-            (together if edit.stand_beside(crate.folder, number, is_control) else others).append(edit)
-        else:
+        if edit.function not in taken:
             together.append(edit)
+        elif edit.stand_beside(crate.folder, number, is_control):
+            beside.append(edit)
+        else:
+            others.append(edit)
         taken.add(edit.function)
-    return together, [] if is_control else others
+    return (beside, []) if is_control else (together + beside, others)
 
 
 def check(crate, batch, kept):
@@ -274,7 +277,7 @@ def main():
     parser = argparse.ArgumentParser(description="Shows that the prover refuses the wrong bodies in crates/*/must-fail.")
     parser.add_argument("--jobs", type=int, default=len(os.sched_getaffinity(0)), help="how many crates at a time")
     parser.add_argument("--built", metavar="DIR", default=ROOT, help="a copy of the repository in which the crates were proved")
-    parser.add_argument("--controls", action="store_true", help="show that the right bodies are proved where the wrong ones stand")
+    parser.add_argument("--controls", action="store_true", help="show that the right body is proved in the place of each wrong one that stands beside")
     parser.add_argument("crates", metavar="CRATE", nargs="*", help="these crates alone")
     asked = parser.parse_args()
     os.chdir(asked.built)
