@@ -7,16 +7,14 @@ use Rattle.std.proofs.lemmas.List.Sums.{sum_by-append}
 use Rattle.flashbase.specs.Lists.{below}
 use Rattle.flashbase.specs.declared.source.Source.{Ghosts as OfSource}
 use Rattle.jnode.specs.declared.order.Endian.{Endian}
-use Rattle.jscan.specs.Counts.{is_entry_tile, is_inode_tile, is_found, one_if, count_in, extents_of_block, extents_below, counts_of, block_counted}
+use Rattle.jscan.specs.Counts.{is_entry_tile, is_inode_tile, is_found, one_if, count_in, extents_of_block, extents_below, counts_of, block_counted, no_counts}
 use Rattle.jscan.specs.Image.{block_of, block_count, is_block_size, greatest_image}
-use Rattle.flashbase.specs.Device.{next_count}
-use Rattle.jscan.specs.Filling.{Breaks, StopsWithin}
-use Rattle.jscan.specs.Stream.{IsNextBlock, GivesBlock, GivesNone, GivesFault, size_of, start_of, source_of, rest_of, failures_of, fault_of, has_ended}
+use Rattle.jscan.specs.Filling.{Breaks}
+use Rattle.jscan.specs.Stream.{IsAtStart, IsNextBlock, GivesBlock, GivesNone, GivesFault, size_of, start_of, source_of, rest_of, failures_of, fault_of, has_ended}
 use Rattle.jscan.specs.Extents.{extents}
 use Rattle.jscan.specs.declared.counts.Counts.{Counts}
 use Rattle.jscan.specs.declared.stream.BlockReader.{BlockReader}
 use Rattle.jscan.specs.declared.stream.StreamFault.{StreamFault}
-use Rattle.jscan.specs.declared.stream.StreamFault.TheVariants.{Device}
 use Rattle.jscan.specs.declared.extent.ExtentKind.{ExtentKind}
 use Rattle.jscan.specs.declared.extent.Extent.{Extent}
 use Rattle.jscan.proofs.CountLemmas.{number_fits}
@@ -51,6 +49,34 @@ pub readable_some : (size : ℕ) → is_block_size size ≡ true → 4096 ≤ si
 readable_some size h =
     let parts = and_parts (nat_le 4096 size && nat_le size 4194304) (size % 4 == 0) h in
     leb-true 4096 size (and_parts (nat_le 4096 size) (nat_le size 4194304) parts.0).0
+
+-- ---- no block yet
+
+pub scanning_start : {S : Type 0} {o : OfSource S} (e : Endian) (source : S) (size : ℕ) (counts : Counts) (reader : BlockReader S o)
+    → counts ≡ no_counts → IsAtStart size reader → source_of reader ≡ source → Scanning e source size 0 counts reader
+scanning_start {S} {o} e source size counts reader none begins is =
+    record {
+      blocks_of = begins.1;
+      readable = begins.0;
+      here = begins.2;
+      blocks = omega (arith, ap (λ (k : ℕ). k * size) no_blocks);
+      entries = omega (arith, ap (λ (c : Counts). c.entries) none);
+      inodes = omega (arith, ap (λ (c : Counts). c.inodes) none);
+      findings = omega (arith, ap (λ (c : Counts). c.findings) none);
+      well = begins.3;
+      none_failed = ap o.failures is;
+      known = known (o.rest source) (ap o.rest is);
+    }
+  where
+    no_blocks : counts.blocks ≡ 0
+    no_blocks = ap (λ (c : Counts). c.blocks) none
+
+    known : (known_bytes : Option (List ℕ)) → rest_of reader ≡ known_bytes → IfSome known_bytes (λ image. IsCounted e size 0 counts image (rest_of reader))
+    known None left = tt
+    known (Some image) left = record {
+      place = record { left = left; fits = omega arith; tight = omega (arith, readable_some size begins.0) };
+      so_far = none ∙ ap (counts_of e size image) (sym no_blocks);
+    }
 
 -- ---- one block more
 
@@ -142,22 +168,13 @@ all_within size n (Some image) whole = whole.within
 
 -- ---- a fault
 
--- where the device failed, less than a block is gone of what follows the blocks counted
-pub scanning_torn : {S : Type 0} {o : OfSource S} (e : Endian) (source : S) (size start : ℕ) (counts : Counts) (old new : BlockReader S o) (fault : StreamFault)
-    → Scanning e source size start counts old → GivesFault old new fault → fault ≡ Device
-    → (left : S) × (o.failures left ≡ next_count (o.failures source))
-    × IfSome (o.rest source) (λ image. StopsWithin (Some (drop (counts.blocks * size) image)) (o.rest left) size)
-scanning_torn {S} {o} e source size start counts old new fault before gives is =
-    let first : (has_ended old ≡ false) × Breaks (rest_of old) (failures_of old) (failures_of new) (size_of old) (greatest_image - start_of old) fault =
-    subst (λ (f : Option StreamFault). IfNone f ((has_ended old ≡ false)
-    × Breaks (rest_of old) (failures_of old) (failures_of new) (size_of old) (greatest_image - start_of old) fault)) before.well gives.first in
-    let breaks : Breaks (rest_of old) (failures_of old) (failures_of new) (size_of old) (greatest_image - start_of old) Device =
-    subst (Breaks (rest_of old) (failures_of old) (failures_of new) (size_of old) (greatest_image - start_of old)) is first.1 in
-    let torn : StopsWithin (rest_of old) (rest_of new) size = subst (StopsWithin (rest_of old) (rest_of new)) before.blocks_of (gives.torn is before.well) in
-    (source_of new, breaks ∙ ap next_count before.none_failed, known (o.rest source) before.known torn)
-  where
-    known : (known_bytes : Option (List ℕ)) → IfSome known_bytes (λ image. IsCounted e size start counts image (rest_of old)) → StopsWithin (rest_of old) (rest_of new) size
-        → IfSome known_bytes (λ image. StopsWithin (Some (drop (counts.blocks * size) image)) (rest_of new) size)
-    known None so_far torn = tt
-    known (Some image) so_far torn =
-        subst (λ (r : Option (List ℕ)). StopsWithin r (rest_of new) size) (so_far.place.left ∙ ap (λ (k : ℕ). Some (drop k image)) (sym before.blocks)) torn
+module _ {S : Type 0} {o : OfSource S} (e : Endian) (source : S) (size start : ℕ) (counts : Counts) (old new : BlockReader S o) where
+  -- the reader has answered none before
+  pub breaks_here : (fault : StreamFault) → Scanning e source size start counts old → GivesFault old new fault
+      → Breaks (rest_of old) (failures_of old) (failures_of new) size (greatest_image - start) fault
+  breaks_here fault before gives =
+      let first : (has_ended old ≡ false) × Breaks (rest_of old) (failures_of old) (failures_of new) (size_of old) (greatest_image - start_of old) fault =
+      subst (λ (f : Option StreamFault). IfNone f ((has_ended old ≡ false)
+      × Breaks (rest_of old) (failures_of old) (failures_of new) (size_of old) (greatest_image - start_of old) fault)) before.well gives.first in
+      subst (λ (s : ℕ). Breaks (rest_of old) (failures_of old) (failures_of new) s (greatest_image - start) fault) before.blocks_of
+      (subst (λ (s : ℕ). Breaks (rest_of old) (failures_of old) (failures_of new) (size_of old) (greatest_image - s) fault) before.here first.1)

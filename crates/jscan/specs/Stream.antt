@@ -1,11 +1,12 @@
 -- What a reader of blocks has left, and what one call of it does.
 use Rattle.std.specs.Prelude.{◌≡◌, ℕ, ◌+◌, ◌-◌, ◌<◌, ◌≤◌, Bool, true, false, List, length, drop, min, Option, Some, None, Result, Ok, Err, IfSome, IfNone, vec_len, ⊤}
-use Rattle.std.specs.Io.KnownBytes.{IsAtEnd}
+use Rattle.std.specs.Io.KnownBytes.{IsAtEnd, Keeps}
+use Rattle.flashbase.specs.Device.{next_count}
 use Rattle.flashbase.specs.declared.source.Source.{Ghosts as OfSource}
-use Rattle.jscan.specs.Image.{block_of, greatest_image}
+use Rattle.jscan.specs.Image.{block_of, greatest_image, is_block_size}
 use Rattle.jscan.specs.Filling.{Breaks, StopsWithin, StopsPast}
 use Rattle.jscan.specs.declared.stream.StreamFault.{StreamFault}
-use Rattle.jscan.specs.declared.stream.StreamFault.TheVariants.{Device, TooLarge}
+use Rattle.jscan.specs.declared.stream.StreamFault.TheVariants.{BlockSize, Device, TooLarge, OutOfMemory}
 use Rattle.jscan.specs.declared.stream.BlockReader.{BlockReader}
 use denote.Ref.{Bor}
 
@@ -57,6 +58,8 @@ module _ {S : Type 0} {o : OfSource S} where
   pub record GivesNone (old new : BlockReader S o) : Type 0 where
     pub reading : fault_of old ≡ None
     pub at_end : IsAtEnd (rest_of old)
+    pub left : IsAtEnd (rest_of new)
+    pub kept : Keeps (rest_of old) (rest_of new)
     pub ended : has_ended new ≡ true
     pub same_size : size_of new ≡ size_of old
     pub stays : start_of new ≡ start_of old
@@ -85,3 +88,28 @@ module _ {S : Type 0} {o : OfSource S} where
   Gives old new (Ok (Some block)) = GivesBlock old new block.now
   Gives old new (Ok None) = GivesNone old new
   Gives old new (Err fault) = GivesFault old new fault
+
+  -- a reader of blocks of this size that has given none
+  abbrev pub IsAtStart : ℕ → BlockReader S o → Type 0
+  IsAtStart size reader = (is_block_size size ≡ true) × (size_of reader ≡ size) × (start_of reader ≡ 0) × (fault_of reader ≡ None)
+
+-- ---- the source of a call that goes over all blocks
+
+-- A source comes back with the count of its failures, which rose by one where it is blamed, and else stayed. It is gone exactly
+-- where nothing is read of it.
+abbrev pub ComesBack : {T : Type 0} → ℕ → Option ℕ → Result T StreamFault → Type 0
+ComesBack before None (Err BlockSize) = ⊤
+ComesBack before None (Err OutOfMemory) = ⊤
+ComesBack before None _ = ⊥
+ComesBack before (Some now) (Err BlockSize) = ⊥
+ComesBack before (Some now) (Err OutOfMemory) = ⊥
+ComesBack before (Some now) (Err Device) = now ≡ next_count before
+ComesBack before (Some now) _ = now ≡ before
+
+-- What is left of it, of whose bytes `start` are those of the blocks given: nothing; or where it failed, all but less than a block
+-- of what follows them; or all but a part that goes past the greatest image.
+abbrev pub IsLeft : {T : Type 0} → ℕ → ℕ → List ℕ → Option (List ℕ) → Result T StreamFault → Type 0
+IsLeft size start image left (Ok _) = IsAtEnd left
+IsLeft size start image left (Err Device) = StopsWithin (Some (drop start image)) left size
+IsLeft size start image left (Err TooLarge) = StopsPast (Some (drop start image)) left (greatest_image - start) size
+IsLeft size start image left (Err _) = ⊤

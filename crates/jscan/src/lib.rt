@@ -19,6 +19,7 @@
 
 mod answer;
 mod blank;
+mod counting;
 mod counts;
 pub mod examples;
 mod extent;
@@ -35,6 +36,7 @@ mod tiles;
 
 pub use crate::answer::{PartialScan, Scan};
 pub use crate::blank::blank_from;
+pub use crate::counting::scan_stream;
 pub use crate::counts::Counts;
 pub use crate::extent::{Extent, ExtentKind};
 pub use crate::extents::Extents;
@@ -43,5 +45,5 @@ pub use crate::geometry::{GREATEST_BLOCK, GREATEST_IMAGE, Geometry, LEAST_BLOCK,
 pub use crate::parts::block_at;
 pub use crate::scanning::{scan, scan_to_refusal};
 pub use crate::sightings::Sightings;
-pub use crate::stream::{BlockReader, StreamFault, scan_stream};
+pub use crate::stream::{BlockReader, StreamFault};
 pub use crate::tiles::{Tile, TileKind, Tiles};

@@ -1,18 +1,14 @@
 // The blocks of a source, one after the other, through a buffer of one block.
 
-ghost use Rattle.std.specs.Prelude.{◌≡◌, ◌↔◌, ◌+◌, ◌-◌, ◌*◌, ◌<◌, ◌≤◌, ◌++◌, Some, drop, Err, IfOk, IfErr, IfSome, OnOk, false, true, length, min, replicate, take, vec_len};
+ghost use Rattle.std.specs.Prelude.{◌≡◌, ◌-◌, ◌<◌, ◌≤◌, ◌++◌, Err, IfOk, IfErr, OnOk, false, true, length, replicate, take, vec_len};
 ghost use Rattle.std.specs.Option.{ForSome};
 ghost use Rattle.std.specs.Io.KnownBytes.{Consumes, IsAtEnd};
-ghost use Rattle.jscan.specs.Image.{block_count, is_block_size, greatest_image};
-ghost use Rattle.flashbase.specs.Device.{next_count};
-ghost use Rattle.jscan.specs.Counts.{counts_of, no_counts};
+ghost use Rattle.jscan.specs.Image.{greatest_image};
 ghost use Rattle.jscan.specs.Filling.{Breaks, StopsWithin, StopsPast};
 ghost use Rattle.jscan.specs.declared.stream.StreamFault.TheVariants as fault;
 
-use crate::counts::Counts;
 use crate::geometry::{GREATEST_IMAGE, Geometry};
 use flashbase::{DeviceFault, Source};
-use jnode::Order;
 use std::alloc::{AllocError, Global};
 use thiserror::Error;
 
@@ -172,43 +168,4 @@ fn fill_block<S: Source>(
     }
     block[filled..].fill(0xFF);
     Ok(filled)
-}
-
-/// Counts what the source's blocks contain, through one block of memory. At a fault the counts are those of
-/// the blocks before it.
-pub fn scan_stream<E: Order, S: Source>(
-    alloc: Global,
-    source: S,
-    geometry: Geometry,
-    counts: &mut Counts,
-) -> Result<(), StreamFault>
-    ensures counted { IfSome (S.rest source) (λ image. counts.new ≡ counts_of E.order geometry.block image counts.new.blocks) }
-    ensures all { OnOk result (IfSome (S.rest source) (λ image. counts.new.blocks ≡ block_count geometry.block image)) }
-    ensures within { OnOk result (IfSome (S.rest source) (λ image. length image ≤ greatest_image)) }
-    ensures block_size { result ≡ Err StreamFault.BlockSize ↔ (is_block_size geometry.block ≡ false) }
-    ensures unread { result ≡ Err StreamFault.BlockSize → counts.new ≡ no_counts }
-    ensures memory { result ≡ Err StreamFault.OutOfMemory → counts.new ≡ no_counts }
-
-    // Only where the next block holds a byte past the greatest image, within which those counted end.
-    ensures too_large { result ≡ Err StreamFault.TooLarge
-        → IfSome (S.rest source) (λ image. greatest_image < min (length image) ((counts.new.blocks + 1) * geometry.block)) }
-    ensures before_the_end { result ≡ Err StreamFault.TooLarge → counts.new.blocks * geometry.block ≤ greatest_image }
-
-    // Only where the source failed, once, in the block after those counted.
-    ensures device { result ≡ Err StreamFault.Device → (left : S) × (S.failures left ≡ next_count (S.failures source))
-        × IfSome (S.rest source) (λ image. StopsWithin (Some (drop (counts.new.blocks * geometry.block) image)) (S.rest left) geometry.block) }
-{
-    *counts = Counts {
-        blocks: 0,
-        entries: 0,
-        inodes: 0,
-        findings: 0,
-    };
-    let mut reader = BlockReader::new(alloc, source, geometry)?;
-    let mut start = 0;
-    while let Some(block) = reader.next()? {
-        counts.add_block::<E>(start, block);
-        start += geometry.block;
-    }
-    Ok(())
 }

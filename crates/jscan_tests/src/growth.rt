@@ -51,8 +51,10 @@ fn stream_fault(alloc: Global) -> Option<StreamFault> {
     };
     let source = Giver::failing(&MADE, 1, usize::MAX);
     match scan_stream::<LittleEndian, _>(alloc, source, GEOMETRY, &mut counts) {
-        Ok(()) if (counts.blocks, counts.entries, counts.inodes) == (1, 1, 1) => None,
-        Err(StreamFault::OutOfMemory) if counts.blocks == 0 => Some(StreamFault::OutOfMemory),
+        (Ok(()), Some(_)) if (counts.blocks, counts.entries, counts.inodes) == (1, 1, 1) => None,
+        (Err(StreamFault::OutOfMemory), None) if counts.blocks == 0 => {
+            Some(StreamFault::OutOfMemory)
+        }
         _ => Some(StreamFault::TooLarge),
     }
 }

@@ -35,15 +35,15 @@ fn counts(counted: [u64; 4]) -> Counts {
     }
 }
 
-/// What is answered of a source, and what is counted.
+/// What is answered of a source, what is counted, and of the source that comes back its failures and how many bytes it has left.
 fn streamed(
     alloc: Global,
     source: Giver<'_>,
     geometry: Geometry,
-) -> (Result<(), StreamFault>, Counts) {
+) -> (Result<(), StreamFault>, Counts, Option<(u64, usize)>) {
     let mut counted = counts([9, 9, 9, 9]);
-    let result = scan_stream::<LittleEndian, _>(alloc, source, geometry, &mut counted);
-    (result, counted)
+    let (result, left) = scan_stream::<LittleEndian, _>(alloc, source, geometry, &mut counted);
+    (result, counted, left.map(|it| (it.failures, it.rest.len())))
 }
 
 #[test]
@@ -52,7 +52,11 @@ fn counts_do_not_depend_on_the_cut(rt: HostRuntime) -> Result<(), Fail> {
         let image = flash(rt.alloc(), len, pieces)?;
         for piece in CUTS {
             let answer = streamed(rt.alloc(), Giver::limited(&image, piece, usize::MAX), SMALL);
-            assert_eq!(rt; answer, (Ok(()), counts(want)), "in pieces of {piece}");
+            assert_eq!(rt;
+                answer,
+                (Ok(()), counts(want), Some((0, 0))),
+                "in pieces of {piece}"
+            );
         }
     }
     Ok(())
@@ -62,7 +66,7 @@ fn counts_do_not_depend_on_the_cut(rt: HostRuntime) -> Result<(), Fail> {
 fn runs_count_once_each(rt: HostRuntime) {
     let mut counted = counts([0, 0, 0, 0]);
     let source = FromReader::new(ENTRY_A.as_slice());
-    let result = scan_stream::<BigEndian, _>(rt.alloc(), source, SMALL, &mut counted);
+    let (result, _) = scan_stream::<BigEndian, _>(rt.alloc(), source, SMALL, &mut counted);
     assert_eq!(rt; (result, counted), (Ok(()), counts([1, 0, 0, 2])));
 }
 
@@ -93,7 +97,14 @@ fn a_device_fails_in_the_second_block(rt: HostRuntime) -> Result<(), Fail> {
         let left = reader.into_source();
         assert_eq!(rt; (left.failures, left.rest.len()), (1, 37));
         let answer = streamed(rt.alloc(), Giver::limited(&image, piece, 4100), SMALL);
-        assert_eq!(rt; answer, (Err(StreamFault::Device), counts([1, 1, 0, 0])));
+        assert_eq!(rt;
+            answer,
+            (
+                Err(StreamFault::Device),
+                counts([1, 1, 0, 0]),
+                Some((1, 37))
+            )
+        );
     }
     Ok(())
 }
@@ -113,13 +124,18 @@ fn a_device_fails_once(rt: HostRuntime) -> Result<(), Fail> {
         }
         assert_eq!(rt; reader.into_source().failures, 1);
         let answer = streamed(rt.alloc(), failing(), SMALL);
+        let left = image.len().saturating_sub(2048 * calls);
         assert_eq!(rt;
             answer,
-            (Err(StreamFault::Device), counts([blocks, blocks, 0, 0]))
+            (
+                Err(StreamFault::Device),
+                counts([blocks, blocks, 0, 0]),
+                Some((1, left))
+            )
         );
     }
     let whole = streamed(rt.alloc(), Giver::failing(&image, 2048, 4), SMALL);
-    assert_eq!(rt; whole, (Ok(()), counts([2, 2, 0, 0])));
+    assert_eq!(rt; whole, (Ok(()), counts([2, 2, 0, 0]), Some((0, 0))));
     Ok(())
 }
 
@@ -148,6 +164,9 @@ fn block_sizes_that_are_not_read(rt: HostRuntime) {
     for block in [0, 4092, 4098, GREATEST_BLOCK + 4] {
         let source = Giver::limited(&ENTRY_A, 1, usize::MAX);
         let answer = streamed(rt.alloc(), source, Geometry { block });
-        assert_eq!(rt; answer, (Err(StreamFault::BlockSize), counts([0, 0, 0, 0])));
+        assert_eq!(rt;
+            answer,
+            (Err(StreamFault::BlockSize), counts([0, 0, 0, 0]), None)
+        );
     }
 }
