@@ -25,7 +25,7 @@ suite() {
 
 tar -c --exclude=./.git --exclude=out --exclude=must-fail --exclude='./crates/bench_*' . | tar -x -C "$copy"
 sed -i '/^bench_/d' "$copy/crates.txt"
-suite tests/gate_clock.py "$times" bash -c '(cd "$0" && rt ci) && tests/edits.py --built "$0"' "$copy"
+suite tests/gate_clock.py "$times" tests/edits.py --with-ci --built "$copy"
 suite tests/growths.py --built "$copy"
 suite tests/trace.py
 suite tests/program.sh "$copy/crates/jffs2_image/out/jffs2_image"

@@ -1,5 +1,5 @@
 -- Who is to blame for a fault, and which files were read.
-use Rattle.std.proofs.Common.{◌≡◌, ℕ, Bool, true, false, ◌<◌, List, Option, Some, None, Result, Ok, Err, [], inl, inr, ◌≤◌, refl, sym, subst, length, arith}
+use Rattle.std.proofs.Common.{◌≡◌, ℕ, Bool, true, false, ◌<◌, List, Option, Some, None, Result, Ok, Err, [], inl, inr, ◌≤◌, take, refl, sym, ap, subst, ◌∙◌, length, arith, take_all}
 use Rattle.std.specs.Prelude.{◌&&◌, if◌then◌else◌, IsTrue, option_map, slice_get, is_some, slice_index_or}
 use Rattle.std.specs.Option.{option_map_or}
 use Rattle.std.specs.Result.{IsErrAnd}
@@ -9,7 +9,8 @@ use Rattle.jmount.specs.Mount.{Mount}
 use Rattle.jsteps.specs.declared.op.Op.{Op}
 use Rattle.jlisting.specs.Listing.{file_of, lines_of}
 use Rattle.jlisting.specs.declared.line.Line.{Line}
-use Rattle.std.specs.Io.KnownBytes.{Appends}
+use Rattle.std.specs.Io.KnownBytes.{Appends, Keeps, append_known}
+use Rattle.std.proofs.lemmas.List.{take_at}
 use Rattle.flashbase.specs.Device.{PutsPart}
 use Rattle.jmount.specs.Mounts.{Answers}
 use Rattle.jsteps.specs.declared.page.Page.{Page}
@@ -21,13 +22,14 @@ use Rattle.jlog.specs.declared.report.Place.{Place}
 use Rattle.jbuild.specs.Length.{TellsLength}
 use Rattle.jbuild.proofs.LengthLemmas.{goes_on_flash, line_tells_length}
 use Rattle.jbuild.specs.Accepted.{accepted_line}
+use Rattle.jbuild.specs.Emitting.{IsEmitted, IsNotEmitted, front_before}
 use Rattle.jbuild.specs.Operations.{ops_in}
 use Rattle.jbuild.specs.Parts.{part_contents, read_of}
 use Rattle.jbuild.specs.declared.parts.Parts.{Parts}
 use Rattle.jreport.specs.declared.faults.ProgramFault.{ProgramFault}
 use Rattle.jreport.specs.declared.faults.ProgramFault.TheVariants as program
-use Rattle.jffs2_image.specs.Host.{AreOf, AreRead, Blames, BlamesMaker, HaveBytes, RunsFiles, IsMadeUntil, IsMakeFault, IsReadFault, Leaves}
-use Rattle.jffs2_image.specs.Writes.{Held, IsMade, IsNotMade, IsPartUnread, IsUnreadFile}
+use Rattle.jffs2_image.specs.Host.{AreOf, AreRead, Blames, BlamesMaker, HaveBytes, IsCutShort, IsHandedBack, IsMadeUntil, IsMakeFault, IsReadFault, Leaves, RunsFiles}
+use Rattle.jffs2_image.specs.Writes.{GivesPart, Held, HoldsCut, HoldsPart, IsBehind, IsHanded, IsMade, IsNotMade, IsPartUnread, IsUnreadFile}
 
 -- ---- the file that is made
 
@@ -218,30 +220,127 @@ files_in_part told held page e size blocks base text lines parts m accepted plac
       subst (λ (at : ℕ). PutsPart old new (accepted_line at accepted places)) is put,
     )
 
+-- what was kept is a beginning
+behind_kept : (taken given : Option (List ℕ)) → Keeps taken given → IsBehind given taken
+behind_kept None given kept = tt
+behind_kept (Some xs) None kept = absurd kept
+behind_kept (Some xs) (Some ys) kept = (length xs, ap Some (kept ∙ sym (take_all (length xs) xs (omega arith))))
+
+-- a file that has all that was put out has a beginning of it
+made_in_part : (held : Held) (page : Page) (e : Endian) (size blocks : ℕ) (m : Mount) (ops : List Op) (accepted : ℕ) (places : List Place) (stopped : Option SessionFault)
+    → IsMade held page e size blocks m ops accepted places stopped → HoldsPart held page e size blocks m.image ops
+made_in_part held page e size blocks m ops accepted places stopped made = (
+  made.old,
+  made.given,
+  (
+    made.put.taken,
+    inr (accepted, places, stopped, made.before, made.now, made.put.emitted),
+    behind_kept made.put.taken made.given made.put.finished,
+  ),
+  made.handed,
+)
+
+cut_short : (told : List ℕ → Option (List ℕ)) (held : Held) (page : Page) (e : Endian) (size blocks : ℕ) (base text : List ℕ) (lines : List Line) (parts : Parts) (m : Mount)
+    → m.image ≡ base → AreRead told lines parts → lines_of text ≡ Ok lines → HoldsPart held page e size blocks m.image (ops_in (part_contents parts) lines)
+    → IsCutShort told held page e size blocks base text
+cut_short told held page e size blocks base text lines parts m same are read holds =
+    (lines, part_contents parts, read, have_bytes told lines parts are, subst (λ (image : List ℕ). HoldsPart held page e size blocks image (ops_in (part_contents parts) lines)) same holds)
+
 pub files_until : (told : List ℕ → Option (List ℕ)) (held : Held) (page : Page) (e : Endian) (size blocks : ℕ) (base text : List ℕ) (lines : List Line) (parts : Parts) (m : Mount) (accepted : ℕ) (places : List Place)
-    (old new : Option (List ℕ)) (f : SessionFault) (line : Option ℕ) → line ≡ option_map (λ l. l.number) (slice_get lines accepted) → AreRead told lines parts → lines_of text ≡ Ok lines
+    (old new : Option (List ℕ)) (f : SessionFault) (line : Option ℕ) → line ≡ option_map (λ l. l.number) (slice_get lines accepted) → m.image ≡ base → AreRead told lines parts → lines_of text ≡ Ok lines
     → Answers e size base (Ok m) → IsMade held page e size blocks m (ops_in (part_contents parts) lines) accepted places (Some f)
     → RunsFiles {T = Unit {0}} told held page e size blocks base text old new (Err (program.Session f line))
-files_until told held page e size blocks base text lines parts m accepted places old new f None is are read mounts made = tt
-files_until told held page e size blocks base text lines parts m accepted places old new f (Some n) is are read mounts made =
+files_until told held page e size blocks base text lines parts m accepted places old new session.Sink None is same are read mounts made =
+    cut_short told held page e size blocks base text lines parts m same are read (made_in_part held page e size blocks m (ops_in (part_contents parts) lines) accepted places (Some session.Sink) made)
+files_until told held page e size blocks base text lines parts m accepted places old new session.OutOfMemory None is same are read mounts made =
+    cut_short told held page e size blocks base text lines parts m same are read (made_in_part held page e size blocks m (ops_in (part_contents parts) lines) accepted places (Some session.OutOfMemory) made)
+files_until told held page e size blocks base text lines parts m accepted places old new session.ReadOnly None is same are read mounts made = tt
+files_until told held page e size blocks base text lines parts m accepted places old new session.Geometry None is same are read mounts made = tt
+files_until told held page e size blocks base text lines parts m accepted places old new (session.Refused f) None is same are read mounts made = tt
+files_until told held page e size blocks base text lines parts m accepted places old new (session.Full a b) None is same are read mounts made = tt
+files_until told held page e size blocks base text lines parts m accepted places old new session.Broken None is same are read mounts made = tt
+files_until told held page e size blocks base text lines parts m accepted places old new f (Some n) is same are read mounts made =
     (lines, accepted, places, record { mount = m; files = part_contents parts; read = read; mounts = mounts; made = made }, have_bytes told lines parts are, sym is)
 
 -- no fault of making is one of a line
-pub files_not_made : (told : List ℕ → Option (List ℕ)) (held : Held) (page : Page) (e : Endian) (size blocks : ℕ) (output base text : List ℕ) (m : Mount) (old new : Option (List ℕ)) (f : ProgramFault) (r : Result (Unit {0}) ProgramFault)
-    → IsErrAnd r (λ is. is ≡ f) → IsNotMade page e size blocks m output f → RunsFiles {T = Unit {0}} told held page e size blocks base text old new r
-files_not_made told held page e size blocks output base text m old new f (Ok x) fault not = absurd fault
-files_not_made told held page e size blocks output base text m old new f (Err g) fault not =
-    subst (λ (z : ProgramFault). RunsFiles {T = Unit {0}} told held page e size blocks base text old new (Err z)) (sym fault) (by f not)
+pub files_not_made : (told : List ℕ → Option (List ℕ)) (held : Held) (page : Page) (e : Endian) (size blocks : ℕ) (output base text : List ℕ) (lines : List Line) (parts : Parts) (m : Mount) (old new : Option (List ℕ)) (f : ProgramFault) (r : Result (Unit {0}) ProgramFault)
+    → IsErrAnd r (λ is. is ≡ f) → m.image ≡ base → AreRead told lines parts → lines_of text ≡ Ok lines → IsNotMade page e size blocks m output f
+    → HoldsCut held page e size blocks m.image (ops_in (part_contents parts) lines) f → RunsFiles {T = Unit {0}} told held page e size blocks base text old new r
+files_not_made told held page e size blocks output base text lines parts m old new f (Ok x) fault same are read not cut = absurd fault
+files_not_made told held page e size blocks output base text lines parts m old new f (Err g) fault same are read not cut =
+    subst (λ (z : ProgramFault). RunsFiles {T = Unit {0}} told held page e size blocks base text old new (Err z)) (sym fault) (by f not cut)
   where
-    by : (f : ProgramFault) → IsNotMade page e size blocks m output f → RunsFiles {T = Unit {0}} told held page e size blocks base text old new (Err f)
-    by (program.Load f) not = absurd not
-    by (program.Scan f) not = tt
-    by (program.Mount f) not = tt
-    by (program.File name) not = tt
-    by (program.Listing k) not = tt
-    by (program.Session f None) not = tt
-    by (program.Session f (Some k)) not = absurd not
-    by (program.Path f) not = tt
-    by program.NotRegular not = tt
-    by program.Output not = absurd not
-    by program.OutOfMemory not = tt
+    by : (f : ProgramFault) → IsNotMade page e size blocks m output f → HoldsCut held page e size blocks m.image (ops_in (part_contents parts) lines) f
+        → RunsFiles {T = Unit {0}} told held page e size blocks base text old new (Err f)
+    by (program.Load f) not cut = absurd not
+    by (program.Scan f) not cut = tt
+    by (program.Mount f) not cut = tt
+    by (program.File name) not cut = cut
+    by (program.Listing k) not cut = tt
+    by (program.Session session.Sink None) not cut = cut_short told held page e size blocks base text lines parts m same are read cut
+    by (program.Session session.OutOfMemory None) not cut = cut_short told held page e size blocks base text lines parts m same are read cut
+    by (program.Session session.ReadOnly None) not cut = tt
+    by (program.Session session.Geometry None) not cut = tt
+    by (program.Session (session.Refused f) None) not cut = tt
+    by (program.Session (session.Full a b) None) not cut = tt
+    by (program.Session session.Broken None) not cut = tt
+    by (program.Session f (Some k)) not cut = absurd not
+    by (program.Path f) not cut = tt
+    by program.NotRegular not cut = tt
+    by program.Output not cut = absurd not
+    by program.OutOfMemory not cut = inr cut
+
+-- ---- what an output gave on
+
+-- an output with a buffer behind it
+pub behind_buffer : (known : Option (List ℕ)) (kept : List ℕ) → IsBehind known (append_known known kept)
+behind_buffer None kept = tt
+behind_buffer (Some xs) kept = (length xs, ap Some (sym (take_at xs kept (length xs) refl)))
+
+part_all : (old new : Option (List ℕ)) (bytes : List ℕ) → Appends old new bytes → PutsPart old new bytes
+part_all old new bytes put = (length bytes, subst (Appends old new) (sym (take_all (length bytes) bytes (omega arith))) put)
+
+same_behind : (given mid taken : Option (List ℕ)) → Keeps mid taken → IsBehind given taken → IsBehind given mid
+same_behind given None taken kept part = tt
+same_behind given (Some xs) None kept part = absurd kept
+same_behind given (Some xs) (Some ys) kept part = (part.0, part.1 ∙ ap (λ (l : List ℕ). Some (take part.0 l)) kept)
+
+-- where operations were run
+pub part_of_run : (page : Page) (e : Endian) (size blocks : ℕ) (base : List ℕ) (ops : List Op) (accepted : ℕ) (places : List Place) (stopped : Option SessionFault) (old mid taken given : Option (List ℕ)) (before now : ℕ)
+    → IsEmitted page e size blocks base ops accepted places stopped old mid before now → Keeps mid taken → IsBehind given taken → GivesPart page e size blocks base ops old given
+part_of_run page e size blocks base ops accepted places stopped old mid taken given before now emitted kept part =
+    (mid, inr (accepted, places, stopped, before, now, emitted), same_behind given mid taken kept part)
+
+-- and where none was
+pub part_of_front : (page : Page) (e : Endian) (size blocks : ℕ) (m : Mount) (ops : List Op) (old mid taken given : Option (List ℕ)) (before now : ℕ) (f : SessionFault)
+    → IsNotEmitted page e size blocks m old before f (Some (mid, now)) → Keeps mid taken → IsBehind given taken → GivesPart page e size blocks m.image ops old given
+part_of_front page e size blocks m ops old mid taken given before now session.Sink not kept part = (mid, inl not.1, same_behind given mid taken kept part)
+part_of_front page e size blocks m ops old mid taken given before now session.OutOfMemory not kept part =
+    (mid, inl (part_all old mid (front_before e size blocks m.image) not.1), same_behind given mid taken kept part)
+part_of_front page e size blocks m ops old mid taken given before now session.ReadOnly not kept part = absurd not
+part_of_front page e size blocks m ops old mid taken given before now session.Geometry not kept part = absurd not
+part_of_front page e size blocks m ops old mid taken given before now (session.Refused f) not kept part = absurd not
+part_of_front page e size blocks m ops old mid taken given before now (session.Full a b) not kept part = absurd not
+part_of_front page e size blocks m ops old mid taken given before now session.Broken not kept part = absurd not
+
+-- it is what the file holds
+pub cut_part : (held : Held) (page : Page) (e : Endian) (size blocks : ℕ) (base : List ℕ) (ops : List Op) (old given : Option (List ℕ)) (f : SessionFault)
+    → GivesPart page e size blocks base ops old given → IsHanded held old given → HoldsCut held page e size blocks base ops (program.Session f None)
+cut_part held page e size blocks base ops old given session.Sink part handed = (old, given, part, handed)
+cut_part held page e size blocks base ops old given session.OutOfMemory part handed = (old, given, part, handed)
+cut_part held page e size blocks base ops old given session.ReadOnly part handed = tt
+cut_part held page e size blocks base ops old given session.Geometry part handed = tt
+cut_part held page e size blocks base ops old given (session.Refused f) part handed = tt
+cut_part held page e size blocks base ops old given (session.Full a b) part handed = tt
+cut_part held page e size blocks base ops old given session.Broken part handed = tt
+
+-- it is handed back
+pub cut_gone : (held : Held) (page : Page) (e : Endian) (size blocks : ℕ) (base : List ℕ) (ops : List Op) (before : ℕ) (f : SessionFault)
+    → IsHandedBack before f None → HoldsCut held page e size blocks base ops (program.Session f None)
+cut_gone held page e size blocks base ops before session.Sink back = absurd back
+cut_gone held page e size blocks base ops before session.OutOfMemory back = absurd back
+cut_gone held page e size blocks base ops before session.ReadOnly back = tt
+cut_gone held page e size blocks base ops before session.Geometry back = tt
+cut_gone held page e size blocks base ops before (session.Refused f) back = tt
+cut_gone held page e size blocks base ops before (session.Full a b) back = tt
+cut_gone held page e size blocks base ops before session.Broken back = tt

@@ -21,7 +21,7 @@ use Rattle.jcommand.specs.declared.parsed.Request.{Request}
 use Rattle.jcommand.specs.declared.command_line.RequestFault.{RequestFault}
 use Rattle.jreport.specs.declared.faults.ProgramFault.{ProgramFault}
 use Rattle.jreport.specs.declared.faults.ProgramFault.TheVariants as program
-use Rattle.jffs2_image.specs.Writes.{Held, IsNamedByLine, IsPartUnread, IsRunOn, IsTooLong}
+use Rattle.jffs2_image.specs.Writes.{Held, HoldsNothing, HoldsPart, IsNamedByLine, IsPartUnread, IsRunOn, IsTooLong}
 use Rattle.jffs2_image.specs.declared.host.FileFault.{FileFault}
 use Rattle.jffs2_image.specs.declared.host.FileFault.TheVariants as file
 use Rattle.jffs2_image.specs.declared.host.MakeFault.{MakeFault}
@@ -62,8 +62,16 @@ AreRead told lines parts = (name : List ℕ) → IsNamedByLine lines name → Is
 abbrev pub HaveBytes : (List ℕ → Option (List ℕ)) → List Line → (List ℕ → List ℕ) → Type 0
 HaveBytes told lines files = (name : List ℕ) → IsNamedByLine lines name → AreOf (told name) (files name)
 
+-- The file that was made has a beginning of what goes out for the base and the operations of all lines, with the bytes of the
+-- host's files.
+abbrev pub IsCutShort : (List ℕ → Option (List ℕ)) → Held → Page → Endian → ℕ → ℕ → List ℕ → List ℕ → Type 0
+IsCutShort told held page e size blocks base text =
+    (lines : List Line) × (files : List ℕ → List ℕ) × (lines_of text ≡ Ok lines) × HaveBytes told lines files
+    × HoldsPart held page e size blocks base (ops_in files lines)
+
 -- The operations that were run have the bytes of the host's files: those of all lines, told in a line that has the length of
--- what went out for them, or in a beginning of it; or those up to the one that stopped them.
+-- what went out for them, or in a beginning of it; or those up to the one that stopped them. Where no line tells of them, because
+-- the file failed or memory ran out, a beginning of what goes out for them is in the file that was made; or it is empty, or there is none.
 abbrev pub RunsFiles : {T : Type 0} → (List ℕ → Option (List ℕ)) → Held → Page → Endian → ℕ → ℕ → List ℕ → List ℕ → Option (List ℕ) → Option (List ℕ) → Result T ProgramFault → Type 0
 RunsFiles told held page e size blocks base text old new (Ok _) =
     (lines : List Line) × (accepted : ℕ) × (places : List Place) × (run : IsRunOn held page e size blocks base text lines accepted places None)
@@ -77,6 +85,10 @@ RunsFiles told held page e size blocks base text old new (Err (program.Session f
     × HaveBytes told lines run.files × (option_map (λ l. l.number) (slice_get lines accepted) ≡ Some number)
 RunsFiles told held page e size blocks base text old new (Err (program.Load load.TooLarge)) =
     (lines : List Line) × (lines_of text ≡ Ok lines) × IsPartUnread told lines (program.Load load.TooLarge)
+RunsFiles told held page e size blocks base text old new (Err (program.Session session.Sink None)) = IsCutShort told held page e size blocks base text
+RunsFiles told held page e size blocks base text old new (Err (program.Session session.OutOfMemory None)) = IsCutShort told held page e size blocks base text
+RunsFiles told held page e size blocks base text old new (Err program.OutOfMemory) = (held.1 ≡ held.0) ⊎ HoldsNothing held
+RunsFiles told held page e size blocks base text old new (Err (program.File name)) = held.1 ≡ held.0
 RunsFiles told held page e size blocks base text old new (Err _) = Unit {0}
 
 -- ---- the file that is made
@@ -91,6 +103,12 @@ MakesBy name old new (Ok made) = MakesFile name old new
 MakesBy name old new (Err make.OutOfMemory) = MakesFile name old new
 MakesBy name old new (Err make.NotMade) = new ≡ old
 
+-- what files hold then: where there is no memory to write the one that was made, nothing was given to it
+abbrev pub HoldsBy : {T : Type 0} → Option (List (List ℕ)) → Option (List (List ℕ)) → Result T MakeFault → Type 0
+HoldsBy old new (Ok made) = new ≡ old
+HoldsBy old new (Err make.NotMade) = new ≡ old
+HoldsBy old new (Err make.OutOfMemory) = HoldsNothing (old, new)
+
 -- what a fault of making leaves: a file that was made, or none where it can't be opened
 abbrev pub Leaves : Type 0 → Type 0 → ProgramFault → Type 0
 Leaves makes same (program.File name) = same
@@ -102,10 +120,11 @@ Leaves makes same _ = makes
 abbrev pub HasFailed : ℕ → ℕ → Type 0
 HasFailed before now = (now ≡ next_count before) ⊎ (now ≡ next_count (next_count before))
 
--- the output failed, and is handed back with a count that rose; at any other fault it may be gone
+-- the output failed, and is handed back with a count that rose; also where memory ran out it is; at any other fault it may be gone
 abbrev pub IsHandedBack : ℕ → SessionFault → Option ℕ → Type 0
 IsHandedBack before session.Sink None = ⊥
 IsHandedBack before session.Sink (Some now) = HasFailed before now
+IsHandedBack before session.OutOfMemory None = ⊥
 IsHandedBack before _ back = Unit {0}
 
 -- why a run on a file that was made stopped: the file failed, or it did not

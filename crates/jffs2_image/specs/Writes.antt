@@ -1,5 +1,5 @@
 -- What a command that writes an image does.
-use Rattle.std.specs.Prelude.{◌≡◌, ◌⊎◌, ◌<◌, ◌++◌, ℕ, List, [], ◌∷◌, Any, IfSome, length, slice_get, option_map, Option, Some, None, Result, Ok, Err, IsOk}
+use Rattle.std.specs.Prelude.{◌≡◌, ◌⊎◌, ◌<◌, ◌++◌, ℕ, List, [], ◌∷◌, Any, IfSome, length, take, slice_get, option_map, Option, Some, None, Result, Ok, Err, IsOk}
 use Rattle.std.specs.Io.KnownBytes.{Appends, Keeps}
 use Rattle.flashbase.specs.Device.{PutsPart, next_count}
 use Rattle.flashbase.specs.declared.source.LoadFault.TheVariants as load
@@ -17,7 +17,7 @@ use Rattle.jlog.specs.declared.fault.SessionFault.{SessionFault}
 use Rattle.jlog.specs.declared.fault.SessionFault.TheVariants as session
 use Rattle.jlog.specs.declared.report.Place.{Place}
 use Rattle.jbuild.specs.Accepted.{accepted_line}
-use Rattle.jbuild.specs.Emitting.{IsEmitted}
+use Rattle.jbuild.specs.Emitting.{IsEmitted, front_before}
 use Rattle.jbuild.specs.Operations.{ops_in}
 use Rattle.jreport.specs.declared.faults.ProgramFault.{ProgramFault}
 use Rattle.jreport.specs.declared.faults.ProgramFault.TheVariants as program
@@ -57,7 +57,7 @@ pub record IsPut (page : Page) (e : Endian) (size blocks : ℕ) (m : Mount) (ops
   pub emitted : IsEmitted page e size blocks m.image ops accepted places stopped old taken before now
   pub finished : Keeps taken given
 
--- What was given to the files that were made and handed back, in order, where the host tells it: before and after.
+-- What was given to the files that were made and are lent out no more, in order, where the host tells it: before and after.
 abbrev pub Held : Type 0
 Held = Option (List (List ℕ)) × Option (List (List ℕ))
 
@@ -73,6 +73,40 @@ pub record IsMade (held : Held) (page : Page) (e : Endian) (size blocks : ℕ) (
   pub now : ℕ
   pub put : IsPut page e size blocks m ops accepted places stopped old given before now
   pub handed : IsHanded held old given
+
+-- ---- a file of which no line tells
+
+-- what an output gave on is a beginning of what it took
+abbrev pub IsBehind : Option (List ℕ) → Option (List ℕ) → Type 0
+IsBehind given taken = IfSome taken (λ bytes. (n : ℕ) × (given ≡ Some (take n bytes)))
+
+-- A beginning of the base's bytes up to where writing goes on was put out, or all of them, and then operations were run.
+abbrev pub IsPutInPart : Page → Endian → ℕ → ℕ → List ℕ → List Op → Option (List ℕ) → Option (List ℕ) → Type 0
+IsPutInPart page e size blocks base ops old taken =
+    PutsPart old taken (front_before e size blocks base)
+    ⊎ ((accepted : ℕ) × (places : List Place) × (stopped : Option SessionFault) × (before : ℕ) × (now : ℕ)
+    × IsEmitted page e size blocks base ops accepted places stopped old taken before now)
+
+-- of that a beginning was given on
+abbrev pub GivesPart : Page → Endian → ℕ → ℕ → List ℕ → List Op → Option (List ℕ) → Option (List ℕ) → Type 0
+GivesPart page e size blocks base ops old given = (taken : Option (List ℕ)) × IsPutInPart page e size blocks base ops old taken × IsBehind given taken
+
+-- to a file, to which nothing else was given
+abbrev pub HoldsPart : Held → Page → Endian → ℕ → ℕ → List ℕ → List Op → Type 0
+HoldsPart held page e size blocks base ops = (old : Option (List ℕ)) × (given : Option (List ℕ)) × GivesPart page e size blocks base ops old given × IsHanded held old given
+
+-- a file was made, and nothing was given to it
+abbrev pub HoldsNothing : Held → Type 0
+HoldsNothing held = IsHanded held (Some []) (Some [])
+
+-- What is held by the file that was made where no run is told, by the fault: a beginning of what goes out for the base and the
+-- operations, or nothing; or there is no file.
+abbrev pub HoldsCut : Held → Page → Endian → ℕ → ℕ → List ℕ → List Op → ProgramFault → Type 0
+HoldsCut held page e size blocks base ops (program.Session session.Sink line) = HoldsPart held page e size blocks base ops
+HoldsCut held page e size blocks base ops (program.Session session.OutOfMemory line) = HoldsPart held page e size blocks base ops
+HoldsCut held page e size blocks base ops program.OutOfMemory = HoldsNothing held
+HoldsCut held page e size blocks base ops (program.File name) = held.1 ≡ held.0
+HoldsCut held page e size blocks base ops _ = Unit {0}
 
 -- The lines of the listing were run on a base, with some bytes for the files that they name: so many were accepted, their
 -- nodes have these places, and this stopped them. What they did survives a stop of writing at any byte.

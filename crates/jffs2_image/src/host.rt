@@ -1,7 +1,7 @@
 //! Files of the host: those that are read whole, and the one that is made.
 ghost use Rattle.std.specs.Prelude.{◌≡◌, ◌<◌, ◌++◌, ℕ, List, [], ◌∷◌, Option, IfOk, IfSome, None, Some, Err, length};
 ghost use Rattle.flashbase.specs.Device.{CountsErr, next_count};
-ghost use Rattle.jffs2_image.specs.Host.{AreOf, CountsFile, GivesFile, MakesBy};
+ghost use Rattle.jffs2_image.specs.Host.{AreOf, CountsFile, GivesFile, HoldsBy, MakesBy};
 
 use crate::output::{BufferedOutput, Output};
 use flashbase::{DeviceFault, FromReader, LoadFault, Source, load};
@@ -65,7 +65,7 @@ pub trait Maker {
     /// The names of the files that it made, in order, where they are told.
     ghost names: { Self → Option (List (List ℕ)) };
 
-    /// What was given to each file that was handed back, in order, where it is told.
+    /// What was given to each file that it made and that is lent out no more, in order, where it is told.
     ghost held: { Self → Option (List (List ℕ)) };
 
     /// Makes the file of a name, empty, also in place of one that is there. It goes on with the count of failures.
@@ -74,7 +74,7 @@ pub trait Maker {
         ensures not_made { result ≡ Err MakeFault.NotMade → failures self.new ≡ next_count (failures self.old) }
         ensures names { MakesBy name.now (names self.old) (names self.new) result }
         ensures empty { IfOk result (λ made. IfSome (held self.old) (λ _. Self.Made.taken made ≡ Some [])) }
-        ensures held { held self.new ≡ held self.old };
+        ensures held { HoldsBy (held self.old) (held self.new) result };
 
     /// Takes back a file that was made, with its count of failures.
     fn take_back(&mut self, made: Self::Made)

@@ -4,6 +4,7 @@ ghost use Rattle.std.specs.Io.KnownBytes.{Keeps};
 ghost use Rattle.std.specs.IoError.{error_kind};
 ghost use Rattle.std.specs.Io.Buffered.{writer_contents, writer_inner};
 ghost use Rattle.flashbase.specs.Device.{CountsErr};
+ghost use Rattle.jffs2_image.specs.Writes.{IsBehind};
 
 use flashbase::{DeviceFault, Sink, write_once};
 use std::alloc::Global;
@@ -18,9 +19,11 @@ pub trait Output: Sink {
     /// The bytes that it gave on, where they are told.
     ghost given: { Self → Option (List ℕ) };
 
-    /// Gives on all that it took. A failure counts as one of the sink.
+    /// Gives on all that it took, or a beginning of it. A failure counts as one of the sink.
     fn finish(&mut self) -> Result<(), DeviceFault>
         ensures given { OnOk result (Keeps (Self.taken self.old) (given self.new)) }
+        ensures part { IsBehind (given self.new) (Self.taken self.new) }
+        ensures taken { Keeps (Self.taken self.old) (Self.taken self.new) }
         ensures count { CountsErr (Self.failures self.old) (Self.failures self.new) result };
 }
 

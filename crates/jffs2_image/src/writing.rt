@@ -1,10 +1,10 @@
 //! Writing an image to a file of the host: a listing's operations on a base.
-ghost use Rattle.std.specs.Prelude.{◌≡◌, ℕ, List, Option, Ok, IfOk, IfErr, OnOk, map, option_map, slice_get};
+ghost use Rattle.std.specs.Prelude.{◌≡◌, ℕ, List, Option, Ok, IfOk, IfErr, IfSome, OnOk, map, option_map, slice_get};
 ghost use Rattle.jmount.specs.Mounts.{IsMountOf};
 ghost use Rattle.jlisting.specs.Listing.{lines_of};
 ghost use Rattle.jlog.specs.Resuming.{resumes_by};
 ghost use Rattle.jffs2_image.specs.Host.{AreOf, AreRead, Blames, BlamesMaker, IsHandedBack, IsMadeUntil, IsMakeFault, IsReadFault, Leaves, MakesFile, RunsFiles};
-ghost use Rattle.jffs2_image.specs.Writes.{IsMade, IsNotGoneOn, IsNotMade, IsPartUnread, IsPut, IsUnreadFile, WritesImage};
+ghost use Rattle.jffs2_image.specs.Writes.{GivesPart, HoldsCut, IsMade, IsNotGoneOn, IsNotMade, IsPartUnread, IsPut, IsUnreadFile, WritesImage};
 
 use crate::host::{FileFault, Loader, MakeFault, Maker};
 use crate::output::Output;
@@ -96,6 +96,8 @@ fn put_image<E: Order, S: Output>(
     ensures put { IfOk result (λ done. IsPut target.entry.page E.order target.entry.options.geometry.block target.entry.blocks mounted.now ops.now done.1.accepted done.1.places.items done.1.stopped
         (S.taken output) (S.given done.0) (S.failures output) (S.failures done.0)) }
     ensures fault { IfErr result (λ refused. IsNotGoneOn target.entry.page E.order target.entry.options.geometry.block target.entry.blocks mounted.now refused.0) }
+    ensures part { IfErr result (λ refused. IfSome refused.1
+        (λ back. GivesPart target.entry.page E.order target.entry.options.geometry.block target.entry.blocks mounted.now.image ops.now (S.taken output) (S.given back))) }
     ensures back { IfErr result (λ refused. IsHandedBack (S.failures output) refused.0 (option_map (λ back. S.failures back) refused.1)) }
 {
     match emit::<E, S>(
@@ -131,6 +133,7 @@ fn make_image<'a, E: Order, M: Maker>(
     requires { IsMountOf E.order target.options.geometry.block mounted.now }
     ensures made { IfOk result (λ report. IsMade (M.held maker.old, M.held maker.new) target.entry.page E.order target.entry.options.geometry.block target.entry.blocks mounted.now ops.now report.accepted report.places.items report.stopped) }
     ensures fault { IfErr result (λ fault. IsNotMade target.entry.page E.order target.entry.options.geometry.block target.entry.blocks mounted.now target.entry.output.now fault) }
+    ensures cut { IfErr result (λ fault. HoldsCut (M.held maker.old, M.held maker.new) target.entry.page E.order target.entry.options.geometry.block target.entry.blocks mounted.now.image ops.now fault) }
     ensures stopped { IfOk result (λ report. IsMadeUntil (M.failures maker.old) (M.failures maker.new) report.stopped) }
     ensures failed { IfErr result (λ fault. IsMakeFault (M.failures maker.old) (M.failures maker.new) fault) }
     ensures file { OnOk result (MakesFile target.entry.output.now (M.names maker.old) (M.names maker.new)) }

@@ -1,10 +1,11 @@
 -- The report of a source while it goes out block by block.
-use Rattle.std.proofs.Common.{◌≡◌, ◌≢◌, ℕ, ◌+◌, ◌-◌, ◌*◌, ◌/◌, ◌<◌, ◌≤◌, min, List, [], ◌++◌, length, drop, Option, None, Some, IfSome, IfNone, ⊎_elim, true, false, refl, sym, ap, subst, ◌∙◌, arith, length-drop}
+use Rattle.std.proofs.Common.{◌≡◌, ◌≢◌, ℕ, ◌+◌, ◌-◌, ◌*◌, ◌/◌, ◌<◌, ◌≤◌, min, List, [], ◌++◌, length, drop, take, Option, None, Some, IfSome, IfNone, ⊎_elim, refl, sym, ap, subst, ◌∙◌, arith, append_assoc, append-nil, length-drop}
 use Rattle.std.specs.Prelude.{Result, Ok, Err, IsErrAnd, IsErrOf}
-use Rattle.std.specs.Io.KnownBytes.{Appends}
+use Rattle.std.specs.Io.KnownBytes.{Appends, IsAtEnd, Keeps}
 use Rattle.std.proofs.KnownBytes.{Appends-trans, Appends-nil}
 use Rattle.std.proofs.lemmas.Bool.{cases_lt}
 use Rattle.std.proofs.lemmas.Grind.{div_ceil_times}
+use Rattle.std.proofs.lemmas.List.{drop-drop}
 use Rattle.std.proofs.lemmas.Nat.{div_below, le-div}
 use Rattle.std.proofs.Math.Nat.{mul-le-mul_right}
 use Rattle.flashbase.specs.Device.{PutsPart, next_count}
@@ -13,21 +14,21 @@ use Rattle.flashbase.specs.declared.source.Source.{Ghosts as OfSource}
 use Rattle.flashbase.proofs.DeviceLemmas.{part_before, part_behind}
 use Rattle.jnode.specs.declared.order.Endian.{Endian}
 use Rattle.jscan.specs.Counts.{counts_of, block_counted, no_counts}
-use Rattle.jscan.specs.Filling.{Breaks, StopsWithin}
-use Rattle.jscan.specs.Image.{block_count, greatest_image, is_block_size}
-use Rattle.jscan.specs.Stream.{IsNextBlock, GivesBlock, GivesNone, GivesFault, size_of, start_of, source_of, rest_of, failures_of, fault_of, has_ended}
+use Rattle.jscan.specs.Filling.{Breaks, StopsPast, StopsWithin}
+use Rattle.jscan.specs.Image.{block_count, greatest_image}
+use Rattle.jscan.specs.Stream.{IsAtStart, IsNextBlock, GivesBlock, GivesNone, GivesFault, size_of, source_of, rest_of, failures_of}
 use Rattle.jscan.specs.Extents.{extents}
 use Rattle.jscan.specs.declared.counts.Counts.{Counts}
 use Rattle.jscan.specs.declared.stream.BlockReader.{BlockReader}
 use Rattle.jscan.specs.declared.stream.StreamFault.{StreamFault}
 use Rattle.jscan.specs.declared.stream.StreamFault.TheVariants as stream
 use Rattle.jscan.specs.declared.geometry.ScanFault.TheVariants as scan
-use Rattle.jscan.proofs.StreamCounts.{Scanning, IsCounted, scanning_next, scanning_end, readable_some}
-use Rattle.jscan.proofs.StreamLemmas.{IsAtBlock, IsWhole, block_here}
+use Rattle.jscan.proofs.StreamCounts.{Scanning, IsCounted, breaks_here, scanning_start, scanning_next, scanning_end, readable_some}
+use Rattle.jscan.proofs.StreamLemmas.{IsAtBlock, IsWhole, at_next, block_here}
 use Rattle.jreport.specs.Faults.{fault_of_stream}
 use Rattle.jreport.specs.WholeImage.{OfSomeImage}
 use Rattle.jreport.specs.Report.{scan_text, lines_of_block, lines_below, block_lines, totals_line}
-use Rattle.jreport.specs.Stream.{BreaksOff, HandsBack, PutsStream}
+use Rattle.jreport.specs.Stream.{BreaksOff, HandsBack, PutsStream, ReadsTo, StopsBehind}
 use Rattle.jreport.specs.declared.faults.ProgramFault.{ProgramFault}
 use Rattle.jreport.specs.declared.faults.ProgramFault.TheVariants as program
 use Rattle.jreport.proofs.BlockLemmas.{lines_below_more, lines_begin, one_more}
@@ -94,6 +95,25 @@ at_limit size start n image rest some here at past =
     let below : greatest_image < (n + 1) * size = omega (arith, left, here, one_more n size) in
     omega (arith, le-div n greatest_image size some upto, div_below greatest_image size (n + 1) some below)
 
+-- known bytes are still there
+still_some : (a b : Option (List ℕ)) (bytes : List ℕ) → Keeps a b → a ≡ Some bytes → b ≡ Some bytes
+still_some None b bytes kept is = cc
+still_some (Some xs) None bytes kept is = absurd kept
+still_some (Some xs) (Some ys) bytes kept is = ap Some kept ∙ is
+
+-- the lines of fewer blocks come first
+lines_upto : (e : Endian) (size : ℕ) (image : List ℕ) (n m : ℕ) → n ≤ m
+    → (rest : List ℕ) × (lines_below e size image m ≡ lines_below e size image n ++ rest)
+lines_upto e size image n m upto = ⊎_elim
+    (λ fewer.
+    let (rest, is) = lines_begin e size image n m fewer in (
+      block_lines e size image n ++ rest,
+      is ∙ append_assoc (lines_below e size image n) (block_lines e size image n) rest,
+    ))
+    (λ from.
+    let same : m ≡ n = omega (arith, upto, from) in ([], ap (λ (k : ℕ). lines_below e size image k) same ∙ sym (append-nil (lines_below e size image n))))
+    (cases_lt n m)
+
 -- ---- block after block
 
 module _ {S : Type 0} {o : OfSource S} where
@@ -104,21 +124,9 @@ module _ {S : Type 0} {o : OfSource S} where
       (subst (λ (s : ℕ). IsNextBlock (size_of old) s (rest_of old) (rest_of new) block) before.here gives.bytes)
 
   pub streaming_start : (e : Endian) (source : S) (size : ℕ) (counts : Counts) (reader : BlockReader S o) (a : Option (List ℕ)) (n : ℕ)
-      → counts ≡ no_counts → size_of reader ≡ size → start_of reader ≡ 0 → source_of reader ≡ source → fault_of reader ≡ None → is_block_size size ≡ true
-      → Streaming e source size 0 counts reader a a n n
-  streaming_start e source size counts reader a n none sized begins is well readable = record {
-    scanning = record {
-      blocks_of = sized;
-      readable = readable;
-      here = begins;
-      blocks = omega (arith, ap (λ (k : ℕ). k * size) no_blocks);
-      entries = omega (arith, ap (λ (c : Counts). c.entries) none);
-      inodes = omega (arith, ap (λ (c : Counts). c.inodes) none);
-      findings = omega (arith, ap (λ (c : Counts). c.findings) none);
-      well = well;
-      none_failed = ap o.failures is;
-      known = known (o.rest source) (ap o.rest is);
-    };
+      → counts ≡ no_counts → IsAtStart size reader → source_of reader ≡ source → Streaming e source size 0 counts reader a a n n
+  streaming_start e source size counts reader a n none begins is = record {
+    scanning = scanning_start e source size counts reader none begins is;
     put = gone (o.rest source);
     untold = empty (o.rest source);
     none_failed = refl;
@@ -127,25 +135,20 @@ module _ {S : Type 0} {o : OfSource S} where
       no_blocks : counts.blocks ≡ 0
       no_blocks = ap (λ (c : Counts). c.blocks) none
 
-      counted : (image : List ℕ) → counts ≡ counts_of e size image counts.blocks
-      counted image = none ∙ ap (counts_of e size image) (sym no_blocks)
-
       nothing : (image : List ℕ) → Gone e size counts.blocks a a image
       nothing image = subst (λ (k : ℕ). Appends a a (lines_below e size image k)) (sym no_blocks) (Appends-nil a)
-
-      known : (known_bytes : Option (List ℕ)) → rest_of reader ≡ known_bytes → IfSome known_bytes (λ image. IsCounted e size 0 counts image (rest_of reader))
-      known None left = tt
-      known (Some image) left = record {
-        place = record { left = left; fits = omega arith; tight = omega (arith, readable_some size readable) };
-        so_far = counted image;
-      }
 
       gone : (known_bytes : Option (List ℕ)) → IfSome known_bytes (Gone e size counts.blocks a a)
       gone None = tt
       gone (Some image) = nothing image
 
       empty : (known_bytes : Option (List ℕ)) → IfNone known_bytes (Untold e size counts a a)
-      empty None = record { image = []; whole = omega (arith, ap (λ (k : ℕ). k * size) no_blocks); counted = counted []; gone = nothing [] }
+      empty None = record {
+        image = [];
+        whole = omega (arith, ap (λ (k : ℕ). k * size) no_blocks);
+        counted = none ∙ ap (counts_of e size []) (sym no_blocks);
+        gone = nothing [];
+      }
       empty (Some image) = tt
 
   pub streaming_next : (e : Endian) (source : S) (size start : ℕ) (counts now : Counts) (old new : BlockReader S o) (block : List ℕ)
@@ -238,16 +241,9 @@ module _ {S : Type 0} {o : OfSource S} where
       → IfSome (o.rest source) (Gone e size (greatest_image / size) a b)
   gone_to_limit e source size start counts old new fault a b n m before gives is = known (o.rest source) before.scanning.known before.put
     where
-      first : (has_ended old ≡ false) × Breaks (rest_of old) (failures_of old) (failures_of new) (size_of old) (greatest_image - start_of old) fault
-      first = subst (λ (f : Option StreamFault). IfNone f ((has_ended old ≡ false)
-          × Breaks (rest_of old) (failures_of old) (failures_of new) (size_of old) (greatest_image - start_of old) fault)) before.scanning.well gives.first
-
-      breaks : Breaks (rest_of old) (failures_of old) (failures_of new) (size_of old) (greatest_image - start_of old) stream.TooLarge
-      breaks = subst (Breaks (rest_of old) (failures_of old) (failures_of new) (size_of old) (greatest_image - start_of old)) is first.1
-
       past : IfSome (rest_of old) (λ bytes. greatest_image - start < min size (length bytes))
-      past = subst (λ (k : ℕ). IfSome (rest_of old) (λ bytes. greatest_image - start < min k (length bytes))) before.scanning.blocks_of
-          (subst (λ (k : ℕ). IfSome (rest_of old) (λ bytes. greatest_image - k < min (size_of old) (length bytes))) before.scanning.here breaks.0)
+      past = (subst (Breaks (rest_of old) (failures_of old) (failures_of new) size (greatest_image - start)) is
+          (breaks_here e source size start counts old new fault before.scanning gives)).0
 
       known : (known_bytes : Option (List ℕ)) → IfSome known_bytes (λ image. IsCounted e size start counts image (rest_of old)) → IfSome known_bytes (Gone e size counts.blocks a b)
           → IfSome known_bytes (Gone e size (greatest_image / size) a b)
@@ -358,11 +354,7 @@ module _ {S : Type 0} {o : OfSource S} where
   source_failed e source size start counts old new fault a b before mid (Err x) is so_far gives =
       known (o.rest source) so_far.untold (gone_before e source size start counts old a b before mid so_far)
     where
-      first : (has_ended old ≡ false) × Breaks (rest_of old) (failures_of old) (failures_of new) (size_of old) (greatest_image - start_of old) fault
-      first = subst (λ (f : Option StreamFault). IfNone f ((has_ended old ≡ false)
-          × Breaks (rest_of old) (failures_of old) (failures_of new) (size_of old) (greatest_image - start_of old) fault)) so_far.scanning.well gives.first
-
-      by : (image : List ℕ) (f : StreamFault) → Breaks (rest_of old) (failures_of old) (failures_of new) (size_of old) (greatest_image - start_of old) f
+      by : (image : List ℕ) (f : StreamFault) → Breaks (rest_of old) (failures_of old) (failures_of new) size (greatest_image - start) f
           → (k : ℕ) × (k ≤ block_count size image) × Gone e size k a b image → PutsStream e size image a b before mid (Err (fault_of_stream f))
       by image stream.Device breaks gone = (gone.0, gone.1, gone.2, so_far.none_failed)
       by image stream.TooLarge breaks gone = (gone.0, gone.1, gone.2, so_far.none_failed)
@@ -370,7 +362,7 @@ module _ {S : Type 0} {o : OfSource S} where
       by image stream.OutOfMemory breaks gone = absurd breaks
 
       put : (image : List ℕ) → (k : ℕ) × (k ≤ block_count size image) × Gone e size k a b image → PutsStream e size image a b before mid (Err x)
-      put image gone = subst (λ (y : ProgramFault). PutsStream e size image a b before mid (Err y)) (sym is) (by image fault first.1 gone)
+      put image gone = subst (λ (y : ProgramFault). PutsStream e size image a b before mid (Err y)) (sym is) (by image fault (breaks_here e source size start counts old new fault so_far.scanning gives) gone)
 
       known : (known_bytes : Option (List ℕ)) → IfNone known_bytes (Untold e size counts a b) → IfSome known_bytes (λ image. (k : ℕ) × (k ≤ block_count size image) × Gone e size k a b image)
           → OfSomeImage known_bytes (λ image. PutsStream e size image a b before mid (Err x))
@@ -386,18 +378,118 @@ module _ {S : Type 0} {o : OfSource S} where
       → Streaming e source size start counts old a b before mid → GivesFault old new fault → HandsBack (o.failures source) (Some (failures_of new)) r
   source_blamed e source size start counts old new fault a b before mid (Ok x) is so_far gives = absurd is
   source_blamed e source size start counts old new fault a b before mid (Err x) is so_far gives =
-      subst (λ (y : ProgramFault). HandsBack (o.failures source) (Some (failures_of new)) (Err y)) (sym is) (by fault first.1)
+      subst (λ (y : ProgramFault). HandsBack (o.failures source) (Some (failures_of new)) (Err y)) (sym is) (by fault (breaks_here e source size start counts old new fault so_far.scanning gives))
     where
-      first : (has_ended old ≡ false) × Breaks (rest_of old) (failures_of old) (failures_of new) (size_of old) (greatest_image - start_of old) fault
-      first = subst (λ (f : Option StreamFault). IfNone f ((has_ended old ≡ false)
-          × Breaks (rest_of old) (failures_of old) (failures_of new) (size_of old) (greatest_image - start_of old) fault)) so_far.scanning.well gives.first
-
-      by : (f : StreamFault) → Breaks (rest_of old) (failures_of old) (failures_of new) (size_of old) (greatest_image - start_of old) f
+      by : (f : StreamFault) → Breaks (rest_of old) (failures_of old) (failures_of new) size (greatest_image - start) f
           → HandsBack (o.failures source) (Some (failures_of new)) (Err (fault_of_stream f))
       by stream.Device breaks = breaks ∙ ap next_count so_far.scanning.none_failed
       by stream.TooLarge breaks = breaks.1 ∙ so_far.scanning.none_failed
       by stream.BlockSize breaks = absurd breaks
       by stream.OutOfMemory breaks = absurd breaks
+
+-- ---- how far the source is read
+
+-- to its end
+pub read_whole : {S : Type 0} {o : OfSource S} (source : S) (old new : BlockReader S o) → GivesNone old new → IfSome (o.rest source) (λ image. IsAtEnd (rest_of new))
+read_whole {S} {o} source old new gives = known (o.rest source)
+  where
+    known : (known_bytes : Option (List ℕ)) → IfSome known_bytes (λ image. IsAtEnd (rest_of new))
+    known None = tt
+    known (Some image) = gives.left
+
+module _ {S : Type 0} {o : OfSource S} (e : Endian) (source : S) (size start : ℕ) (counts : Counts) (old new : BlockReader S o) (a b : Option (List ℕ)) where
+  past_limit : (n m : ℕ) → Streaming e source size start counts old a b n m → GivesFault old new stream.TooLarge
+      → IfSome (o.rest source) (λ image. StopsPast (Some image) (rest_of new) greatest_image (greatest_image + size))
+  past_limit n m before gives = known (o.rest source) before.scanning.known
+    where
+      past : StopsPast (rest_of old) (rest_of new) (greatest_image - start) size
+      past = subst (StopsPast (rest_of old) (rest_of new) (greatest_image - start)) before.scanning.blocks_of
+          (subst (λ (s : ℕ). StopsPast (rest_of old) (rest_of new) (greatest_image - s) (size_of old)) before.scanning.here (gives.passed refl before.scanning.well))
+
+      known : (known_bytes : Option (List ℕ)) → IfSome known_bytes (λ image. IsCounted e size start counts image (rest_of old))
+          → IfSome known_bytes (λ image. StopsPast (Some image) (rest_of new) greatest_image (greatest_image + size))
+      known None so_far = tt
+      known (Some image) so_far =
+          let gone = subst (λ (r : Option (List ℕ)). StopsPast r (rest_of new) (greatest_image - start) size) so_far.place.left past in
+          let more : greatest_image - start < min size (length (drop start image)) =
+          subst (λ (r : Option (List ℕ)). IfSome r (λ bytes. greatest_image - start < min size (length bytes))) so_far.place.left
+          (breaks_here e source size start counts old new stream.TooLarge before.scanning gives).0 in (
+            start + gone.0,
+            omega (arith, gone.1),
+            omega (arith, gone.2, so_far.place.fits, more, length-drop start image),
+            gone.3 ∙ ap Some (drop-drop gone.0 start image),
+          )
+
+  -- the source was not read on
+  pub source_left : (n m : ℕ) (fault : StreamFault) (r : Result ℕ ProgramFault) → IsErrAnd r (λ x. x ≡ fault_of_stream fault)
+      → Streaming e source size start counts old a b n m → GivesFault old new fault → IfSome (o.rest source) (λ image. ReadsTo e size image a b (rest_of new) r)
+  source_left n m fault (Ok x) is before gives = absurd is
+  source_left n m fault (Err x) is before gives =
+      subst (λ (y : ProgramFault). IfSome (o.rest source) (λ image. ReadsTo e size image a b (rest_of new) (Err y))) (sym is) (by fault gives)
+    where
+      by : (f : StreamFault) → GivesFault old new f → IfSome (o.rest source) (λ image. ReadsTo e size image a b (rest_of new) (Err (fault_of_stream f)))
+      by stream.Device broken = stopped e source size start counts old new stream.Device a b n m before broken refl
+      by stream.TooLarge broken = past_limit n m before broken
+      by stream.BlockSize broken = absurd (breaks_here e source size start counts old new stream.BlockSize before.scanning broken)
+      by stream.OutOfMemory broken = absurd (breaks_here e source size start counts old new stream.OutOfMemory before.scanning broken)
+
+  sink_left : (c : Option (List ℕ)) (n m k : ℕ) (text : List ℕ) (r : Result ℕ ProgramFault) → IsErrAnd r (λ x. x ≡ program.Output)
+      → Streaming e source size start counts old a b n m → PutsPart b c text → k - 1 ≤ counts.blocks
+      → IfSome (o.rest source) (λ image. (k ≤ block_count size image) × (rest_of new ≡ Some (drop (k * size) image)))
+      → IfSome (o.rest source) (λ image. ReadsTo e size image a c (rest_of new) r)
+  sink_left c n m k text (Ok x) is before part upto place = absurd is
+  sink_left c n m k text (Err x) is before part upto place =
+      subst (λ (y : ProgramFault). IfSome (o.rest source) (λ image. ReadsTo e size image a c (rest_of new) (Err y))) (sym is) (known (o.rest source) before.put place)
+    where
+      known : (known_bytes : Option (List ℕ)) → IfSome known_bytes (Gone e size counts.blocks a b)
+          → IfSome known_bytes (λ image. (k ≤ block_count size image) × (rest_of new ≡ Some (drop (k * size) image)))
+          → IfSome known_bytes (StopsBehind e size a c (rest_of new))
+      known None gone place = tt
+      known (Some image) gone place =
+          let (more, is) = lines_upto e size image (k - 1) counts.blocks upto in (
+            k,
+            place.0,
+            place.1,
+            more ++ take part.0 text,
+            subst (Appends a c) (ap (λ (l : List ℕ). l ++ take part.0 text) is ∙ append_assoc (lines_below e size image (k - 1)) more (take part.0 text))
+                (Appends-trans a b c (lines_below e size image counts.blocks) (take part.0 text) gone part.1),
+          )
+
+  -- the sink failed at the lines of a block
+  pub block_left : (c : Option (List ℕ)) (n m : ℕ) (block text : List ℕ) (r : Result ℕ ProgramFault) → IsErrAnd r (λ x. x ≡ program.Output)
+      → Streaming e source size start counts old a b n m → GivesBlock old new block → PutsPart b c text
+      → IfSome (o.rest source) (λ image. ReadsTo e size image a c (rest_of new) r)
+  block_left c n m block text r is before gives part =
+      sink_left c n m (counts.blocks + 1) text r is before part (omega arith) (known (o.rest source) before.scanning.known)
+    where
+      known : (known_bytes : Option (List ℕ)) → IfSome known_bytes (λ image. IsCounted e size start counts image (rest_of old))
+          → IfSome known_bytes (λ image. (counts.blocks + 1 ≤ block_count size image) × (rest_of new ≡ Some (drop ((counts.blocks + 1) * size) image)))
+      known None so_far = tt
+      known (Some image) so_far =
+          let some : 0 < size = omega (arith, readable_some size before.scanning.readable) in
+          let next = next_of e source size start counts old new block before.scanning gives in
+          let at = at_next size start image (rest_of old) (rest_of new) block so_far.place next in
+          let here : (counts.blocks + 1) * size ≡ start + size = omega (arith, one_more counts.blocks size, before.scanning.blocks) in (
+            upto_count size (start + size) (counts.blocks + 1) image (rest_of new) some here at,
+            at.left ∙ ap (λ (k : ℕ). Some (drop k image)) (sym here),
+          )
+
+  -- or at the last line
+  pub total_left : (c : Option (List ℕ)) (n m : ℕ) (text : List ℕ) (r : Result ℕ ProgramFault) → IsErrAnd r (λ x. x ≡ program.Output)
+      → Streaming e source size start counts old a b n m → GivesNone old new → PutsPart b c text
+      → IfSome (o.rest source) (λ image. ReadsTo e size image a c (rest_of new) r)
+  total_left c n m text r is before gives part =
+      sink_left c n m counts.blocks text r is before part (omega arith) (known (o.rest source) before.scanning.known)
+    where
+      known : (known_bytes : Option (List ℕ)) → IfSome known_bytes (λ image. IsCounted e size start counts image (rest_of old))
+          → IfSome known_bytes (λ image. (counts.blocks ≤ block_count size image) × (rest_of new ≡ Some (drop (counts.blocks * size) image)))
+      known None so_far = tt
+      known (Some image) so_far =
+          let some : 0 < size = omega (arith, readable_some size before.scanning.readable) in (
+            upto_count size start counts.blocks image (rest_of old) some before.scanning.blocks so_far.place,
+            still_some (rest_of old) (rest_of new) (drop (counts.blocks * size) image) gives.kept
+                (so_far.place.left ∙ ap (λ (k : ℕ). Some (drop k image)) (sym before.scanning.blocks)),
+          )
 
 -- ---- the source is handed back
 
@@ -451,11 +543,3 @@ is_limit (Err e) stream.TooLarge is limit = refl
 is_limit (Err e) stream.Device is limit = cc
 is_limit (Err e) stream.BlockSize is limit = cc
 is_limit (Err e) stream.OutOfMemory is limit = cc
-
-pub is_device : {T : Type 0} (r : Result T ProgramFault) (f : StreamFault) → IsErrAnd r (λ e. e ≡ fault_of_stream f) → IsErrOf r (program.Load load.Device)
-    → f ≡ stream.Device
-is_device (Ok x) f is device = absurd is
-is_device (Err e) stream.Device is device = refl
-is_device (Err e) stream.TooLarge is device = cc
-is_device (Err e) stream.BlockSize is device = cc
-is_device (Err e) stream.OutOfMemory is device = cc

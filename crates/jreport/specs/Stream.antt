@@ -1,15 +1,12 @@
 -- What is put of a source that is read block by block.
-use Rattle.std.specs.Prelude.{◌≡◌, ℕ, ◌*◌, ◌≤◌, List, drop, Option, None, Some, Result, Ok, Err, true, ⊤}
-use Rattle.std.specs.Io.KnownBytes.{Appends}
+use Rattle.std.specs.Prelude.{◌≡◌, ℕ, ◌+◌, ◌-◌, ◌*◌, ◌≤◌, List, ◌++◌, drop, Option, None, Some, Result, Ok, Err, ⊤}
+use Rattle.std.specs.Io.KnownBytes.{Appends, IsAtEnd}
 use Rattle.flashbase.specs.Device.{PutsPart, next_count}
 use Rattle.flashbase.specs.declared.source.LoadFault.TheVariants as load
-use Rattle.flashbase.specs.declared.source.Source.{Ghosts as OfSource}
 use Rattle.jnode.specs.declared.order.Endian.{Endian}
 use Rattle.jscan.specs.Counts.{is_found}
-use Rattle.jscan.specs.Filling.{StopsWithin}
-use Rattle.jscan.specs.Image.{block_count, is_block_size}
-use Rattle.jscan.specs.Stream.{fault_of, size_of, start_of}
-use Rattle.jscan.specs.declared.stream.BlockReader.{BlockReader}
+use Rattle.jscan.specs.Filling.{StopsPast, StopsWithin}
+use Rattle.jscan.specs.Image.{block_count, greatest_image}
 use Rattle.jscan.specs.declared.geometry.ScanFault.TheVariants as scan
 use Rattle.jreport.specs.Report.{lines_below, count_in_image, scan_text}
 use Rattle.jreport.specs.declared.faults.ProgramFault.{ProgramFault}
@@ -47,6 +44,17 @@ HandsBack before (Some now) (Err (program.Load load.OutOfMemory)) = ⊥
 HandsBack before (Some now) (Err (program.Load load.Device)) = now ≡ next_count before
 HandsBack before (Some now) _ = now ≡ before
 
--- a reader of blocks of this size that has given none
-abbrev pub IsAtStart : {S : Type 0} {o : OfSource S} → ℕ → BlockReader S o → Type 0
-IsAtStart size reader = (is_block_size size ≡ true) × (size_of reader ≡ size) × (start_of reader ≡ 0) × (fault_of reader ≡ None)
+-- What follows whole blocks is left of the source, and the lines of all of these but the last have gone out.
+abbrev pub StopsBehind : Endian → ℕ → Option (List ℕ) → Option (List ℕ) → Option (List ℕ) → List ℕ → Type 0
+StopsBehind e size old new left image =
+    (n : ℕ) × (n ≤ block_count size image) × (left ≡ Some (drop (n * size) image))
+    × (more : List ℕ) × Appends old new (lines_below e size image (n - 1) ++ more)
+
+-- How far the source was read, by the answer: to its end; into the block that it broke off; past the greatest image, by a block at
+-- most; or, where the sink failed, through the block whose lines it did not take.
+abbrev pub ReadsTo : Endian → ℕ → List ℕ → Option (List ℕ) → Option (List ℕ) → Option (List ℕ) → Result ℕ ProgramFault → Type 0
+ReadsTo e size image old new left (Ok _) = IsAtEnd left
+ReadsTo e size image old new left (Err (program.Load load.Device)) = BreaksOff e size old new left image
+ReadsTo e size image old new left (Err (program.Load load.TooLarge)) = StopsPast (Some image) left greatest_image (greatest_image + size)
+ReadsTo e size image old new left (Err program.Output) = StopsBehind e size old new left image
+ReadsTo e size image old new left (Err _) = ⊤

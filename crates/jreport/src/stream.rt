@@ -3,10 +3,10 @@
 ghost use Rattle.std.specs.Prelude.{◌<◌, ◌≤◌, ◌/◌, ◌≡◌, ◌↔◌, ◌⊎◌, IsFalse, IfSome, IsErrOf, OnOk, Some, length, option_map};
 ghost use Rattle.std.specs.Io.KnownBytes.{Appends};
 ghost use Rattle.jscan.specs.Image.{greatest_image, is_block_size};
-ghost use Rattle.jscan.specs.Stream.{failures_of, rest_of};
+ghost use Rattle.jscan.specs.Stream.{IsAtStart, failures_of, rest_of};
 ghost use Rattle.jreport.specs.WholeImage.{OfSomeImage};
 ghost use Rattle.jreport.specs.Report.{lines_below};
-ghost use Rattle.jreport.specs.Stream.{BreaksOff, HandsBack, IsAtStart, PutsStream};
+ghost use Rattle.jreport.specs.Stream.{HandsBack, PutsStream, ReadsTo};
 
 use crate::blocks::{nothing, put_block, put_total};
 use crate::faults::ProgramFault;
@@ -37,9 +37,9 @@ pub fn stream_lines<E: Order, S: Source, T: Sink>(
     // The source failed exactly where it is blamed, once.
     ensures back { HandsBack (S.failures source) (option_map (λ left. S.failures left) result.1) result.0 }
 
-    // Where the device fails, the lines of the blocks in front of the one that it broke off have gone out, and nothing else.
-    ensures device { IsErrOf result.0 (ProgramFault.Load LoadFault.Device) → IfSome result.1 (λ left. IfSome (S.rest source)
-        (BreaksOff E.order geometry.block (T.taken sink.old) (T.taken sink.new) (S.rest left))) }
+    // How far it was read. Where it failed, the lines of the blocks in front of the one that it broke off have gone out, and nothing else.
+    ensures left { IfSome result.1 (λ left. IfSome (S.rest source)
+        (λ image. ReadsTo E.order geometry.block image (T.taken sink.old) (T.taken sink.new) (S.rest left) result.0)) }
 
     // An image is too large only where it is longer than the greatest. The lines of the blocks up to there have gone out.
     ensures too_large { IsErrOf result.0 (ProgramFault.Load LoadFault.TooLarge) → IfSome (S.rest source) (λ image. greatest_image < length image) }
@@ -64,9 +64,8 @@ fn put_blocks<E: Order, S: Source, T: Sink>(
     ensures put { OfSomeImage (rest_of reader.old) (λ image. PutsStream E.order geometry.block image
         (T.taken sink.old) (T.taken sink.new) (T.failures sink.old) (T.failures sink.new) result) }
     ensures within { OnOk result (IfSome (rest_of reader.old) (λ image. length image ≤ greatest_image)) }
-    ensures read { HandsBack (failures_of reader.old) (Some (failures_of reader.new)) result }
-    ensures device { IsErrOf result (ProgramFault.Load LoadFault.Device) → IfSome (rest_of reader.old)
-        (BreaksOff E.order geometry.block (T.taken sink.old) (T.taken sink.new) (rest_of reader.new)) }
+    ensures back { HandsBack (failures_of reader.old) (Some (failures_of reader.new)) result }
+    ensures left { IfSome (rest_of reader.old) (λ image. ReadsTo E.order geometry.block image (T.taken sink.old) (T.taken sink.new) (rest_of reader.new) result) }
     ensures too_large { IsErrOf result (ProgramFault.Load LoadFault.TooLarge) → IfSome (rest_of reader.old) (λ image. greatest_image < length image) }
     ensures before_limit { IsErrOf result (ProgramFault.Load LoadFault.TooLarge) → IfSome (rest_of reader.old)
         (λ image. Appends (T.taken sink.old) (T.taken sink.new) (lines_below E.order geometry.block image (greatest_image / geometry.block))) }

@@ -1,7 +1,8 @@
 //! Devices that fail once, at each of their calls in turn, and devices that give or take one byte a call.
 
-use crate::images::{GEOMETRY, TREE, image_of};
+use crate::images::{GEOMETRY, TREE, TWO_BLOCKS, image_of, raw_image};
 use crate::reads::{CALLS, Call, answer_and_text, ask};
+use crate::streams::FIRST_BLOCK;
 use byteorder::LittleEndian;
 use flashbase::LoadFault;
 use jreport::{ProgramFault, stream_lines};
@@ -106,4 +107,24 @@ fn streams_that_fail_once(rt: HostRuntime) {
             assert_eq!(rt; failures, Some(0));
         }
     }
+}
+
+/// Where the sink fails, the source was read through the block whose lines it did not take, and no further.
+#[test]
+fn a_source_is_read_as_far_as_its_lines_go(rt: HostRuntime) -> Result<(), Fail> {
+    let image = raw_image(rt.alloc(), TWO_BLOCKS)?;
+    let lines = FIRST_BLOCK.len();
+    for (limit, read) in [(0, 4096), (lines - 1, 4096), (lines, 8192)] {
+        let mut sink = Taker::limited(rt.alloc(), 1, limit);
+        let source = Giver::limited(&image, 1000, usize::MAX);
+        let (answer, left) = stream_lines::<LittleEndian, _, _>(
+            rt.alloc(),
+            source,
+            GEOMETRY,
+            &mut sink,
+        );
+        assert_eq!(rt; answer, Err(ProgramFault::Output));
+        assert_eq!(rt; left.map(|left| left.rest), image.get(read..));
+    }
+    Ok(())
 }

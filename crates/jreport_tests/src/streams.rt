@@ -30,7 +30,7 @@ pub(crate) fn streamed<E: Order>(
     answer_and_text::<E, _>(alloc, source, GEOMETRY)
 }
 
-const FIRST_BLOCK: &str = "block 0\n\
+pub(crate) const FIRST_BLOCK: &str = "block 0\n\
 00000000 marker 12\n\
 0000000c entry 44 pino 1 version 1 ino 2 type 8 name a\n\
 00000038 erased 4040\n";

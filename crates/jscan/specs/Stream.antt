@@ -108,8 +108,8 @@ ComesBack before (Some now) _ = now ≡ before
 
 -- What is left of it, of whose bytes `start` are those of the blocks given: nothing; or where it failed, all but less than a block
 -- of what follows them; or all but a part that goes past the greatest image.
-abbrev pub IsLeft : {T : Type 0} → ℕ → ℕ → List ℕ → Option (List ℕ) → Result T StreamFault → Type 0
-IsLeft size start image left (Ok _) = IsAtEnd left
-IsLeft size start image left (Err Device) = StopsWithin (Some (drop start image)) left size
-IsLeft size start image left (Err TooLarge) = StopsPast (Some (drop start image)) left (greatest_image - start) size
-IsLeft size start image left (Err _) = ⊤
+abbrev pub IsReadTo : {T : Type 0} → ℕ → ℕ → List ℕ → Option (List ℕ) → Result T StreamFault → Type 0
+IsReadTo size start image left (Ok _) = IsAtEnd left
+IsReadTo size start image left (Err Device) = StopsWithin (Some (drop start image)) left size
+IsReadTo size start image left (Err TooLarge) = StopsPast (Some (drop start image)) left (greatest_image - start) size
+IsReadTo size start image left (Err _) = ⊤

@@ -3,7 +3,7 @@
 ghost use Rattle.std.specs.Prelude.{◌≡◌, ◌↔◌, ◌+◌, ◌*◌, ◌<◌, ◌≤◌, Err, IfSome, OnOk, Some, false, length, min, option_map};
 ghost use Rattle.jscan.specs.Counts.{counts_of, no_counts};
 ghost use Rattle.jscan.specs.Image.{block_count, greatest_image, is_block_size};
-ghost use Rattle.jscan.specs.Stream.{IsAtStart, IsLeft, ComesBack, failures_of, rest_of};
+ghost use Rattle.jscan.specs.Stream.{IsAtStart, IsReadTo, ComesBack, failures_of, rest_of};
 
 use crate::counts::Counts;
 use crate::geometry::Geometry;
@@ -38,7 +38,7 @@ pub fn scan_stream<E: Order, S: Source>(
 
     // It is at its end, or within the block after those counted where it failed, or past the greatest image.
     ensures left { IfSome result.1 (λ left. IfSome (S.rest source)
-        (λ image. IsLeft geometry.block (counts.new.blocks * geometry.block) image (S.rest left) result.0)) }
+        (λ image. IsReadTo geometry.block (counts.new.blocks * geometry.block) image (S.rest left) result.0)) }
 {
     *counts = Counts {
         blocks: 0,
@@ -69,7 +69,7 @@ fn count_blocks<E: Order, S: Source>(
         → IfSome (rest_of reader.old) (λ image. greatest_image < min (length image) ((counts.new.blocks + 1) * geometry.block)) }
     ensures before_the_end { result ≡ Err StreamFault.TooLarge → counts.new.blocks * geometry.block ≤ greatest_image }
     ensures read { ComesBack (failures_of reader.old) (Some (failures_of reader.new)) result }
-    ensures left { IfSome (rest_of reader.old) (λ image. IsLeft geometry.block (counts.new.blocks * geometry.block) image (rest_of reader.new) result) }
+    ensures left { IfSome (rest_of reader.old) (λ image. IsReadTo geometry.block (counts.new.blocks * geometry.block) image (rest_of reader.new) result) }
 {
     let mut start = 0;
     while let Some(block) = reader.next()? {

@@ -13,7 +13,7 @@ use Rattle.jsteps.specs.declared.op.Op.{Op}
 use Rattle.jreport.specs.declared.faults.ProgramFault.TheVariants as program
 use Rattle.std.proofs.Common.{refl}
 use Rattle.std.proofs.lemmas.Option.{slice_get-map}
-use Rattle.jffs2_image.specs.Writes.{IsMade, IsSessionFault}
+use Rattle.jffs2_image.specs.Writes.{HoldsCut, IsMade, IsSessionFault}
 use Rattle.jffs2_image.proofs.WritingLemmas.{not_resumed, not_made, run_on, stopped_at, told, told_in_part, writes_fault, goes_on_from}
 use Rattle.jffs2_image.specs.Host.{IsMadeUntil}
 use Rattle.jffs2_image.proofs.HostLemmas.{files_in_part, files_not_made, files_of_all, files_until, make_fault, maker_fault, resume_fault, run_fault}
@@ -177,6 +177,7 @@ returns-in-Some-clause-files g c = λ known text read are.
     let r = c.in_ok-report.report in
     let mounts : Answers e a.target.options.geometry.block a.base.now (Ok m) = search rules in
     let same : c.deref-2.result.now ≡ ops_in (part_contents a.parts.now) a.lines.items = search rules in
+    let image : m.image ≡ a.base.now = search rules in
     let stopped : r.stopped ≡ Some c.in-Some.fault = search rules in
     let numbers : c.in_ok-numbers.numbers.items ≡ map (λ l. l.number) a.lines.items = search rules in
     let line : c.number_at-line.result ≡ slice_get c.in_ok-numbers.numbers.items r.accepted = search rules in
@@ -184,10 +185,17 @@ returns-in-Some-clause-files g c = λ known text read are.
     subst (λ (o : List Op). IsMade (g.M.Maker.held a.maker.now, g.M.Maker.held c.make_image.new.maker) a.target.page e a.target.options.geometry.block a.target.blocks m o r.accepted r.places.items (Some c.in-Some.fault)) same
     (subst (λ s. IsMade (g.M.Maker.held a.maker.now, g.M.Maker.held c.make_image.new.maker) a.target.page e a.target.options.geometry.block a.target.blocks m c.deref-2.result.now r.accepted r.places.items s) stopped c.in_ok-report.ensures.made) in
     let shown = line ∙ (ap (λ (l : List ℕ). slice_get l r.accepted) numbers ∙ slice_get-map (λ l. l.number) a.lines.items r.accepted) in
-    files_until known _ a.target.page e a.target.options.geometry.block a.target.blocks a.base.now text a.lines.items a.parts.now m r.accepted r.places.items (g.T.Sink.taken a.sink.now) (g.T.Sink.taken a.sink.now) c.in-Some.fault _ shown are read mounts made
+    files_until known _ a.target.page e a.target.options.geometry.block a.target.blocks a.base.now text a.lines.items a.parts.now m r.accepted r.places.items (g.T.Sink.taken a.sink.now) (g.T.Sink.taken a.sink.now) c.in-Some.fault _ shown image are read mounts made
 
 pub returns-in_err-report-clause-files : goal.returns-in_err-report-clause-files
 returns-in_err-report-clause-files g c = λ known text read are.
     let e = g.E.Order.order in
     let a = c.args in
-    files_not_made known _ a.target.page e a.target.options.geometry.block a.target.blocks a.target.output.now a.base.now text c.in_ok-mounted.mounted _ _ c.in_err-report.field-0.0 _ c.from_residual-in_err-report.ensures.1 c.in_err-report.ensures.fault
+    let m = c.in_ok-mounted.mounted in
+    let same : c.deref-2.result.now ≡ ops_in (part_contents a.parts.now) a.lines.items = search rules in
+    let image : m.image ≡ a.base.now = search rules in
+    let held = (g.M.Maker.held a.maker.now, g.M.Maker.held c.make_image.new.maker) in
+    let cut : HoldsCut held a.target.page e a.target.options.geometry.block a.target.blocks m.image (ops_in (part_contents a.parts.now) a.lines.items) c.in_err-report.field-0.0 =
+    subst (λ (o : List Op). HoldsCut held a.target.page e a.target.options.geometry.block a.target.blocks m.image o c.in_err-report.field-0.0) same c.in_err-report.ensures.cut in
+    files_not_made known held a.target.page e a.target.options.geometry.block a.target.blocks a.target.output.now a.base.now text a.lines.items a.parts.now m _ _ c.in_err-report.field-0.0 _
+    c.from_residual-in_err-report.ensures.1 image are read c.in_err-report.ensures.fault cut

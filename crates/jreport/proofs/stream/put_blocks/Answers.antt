@@ -1,14 +1,14 @@
 use Rattle.std.proofs.Common.{◌<◌, refl, Ok, ap, subst, ◌∙◌, arith}
 use Rattle.jscan.specs.Stream.{Gives, source_of}
 use Rattle.jscan.proofs.StreamCounts.{readable_some}
-use Rattle.jreport.proofs.StreamLemmas.{all_put, block_failed, ended_within, finished, gone_to_limit, is_device, is_limit, sink_blamed, source_blamed, source_failed, stopped, streaming_end, streaming_next, streaming_start, total_failed}
+use Rattle.jreport.proofs.StreamLemmas.{all_put, block_failed, block_left, ended_within, finished, gone_to_limit, is_limit, read_whole, sink_blamed, source_blamed, source_failed, source_left, streaming_end, streaming_next, streaming_start, total_failed, total_left}
 use Rattle.jreport.proofs.stream.put_blocks.Goals as goal
 
 pub loop-block-init : goal.loop-block-init
 loop-block-init g c =
     let a = c.args in
     streaming_start g.E.Order.order (source_of a.reader.now) a.geometry.block c.nothing-counts.result a.reader.now (g.T.Sink.taken a.sink.now) (g.T.Sink.failures a.sink.now)
-    c.nothing-counts.ensures c.requires.1 c.requires.2 refl c.requires.3 c.requires.0
+    c.nothing-counts.ensures c.requires refl
 
 pub loop-block-preserved : goal.loop-block-preserved
 loop-block-preserved g c =
@@ -23,15 +23,15 @@ returns-in_err-block-clause-put g c =
     let gives = subst (Gives c.loop-block.reader c.next.follows.lender-at-none) c.in_err-block.was c.next.follows.holds-at-none in
     source_failed _ _ _ _ _ _ _ _ _ _ _ _ _ c.from_residual.ensures.1 c.loop-block.invariant gives
 
-pub returns-in_err-block-clause-read : goal.returns-in_err-block-clause-read
-returns-in_err-block-clause-read g c =
+pub returns-in_err-block-clause-back : goal.returns-in_err-block-clause-back
+returns-in_err-block-clause-back g c =
     let gives = subst (Gives c.loop-block.reader c.next.follows.lender-at-none) c.in_err-block.was c.next.follows.holds-at-none in
     source_blamed _ _ _ _ _ _ _ _ _ _ _ _ _ c.from_residual.ensures.1 c.loop-block.invariant gives
 
-pub returns-in_err-block-clause-device : goal.returns-in_err-block-clause-device
-returns-in_err-block-clause-device g c = λ device.
+pub returns-in_err-block-clause-left : goal.returns-in_err-block-clause-left
+returns-in_err-block-clause-left g c =
     let gives = subst (Gives c.loop-block.reader c.next.follows.lender-at-none) c.in_err-block.was c.next.follows.holds-at-none in
-    stopped _ _ _ _ _ _ _ _ _ _ _ _ c.loop-block.invariant gives (is_device _ _ c.from_residual.ensures.1 device)
+    source_left _ _ _ _ _ _ _ _ _ _ _ _ _ c.from_residual.ensures.1 c.loop-block.invariant gives
 
 pub returns-in_err-block-clause-before_limit : goal.returns-in_err-block-clause-before_limit
 returns-in_err-block-clause-before_limit g c = λ limit.
@@ -46,10 +46,15 @@ returns-in_err-put_block-clause-put g c =
     let put = c.in_err-put_block.ensures.puts in
     block_failed _ _ _ _ _ _ _ _ _ _ _ _ _ _ _ c.from_residual-in_err-put_block.ensures.1 c.loop-block.invariant gives put.0 put.1
 
-pub returns-in_err-put_block-clause-read : goal.returns-in_err-put_block-clause-read
-returns-in_err-put_block-clause-read g c =
+pub returns-in_err-put_block-clause-back : goal.returns-in_err-put_block-clause-back
+returns-in_err-put_block-clause-back g c =
     let gives = subst (Gives c.loop-block.reader c.next.follows.lender-at-none) (c.in_ok-block.was ∙ ap Ok c.in-Some.is) c.next.follows.holds-at-none in
     sink_blamed _ _ _ c.from_residual-in_err-put_block.ensures.1 (gives.none_failed ∙ c.loop-block.invariant.scanning.none_failed)
+
+pub returns-in_err-put_block-clause-left : goal.returns-in_err-put_block-clause-left
+returns-in_err-put_block-clause-left g c =
+    let gives = subst (Gives c.loop-block.reader c.next.follows.lender-at-none) (c.in_ok-block.was ∙ ap Ok c.in-Some.is) c.next.follows.holds-at-none in
+    block_left _ _ _ _ _ _ _ _ _ _ _ _ _ _ _ c.from_residual-in_err-put_block.ensures.1 c.loop-block.invariant gives c.in_err-put_block.ensures.puts.0
 
 -- the reader gave no block, so it has given all
 pub returns-in_err-put_total-clause-put : goal.returns-in_err-put_total-clause-put
@@ -60,10 +65,15 @@ returns-in_err-put_total-clause-put g c =
     let all = finished _ _ _ _ _ _ some (streaming_end _ _ _ _ _ _ _ _ _ _ _ so_far gives) so_far.untold in
     total_failed _ _ _ _ _ _ _ _ _ _ _ c.from_residual-in_err-put_total.ensures.1 all c.in_err-put_total.ensures.0 so_far.none_failed c.in_err-put_total.ensures.1
 
-pub returns-in_err-put_total-clause-read : goal.returns-in_err-put_total-clause-read
-returns-in_err-put_total-clause-read g c =
+pub returns-in_err-put_total-clause-back : goal.returns-in_err-put_total-clause-back
+returns-in_err-put_total-clause-back g c =
     let gives = subst (Gives c.loop-block.reader c.next.follows.lender-at-none) (c.in_ok-block.was ∙ ap Ok c.in_default.is) c.next.follows.holds-at-none in
     sink_blamed _ _ _ c.from_residual-in_err-put_total.ensures.1 (gives.none_failed ∙ c.loop-block.invariant.scanning.none_failed)
+
+pub returns-in_err-put_total-clause-left : goal.returns-in_err-put_total-clause-left
+returns-in_err-put_total-clause-left g c =
+    let gives = subst (Gives c.loop-block.reader c.next.follows.lender-at-none) (c.in_ok-block.was ∙ ap Ok c.in_default.is) c.next.follows.holds-at-none in
+    total_left _ _ _ _ _ _ _ _ _ _ _ _ _ _ c.from_residual-in_err-put_total.ensures.1 c.loop-block.invariant gives c.in_err-put_total.ensures.0
 
 -- ---- all was put
 
@@ -80,7 +90,12 @@ returns-clause-within g c =
     let gives = subst (Gives c.loop-block.reader c.next.follows.lender-at-none) (c.in_ok-block.was ∙ ap Ok c.in_default.is) c.next.follows.holds-at-none in
     ended_within _ _ _ _ _ _ (streaming_end _ _ _ _ _ _ _ _ _ _ _ c.loop-block.invariant gives)
 
-pub returns-clause-read : goal.returns-clause-read
-returns-clause-read g c =
+pub returns-clause-back : goal.returns-clause-back
+returns-clause-back g c =
     let gives = subst (Gives c.loop-block.reader c.next.follows.lender-at-none) (c.in_ok-block.was ∙ ap Ok c.in_default.is) c.next.follows.holds-at-none in
     gives.none_failed ∙ c.loop-block.invariant.scanning.none_failed
+
+pub returns-clause-left : goal.returns-clause-left
+returns-clause-left g c =
+    let gives = subst (Gives c.loop-block.reader c.next.follows.lender-at-none) (c.in_ok-block.was ∙ ap Ok c.in_default.is) c.next.follows.holds-at-none in
+    read_whole (source_of c.args.reader.now) _ _ gives
