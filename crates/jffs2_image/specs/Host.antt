@@ -176,23 +176,23 @@ Blames untouched makes read_before read_now made_before made_now (Err _) = Unit 
 
 -- A file of which the host tells these bytes is only read. It counts once where it can't be opened, or fails while it is read,
 -- and only then; it is too large only where it is.
-abbrev pub OpensFile : {T : Type 0} → Option (List ℕ) → ℕ → ℕ → Result T ProgramFault → Type 0
-OpensFile told before now (Err (program.File name)) = now ≡ next_count before
-OpensFile told before now (Err (program.Load load.Device)) = now ≡ next_count before
-OpensFile told before now (Err (program.Load load.TooLarge)) = IsTooLong told × (now ≡ before)
-OpensFile told before now _ = now ≡ before
+abbrev pub ReadsFile : {T : Type 0} → Option (List ℕ) → ℕ → ℕ → Result T ProgramFault → Type 0
+ReadsFile told before now (Err (program.File name)) = now ≡ next_count before
+ReadsFile told before now (Err (program.Load load.Device)) = now ≡ next_count before
+ReadsFile told before now (Err (program.Load load.TooLarge)) = IsTooLong told × (now ≡ before)
+ReadsFile told before now _ = now ≡ before
 
 -- the same of a request that writes an image, whose file has the name of its output; any other reads the file of its image, and
 -- makes none
 abbrev pub BlamesFor : {T : Type 0} → (List ℕ → Option (List ℕ)) → Parsed → Type 0 → Option (List (List ℕ)) → Option (List (List ℕ)) → ℕ → ℕ → ℕ → ℕ → Result T ProgramFault → Type 0
 BlamesFor told (ScanParsed options image) untouched names_old names_new read_before read_now made_before made_now result =
-    OpensFile (told image) read_before read_now result × untouched
+    ReadsFile (told image) read_before read_now result × untouched
 BlamesFor told (CheckParsed options shape image) untouched names_old names_new read_before read_now made_before made_now result =
-    OpensFile (told image) read_before read_now result × untouched
+    ReadsFile (told image) read_before read_now result × untouched
 BlamesFor told (ListParsed options image) untouched names_old names_new read_before read_now made_before made_now result =
-    OpensFile (told image) read_before read_now result × untouched
+    ReadsFile (told image) read_before read_now result × untouched
 BlamesFor told (CatParsed options image path) untouched names_old names_new read_before read_now made_before made_now result =
-    OpensFile (told image) read_before read_now result × untouched
+    ReadsFile (told image) read_before read_now result × untouched
 BlamesFor told (BuildParsed options blocks page listing output) untouched names_old names_new read_before read_now made_before made_now result =
     Blames untouched (MakesFile output names_old names_new) read_before read_now made_before made_now result
 BlamesFor told (AppendParsed options blocks page image listing output) untouched names_old names_new read_before read_now made_before made_now result =

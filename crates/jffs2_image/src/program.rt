@@ -4,7 +4,7 @@ ghost use Rattle.std.specs.Io.KnownBytes.{Appends};
 ghost use Rattle.jcommand.specs.Parsed.{Parsed, ScanParsed, CheckParsed, ListParsed, CatParsed, BuildParsed, AppendParsed, options_of, view};
 ghost use Rattle.jreport.specs.Faults.{fault_line_of};
 ghost use Rattle.flashbase.specs.Device.{CountsErr};
-ghost use Rattle.jffs2_image.specs.Host.{Blames, BlamesCommand, BlamesFor, GivesFile, HasFailed, MakesFile, OpensFile};
+ghost use Rattle.jffs2_image.specs.Host.{Blames, BlamesCommand, BlamesFor, GivesFile, HasFailed, MakesFile, ReadsFile};
 ghost use Rattle.jffs2_image.specs.FolderRuns.{RunsExtract, RunsListing, RunsTask};
 ghost use Rattle.jffs2_image.specs.Runs.{IsCommand, Meets, MeetsCommand, MeetsWhole, RunsCommand, Says, note_after, success_of};
 
@@ -60,7 +60,7 @@ fn scan<'a, E: Order, L: Loader, T: Sink>(
     sink: &mut T,
 ) -> Result<u64, ProgramFault<'a>>
     ensures meets { Meets (L.told loader.old) (None, None) E.order (ScanParsed options image.now) (T.taken sink.old) (T.taken sink.new) (T.failures sink.old) (T.failures sink.new) result }
-    ensures host { OpensFile (L.told loader.old image.now) (L.failures loader.old) (L.failures loader.new) result }
+    ensures host { ReadsFile (L.told loader.old image.now) (L.failures loader.old) (L.failures loader.new) result }
 {
     let source = open(loader, image)?;
     let (answer, read) = stream_lines::<E, _, _>(alloc, source, options.geometry, sink);
@@ -80,7 +80,7 @@ fn check<'a, E: Order, L: Loader, T: Sink>(
     sink: &mut T,
 ) -> Result<u64, ProgramFault<'a>>
     ensures meets { Meets (L.told loader.old) (None, None) E.order (CheckParsed options shape image.now) (T.taken sink.old) (T.taken sink.new) (T.failures sink.old) (T.failures sink.new) result }
-    ensures host { OpensFile (L.told loader.old image.now) (L.failures loader.old) (L.failures loader.new) result }
+    ensures host { ReadsFile (L.told loader.old image.now) (L.failures loader.old) (L.failures loader.new) result }
 {
     let mut source = open(loader, image)?;
     let answer = check_lines::<E, _, _>(alloc, &mut source, options.geometry, shape, sink);
@@ -97,7 +97,7 @@ fn list<'a, E: Order, L: Loader, T: Sink>(
     sink: &mut T,
 ) -> Result<u64, ProgramFault<'a>>
     ensures meets { Meets (L.told loader.old) (None, None) E.order (ListParsed options image.now) (T.taken sink.old) (T.taken sink.new) (T.failures sink.old) (T.failures sink.new) result }
-    ensures host { OpensFile (L.told loader.old image.now) (L.failures loader.old) (L.failures loader.new) result }
+    ensures host { ReadsFile (L.told loader.old image.now) (L.failures loader.old) (L.failures loader.new) result }
 {
     let mut source = open(loader, image)?;
     let answer = list_lines::<E, _, _>(alloc, &mut source, options.geometry, sink);
@@ -115,7 +115,7 @@ fn cat<'a, E: Order, L: Loader, T: Sink>(
     sink: &mut T,
 ) -> Result<u64, ProgramFault<'a>>
     ensures meets { Meets (L.told loader.old) (None, None) E.order (CatParsed options image.now path.now) (T.taken sink.old) (T.taken sink.new) (T.failures sink.old) (T.failures sink.new) result }
-    ensures host { OpensFile (L.told loader.old image.now) (L.failures loader.old) (L.failures loader.new) result }
+    ensures host { ReadsFile (L.told loader.old image.now) (L.failures loader.old) (L.failures loader.new) result }
 {
     let path = path_word(alloc, path.as_bytes())?;
     let mut source = open(loader, image)?;

@@ -13,7 +13,7 @@ use Rattle.jsteps.specs.declared.op.Op.{Op}
 use Rattle.jreport.specs.declared.faults.ProgramFault.TheVariants as program
 use Rattle.std.proofs.Common.{refl}
 use Rattle.std.proofs.lemmas.Option.{slice_get-map}
-use Rattle.jffs2_image.specs.Writes.{HoldsCut, IsMade, IsSessionFault}
+use Rattle.jffs2_image.specs.Writes.{Held, HoldsCut, IsMade, IsSessionFault}
 use Rattle.jffs2_image.proofs.WritingLemmas.{not_resumed, not_made, run_on, stopped_at, told, told_in_part, writes_fault, goes_on_from}
 use Rattle.jffs2_image.specs.Host.{IsMadeUntil}
 use Rattle.jffs2_image.proofs.HostLemmas.{files_in_part, files_not_made, files_of_all, files_until, make_fault, maker_fault, resume_fault, run_fault}
@@ -194,7 +194,7 @@ returns-in_err-report-clause-files g c = λ known text read are.
     let m = c.in_ok-mounted.mounted in
     let same : c.deref-2.result.now ≡ ops_in (part_contents a.parts.now) a.lines.items = search rules in
     let image : m.image ≡ a.base.now = search rules in
-    let held = (g.M.Maker.held a.maker.now, g.M.Maker.held c.make_image.new.maker) in
+    let held : Held = (g.M.Maker.held a.maker.now, g.M.Maker.held c.make_image.new.maker) in
     let cut : HoldsCut held a.target.page e a.target.options.geometry.block a.target.blocks m.image (ops_in (part_contents a.parts.now) a.lines.items) c.in_err-report.field-0.0 =
     subst (λ (o : List Op). HoldsCut held a.target.page e a.target.options.geometry.block a.target.blocks m.image o c.in_err-report.field-0.0) same c.in_err-report.ensures.cut in
     files_not_made known held a.target.page e a.target.options.geometry.block a.target.blocks a.target.output.now a.base.now text a.lines.items a.parts.now m _ _ c.in_err-report.field-0.0 _
