@@ -250,7 +250,7 @@ def try_each(crates, libraries, jobs):
 
 def main():
     parser = argparse.ArgumentParser(description="Shows that the prover refuses the wrong bodies in crates/*/must-fail.")
-    parser.add_argument("--jobs", type=int, default=max(1, len(os.sched_getaffinity(0)) // 2), help="how many crates at a time, each by two threads")
+    parser.add_argument("--jobs", type=int, default=len(os.sched_getaffinity(0)), help="how many crates at a time, each by two threads")
     parser.add_argument("--built", metavar="DIR", default=ROOT, help="a copy of the repository in which the crates were proved")
     parser.add_argument("--with-ci", action="store_true", help="run rt ci in that copy meanwhile, and fail where it fails")
     parser.add_argument("crates", metavar="CRATE", nargs="*", help="these crates alone")
