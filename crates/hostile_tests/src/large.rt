@@ -1,5 +1,6 @@
 //! Names, directories and versions in great numbers, and the longest file.
 
+use crate::checks::{equal, expect, expect_at};
 use crate::nodes::{DIRECTORY, FILE, Node, lay, push};
 use crate::sessions::{cut, removed, renamed, run_on};
 use byteorder::LittleEndian;
@@ -49,19 +50,20 @@ fn many_names(rt: HostRuntime) -> Result<(), Fail> {
     let mounted = mount::<LittleEndian>(alloc, &image, GEOMETRY)?;
     let mut number = 0u32;
     for (name, ino) in mounted.entries(1) {
-        assert!(rt;
+        expect_at(
+            &rt,
             name == format!(in alloc; "{number:05}")?.as_bytes() && ino == 2,
-            "{number}"
+            number,
         );
         number = number.wrapping_add(1);
     }
-    assert_eq!(rt; number, MANY);
-    assert_eq!(rt; mounted.find(b"/00000"), Ok(2));
-    assert_eq!(rt; mounted.find(b"/99999"), Ok(2));
-    assert_eq!(rt; mounted.find(b"/100000"), Err(FindFault::NotFound));
-    assert_eq!(rt; mounted.top(1), MANY);
+    equal(&rt, number, MANY);
+    equal(&rt, mounted.find(b"/00000"), Ok(2));
+    equal(&rt, mounted.find(b"/99999"), Ok(2));
+    equal(&rt, mounted.find(b"/100000"), Err(FindFault::NotFound));
+    equal(&rt, mounted.top(1), MANY);
     // The root's line has 19 bytes, each other one 24.
-    assert_eq!(rt; listed(alloc, &mounted)?, (100_001, 2_400_019));
+    equal(&rt, listed(alloc, &mounted)?, (100_001, 2_400_019));
     Ok(())
 }
 
@@ -109,15 +111,16 @@ fn directories_in_one_another(rt: HostRuntime) -> Result<(), Fail> {
     let alloc = rt.alloc();
     let image = deep(alloc)?;
     let mounted = mount::<LittleEndian>(alloc, &image, GEOMETRY)?;
-    assert_eq!(rt; mounted.find(&path_down(alloc, 1000, b"")?), Ok(1001));
-    assert_eq!(rt;
+    equal(&rt, mounted.find(&path_down(alloc, 1000, b"")?), Ok(1001));
+    equal(
+        &rt,
         mounted.find(&path_down(alloc, 1000, b"/x")?),
-        Err(FindFault::NotFound)
+        Err(FindFault::NotFound),
     );
     // A line has the path down to it: two bytes for each name.
     let (lines, bytes) = listed(alloc, &mounted)?;
-    assert!(rt; lines == 1001 && bytes > 1_001_000);
-    assert!(rt; are_moved_and_removed(alloc, &image)?);
+    expect(&rt, lines == 1001 && bytes > 1_001_000);
+    expect(&rt, are_moved_and_removed(alloc, &image)?);
     Ok(())
 }
 
@@ -160,8 +163,11 @@ fn many_versions_of_one_range(rt: HostRuntime) -> Result<(), Fail> {
         let mounted = mount::<LittleEndian>(alloc, &image, GEOMETRY)?;
         let mut room = [7; 8];
         let count = mounted.read_at(2, 0, &mut room);
-        assert!(rt; count == 4 && room == [0x00, 0x01, 0x86, 0xA0, 7, 7, 7, 7]);
-        assert_eq!(rt; mounted.top(2), MANY);
+        expect(
+            &rt,
+            count == 4 && room == [0x00, 0x01, 0x86, 0xA0, 7, 7, 7, 7],
+        );
+        equal(&rt, mounted.top(2), MANY);
     }
     Ok(())
 }
@@ -209,8 +215,8 @@ fn the_longest_file(rt: HostRuntime) -> Result<(), Fail> {
     let image = longest(alloc)?;
     let mounted = mount::<LittleEndian>(alloc, &image, GEOMETRY)?;
     for (offset, count, first) in READS {
-        assert!(rt; gives(&mounted, offset, count, first), "at {offset}");
+        expect_at(&rt, gives(&mounted, offset, count, first), offset);
     }
-    assert!(rt; is_cut(alloc, &image)?);
+    expect(&rt, is_cut(alloc, &image)?);
     Ok(())
 }

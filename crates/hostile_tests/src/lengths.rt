@@ -1,5 +1,6 @@
 //! Headers of any length: a node is there exactly where the length is at least a header's, and within the block.
 
+use crate::checks::expect_at;
 use byteorder::{BigEndian, LittleEndian};
 use flashbase::crc;
 use jmount::mount;
@@ -115,7 +116,7 @@ fn lengths_at_the_end_of_a_block(rt: HostRuntime) -> Result<(), Fail> {
             let word = u32::try_from(totlen).unwrap_or(u32::MAX);
             let little = is_reported::<LittleEndian>(alloc, place, &header(true, word), totlen)?;
             let big = is_reported::<BigEndian>(alloc, place, &header(false, word), totlen)?;
-            assert!(rt; little && big, "{totlen} at {place}");
+            expect_at(&rt, little && big, (totlen, place));
         }
     }
     Ok(())
@@ -147,7 +148,7 @@ fn lengths_that_wrap_around(rt: HostRuntime) -> Result<(), Fail> {
                 &header(false, totlen),
                 totlen as usize,
             )?;
-            assert!(rt; little && big, "{totlen} at {place}");
+            expect_at(&rt, little && big, (totlen, place));
         }
     }
     Ok(())

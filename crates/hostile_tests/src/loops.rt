@@ -1,5 +1,6 @@
 //! Directories that hold themselves and the root.
 
+use crate::checks::expect;
 use crate::nodes::{DIRECTORY, GEOMETRY, Node, push};
 use crate::sessions::{created, removed, renamed, run_on};
 use byteorder::{BigEndian, LittleEndian};
@@ -91,7 +92,7 @@ fn holds<E: Order>(alloc: Global) -> Result<bool, Fail> {
 
 #[test]
 fn a_directory_that_holds_the_root_and_itself(rt: HostRuntime) -> Result<(), Fail> {
-    assert!(rt; holds::<LittleEndian>(rt.alloc())?);
-    assert!(rt; holds::<BigEndian>(rt.alloc())?);
+    expect(&rt, holds::<LittleEndian>(rt.alloc())?);
+    expect(&rt, holds::<BigEndian>(rt.alloc())?);
     Ok(())
 }

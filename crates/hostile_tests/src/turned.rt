@@ -1,6 +1,7 @@
 //! A small image with each of its bytes changed to each other value: each node that holds a changed byte is passed
 //! over, and the others stand.
 
+use crate::checks::equal;
 use crate::nodes::GEOMETRY;
 use crate::sessions::{created, run_on, written};
 use crate::trees::{Tree, tree_of};
@@ -89,8 +90,8 @@ fn turn_byte(image: &mut [u8], at: usize, change: u8) {
 #[test]
 fn each_byte_changed_to_each_other_value(rt: HostRuntime) -> Result<(), Fail> {
     let little = first_wrong::<LittleEndian>(rt.alloc())?;
-    assert_eq!(rt; little, None);
+    equal(&rt, little, None);
     let big = first_wrong::<BigEndian>(rt.alloc())?;
-    assert_eq!(rt; big, None);
+    equal(&rt, big, None);
     Ok(())
 }

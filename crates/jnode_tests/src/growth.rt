@@ -1,5 +1,6 @@
 //! A growth that is refused appends nothing.
 
+use crate::checks::{expect, expect_at};
 use crate::nodes::{entry_of, new_file};
 use crate::vectors::{entry_a, inode_2, little_marker, padding_16};
 use byteorder::LittleEndian;
@@ -28,18 +29,18 @@ fn write(out: &mut Vec<u8>, what: What) -> Result<(), WriteFault> {
 fn refused_writes_append_nothing(rt: HostRuntime) {
     let entry = entry_a();
     for (what, want) in [
-        (What::Marker, little_marker().as_slice()),
-        (What::Inode, inode_2().as_slice()),
+        (What::Marker, little_marker()),
+        (What::Inode, inode_2()),
         (What::Entry, entry.get(..41).unwrap_or(&[])),
-        (What::Padding, padding_16().as_slice()),
+        (What::Padding, padding_16()),
     ] {
         let mut out = Vec::new(rt.alloc());
         let first = write(&mut out, what);
         if first.is_err() {
-            assert!(rt; matches!(first, Err(WriteFault::OutOfMemory)));
-            assert!(rt; out.is_empty());
-            assert!(rt; write(&mut out, what).is_ok());
+            expect(&rt, matches!(first, Err(WriteFault::OutOfMemory)));
+            expect(&rt, out.is_empty());
+            expect(&rt, write(&mut out, what).is_ok());
         }
-        assert!(rt; out.as_slice() == want, "{what:?}");
+        expect_at(&rt, out.as_slice() == want, what);
     }
 }

@@ -1,5 +1,6 @@
 //! Headers that are good, and those that are not.
 
+use crate::checks::{equal, expect, expect_at};
 use crate::nodes::{cut_after, start_of};
 use crate::vectors::*;
 use byteorder::{BigEndian, LittleEndian};
@@ -13,35 +14,42 @@ fn good_headers(rt: HostRuntime) {
         totlen: 41,
         accurate: true,
     };
-    assert_eq!(rt; header_at::<LittleEndian>(&entry_a()), Some(entry));
+    equal(&rt, header_at::<LittleEndian>(entry_a()), Some(entry));
     let obsolete = Header {
         nodetype: 0xC001,
         totlen: 41,
         accurate: false,
     };
-    assert_eq!(rt; header_at::<LittleEndian>(&obsolete_a()), Some(obsolete));
+    equal(&rt, header_at::<LittleEndian>(obsolete_a()), Some(obsolete));
     let longer = Header {
         nodetype: 0x2003,
         totlen: 13,
         accurate: true,
     };
-    assert_eq!(rt;
-        header_in::<LittleEndian>(&cut_after(&length_13_and_more(), 12)),
-        Some(longer)
+    equal(
+        &rt,
+        header_in::<LittleEndian>(&cut_after(length_13_and_more(), 12)),
+        Some(longer),
     );
 }
 
 #[test]
 fn no_headers(rt: HostRuntime) {
-    assert!(rt; header_at::<BigEndian>(&entry_a()).is_none());
+    expect(&rt, header_at::<BigEndian>(entry_a()).is_none());
     for bytes in [
-        start_of(&entry_a(), 40),
-        start_of(&little_marker(), 11),
-        no_length().as_slice(),
-        length_13().as_slice(),
+        start_of(entry_a(), 40),
+        start_of(little_marker(), 11),
+        no_length(),
+        length_13(),
     ] {
-        assert!(rt; header_at::<LittleEndian>(bytes).is_none(), "at {bytes:?}");
+        expect_at(&rt, header_at::<LittleEndian>(bytes).is_none(), bytes);
     }
-    assert!(rt; header_in::<LittleEndian>(&cut_after(&length_13(), 12)).is_none());
-    assert!(rt; header_in::<LittleEndian>(&cut_after(&little_marker(), 11)).is_none());
+    expect(
+        &rt,
+        header_in::<LittleEndian>(&cut_after(length_13(), 12)).is_none(),
+    );
+    expect(
+        &rt,
+        header_in::<LittleEndian>(&cut_after(little_marker(), 11)).is_none(),
+    );
 }

@@ -1,5 +1,6 @@
 //! The least weak cut of written nodes: values from a model of the format in another language, with zlib's checksum.
 
+use crate::checks::equal;
 use crate::nodes::{entry_of, new_file, zeros_of_96};
 use byteorder::{BigEndian, LittleEndian};
 use jnode::{Dirent, Fill, InodeNode, Order, Part, weak_cut, write_entry, write_inode};
@@ -42,11 +43,19 @@ fn first_bytes(version: u32, data: &[u8]) -> InodeNode<'_> {
 #[test]
 fn nodes_without_a_weak_cut(rt: HostRuntime) -> Result<(), Fail> {
     let alloc = rt.alloc();
-    assert_eq!(rt; entry_cut::<LittleEndian>(alloc, &entry_of(1, b"a"))?, None);
-    assert_eq!(rt; entry_cut::<BigEndian>(alloc, &entry_of(1, b"a"))?, None);
+    equal(
+        &rt,
+        entry_cut::<LittleEndian>(alloc, &entry_of(1, b"a"))?,
+        None,
+    );
+    equal(
+        &rt,
+        entry_cut::<BigEndian>(alloc, &entry_of(1, b"a"))?,
+        None,
+    );
     for node in [new_file(), zeros_of_96(), first_bytes(2, &[0xFF; 9])] {
-        assert_eq!(rt; inode_cut::<LittleEndian>(alloc, &node)?, None);
-        assert_eq!(rt; inode_cut::<BigEndian>(alloc, &node)?, None);
+        equal(&rt, inode_cut::<LittleEndian>(alloc, &node)?, None);
+        equal(&rt, inode_cut::<BigEndian>(alloc, &node)?, None);
     }
     Ok(())
 }
@@ -64,8 +73,12 @@ fn weak_cuts_in_data(rt: HostRuntime) -> Result<(), Fail> {
         (twice.as_slice(), 69),
     ] {
         let node = first_bytes(2, data);
-        assert_eq!(rt; inode_cut::<LittleEndian>(rt.alloc(), &node)?, Some(cut));
-        assert_eq!(rt; inode_cut::<BigEndian>(rt.alloc(), &node)?, Some(cut));
+        equal(
+            &rt,
+            inode_cut::<LittleEndian>(rt.alloc(), &node)?,
+            Some(cut),
+        );
+        equal(&rt, inode_cut::<BigEndian>(rt.alloc(), &node)?, Some(cut));
     }
     Ok(())
 }
@@ -78,14 +91,18 @@ fn weak_cuts_in_a_node_crc(rt: HostRuntime) -> Result<(), Fail> {
             mtime,
             ..first_bytes(version, &HIDDEN)
         };
-        assert_eq!(rt; inode_cut::<LittleEndian>(rt.alloc(), &node)?, Some(cut));
+        equal(
+            &rt,
+            inode_cut::<LittleEndian>(rt.alloc(), &node)?,
+            Some(cut),
+        );
     }
     for (version, mtime, cut) in [(1048, 0, 67), (2, 1036182888, 64)] {
         let node = InodeNode {
             mtime,
             ..first_bytes(version, &HIDDEN)
         };
-        assert_eq!(rt; inode_cut::<BigEndian>(rt.alloc(), &node)?, Some(cut));
+        equal(&rt, inode_cut::<BigEndian>(rt.alloc(), &node)?, Some(cut));
     }
     Ok(())
 }
@@ -95,8 +112,12 @@ fn weak_cuts_in_a_name(rt: HostRuntime) -> Result<(), Fail> {
     let after = [0x61, 0x62, 0xBE, 0xF9, 0x8E, 0x24, 0xFE, 0xFF];
     for (name, cut) in [(HIDDEN.as_slice(), 40), (after.as_slice(), 42)] {
         let node = entry_of(1, name);
-        assert_eq!(rt; entry_cut::<LittleEndian>(rt.alloc(), &node)?, Some(cut));
-        assert_eq!(rt; entry_cut::<BigEndian>(rt.alloc(), &node)?, Some(cut));
+        equal(
+            &rt,
+            entry_cut::<LittleEndian>(rt.alloc(), &node)?,
+            Some(cut),
+        );
+        equal(&rt, entry_cut::<BigEndian>(rt.alloc(), &node)?, Some(cut));
     }
     Ok(())
 }

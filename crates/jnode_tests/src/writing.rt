@@ -1,5 +1,6 @@
 //! Nodes that are written, byte by byte, and those that are refused.
 
+use crate::checks::{equal, expect};
 use crate::nodes::{entry_of, new_file, start_of, write_of, zeros_of_96};
 use crate::vectors::*;
 use byteorder::{BigEndian, LittleEndian};
@@ -22,31 +23,34 @@ fn message(alloc: Global, written: Result<(), WriteFault>) -> Result<String, Fai
 #[test]
 fn clean_markers(rt: HostRuntime) {
     let mut out = Vec::new(rt.alloc());
-    assert!(rt; write_marker::<LittleEndian>(&mut out).is_ok());
-    assert_eq!(rt; out.as_slice(), little_marker().as_slice());
+    expect(&rt, write_marker::<LittleEndian>(&mut out).is_ok());
+    equal(&rt, out.as_slice(), little_marker());
     out.clear();
-    assert!(rt; write_marker::<BigEndian>(&mut out).is_ok());
-    assert_eq!(rt; out.as_slice(), big_marker().as_slice());
+    expect(&rt, write_marker::<BigEndian>(&mut out).is_ok());
+    equal(&rt, out.as_slice(), big_marker());
 }
 
 /// An entry of the name `a` appended to a clean marker.
 fn is_entry_written<E: Order>(rt: &impl Abort, alloc: Global, entry: &[u8]) {
     let mut out = Vec::new(alloc);
-    assert!(rt; write_marker::<E>(&mut out).is_ok());
-    assert!(rt; write_entry::<E>(&mut out, &entry_of(1, b"a")).is_ok());
-    assert_eq!(rt; out.get(12..), Some(entry));
+    expect(rt, write_marker::<E>(&mut out).is_ok());
+    expect(rt, write_entry::<E>(&mut out, &entry_of(1, b"a")).is_ok());
+    equal(rt, out.get(12..), Some(entry));
 }
 
 #[test]
 fn entries_are_written(rt: HostRuntime) {
-    is_entry_written::<LittleEndian>(&rt, rt.alloc(), start_of(&entry_a(), 41));
-    is_entry_written::<BigEndian>(&rt, rt.alloc(), start_of(&entry_a_big(), 41));
+    is_entry_written::<LittleEndian>(&rt, rt.alloc(), start_of(entry_a(), 41));
+    is_entry_written::<BigEndian>(&rt, rt.alloc(), start_of(entry_a_big(), 41));
 }
 
 #[test]
 fn entries_are_refused(rt: HostRuntime) -> Result<(), Fail> {
     let mut out = Vec::new(rt.alloc());
-    assert!(rt; write_entry::<LittleEndian>(&mut out, &entry_of(1, b"a")).is_ok());
+    expect(
+        &rt,
+        write_entry::<LittleEndian>(&mut out, &entry_of(1, b"a")).is_ok(),
+    );
     for (pino, name, fault) in [
         (1, b"".as_slice(), "N1 Name"),
         (0, b"".as_slice(), "N1 Name"),
@@ -54,8 +58,8 @@ fn entries_are_refused(rt: HostRuntime) -> Result<(), Fail> {
         (1, [0u8; 255].as_slice(), "N1 Name"),
     ] {
         let refused = write_entry::<LittleEndian>(&mut out, &entry_of(pino, name));
-        assert_eq!(rt; message(rt.alloc(), refused)?.as_str(), fault);
-        assert_eq!(rt; out.as_slice(), start_of(&entry_a(), 41));
+        equal(&rt, message(rt.alloc(), refused)?.as_str(), fault);
+        equal(&rt, out.as_slice(), start_of(entry_a(), 41));
     }
     Ok(())
 }
@@ -63,29 +67,35 @@ fn entries_are_refused(rt: HostRuntime) -> Result<(), Fail> {
 #[test]
 fn the_longest_name(rt: HostRuntime) {
     let mut out = Vec::new(rt.alloc());
-    assert!(rt; write_entry::<BigEndian>(&mut out, &entry_of(1, &[b'n'; 254])).is_ok());
-    assert_eq!(rt; out.len(), 294);
+    expect(
+        &rt,
+        write_entry::<BigEndian>(&mut out, &entry_of(1, &[b'n'; 254])).is_ok(),
+    );
+    equal(&rt, out.len(), 294);
 }
 
 fn is_inode_written<E: Order>(rt: &impl Abort, alloc: Global, node: &InodeNode<'_>, bytes: &[u8]) {
     let mut out = Vec::new(alloc);
-    assert!(rt; write_inode::<E>(&mut out, node).is_ok());
-    assert_eq!(rt; out.as_slice(), bytes);
+    expect(rt, write_inode::<E>(&mut out, node).is_ok());
+    equal(rt, out.as_slice(), bytes);
 }
 
 #[test]
 fn inodes_are_written(rt: HostRuntime) {
     let write = write_of(b"abc\xff", 4);
-    is_inode_written::<LittleEndian>(&rt, rt.alloc(), &new_file(), &inode_2());
-    is_inode_written::<LittleEndian>(&rt, rt.alloc(), &write, &write_4());
-    is_inode_written::<BigEndian>(&rt, rt.alloc(), &write, &write_4_big());
-    is_inode_written::<LittleEndian>(&rt, rt.alloc(), &zeros_of_96(), &zero_96());
+    is_inode_written::<LittleEndian>(&rt, rt.alloc(), &new_file(), inode_2());
+    is_inode_written::<LittleEndian>(&rt, rt.alloc(), &write, write_4());
+    is_inode_written::<BigEndian>(&rt, rt.alloc(), &write, write_4_big());
+    is_inode_written::<LittleEndian>(&rt, rt.alloc(), &zeros_of_96(), zero_96());
 }
 
 #[test]
 fn inodes_are_refused(rt: HostRuntime) -> Result<(), Fail> {
     let mut out = Vec::new(rt.alloc());
-    assert!(rt; write_inode::<LittleEndian>(&mut out, &new_file()).is_ok());
+    expect(
+        &rt,
+        write_inode::<LittleEndian>(&mut out, &new_file()).is_ok(),
+    );
     let nameless = InodeNode {
         ino: 0,
         ..new_file()
@@ -97,8 +107,8 @@ fn inodes_are_refused(rt: HostRuntime) -> Result<(), Fail> {
     };
     for node in [nameless, past_the_end, write_of(b"abc", 4)] {
         let refused = write_inode::<LittleEndian>(&mut out, &node);
-        assert_eq!(rt; message(rt.alloc(), refused)?.as_str(), "N2 Data");
-        assert_eq!(rt; out.as_slice(), inode_2().as_slice());
+        equal(&rt, message(rt.alloc(), refused)?.as_str(), "N2 Data");
+        equal(&rt, out.as_slice(), inode_2());
     }
     Ok(())
 }
@@ -115,8 +125,8 @@ fn a_node_past_the_greatest(rt: HostRuntime) -> Result<(), Fail> {
     let data = some_bytes(rt.alloc(), 4_194_237)?;
     let mut out = Vec::new(rt.alloc());
     let refused = write_inode::<LittleEndian>(&mut out, &write_of(&data, 4_194_237));
-    assert_eq!(rt; message(rt.alloc(), refused)?.as_str(), "N2 Data");
-    assert!(rt; out.is_empty());
+    equal(&rt, message(rt.alloc(), refused)?.as_str(), "N2 Data");
+    expect(&rt, out.is_empty());
     Ok(())
 }
 
@@ -126,10 +136,13 @@ fn the_greatest_node(rt: HostRuntime) -> Result<(), Fail> {
     let data = some_bytes(rt.alloc(), 4_194_236)?;
     let mut out = Vec::new(rt.alloc());
     let node = write_of(&data, 4_194_236);
-    assert!(rt; write_inode::<LittleEndian>(&mut out, &node).is_ok());
-    assert_eq!(rt; out.len(), 4_194_304);
-    assert!(rt; header_at::<LittleEndian>(&out).is_some());
-    assert!(rt; matches!(read_node::<LittleEndian>(&out), Seen::Inode(seen) if seen.ino == 2));
+    expect(&rt, write_inode::<LittleEndian>(&mut out, &node).is_ok());
+    equal(&rt, out.len(), 4_194_304);
+    expect(&rt, header_at::<LittleEndian>(&out).is_some());
+    expect(
+        &rt,
+        matches!(read_node::<LittleEndian>(&out), Seen::Inode(seen) if seen.ino == 2),
+    );
     Ok(())
 }
 
@@ -138,8 +151,8 @@ fn padding_is_refused(rt: HostRuntime) -> Result<(), Fail> {
     let mut out = Vec::new(rt.alloc());
     for totlen in [0, 11, 4_194_305, u32::MAX] {
         let refused = write_padding::<LittleEndian>(&mut out, totlen);
-        assert_eq!(rt; message(rt.alloc(), refused)?.as_str(), "N2 Data");
-        assert!(rt; out.is_empty());
+        equal(&rt, message(rt.alloc(), refused)?.as_str(), "N2 Data");
+        expect(&rt, out.is_empty());
     }
     Ok(())
 }
@@ -147,8 +160,8 @@ fn padding_is_refused(rt: HostRuntime) -> Result<(), Fail> {
 #[test]
 fn padding_is_written(rt: HostRuntime) {
     let mut out = Vec::new(rt.alloc());
-    assert!(rt; write_padding::<LittleEndian>(&mut out, 16).is_ok());
-    assert_eq!(rt; out.as_slice(), padding_16().as_slice());
-    assert!(rt; write_padding::<BigEndian>(&mut out, 12).is_ok());
-    assert_eq!(rt; out.len(), 28);
+    expect(&rt, write_padding::<LittleEndian>(&mut out, 16).is_ok());
+    equal(&rt, out.as_slice(), padding_16());
+    expect(&rt, write_padding::<BigEndian>(&mut out, 12).is_ok());
+    equal(&rt, out.len(), 28);
 }

@@ -1,5 +1,6 @@
 //! Devices that fail once, at each of their calls in turn, and devices that give or take one byte a call.
 
+use crate::checks::{equal, expect};
 use crate::images::{GEOMETRY, TREE, TWO_BLOCKS, image_of, raw_image};
 use crate::reads::{CALLS, Call, answer_and_text, ask};
 use crate::streams::FIRST_BLOCK;
@@ -48,8 +49,12 @@ fn sinks_that_fail_once(rt: HostRuntime) -> Result<(), Fail> {
     for call in CALLS {
         let (_, text) = answer_and_text(rt.alloc(), call, &image, GEOMETRY);
         let count = count_of_puts(rt.alloc(), &image, call, &text, false);
-        assert!(rt; count.is_some_and(|count| count > 0));
-        assert_eq!(rt; count_of_puts(rt.alloc(), &image, call, &text, true), count);
+        expect(&rt, count.is_some_and(|count| count > 0));
+        equal(
+            &rt,
+            count_of_puts(rt.alloc(), &image, call, &text, true),
+            count,
+        );
     }
     Ok(())
 }
@@ -63,8 +68,8 @@ fn sources_that_fail_once(rt: HostRuntime) -> Result<(), Fail> {
             let mut source = Giver::failing(&image, 100, calls);
             let mut sink = Taker::new(rt.alloc());
             let answer = ask(rt.alloc(), call, &mut source, GEOMETRY, &mut sink);
-            assert_eq!(rt; answer, Err(ProgramFault::Load(LoadFault::Device)));
-            assert!(rt; source.failures == 1 && sink.took(0, b""));
+            equal(&rt, answer, Err(ProgramFault::Load(LoadFault::Device)));
+            expect(&rt, source.failures == 1 && sink.took(0, b""));
         }
     }
     Ok(())
@@ -77,11 +82,12 @@ fn devices_of_one_byte_a_call(rt: HostRuntime) -> Result<(), Fail> {
         let (want, text) = answer_and_text(rt.alloc(), call, &image, GEOMETRY);
         let mut source = Giver::failing(&image, 1, usize::MAX);
         let mut sink = Taker::limited(rt.alloc(), 1, usize::MAX);
-        assert_eq!(rt;
+        equal(
+            &rt,
             ask(rt.alloc(), call, &mut source, GEOMETRY, &mut sink),
-            want
+            want,
         );
-        assert!(rt; sink.took(0, &text) && source.failures == 0);
+        expect(&rt, sink.took(0, &text) && source.failures == 0);
     }
     Ok(())
 }
@@ -100,11 +106,11 @@ fn streams_that_fail_once(rt: HostRuntime) {
         );
         let failures = left.map(|left| left.failures);
         if calls < 3 {
-            assert_eq!(rt; answer, Err(ProgramFault::Load(LoadFault::Device)));
-            assert!(rt; sink.took(0, b"") && failures == Some(1));
+            equal(&rt, answer, Err(ProgramFault::Load(LoadFault::Device)));
+            expect(&rt, sink.took(0, b"") && failures == Some(1));
         } else {
-            assert_eq!(rt; answer, Ok(0));
-            assert_eq!(rt; failures, Some(0));
+            equal(&rt, answer, Ok(0));
+            equal(&rt, failures, Some(0));
         }
     }
 }
@@ -123,8 +129,8 @@ fn a_source_is_read_as_far_as_its_lines_go(rt: HostRuntime) -> Result<(), Fail> 
             GEOMETRY,
             &mut sink,
         );
-        assert_eq!(rt; answer, Err(ProgramFault::Output));
-        assert_eq!(rt; left.map(|left| left.rest), image.get(read..));
+        equal(&rt, answer, Err(ProgramFault::Output));
+        equal(&rt, left.map(|left| left.rest), image.get(read..));
     }
     Ok(())
 }

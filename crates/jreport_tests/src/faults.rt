@@ -1,5 +1,6 @@
 //! What no clause says of the texts of faults.
 
+use crate::checks::{expect, expect_at};
 use flashbase::{FromWriter, LoadFault, PutFault};
 use jlisting::ListingFault;
 use jlog::SessionFault;
@@ -151,7 +152,7 @@ fn is_told(alloc: Global, fault: &ProgramFault<'_>, wanted: &str) -> Result<bool
 #[test]
 fn texts_of_faults(rt: HostRuntime) -> Result<(), Fail> {
     for (fault, text) in FAULTS {
-        assert!(rt; is_told(rt.alloc(), &fault, text)?, "{text}");
+        expect_at(&rt, is_told(rt.alloc(), &fault, text)?, text);
     }
     Ok(())
 }
@@ -159,13 +160,14 @@ fn texts_of_faults(rt: HostRuntime) -> Result<(), Fail> {
 #[test]
 fn texts_of_a_session(rt: HostRuntime) -> Result<(), Fail> {
     for (fault, number, text, with_line) in SESSION_FAULTS {
-        assert!(rt;
+        expect_at(
+            &rt,
             is_told(rt.alloc(), &ProgramFault::from(fault), text)?,
-            "{text}"
+            text,
         );
         let line = Some(number);
         let told = ProgramFault::Session { fault, line };
-        assert!(rt; is_told(rt.alloc(), &told, with_line)?, "{with_line}");
+        expect_at(&rt, is_told(rt.alloc(), &told, with_line)?, with_line);
     }
     for (fault, text) in OP_FAULTS {
         let fault = SessionFault::Refused(fault);
@@ -173,7 +175,7 @@ fn texts_of_a_session(rt: HostRuntime) -> Result<(), Fail> {
             fault,
             line: Some(12),
         };
-        assert!(rt; is_told(rt.alloc(), &told, text)?, "{text}");
+        expect_at(&rt, is_told(rt.alloc(), &told, text)?, text);
     }
     Ok(())
 }
@@ -190,13 +192,14 @@ fn texts_of_a_listing(rt: HostRuntime) -> Result<(), Fail> {
         (ListingFault::OutOfMemory, "P6 OutOfMemory"),
     ];
     for (fault, text) in rows {
-        assert!(rt;
+        expect_at(
+            &rt,
             is_told(rt.alloc(), &ProgramFault::from(fault), text)?,
-            "{text}"
+            text,
         );
     }
     let told = ProgramFault::Listing { line: 3 };
-    assert!(rt; is_told(rt.alloc(), &told, "P2 Listing line 3")?);
+    expect(&rt, is_told(rt.alloc(), &told, "P2 Listing line 3")?);
     Ok(())
 }
 
@@ -212,8 +215,8 @@ fn texts_that_do_not_fit(rt: HostRuntime) {
     for (fault, text) in FAULTS {
         for limit in 0..text.len() {
             let text = &text.as_bytes()[..limit];
-            assert!(rt; is_cut(rt.alloc(), &fault, text, false));
-            assert!(rt; is_cut(rt.alloc(), &fault, text, true));
+            expect(&rt, is_cut(rt.alloc(), &fault, text, false));
+            expect(&rt, is_cut(rt.alloc(), &fault, text, true));
         }
     }
 }

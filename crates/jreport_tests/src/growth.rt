@@ -1,5 +1,6 @@
 //! A growth that is refused is told as such.
 
+use crate::checks::equal;
 use crate::images::{CIRCLE, CIRCLE_LINES, GEOMETRY, LARGE, TREE, image_of};
 use crate::reads::{Call, TREE_CHECKED, TREE_LISTED, ask};
 use byteorder::LittleEndian;
@@ -49,8 +50,8 @@ fn refused_growth_of_whole_calls(rt: HostRuntime) {
                 ProgramFault::OutOfMemory
                 | ProgramFault::Load(LoadFault::OutOfMemory)
                 | ProgramFault::Mount(MountFault::OutOfMemory),
-            ) => assert_eq!(rt; fault(rt.alloc(), &image, row), None),
-            Some(other) => assert_eq!(rt; Some(other), None),
+            ) => equal(&rt, fault(rt.alloc(), &image, row), None),
+            Some(other) => equal(&rt, Some(other), None),
         }
     }
 }
@@ -104,9 +105,9 @@ fn refused_growth_of_verdicts(rt: HostRuntime) {
         match verdict_fault(rt.alloc(), &image, text) {
             None => (),
             Some(ProgramFault::OutOfMemory | ProgramFault::Mount(MountFault::OutOfMemory)) => {
-                assert_eq!(rt; verdict_fault(rt.alloc(), &image, text), None)
+                equal(&rt, verdict_fault(rt.alloc(), &image, text), None)
             }
-            Some(other) => assert_eq!(rt; Some(other), None),
+            Some(other) => equal(&rt, Some(other), None),
         }
     }
 }
@@ -154,19 +155,19 @@ fn word_fault(alloc: Global) -> Option<ProgramFault<'static>> {
 #[test]
 fn refused_growth_of_lines(rt: HostRuntime) {
     if let Some(fault) = circle_fault(rt.alloc()) {
-        assert_eq!(rt; fault, ProgramFault::OutOfMemory);
-        assert_eq!(rt; circle_fault(rt.alloc()), None);
+        equal(&rt, fault, ProgramFault::OutOfMemory);
+        equal(&rt, circle_fault(rt.alloc()), None);
     }
     if let Some(fault) = stream_fault(rt.alloc()) {
-        assert_eq!(rt; fault, ProgramFault::Load(LoadFault::OutOfMemory));
-        assert_eq!(rt; stream_fault(rt.alloc()), None);
+        equal(&rt, fault, ProgramFault::Load(LoadFault::OutOfMemory));
+        equal(&rt, stream_fault(rt.alloc()), None);
     }
     if let Some(fault) = text_fault(rt.alloc()) {
-        assert_eq!(rt; fault, ScanFault::OutOfMemory);
-        assert_eq!(rt; text_fault(rt.alloc()), None);
+        equal(&rt, fault, ScanFault::OutOfMemory);
+        equal(&rt, text_fault(rt.alloc()), None);
     }
     if let Some(fault) = word_fault(rt.alloc()) {
-        assert_eq!(rt; fault, ProgramFault::OutOfMemory);
-        assert_eq!(rt; word_fault(rt.alloc()), None);
+        equal(&rt, fault, ProgramFault::OutOfMemory);
+        equal(&rt, word_fault(rt.alloc()), None);
     }
 }

@@ -1,5 +1,6 @@
 //! Worked trees, with the lines that `ls` prints of them.
 
+use crate::checks::equal;
 use crate::images::{CIRCLE, CIRCLE_LINES, LARGE, image_of};
 use byteorder::LittleEndian;
 use flashbase::FromWriter;
@@ -131,10 +132,10 @@ const ROWS: [Row; 6] = [
 fn worked_trees(rt: HostRuntime) -> Result<(), Fail> {
     for (nodes, text) in ROWS {
         let put = lines(rt.alloc(), nodes)?;
-        assert_eq!(rt; put.as_slice(), text.as_bytes());
+        equal(&rt, put.as_slice(), text.as_bytes());
     }
     let put = lines(rt.alloc(), CIRCLE)?;
-    assert_eq!(rt; put.as_slice(), CIRCLE_LINES);
+    equal(&rt, put.as_slice(), CIRCLE_LINES);
     Ok(())
 }
 
@@ -153,13 +154,14 @@ fn long_symlinks(rt: HostRuntime) -> Result<(), Fail> {
     let mut target = vec![in rt.alloc(); b'x'; 4096]?;
     let start = "d 0755 0 0 0 0 1 /\nl 0777 0 0 4096 0 2 /s -> ";
     let shown = shown_target(rt.alloc(), &target, start)?;
-    assert_eq!(rt; shown.as_slice(), b"(long)\n".as_slice());
+    equal(&rt, shown.as_slice(), b"(long)\n".as_slice());
     target.truncate(4095);
     let start = "d 0755 0 0 0 0 1 /\nl 0777 0 0 4095 0 2 /s -> ";
     let shown = shown_target(rt.alloc(), &target, start)?;
-    assert_eq!(rt;
+    equal(
+        &rt,
         shown.strip_suffix(b"\n".as_slice()),
-        Some(target.as_slice())
+        Some(target.as_slice()),
     );
     Ok(())
 }
@@ -189,7 +191,7 @@ const PATHS: [(&[&[u8]], bool, &str); 2] = [
 fn a_line_of_an_object(rt: HostRuntime) -> Result<(), Fail> {
     for (path, again, line) in PATHS {
         let put = object_line(rt.alloc(), path, again).ok_or("no line")?;
-        assert_eq!(rt; put.as_slice(), line.as_bytes());
+        equal(&rt, put.as_slice(), line.as_bytes());
     }
     Ok(())
 }

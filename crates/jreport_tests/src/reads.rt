@@ -1,5 +1,6 @@
 //! Images that are read as a whole: what `check`, `cat` and `ls` write of them, and what they answer.
 
+use crate::checks::{equal, expect};
 use crate::images::{
     CLASH, DAMAGED_INODE_2, FILE_AS_ROOT, GEOMETRY, LARGE, ONE_BLOCK, OTHER_ORDER, Raw, TREE,
     image_of, raw_image,
@@ -63,7 +64,7 @@ fn contents(rt: HostRuntime) -> Result<(), Fail> {
         (b"/".as_slice(), Err(ProgramFault::NotRegular)),
         (b"/s".as_slice(), Err(ProgramFault::NotRegular)),
     ] {
-        assert!(rt; is_read(rt.alloc(), &image, path, want));
+        expect(&rt, is_read(rt.alloc(), &image, path, want));
     }
     Ok(())
 }
@@ -92,7 +93,7 @@ fn is_word_of(alloc: Global, word: &[u8], path: Option<&[u8]>) -> bool {
 #[test]
 fn words_of_paths(rt: HostRuntime) {
     for (word, path) in WORDS {
-        assert!(rt; is_word_of(rt.alloc(), word, path));
+        expect(&rt, is_word_of(rt.alloc(), word, path));
     }
 }
 
@@ -100,10 +101,10 @@ fn words_of_paths(rt: HostRuntime) {
 fn names_that_are_long(rt: HostRuntime) -> Result<(), Fail> {
     let name = vec![in rt.alloc(); b' '; 1000]?;
     let mut sink = FromWriter::new(Vec::new(rt.alloc()));
-    assert!(rt; put_escaped(&mut sink, &name).is_ok());
+    expect(&rt, put_escaped(&mut sink, &name).is_ok());
     let text = sink.into_writer();
-    assert_eq!(rt; text.len(), 4000);
-    assert!(rt; text.starts_with(b"\\x20\\x20"));
+    equal(&rt, text.len(), 4000);
+    expect(&rt, text.starts_with(b"\\x20\\x20"));
     Ok(())
 }
 
@@ -215,8 +216,8 @@ fn worked_calls(rt: HostRuntime) -> Result<(), Fail> {
     for (nodes, call, want, text) in WHOLE {
         let image = image_of(rt.alloc(), nodes)?;
         let (answer, put) = answer_and_text(rt.alloc(), call, &image, GEOMETRY);
-        assert_eq!(rt; answer, want);
-        assert_eq!(rt; put.as_slice(), text);
+        equal(&rt, answer, want);
+        equal(&rt, put.as_slice(), text);
     }
     Ok(())
 }
@@ -243,8 +244,8 @@ fn worked_ends(rt: HostRuntime) -> Result<(), Fail> {
     for (nodes, call, want, end) in ENDS {
         let image = image_of(rt.alloc(), nodes)?;
         let (answer, put) = answer_and_text(rt.alloc(), call, &image, GEOMETRY);
-        assert_eq!(rt; answer, want);
-        assert!(rt; put.ends_with(end));
+        equal(&rt, answer, want);
+        expect(&rt, put.ends_with(end));
     }
     Ok(())
 }
@@ -265,8 +266,8 @@ fn block_sizes_that_are_refused(rt: HostRuntime) -> Result<(), Fail> {
     for block in [0, 4092, 4097, u32::MAX] {
         for (call, fault) in REFUSALS {
             let (answer, put) = answer_and_text(rt.alloc(), call, &image, Geometry { block });
-            assert_eq!(rt; answer, Err(fault));
-            assert!(rt; put.is_empty());
+            equal(&rt, answer, Err(fault));
+            expect(&rt, put.is_empty());
         }
     }
     Ok(())
@@ -311,7 +312,7 @@ fn findings_of_mounted_images(rt: HostRuntime) -> Result<(), Fail> {
         let image = raw_image(rt.alloc(), Raw { nodes, ..ONE_BLOCK })?;
         for call in [Call::Listing, Call::Content(b"/a")] {
             let (answer, _) = answer_and_text(rt.alloc(), call, &image, GEOMETRY);
-            assert_eq!(rt; answer, Ok(count));
+            equal(&rt, answer, Ok(count));
         }
     }
     Ok(())
@@ -320,10 +321,11 @@ fn findings_of_mounted_images(rt: HostRuntime) -> Result<(), Fail> {
 #[test]
 fn a_note(rt: HostRuntime) {
     let mut sink = FromWriter::new(Vec::new(rt.alloc()));
-    assert_eq!(rt; note_line(17, &mut sink), Ok(()));
-    assert_eq!(rt;
+    equal(&rt, note_line(17, &mut sink), Ok(()));
+    equal(
+        &rt,
         sink.into_writer().as_slice(),
-        b"jffs2_image: note: 17 findings, see check --scan; a wrong --block or --endian shows as findings too\n".as_slice()
+        b"jffs2_image: note: 17 findings, see check --scan; a wrong --block or --endian shows as findings too\n".as_slice(),
     );
 }
 
@@ -332,7 +334,7 @@ fn a_source_that_fails(rt: HostRuntime) -> Result<(), Fail> {
     let image = image_of(rt.alloc(), TREE)?;
     for call in CALLS {
         for limit in [0, 1, 40, 455] {
-            assert!(rt; is_unread(rt.alloc(), call, &image, limit));
+            expect(&rt, is_unread(rt.alloc(), call, &image, limit));
         }
     }
     Ok(())
@@ -352,7 +354,10 @@ fn a_sink_that_fails_at_each_byte(rt: HostRuntime) -> Result<(), Fail> {
     for call in CALLS {
         let (_, whole) = answer_and_text(rt.alloc(), call, &image, GEOMETRY);
         for limit in 0..whole.len() {
-            assert!(rt; is_cut(rt.alloc(), call, &image, &whole[..limit], limit));
+            expect(
+                &rt,
+                is_cut(rt.alloc(), call, &image, &whole[..limit], limit),
+            );
         }
     }
     Ok(())

@@ -1,5 +1,6 @@
 //! Worked images, with the lines that they print, as a whole and block by block.
 
+use crate::checks::{equal, expect};
 use crate::images::{BLOCK, GEOMETRY, OBSOLETE, OBSOLETE_A, ONE_BLOCK, Raw, SKIPPABLE, raw_image};
 use crate::streams::streamed;
 use byteorder::{BigEndian, LittleEndian};
@@ -241,8 +242,8 @@ fn worked_reports(rt: HostRuntime) -> Result<(), Fail> {
     for (raw, endian, text, findings) in ROWS {
         let image = raw_image(rt.alloc(), raw)?;
         let lines = report_in(rt.alloc(), &image, endian)?;
-        assert_eq!(rt; lines.text.as_slice(), text.as_bytes());
-        assert_eq!(rt; lines.findings, findings);
+        equal(&rt, lines.text.as_slice(), text.as_bytes());
+        equal(&rt, lines.findings, findings);
     }
     Ok(())
 }
@@ -251,6 +252,6 @@ fn worked_reports(rt: HostRuntime) -> Result<(), Fail> {
 fn block_sizes_that_are_refused(rt: HostRuntime) {
     for block in [0, 4092, 4098, 4194308] {
         let lines = scan_lines::<LittleEndian>(rt.alloc(), &[], Geometry { block });
-        assert!(rt; matches!(lines, Err(ScanFault::BlockSize)));
+        expect(&rt, matches!(lines, Err(ScanFault::BlockSize)));
     }
 }

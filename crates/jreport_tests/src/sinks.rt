@@ -1,5 +1,6 @@
 //! Sinks that fail once, at each byte of a text, and then work again: what each call that writes text answers, and what went out.
 
+use crate::checks::{equal, expect, expect_at};
 use crate::images::{BLOCK, GEOMETRY, TREE, image_of};
 use byteorder::LittleEndian;
 use flashbase::{FromReader, PutFault};
@@ -141,14 +142,15 @@ fn texts_onto_sinks_that_fail_once(rt: HostRuntime) -> Result<(), Fail> {
     image.extend_from_slice(&LITTLE_MARKER)?;
     for text in TEXTS {
         let mut sink = Taker::new(rt.alloc());
-        assert_eq!(rt; put(rt.alloc(), text, &image, &mut sink), Ok(()));
+        equal(&rt, put(rt.alloc(), text, &image, &mut sink), Ok(()));
         let whole = sink.bytes;
-        assert!(rt; !whole.is_empty());
+        expect(&rt, !whole.is_empty());
         for calls in 0..whole.len() {
             for is_silent in [false, true] {
-                assert!(rt;
+                expect_at(
+                    &rt,
                     is_told(rt.alloc(), text, &image, &whole, calls, is_silent),
-                    "{text:?} after {calls}"
+                    (text, calls),
                 );
             }
         }

@@ -1,5 +1,6 @@
 //! Reports of sources that give their bytes in pieces, and of sources that fail.
 
+use crate::checks::{equal, expect};
 use crate::images::{GEOMETRY, TWO_BLOCKS, raw_image};
 use byteorder::{BigEndian, LittleEndian};
 use flashbase::{FromWriter, LoadFault, Source};
@@ -48,8 +49,8 @@ fn a_source_that_fails(rt: HostRuntime) -> Result<(), Fail> {
             (8191, FIRST_BLOCK),
         ] {
             let (answer, put) = streamed::<LittleEndian>(rt.alloc(), &bytes, piece, limit);
-            assert_eq!(rt; answer, Err(ProgramFault::Load(LoadFault::Device)));
-            assert_eq!(rt; put.as_slice(), text.as_bytes());
+            equal(&rt, answer, Err(ProgramFault::Load(LoadFault::Device)));
+            equal(&rt, put.as_slice(), text.as_bytes());
         }
     }
     Ok(())
@@ -66,8 +67,8 @@ fn block_sizes_that_are_refused_unread(rt: HostRuntime) {
             Geometry { block },
             &mut sink,
         );
-        assert_eq!(rt; answer, Err(ProgramFault::Scan(ScanFault::BlockSize)));
-        assert!(rt; left.is_none() && sink.into_writer().is_empty());
+        equal(&rt, answer, Err(ProgramFault::Scan(ScanFault::BlockSize)));
+        expect(&rt, left.is_none() && sink.into_writer().is_empty());
     }
 }
 
@@ -82,10 +83,14 @@ fn long(alloc: Global, len: usize) -> Answer {
 #[test]
 fn the_greatest_image(rt: HostRuntime) {
     let (answer, whole) = long(rt.alloc(), GREATEST_IMAGE);
-    assert_eq!(rt; answer, Ok(0));
+    equal(&rt, answer, Ok(0));
     let (answer, text) = long(rt.alloc(), GREATEST_IMAGE + 1);
-    assert_eq!(rt; answer, Err(ProgramFault::Load(LoadFault::TooLarge)));
-    assert!(rt; text.ends_with(b"block 63\n0fc00000 erased 4194304\n"));
+    equal(&rt, answer, Err(ProgramFault::Load(LoadFault::TooLarge)));
+    expect(&rt, text.ends_with(b"block 63\n0fc00000 erased 4194304\n"));
     let total = b"total blocks 64 entries 0 inodes 0 findings 0\n";
-    assert_eq!(rt; whole.strip_suffix(total.as_slice()), Some(text.as_slice()));
+    equal(
+        &rt,
+        whole.strip_suffix(total.as_slice()),
+        Some(text.as_slice()),
+    );
 }
