@@ -1,5 +1,6 @@
 //! Checksums, padding, erased runs, and the laws of lists.
 
+use crate::checks::{equal, equal_at};
 use flashbase::*;
 
 /// The first 8 bytes of the clean marker in little byte order.
@@ -55,7 +56,7 @@ fn known_values_of_the_checksum(rt: HostRuntime) {
         (b"\x80".as_slice(), 0xEDB8_8320),
         (b"\xFF".as_slice(), 0x2D02_EF8D),
     ] {
-        assert_eq!(rt; crc(bytes), sum, "of {bytes:?}");
+        equal_at(&rt, crc(bytes), sum, bytes);
     }
 }
 
@@ -65,11 +66,12 @@ fn checksums_of_every_length(rt: HostRuntime) {
     crc_goes_on();
     crc_is_word();
     for n in 0..26usize {
-        assert_eq!(rt; crc(&FOX[..n]), FOX_CHECKSUMS[n], "at {n}");
-        assert_eq!(rt;
+        equal_at(&rt, crc(&FOX[..n]), FOX_CHECKSUMS[n], n);
+        equal_at(
+            &rt,
             crc_from(FOX_CHECKSUMS[n], &FOX[n..25]),
             FOX_CHECKSUMS[25],
-            "from {n}"
+            n,
         );
     }
 }
@@ -87,7 +89,7 @@ fn padding(rt: HostRuntime) {
         (0xFFFF_FFFD, 0x1_0000_0000),
         (0xFFFF_FFFF, 0x1_0000_0000),
     ] {
-        assert_eq!(rt; pad4(n), padded, "at {n}");
+        equal_at(&rt, pad4(n), padded, n);
     }
 }
 
@@ -97,12 +99,12 @@ fn erased_runs(rt: HostRuntime) {
     erased_run_is_longest();
     let mut bytes = [0xFFu8; 130];
     for n in 0..131usize {
-        assert_eq!(rt; erased_run(&bytes[..n]), n);
+        equal(&rt, erased_run(&bytes[..n]), n);
     }
     for at in 0..130usize {
         bytes[at] = 0xFE;
         for n in at + 1..131usize {
-            assert_eq!(rt; erased_run(&bytes[..n]), at, "at {at} of {n}");
+            equal_at(&rt, erased_run(&bytes[..n]), at, (at, n));
         }
         bytes[at] = 0xFF;
     }

@@ -1,5 +1,6 @@
 //! A growth that is refused is told as such.
 
+use crate::checks::{equal, expect};
 use flashbase::{LoadFault, load};
 use test_support::Giver;
 
@@ -10,12 +11,12 @@ fn refused_growth_is_want_of_memory(rt: HostRuntime) {
     let mut source = Giver::failing(text, 1, usize::MAX);
     let first = load(rt.alloc(), &mut source, text.len());
     if let Err(fault) = &first {
-        assert_eq!(rt; *fault, LoadFault::OutOfMemory);
+        equal(&rt, *fault, LoadFault::OutOfMemory);
     }
     let (want, loaded) = match first {
         Ok(bytes) => (text, Ok(bytes)),
         Err(_) => (source.rest, load(rt.alloc(), &mut source, text.len())),
     };
-    assert!(rt; loaded.is_ok_and(|bytes| bytes.as_slice() == want));
-    assert_eq!(rt; source.failures, 0);
+    expect(&rt, loaded.is_ok_and(|bytes| bytes.as_slice() == want));
+    equal(&rt, source.failures, 0);
 }

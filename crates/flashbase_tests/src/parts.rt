@@ -1,5 +1,6 @@
 //! A part is one list: the bytes that an image has, and then missing ones that count as 0xFF.
 
+use crate::checks::{equal, equal_at, expect};
 use flashbase::Part;
 use std::alloc::Global;
 use std::process::Abort;
@@ -14,10 +15,10 @@ fn is_list(
     sum: u32,
 ) -> Result<(), Fail> {
     let bytes: Vec<u8> = part.iter().collect(alloc)?;
-    assert!(rt; bytes.as_slice() == list);
-    assert!(rt; part.len() == list.len());
-    assert!(rt; part.is_empty() == list.is_empty());
-    assert!(rt; part.crc() == sum);
+    expect(rt, bytes.as_slice() == list);
+    expect(rt, part.len() == list.len());
+    expect(rt, part.is_empty() == list.is_empty());
+    expect(rt, part.crc() == sum);
     Ok(())
 }
 
@@ -42,9 +43,9 @@ fn a_part_is_one_list(rt: HostRuntime) -> Result<(), Fail> {
 #[test]
 fn bytes_of_a_part(rt: HostRuntime) {
     let part = Part::new(&[1, 2, 3], 2);
-    assert_eq!(rt; part.present(), [1, 2, 3].as_slice());
+    equal(&rt, part.present(), [1, 2, 3].as_slice());
     for (i, byte) in [(2, Some(3)), (4, Some(0xFF)), (5, None)] {
-        assert_eq!(rt; part.get(i), byte, "at {i}");
+        equal_at(&rt, part.get(i), byte, i);
     }
 }
 
@@ -53,10 +54,13 @@ fn a_part_is_copied_out(rt: HostRuntime) -> Result<(), Fail> {
     let part = Part::new(&[1, 2, 3], 2);
     let mut copy = [0; 5];
     part.copy_to(&mut copy);
-    assert_eq!(rt; copy, [1, 2, 3, 0xFF, 0xFF]);
+    equal(&rt, copy, [1, 2, 3, 0xFF, 0xFF]);
     let mut out = Vec::with_capacity(rt.alloc(), 7)?;
     part.slice(2, 2).put_onto(&mut out);
     part.put_onto(&mut out);
-    assert!(rt; out.as_slice() == [3, 0xFF, 1, 2, 3, 0xFF, 0xFF].as_slice());
+    expect(
+        &rt,
+        out.as_slice() == [3, 0xFF, 1, 2, 3, 0xFF, 0xFF].as_slice(),
+    );
     Ok(())
 }

@@ -1,5 +1,6 @@
 //! Puts into sinks that take a little at a time, and fail.
 
+use crate::checks::{equal, expect};
 use flashbase::{FromWriter, PutFault, Sink, put_all, write_once};
 use std::io;
 use std::io::{ErrorKind, Write};
@@ -50,12 +51,16 @@ fn a_put_meets_each_failure(rt: HostRuntime) {
         for calls in 0..4usize {
             let mut sink = Taker::failing(rt.alloc(), 1, calls, is_silent);
             sink.failures = u64::MAX;
-            assert_eq!(rt; put_all(&mut sink, b""), Ok(()));
-            assert_eq!(rt; put_all(&mut sink, text), Err(PutFault { taken: calls }));
-            assert_eq!(rt; sink.failures, 0);
-            assert_eq!(rt; put_all(&mut sink, &text[calls..]), Ok(()));
-            assert!(rt; sink.bytes.as_slice() == text);
-            assert_eq!(rt; sink.failures, 0);
+            equal(&rt, put_all(&mut sink, b""), Ok(()));
+            equal(
+                &rt,
+                put_all(&mut sink, text),
+                Err(PutFault { taken: calls }),
+            );
+            equal(&rt, sink.failures, 0);
+            equal(&rt, put_all(&mut sink, &text[calls..]), Ok(()));
+            expect(&rt, sink.bytes.as_slice() == text);
+            equal(&rt, sink.failures, 0);
         }
     }
 }
@@ -64,25 +69,28 @@ fn a_put_meets_each_failure(rt: HostRuntime) {
 fn a_write_counts_what_fails(rt: HostRuntime) {
     let mut failures = 0;
     let mut bytes = Vec::new(rt.alloc());
-    assert_eq!(rt; write_once(&mut bytes, &mut failures, b"xy"), Ok(2));
-    assert!(rt; bytes.as_slice() == b"xy".as_slice());
-    assert_eq!(rt; failures, 0);
-    assert!(rt; write_once(&mut Interrupted, &mut failures, b"xy").is_err());
-    assert_eq!(rt; failures, 1);
+    equal(&rt, write_once(&mut bytes, &mut failures, b"xy"), Ok(2));
+    expect(&rt, bytes.as_slice() == b"xy".as_slice());
+    equal(&rt, failures, 0);
+    expect(
+        &rt,
+        write_once(&mut Interrupted, &mut failures, b"xy").is_err(),
+    );
+    equal(&rt, failures, 1);
 }
 
 #[test]
 fn a_put_onto_a_writer(rt: HostRuntime) {
     let mut sink = FromWriter::new(Vec::new(rt.alloc()));
-    assert_eq!(rt; sink.put(b"xy"), Ok(2));
-    assert_eq!(rt; put_all(&mut sink, b"z"), Ok(()));
-    assert!(rt; sink.into_writer().as_slice() == b"xyz".as_slice());
+    equal(&rt, sink.put(b"xy"), Ok(2));
+    equal(&rt, put_all(&mut sink, b"z"), Ok(()));
+    expect(&rt, sink.into_writer().as_slice() == b"xyz".as_slice());
 }
 
 #[test]
 fn a_put_onto_a_writer_that_fails(rt: HostRuntime) {
     let mut sink = FromWriter::new(Interrupted);
-    assert_eq!(rt; put_all(&mut sink, b"xyz"), Err(PutFault { taken: 0 }));
+    equal(&rt, put_all(&mut sink, b"xyz"), Err(PutFault { taken: 0 }));
 }
 
 #[test]
@@ -91,7 +99,10 @@ fn a_put_onto_a_writer_that_takes_nothing_once(rt: HostRuntime) {
         was_asked: false,
         bytes: Vec::new(rt.alloc()),
     });
-    assert_eq!(rt; put_all(&mut sink, b"xyz"), Err(PutFault { taken: 0 }));
-    assert_eq!(rt; put_all(&mut sink, b"xyz"), Ok(()));
-    assert!(rt; sink.into_writer().bytes.as_slice() == b"xyz".as_slice());
+    equal(&rt, put_all(&mut sink, b"xyz"), Err(PutFault { taken: 0 }));
+    equal(&rt, put_all(&mut sink, b"xyz"), Ok(()));
+    expect(
+        &rt,
+        sink.into_writer().bytes.as_slice() == b"xyz".as_slice(),
+    );
 }

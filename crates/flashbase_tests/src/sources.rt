@@ -1,5 +1,6 @@
 //! Loads of sources that end, fail, or are too large.
 
+use crate::checks::{equal, expect};
 use flashbase::{FromReader, LoadFault, Source, load};
 use std::io;
 use std::io::{ErrorKind, Read};
@@ -23,11 +24,14 @@ fn a_load_meets_each_failure(rt: HostRuntime) -> Result<(), Fail> {
             failures: u64::MAX,
             ..Giver::failing(b"abcd", 1, calls)
         };
-        assert!(rt; matches!(load(rt.alloc(), &mut source, 9), Err(LoadFault::Device)));
-        assert_eq!(rt; source.failures, 0);
+        expect(
+            &rt,
+            matches!(load(rt.alloc(), &mut source, 9), Err(LoadFault::Device)),
+        );
+        equal(&rt, source.failures, 0);
         let rest = load(rt.alloc(), &mut source, 9).map_err(|_| "not loaded")?;
-        assert_eq!(rt; rest.len(), 4 - calls);
-        assert_eq!(rt; source.failures, 0);
+        equal(&rt, rest.len(), 4 - calls);
+        equal(&rt, source.failures, 0);
     }
     Ok(())
 }
@@ -39,8 +43,8 @@ fn a_load_without_a_failure(rt: HostRuntime) -> Result<(), Fail> {
         ..Giver::failing(b"abcd", 1, 5)
     };
     let bytes = load(rt.alloc(), &mut source, 4).map_err(|_| "not loaded")?;
-    assert!(rt; bytes.as_slice() == b"abcd".as_slice());
-    assert_eq!(rt; source.failures, 3);
+    expect(&rt, bytes.as_slice() == b"abcd".as_slice());
+    equal(&rt, source.failures, 3);
     Ok(())
 }
 
@@ -50,7 +54,7 @@ fn a_load_of_a_reader(rt: HostRuntime) -> Result<(), Fail> {
     for text in [b"abcd".as_slice(), large.as_slice()] {
         let mut source = FromReader::new(text);
         let bytes = load(rt.alloc(), &mut source, text.len()).map_err(|_| "not loaded")?;
-        assert!(rt; bytes.as_slice() == text);
+        expect(&rt, bytes.as_slice() == text);
     }
     Ok(())
 }
@@ -58,35 +62,41 @@ fn a_load_of_a_reader(rt: HostRuntime) -> Result<(), Fail> {
 #[test]
 fn a_reader_that_is_not_loaded(rt: HostRuntime) {
     let mut source = FromReader::new(b"abcd".as_slice());
-    assert!(rt; matches!(load(rt.alloc(), &mut source, 3), Err(LoadFault::TooLarge)));
+    expect(
+        &rt,
+        matches!(load(rt.alloc(), &mut source, 3), Err(LoadFault::TooLarge)),
+    );
     let mut source = FromReader::new(Interrupted);
-    assert!(rt; matches!(load(rt.alloc(), &mut source, 9), Err(LoadFault::Device)));
+    expect(
+        &rt,
+        matches!(load(rt.alloc(), &mut source, 9), Err(LoadFault::Device)),
+    );
 }
 
 #[test]
 fn a_reader_that_goes_on_counting(rt: HostRuntime) {
     let mut source = FromReader::new(Interrupted);
-    assert_eq!(rt; source.failures(), 0);
-    assert!(rt; source.fill(&mut [0u8; 3]).is_err());
-    assert_eq!(rt; source.failures(), 1);
+    equal(&rt, source.failures(), 0);
+    expect(&rt, source.fill(&mut [0u8; 3]).is_err());
+    equal(&rt, source.failures(), 1);
     for (before, after) in [(0, 1), (7, 8), (u64::MAX, 0)] {
         let mut source = FromReader::counting_from(Interrupted, before);
-        assert_eq!(rt; source.failures(), before);
-        assert!(rt; source.fill(&mut [0u8; 3]).is_err());
-        assert_eq!(rt; source.failures(), after);
+        equal(&rt, source.failures(), before);
+        expect(&rt, source.fill(&mut [0u8; 3]).is_err());
+        equal(&rt, source.failures(), after);
     }
     let mut source = FromReader::counting_from(b"abcd".as_slice(), 7);
     let mut buf = [0u8; 3];
-    assert_eq!(rt; source.fill(&mut buf), Ok(3));
-    assert!(rt; source.failures() == 7 && buf == *b"abc");
+    equal(&rt, source.fill(&mut buf), Ok(3));
+    expect(&rt, source.failures() == 7 && buf == *b"abc");
 }
 
 #[test]
 fn a_reader_behind_a_fill(rt: HostRuntime) {
     let mut source = FromReader::new(b"abcd".as_slice());
     let mut buf = [0u8; 3];
-    assert_eq!(rt; source.fill(&mut buf), Ok(3));
-    assert!(rt; source.into_reader() == b"d".as_slice());
+    equal(&rt, source.fill(&mut buf), Ok(3));
+    expect(&rt, source.into_reader() == b"d".as_slice());
 }
 
 #[test]
@@ -96,7 +106,7 @@ fn texts_of_faults(rt: HostRuntime) -> Result<(), Fail> {
         (LoadFault::TooLarge, "L2 TooLarge"),
         (LoadFault::OutOfMemory, "L3 OutOfMemory"),
     ] {
-        assert!(rt; format!(in rt.alloc(); "{fault}")?.as_str() == text);
+        expect(&rt, format!(in rt.alloc(); "{fault}")?.as_str() == text);
     }
     Ok(())
 }

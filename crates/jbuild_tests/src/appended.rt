@@ -1,5 +1,6 @@
 //! Listings on bases that hold something.
 
+use crate::checks::{equal, expect, expect_at};
 use crate::runs::{GEOMETRY, Row, holds, made, read_files};
 use byteorder::{BigEndian, LittleEndian};
 use flashbase::FromWriter;
@@ -66,7 +67,7 @@ const ROWS: [Row; 6] = [
 #[test]
 fn what_is_told(rt: HostRuntime) -> Result<(), Fail> {
     for row in ROWS {
-        assert!(rt; holds::<LittleEndian>(rt.alloc(), &row)?, "{}", row.told);
+        expect_at(&rt, holds::<LittleEndian>(rt.alloc(), &row)?, row.told);
     }
     Ok(())
 }
@@ -74,11 +75,11 @@ fn what_is_told(rt: HostRuntime) -> Result<(), Fail> {
 #[test]
 fn a_base_that_is_kept(rt: HostRuntime) -> Result<(), Fail> {
     let outcome = made::<LittleEndian>(rt.alloc(), &MADE, 2, b"")?;
-    assert!(rt; outcome.output.starts_with(&MADE));
-    assert!(rt; is_erased(&outcome.output, 124, 8192));
+    expect(&rt, outcome.output.starts_with(&MADE));
+    expect(&rt, is_erased(&outcome.output, 124, 8192));
     for base in [&MADE[..12], &MADE[..7], &[]] {
         let outcome = made::<LittleEndian>(rt.alloc(), base, 1, b"create 0644 /a")?;
-        assert!(rt; outcome.output.as_slice() == MADE.as_slice());
+        expect(&rt, outcome.output.as_slice() == MADE.as_slice());
     }
     Ok(())
 }
@@ -87,23 +88,25 @@ fn a_base_that_is_kept(rt: HostRuntime) -> Result<(), Fail> {
 fn a_base_that_is_cut(rt: HostRuntime) -> Result<(), Fail> {
     let outcome = made::<LittleEndian>(rt.alloc(), &MADE[..100], 2, b"create 0644 /b")?;
     let places = outcome.report.places.iter();
-    assert!(rt;
+    expect(
+        &rt,
         places
             .map(|place| (place.addr, place.totlen))
-            .eq([(8204, 68), (8272, 41)])
+            .eq([(8204, 68), (8272, 41)]),
     );
-    assert_eq!(rt;
+    equal(
+        &rt,
         outcome.line.as_slice(),
-        b"accepted 1 nodes 2 bytes 124\n".as_slice()
+        b"accepted 1 nodes 2 bytes 124\n".as_slice(),
     );
-    assert_eq!(rt; outcome.output.len(), 8316);
-    assert_eq!(rt; outcome.output.get(..100), MADE.get(..100));
-    assert!(rt; is_erased(&outcome.output, 100, 8192));
-    assert_eq!(rt; outcome.output.get(8192..8204), MADE.get(..12));
+    equal(&rt, outcome.output.len(), 8316);
+    equal(&rt, outcome.output.get(..100), MADE.get(..100));
+    expect(&rt, is_erased(&outcome.output, 100, 8192));
+    equal(&rt, outcome.output.get(8192..8204), MADE.get(..12));
     let mounted = mount::<LittleEndian>(rt.alloc(), &outcome.output, GEOMETRY)?;
-    assert_eq!(rt; mounted.find(b"/b"), Ok(3));
-    assert_eq!(rt; mounted.find(b"/a"), Err(FindFault::NotFound));
-    assert_eq!(rt; mounted.top(3), 1);
+    equal(&rt, mounted.find(b"/b"), Ok(3));
+    equal(&rt, mounted.find(b"/a"), Err(FindFault::NotFound));
+    equal(&rt, mounted.top(3), 1);
     Ok(())
 }
 
@@ -130,7 +133,7 @@ fn bases_that_are_not_gone_on_from(rt: HostRuntime) -> Result<(), Fail> {
         (&FORBIDS, 0, SessionFault::ReadOnly),
     ];
     for (base, blocks, fault) in rows {
-        assert_eq!(rt; refused(rt.alloc(), base, blocks)?, Some(fault));
+        equal(&rt, refused(rt.alloc(), base, blocks)?, Some(fault));
     }
     Ok(())
 }
@@ -139,10 +142,10 @@ fn bases_that_are_not_gone_on_from(rt: HostRuntime) -> Result<(), Fail> {
 fn a_base_in_big_order(rt: HostRuntime) -> Result<(), Fail> {
     let base = made::<BigEndian>(rt.alloc(), &[], 1, b"create 0644 /a")?;
     let outcome = made::<BigEndian>(rt.alloc(), &base.output, 2, b"create 0644 /b")?;
-    assert!(rt; outcome.output.starts_with(&base.output));
-    assert!(rt; is_erased(&outcome.output, 124, 8192));
+    expect(&rt, outcome.output.starts_with(&base.output));
+    expect(&rt, is_erased(&outcome.output, 124, 8192));
     let mounted = mount::<BigEndian>(rt.alloc(), &outcome.output, GEOMETRY)?;
-    assert_eq!(rt; mounted.find(b"/a"), Ok(2));
-    assert_eq!(rt; mounted.find(b"/b"), Ok(3));
+    equal(&rt, mounted.find(b"/a"), Ok(2));
+    equal(&rt, mounted.find(b"/b"), Ok(3));
     Ok(())
 }

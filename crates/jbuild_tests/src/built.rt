@@ -1,5 +1,6 @@
 //! Listings on an empty base.
 
+use crate::checks::{equal, expect, expect_at};
 use crate::runs::{GEOMETRY, Row, holds, made};
 use byteorder::{BigEndian, LittleEndian};
 use jmount::{FindFault, mount};
@@ -137,8 +138,8 @@ fn row_of(built: Built) -> Row {
 fn listings_that_are_accepted(rt: HostRuntime) -> Result<(), Fail> {
     for built in ACCEPTED {
         let row = row_of(built);
-        assert!(rt; holds::<LittleEndian>(rt.alloc(), &row)?, "{}", row.told);
-        assert!(rt; holds::<BigEndian>(rt.alloc(), &row)?, "{}", row.told);
+        expect_at(&rt, holds::<LittleEndian>(rt.alloc(), &row)?, row.told);
+        expect_at(&rt, holds::<BigEndian>(rt.alloc(), &row)?, row.told);
     }
     Ok(())
 }
@@ -147,8 +148,8 @@ fn listings_that_are_accepted(rt: HostRuntime) -> Result<(), Fail> {
 fn listings_that_are_refused(rt: HostRuntime) -> Result<(), Fail> {
     for built in REFUSED {
         let row = row_of(built);
-        assert!(rt; holds::<LittleEndian>(rt.alloc(), &row)?, "{}", row.told);
-        assert!(rt; holds::<BigEndian>(rt.alloc(), &row)?, "{}", row.told);
+        expect_at(&rt, holds::<LittleEndian>(rt.alloc(), &row)?, row.told);
+        expect_at(&rt, holds::<BigEndian>(rt.alloc(), &row)?, row.told);
     }
     Ok(())
 }
@@ -157,15 +158,15 @@ fn listings_that_are_refused(rt: HostRuntime) -> Result<(), Fail> {
 fn a_file_that_is_made(rt: HostRuntime) -> Result<(), Fail> {
     let little = made::<LittleEndian>(rt.alloc(), &[], 1, b"create 0644 /a")?;
     let big = made::<BigEndian>(rt.alloc(), &[], 1, b"create 0644 /a")?;
-    assert!(rt; are_made(&little.output, &big.output));
+    expect(&rt, are_made(&little.output, &big.output));
     Ok(())
 }
 
 #[test]
 fn the_rest_of_a_block_is_erased(rt: HostRuntime) -> Result<(), Fail> {
     let outcome = made::<LittleEndian>(rt.alloc(), &[], 2, TWO_BLOCKS)?;
-    assert!(rt; is_erased(&outcome.output, 4288, 8192));
-    assert_eq!(rt; outcome.output.get(8192..8204), MADE.get(..12));
+    expect(&rt, is_erased(&outcome.output, 4288, 8192));
+    equal(&rt, outcome.output.get(8192..8204), MADE.get(..12));
     Ok(())
 }
 
@@ -183,12 +184,12 @@ fn is_left<E: Order>(alloc: Global) -> Result<bool, Fail> {
 
 #[test]
 fn what_a_listing_leaves(rt: HostRuntime) -> Result<(), Fail> {
-    assert!(rt; is_left::<LittleEndian>(rt.alloc())?);
-    assert!(rt; is_left::<BigEndian>(rt.alloc())?);
+    expect(&rt, is_left::<LittleEndian>(rt.alloc())?);
+    expect(&rt, is_left::<BigEndian>(rt.alloc())?);
     let outcome = made::<LittleEndian>(rt.alloc(), &[], 1, RENAMED)?;
     let mounted = mount::<LittleEndian>(rt.alloc(), &outcome.output, GEOMETRY)?;
-    assert_eq!(rt; mounted.find(b"/d"), Err(FindFault::NotFound));
-    assert_eq!(rt; mounted.find(b"/e"), Ok(2));
-    assert_eq!(rt; mounted.object(2).map(|object| object.size), Some(0));
+    equal(&rt, mounted.find(b"/d"), Err(FindFault::NotFound));
+    equal(&rt, mounted.find(b"/e"), Ok(2));
+    equal(&rt, mounted.object(2).map(|object| object.size), Some(0));
     Ok(())
 }

@@ -1,7 +1,8 @@
 //! Refused growth.
 
 use crate::built::SMALL;
-use crate::runs::GEOMETRY;
+use crate::checks::{equal, expect};
+use crate::runs::{GEOMETRY, file_of};
 use byteorder::LittleEndian;
 use flashbase::Sink;
 use jbuild::{Parts, emit, operations, put_accepted};
@@ -25,7 +26,7 @@ struct Row<'r> {
 /// The files that the listings name.
 fn read_two(alloc: Global) -> Result<Parts<'static>, AllocError> {
     let mut parts = Parts::new(alloc);
-    parts.insert("two", [1; 8192].to_vec(alloc)?)?;
+    parts.insert("two", file_of(alloc, 1, 8192)?)?;
     Ok(parts)
 }
 
@@ -124,7 +125,7 @@ fn holds(alloc: Global, row: &Row<'_>) -> bool {
 #[test]
 fn refused_growth_is_want_of_memory(rt: HostRuntime) {
     for row in ROWS {
-        assert!(rt; holds(rt.alloc(), &row));
+        expect(&rt, holds(rt.alloc(), &row));
     }
     // The name's node is cut, and writing goes on in the next block.
     let cut = Row {
@@ -134,7 +135,7 @@ fn refused_growth_is_want_of_memory(rt: HostRuntime) {
         text: b"create 0644 /b\n",
         told: b"accepted 1 nodes 2 bytes 124\n",
     };
-    assert!(rt; holds(rt.alloc(), &cut));
+    expect(&rt, holds(rt.alloc(), &cut));
 }
 
 /// A file whose growth is refused is not there, and can be put there then.
@@ -147,12 +148,12 @@ fn a_refused_file_is_not_there(rt: HostRuntime) {
             return;
         };
         if parts.insert(name, bytes).is_err() {
-            assert_eq!(rt; parts.has(name), is_there);
+            equal(&rt, parts.has(name), is_there);
             let Ok(bytes) = b"abc".to_vec(rt.alloc()) else {
                 return;
             };
-            assert!(rt; parts.insert(name, bytes).is_ok());
+            expect(&rt, parts.insert(name, bytes).is_ok());
         }
-        assert!(rt; parts.has(name));
+        expect(&rt, parts.has(name));
     }
 }

@@ -10,6 +10,8 @@ mod appended;
 #[cfg(test)]
 mod built;
 #[cfg(test)]
+mod checks;
+#[cfg(test)]
 mod growth;
 #[cfg(test)]
 mod paged;

@@ -1,5 +1,6 @@
 //! Larger pages: where the nodes of a file go, and blocks that do not hold them.
 
+use crate::checks::{expect, expect_at};
 use byteorder::{BigEndian, LittleEndian};
 use jbuild::emit;
 use jlog::{SessionFault, page_fits};
@@ -64,13 +65,15 @@ fn pieces_have_their_places(rt: HostRuntime) -> Result<(), Fail> {
         (Page::P8192, 9000, &[(124, 8260), (8384, 876)], 9260),
     ];
     for (page, len, places, all) in rows {
-        assert!(rt;
+        expect_at(
+            &rt,
             is_placed::<LittleEndian>(rt.alloc(), page, len, places, all)?,
-            "{len}"
+            len,
         );
-        assert!(rt;
+        expect_at(
+            &rt,
             is_placed::<BigEndian>(rt.alloc(), page, len, places, all)?,
-            "{len}"
+            len,
         );
     }
     Ok(())
@@ -85,8 +88,8 @@ fn blocks_that_hold_a_page(rt: HostRuntime) -> Result<(), Fail> {
         (Page::P8192, 8272),
         (Page::P16384, 16_464),
     ] {
-        assert!(rt; page_fits(Geometry { block: least }, page));
-        assert!(rt; !page_fits(Geometry { block: least - 4 }, page));
+        expect(&rt, page_fits(Geometry { block: least }, page));
+        expect(&rt, !page_fits(Geometry { block: least - 4 }, page));
         let geometry = Geometry {
             block: least.max(8196) - 4,
         };
@@ -102,8 +105,8 @@ fn blocks_that_hold_a_page(rt: HostRuntime) -> Result<(), Fail> {
             sink,
         ).err();
         match page {
-            Page::P4096 => assert!(rt; answer.is_none()),
-            _ => assert!(rt; matches!(answer, Some((SessionFault::Geometry, None)))),
+            Page::P4096 => expect(&rt, answer.is_none()),
+            _ => expect(&rt, matches!(answer, Some((SessionFault::Geometry, None)))),
         }
     }
     Ok(())

@@ -1,5 +1,6 @@
 //! Files of the host that listings name.
 
+use crate::checks::{equal, expect};
 use jbuild::{Parts, operations};
 use jlisting::listing;
 use jsteps::Op;
@@ -8,12 +9,15 @@ use std::test::Fail;
 #[test]
 fn files_that_were_read(rt: HostRuntime) -> Result<(), Fail> {
     let mut parts = Parts::new(rt.alloc());
-    assert!(rt; !parts.has("f") && !parts.has(""));
+    expect(&rt, !parts.has("f") && !parts.has(""));
     parts.insert("f", b"old".to_vec(rt.alloc())?)?;
-    assert!(rt; parts.has("f") && !parts.has("") && !parts.has("fg") && !parts.has("g"));
+    expect(
+        &rt,
+        parts.has("f") && !parts.has("") && !parts.has("fg") && !parts.has("g"),
+    );
     parts.insert("g", b"".to_vec(rt.alloc())?)?;
     parts.insert("f", b"new".to_vec(rt.alloc())?)?;
-    assert!(rt; parts.has("f") && parts.has("g") && !parts.has("F"));
+    expect(&rt, parts.has("f") && parts.has("g") && !parts.has("F"));
     Ok(())
 }
 
@@ -22,6 +26,19 @@ const TEXT: &[u8] = b"time 7\npart /a 0 f\n# f\npart /b 9 f\npart /a 1 g\npart /
 
 const WRITTEN: [(u32, &[u8]); 4] = [(0, b"new"), (9, b"new"), (1, b""), (2, b"")];
 
+/// When a write was made, where, and its bytes.
+fn written<'a>(op: &'a Op<'_>) -> Option<(u32, u32, &'a [u8])> {
+    match op {
+        Op::Write {
+            time,
+            offset,
+            bytes,
+            ..
+        } => Some((*time, *offset, bytes.as_slice())),
+        _ => None,
+    }
+}
+
 #[test]
 fn operations_have_the_bytes_of_their_files(rt: HostRuntime) -> Result<(), Fail> {
     let mut parts = Parts::new(rt.alloc());
@@ -29,20 +46,10 @@ fn operations_have_the_bytes_of_their_files(rt: HostRuntime) -> Result<(), Fail>
     parts.insert("f", b"new".to_vec(rt.alloc())?)?;
     parts.insert("g", b"".to_vec(rt.alloc())?)?;
     let ops = operations(rt.alloc(), listing(rt.alloc(), TEXT)?, &parts)?;
-    assert_eq!(rt; ops.len(), 5);
+    equal(&rt, ops.len(), 5);
     for (op, (at, wanted)) in ops.iter().zip(WRITTEN) {
-        let Op::Write {
-            time,
-            offset,
-            bytes,
-            ..
-        } = op
-        else {
-            return Err(Fail::from("no write"));
-        };
-        assert_eq!(rt; (*time, *offset), (7, at));
-        assert_eq!(rt; bytes.as_slice(), wanted);
+        equal(&rt, written(op), Some((7, at, wanted)));
     }
-    assert!(rt; matches!(ops.last(), Some(Op::Remove { time: 7, .. })));
+    expect(&rt, matches!(ops.last(), Some(Op::Remove { time: 7, .. })));
     Ok(())
 }

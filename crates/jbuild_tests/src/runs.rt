@@ -8,17 +8,17 @@ use jmount::mount;
 use jnode::Order;
 use jscan::Geometry;
 use jsteps::Page;
-use std::alloc::Global;
+use std::alloc::{AllocError, Global};
 use std::test::Fail;
 
 pub const GEOMETRY: Geometry = Geometry { block: 8192 };
 
-/// Files of the host, by their names.
-pub const FILES: [(&str, &[u8]); 4] = [
-    ("page", &[2; 4096]),
-    ("two", &[1; 8192]),
-    ("three", &[3; 12288]),
-    ("four", &[4; 16384]),
+/// Files of the host: their names, their one byte, and how often they have it.
+const FILES: [(&str, u8, usize); 4] = [
+    ("page", 2, 4096),
+    ("two", 1, 8192),
+    ("three", 3, 12288),
+    ("four", 4, 16384),
 ];
 
 /// What went out for a listing on a base, what the run did, and the line that tells of it.
@@ -29,11 +29,18 @@ pub struct Outcome {
     pub line: Vec<u8>,
 }
 
+/// A file of one byte that it has so often.
+pub fn file_of(alloc: Global, byte: u8, len: usize) -> Result<Vec<u8>, AllocError> {
+    let mut bytes = Vec::new(alloc);
+    bytes.resize(len, byte)?;
+    Ok(bytes)
+}
+
 /// The files, read.
 pub fn read_files(alloc: Global) -> Result<Parts<'static>, Fail> {
     let mut parts = Parts::new(alloc);
-    for (name, bytes) in FILES {
-        parts.insert(name, bytes.to_vec(alloc)?)?;
+    for (name, byte, len) in FILES {
+        parts.insert(name, file_of(alloc, byte, len)?)?;
     }
     Ok(parts)
 }

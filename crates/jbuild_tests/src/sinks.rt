@@ -1,5 +1,6 @@
 //! Sinks that fail, and sinks that take little.
 
+use crate::checks::{equal, equal_at, expect};
 use crate::runs::{GEOMETRY, made, read_files};
 use byteorder::LittleEndian;
 use jbuild::{emit, operations, put_accepted};
@@ -26,13 +27,16 @@ fn emitted(alloc: Global, sink: Taker) -> Result<Emitted, Fail> {
 #[test]
 fn a_sink_that_takes_one_byte_a_call(rt: HostRuntime) -> Result<(), Fail> {
     let whole = made::<LittleEndian>(rt.alloc(), &MADE, 2, TEXT)?;
-    assert_eq!(rt; whole.output.len(), 8388);
+    equal(&rt, whole.output.len(), 8388);
     let Ok((sink, report)) = emitted(rt.alloc(), Taker::limited(rt.alloc(), 1, usize::MAX))? else {
         return Err(Fail::from("not emitted"));
     };
-    assert!(rt; sink.bytes.as_slice() == whole.output.as_slice());
-    assert!(rt; report.places.as_slice() == whole.report.places.as_slice());
-    assert_eq!(rt; (report.accepted, sink.failures), (2, 0));
+    expect(&rt, sink.bytes.as_slice() == whole.output.as_slice());
+    expect(
+        &rt,
+        report.places.as_slice() == whole.report.places.as_slice(),
+    );
+    equal(&rt, (report.accepted, sink.failures), (2, 0));
     Ok(())
 }
 
@@ -44,10 +48,10 @@ fn a_sink_that_fails_at_the_base(rt: HostRuntime) -> Result<(), Fail> {
         else {
             return Err(Fail::from("the sink is not handed back"));
         };
-        assert_eq!(rt; fault, SessionFault::Sink);
-        assert_eq!(rt; sink.bytes.len(), limit);
-        assert!(rt; whole.output.starts_with(&sink.bytes));
-        assert_eq!(rt; sink.failures, 1);
+        equal(&rt, fault, SessionFault::Sink);
+        equal(&rt, sink.bytes.len(), limit);
+        expect(&rt, whole.output.starts_with(&sink.bytes));
+        equal(&rt, sink.failures, 1);
     }
     Ok(())
 }
@@ -68,10 +72,14 @@ fn a_sink_that_fails_later(rt: HostRuntime) -> Result<(), Fail> {
         let Ok((sink, report)) = emitted(rt.alloc(), Taker::limited(rt.alloc(), 7, limit))? else {
             return Err(Fail::from("not emitted"));
         };
-        assert_eq!(rt; report.stopped, Some(SessionFault::Sink));
-        assert_eq!(rt; (report.accepted, report.places.len()), (accepted, places));
-        assert_eq!(rt; (sink.bytes.len(), sink.failures), (limit, 1));
-        assert!(rt; whole.output.starts_with(&sink.bytes));
+        equal(&rt, report.stopped, Some(SessionFault::Sink));
+        equal(
+            &rt,
+            (report.accepted, report.places.len()),
+            (accepted, places),
+        );
+        equal(&rt, (sink.bytes.len(), sink.failures), (limit, 1));
+        expect(&rt, whole.output.starts_with(&sink.bytes));
     }
     Ok(())
 }
@@ -91,15 +99,16 @@ fn a_sink_that_fails_once(rt: HostRuntime) -> Result<(), Fail> {
             Err((fault, sink)) => (Some(fault), sink),
         };
         let sink = sink.ok_or("the sink is not handed back")?;
-        assert!(rt; whole.output.starts_with(&sink.bytes));
+        expect(&rt, whole.output.starts_with(&sink.bytes));
         if stopped.is_none() {
-            assert!(rt; calls > 20 && sink.took(0, &whole.output));
+            expect(&rt, calls > 20 && sink.took(0, &whole.output));
             return Ok(());
         }
-        assert_eq!(rt;
+        equal_at(
+            &rt,
             (stopped, sink.failures),
             (Some(SessionFault::Sink), 1),
-            "after {calls}"
+            calls,
         );
     }
     Err(Fail::from("it goes on failing"))
@@ -113,8 +122,8 @@ fn a_line_that_does_not_fit(rt: HostRuntime) -> Result<(), Fail> {
     for limit in 0..LINE.len() + 1 {
         let mut sink = Taker::limited(rt.alloc(), 7, limit);
         let answer = put_accepted(8192, 3, &places, &mut sink);
-        assert_eq!(rt; answer.is_ok(), limit == LINE.len());
-        assert_eq!(rt; Some(sink.bytes.as_slice()), LINE.get(..limit));
+        equal(&rt, answer.is_ok(), limit == LINE.len());
+        equal(&rt, Some(sink.bytes.as_slice()), LINE.get(..limit));
     }
     Ok(())
 }

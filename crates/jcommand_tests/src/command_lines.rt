@@ -1,6 +1,7 @@
 //! Command lines with what they ask for or are answered. The words of a line are between spaces, and the first is the
 //! program's own name.
 
+use crate::checks::{equal, equal_at, expect, expect_at};
 use jcommand::{
     Extraction, FolderListing, Options, Outcome, Owner, Request, RequestFault, Target, Task,
     status, task,
@@ -144,7 +145,7 @@ const READING: [(&str, &str); 15] = [
 fn args_that_ask_for_something(rt: HostRuntime) -> Result<(), Fail> {
     for (line, wanted) in READING {
         let answer = answer_to(rt.alloc(), line)?;
-        assert_eq!(rt; answer.as_str(), wanted, "{line}");
+        equal_at(&rt, answer.as_str(), wanted, line);
     }
     Ok(())
 }
@@ -205,7 +206,7 @@ const WRITING: [(&str, &str); 12] = [
 fn args_that_ask_to_write(rt: HostRuntime) -> Result<(), Fail> {
     for (line, wanted) in WRITING {
         let answer = answer_to(rt.alloc(), line)?;
-        assert_eq!(rt; answer.as_str(), wanted, "{line}");
+        equal_at(&rt, answer.as_str(), wanted, line);
     }
     Ok(())
 }
@@ -268,10 +269,10 @@ const WRONG: [(&str, &str); 29] = [
 fn args_that_are_wrong(rt: HostRuntime) -> Result<(), Fail> {
     for (line, part) in WRONG {
         let answer = answer_to(rt.alloc(), line)?;
-        assert!(rt; is_wrong(answer.as_str(), part), "{line}");
+        expect_at(&rt, is_wrong(answer.as_str(), part), line);
     }
     let answer = answer(rt.alloc(), &["t", "ls", "--block=1 ", "a"])?;
-    assert!(rt; is_wrong(answer.as_str(), "'1 ' for '--block <N>'"));
+    expect(&rt, is_wrong(answer.as_str(), "'1 ' for '--block <N>'"));
     Ok(())
 }
 
@@ -341,13 +342,14 @@ const WRONG_TO_WRITE: [(&str, &str); 37] = [
 fn args_that_are_wrong_to_write(rt: HostRuntime) -> Result<(), Fail> {
     for (line, part) in WRONG_TO_WRITE {
         let answer = answer_to(rt.alloc(), line)?;
-        assert!(rt; is_wrong(answer.as_str(), part), "{line}");
+        expect_at(&rt, is_wrong(answer.as_str(), part), line);
     }
     let answer = answer(rt.alloc(), &["t", "build", "--blocks=", "a", "b"])?;
-    assert_eq!(rt;
+    equal(
+        &rt,
         answer.as_str(),
         "wrong error: invalid value '' for '--blocks <N>': wanted a number of blocks in decimal digits, below 4294967296\n\n\
-         For more information, try 'jffs2_image build --help'.\n"
+         For more information, try 'jffs2_image build --help'.\n",
     );
     Ok(())
 }
@@ -385,9 +387,10 @@ const HELP: [(&str, &str); 19] = [
 fn args_that_ask_for_help(rt: HostRuntime) -> Result<(), Fail> {
     for (line, part) in HELP {
         let answer = answer_to(rt.alloc(), line)?;
-        assert!(rt;
+        expect_at(
+            &rt,
             is_text(answer.as_str(), "help ", [part, "Exit status:"]),
-            "{line}"
+            line,
         );
     }
     Ok(())
@@ -397,7 +400,7 @@ fn args_that_ask_for_help(rt: HostRuntime) -> Result<(), Fail> {
 fn args_that_ask_for_the_version(rt: HostRuntime) -> Result<(), Fail> {
     for line in ["t --version", "t -V", "t --version ls"] {
         let answer = answer_to(rt.alloc(), line)?;
-        assert_eq!(rt; answer.as_str(), "help jffs2_image 0.1.0\n", "{line}");
+        equal_at(&rt, answer.as_str(), "help jffs2_image 0.1.0\n", line);
     }
     Ok(())
 }
@@ -410,6 +413,6 @@ fn statuses(rt: HostRuntime) {
         (Outcome::Usage, 2),
         (Outcome::Found, 3),
     ] {
-        assert_eq!(rt; status(outcome), wanted);
+        equal(&rt, status(outcome), wanted);
     }
 }

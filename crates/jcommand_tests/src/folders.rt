@@ -1,5 +1,6 @@
 //! Command lines that ask for a folder.
 
+use crate::checks::{equal, equal_at, expect_at};
 use crate::command_lines::answer_to;
 use jcommand::{Request, RequestFault, request};
 use std::alloc::Global;
@@ -26,7 +27,7 @@ fn args_that_ask_for_a_folder(rt: HostRuntime) -> Result<(), Fail> {
     ];
     for (line, wanted) in examples {
         let answer = answer_to(rt.alloc(), line)?;
-        assert_eq!(rt; answer.as_str(), wanted, "{line}");
+        equal_at(&rt, answer.as_str(), wanted, line);
     }
     Ok(())
 }
@@ -59,7 +60,7 @@ fn args_that_are_wrong_of_a_folder(rt: HostRuntime) -> Result<(), Fail> {
     for (line, part) in examples {
         let answer = answer_to(rt.alloc(), line)?;
         let is_right = answer.starts_with("wrong error: ") && answer.contains(part);
-        assert!(rt; is_right, "{line}: {answer}");
+        expect_at(&rt, is_right, (line, answer));
     }
     Ok(())
 }
@@ -86,6 +87,6 @@ fn a_request_is_of_an_image(rt: HostRuntime) {
         (["t", "check", "a.img", "--help"], "help"),
     ];
     for (words, wanted) in &examples {
-        assert_eq!(rt; image_of(rt.alloc(), words), *wanted);
+        equal(&rt, image_of(rt.alloc(), words), *wanted);
     }
 }

@@ -1,5 +1,6 @@
 //! A growth that is refused is told as such.
 
+use crate::checks::equal;
 use jcommand::{Request, RequestFault, Task, task};
 use std::alloc::Global;
 
@@ -47,6 +48,6 @@ fn refused_growth_is_want_of_memory(rt: HostRuntime) {
         if first == "no memory" {
             first = asked(rt.alloc(), words);
         }
-        assert_eq!(rt; first, want);
+        equal(&rt, first, want);
     }
 }

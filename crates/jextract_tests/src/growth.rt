@@ -2,6 +2,7 @@
 
 ghost use Rattle.jextract.specs.Folders.{Counts};
 
+use crate::checks::equal;
 use crate::images::{LARGE, PLAIN, image_of};
 use byteorder::LittleEndian;
 use jextract::{Attributes, ExtractFault, Folder, FolderFault, extract};
@@ -106,7 +107,7 @@ fn refused_growth_of_a_tree(rt: HostRuntime) {
         return;
     };
     if let Some(refused) = fault(rt.alloc(), &image) {
-        assert_eq!(rt; refused, ExtractFault::OutOfMemory);
-        assert_eq!(rt; fault(rt.alloc(), &image), None);
+        equal(&rt, refused, ExtractFault::OutOfMemory);
+        equal(&rt, fault(rt.alloc(), &image), None);
     }
 }

@@ -1,5 +1,6 @@
 //! Folders that refuse, files that take little, and notes that fail.
 
+use crate::checks::{equal, expect};
 use crate::images::{LARGE, PLAIN, image_of};
 use crate::recorder::{Recorder, is_made_once};
 use byteorder::LittleEndian;
@@ -67,11 +68,11 @@ fn a_refusal_at_each_call(rt: HostRuntime) -> Result<(), Fail> {
         let mut notes = FromWriter::new(Vec::new(rt.alloc()));
         let answer = extract(rt.alloc(), &mounted, false, &mut folder, &mut notes);
         let refused = u64::from(!told.is_empty());
-        assert_eq!(rt; answer, Ok(refused));
-        assert_eq!(rt; folder.failures, refused);
-        assert_eq!(rt; folder.lines.as_str(), made);
-        assert!(rt; is_made_once(rt.alloc(), folder.lines.as_str())?);
-        assert_eq!(rt; notes.into_writer().as_slice(), told.as_bytes());
+        equal(&rt, answer, Ok(refused));
+        equal(&rt, folder.failures, refused);
+        equal(&rt, folder.lines.as_str(), made);
+        expect(&rt, is_made_once(rt.alloc(), folder.lines.as_str())?);
+        equal(&rt, notes.into_writer().as_slice(), told.as_bytes());
     }
     Ok(())
 }
@@ -84,9 +85,9 @@ fn a_folder_that_is_refused(rt: HostRuntime) -> Result<(), Fail> {
     let mut folder = Recorder::new(rt.alloc(), 0, usize::MAX);
     let mut notes = FromWriter::new(Vec::new(rt.alloc()));
     let answer = extract(rt.alloc(), &mounted, false, &mut folder, &mut notes);
-    assert_eq!(rt; answer, Err(ExtractFault::Folder));
-    assert!(rt; folder.lines.is_empty() && folder.failures == 1);
-    assert!(rt; notes.into_writer().is_empty());
+    equal(&rt, answer, Err(ExtractFault::Folder));
+    expect(&rt, folder.lines.is_empty() && folder.failures == 1);
+    expect(&rt, notes.into_writer().is_empty());
     Ok(())
 }
 
@@ -106,15 +107,17 @@ fn a_file_that_fails(rt: HostRuntime) -> Result<(), Fail> {
         folder.is_silent = is_silent;
         let mut notes = FromWriter::new(Vec::new(rt.alloc()));
         let answer = extract(rt.alloc(), &mounted, false, &mut folder, &mut notes);
-        assert_eq!(rt; answer, Ok(1));
-        assert_eq!(rt; folder.failures, 1);
-        assert_eq!(rt;
+        equal(&rt, answer, Ok(1));
+        equal(&rt, folder.failures, 1);
+        equal(
+            &rt,
             folder.lines.as_str(),
-            "directory \nfile a\nfile b\ncontent b [12345] 644 7 5\nattributes  755 0 0\n"
+            "directory \nfile a\nfile b\ncontent b [12345] 644 7 5\nattributes  755 0 0\n",
         );
-        assert_eq!(rt;
+        equal(
+            &rt,
             notes.into_writer().as_slice(),
-            b"left out /a: the host refused it\n".as_slice()
+            b"left out /a: the host refused it\n".as_slice(),
         );
     }
     Ok(())
@@ -132,9 +135,9 @@ fn notes_that_fail(rt: HostRuntime) -> Result<(), Fail> {
             let mut folder = Recorder::new(rt.alloc(), u64::MAX, usize::MAX);
             let mut notes = Taker::failing(rt.alloc(), 1, limit, is_silent);
             let answer = extract(rt.alloc(), &mounted, false, &mut folder, &mut notes);
-            assert_eq!(rt; answer, Err(ExtractFault::Notes));
-            assert!(rt; notes.took(1, &told[..limit]));
-            assert_eq!(rt; folder.lines.as_str(), "directory \n");
+            equal(&rt, answer, Err(ExtractFault::Notes));
+            expect(&rt, notes.took(1, &told[..limit]));
+            equal(&rt, folder.lines.as_str(), "directory \n");
         }
     }
     Ok(())
@@ -149,10 +152,11 @@ fn a_long_hole(rt: HostRuntime) -> Result<(), Fail> {
     let mut folder = Recorder::new(rt.alloc(), u64::MAX, 4000);
     let mut notes = FromWriter::new(Vec::new(rt.alloc()));
     let answer = extract(rt.alloc(), &mounted, false, &mut folder, &mut notes);
-    assert_eq!(rt; answer, Ok(1));
-    assert_eq!(rt;
+    equal(&rt, answer, Ok(1));
+    equal(
+        &rt,
         folder.lines.as_str(),
-        "directory \nfile h\nattributes  755 0 0\n"
+        "directory \nfile h\nattributes  755 0 0\n",
     );
     Ok(())
 }

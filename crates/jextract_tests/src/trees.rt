@@ -1,5 +1,6 @@
 //! Worked trees: what is made of them, and what is told.
 
+use crate::checks::{equal, expect};
 use crate::images::{HUGE, LARGE, PLAIN, image_of};
 use crate::recorder::{Recorder, is_made_once};
 use byteorder::LittleEndian;
@@ -147,9 +148,9 @@ const ROWS: [Row; 5] = [PLAIN_TREE, BAD_NAMES, TWINS, CIRCLE, OTHER_KINDS];
 fn worked_trees(rt: HostRuntime) -> Result<(), Fail> {
     for (nodes, made, left_out, told) in ROWS {
         let (lines, count, notes) = extracted(rt.alloc(), nodes, false)?;
-        assert_eq!(rt; lines.as_str(), made);
-        assert_eq!(rt; count, left_out);
-        assert_eq!(rt; notes.as_slice(), told.as_bytes());
+        equal(&rt, lines.as_str(), made);
+        equal(&rt, count, left_out);
+        equal(&rt, notes.as_slice(), told.as_bytes());
     }
     Ok(())
 }
@@ -158,9 +159,12 @@ fn worked_trees(rt: HostRuntime) -> Result<(), Fail> {
 fn no_path_is_made_twice(rt: HostRuntime) -> Result<(), Fail> {
     for (nodes, ..) in ROWS {
         let (lines, _, _) = extracted(rt.alloc(), nodes, true)?;
-        assert!(rt; is_made_once(rt.alloc(), lines.as_str())?);
+        expect(&rt, is_made_once(rt.alloc(), lines.as_str())?);
     }
-    assert!(rt; !is_made_once(rt.alloc(), "directory \nsymlink a /tmp 777 7 5\nfile a\n")?);
+    expect(
+        &rt,
+        !is_made_once(rt.alloc(), "directory \nsymlink a /tmp 777 7 5\nfile a\n")?,
+    );
     Ok(())
 }
 
@@ -168,9 +172,10 @@ fn no_path_is_made_twice(rt: HostRuntime) -> Result<(), Fail> {
 fn owners_where_they_are_asked_for(rt: HostRuntime) -> Result<(), Fail> {
     let nodes = [Node::Inode(2, FILE, b"x"), Node::Entry(1, 2, b"f")];
     let (lines, _, _) = extracted(rt.alloc(), &nodes, true)?;
-    assert_eq!(rt;
+    equal(
+        &rt,
         lines.as_str(),
-        "directory \nfile f\ncontent f [x] 644 7 5 1000:1001\nattributes  755 0 0 0:0\n"
+        "directory \nfile f\ncontent f [x] 644 7 5 1000:1001\nattributes  755 0 0 0:0\n",
     );
     Ok(())
 }
@@ -209,9 +214,13 @@ fn depth(alloc: Global, levels: u32, name: &[u8]) -> Result<(usize, u64, usize),
 
 #[test]
 fn many_levels(rt: HostRuntime) -> Result<(), Fail> {
-    assert_eq!(rt; depth(rt.alloc(), 1000, b"dir")?, (1001, 0, 0));
+    equal(&rt, depth(rt.alloc(), 1000, b"dir")?, (1001, 0, 0));
     // 16 names of 254 bytes with the slashes between them have 4,079 bytes.
     let name = [b'n'; 254];
-    assert_eq!(rt; depth(rt.alloc(), 20, &name)?, (17, 1, 9 + 17 * 255 + 16));
+    equal(
+        &rt,
+        depth(rt.alloc(), 20, &name)?,
+        (17, 1, 9 + 17 * 255 + 16),
+    );
     Ok(())
 }

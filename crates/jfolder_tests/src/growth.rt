@@ -1,5 +1,6 @@
 //! Refused growth.
 
+use crate::checks::{equal, expect};
 use crate::folders::{AS_TOLD, TREE_NOTES, TREE_TEXT, is_read, tree};
 use crate::memory::Memory;
 use jfolder::{ReadFault, read_folder};
@@ -21,10 +22,13 @@ fn refused_growth_is_no_listing(rt: HostRuntime) {
         &AS_TOLD,
         &mut notes,
     ) {
-        Ok(read) => assert_eq!(rt; read.left_out, 2),
+        Ok(read) => equal(&rt, read.left_out, 2),
         Err(fault) => {
-            assert_eq!(rt; fault, ReadFault::OutOfMemory);
-            assert!(rt; is_read(alloc, &tree(), &AS_TOLD, TREE_TEXT, TREE_NOTES, 2));
+            equal(&rt, fault, ReadFault::OutOfMemory);
+            expect(
+                &rt,
+                is_read(alloc, &tree(), &AS_TOLD, TREE_TEXT, TREE_NOTES, 2),
+            );
         }
     }
 }

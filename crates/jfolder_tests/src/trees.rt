@@ -1,5 +1,6 @@
 //! Folders as listings.
 
+use crate::checks::{equal, expect};
 use crate::folders::{AS_TOLD, GIVEN, GIVEN_TEXT, TREE_NOTES, TREE_TEXT, fault_of, is_read, tree};
 use crate::memory::{Memory, Object, make_object};
 use jfolder::{
@@ -13,8 +14,14 @@ use test_support::Taker;
 #[test]
 fn a_folder_is_listed(rt: HostRuntime) {
     let alloc = rt.alloc();
-    assert!(rt; is_read(alloc, &tree(), &AS_TOLD, TREE_TEXT, TREE_NOTES, 2));
-    assert!(rt; is_read(alloc, &tree(), &GIVEN, GIVEN_TEXT, "left out /d: FIFO\n", 1));
+    expect(
+        &rt,
+        is_read(alloc, &tree(), &AS_TOLD, TREE_TEXT, TREE_NOTES, 2),
+    );
+    expect(
+        &rt,
+        is_read(alloc, &tree(), &GIVEN, GIVEN_TEXT, "left out /d: FIFO\n", 1),
+    );
 }
 
 /// An object of this kind beside the folder itself.
@@ -36,7 +43,10 @@ fn kinds_that_no_listing_has_are_left_out(rt: HostRuntime) {
     ];
     for (kind, notes) in rows {
         let objects = with_other(kind, 0, 0, "");
-        assert!(rt; is_read(rt.alloc(), &objects, &AS_TOLD, ROOT_TEXT, notes, 1));
+        expect(
+            &rt,
+            is_read(rt.alloc(), &objects, &AS_TOLD, ROOT_TEXT, notes, 1),
+        );
     }
 }
 
@@ -52,7 +62,10 @@ fn targets_that_are_none_are_left_out(rt: HostRuntime) {
     ];
     for (size, text, notes) in rows {
         let objects = with_other(0o120000, 0, size, text);
-        assert!(rt; is_read(rt.alloc(), &objects, &AS_TOLD, ROOT_TEXT, notes, 1));
+        expect(
+            &rt,
+            is_read(rt.alloc(), &objects, &AS_TOLD, ROOT_TEXT, notes, 1),
+        );
     }
 }
 
@@ -83,7 +96,10 @@ fn times_and_sizes_have_an_end(rt: HostRuntime) {
     for ((time, size, content), text, notes) in rows {
         let objects = with_other(0o100000, time, size, content);
         let left_out = u64::from(!notes.is_empty());
-        assert!(rt; is_read(rt.alloc(), &objects, &AS_TOLD, text, notes, left_out));
+        expect(
+            &rt,
+            is_read(rt.alloc(), &objects, &AS_TOLD, text, notes, left_out),
+        );
     }
 }
 
@@ -102,7 +118,7 @@ fn names_that_are_none_are_left_out(rt: HostRuntime) {
     let notes =
         "left out /: no text\nleft out /: no text\nleft out /..: a name that no file has\nleft out /a\\x00: a name that no file has\nleft out /b: a name that was told before\n";
     let text = "attr 755 0 0 0 0 /\ncreate 644 /b\n";
-    assert!(rt; is_read(alloc, &objects, &AS_TOLD, text, notes, 5));
+    expect(&rt, is_read(alloc, &objects, &AS_TOLD, text, notes, 5));
 }
 
 #[test]
@@ -118,9 +134,10 @@ fn the_folder_itself_is_a_directory(rt: HostRuntime) {
         (make_object("", 0o040755, (0, 0), -1, ""), Reason::Time),
     ];
     for (root, reason) in rows.iter() {
-        assert_eq!(rt;
+        equal(
+            &rt,
             fault_of(alloc, &[*root], &AS_TOLD),
-            Some(ReadFault::Folder(*reason))
+            Some(ReadFault::Folder(*reason)),
         );
     }
 }
@@ -147,15 +164,18 @@ fn a_host_that_refuses_a_call(rt: HostRuntime) {
         let mut notes = Taker::new(alloc);
         match read_folder(alloc, &mut folder, &AS_TOLD, &mut notes) {
             Ok(read) => {
-                assert!(rt; calls >= 2);
-                assert_eq!(rt; read.left_out, lines_in(notes.bytes.as_slice()));
+                expect(&rt, calls >= 2);
+                equal(&rt, read.left_out, lines_in(notes.bytes.as_slice()));
                 let mut sink = Taker::new(alloc);
-                assert!(rt; put_listing(&read.root, read.items.as_slice(), &mut sink).is_ok());
-                assert!(rt; listing(alloc, sink.bytes.as_slice()).is_ok());
+                expect(
+                    &rt,
+                    put_listing(&read.root, read.items.as_slice(), &mut sink).is_ok(),
+                );
+                expect(&rt, listing(alloc, sink.bytes.as_slice()).is_ok());
             }
             Err(fault) => {
-                assert!(rt; calls < 2);
-                assert_eq!(rt; fault, ReadFault::Folder(Reason::Refused));
+                expect(&rt, calls < 2);
+                equal(&rt, fault, ReadFault::Folder(Reason::Refused));
             }
         }
     }
@@ -175,10 +195,10 @@ fn notes_that_fail(rt: HostRuntime) {
                 &AS_TOLD,
                 &mut notes,
             ) {
-                Ok(_) => assert!(rt; false),
-                Err(fault) => assert_eq!(rt; fault, ReadFault::Notes),
+                Ok(_) => expect(&rt, false),
+                Err(fault) => equal(&rt, fault, ReadFault::Notes),
             }
-            assert!(rt; notes.took(1, &TREE_NOTES.as_bytes()[..limit]));
+            expect(&rt, notes.took(1, &TREE_NOTES.as_bytes()[..limit]));
         }
     }
 }
@@ -195,13 +215,16 @@ fn a_sink_that_fails(rt: HostRuntime) {
         &AS_TOLD,
         &mut notes,
     ) else {
-        return assert!(rt; false);
+        return expect(&rt, false);
     };
     for limit in 0..TREE_TEXT.len() {
         for is_silent in [false, true] {
             let mut sink = Taker::failing(alloc, 1, limit, is_silent);
-            assert!(rt; put_listing(&read.root, read.items.as_slice(), &mut sink).is_err());
-            assert!(rt; sink.took(1, &TREE_TEXT.as_bytes()[..limit]));
+            expect(
+                &rt,
+                put_listing(&read.root, read.items.as_slice(), &mut sink).is_err(),
+            );
+            expect(&rt, sink.took(1, &TREE_TEXT.as_bytes()[..limit]));
         }
     }
 }
@@ -244,5 +267,5 @@ fn are_pieces(alloc: Global) -> Option<bool> {
 
 #[test]
 fn bytes_go_by_pieces(rt: HostRuntime) {
-    assert_eq!(rt; are_pieces(rt.alloc()), Some(true));
+    equal(&rt, are_pieces(rt.alloc()), Some(true));
 }

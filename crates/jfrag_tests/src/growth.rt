@@ -1,5 +1,6 @@
 //! A growth that is refused changes nothing.
 
+use crate::checks::equal;
 use crate::pieces::{fifty_ones, first_bytes, worked_bytes, worked_piece};
 use jfrag::{FragOverlay, Overlay, PlainOverlay, overlay};
 use std::alloc::{AllocError, Global};
@@ -17,13 +18,13 @@ fn is_added_or_stays<'a, O: Overlay<'a>>(
     let before = first_bytes(overlaid);
     let stored = overlaid.pieces();
     if overlaid.add(fifty_ones(version, offset)).is_err() {
-        assert_eq!(rt; first_bytes(overlaid), before);
-        assert_eq!(rt; overlaid.pieces(), stored);
+        equal(rt, first_bytes(overlaid), before);
+        equal(rt, overlaid.pieces(), stored);
         overlaid.add(fifty_ones(version, offset))?;
     }
     let after = first_bytes(overlaid);
     let start = offset as usize;
-    assert_eq!(rt; (after[start], after[start + 49]), (11, 11));
+    equal(rt, (after[start], after[start + 49]), (11, 11));
     Ok(())
 }
 
@@ -55,6 +56,6 @@ fn a_refused_overlay_is_asked_for_again(rt: HostRuntime) -> Result<(), Fail> {
         Ok(overlaid) => overlaid,
         Err(AllocError) => overlay(rt.alloc(), &pieces)?,
     };
-    assert_eq!(rt; first_bytes(&overlaid), worked_bytes());
+    equal(&rt, first_bytes(&overlaid), worked_bytes());
     Ok(())
 }

@@ -2,6 +2,7 @@
 ghost use Rattle.std.specs.Prelude.{◌<◌, ◌^◌};
 ghost use Rattle.jfrag.specs.Pieces.{end_of};
 
+use crate::checks::equal;
 use crate::pieces::{byte_at, bytes_at, first_bytes, worked_bytes, worked_piece, zeros_at};
 use flashbase::Part;
 use jfrag::{Body, FragOverlay, Overlay, Piece, PlainOverlay, overlay};
@@ -29,10 +30,10 @@ fn overlaid_in<'a, O: Overlay<'a>>(alloc: Global, order: [u32; 3]) -> Result<O, 
 
 /// Whether an overlay shows the worked example, kept in so many pieces.
 fn is_worked_example<'a, O: Overlay<'a>>(rt: &impl Abort, overlaid: &O, pieces: usize) {
-    assert_eq!(rt; first_bytes(overlaid), worked_bytes());
-    assert_eq!(rt; overlaid.pieces(), pieces);
-    assert_eq!(rt; byte_at(overlaid, 59), 22);
-    assert_eq!(rt; byte_at(overlaid, u64::MAX), 0);
+    equal(rt, first_bytes(overlaid), worked_bytes());
+    equal(rt, overlaid.pieces(), pieces);
+    equal(rt, byte_at(overlaid, 59), 22);
+    equal(rt, byte_at(overlaid, u64::MAX), 0);
 }
 
 #[test]
@@ -80,7 +81,7 @@ fn zeros_hide_older_bytes(rt: HostRuntime) -> Result<(), Fail> {
     wanted[10..20].fill(7);
     let mut out = [9u8; 25];
     frag.read_at(0, &mut out);
-    assert_eq!(rt; out, wanted);
+    equal(&rt, out, wanted);
     Ok(())
 }
 
@@ -94,7 +95,7 @@ fn missing_bytes_are_erased_flash(rt: HostRuntime) -> Result<(), Fail> {
     let frag: FragOverlay = overlay(rt.alloc(), &[piece])?;
     let mut out = [9u8; 8];
     frag.read_at(0, &mut out);
-    assert_eq!(rt; out, [0, 0, 7, 7, 7, 0xFF, 0xFF, 0]);
+    equal(&rt, out, [0, 0, 7, 7, 7, 0xFF, 0xFF, 0]);
     Ok(())
 }
 
@@ -146,7 +147,7 @@ fn every_gap_is_filled_in_any_order(rt: HostRuntime) -> Result<(), Fail> {
         for index in order {
             frag.add(piece_in_the_way(index))?;
         }
-        assert_eq!(rt; frag.pieces(), 7);
+        equal(&rt, frag.pieces(), 7);
     }
     Ok(())
 }

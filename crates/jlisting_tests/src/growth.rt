@@ -1,5 +1,6 @@
 //! Refused growth.
 
+use crate::checks::{equal, expect};
 use crate::shown::is_shown;
 use jlisting::{ListingFault, listing};
 use std::alloc::Global;
@@ -21,10 +22,13 @@ fn fault(alloc: Global) -> Option<ListingFault> {
 fn refused_growth_is_no_wrong_line(rt: HostRuntime) {
     let first = fault(rt.alloc());
     if first != Some(ListingFault::OutOfMemory) {
-        assert_eq!(rt; first, Some(ListingFault::Line(7)));
+        equal(&rt, first, Some(ListingFault::Line(7)));
     }
     if first == Some(ListingFault::OutOfMemory) {
-        assert_eq!(rt; fault(rt.alloc()), Some(ListingFault::Line(7)));
-        assert!(rt; is_shown(rt.alloc(), b"remove /\\x61", "1: 0 remove /a\n"));
+        equal(&rt, fault(rt.alloc()), Some(ListingFault::Line(7)));
+        expect(
+            &rt,
+            is_shown(rt.alloc(), b"remove /\\x61", "1: 0 remove /a\n"),
+        );
     }
 }

@@ -1,5 +1,6 @@
 //! Listings that are read, and what their lines mean.
 
+use crate::checks::{equal, expect_at};
 use crate::shown::{is_shown, show_line};
 use jlisting::{Action, Line, listing};
 use std::test::Fail;
@@ -92,13 +93,13 @@ const WORDS: [(&[u8], &str); 28] = [
 #[test]
 fn listings_that_are_read(rt: HostRuntime) {
     for (text, wanted) in LISTINGS {
-        assert!(rt; is_shown(rt.alloc(), text, wanted), "{wanted}");
+        expect_at(&rt, is_shown(rt.alloc(), text, wanted), wanted);
     }
     for (text, wanted) in WORDS {
-        assert!(rt; is_shown(rt.alloc(), text, wanted), "{wanted}");
+        expect_at(&rt, is_shown(rt.alloc(), text, wanted), wanted);
     }
     for text in EMPTY {
-        assert!(rt; is_shown(rt.alloc(), text, ""), "{text:?}");
+        expect_at(&rt, is_shown(rt.alloc(), text, ""), text);
     }
 }
 
@@ -111,11 +112,11 @@ fn parts_become_writes(rt: HostRuntime) -> Result<(), Fail> {
     let bytes = b"xyz".to_vec(rt.alloc())?;
     for line in lines {
         let wanted = if line.number == 2 { Some("f") } else { None };
-        assert_eq!(rt; line.action.file(), wanted);
+        equal(&rt, line.action.file(), wanted);
         let number = line.number;
         let action = Action::Op(line.action.op(&bytes));
         show_line(&mut out, &Line { number, action })?;
     }
-    assert_eq!(rt; out.as_str(), "2: 3 write 4 /a xyz\n3: 3 remove /a\n");
+    equal(&rt, out.as_str(), "2: 3 write 4 /a xyz\n3: 3 remove /a\n");
     Ok(())
 }

@@ -1,5 +1,6 @@
 //! Lines that mean nothing, with their numbers.
 
+use crate::checks::equal_at;
 use jlisting::{ListingFault, listing};
 use std::alloc::Global;
 
@@ -155,9 +156,9 @@ const NOTHING: [&[u8]; 119] = [
 #[test]
 fn lines_that_mean_nothing(rt: HostRuntime) {
     for (text, number) in NUMBERS {
-        assert_eq!(rt; wrong_line(rt.alloc(), text), Some(number), "{text:?}");
+        equal_at(&rt, wrong_line(rt.alloc(), text), Some(number), text);
     }
     for text in NOTHING {
-        assert_eq!(rt; wrong_line(rt.alloc(), text), Some(1), "{text:?}");
+        equal_at(&rt, wrong_line(rt.alloc(), text), Some(1), text);
     }
 }

@@ -1,5 +1,6 @@
 //! What mounts after writing stopped, at each byte: the plain file system after the steps whose nodes are whole.
 
+use crate::checks::{equal_at, expect, expect_at};
 use crate::plain::{Change, Plain};
 use crate::sessions::{Flash, Outcome, run_in_turn, run_ops, run_paged};
 use crate::stopped::Log;
@@ -238,8 +239,8 @@ fn a_file_that_is_cut_and_written(rt: HostRuntime) -> Result<(), Fail> {
         ],
         whole: &[80, 121, 202, 272, 340, 408],
     };
-    assert!(rt; survives::<LittleEndian>(rt.alloc(), &case, 412)?);
-    assert!(rt; survives::<BigEndian>(rt.alloc(), &case, 412)?);
+    expect(&rt, survives::<LittleEndian>(rt.alloc(), &case, 412)?);
+    expect(&rt, survives::<BigEndian>(rt.alloc(), &case, 412)?);
     Ok(())
 }
 
@@ -268,8 +269,8 @@ fn a_directory_that_is_renamed(rt: HostRuntime) -> Result<(), Fail> {
         ],
         whole: &[80, 121, 165, 209],
     };
-    assert!(rt; survives::<LittleEndian>(rt.alloc(), &case, 212)?);
-    assert!(rt; survives::<BigEndian>(rt.alloc(), &case, 212)?);
+    expect(&rt, survives::<LittleEndian>(rt.alloc(), &case, 212)?);
+    expect(&rt, survives::<BigEndian>(rt.alloc(), &case, 212)?);
     Ok(())
 }
 
@@ -288,8 +289,8 @@ fn a_root_that_gets_attributes(rt: HostRuntime) -> Result<(), Fail> {
         }],
         whole: &[80],
     };
-    assert!(rt; survives::<LittleEndian>(rt.alloc(), &case, 80)?);
-    assert!(rt; survives::<BigEndian>(rt.alloc(), &case, 80)?);
+    expect(&rt, survives::<LittleEndian>(rt.alloc(), &case, 80)?);
+    expect(&rt, survives::<BigEndian>(rt.alloc(), &case, 80)?);
     Ok(())
 }
 
@@ -325,8 +326,8 @@ fn a_root_with_names(rt: HostRuntime) -> Result<(), Fail> {
         ],
         whole: &[80, 121, 192, 260, 301],
     };
-    assert!(rt; survives::<LittleEndian>(rt.alloc(), &case, 304)?);
-    assert!(rt; survives::<BigEndian>(rt.alloc(), &case, 304)?);
+    expect(&rt, survives::<LittleEndian>(rt.alloc(), &case, 304)?);
+    expect(&rt, survives::<BigEndian>(rt.alloc(), &case, 304)?);
     Ok(())
 }
 
@@ -355,8 +356,8 @@ fn a_file_that_gets_attributes(rt: HostRuntime) -> Result<(), Fail> {
         ],
         whole: &[80, 121, 202, 272],
     };
-    assert!(rt; survives::<LittleEndian>(rt.alloc(), &case, 272)?);
-    assert!(rt; survives::<BigEndian>(rt.alloc(), &case, 272)?);
+    expect(&rt, survives::<LittleEndian>(rt.alloc(), &case, 272)?);
+    expect(&rt, survives::<BigEndian>(rt.alloc(), &case, 272)?);
     Ok(())
 }
 
@@ -377,8 +378,8 @@ fn goes_on<E: Order>(alloc: Global) -> Result<bool, Fail> {
 /// The image of a file that was made, without the last bytes of its name's node: writing goes on in the next block.
 #[test]
 fn a_base_that_was_cut(rt: HostRuntime) -> Result<(), Fail> {
-    assert!(rt; goes_on::<LittleEndian>(rt.alloc())?);
-    assert!(rt; goes_on::<BigEndian>(rt.alloc())?);
+    expect(&rt, goes_on::<LittleEndian>(rt.alloc())?);
+    expect(&rt, goes_on::<BigEndian>(rt.alloc())?);
     Ok(())
 }
 
@@ -415,8 +416,8 @@ fn goes_on_in_turn<E: Order>(alloc: Global) -> Result<bool, Fail> {
 /// Two runs and an operation between them, in one session: where a later call stops, what the earlier ones put stands.
 #[test]
 fn a_session_of_three_calls(rt: HostRuntime) -> Result<(), Fail> {
-    assert!(rt; goes_on_in_turn::<LittleEndian>(rt.alloc())?);
-    assert!(rt; goes_on_in_turn::<BigEndian>(rt.alloc())?);
+    expect(&rt, goes_on_in_turn::<LittleEndian>(rt.alloc())?);
+    expect(&rt, goes_on_in_turn::<BigEndian>(rt.alloc())?);
     Ok(())
 }
 
@@ -440,8 +441,8 @@ fn a_file_over_two_blocks(rt: HostRuntime) -> Result<(), Fail> {
         ],
         whole: &[80, 121, 4288, 12368],
     };
-    assert!(rt; survives::<LittleEndian>(rt.alloc(), &case, 12368)?);
-    assert!(rt; survives::<BigEndian>(rt.alloc(), &case, 12368)?);
+    expect(&rt, survives::<LittleEndian>(rt.alloc(), &case, 12368)?);
+    expect(&rt, survives::<BigEndian>(rt.alloc(), &case, 12368)?);
     Ok(())
 }
 
@@ -471,8 +472,8 @@ fn a_file_by_pages_of_8192(rt: HostRuntime) -> Result<(), Fail> {
         ],
         whole: &[80, 121, 4288, 6725, 6796, 7056, 7432],
     };
-    assert!(rt; survives::<LittleEndian>(rt.alloc(), &case, 7432)?);
-    assert!(rt; survives::<BigEndian>(rt.alloc(), &case, 7432)?);
+    expect(&rt, survives::<LittleEndian>(rt.alloc(), &case, 7432)?);
+    expect(&rt, survives::<BigEndian>(rt.alloc(), &case, 7432)?);
     Ok(())
 }
 
@@ -497,8 +498,8 @@ fn a_file_by_pages_of_16384(rt: HostRuntime) -> Result<(), Fail> {
         ],
         whole: &[80, 121, 16_576, 16_648, 16_720],
     };
-    assert!(rt; survives::<LittleEndian>(rt.alloc(), &case, 16_720)?);
-    assert!(rt; survives::<BigEndian>(rt.alloc(), &case, 16_720)?);
+    expect(&rt, survives::<LittleEndian>(rt.alloc(), &case, 16_720)?);
+    expect(&rt, survives::<BigEndian>(rt.alloc(), &case, 16_720)?);
     Ok(())
 }
 
@@ -514,8 +515,8 @@ fn a_file_that_ends_in_erased_bytes(rt: HostRuntime) -> Result<(), Fail> {
         steps: &[made(0), named(b"a", 2), put(0, 0, b"\xFF\xFF\xFF", 0)],
         whole: &[80, 121, 192],
     };
-    assert!(rt; survives::<LittleEndian>(rt.alloc(), &case, 196)?);
-    assert!(rt; survives::<BigEndian>(rt.alloc(), &case, 196)?);
+    expect(&rt, survives::<LittleEndian>(rt.alloc(), &case, 196)?);
+    expect(&rt, survives::<BigEndian>(rt.alloc(), &case, 196)?);
     Ok(())
 }
 
@@ -542,8 +543,8 @@ fn a_weak_cut(rt: HostRuntime) -> Result<(), Fail> {
         let mounted = mount::<LittleEndian>(alloc, image, GEOMETRY)?;
         let mut room = [0u8; 8];
         let count = mounted.read_at(2, 0, &mut room);
-        assert!(rt; room.get(..count) == Some(data), "after {k}");
-        assert_eq!(rt; mounted.findings(), findings, "after {k}");
+        expect_at(&rt, room.get(..count) == Some(data), k);
+        equal_at(&rt, mounted.findings(), findings, k);
     }
     Ok(())
 }

@@ -1,5 +1,6 @@
 //! A growth that is refused is told as such, and what stands after it.
 
+use crate::checks::expect;
 use crate::sessions::BY;
 use byteorder::LittleEndian;
 use flashbase::pad4;
@@ -105,7 +106,7 @@ fn refused_growth_of_sessions(rt: HostRuntime) {
         return;
     };
     if let Some(whole) = output_of(rt.alloc(), &ops) {
-        assert!(rt; are_put(rt.alloc(), &ops, &whole, false));
-        assert!(rt; are_put(rt.alloc(), &ops, &whole, true));
+        expect(&rt, are_put(rt.alloc(), &ops, &whole, false));
+        expect(&rt, are_put(rt.alloc(), &ops, &whole, true));
     }
 }

@@ -1,5 +1,6 @@
 //! Why sessions refuse.
 
+use crate::checks::{equal, equal_at, expect};
 use crate::sessions::run_lines;
 use byteorder::LittleEndian;
 use jlog::{SessionFault, resume_at};
@@ -65,10 +66,10 @@ fn why_a_run_stops(rt: HostRuntime) -> Result<(), Fail> {
     let alloc = rt.alloc();
     for (lines, blocks, accepted, len, text) in STOPPED {
         let run = run_lines::<LittleEndian>(alloc, &[], GEOMETRY, blocks, lines)?;
-        assert_eq!(rt; run.report.accepted, accepted, "{text}");
-        assert_eq!(rt; run.output.len(), len, "{text}");
+        equal_at(&rt, run.report.accepted, accepted, text);
+        equal_at(&rt, run.output.len(), len, text);
         let fault = run.report.stopped.ok_or("no fault")?;
-        assert!(rt; format!(in alloc; "{fault}")?.as_str() == text);
+        expect(&rt, format!(in alloc; "{fault}")?.as_str() == text);
     }
     Ok(())
 }
@@ -77,8 +78,8 @@ fn why_a_run_stops(rt: HostRuntime) -> Result<(), Fail> {
 fn a_smaller_operation_is_taken_after_one_that_does_not_fit(rt: HostRuntime) -> Result<(), Fail> {
     let lines = ["create /a 644", "write /a 0 4096", "truncate /a 5"];
     let run = run_lines::<LittleEndian>(rt.alloc(), &[], GEOMETRY, 1, &lines)?;
-    assert_eq!(rt; run.report.accepted, 3);
-    assert_eq!(rt; run.output.len(), 4356);
+    equal(&rt, run.report.accepted, 3);
+    equal(&rt, run.output.len(), 4356);
     Ok(())
 }
 
@@ -100,12 +101,12 @@ fn where_writing_may_go_on(rt: HostRuntime) -> Result<(), Fail> {
         let geometry = Geometry { block };
         let mounted = mount::<LittleEndian>(alloc, image, geometry)?;
         let found = resume_at::<LittleEndian>(&mounted, geometry, blocks);
-        assert_eq!(rt; found, want, "{block} {blocks}");
+        equal_at(&rt, found, want, (block, blocks));
     }
     for blocks in [1, 0] {
         let mounted = mount::<LittleEndian>(alloc, &FORBIDS, GEOMETRY)?;
         let found = resume_at::<LittleEndian>(&mounted, GEOMETRY, blocks);
-        assert_eq!(rt; found, Err(SessionFault::ReadOnly));
+        equal(&rt, found, Err(SessionFault::ReadOnly));
     }
     Ok(())
 }

@@ -1,5 +1,6 @@
 //! What runs put, and where.
 
+use crate::checks::{equal, equal_at, expect, expect_at};
 use crate::sessions::{CUT_LINES, run_lines};
 use byteorder::{BigEndian, LittleEndian};
 use jlog::Place;
@@ -99,8 +100,8 @@ fn rows_hold<E: Order>(alloc: Global) -> Result<bool, Fail> {
 
 #[test]
 fn nodes_have_their_places(rt: HostRuntime) -> Result<(), Fail> {
-    assert!(rt; rows_hold::<LittleEndian>(rt.alloc())?);
-    assert!(rt; rows_hold::<BigEndian>(rt.alloc())?);
+    expect(&rt, rows_hold::<LittleEndian>(rt.alloc())?);
+    expect(&rt, rows_hold::<BigEndian>(rt.alloc())?);
     Ok(())
 }
 
@@ -108,7 +109,7 @@ fn nodes_have_their_places(rt: HostRuntime) -> Result<(), Fail> {
 fn a_file_that_is_made(rt: HostRuntime) -> Result<(), Fail> {
     let little = run_lines::<LittleEndian>(rt.alloc(), &[], GEOMETRY, 1, &["create /a 644"])?;
     let big = run_lines::<BigEndian>(rt.alloc(), &[], GEOMETRY, 1, &["create /a 644"])?;
-    assert!(rt; are_made(&little.output, &big.output));
+    expect(&rt, are_made(&little.output, &big.output));
     Ok(())
 }
 
@@ -119,13 +120,13 @@ fn attributes_of_the_root(rt: HostRuntime) -> Result<(), Fail> {
     let run = run_lines::<LittleEndian>(rt.alloc(), &[], GEOMETRY, 1, &lines)?;
     for (at, version) in [(96, 1), (140, 2), (276, 3)] {
         let found = run.output.get(at..at + 4);
-        assert_eq!(rt; found, Some([version, 0, 0, 0].as_slice()), "at {at}");
+        equal_at(&rt, found, Some([version, 0, 0, 0].as_slice()), at);
     }
     let mounted = mount::<LittleEndian>(rt.alloc(), &run.output, GEOMETRY)?;
     let root = mounted
         .object(1)
         .map(|o| (o.mode, o.uid, o.gid, o.atime, o.mtime, o.ctime));
-    assert_eq!(rt; root, Some((0o040711, 5, 6, 1, 2, 0)));
+    equal(&rt, root, Some((0o040711, 5, 6, 1, 2, 0)));
     Ok(())
 }
 
@@ -142,10 +143,10 @@ fn attributes_of_a_file(rt: HostRuntime) -> Result<(), Fail> {
     let run = run_lines::<BigEndian>(rt.alloc(), &[], GEOMETRY, 1, &lines)?;
     let mounted = mount::<BigEndian>(rt.alloc(), &run.output, GEOMETRY)?;
     let file = mounted.object(2).map(|o| (o.mode, o.uid, o.gid, o.size));
-    assert_eq!(rt; file, Some((0o100600, 5, 6, 9)));
+    equal(&rt, file, Some((0o100600, 5, 6, 9)));
     let mut room = [1u8; 10];
-    assert_eq!(rt; mounted.read_at(2, 0, &mut room), 9);
-    assert_eq!(rt; room, [0x5A, 0x5A, 0x5A, 0x5A, 0, 0, 0, 0, 0x5A, 1]);
+    equal(&rt, mounted.read_at(2, 0, &mut room), 9);
+    equal(&rt, room, [0x5A, 0x5A, 0x5A, 0x5A, 0, 0, 0, 0, 0x5A, 1]);
     Ok(())
 }
 
@@ -153,8 +154,8 @@ fn attributes_of_a_file(rt: HostRuntime) -> Result<(), Fail> {
 fn the_rest_of_a_block_is_erased(rt: HostRuntime) -> Result<(), Fail> {
     let lines = ["create /a 644", "write /a 0 8192"];
     let run = run_lines::<LittleEndian>(rt.alloc(), &[], GEOMETRY, 2, &lines)?;
-    assert!(rt; is_erased(&run.output, 4288, 8192));
-    assert_eq!(rt; run.output.get(8192..8204), MADE.get(..12));
+    expect(&rt, is_erased(&run.output, 4288, 8192));
+    equal(&rt, run.output.get(8192..8204), MADE.get(..12));
     Ok(())
 }
 
@@ -177,13 +178,14 @@ fn a_log_goes_on_after_its_base(rt: HostRuntime) -> Result<(), Fail> {
             addr: at + 80,
             totlen: 41,
         };
-        assert!(rt;
+        expect_at(
+            &rt,
             run.report.places.as_slice() == [inode, entry].as_slice(),
-            "at {at}"
+            at,
         );
-        assert_eq!(rt; run.output.len(), 124, "at {at}");
+        equal_at(&rt, run.output.len(), 124, at);
     }
     let again = run_lines::<LittleEndian>(alloc, &MADE[..7], GEOMETRY, 1, &["create /a 644"])?;
-    assert!(rt; again.output.as_slice() == MADE.as_slice());
+    expect(&rt, again.output.as_slice() == MADE.as_slice());
     Ok(())
 }

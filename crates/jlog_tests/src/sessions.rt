@@ -91,6 +91,26 @@ pub fn run_paged<E: Order>(
     run_in::<E>(alloc, image, session, ops)
 }
 
+/// Runs operations in three calls of one session.
+fn run_parts<E: Order>(
+    alloc: Global,
+    session: &mut Session<'_, E, FromWriter<Vec<u8>>>,
+    first: &[Op<'_>],
+    next: &Op<'_>,
+    rest: &[Op<'_>],
+) -> Result<RunReport, Fail> {
+    let mut report = session.run(alloc, first);
+    let applied = session.apply(alloc, next)?;
+    let last = session.run(alloc, rest);
+    report.places.extend_from_slice(&applied.places)?;
+    report.places.extend_from_slice(&last.places)?;
+    report.accepted = report
+        .accepted
+        .saturating_add(1)
+        .saturating_add(last.accepted);
+    Ok(report)
+}
+
 /// Runs operations onto an image in three calls of one session: the first two, the next one alone, and the others.
 pub fn run_in_turn<E: Order>(
     alloc: Global,
@@ -98,6 +118,9 @@ pub fn run_in_turn<E: Order>(
     flash: Flash,
     ops: &[Op<'_>],
 ) -> Result<Outcome, Fail> {
+    let (Some(first), Some(next), Some(rest)) = (ops.get(..2), ops.get(2), ops.get(3..)) else {
+        return Err(Fail::from("too few"));
+    };
     let mounted = mount::<E>(alloc, image, flash.geometry)?;
     let sink = FromWriter::new(Vec::new(alloc));
     let mut session = Session::<E, _>::resume_paged(
@@ -108,15 +131,7 @@ pub fn run_in_turn<E: Order>(
         flash.page,
         sink,
     )?;
-    let mut report = session.run(alloc, ops.get(..2).ok_or("too few")?);
-    let applied = session.apply(alloc, ops.get(2).ok_or("too few")?)?;
-    report.places.extend_from_slice(&applied.places)?;
-    let rest = session.run(alloc, ops.get(3..).ok_or("too few")?);
-    report.places.extend_from_slice(&rest.places)?;
-    report.accepted = report
-        .accepted
-        .saturating_add(1)
-        .saturating_add(rest.accepted);
+    let report = run_parts(alloc, &mut session, first, next, rest)?;
     Ok(Outcome {
         output: session.finish().into_writer(),
         report,

@@ -1,5 +1,6 @@
 //! Sessions whose sink fails, or takes little.
 
+use crate::checks::{equal, expect, expect_at};
 use crate::sessions::{BY, CUT_LINES};
 use byteorder::LittleEndian;
 use jlog::{RunReport, Session, SessionFault};
@@ -52,9 +53,9 @@ fn a_session_breaks_with_its_sink(rt: HostRuntime) -> Result<(), Fail> {
         (203, 1, 3),
     ] {
         let (report, sink) = run_onto(rt.alloc(), Taker::limited(rt.alloc(), 7, limit))?;
-        assert_eq!(rt; report.stopped, Some(SessionFault::Sink));
-        assert!(rt; is_reported(&report, accepted, nodes), "after {limit}");
-        assert_eq!(rt; (sink.bytes.len(), sink.failures), (limit, 1));
+        equal(&rt, report.stopped, Some(SessionFault::Sink));
+        expect_at(&rt, is_reported(&report, accepted, nodes), limit);
+        equal(&rt, (sink.bytes.len(), sink.failures), (limit, 1));
     }
     Ok(())
 }
@@ -78,8 +79,8 @@ fn is_broken_off(report: &RunReport, sink: &Taker, whole: &[u8]) -> bool {
 #[test]
 fn a_sink_that_fails_once(rt: HostRuntime) -> Result<(), Fail> {
     let (report, whole) = run_onto(rt.alloc(), Taker::limited(rt.alloc(), 1, usize::MAX))?;
-    assert!(rt; report.stopped.is_none() && is_reported(&report, 4, 6));
-    assert_eq!(rt; whole.bytes.len(), 412);
+    expect(&rt, report.stopped.is_none() && is_reported(&report, 4, 6));
+    equal(&rt, whole.bytes.len(), 412);
     for calls in 0..412usize {
         let sink = Taker {
             calls,
@@ -87,10 +88,7 @@ fn a_sink_that_fails_once(rt: HostRuntime) -> Result<(), Fail> {
             ..Taker::limited(rt.alloc(), 1, usize::MAX)
         };
         let (report, sink) = run_onto(rt.alloc(), sink)?;
-        assert!(rt;
-            is_broken_off(&report, &sink, &whole.bytes),
-            "after {calls}"
-        );
+        expect_at(&rt, is_broken_off(&report, &sink, &whole.bytes), calls);
     }
     Ok(())
 }

@@ -2,6 +2,7 @@
 // `q`, which stands for the missing 57, and `gone`, which was removed; and a FIFO (9) that no name stands for. Object 6 has
 // a hundred bytes, in three versions.
 
+use crate::checks::equal_at;
 use crate::facts::{Fact, first_wrong};
 use crate::images::{DIRECTORY, FILE, Item, Version};
 use byteorder::LittleEndian;
@@ -169,7 +170,7 @@ const ALL: [(&str, &[Fact]); 7] = [
 fn every_call_on_one_file_system(rt: HostRuntime) -> Result<(), Fail> {
     for (about, facts) in ALL {
         let wrong = first_wrong::<LittleEndian>(rt.alloc(), &ITEMS, facts)?;
-        assert_eq!(rt; wrong, None, "{about}");
+        equal_at(&rt, wrong, None, about);
     }
     Ok(())
 }

@@ -1,5 +1,6 @@
 // A growth that is refused is told as such.
 
+use crate::checks::{equal, expect};
 use crate::images::{DIRECTORY, FILE, Item, Version, image_of};
 use byteorder::LittleEndian;
 use jmount::{MountFault, Mounted, mount};
@@ -76,7 +77,7 @@ fn refused_mounts_are_want_of_memory(rt: HostRuntime) {
         if first == Some(MountFault::OutOfMemory) {
             first = fault(rt.alloc(), &image);
         }
-        assert_eq!(rt; first, want);
+        equal(&rt, first, want);
     }
 }
 
@@ -105,6 +106,6 @@ fn refused_shapes_are_no_answer(rt: HostRuntime) {
             return;
         };
         let shape = mounted.shape(alloc).or_else(|_| mounted.shape(alloc));
-        assert!(rt; matches!(shape, Ok(shape) if shape == want));
+        expect(&rt, matches!(shape, Ok(shape) if shape == want));
     }
 }

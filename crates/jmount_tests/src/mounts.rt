@@ -1,5 +1,6 @@
 // Small images, and what they mount as.
 
+use crate::checks::equal_at;
 use crate::facts::{Fact, first_wrong};
 use crate::images::{DIRECTORY, FILE, Item, Version};
 use byteorder::{BigEndian, LittleEndian};
@@ -143,7 +144,7 @@ fn images_mount_in_either_order(rt: HostRuntime) -> Result<(), Fail> {
     for (index, (items, facts)) in IMAGES.iter().enumerate() {
         let little = first_wrong::<LittleEndian>(rt.alloc(), items, facts)?;
         let big = first_wrong::<BigEndian>(rt.alloc(), items, facts)?;
-        assert_eq!(rt; (little, big), (None, None), "image {index}");
+        equal_at(&rt, (little, big), (None, None), index);
     }
     Ok(())
 }
@@ -201,7 +202,7 @@ const LITTLE_IMAGES: [(&[Item], &[Fact]); 2] = [
 fn what_is_no_node_makes_nothing(rt: HostRuntime) -> Result<(), Fail> {
     for (index, (items, facts)) in LITTLE_IMAGES.iter().enumerate() {
         let wrong = first_wrong::<LittleEndian>(rt.alloc(), items, facts)?;
-        assert_eq!(rt; wrong, None, "image {index}");
+        equal_at(&rt, wrong, None, index);
     }
     Ok(())
 }

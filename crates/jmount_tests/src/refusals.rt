@@ -1,5 +1,6 @@
 // Images that do not mount, and one that is near to them.
 
+use crate::checks::equal_at;
 use crate::images::{DIRECTORY, FILE, Item, Version, image_of};
 use byteorder::LittleEndian;
 use jmount::{MountFault, mount};
@@ -132,7 +133,7 @@ fn the_fault_of_least_address_is_answered(rt: HostRuntime) -> Result<(), Fail> {
     for (index, &(block, items, wanted)) in IMAGES.iter().enumerate() {
         let image = image_of::<LittleEndian>(rt.alloc(), items)?;
         let fault = mount::<LittleEndian>(rt.alloc(), &image, Geometry { block }).err();
-        assert_eq!(rt; fault, wanted, "image {index}");
+        equal_at(&rt, fault, wanted, index);
     }
     Ok(())
 }

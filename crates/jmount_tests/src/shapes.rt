@@ -1,5 +1,6 @@
 // The shape of trees: second names of directories, and directories below themselves.
 
+use crate::checks::equal_at;
 use crate::images::{DIRECTORY, FILE, Item, Version, image_of};
 use byteorder::LittleEndian;
 use jmount::mount;
@@ -136,7 +137,7 @@ fn trees_have_their_shape_or_not(rt: HostRuntime) -> Result<(), Fail> {
         let image = image_of::<LittleEndian>(rt.alloc(), items)?;
         let mounted = mount::<LittleEndian>(rt.alloc(), &image, GEOMETRY)?;
         let shape = mounted.shape(rt.alloc())?;
-        assert_eq!(rt; shape, wanted, "{about}");
+        equal_at(&rt, shape, wanted, about);
     }
     Ok(())
 }

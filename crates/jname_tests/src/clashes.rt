@@ -1,5 +1,6 @@
 //! Entries of one directory, name and version with unlike contents.
 
+use crate::checks::{expect, expect_at};
 use crate::entries::{add, are_all};
 use jname::{NameFault, Names};
 use jnode::{Dirent, Part};
@@ -24,8 +25,8 @@ fn unequal_contents_clash(rt: HostRuntime) {
     add(&rt, &mut names, &entry_of(57, 6, 8));
     for (ino, mctime, kind) in [(58, 6, 8), (0, 6, 8), (57, 7, 8), (57, 6, 4)] {
         let refused = names.add(&entry_of(ino, mctime, kind));
-        assert!(rt; refused == Err(NameFault::Clash), "the number {ino}");
-        assert!(rt; are_all(&names, &[(1, b"q", 57)]));
+        expect_at(&rt, refused == Err(NameFault::Clash), ino);
+        expect(&rt, are_all(&names, &[(1, b"q", 57)]));
     }
 }
 
@@ -43,9 +44,9 @@ fn clashes_of_older_versions(rt: HostRuntime) {
     }
     for (version, ino) in [(6, 57), (5, 58)] {
         let refused = names.add(&entry(1, version, ino, b"q"));
-        assert!(rt; refused == Err(NameFault::Clash), "of version {version}");
+        expect_at(&rt, refused == Err(NameFault::Clash), version);
     }
-    assert!(rt; are_all(&names, &[(1, b"r", 61), (2, b"q", 60)]));
+    expect(&rt, are_all(&names, &[(1, b"r", 61), (2, b"q", 60)]));
 }
 
 #[test]
@@ -54,7 +55,7 @@ fn faults_have_their_texts(rt: HostRuntime) -> Result<(), std::test::Fail> {
         (NameFault::Clash, "E1 Clash"),
         (NameFault::OutOfMemory, "E2 OutOfMemory"),
     ] {
-        assert!(rt; format!(in rt.alloc(); "{fault}")?.as_str() == text);
+        expect(&rt, format!(in rt.alloc(); "{fault}")?.as_str() == text);
     }
     Ok(())
 }

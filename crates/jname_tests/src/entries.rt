@@ -2,6 +2,7 @@
 
 ghost use Rattle.std.specs.Prelude.{◌<◌, ◌^◌, length};
 
+use crate::checks::equal;
 use jname::Names;
 use jnode::{Dirent, Part};
 use std::process::Abort;
@@ -25,7 +26,7 @@ pub(crate) fn cut_entry(
 
 /// Adds an entry that nothing hinders.
 pub(crate) fn add<'a>(rt: &impl Abort, names: &mut Names<'a>, entry: &Dirent<'a>) {
-    assert_eq!(rt; names.add(entry), Ok(()));
+    equal(rt, names.add(entry), Ok(()));
 }
 
 /// Whether these are all live names, in this order.

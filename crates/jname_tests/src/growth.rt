@@ -1,5 +1,6 @@
 //! A growth that is refused leaves what stood.
 
+use crate::checks::expect;
 use crate::entries::{are_all, cut_entry};
 use jname::{NameFault, Names};
 use jnode::Dirent;
@@ -39,9 +40,9 @@ fn refused_growth_changes_nothing(rt: HostRuntime) {
         (entry(7, 1, 5, b"c"), [a_4, b_3].as_slice()),
         (cut_entry(7, 9, 6, b"d", 3), [a_4, b_3, c_5].as_slice()),
     ] {
-        assert!(rt; add_again(&mut names, &added, before));
+        expect(&rt, add_again(&mut names, &added, before));
     }
-    assert!(rt; are_all(&names, &[a_4, b_3, c_5, d_6]));
+    expect(&rt, are_all(&names, &[a_4, b_3, c_5, d_6]));
 }
 
 /// More names than stand in a row.
@@ -72,7 +73,7 @@ fn refused_growth_of_many_names_changes_nothing(rt: HostRuntime) {
         (entry(1, 9, 10, b"i"), &all[..8]),
         (entry(1, 10, 11, b"j"), &all[..9]),
     ] {
-        assert!(rt; add_again(&mut names, &added, before));
+        expect(&rt, add_again(&mut names, &added, before));
     }
-    assert!(rt; are_all(&names, &all));
+    expect(&rt, are_all(&names, &all));
 }

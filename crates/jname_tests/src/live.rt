@@ -1,5 +1,6 @@
 //! Which names stand, and in what order they are given.
 
+use crate::checks::{expect, expect_at};
 use crate::entries::{add, are_all, cut_entry};
 use jname::{NameFault, Names};
 use std::alloc::Global;
@@ -13,10 +14,10 @@ fn a_removed_name_is_gone(rt: HostRuntime) {
         for (version, ino) in versions {
             add(&rt, &mut names, &entry(1, version, ino, b"q"));
         }
-        assert!(rt; names.get(1, b"q").is_none());
-        assert!(rt; are_all(&names, &[]));
-        assert!(rt; names.of(1).next().is_none());
-        assert!(rt; names.highest(1) == Some(2));
+        expect(&rt, names.get(1, b"q").is_none());
+        expect(&rt, are_all(&names, &[]));
+        expect(&rt, names.of(1).next().is_none());
+        expect(&rt, names.highest(1) == Some(2));
     }
 }
 
@@ -28,15 +29,15 @@ fn a_removed_name_is_made_again(rt: HostRuntime) {
             add(&rt, &mut names, &entry(1, version, ino, b"q"));
         }
         add(&rt, &mut names, &entry(1, 3, 58, b"q"));
-        assert!(rt; names.get(1, b"q") == Some(58));
-        assert!(rt; names.highest(1) == Some(3));
+        expect(&rt, names.get(1, b"q") == Some(58));
+        expect(&rt, names.highest(1) == Some(3));
     }
 }
 
 #[test]
 fn the_highest_version_counts(rt: HostRuntime) {
     let mut names = Names::new(rt.alloc());
-    assert!(rt; names.highest(1).is_none());
+    expect(&rt, names.highest(1).is_none());
     for (version, ino, live) in [
         (0, 2, 2),
         (7, 3, 3),
@@ -45,9 +46,9 @@ fn the_highest_version_counts(rt: HostRuntime) {
         (8, 6, 5),
     ] {
         add(&rt, &mut names, &entry(1, version, ino, b"a"));
-        assert!(rt; names.get(1, b"a") == Some(live), "after version {version}");
+        expect_at(&rt, names.get(1, b"a") == Some(live), version);
     }
-    assert!(rt; names.highest(1) == Some(0xFFFF_FFFF));
+    expect(&rt, names.highest(1) == Some(0xFFFF_FFFF));
 }
 
 #[test]
@@ -61,10 +62,10 @@ fn directories_are_apart(rt: HostRuntime) {
         (2, b"b", None),
         (3, b"a", None),
     ] {
-        assert!(rt; names.get(dir, name) == ino, "in {dir}");
+        expect_at(&rt, names.get(dir, name) == ino, dir);
     }
     for (dir, highest) in [(1, Some(7)), (2, Some(0)), (3, None)] {
-        assert!(rt; names.highest(dir) == highest, "of {dir}");
+        expect_at(&rt, names.highest(dir) == highest, dir);
     }
 }
 
@@ -102,9 +103,9 @@ fn names_are_in_byte_order(rt: HostRuntime) {
         (ORDERED[5], 5),
         (ORDERED[6], 2),
     ] {
-        assert!(rt; of.next() == Some((name, ino)), "the number {ino}");
+        expect_at(&rt, of.next() == Some((name, ino)), ino);
     }
-    assert!(rt; of.next().is_none());
+    expect(&rt, of.next().is_none());
 }
 
 #[test]
@@ -114,11 +115,11 @@ fn directories_are_in_order(rt: HostRuntime) {
         add(&rt, &mut names, &entry(pino, 1, ino, name));
     }
     let mut all = names.all();
-    assert!(rt; all.next() == Some((2, b"z".as_slice(), 12)));
-    assert!(rt; all.by_ref().take(7).count() == 7);
-    assert!(rt; all.next() == Some((10, b"a".as_slice(), 11)));
-    assert!(rt; all.next() == Some((0xFFFF_FFFF, b"a".as_slice(), 13)));
-    assert!(rt; all.next().is_none());
+    expect(&rt, all.next() == Some((2, b"z".as_slice(), 12)));
+    expect(&rt, all.by_ref().take(7).count() == 7);
+    expect(&rt, all.next() == Some((10, b"a".as_slice(), 11)));
+    expect(&rt, all.next() == Some((0xFFFF_FFFF, b"a".as_slice(), 13)));
+    expect(&rt, all.next().is_none());
 }
 
 /// A name of which an image lacks the last two bytes.
@@ -130,9 +131,12 @@ fn missing_bytes_count_as_erased(rt: HostRuntime) {
     add(&rt, &mut names, &cut);
     add(&rt, &mut names, &cut);
     let refused = names.add(&entry(1, 4, 72, b"ab\xFF\xFF"));
-    assert!(rt; refused == Err(NameFault::Clash));
+    expect(&rt, refused == Err(NameFault::Clash));
     add(&rt, &mut names, &entry(1, 4, 73, b"ab\xFF"));
-    assert!(rt; are_all(&names, &[(1, b"ab\xFF", 73), (1, b"ab\xFF\xFF", 70)]));
+    expect(
+        &rt,
+        are_all(&names, &[(1, b"ab\xFF", 73), (1, b"ab\xFF\xFF", 70)]),
+    );
 }
 
 /// Likewise where that name is the first.
@@ -141,6 +145,6 @@ fn missing_bytes_of_the_first_entry(rt: HostRuntime) {
     let mut names = Names::new(rt.alloc());
     add(&rt, &mut names, &cut_entry(1, 4, 70, b"ab", 2));
     let refused = names.add(&entry(1, 4, 72, b"ab\xFF\xFF"));
-    assert!(rt; refused == Err(NameFault::Clash));
-    assert!(rt; names.get(1, b"ab\xFF\xFF") == Some(70));
+    expect(&rt, refused == Err(NameFault::Clash));
+    expect(&rt, names.get(1, b"ab\xFF\xFF") == Some(70));
 }

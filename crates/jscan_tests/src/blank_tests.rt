@@ -1,6 +1,7 @@
 //! Where the blank tail of known flashes begins.
 
 use crate::bytes::*;
+use crate::checks::{equal_at, expect};
 use byteorder::{BigEndian, LittleEndian};
 use jnode::{Endian, Order};
 use jscan::{Geometry, blank_from};
@@ -52,7 +53,7 @@ const FLASHES: [(Endian, usize, Pieces, u32); 24] = [
 ];
 
 fn first_blank<E: Order>(rt: &impl Abort, image: &[u8]) -> u32 {
-    assert!(rt; image.len() <= 16384);
+    expect(rt, image.len() <= 16384);
     blank_from::<E>(image, Geometry { block: 8192 }, 2)
 }
 
@@ -64,7 +65,7 @@ fn blank_tails(rt: HostRuntime) -> Result<(), Fail> {
             Endian::Little => first_blank::<LittleEndian>(&rt, &image),
             Endian::Big => first_blank::<BigEndian>(&rt, &image),
         };
-        assert_eq!(rt; first, want, "{len} bytes");
+        equal_at(&rt, first, want, len);
     }
     Ok(())
 }
@@ -74,6 +75,6 @@ fn blank_tails(rt: HostRuntime) -> Result<(), Fail> {
 fn cut_markers(rt: HostRuntime) {
     for len in 0..13usize {
         let image = LITTLE_MARKER.get(..len).unwrap_or(&[0]);
-        assert_eq!(rt; first_blank::<LittleEndian>(&rt, image), 0, "at {len}");
+        equal_at(&rt, first_blank::<LittleEndian>(&rt, image), 0, len);
     }
 }

@@ -1,6 +1,7 @@
 //! What blocks fall into.
 
 use crate::bytes::*;
+use crate::checks::{equal, equal_at};
 use byteorder::{BigEndian, LittleEndian};
 use jnode::{Damage, Endian, Order, Seen};
 use jscan::{
@@ -119,7 +120,7 @@ fn extents_of_blocks(rt: HostRuntime) -> Result<(), Fail> {
             Endian::Little => extent_rows::<LittleEndian>(alloc, start, &block)?,
             Endian::Big => extent_rows::<BigEndian>(alloc, start, &block)?,
         };
-        assert_eq!(rt; rows.as_slice(), want, "{len} bytes at {start}");
+        equal_at(&rt, rows.as_slice(), want, (len, start));
     }
     Ok(())
 }
@@ -149,7 +150,7 @@ fn tiles_in_order(rt: HostRuntime) -> Result<(), Fail> {
         (60, 4, 4),
         (64, 8, 1),
     ];
-    assert_eq!(rt; rows.as_slice(), want.as_slice());
+    equal(&rt, rows.as_slice(), want.as_slice());
     Ok(())
 }
 
@@ -187,7 +188,7 @@ fn findings_and_refusals(rt: HostRuntime) -> Result<(), Fail> {
         (4340, FindingKind::Dirt),
     ]
     .map(|(addr, kind)| Finding { addr, kind });
-    assert_eq!(rt; findings.as_slice(), want.as_slice());
+    equal(&rt, findings.as_slice(), want.as_slice());
     let want = [
         ScanFault::Incompatible {
             addr: 4124,
@@ -198,7 +199,7 @@ fn findings_and_refusals(rt: HostRuntime) -> Result<(), Fail> {
             compr: 7,
         },
     ];
-    assert_eq!(rt; refusals.as_slice(), want.as_slice());
+    equal(&rt, refusals.as_slice(), want.as_slice());
     Ok(())
 }
 
@@ -212,7 +213,7 @@ fn block_sizes(rt: HostRuntime) {
         (4_194_308, false),
         (0, false),
     ] {
-        assert_eq!(rt; Geometry { block }.is_readable(), readable, "at {block}");
+        equal_at(&rt, Geometry { block }.is_readable(), readable, block);
     }
 }
 

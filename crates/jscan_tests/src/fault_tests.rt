@@ -1,5 +1,6 @@
 //! What is not scanned, and the texts of faults.
 
+use crate::checks::equal;
 use byteorder::BigEndian;
 use jscan::{
     GREATEST_BLOCK, GREATEST_IMAGE, Geometry, LEAST_BLOCK, ScanFault, Sightings, StreamFault, scan,
@@ -42,11 +43,12 @@ fn images_that_are_not_scanned(rt: HostRuntime) -> Result<(), Fail> {
         (&long, 4095, ScanFault::BlockSize),
         (&long, 4096, ScanFault::TooLarge),
     ] {
-        assert_eq!(rt; faults(rt.alloc(), image, block), [Some(fault); 3]);
+        equal(&rt, faults(rt.alloc(), image, block), [Some(fault); 3]);
     }
-    assert_eq!(rt;
+    equal(
+        &rt,
         (LEAST_BLOCK, GREATEST_BLOCK, GREATEST_IMAGE),
-        (4096, 4_194_304, 268_435_456)
+        (4096, 4_194_304, 268_435_456),
     );
     Ok(())
 }
@@ -78,10 +80,10 @@ const STREAM_FAULTS: [(StreamFault, &str); 4] = [
 #[test]
 fn texts_of_faults(rt: HostRuntime) -> Result<(), Fail> {
     for (fault, text) in SCAN_FAULTS {
-        assert_eq!(rt; format!(in rt.alloc(); "{fault}")?.as_str(), text);
+        equal(&rt, format!(in rt.alloc(); "{fault}")?.as_str(), text);
     }
     for (fault, text) in STREAM_FAULTS {
-        assert_eq!(rt; format!(in rt.alloc(); "{fault}")?.as_str(), text);
+        equal(&rt, format!(in rt.alloc(); "{fault}")?.as_str(), text);
     }
     Ok(())
 }

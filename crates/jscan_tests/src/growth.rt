@@ -1,5 +1,6 @@
 //! A growth that is refused is told as such.
 
+use crate::checks::{equal, expect};
 use byteorder::LittleEndian;
 use jscan::{
     BlockReader, Counts, Geometry, ScanFault, Sightings, StreamFault, scan, scan_stream,
@@ -31,14 +32,14 @@ fn refusal_fault(alloc: Global) -> Option<ScanFault> {
 #[test]
 fn refused_scans_are_want_of_memory(rt: HostRuntime) {
     if let Some(fault) = scan_fault(rt.alloc()) {
-        assert_eq!(rt; fault, ScanFault::OutOfMemory);
-        assert_eq!(rt; scan_fault(rt.alloc()), None);
+        equal(&rt, fault, ScanFault::OutOfMemory);
+        equal(&rt, scan_fault(rt.alloc()), None);
     }
     if let Some(fault) = refusal_fault(rt.alloc()) {
-        assert_eq!(rt; fault, ScanFault::OutOfMemory);
-        assert_eq!(rt; refusal_fault(rt.alloc()), None);
+        equal(&rt, fault, ScanFault::OutOfMemory);
+        equal(&rt, refusal_fault(rt.alloc()), None);
     }
-    assert!(rt; Sightings::<LittleEndian>::new(&MADE, GEOMETRY).is_ok());
+    expect(&rt, Sightings::<LittleEndian>::new(&MADE, GEOMETRY).is_ok());
 }
 
 /// Why a source is not counted; none where its counts are right.
@@ -74,11 +75,11 @@ fn reader_fault(alloc: Global) -> Option<StreamFault> {
 #[test]
 fn refused_streams_are_want_of_memory(rt: HostRuntime) {
     if let Some(fault) = reader_fault(rt.alloc()) {
-        assert_eq!(rt; fault, StreamFault::OutOfMemory);
-        assert_eq!(rt; reader_fault(rt.alloc()), None);
+        equal(&rt, fault, StreamFault::OutOfMemory);
+        equal(&rt, reader_fault(rt.alloc()), None);
     }
     if let Some(fault) = stream_fault(rt.alloc()) {
-        assert_eq!(rt; fault, StreamFault::OutOfMemory);
-        assert_eq!(rt; stream_fault(rt.alloc()), None);
+        equal(&rt, fault, StreamFault::OutOfMemory);
+        equal(&rt, stream_fault(rt.alloc()), None);
     }
 }

@@ -8,6 +8,8 @@ mod block_tests;
 #[cfg(test)]
 mod bytes;
 #[cfg(test)]
+mod checks;
+#[cfg(test)]
 mod fault_tests;
 #[cfg(test)]
 mod growth;

@@ -2,6 +2,7 @@
 
 use crate::block_tests::shown;
 use crate::bytes::*;
+use crate::checks::equal;
 use byteorder::{BigEndian, LittleEndian};
 use jnode::{Damage, Fill, NodeRef, Order, Seen};
 use jscan::{
@@ -127,14 +128,15 @@ fn nodes_and_findings_of_images(rt: HostRuntime) -> Result<(), Fail> {
             scanned::<LittleEndian>(rt.alloc(), &image)?,
             scanned_to_refusal::<LittleEndian>(rt.alloc(), &image)?,
         ] {
-            assert_eq!(rt;
+            equal(
+                &rt,
                 (answer.0.as_slice(), answer.1.as_slice(), answer.2, answer.3),
-                (nodes, findings, read_only, None)
+                (nodes, findings, read_only, None),
             );
         }
     }
     let none = scanned::<BigEndian>(rt.alloc(), &[])?;
-    assert_eq!(rt; (none.0.len(), none.1.len(), none.2), (0, 0, false));
+    equal(&rt, (none.0.len(), none.1.len(), none.2), (0, 0, false));
     Ok(())
 }
 
@@ -161,10 +163,14 @@ fn the_first_refusal_counts(rt: HostRuntime) -> Result<(), Fail> {
     for (pieces, want) in REFUSED {
         let image = flash(rt.alloc(), 12288, pieces)?;
         let scan = scan::<LittleEndian>(rt.alloc(), &image, GEOMETRY);
-        assert_eq!(rt; scan.err(), Some(want));
+        equal(&rt, scan.err(), Some(want));
         let partial = scanned_to_refusal::<LittleEndian>(rt.alloc(), &image)?;
-        assert_eq!(rt; partial.3, Some(want));
-        assert_eq!(rt; partial.0.as_slice(), [(0, "entry", 2, 1, 1)].as_slice());
+        equal(&rt, partial.3, Some(want));
+        equal(
+            &rt,
+            partial.0.as_slice(),
+            [(0, "entry", 2, 1, 1)].as_slice(),
+        );
     }
     Ok(())
 }
@@ -182,6 +188,6 @@ fn sightings_in_order(rt: HostRuntime) -> Result<(), Fail> {
         .map(sighting_row)
         .collect(rt.alloc())?;
     let want = [(0, "marker"), (0x0c, "entry"), (0x1000, "entry")];
-    assert_eq!(rt; sightings.as_slice(), want.as_slice());
+    equal(&rt, sightings.as_slice(), want.as_slice());
     Ok(())
 }

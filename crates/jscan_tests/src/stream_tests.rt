@@ -1,6 +1,7 @@
 //! Blocks and counts of worked sources, cut in several ways, and of sources that fail.
 
 use crate::bytes::*;
+use crate::checks::{equal, equal_at, expect, expect_at};
 use byteorder::{BigEndian, LittleEndian};
 use flashbase::FromReader;
 use jscan::{BlockReader, Counts, GREATEST_BLOCK, Geometry, StreamFault, scan_stream};
@@ -52,11 +53,7 @@ fn counts_do_not_depend_on_the_cut(rt: HostRuntime) -> Result<(), Fail> {
         let image = flash(rt.alloc(), len, pieces)?;
         for piece in CUTS {
             let answer = streamed(rt.alloc(), Giver::limited(&image, piece, usize::MAX), SMALL);
-            assert_eq!(rt;
-                answer,
-                (Ok(()), counts(want), Some((0, 0))),
-                "in pieces of {piece}"
-            );
+            equal_at(&rt, answer, (Ok(()), counts(want), Some((0, 0))), piece);
         }
     }
     Ok(())
@@ -67,7 +64,7 @@ fn runs_count_once_each(rt: HostRuntime) {
     let mut counted = counts([0, 0, 0, 0]);
     let source = FromReader::new(ENTRY_A.as_slice());
     let (result, _) = scan_stream::<BigEndian, _>(rt.alloc(), source, SMALL, &mut counted);
-    assert_eq!(rt; (result, counted), (Ok(()), counts([1, 0, 0, 2])));
+    equal(&rt, (result, counted), (Ok(()), counts([1, 0, 0, 2])));
 }
 
 #[test]
@@ -78,9 +75,9 @@ fn blocks_are_those_of_the_bytes(rt: HostRuntime) -> Result<(), Fail> {
         let source = Giver::limited(&image, piece, usize::MAX);
         let mut reader = BlockReader::new(rt.alloc(), source, SMALL)?;
         for want in [filled.get(..4096), filled.get(4096..), None, None] {
-            assert!(rt; reader.next()? == want, "in pieces of {piece}");
+            expect_at(&rt, reader.next()? == want, piece);
         }
-        assert!(rt; reader.into_source().rest.is_empty());
+        expect(&rt, reader.into_source().rest.is_empty());
     }
     Ok(())
 }
@@ -92,18 +89,19 @@ fn a_device_fails_in_the_second_block(rt: HostRuntime) -> Result<(), Fail> {
     for piece in CUTS {
         let mut reader = BlockReader::new(rt.alloc(), Giver::limited(&image, piece, 4100), SMALL)?;
         for want in [Ok(image.get(..4096)), device, device] {
-            assert!(rt; reader.next() == want, "in pieces of {piece}");
+            expect_at(&rt, reader.next() == want, piece);
         }
         let left = reader.into_source();
-        assert_eq!(rt; (left.failures, left.rest.len()), (1, 37));
+        equal(&rt, (left.failures, left.rest.len()), (1, 37));
         let answer = streamed(rt.alloc(), Giver::limited(&image, piece, 4100), SMALL);
-        assert_eq!(rt;
+        equal(
+            &rt,
             answer,
             (
                 Err(StreamFault::Device),
                 counts([1, 1, 0, 0]),
-                Some((1, 37))
-            )
+                Some((1, 37)),
+            ),
         );
     }
     Ok(())
@@ -117,25 +115,26 @@ fn a_device_fails_once(rt: HostRuntime) -> Result<(), Fail> {
         let failing = || Giver::failing(&image, 2048, calls);
         let mut reader = BlockReader::new(rt.alloc(), failing(), SMALL)?;
         for _ in 0..blocks {
-            assert!(rt; reader.next()?.is_some());
+            expect(&rt, reader.next()?.is_some());
         }
         for _ in 0..2 {
-            assert!(rt; reader.next() == Err(StreamFault::Device), "after {calls}");
+            expect_at(&rt, reader.next() == Err(StreamFault::Device), calls);
         }
-        assert_eq!(rt; reader.into_source().failures, 1);
+        equal(&rt, reader.into_source().failures, 1);
         let answer = streamed(rt.alloc(), failing(), SMALL);
         let left = image.len().saturating_sub(2048 * calls);
-        assert_eq!(rt;
+        equal(
+            &rt,
             answer,
             (
                 Err(StreamFault::Device),
                 counts([blocks, blocks, 0, 0]),
-                Some((1, left))
-            )
+                Some((1, left)),
+            ),
         );
     }
     let whole = streamed(rt.alloc(), Giver::failing(&image, 2048, 4), SMALL);
-    assert_eq!(rt; whole, (Ok(()), counts([2, 2, 0, 0]), Some((0, 0))));
+    equal(&rt, whole, (Ok(()), counts([2, 2, 0, 0]), Some((0, 0))));
     Ok(())
 }
 
@@ -150,10 +149,10 @@ fn a_source_is_too_large(rt: HostRuntime) -> Result<(), Fail> {
     ] {
         let mut reader = BlockReader::new(rt.alloc(), Long { left }, Geometry { block })?;
         for _ in 0..blocks {
-            assert!(rt; reader.next()?.is_some());
+            expect(&rt, reader.next()?.is_some());
         }
         for _ in 0..2 {
-            assert!(rt; reader.next() == want, "at {left}");
+            expect_at(&rt, reader.next() == want, left);
         }
     }
     Ok(())
@@ -164,9 +163,10 @@ fn block_sizes_that_are_not_read(rt: HostRuntime) {
     for block in [0, 4092, 4098, GREATEST_BLOCK + 4] {
         let source = Giver::limited(&ENTRY_A, 1, usize::MAX);
         let answer = streamed(rt.alloc(), source, Geometry { block });
-        assert_eq!(rt;
+        equal(
+            &rt,
             answer,
-            (Err(StreamFault::BlockSize), counts([0, 0, 0, 0]), None)
+            (Err(StreamFault::BlockSize), counts([0, 0, 0, 0]), None),
         );
     }
 }

@@ -1,5 +1,6 @@
 //! What an index shows, of a tree and after steps.
 
+use crate::checks::{equal, equal_at};
 use crate::lines::answer;
 use crate::taking::take;
 use crate::trees::{ONE_NUMBER_LEFT, SMALL, index_of};
@@ -20,10 +21,10 @@ fn what_an_index_shows(rt: HostRuntime) -> Result<(), Fail> {
     ];
     for (ino, object, top) in shown {
         let found = index.object(ino).map(|o| (o.kind, o.mode, o.size));
-        assert_eq!(rt; found, object, "object {ino}");
-        assert_eq!(rt; index.top(ino), top, "top of {ino}");
+        equal_at(&rt, found, object, ino);
+        equal_at(&rt, index.top(ino), top, ino);
     }
-    assert_eq!(rt; index.next(), 58);
+    equal(&rt, index.next(), 58);
     Ok(())
 }
 
@@ -51,15 +52,15 @@ fn what_steps_leave(rt: HostRuntime) -> Result<(), Fail> {
         ("remove /q", 1, 57, None, 0),
     ];
     for (line, count, ino, object, top) in rows {
-        assert_eq!(rt; take(alloc, &mut index, line)?, count, "at {line}");
+        equal_at(&rt, take(alloc, &mut index, line)?, count, line);
         let found = index.object(ino).map(|o| (o.mode, o.uid, o.gid, o.size));
-        assert_eq!(rt; found, object, "at {line}");
-        assert_eq!(rt; index.top(ino), top, "at {line}");
+        equal_at(&rt, found, object, line);
+        equal_at(&rt, index.top(ino), top, line);
     }
-    assert_eq!(rt; index.next(), 61);
-    assert_eq!(rt; index.top(1), 10);
+    equal(&rt, index.next(), 61);
+    equal(&rt, index.top(1), 10);
     let times = index.object(2).map(|o| (o.atime, o.mtime, o.ctime));
-    assert_eq!(rt; times, Some((1, 7, 7)));
+    equal(&rt, times, Some((1, 7, 7)));
     Ok(())
 }
 
@@ -75,20 +76,21 @@ fn what_attributes_leave(rt: HostRuntime) -> Result<(), Fail> {
         ("attr /x 0", 1, 58, 0o040000, 0, 2),
     ];
     for (line, count, ino, mode, size, top) in rows {
-        assert_eq!(rt; take(alloc, &mut index, line)?, count, "at {line}");
+        equal_at(&rt, take(alloc, &mut index, line)?, count, line);
         let found = index.object(ino).map(|o| (o.mode, o.size));
-        assert_eq!(rt; found, Some((mode, size)), "at {line}");
-        assert_eq!(rt; index.top(ino), top, "at {line}");
+        equal_at(&rt, found, Some((mode, size)), line);
+        equal_at(&rt, index.top(ino), top, line);
     }
     for ino in [1, 2, 3, 58] {
         let found = index
             .object(ino)
             .map(|o| (o.uid, o.gid, o.atime, o.mtime, o.ctime));
-        assert_eq!(rt; found, Some((5, 6, 1, 2, 7)), "of {ino}");
+        equal_at(&rt, found, Some((5, 6, 1, 2, 7)), ino);
     }
-    assert_eq!(rt;
+    equal(
+        &rt,
         index.object(4).map(|o| (o.mode, o.uid, o.ctime)),
-        Some((0o040755, 3, 2))
+        Some((0o040755, 3, 2)),
     );
     Ok(())
 }
@@ -102,7 +104,7 @@ fn other_permission_bits(rt: HostRuntime) {
         (u32::MAX, 0o7776, u32::MAX - 1),
     ];
     for (mode, permissions, wanted) in rows {
-        assert_eq!(rt; with_permissions(mode, permissions), wanted, "{mode:o}");
+        equal_at(&rt, with_permissions(mode, permissions), wanted, mode);
     }
 }
 
@@ -122,9 +124,9 @@ fn what_names_leave(rt: HostRuntime) -> Result<(), Fail> {
         ("link /a /m/c", 1, "remove /m/c", "clear 58 c"),
     ];
     for (line, count, next, wanted) in rows {
-        assert_eq!(rt; take(alloc, &mut index, line)?, count, "at {line}");
+        equal_at(&rt, take(alloc, &mut index, line)?, count, line);
         let found = answer(alloc, &index, next)?;
-        assert_eq!(rt; found.as_str(), wanted, "after {line}");
+        equal_at(&rt, found.as_str(), wanted, line);
     }
     Ok(())
 }
@@ -133,9 +135,9 @@ fn what_names_leave(rt: HostRuntime) -> Result<(), Fail> {
 fn what_the_last_number_leaves(rt: HostRuntime) -> Result<(), Fail> {
     let alloc = rt.alloc();
     let mut index = index_of(alloc, ONE_NUMBER_LEFT)?;
-    assert_eq!(rt; take(alloc, &mut index, "mkdir /y 755")?, 2);
-    assert_eq!(rt; index.next(), 4_294_967_296);
-    assert_eq!(rt; index.top(u32::MAX), 1);
+    equal(&rt, take(alloc, &mut index, "mkdir /y 755")?, 2);
+    equal(&rt, index.next(), 4_294_967_296);
+    equal(&rt, index.top(u32::MAX), 1);
     let rows = [
         ("create /x 644", "O12 Exhausted"),
         ("mkdir /y/x 755", "O12 Exhausted"),
@@ -145,7 +147,7 @@ fn what_the_last_number_leaves(rt: HostRuntime) -> Result<(), Fail> {
     ];
     for (line, wanted) in rows {
         let found = answer(alloc, &index, line)?;
-        assert_eq!(rt; found.as_str(), wanted, "at {line}");
+        equal_at(&rt, found.as_str(), wanted, line);
     }
     Ok(())
 }

@@ -1,5 +1,6 @@
 //! Writes by larger pages.
 
+use crate::checks::{equal, equal_at};
 use crate::lines::answer_by;
 use crate::trees::{SMALL, index_of};
 use jsteps::Page;
@@ -46,15 +47,15 @@ fn bytes_are_cut_at_pages(rt: HostRuntime) -> Result<(), Fail> {
     let index = index_of(rt.alloc(), SMALL)?;
     for (page, line, wanted) in ROWS {
         let found = answer_by(rt.alloc(), &index, line, page)?;
-        assert_eq!(rt; found.as_str(), wanted, "at {line}");
+        equal_at(&rt, found.as_str(), wanted, line);
     }
     Ok(())
 }
 
 #[test]
 fn pages_have_sizes(rt: HostRuntime) -> Result<(), Fail> {
-    assert_eq!(rt; Page::P4096.size(), 4096);
-    assert_eq!(rt; Page::P8192.size(), 8192);
-    assert_eq!(rt; Page::P16384.size(), 16_384);
+    equal(&rt, Page::P4096.size(), 4096);
+    equal(&rt, Page::P8192.size(), 8192);
+    equal(&rt, Page::P16384.size(), 16_384);
     Ok(())
 }

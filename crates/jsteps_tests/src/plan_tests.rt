@@ -1,5 +1,6 @@
 //! Tables of operations, each with its steps or its refusal.
 
+use crate::checks::equal_at;
 use crate::lines::answer;
 use crate::trees::{ALMOST_SPENT, DANGLING, KINDS, LOOP, ONE_NUMBER_LEFT, SMALL, SPENT, index_of};
 use std::alloc::Global;
@@ -12,7 +13,7 @@ fn agree(rt: &impl Abort, alloc: Global, tree: Tree, rows: &[(&str, &str)]) -> R
     let index = index_of(alloc, tree)?;
     for (line, wanted) in rows {
         let found = answer(alloc, &index, line)?;
-        assert_eq!(rt; found.as_str(), *wanted, "at {line}");
+        equal_at(rt, found.as_str(), *wanted, line);
     }
     Ok(())
 }
