@@ -125,7 +125,7 @@ def batches_of(edits):
     return made
 
 
-def check(crate, batch, kept):
+def check(crate, batch, kept, threads):
     """Checks the batch's functions in a copy of the crate with its edits, and returns what the check says of each function."""
     with tempfile.TemporaryDirectory(prefix="edits-") as room:
         for part in rtlib.PARTS:
@@ -133,7 +133,7 @@ def check(crate, batch, kept):
                 shutil.copytree(f"{crate.folder}/{part}", f"{room}/{part}")
         batch.write(room)
         only = [word for edit in batch.edits for word in ("--only", edit.function)]
-        words = [rtlib.RATTLE, "check", *crate.words(["--jobs", "2"], keeps=False), "--incremental", kept, *only]
+        words = [rtlib.RATTLE, "check", *crate.words(["--jobs", str(threads())], keeps=False), "--incremental", kept, *only]
         how = {"stdin": subprocess.DEVNULL, "stdout": subprocess.PIPE, "stderr": subprocess.STDOUT, "errors": "replace"}
         said = subprocess.run([*rtlib.guarded(), *words], cwd=room, check=False, **how).stdout.rstrip()
     lines = said.split("\n")
@@ -152,21 +152,21 @@ def is_refused(status):
     return status != "proved" and "borrow checker" not in status
 
 
-def tried(crate, batch, kept):
+def tried(crate, batch, kept, threads):
     """Returns for each edit of the batch whether it is refused, and what the check said."""
     try:
-        found = check(crate, batch, kept)
+        found = check(crate, batch, kept, threads)
     except BadEdit as error:
         if len(batch.edits) == 1:
             return [(batch.edits[0], False, f"BAD EDIT: {error}")]
         half = len(batch.edits) // 2
         parts = [part for edits in (batch.edits[:half], batch.edits[half:]) for part in batches_of(edits)]
-        return [it for part in parts for it in tried(crate, part, kept)]
+        return [it for part in parts for it in tried(crate, part, kept, threads)]
     again = [edit for edit in batch.edits if found[edit.function].startswith(CALLEE_FAILED)]
     if len(again) == len(batch.edits):
         return [(edit, False, f"NOT REFUSED: {found[edit.function]}") for edit in again]
     judged = [(edit, is_refused(found[edit.function]), found[edit.function]) for edit in batch.edits if edit not in again]
-    return [*judged, *(it for part in batches_of(again) for it in tried(crate, part, kept))]
+    return [*judged, *(it for part in batches_of(again) for it in tried(crate, part, kept, threads))]
 
 
 def unmade(crate):
@@ -181,8 +181,8 @@ def edits_of(crate):
     return sorted(f"{folder}/{it}" for it in os.listdir(folder)) if os.path.isdir(folder) else []
 
 
-def try_all(crate):
-    """Returns a line for each edit of the crate, and how many are refused."""
+def try_all(crate, threads):
+    """Returns a line for each edit of the crate, and how many are refused. `threads` tells how many a check is to have."""
     if unmade(crate):
         return [f"{crate.name}: run rt check first: {', '.join(unmade(crate))}"], 0
     lines, edits = [], []
@@ -194,7 +194,7 @@ def try_all(crate):
     good = 0
     with tempfile.TemporaryDirectory(prefix="edits-kept-") as kept:
         for batch in batches_of(edits):
-            for edit, refused, said in tried(crate, batch, kept):
+            for edit, refused, said in tried(crate, batch, kept, threads):
                 lines.append(f"{crate.name}/{edit.name}: {'refused: ' if refused else 'NOT REFUSED: '}{edit.function}: {said[:160]}")
                 good += refused
     return lines, good
@@ -219,6 +219,10 @@ class Libraries:
             self.are_all = True
             self.more.notify_all()
 
+    def threads(self):
+        """Returns how many threads a check of edits gets: a second one takes a seventh more of the processors, which `rt ci` needs."""
+        return 2 if self.are_all else 1
+
     def next_of(self, crates):
         """Takes the first of these crates below which all libraries are made out of the list, and waits for one. None at the end."""
         is_ready = lambda crate: self.are_all or all(it.name in self.names for it in crate.below())
@@ -236,7 +240,7 @@ def try_each(crates, libraries, jobs):
 
     def work():
         while crate := libraries.next_of(crates):
-            lines, good = try_all(crate)
+            lines, good = try_all(crate, libraries.threads)
             with printing:
                 print("\n".join(lines), flush=True)
                 counts[0] += good
@@ -250,7 +254,7 @@ def try_each(crates, libraries, jobs):
 
 def main():
     parser = argparse.ArgumentParser(description="Shows that the prover refuses the wrong bodies in crates/*/must-fail.")
-    parser.add_argument("--jobs", type=int, default=len(os.sched_getaffinity(0)), help="how many crates at a time, each by two threads")
+    parser.add_argument("--jobs", type=int, default=len(os.sched_getaffinity(0)), help="how many crates at a time")
     parser.add_argument("--built", metavar="DIR", default=ROOT, help="a copy of the repository in which the crates were proved")
     parser.add_argument("--with-ci", action="store_true", help="run rt ci in that copy meanwhile, and fail where it fails")
     parser.add_argument("crates", metavar="CRATE", nargs="*", help="these crates alone")
