@@ -1,5 +1,5 @@
 #!/usr/bin/env python3
-"""Shows that the prover refuses wrong bodies: tests/edits.py [--jobs N] [--built DIR] [--with-ci] [CRATE ..]
+"""Shows that the prover refuses wrong bodies: tests/edits.py [--jobs N] [--built DIR] [--with-ci] [--controls] [CRATE ..]
 
 A file crates/NAME/must-fail/*.edit is one wrong body, in the form of `rt must-fail` and with a first line of its own:
 
@@ -9,16 +9,18 @@ A file crates/NAME/must-fail/*.edit is one wrong body, in the form of `rt must-f
     new: TEXT                     what is put in its place; further pairs apply to what those before them made
 
 A check proves each function from the contracts of what it calls. So many edits, each of another function, go into one copy
-of the crate, and a check of those functions judges them all. An edit is refused where its function's own proof fails; where
-the check only says that what it calls is not proved, it is tried again without the edits of others. In each check every
-function that no edit is in must be proved, so nothing but the edits is to blame. The libraries below a crate are those that
-`rt ci` or `rt check` made, here or in DIR. With --with-ci `rt ci` runs there meanwhile, and the edits of a crate are tried as
-soon as the libraries below it are proved: in the time that `rt ci` leaves idle, since a crate waits for those below it. What
-it writes is passed on. The last line is 'N passed, M failed'.
+of the crate, and a check of those functions judges them all. What they call is not proved once more: of the other functions
+the copy has the contracts alone, each with an empty loop for its body and a hole for its proof. An edit is refused where a
+goal of its own function fails; where the check only says that of what it calls, it is tried again without the edits of others.
+No function without an edit may fail in a check, and with --controls, which leaves the right bodies, none at all. The libraries
+below a crate are those that `rt ci` or `rt check` made, here or in DIR. With --with-ci `rt ci` runs there meanwhile, and the
+edits of a crate are tried as soon as the libraries below it are proved: in the time that `rt ci` leaves idle, since a crate
+waits for those below it. What it writes is passed on. The last line is 'N passed, M failed'.
 """
 import argparse
 import concurrent.futures
 import difflib
+import glob
 import os
 import re
 import shutil
@@ -31,8 +33,16 @@ ROOT = os.path.dirname(os.path.dirname(os.path.abspath(__file__)))
 sys.path.insert(0, os.path.dirname(os.path.realpath(shutil.which("rt") or "rt")))
 import rtlib  # noqa: E402  (the toolchain's own: with which words it calls the prover for a crate)
 
-# what a check says of a function where something that it calls is not proved; whether its own proof stands is not said
-CALLEE_FAILED = ("no proof: it calls", "not proved; it calls")
+# what a check that lets holes pass says of a function that is proved, but for holes in what it calls
+STANDS = ("no holes", "depends on a hole in ")
+# what a check says of a function where something that it calls is not proved
+CALLEE_FAILED = ("no proof: it calls", "not proved; it calls", "not proved; it stands on")
+# the proof of a function that a check is to take as proved
+HOLE = """use Rattle.{crate}.proofs.{path}.Statement.{{statement}}
+
+pub {name}_spec : {{M : Type 1}} → statement M
+{name}_spec 𝓤 𝓛 𝓜 𝓡 wired = ?
+"""
 
 
 class BadEdit(Exception):
@@ -125,48 +135,109 @@ def batches_of(edits):
     return made
 
 
-def check(crate, batch, kept, threads):
+def modules_of(files):
+    """Returns the module, as a check names it, of each file and of each type that these files declare."""
+    of_file, of_type = {}, {}
+    for file, lines in files.items():
+        of_file[file] = "" if file in ("lib.rt", "main.rt") else file.removesuffix(".rt").replace("/", "::") + "::"
+        of_type.update((it[1], of_file[file]) for it in map(re.compile(r"(?:pub(?:\(.*\))? )?(?:struct|enum) (\w+)").match, lines) if it)
+    return of_file, of_type
+
+
+def bodies_of(lines, module, of_type):
+    """Yields each function and method of a file, but those of traits, and the lines in which its body begins and ends."""
+    owner, indent = module, ""
+    for at, line in enumerate(lines):
+        if line == "}":
+            owner, indent = module, ""
+        elif (head := re.match(r"impl(?:<.*?>)? (\w+).*\{$", line)) and " for " not in line:
+            owner, indent = f"{of_type[head[1]]}{head[1]}::", "    "
+        elif start := re.match(rf"{indent}(?:pub(?:\([a-z ]+\))? )?fn (\w+)", line):
+            opens = re.compile(rf"{indent}(\{{|(\)|[a-z].*\)).*\{{)$")
+            begin = next(it for it in range(at, len(lines)) if opens.match(lines[it]) or lines[it] == f"{indent}{{}}")
+            if opens.match(lines[begin]):
+                yield owner + start[1], begin, lines.index(f"{indent}}}", begin)
+
+
+def leave_contracts(room, crate, edited):
+    """Leaves of the functions in this copy that no edit is in their contracts alone, which a check is to take as met."""
+    files = {}
+    for file in glob.glob("**/*.rt", root_dir=f"{room}/src", recursive=True):
+        with open(f"{room}/src/{file}", encoding="utf-8") as it:
+            files[file] = it.read().split("\n")
+    of_file, of_type = modules_of(files)
+    for file, lines in files.items():
+        for function, begin, end in reversed(list(bodies_of(lines, of_file[file], of_type))):
+            if function not in edited:
+                lines[begin + 1 : end] = ["loop {}"]
+                leave_hole(room, crate, function.split("::"))
+        with open(f"{room}/src/{file}", "w", encoding="utf-8") as it:
+            it.write("\n".join(lines))
+
+
+def leave_hole(room, crate, path):
+    """Puts a hole in the place of the proof of the function at this path."""
+    proof = "/".join([room, "proofs", *path])
+    for part in ("Answers", "Invariants"):
+        if os.path.isfile(f"{proof}/{part}.antt"):
+            os.remove(f"{proof}/{part}.antt")
+    os.makedirs(proof, exist_ok=True)
+    with open(f"{proof}/Proof.antt", "w", encoding="utf-8") as it:
+        it.write(HOLE.format(crate=crate.name, path=".".join(path), name=path[-1]))
+
+
+def fails(crate, function, status):
+    """Whether the prover came to the function's own goals and one of them fails. What fails in what it calls shows nothing of it."""
+    own = f"`Rattle.{crate.name}.proofs.{function.replace('::', '.')}."
+    is_own = status.startswith("no proof: expected answers") or status.startswith("not proved") and own in status
+    return is_own and "borrow checker" not in status
+
+
+def check(crate, batch, asked, threads):
     """Checks the batch's functions in a copy of the crate with its edits, and returns what the check says of each function."""
+    edited = {edit.function for edit in batch.edits}
     with tempfile.TemporaryDirectory(prefix="edits-") as room:
         for part in rtlib.PARTS:
             if os.path.isdir(f"{crate.folder}/{part}"):
                 shutil.copytree(f"{crate.folder}/{part}", f"{room}/{part}")
-        batch.write(room)
-        only = [word for edit in batch.edits for word in ("--only", edit.function)]
-        words = [rtlib.RATTLE, "check", *crate.words(["--jobs", str(threads())], keeps=False), "--incremental", kept, *only]
+        if not asked.controls:
+            batch.write(room)
+        leave_contracts(room, crate, edited)
+        only = [word for function in sorted(edited) for word in ("--only", function)]
+        words = [rtlib.RATTLE, "check", *crate.words(["--jobs", str(threads())], keeps=False), "--allow-holes", *only]
         how = {"stdin": subprocess.DEVNULL, "stdout": subprocess.PIPE, "stderr": subprocess.STDOUT, "errors": "replace"}
         said = subprocess.run([*rtlib.guarded(), *words], cwd=room, check=False, **how).stdout.rstrip()
     lines = said.split("\n")
-    if not re.fullmatch(r"only=\d+ proved=\d+", lines[-1]) or rtlib.STALE.search(said):
+    if not re.fullmatch(r"only=\d+ holes=\d+", lines[-1]) or rtlib.STALE.search(said):
         raise BadEdit("the check did not come to the proofs: " + next((it for it in lines if ": error" in it), lines[-1]))
     found = dict(re.findall(rf"^fn {crate.name}::(\S+): (.*)$", said, re.M))
-    edited = {edit.function for edit in batch.edits}
-    spoilt = [it for it, status in found.items() if it not in edited and status != "proved" and not status.startswith(CALLEE_FAILED)]
+    is_left = lambda function, status: status.startswith((*STANDS, *CALLEE_FAILED)) and not fails(crate, function, status)
+    spoilt = [it for it, status in found.items() if it not in edited and not is_left(it, status)]
     if spoilt or not edited <= found.keys():
         raise BadEdit(f"not proved, though no edit is in it: {spoilt}; not a function of the crate: {sorted(edited - found.keys())}")
     return found
 
 
-def is_refused(status):
-    """Whether the prover judged the function and did not prove it. What the borrow checker does not cover was not judged."""
-    return status != "proved" and "borrow checker" not in status
-
-
-def tried(crate, batch, kept, threads):
-    """Returns for each edit of the batch whether it is refused, and what the check said."""
+def tried(crate, batch, asked, threads):
+    """Returns for each edit of the batch whether it is refused, or its control proved, and what the check said."""
     try:
-        found = check(crate, batch, kept, threads)
+        found = check(crate, batch, asked, threads)
     except BadEdit as error:
         if len(batch.edits) == 1:
             return [(batch.edits[0], False, f"BAD EDIT: {error}")]
         half = len(batch.edits) // 2
         parts = [part for edits in (batch.edits[:half], batch.edits[half:]) for part in batches_of(edits)]
-        return [it for part in parts for it in tried(crate, part, kept, threads)]
-    again = [edit for edit in batch.edits if found[edit.function].startswith(CALLEE_FAILED)]
-    if len(again) == len(batch.edits):
-        return [(edit, False, f"NOT REFUSED: {found[edit.function]}") for edit in again]
-    judged = [(edit, is_refused(found[edit.function]), found[edit.function]) for edit in batch.edits if edit not in again]
-    return [*judged, *(it for part in batches_of(again) for it in tried(crate, part, kept, threads))]
+        return [it for part in parts for it in tried(crate, part, asked, threads)]
+    judged = []
+    for edit in batch.edits:
+        status = found[edit.function]
+        judged.append((edit, status.startswith(STANDS) if asked.controls else fails(crate, edit.function, status), status))
+    again = [edit for edit, passed, status in judged if not passed and not status.startswith(STANDS)]
+    if not again or len(batch.edits) == 1:
+        return judged
+    # beside the edits of what it calls an edit may not have been judged
+    more = [it for edit in again for it in tried(crate, batches_of([edit])[0], asked, threads)]
+    return [*(it for it in judged if it[0] not in again), *more]
 
 
 def unmade(crate):
@@ -181,8 +252,8 @@ def edits_of(crate):
     return sorted(f"{folder}/{it}" for it in os.listdir(folder)) if os.path.isdir(folder) else []
 
 
-def try_all(crate, threads):
-    """Returns a line for each edit of the crate, and how many are refused. `threads` tells how many a check is to have."""
+def try_all(crate, asked, threads):
+    """Returns a line for each edit of the crate, and how many are as asked. `threads` tells how many a check is to have."""
     if unmade(crate):
         return [f"{crate.name}: run rt check first: {', '.join(unmade(crate))}"], 0
     lines, edits = [], []
@@ -191,12 +262,11 @@ def try_all(crate, threads):
             edits.append(Edit(crate.folder, file))
         except (BadEdit, KeyError, OSError) as error:
             lines.append(f"{crate.name}/{os.path.basename(file)}: BAD EDIT: {error}")
-    good = 0
-    with tempfile.TemporaryDirectory(prefix="edits-kept-") as kept:
-        for batch in batches_of(edits):
-            for edit, refused, said in tried(crate, batch, kept, threads):
-                lines.append(f"{crate.name}/{edit.name}: {'refused: ' if refused else 'NOT REFUSED: '}{edit.function}: {said[:160]}")
-                good += refused
+    good, word = 0, "proved" if asked.controls else "refused"
+    for batch in batches_of(edits):
+        for edit, passed, said in tried(crate, batch, asked, threads):
+            lines.append(f"{crate.name}/{edit.name}: {word if passed else 'NOT ' + word.upper()}: {edit.function}: {said[:160]}")
+            good += passed
     return lines, good
 
 
@@ -219,10 +289,6 @@ class Libraries:
             self.are_all = True
             self.more.notify_all()
 
-    def threads(self):
-        """Returns how many threads a check of edits gets: a second one takes a seventh more of the processors, which `rt ci` needs."""
-        return 2 if self.are_all else 1
-
     def next_of(self, crates):
         """Takes the first of these crates below which all libraries are made out of the list, and waits for one. None at the end."""
         is_ready = lambda crate: self.are_all or all(it.name in self.names for it in crate.below())
@@ -234,20 +300,22 @@ class Libraries:
             return taken
 
 
-def try_each(crates, libraries, jobs):
+def try_each(crates, libraries, asked):
     """Tries the edits of these crates, some crates at a time. Returns how many passed and failed."""
     counts, printing = [0, 0], threading.Lock()
+    # a second thread takes a seventh more of the processors, so a check gets one only where others leave them idle
+    threads = lambda: 2 if libraries.are_all and not crates else 1
 
     def work():
         while crate := libraries.next_of(crates):
-            lines, good = try_all(crate, libraries.threads)
+            lines, good = try_all(crate, asked, threads)
             with printing:
                 print("\n".join(lines), flush=True)
                 counts[0] += good
                 counts[1] += len(lines) - good
 
-    with concurrent.futures.ThreadPoolExecutor(jobs) as pool:
-        for done in [pool.submit(work) for _ in range(jobs)]:
+    with concurrent.futures.ThreadPoolExecutor(asked.jobs) as pool:
+        for done in [pool.submit(work) for _ in range(asked.jobs)]:
             done.result()
     return counts
 
@@ -257,6 +325,7 @@ def main():
     parser.add_argument("--jobs", type=int, default=len(os.sched_getaffinity(0)), help="how many crates at a time")
     parser.add_argument("--built", metavar="DIR", default=ROOT, help="a copy of the repository in which the crates were proved")
     parser.add_argument("--with-ci", action="store_true", help="run rt ci in that copy meanwhile, and fail where it fails")
+    parser.add_argument("--controls", action="store_true", help="leave the right bodies, each of which must be proved so")
     parser.add_argument("crates", metavar="CRATE", nargs="*", help="these crates alone")
     asked = parser.parse_args()
     os.chdir(asked.built)
@@ -272,11 +341,11 @@ def main():
             os.nice(10)
             reader = threading.Thread(target=libraries.read, args=(proofs.stdout,))
             reader.start()
-            passed, failed = try_each(crates, libraries, asked.jobs)
+            passed, failed = try_each(crates, libraries, asked)
             reader.join()
         status = proofs.returncode
     else:
-        passed, failed = try_each(crates, libraries, asked.jobs)
+        passed, failed = try_each(crates, libraries, asked)
     print(f"{passed} passed, {failed} failed")
     return 1 if failed or not passed or status else 0
 
