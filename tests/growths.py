@@ -4,11 +4,9 @@
 Runs each test of a module `growth`, as `rt test` built it here or `rt ci` in DIR, once for each growth that it asks for, with that
 one refused (tests/refuse.c). The test passes whichever it is: it sees to it that the call answers out of memory by its own number
 or what it answers anyway, that what stands after it is as the contract says, and that the same call then does what it did
-not. The program of crates/jsteps_growths is run likewise; its status says which call the growth was refused to. The last line is
-'N passed, M failed', one for each growth.
+not. The last line is 'N passed, M failed', one for each growth.
 """
 import argparse
-import collections
 import glob
 import os
 import shutil
@@ -17,9 +15,6 @@ import sys
 import tempfile
 
 ROOT = os.path.dirname(os.path.dirname(os.path.abspath(__file__)))
-CALLS = {31: "Index::of", 32: "plan", 33: "advance", 0: "asked again"}
-# The growths of the image and of the mount of it, which come before.
-BEFORE = (20, 21)
 
 
 def run(shim, number, words):
@@ -29,11 +24,9 @@ def run(shim, number, words):
 
 
 def growths(shim, words):
-    """How many growths a program asks for, and what it writes where none is refused; it must pass."""
+    """How many growths a test asks for; it must pass where none is refused."""
     plain = run(shim, 0, words)
-    if plain.returncode:
-        return 0, plain
-    return int(plain.stderr.split()[-1]), plain
+    return 0 if plain.returncode else int(plain.stderr.split()[-1])
 
 
 def tests_of(binary):
@@ -52,33 +45,12 @@ def try_tests(shim, built):
             continue
         binary = f"{built}/crates/{crate}/out/{crate}_tests"
         for name in tests_of(binary):
-            count, _ = growths(shim, [binary, name])
+            count = growths(shim, [binary, name])
             bad = [number for number in range(1, count + 1) if run(shim, number, [binary, name]).returncode]
             print(f"{crate} {name}: {count} growths" + (f", not passed at {bad}" if bad else ""))
             passed += count - len(bad)
             failed += len(bad) or count == 0
     return passed, failed
-
-
-def try_program(shim, built):
-    """Runs the program on operations: how many growths passed, and how many failed."""
-    refused, failed = collections.Counter(), 0
-    words = [f"{built}/crates/jsteps_growths/out/jsteps_growths"]
-    count, plain = growths(shim, words)
-    for number in range(1, count + 1):
-        done = run(shim, number, words)
-        if done.returncode in BEFORE:
-            continue
-        call = CALLS.get(done.returncode)
-        if call and done.stdout == plain.stdout:
-            refused[call] += 1
-        else:
-            failed += 1
-            print(f"growth {number}: status {done.returncode}, {done.stdout!r}")
-    for call in CALLS.values():
-        print(f"{call}: {refused[call]} growths")
-    failed += sum(refused[call] == 0 for status, call in CALLS.items() if status)
-    return sum(refused.values()), failed
 
 
 def main():
@@ -93,8 +65,7 @@ def main():
         shim = f"{folder}/refuse.so"
         words = ["cc", "-O1", "-shared", "-fPIC", "-fno-builtin", "-o", shim, f"{ROOT}/tests/refuse.c", "-ldl"]
         subprocess.run(words, check=True)
-        counts = [try_tests(shim, built), try_program(shim, built)]
-    passed, failed = (sum(column) for column in zip(*counts))
+        passed, failed = try_tests(shim, built)
     print(f"{passed} passed, {failed} failed")
     return 1 if failed else 0
 

@@ -8,7 +8,7 @@ use std::alloc::Global;
 use std::test::Fail;
 use test_support::{Tree, image_of};
 
-const GEOMETRY: Geometry = Geometry { block: 4096 };
+pub const GEOMETRY: Geometry = Geometry { block: 4096 };
 
 pub const FILE: u32 = 0o100644;
 

@@ -1,0 +1,192 @@
+//! Operations of each kind, to which a growth may be refused: the call leaves all as it was, and called again it does what it did
+//! not.
+
+use crate::checks::equal;
+use crate::lines::BY;
+use crate::trees::{GEOMETRY, SMALL};
+use byteorder::LittleEndian;
+use jmount::{Mounted, mount};
+use jsteps::{Index, Op, OpFault, Step, Text, advance, plan};
+use std::alloc::{AllocError, Global};
+use test_operations::{is_ready, op_of};
+use test_support::image_of;
+
+/// Those at the end make names enough for a directory, and objects enough for an index, that are no longer one node of a map.
+const LINES: [&str; 24] = [
+    "mkdir /m 755",
+    "create /d/e/f 600",
+    "symlink /d/l ../a",
+    "write /d/e/f 100 9000",
+    "truncate /a 4",
+    "truncate /a 400",
+    "link /a /d/e/n",
+    "rename /d /m/d",
+    "rename /a /m/d/e/name-of-more-than-sixteen-bytes",
+    "remove /q",
+    "remove /m/d/l",
+    "attr /m/d/e 700",
+    "create /m/d/e/0 644",
+    "create /m/d/e/1 644",
+    "create /m/d/e/2 644",
+    "create /m/d/e/3 644",
+    "create /m/d/e/4 644",
+    "create /m/d/e/5 644",
+    "create /m/d/e/6 644",
+    "create /m/d/e/7 644",
+    "create /m/d/e/8 644",
+    "create /m/d/e/9 644",
+    "create /m/d/e/10 644",
+    "create /m/d/e/11 644",
+];
+
+/// How many steps they have.
+const STEPS: usize = 44;
+
+/// Greater than the numbers of all objects.
+const NUMBERS: u32 = 80;
+
+const PATHS: [&str; 26] = [
+    "/a",
+    "/d",
+    "/s",
+    "/q",
+    "/x",
+    "/d/e",
+    "/d/e/n",
+    "/d/e/f",
+    "/d/l",
+    "/m",
+    "/m/d",
+    "/m/d/e",
+    "/m/d/e/f",
+    "/y",
+    "/m/d/e/0",
+    "/m/d/e/1",
+    "/m/d/e/2",
+    "/m/d/e/3",
+    "/m/d/e/4",
+    "/m/d/e/5",
+    "/m/d/e/6",
+    "/m/d/e/7",
+    "/m/d/e/8",
+    "/m/d/e/9",
+    "/m/d/e/10",
+    "/m/d/e/11",
+];
+
+/// Two indexes that have taken the same steps: what is refused to the one is seen beside the other.
+#[derive(Drop)]
+struct Pair {
+    tried: Index,
+    other: Index,
+}
+
+/// How a removal of a path is answered: the directory that loses the name, or the refusal. None where a growth is refused.
+fn removal(alloc: Global, index: &Index, path: &str) -> Option<(u32, Option<OpFault>)> {
+    let op = Op::Remove {
+        time: 0,
+        path: Text::lent(path.as_bytes()),
+    };
+    match plan(alloc, index, &op) {
+        Ok(steps) => match steps.first()? {
+            Step::ClearName { directory, .. } => Some((*directory, None)),
+            _ => None,
+        },
+        Err(OpFault::OutOfMemory) => None,
+        Err(fault) => Some((0, Some(fault))),
+    }
+}
+
+/// An index. One that is refused its memory is asked for again.
+fn index_of(alloc: Global, mounted: &Mounted<'_>) -> Option<Index> {
+    match Index::of(alloc, mounted) {
+        Ok(index) => Some(index),
+        Err(_) => Index::of(alloc, mounted).ok(),
+    }
+}
+
+/// Takes a step, if it can be taken.
+fn take_once(index: &mut Index, step: &Step<'_>) -> Option<Result<(), AllocError>> {
+    if is_ready(index, step) {
+        Some(advance(index, step))
+    } else {
+        None
+    }
+}
+
+impl Pair {
+    /// Whether the two show the same. None where a growth is refused.
+    fn is_same(&self, alloc: Global) -> Option<bool> {
+        let mut same = self.tried.next() == self.other.next();
+        for ino in 0..NUMBERS {
+            same = same
+                && self.tried.object(ino) == self.other.object(ino)
+                && self.tried.top(ino) == self.other.top(ino);
+        }
+        for path in PATHS {
+            let tried = removal(alloc, &self.tried, path)?;
+            same = same && tried == removal(alloc, &self.other, path)?;
+        }
+        Some(same)
+    }
+
+    /// The steps of an operation. Where a growth is refused, the index is as it was, and they are asked for again.
+    fn steps<'a>(&self, alloc: Global, op: &'a Op<'_>) -> Option<Vec<Step<'a>>> {
+        match plan(alloc, &self.tried, op) {
+            Ok(steps) => Some(steps),
+            Err(OpFault::OutOfMemory) if self.is_same(alloc) == Some(true) => {
+                plan(alloc, &self.tried, op).ok()
+            }
+            Err(_) => None,
+        }
+    }
+
+    /// Takes a step. Where a growth is refused, the index is as it was, and the step is taken again.
+    fn take(&mut self, alloc: Global, step: &Step<'_>) -> Option<()> {
+        if take_once(&mut self.tried, step)?.is_err() {
+            if !self.is_same(alloc)? {
+                return None;
+            }
+            take_once(&mut self.tried, step)?.ok()?;
+        }
+        if take_once(&mut self.other, step)?.is_err() {
+            take_once(&mut self.other, step)?.ok()?;
+        }
+        Some(())
+    }
+}
+
+/// Takes all operations, and tells how many steps there were; none where something is not as it should be.
+fn steps_taken(alloc: Global, mounted: &Mounted<'_>) -> Option<usize> {
+    let tried = index_of(alloc, mounted)?;
+    let other = index_of(alloc, mounted)?;
+    let mut pair = Pair { tried, other };
+    let mut count = 0usize;
+    for line in LINES {
+        let op = op_of(line, BY)?;
+        let steps = pair.steps(alloc, &op)?;
+        for step in &steps {
+            pair.take(alloc, step)?;
+        }
+        count = count.checked_add(steps.len())?;
+    }
+    // (a growth that is refused here is none of a call that is tried)
+    if pair.is_same(alloc).unwrap_or(true) {
+        Some(count)
+    } else {
+        None
+    }
+}
+
+/// Passes with each allocation failing in turn too. Where the memory for the image or its mount is refused, nothing is taken.
+#[test]
+fn refused_growth_of_operations(rt: HostRuntime) {
+    let alloc = rt.alloc();
+    let Ok(image) = image_of::<LittleEndian>(alloc, SMALL) else {
+        return;
+    };
+    let Ok(mounted) = mount::<LittleEndian>(alloc, &image, GEOMETRY) else {
+        return;
+    };
+    equal(&rt, steps_taken(alloc, &mounted), Some(STEPS));
+}
