@@ -297,10 +297,10 @@ pub behind_buffer : (known : Option (List ℕ)) (kept : List ℕ) → IsBehind k
 behind_buffer None kept = tt
 behind_buffer (Some xs) kept = (length xs, ap Some (sym (take_at xs kept (length xs) refl)))
 
-part_all : (old new : Option (List ℕ)) (bytes : List ℕ) → Appends old new bytes → PutsPart old new bytes
+pub part_all : (old new : Option (List ℕ)) (bytes : List ℕ) → Appends old new bytes → PutsPart old new bytes
 part_all old new bytes put = (length bytes, subst (Appends old new) (sym (take_all (length bytes) bytes (omega arith))) put)
 
-same_behind : (given mid taken : Option (List ℕ)) → Keeps mid taken → IsBehind given taken → IsBehind given mid
+pub same_behind : (given mid taken : Option (List ℕ)) → Keeps mid taken → IsBehind given taken → IsBehind given mid
 same_behind given None taken kept part = tt
 same_behind given (Some xs) None kept part = absurd kept
 same_behind given (Some xs) (Some ys) kept part = (part.0, part.1 ∙ ap (λ (l : List ℕ). Some (take part.0 l)) kept)

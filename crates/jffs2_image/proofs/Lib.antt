@@ -1,2 +1,3 @@
 pub mod WritingLemmas
 pub mod HostLemmas
+pub mod RunLemmas

@@ -1,7 +1,7 @@
 -- What a run of the program does: to standard output, to standard error, and in its outcome.
 use Rattle.std.specs.Prelude.{◌≡◌, ◌⊎◌, ◌==◌, ℕ, Bool, true, false, IsFalse, List, [], Option, Some, None, Result, Ok, Err, IsErrOf, if◌then◌else◌, string_bytes}
 use Rattle.std.specs.Io.KnownBytes.{Appends, Keeps}
-use Rattle.flashbase.specs.Device.{next_count}
+use Rattle.flashbase.specs.Device.{PutsPart, next_count}
 use Rattle.jnode.specs.declared.order.Endian.{Endian}
 use Rattle.jscan.specs.Image.{is_block_size}
 use Rattle.jscan.specs.declared.geometry.ScanFault.TheVariants as scan
@@ -23,7 +23,7 @@ use Rattle.jcommand.specs.declared.outcome.Outcome.{Outcome}
 use Rattle.jcommand.specs.declared.outcome.Outcome.TheVariants as outcome
 use Rattle.jsteps.specs.declared.page.Page.{Page}
 use Rattle.jffs2_image.specs.Host.{AreOf, HasFailed, RunsFiles}
-use Rattle.jffs2_image.specs.Writes.{Held, IsUnreadFile, WritesImage}
+use Rattle.jffs2_image.specs.Writes.{Held, IsBehind, IsUnreadFile, WritesImage}
 use Rattle.jffs2_image.specs.declared.program.Success.{Success}
 use Rattle.jffs2_image.specs.declared.program.Success.TheVariants as success
 use Rattle.jffs2_image.specs.declared.program.Stop.{Stop}
@@ -96,10 +96,14 @@ pub record Meets (told : List ℕ → Option (List ℕ)) (held : Held) (e : Endi
   pub put : ((image : List ℕ) × IsImageOf told parsed image × PutsAnswer told held e parsed image old new before now answer)
       ⊎ ((fault : ProgramFault) × (answer ≡ Err fault) × IsEarlyFault told parsed fault × (new ≡ old) × (now ≡ before))
 
--- the output gave on what it took, or failed once more
+-- the output gave on what it took; or a beginning of it, and failed once more
 abbrev pub Finishes : Option (List ℕ) → Option (List ℕ) → ℕ → ℕ → Bool → Type 0
 Finishes taken given before now true = Keeps taken given × (now ≡ before)
-Finishes taken given before now false = now ≡ next_count before
+Finishes taken given before now false = IsBehind given taken × (now ≡ next_count before)
+
+-- a text was put, or a beginning of it, and of that a beginning was given on
+abbrev pub GivesText : Option (List ℕ) → Option (List ℕ) → List ℕ → Type 0
+GivesText old given text = (taken : Option (List ℕ)) × PutsPart old taken text × IsBehind given taken
 
 -- the answer of a request whose output was finished
 abbrev pub answer_finished : Result ℕ ProgramFault → Bool → Result ℕ ProgramFault
@@ -135,7 +139,8 @@ MeetsCommand told held (Ok request) old given before now (Ok ended) =
 MeetsCommand told held (Ok request) old given before now (Err (stop.Fault fault)) = MeetsWhole told held (view request) old given before now (Err fault)
 MeetsCommand told held (Err (refused.Help text)) old given before now (Ok ended) =
     (ended ≡ success.Shown 0) × Appends old given (string_bytes text) × (now ≡ before)
-MeetsCommand told held (Err (refused.Help text)) old given before now (Err (stop.Fault fault)) = (fault ≡ program.Output) × HasFailed before now
+MeetsCommand told held (Err (refused.Help text)) old given before now (Err (stop.Fault fault)) =
+    (fault ≡ program.Output) × GivesText old given (string_bytes text) × HasFailed before now
 MeetsCommand told held (Err (refused.Usage text)) old given before now (Err (stop.Usage said)) = said ≡ text
 MeetsCommand told held (Err refused.OutOfMemory) old given before now (Err (stop.Fault fault)) = fault ≡ program.OutOfMemory
 MeetsCommand told held _ old given before now _ = ⊥
@@ -164,10 +169,14 @@ said_after (Ok (success.Shown n)) = note_after n
 said_after (Err (stop.Usage text)) = Some (string_bytes text)
 said_after (Err (stop.Fault fault)) = Some (fault_line_of fault)
 
--- standard error is left alone where nothing is said; else it took the text, unless it failed
+-- standard error took the text; or it failed, once, and took a beginning of it
+abbrev pub IsSaid : Option (List ℕ) → Option (List ℕ) → ℕ → ℕ → List ℕ → Type 0
+IsSaid old new before now text = (Appends old new text × (now ≡ before)) ⊎ (PutsPart old new text × (now ≡ next_count before))
+
+-- it is left alone where nothing is said
 abbrev pub Says : Type 0 → Option (List ℕ) → Option (List ℕ) → ℕ → ℕ → Option (List ℕ) → Type 0
 Says untouched old new before now None = untouched
-Says untouched old new before now (Some text) = now ≡ before → Appends old new text
+Says untouched old new before now (Some text) = IsSaid old new before now text
 
 -- A run of a command line that asks for no folder: what it is answered, and how it ends.
 pub record RunsCommand (told : List ℕ → Option (List ℕ)) (held : Held) (command : Result Request RequestFault) (old given : Option (List ℕ)) (before now : ℕ) (says : Option (List ℕ) → Type 0) (result : Outcome) : Type 0 where

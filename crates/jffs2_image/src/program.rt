@@ -6,7 +6,7 @@ ghost use Rattle.jreport.specs.Faults.{fault_line_of};
 ghost use Rattle.flashbase.specs.Device.{CountsErr};
 ghost use Rattle.jffs2_image.specs.Host.{Blames, BlamesCommand, BlamesFor, GivesFile, HasFailed, MakesFile, ReadsFile};
 ghost use Rattle.jffs2_image.specs.FolderRuns.{RunsExtract, RunsListing, RunsTask};
-ghost use Rattle.jffs2_image.specs.Runs.{IsCommand, Meets, MeetsCommand, MeetsWhole, RunsCommand, Says, note_after, success_of};
+ghost use Rattle.jffs2_image.specs.Runs.{GivesText, IsCommand, IsSaid, Meets, MeetsCommand, MeetsWhole, RunsCommand, Says, note_after, success_of};
 
 use crate::folders::{Folders, run_extract, run_listing};
 use crate::host::{Loader, Maker};
@@ -249,6 +249,7 @@ fn run_whole<'a, L: Loader, M: Maker, T: Output>(
 /// Puts a text that answers the command line.
 fn put_help<T: Output>(text: &str, output: &mut T) -> Result<(), ProgramFault<'static>>
     ensures ok { OnOk result (Appends (T.taken output.old) (T.given output.new) text.now × (T.failures output.new ≡ T.failures output.old)) }
+    ensures part { IfErr result (λ _. GivesText (T.taken output.old) (T.given output.new) text.now) }
     ensures failed { IfErr result (λ fault. (fault ≡ ProgramFault.Output) × HasFailed (T.failures output.old) (T.failures output.new)) }
 {
     let put = put_all(output, text.as_bytes());
@@ -302,8 +303,7 @@ fn run_command<'a, L: Loader, M: Maker, T: Output>(
 /// Reports a fault in one line.
 pub fn report_fault<E: Sink>(fault: &ProgramFault<'_>, errors: &mut E) -> Outcome
     ensures fault { result ≡ Outcome.Fault }
-    ensures reported { E.failures errors.new ≡ E.failures errors.old
-        → Appends (E.taken errors.old) (E.taken errors.new) (fault_line_of fault.now) }
+    ensures reported { IsSaid (E.taken errors.old) (E.taken errors.new) (E.failures errors.old) (E.failures errors.new) (fault_line_of fault.now) }
 {
     let _ = fault_line(fault, errors);
     Outcome::Fault
@@ -312,8 +312,7 @@ pub fn report_fault<E: Sink>(fault: &ProgramFault<'_>, errors: &mut E) -> Outcom
 /// Reports what is wrong with the command line.
 pub fn report_usage<E: Sink>(text: &str, errors: &mut E) -> Outcome
     ensures usage { result ≡ Outcome.Usage }
-    ensures reported { E.failures errors.new ≡ E.failures errors.old
-        → Appends (E.taken errors.old) (E.taken errors.new) text.now }
+    ensures reported { IsSaid (E.taken errors.old) (E.taken errors.new) (E.failures errors.old) (E.failures errors.new) text.now }
 {
     let _ = put_all(errors, text.as_bytes());
     Outcome::Usage

@@ -1,6 +1,6 @@
 -- A report that ends early: what has gone out.
 use Rattle.std.proofs.Common.{◌≡◌, ℕ, List, sym, subst, Option}
-use Rattle.std.specs.Prelude.{Result, Ok, Err, IfErr, IsErrAnd}
+use Rattle.std.specs.Prelude.{Result, Ok, Err, IsErrAnd}
 use Rattle.std.specs.Io.KnownBytes.{Appends}
 use Rattle.std.proofs.KnownBytes.{Appends-trans}
 use Rattle.flashbase.specs.Device.{PutsPart, next_count}
@@ -13,11 +13,6 @@ use Rattle.jscan.specs.Counts.{counts_of}
 use Rattle.jreport.specs.Report.{scan_text, lines_below, totals_line}
 use Rattle.jscan.specs.Scans.{IsScannable}
 use Rattle.jreport.specs.Puts.{PutsReport}
-
--- what holds at each fault
-pub at_any_err : {T E P : Type 0} (r : Result T E) → P → IfErr r (λ _. P)
-at_any_err (Ok x) holds = tt
-at_any_err (Err e) holds = holds
 
 -- a fault of the sink before the last line
 pub early_fault : (e : Endian) (size : ℕ) (image : List ℕ) (old new : Option (List ℕ)) (before now : ℕ) (r : Result ℕ ReportFault)

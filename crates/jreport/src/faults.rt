@@ -1,7 +1,7 @@
 //! Why the program gives up, and the texts that say so.
 ghost use Rattle.std.specs.Prelude.{◌≡◌, ◌<◌, ◌≤◌, ◌++◌, [], length, take, OnOk, IfErr};
 ghost use Rattle.std.specs.Io.KnownBytes.{Appends};
-ghost use Rattle.flashbase.specs.Device.{Puts, PutsPart, next_count};
+ghost use Rattle.flashbase.specs.Device.{Puts, next_count};
 ghost use Rattle.jline.specs.Words.{in_line};
 ghost use Rattle.jreport.specs.Faults.{fault_line_of, fault_text_of, find_text, load_text, mount_text, scan_fault_text};
 
@@ -327,14 +327,9 @@ fn put_fault<T: Sink>(fault: &ProgramFault<'_>, sink: &mut T) -> Result<(), Devi
 /// Puts the line of a fault, as it is on standard error. It is one line: a control byte of a file's name goes out
 /// escaped.
 pub fn fault_line<T: Sink>(fault: &ProgramFault<'_>, sink: &mut T) -> Result<(), DeviceFault>
-    ensures ok { OnOk result (Appends (T.taken sink.old) (T.taken sink.new) (fault_line_of fault.now)) }
-    ensures failed { IfErr result (λ _. T.failures sink.new ≡ next_count (T.failures sink.old)) }
-
-    // On a fault of the sink a beginning of the line went out.
-    ensures part { IfErr result (λ _. PutsPart (T.taken sink.old) (T.taken sink.new) (fault_line_of fault.now)) }
+    ensures { Puts (T.taken sink.old) (T.taken sink.new) (T.failures sink.old) (T.failures sink.new) (fault_line_of fault.now) result }
 {
     put_text(sink, b"jffs2_image: ")?;
     put_fault(fault, sink)?;
-    put_text(sink, b"\n")?;
-    Ok(())
+    put_text(sink, b"\n")
 }

@@ -9,8 +9,9 @@ use Rattle.jcommand.specs.declared.parsed.Options.{Options}
 use Rattle.jcommand.specs.declared.parsed.Request.{Request}
 use Rattle.jcommand.specs.declared.parsed.Request.TheVariants as request
 use Rattle.jreport.specs.declared.faults.ProgramFault.{ProgramFault}
-use Rattle.jffs2_image.specs.Writes.{Held}
+use Rattle.jffs2_image.specs.Writes.{Held, IsBehind}
 use Rattle.jffs2_image.specs.Runs.{Meets, MeetsWhole, options_parsed}
+use Rattle.jffs2_image.proofs.HostLemmas.{same_behind}
 use Rattle.jffs2_image.proofs.program.run_whole.Goals as goal
 
 options_are_parsed : (r : Request) → options_parsed (view r) ≡ options_of r
@@ -43,16 +44,16 @@ returns-in-Err-clause-meets g c =
       answer = Ok c.in_ok-findings.findings;
       finished = false;
       meets = rw (options_are_parsed c.args.request) (rw was at c.run_request-answer.ensures.meets);
-      finishes = c.in-Err.ensures.count;
+      finishes = (same_behind _ _ _ c.finish-finished.ensures.taken c.finish-finished.ensures.part, c.in-Err.ensures.count);
       comes_to = refl;
     }
 
 -- a fault stays what it is, whether the output was finished or not
 still_failed : (A E : Type 0) (told : List ℕ → Option (List ℕ)) (held : Held) (parsed : Parsed) (e : Endian) (old taken given : Option (List ℕ)) (before count now : ℕ) (fault : ProgramFault) (finished : Result A E) (result : Result ℕ ProgramFault)
-    → e ≡ (options_parsed parsed).endian → Meets told held e parsed old taken before count (Err fault) → OnOk finished (Keeps taken given) → CountsErr count now finished
+    → e ≡ (options_parsed parsed).endian → Meets told held e parsed old taken before count (Err fault) → OnOk finished (Keeps taken given) → IsBehind given taken → CountsErr count now finished
     → IsErrAnd result (λ is. is ≡ fault) → MeetsWhole told held parsed old given before now result
-still_failed A E told held parsed e old taken given before count now fault finished (Ok n) same meets kept counts is = absurd is
-still_failed A E told held parsed e old taken given before count now fault (Ok x) (Err other) same meets kept counts is = record {
+still_failed A E told held parsed e old taken given before count now fault finished (Ok n) same meets kept behind counts is = absurd is
+still_failed A E told held parsed e old taken given before count now fault (Ok x) (Err other) same meets kept behind counts is = record {
   taken = taken;
   count = count;
   answer = Err fault;
@@ -61,13 +62,13 @@ still_failed A E told held parsed e old taken given before count now fault (Ok x
   finishes = (kept, counts);
   comes_to = cc;
 }
-still_failed A E told held parsed e old taken given before count now fault (Err x) (Err other) same meets kept counts is = record {
+still_failed A E told held parsed e old taken given before count now fault (Err x) (Err other) same meets kept behind counts is = record {
   taken = taken;
   count = count;
   answer = Err fault;
   finished = false;
   meets = subst (λ (o : Endian). Meets told held o parsed old taken before count (Err fault)) same meets;
-  finishes = counts;
+  finishes = (behind, counts);
   comes_to = cc;
 }
 
@@ -76,4 +77,5 @@ returns-in_err-findings-clause-meets g c =
     let r = c.args.request in
     let same : (options_of r).endian ≡ (options_parsed (view r)).endian = ap (λ (o : Options). o.endian) (sym (options_are_parsed r)) in
     still_failed _ _ _ _ (view r) (options_of r).endian _ (g.T.Sink.taken c.run_request-answer.new.sink) _ _ (g.T.Sink.failures c.run_request-answer.new.sink) _ c.in_err-findings.field-0.0 c.finish-finished.result _
-    same c.in_err-findings.ensures.meets c.finish-finished.ensures.given c.finish-finished.ensures.count c.from_residual.ensures.1
+    same c.in_err-findings.ensures.meets c.finish-finished.ensures.given
+    (same_behind _ _ _ c.finish-finished.ensures.taken c.finish-finished.ensures.part) c.finish-finished.ensures.count c.from_residual.ensures.1
