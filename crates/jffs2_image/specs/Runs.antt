@@ -132,18 +132,19 @@ success_of (CatParsed options image path) n = success.Shown n
 success_of (BuildParsed options blocks page listing output) n = success.Shown n
 success_of (AppendParsed options blocks page image listing output) n = success.Shown n
 
--- What a command line is answered: the request is met; help goes out; a refusal and out of memory stay what they are.
-abbrev pub MeetsCommand : (List ℕ → Option (List ℕ)) → Held → Result Request RequestFault → Option (List ℕ) → Option (List ℕ) → ℕ → ℕ → Result Success Stop → Type 0
-MeetsCommand told held (Ok request) old given before now (Ok ended) =
+-- What a command line is answered: the request is met; help goes out; a refusal and out of memory stay what they are, and leave
+-- the output as it was.
+abbrev pub MeetsCommand : Type 0 → (List ℕ → Option (List ℕ)) → Held → Result Request RequestFault → Option (List ℕ) → Option (List ℕ) → ℕ → ℕ → Result Success Stop → Type 0
+MeetsCommand untouched told held (Ok request) old given before now (Ok ended) =
     (n : ℕ) × (ended ≡ success_of (view request) n) × MeetsWhole told held (view request) old given before now (Ok n)
-MeetsCommand told held (Ok request) old given before now (Err (stop.Fault fault)) = MeetsWhole told held (view request) old given before now (Err fault)
-MeetsCommand told held (Err (refused.Help text)) old given before now (Ok ended) =
+MeetsCommand untouched told held (Ok request) old given before now (Err (stop.Fault fault)) = MeetsWhole told held (view request) old given before now (Err fault)
+MeetsCommand untouched told held (Err (refused.Help text)) old given before now (Ok ended) =
     (ended ≡ success.Shown 0) × Appends old given (string_bytes text) × (now ≡ before)
-MeetsCommand told held (Err (refused.Help text)) old given before now (Err (stop.Fault fault)) =
+MeetsCommand untouched told held (Err (refused.Help text)) old given before now (Err (stop.Fault fault)) =
     (fault ≡ program.Output) × GivesText old given (string_bytes text) × HasFailed before now
-MeetsCommand told held (Err (refused.Usage text)) old given before now (Err (stop.Usage said)) = said ≡ text
-MeetsCommand told held (Err refused.OutOfMemory) old given before now (Err (stop.Fault fault)) = fault ≡ program.OutOfMemory
-MeetsCommand told held _ old given before now _ = ⊥
+MeetsCommand untouched told held (Err (refused.Usage text)) old given before now (Err (stop.Usage said)) = (said ≡ text) × untouched
+MeetsCommand untouched told held (Err refused.OutOfMemory) old given before now (Err (stop.Fault fault)) = (fault ≡ program.OutOfMemory) × untouched
+MeetsCommand untouched told held _ old given before now _ = ⊥
 
 -- what the words make of a command line
 abbrev pub IsCommand : List (List ℕ) → Result Request RequestFault → Type 0
@@ -178,9 +179,9 @@ abbrev pub Says : Type 0 → Option (List ℕ) → Option (List ℕ) → ℕ →
 Says untouched old new before now None = untouched
 Says untouched old new before now (Some text) = IsSaid old new before now text
 
--- A run of a command line that asks for no folder: what it is answered, and how it ends.
-pub record RunsCommand (told : List ℕ → Option (List ℕ)) (held : Held) (command : Result Request RequestFault) (old given : Option (List ℕ)) (before now : ℕ) (says : Option (List ℕ) → Type 0) (result : Outcome) : Type 0 where
+-- A run of a command line that asks for no folder: what it is answered, and how it ends. `untouched`: the output is as it was.
+pub record RunsCommand (untouched : Type 0) (told : List ℕ → Option (List ℕ)) (held : Held) (command : Result Request RequestFault) (old given : Option (List ℕ)) (before now : ℕ) (says : Option (List ℕ) → Type 0) (result : Outcome) : Type 0 where
   pub answer : Result Success Stop
-  pub meets : MeetsCommand told held command old given before now answer
+  pub meets : MeetsCommand untouched told held command old given before now answer
   pub ends : result ≡ outcome_after answer
   pub said : says (said_after answer)

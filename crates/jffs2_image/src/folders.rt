@@ -54,10 +54,12 @@ pub trait Folders {
 
     /// The folder of a name, which is to be read. How far that is is told unless it is `quiet`.
     fn read(&mut self, name: &str, quiet: bool) -> Result<Self::Read, AllocError>
-        ensures { IfOk result (λ folder. Self.Read.known folder ≡ reads self.old name.now) };
+        ensures known { IfOk result (λ folder. Self.Read.known folder ≡ reads self.old name.now) }
+        ensures unchanged { made self.new ≡ made self.old };
 
     /// Takes back a folder that was read.
-    fn take_read(&mut self, folder: Self::Read);
+    fn take_read(&mut self, folder: Self::Read)
+        ensures { made self.new ≡ made self.old };
 }
 
 /// What an extraction into the folder of a name gives up for.
@@ -280,7 +282,8 @@ fn list_given<'a, D: Folders, T: Output, N: Sink>(
     output: &mut T,
     notes: &mut N,
 ) -> Result<u64, ProgramFault<'a>>
-    ensures { ListsGiven (output.new ≡ output.old) (D.reads folders.old name.entry.now) options name.entry.now (T.taken output.old) (T.given output.new) (T.failures output.old) (T.failures output.new)
+    ensures made { D.made folders.new ≡ D.made folders.old }
+    ensures lists { ListsGiven (output.new ≡ output.old) (D.reads folders.old name.entry.now) options name.entry.now (T.taken output.old) (T.given output.new) (T.failures output.old) (T.failures output.new)
         (N.taken notes.old) (N.taken notes.new) (N.failures notes.old) (N.failures notes.new) result }
 {
     let Ok(mut folder) = folders.read(name, quiet) else {
@@ -299,7 +302,8 @@ pub fn run_listing<D: Folders, T: Output, E: Sink>(
     output: &mut T,
     errors: &mut E,
 ) -> Outcome
-    ensures { EndsListing (output.new ≡ output.old) (D.reads folders.old asked.entry.folder.now) (settings asked.entry.owner asked.entry.time) asked.entry.folder.now (T.taken output.old) (T.given output.new) (T.failures output.old) (T.failures output.new)
+    ensures made { D.made folders.new ≡ D.made folders.old }
+    ensures ends { EndsListing (output.new ≡ output.old) (D.reads folders.old asked.entry.folder.now) (settings asked.entry.owner asked.entry.time) asked.entry.folder.now (T.taken output.old) (T.given output.new) (T.failures output.old) (T.failures output.new)
         (E.taken errors.old) (E.taken errors.new) (E.failures errors.old) (E.failures errors.new) result }
 {
     let options = settings_of(asked.owner, asked.time);

@@ -282,7 +282,7 @@ fn run_command<'a, L: Loader, M: Maker, T: Output>(
     text: &'a mut Vec<u8>,
     output: &mut T,
 ) -> Result<Success, Stop<'a>>
-    ensures meets { MeetsCommand (L.told loader.old) (M.held maker.old, M.held maker.new) command.entry (T.taken output.old) (T.given output.new) (T.failures output.old) (T.failures output.new) result }
+    ensures meets { MeetsCommand (output.new ≡ output.old) (L.told loader.old) (M.held maker.old, M.held maker.new) command.entry (T.taken output.old) (T.given output.new) (T.failures output.old) (T.failures output.new) result }
     ensures host { BlamesCommand (L.told loader.old) command.entry (loader.new ≡ loader.old) (maker.new ≡ maker.old) (M.names maker.old) (M.names maker.new) (L.failures loader.old) (L.failures loader.new)
         (M.failures maker.old) (M.failures maker.new) result }
 {
@@ -340,7 +340,7 @@ fn run_image<L: Loader, M: Maker, T: Output, E: Sink>(
 ) -> Outcome
     // A fault is one that is due, and is told in one line; `ls` and `cat` note what they passed over. What is told of the
     // host's files is so.
-    ensures { (ran : RunsCommand (L.told loader.old) (M.held maker.old, M.held maker.new) command.entry (T.taken output.old) (T.given output.new) (T.failures output.old) (T.failures output.new)
+    ensures { (ran : RunsCommand (output.new ≡ output.old) (L.told loader.old) (M.held maker.old, M.held maker.new) command.entry (T.taken output.old) (T.given output.new) (T.failures output.old) (T.failures output.new)
         (Says (errors.new ≡ errors.old) (E.taken errors.old) (E.taken errors.new) (E.failures errors.old) (E.failures errors.new)) result)
         × BlamesCommand (L.told loader.old) command.entry (loader.new ≡ loader.old) (maker.new ≡ maker.old) (M.names maker.old) (M.names maker.new) (L.failures loader.old) (L.failures loader.new)
         (M.failures maker.old) (M.failures maker.new) ran.answer }
@@ -366,13 +366,13 @@ pub fn run<L: Loader, M: Maker, D: Folders, T: Output, E: Sink>(
 ) -> Outcome
     // The words make a request, whose answer goes out, or are answered by a text; or they ask to fill or to read a folder.
     ensures { RunsTask (map (λ w. w.now) args.now)
-        (λ command. (ran : RunsCommand (L.told loader.old) (M.held maker.old, M.held maker.new) command (T.taken output.old) (T.given output.new) (T.failures output.old) (T.failures output.new)
+        (λ command. (ran : RunsCommand (output.new ≡ output.old) (L.told loader.old) (M.held maker.old, M.held maker.new) command (T.taken output.old) (T.given output.new) (T.failures output.old) (T.failures output.new)
         (Says (errors.new ≡ errors.old) (E.taken errors.old) (E.taken errors.new) (E.failures errors.old) (E.failures errors.new)) result)
-        × BlamesCommand (L.told loader.old) command (loader.new ≡ loader.old) (maker.new ≡ maker.old) (M.names maker.old) (M.names maker.new) (L.failures loader.old) (L.failures loader.new)
+        × (folders.new ≡ folders.old) × BlamesCommand (L.told loader.old) command (loader.new ≡ loader.old) (maker.new ≡ maker.old) (M.names maker.old) (M.names maker.new) (L.failures loader.old) (L.failures loader.new)
         (M.failures maker.old) (M.failures maker.new) ran.answer)
         ((output.new ≡ output.old) × (maker.new ≡ maker.old) × RunsExtract (map (λ w. w.now) args.now) (L.told loader.old) (L.failures loader.old) (L.failures loader.new) (D.made folders.old) (D.made folders.new)
         (E.taken errors.old) (E.taken errors.new) (E.failures errors.old) (E.failures errors.new) result)
-        ((loader.new ≡ loader.old) × (maker.new ≡ maker.old) × RunsListing (map (λ w. w.now) args.now) (output.new ≡ output.old) (D.reads folders.old) (T.taken output.old) (T.given output.new) (T.failures output.old) (T.failures output.new)
+        ((loader.new ≡ loader.old) × (maker.new ≡ maker.old) × (D.made folders.new ≡ D.made folders.old) × RunsListing (map (λ w. w.now) args.now) (output.new ≡ output.old) (D.reads folders.old) (T.taken output.old) (T.given output.new) (T.failures output.old) (T.failures output.new)
         (E.taken errors.old) (E.taken errors.new) (E.failures errors.old) (E.failures errors.new) result) }
 {
     match task(alloc, args) {

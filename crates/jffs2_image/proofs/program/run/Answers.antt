@@ -1,4 +1,4 @@
-use Rattle.std.proofs.Common.{inl, rules, ℕ, List, Ok, Err}
+use Rattle.std.proofs.Common.{inl, refl, rules, ℕ, List, Ok, Err}
 use Rattle.std.specs.Prelude.{◌⊎◌}
 use Rattle.jcommand.specs.Parsed.{IsHelpRequested, IsRefusedByClap, IsUnreadable}
 use Rattle.jcommand.specs.Refused.{IsHelp, IsUsage}
@@ -14,7 +14,7 @@ refusal args (refused.Usage text) help usage = usage tt
 refusal args refused.OutOfMemory help usage = tt
 
 pub returns-in-Ok-Image : goal.returns-in-Ok-Image
-returns-in-Ok-Image g c = inl (Ok c.in-Ok-Image.request, (search rules, c.in-Ok-Image.ensures.faultless), c.run_image.ensures)
+returns-in-Ok-Image g c = inl (Ok c.in-Ok-Image.request, (search rules, c.in-Ok-Image.ensures.faultless), (c.run_image.ensures.0, refl, c.run_image.ensures.1))
 
 pub returns-in-Err : goal.returns-in-Err
-returns-in-Err g c = inl (Err c.in-Err.fault, refusal _ c.in-Err.fault c.in-Err.ensures.help c.in-Err.ensures.usage, c.run_image-in-Err.ensures)
+returns-in-Err g c = inl (Err c.in-Err.fault, refusal _ c.in-Err.fault c.in-Err.ensures.help c.in-Err.ensures.usage, (c.run_image-in-Err.ensures.0, refl, c.run_image-in-Err.ensures.1))
