@@ -46,13 +46,14 @@ def is_there(name):
 
 
 def shared_names():
-    """Returns each name that is defined in more than one file of specs/, with these files."""
+    """Returns each name that is defined in more than one file of specs/, with these files. An operator is none: a `do` block takes
+    the one that its file brings in."""
     files = collections.defaultdict(set)
     for path in glob.glob(os.path.join(CRATES, "*", "specs", "**", "*.antt"), recursive=True):
         with open(path, encoding="utf-8") as file:
             for name in re.findall(r"^(?:(?:pub|unfoldable|abbrev|record|data|opaque) )+(\S+)", file.read(), re.M):
                 files[name].add(os.path.relpath(path, CRATES))
-    return {name: sorted(places) for name, places in sorted(files.items()) if len(places) > 1 and name not in ("use", "mod")}
+    return {name: sorted(places) for name, places in sorted(files.items()) if len(places) > 1 and name not in ("use", "mod", "◌>>=◌")}
 
 
 def main():

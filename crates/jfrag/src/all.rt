@@ -1,5 +1,6 @@
 // All pieces of a file in one overlay.
 ghost use Rattle.std.specs.Prelude.{◌≡◌, ℕ, ◌*◌, ◌<◌, ◌≤◌, ◌^◌, IfOk, length, All};
+ghost use Rattle.std.specs.List.Sorted.{IsNonDecreasingBy};
 ghost use Rattle.jfrag.specs.Pieces.{end_of};
 ghost use Rattle.jfrag.specs.Overlays.{IsHighestAt};
 
@@ -34,9 +35,11 @@ fn copies<'a>(alloc: Global, pieces: &[Piece<'a>]) -> Result<Vec<Piece<'a>>, All
     Ok(copies)
 }
 
-// The pieces overlaid on one another in the order of the list.
+// The pieces overlaid on one another in the order of the list, which is that of their versions: in any other order it would take
+// a step for each piece that one covers.
 fn overlay_in_turn<'a, O: Overlay<'a>>(alloc: Global, pieces: &[Piece<'a>]) -> Result<O, AllocError>
-    requires { All (λ piece. end_of piece < 2 ^ 32) pieces.now }
+    requires within { All (λ piece. end_of piece < 2 ^ 32) pieces.now }
+    requires by_version { IsNonDecreasingBy (λ piece. piece.version) pieces.now }
     ensures highest { IfOk result (λ o. (place : ℕ) → IsHighestAt pieces.now place (O.visible_at o place)) }
     ensures ends { IfOk result (λ o. O.ends o ≤ 2 * length pieces.now) }
 {

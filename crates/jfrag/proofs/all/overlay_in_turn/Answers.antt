@@ -3,7 +3,7 @@ use Rattle.jfrag.proofs.OverlaysLemmas.{highest_more, highest_all}
 use Rattle.jfrag.proofs.all.overlay_in_turn.Goals as goal
 
 pub add-requires : goal.add-requires
-add-requires g c = λ k. ((refl, tt), (let same : c.copied.result ≡ get_or c.args.pieces.now c.loop-piece.piece-index c.piece-item.result = c.copied.ensures ∙ c.piece-item.is in rw same (c.requires c.loop-piece.piece-index c.piece-item.result c.loop-piece-test.true)))
+add-requires g c = λ k. ((refl, tt), (let same : c.copied.result ≡ get_or c.args.pieces.now c.loop-piece.piece-index c.piece-item.result = c.copied.ensures ∙ c.piece-item.is in rw same (c.requires.within c.loop-piece.piece-index c.piece-item.result c.loop-piece-test.true)))
 
 pub loop-piece-preserved : goal.loop-piece-preserved
 loop-piece-preserved g c = record {

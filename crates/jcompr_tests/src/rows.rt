@@ -1,0 +1,143 @@
+//! The numbers of the methods, and worked rows: data and all of their content, by hand.
+
+use crate::checks::{equal_at, expect_at};
+use jcompr::{DataFault, Method, decompress};
+use std::alloc::Global;
+use std::test::Fail;
+
+const RUN: &[u8] = b"aaaaaaaaaaaaaaaaaaaa";
+
+const THREES: &[u8] = b"abcabcabcabcabcabc";
+
+const WORDS: &[u8] = b"abcdefgh abcd efgh abcdefgh xyzabcd abefgh abcdefghabcdefgh";
+
+/// Data, the length that is asked for, and the content; none where the data are refused.
+const ROWS: [(Method, &[u8], usize, Option<&[u8]>); 20] = [
+    (Method::Rtime, b"a\x13", 20, Some(RUN)),
+    (Method::Rtime, b"a\x00b\x00c\x0f", 18, Some(THREES)),
+    (Method::Rtime, b"a\x13", 19, None),
+    (Method::Rtime, b"a", 1, None),
+    (Method::Rtime, b"", 0, Some(b"")),
+    (
+        Method::Zlib,
+        b"\x78\x9C\x03\x00\x00\x00\x00\x01",
+        0,
+        Some(b""),
+    ),
+    (
+        Method::Zlib,
+        b"\x78\x9C\x4B\x4C\xC4\x04\x00\x4F\xA6\x07\x95",
+        20,
+        Some(RUN),
+    ),
+    (
+        Method::Zlib,
+        b"\x78\x9C\x4B\x4C\xC4\x04\x00\x4F\xA6\x07\x95",
+        19,
+        None,
+    ),
+    (
+        Method::Zlib,
+        b"\x78\x9C\x4B\x4C\xC4\x04\x00\x4F\xA6\x07\x95",
+        21,
+        None,
+    ),
+    (
+        Method::Zlib,
+        b"\x78\x01\x01\x14\x00\xEB\xFFaaaaaaaaaaaaaaaaaaaa\x4F\xA6\x07\x95",
+        20,
+        Some(RUN),
+    ),
+    (
+        Method::Zlib,
+        b"\x78\x9C\x4B\x4C\x4A\x4E\x44\x45\x00\x41\x7C\x06\xE5",
+        18,
+        Some(THREES),
+    ),
+    (
+        Method::Zlib,
+        b"\x78\x9C\x4B\x4C\x4A\x4E\x44\x45\x00\x41\x7C\x06\xE5\xFF",
+        18,
+        Some(THREES),
+    ),
+    (
+        Method::Zlib,
+        b"\x78\x9C\x4B\x4C\x4A\x4E\x44\x45\x00\x41\x7C\x06\xE4",
+        18,
+        None,
+    ),
+    (Method::Zlib, b"", 0, None),
+    (Method::Lzo, b"\x12a\x31\x00\x00\x11\x00\x00", 20, Some(RUN)),
+    (
+        Method::Lzo,
+        b"\x14abc\x2D\x08\x00\x11\x00\x00",
+        18,
+        Some(THREES),
+    ),
+    (
+        Method::Lzo,
+        b"\x25aaaaaaaaaaaaaaaaaaaa\x11\x00\x00",
+        20,
+        Some(RUN),
+    ),
+    (
+        Method::Lzo,
+        b"\x1Aabcdefgh\x20a\x01\x20\x27\x24\x00\x83\x01xyz\x96\x02ab\x2B\x5C\x00\xFC\x00\x11\x00\x00",
+        59,
+        Some(WORDS),
+    ),
+    (Method::Lzo, b"\x11\x00\x00", 0, Some(b"")),
+    (Method::Lzo, b"\x11\x00\x00\x00", 0, None),
+];
+
+/// Whether data have just this content.
+fn has_content(
+    alloc: Global,
+    method: Method,
+    data: &[u8],
+    size: usize,
+    content: Option<&[u8]>,
+) -> bool {
+    let mut out = Vec::new(alloc);
+    match (decompress(alloc, method, data, size, &mut out), content) {
+        (Ok(()), Some(content)) => out.as_slice() == content,
+        (Err(DataFault::Wrong), None) => out.is_empty(),
+        _ => false,
+    }
+}
+
+#[test]
+fn worked_rows(rt: HostRuntime) {
+    for (method, data, size, content) in ROWS {
+        let is_so = has_content(rt.alloc(), method, data, size, content);
+        expect_at(&rt, is_so, (method, data, size));
+    }
+}
+
+#[test]
+fn numbers_of_methods(rt: HostRuntime) {
+    for number in 0..=255u8 {
+        let wanted = match number {
+            2 => Some(Method::Rtime),
+            6 => Some(Method::Zlib),
+            7 => Some(Method::Lzo),
+            _ => None,
+        };
+        equal_at(&rt, Method::of(number), wanted, number);
+    }
+}
+
+#[test]
+fn texts_of_faults(rt: HostRuntime) -> Result<(), Fail> {
+    for (fault, text) in [
+        (
+            DataFault::Wrong,
+            "the data do not give that number of bytes",
+        ),
+        (DataFault::OutOfMemory, "out of memory"),
+    ] {
+        let shown = format!(in rt.alloc(); "{fault}")?;
+        expect_at(&rt, shown.as_str() == text, text);
+    }
+    Ok(())
+}
