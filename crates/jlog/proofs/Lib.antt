@@ -18,6 +18,7 @@ pub mod PutLemmas
 pub mod RunningLemmas
 pub mod StepLemmas
 pub mod RunLemmas
+pub mod HaltLemmas
 pub mod DoneLemmas
 pub mod RoomCode
 pub mod SurviveLemmas
