@@ -13,6 +13,7 @@ pub mod RoomLemmas
 pub mod ExistLemmas
 pub mod SoundLemmas
 pub mod HeadlineLemmas
+pub mod AnewLemmas
 pub mod CodeLemmas
 pub mod PutLemmas
 pub mod RunningLemmas
