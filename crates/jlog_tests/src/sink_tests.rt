@@ -108,7 +108,10 @@ fn stays_broken(alloc: Global, sink: Taker, taken: usize) -> Result<bool, Fail> 
     let is_stopped = first.stopped == Some(SessionFault::Sink)
         && is_halted(&session.run(alloc, &[]), None)
         && is_halted(&session.run(alloc, &ops), Some(SessionFault::Broken))
-        && is_halted(&session.run(alloc, ops.get(..1).unwrap_or(&ops)), Some(SessionFault::Broken));
+        && is_halted(
+            &session.run(alloc, ops.get(..1).unwrap_or(&ops)),
+            Some(SessionFault::Broken),
+        );
     let sink = session.finish();
     Ok(is_stopped && sink.bytes.len() == taken && sink.failures == 1)
 }
