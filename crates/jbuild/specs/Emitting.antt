@@ -1,5 +1,5 @@
 -- What goes out for a base and operations on it.
-use Rattle.std.specs.Prelude.{◌≡◌, ℕ, Bool, false, List, Option, Some, None, Err, IsOk}
+use Rattle.std.specs.Prelude.{◌≡◌, ℕ, Bool, false, List, Option, Err, IsOk}
 use Rattle.std.specs.Io.KnownBytes.{Appends}
 use Rattle.flashbase.specs.Device.{PutsPart, next_count}
 use Rattle.jnode.specs.declared.order.Endian.{Endian}
@@ -32,13 +32,15 @@ pub record IsEmitted (page : Page) (e : Endian) (size blocks : ℕ) (base : List
   pub runs : Runs (page_size page) e size blocks (resume_address e size blocks base) (index_of_image e size base) ops false accepted end index broken between new before now places stopped
   pub survives : Survives e size blocks base (steps_of_first (page_size page) (index_of_image e size base) ops (attempted accepted broken))
 
--- Nothing was run: only a beginning of the base's bytes went out, or all of them and then memory ran out, and the sink is
--- handed back; or the image is not gone on from, and the sink is dropped as it was.
-abbrev pub IsNotEmitted : Page → Endian → ℕ → ℕ → Mount → Option (List ℕ) → ℕ → SessionFault → Option (Option (List ℕ) × ℕ) → Type 0
-IsNotEmitted page e size blocks m old before fault.Sink (Some back) =
-    IsOk (resumes_by page e size blocks m) × PutsPart old back.0 (front_before e size blocks m.image) × (back.1 ≡ next_count before)
-IsNotEmitted page e size blocks m old before fault.OutOfMemory (Some back) =
-    IsOk (resumes_by page e size blocks m) × Appends old back.0 (front_before e size blocks m.image) × (back.1 ≡ before)
-IsNotEmitted page e size blocks m old before fault.ReadOnly None = resumes_by page e size blocks m ≡ Err fault.ReadOnly
-IsNotEmitted page e size blocks m old before fault.Geometry None = resumes_by page e size blocks m ≡ Err fault.Geometry
-IsNotEmitted page e size blocks m old before _ _ = ⊥
+-- Nothing was run: only a beginning of the base's bytes went out, or all of them and then memory ran out; or the image is not
+-- gone on from, and nothing went out.
+abbrev pub IsNotEmitted : Page → Endian → ℕ → ℕ → Mount → Option (List ℕ) → Option (List ℕ) → ℕ → ℕ → SessionFault → Type 0
+IsNotEmitted page e size blocks m old new before now fault.Sink =
+    IsOk (resumes_by page e size blocks m) × PutsPart old new (front_before e size blocks m.image) × (now ≡ next_count before)
+IsNotEmitted page e size blocks m old new before now fault.OutOfMemory =
+    IsOk (resumes_by page e size blocks m) × Appends old new (front_before e size blocks m.image) × (now ≡ before)
+IsNotEmitted page e size blocks m old new before now fault.ReadOnly =
+    (resumes_by page e size blocks m ≡ Err fault.ReadOnly) × (new ≡ old) × (now ≡ before)
+IsNotEmitted page e size blocks m old new before now fault.Geometry =
+    (resumes_by page e size blocks m ≡ Err fault.Geometry) × (new ≡ old) × (now ≡ before)
+IsNotEmitted page e size blocks m old new before now _ = ⊥

@@ -1,6 +1,6 @@
 //! What goes out for a base and operations on it.
 
-ghost use Rattle.std.specs.Prelude.{◌≡◌, None, IfOk, IfErr, OnOk, IsOk, option_map};
+ghost use Rattle.std.specs.Prelude.{◌≡◌, None, Err, IfOk, IfErr, OnOk, IsOk};
 ghost use Rattle.flashbase.specs.Device.{Puts};
 ghost use Rattle.jmount.specs.Mounts.{IsMountOf};
 ghost use Rattle.jlog.specs.Left.{front_of};
@@ -32,8 +32,8 @@ fn put_front<S: Sink>(sink: &mut S, base: &[u8], from: usize) -> Result<(), PutF
 /// and of the geometry that the image was mounted with.
 ///
 /// # Errors
-/// Nothing was run. `ReadOnly` and `Geometry` as [`Session::resume_paged`] answers them, before a byte is put: the sink is
-/// dropped. `Sink`: it failed at the image's bytes, and is handed back. Out of memory: after all of them, and it is handed back.
+/// Nothing was run, and the sink is handed back. `ReadOnly` and `Geometry` as [`Session::resume_paged`] answers them: the sink
+/// is as it was. `Sink`: it failed at the image's bytes. Out of memory: after all of them.
 pub fn emit<E: Order, S: Sink>(
     alloc: Global,
     mounted: &Mounted<'_>,
@@ -42,7 +42,7 @@ pub fn emit<E: Order, S: Sink>(
     page: Page,
     ops: &[Op<'_>],
     mut sink: S,
-) -> Result<(S, RunReport), (SessionFault, Option<S>)>
+) -> Result<(S, RunReport), (SessionFault, S)>
     requires { IsMountOf E.order geometry.block mounted.now }
     ensures resumes { OnOk result (IsOk (resumes_by page E.order geometry.block blocks mounted.now)) }
     ensures emitted { IfOk result (λ done. IsEmitted page E.order geometry.block blocks mounted.now.image ops.now done.1.accepted done.1.places.items done.1.stopped
@@ -50,24 +50,27 @@ pub fn emit<E: Order, S: Sink>(
     // The places end where what went out for all operations does.
     ensures long { IfOk result (λ done. done.1.stopped ≡ None
         → TellsLength page E.order geometry.block blocks mounted.now.image ops.now done.1.accepted done.1.places.items) }
-    ensures refused { IfErr result (λ refused. IsNotEmitted page E.order geometry.block blocks mounted.now (S.taken sink) (S.failures sink) refused.0
-        (option_map (λ back. (S.taken back, S.failures back)) refused.1)) }
+    ensures refused { IfErr result (λ refused. IsNotEmitted page E.order geometry.block blocks
+        mounted.now (S.taken sink) (S.taken refused.1) (S.failures sink) (S.failures refused.1) refused.0) }
+    // An image that is not gone on from is refused before a byte is put.
+    ensures untouched { IfErr result (λ refused.
+        resumes_by page E.order geometry.block blocks mounted.now ≡ Err refused.0 → refused.1 ≡ sink) }
 {
     let from = match resume_at::<E>(mounted, geometry, blocks) {
         Ok(from) => from,
-        Err(fault) => return Err((fault, None)),
+        Err(fault) => return Err((fault, sink)),
     };
     if !page_fits(geometry, page) {
-        return Err((SessionFault::Geometry, None));
+        return Err((SessionFault::Geometry, sink));
     }
     if put_front(&mut sink, mounted.image(), from as usize).is_err() {
-        return Err((SessionFault::Sink, Some(sink)));
+        return Err((SessionFault::Sink, sink));
     }
     let mut session = match Session::<E, S>::resume_or_return(
         alloc, mounted, geometry, blocks, page, sink,
     ) {
         Ok(session) => session,
-        Err((fault, sink)) => return Err((fault, Some(sink))),
+        Err(refused) => return Err(refused),
     };
     let report = session.run(alloc, ops);
     Ok((session.finish(), report))

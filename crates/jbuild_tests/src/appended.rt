@@ -3,7 +3,6 @@
 use crate::checks::{equal, expect, expect_at};
 use crate::runs::{GEOMETRY, Row, holds, made, read_files};
 use byteorder::{BigEndian, LittleEndian};
-use flashbase::FromWriter;
 use jbuild::{emit, operations};
 use jlisting::listing;
 use jlog::SessionFault;
@@ -11,7 +10,7 @@ use jmount::{FindFault, mount};
 use jsteps::Page;
 use std::alloc::Global;
 use std::test::Fail;
-use test_support::{FORBIDS, LITTLE_MARKER, MADE, is_erased};
+use test_support::{FORBIDS, LITTLE_MARKER, MADE, Taker, is_erased};
 
 const ROWS: [Row; 6] = [
     Row {
@@ -110,14 +109,14 @@ fn a_base_that_is_cut(rt: HostRuntime) -> Result<(), Fail> {
     Ok(())
 }
 
-/// Why nothing is put for a file on a base. The sink is dropped.
+/// Why nothing is put for a file on a base. The sink comes back as it was.
 fn refused(alloc: Global, base: &[u8], blocks: u32) -> Result<Option<SessionFault>, Fail> {
     let parts = read_files(alloc)?;
     let ops = operations(alloc, listing(alloc, b"create 0644 /b")?, &parts)?;
     let mounted = mount::<LittleEndian>(alloc, base, GEOMETRY)?;
-    let sink = FromWriter::new(Vec::new(alloc));
+    let sink = Taker::new(alloc);
     match emit::<LittleEndian, _>(alloc, &mounted, GEOMETRY, blocks, Page::P4096, &ops, sink) {
-        Err((fault, None)) => Ok(Some(fault)),
+        Err((fault, sink)) if sink.took(0, &[]) => Ok(Some(fault)),
         _ => Ok(None),
     }
 }

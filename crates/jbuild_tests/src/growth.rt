@@ -35,7 +35,7 @@ fn emitted<S: Sink>(
     alloc: Global,
     row: &Row<'_>,
     sink: S,
-) -> Option<Result<(S, RunReport), (SessionFault, Option<S>)>> {
+) -> Option<Result<(S, RunReport), (SessionFault, S)>> {
     let parts = read_two(alloc).ok()?;
     let lines = listing(alloc, row.text).ok()?;
     let ops = operations(alloc, lines, &parts).ok()?;
@@ -80,8 +80,7 @@ fn fault(alloc: Global, row: &Row<'_>, whole: &[u8]) -> Option<(SessionFault, us
             None => (SessionFault::Broken, 0),
             Some(fault) => (fault, sink.rest.len()),
         },
-        Some(Err((fault, Some(sink)))) => (fault, sink.rest.len()),
-        Some(Err((_, None))) => (SessionFault::Broken, 0),
+        Some(Err((fault, sink))) => (fault, sink.rest.len()),
     };
     Some((fault, whole.len().saturating_sub(left)))
 }

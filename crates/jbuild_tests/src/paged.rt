@@ -106,7 +106,10 @@ fn blocks_that_hold_a_page(rt: HostRuntime) -> Result<(), Fail> {
         ).err();
         match page {
             Page::P4096 => expect(&rt, answer.is_none()),
-            _ => expect(&rt, matches!(answer, Some((SessionFault::Geometry, None)))),
+            _ => expect(
+                &rt,
+                matches!(answer, Some((SessionFault::Geometry, sink)) if sink.took(0, &[])),
+            ),
         }
     }
     Ok(())

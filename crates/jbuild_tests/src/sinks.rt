@@ -14,7 +14,7 @@ use test_support::{MADE, Taker};
 
 const TEXT: &[u8] = b"create 0644 /b\nwrite /b 0 0102\n";
 
-type Emitted = Result<(Taker, RunReport), (SessionFault, Option<Taker>)>;
+type Emitted = Result<(Taker, RunReport), (SessionFault, Taker)>;
 
 /// What goes out for a file on a base of 124 bytes, which is gone on from at 8192.
 fn emitted(alloc: Global, sink: Taker) -> Result<Emitted, Fail> {
@@ -44,9 +44,9 @@ fn a_sink_that_takes_one_byte_a_call(rt: HostRuntime) -> Result<(), Fail> {
 fn a_sink_that_fails_at_the_base(rt: HostRuntime) -> Result<(), Fail> {
     let whole = made::<LittleEndian>(rt.alloc(), &MADE, 2, TEXT)?;
     for limit in [0, 1, 123, 124, 125, 380, 8191] {
-        let Err((fault, Some(sink))) = emitted(rt.alloc(), Taker::limited(rt.alloc(), 4096, limit))?
+        let Err((fault, sink)) = emitted(rt.alloc(), Taker::limited(rt.alloc(), 4096, limit))?
         else {
-            return Err(Fail::from("the sink is not handed back"));
+            return Err(Fail::from("it is emitted"));
         };
         equal(&rt, fault, SessionFault::Sink);
         equal(&rt, sink.bytes.len(), limit);
@@ -95,10 +95,9 @@ fn a_sink_that_fails_once(rt: HostRuntime) -> Result<(), Fail> {
             ..Taker::limited(rt.alloc(), 500, usize::MAX)
         };
         let (stopped, sink) = match emitted(rt.alloc(), sink)? {
-            Ok((sink, report)) => (report.stopped, Some(sink)),
+            Ok((sink, report)) => (report.stopped, sink),
             Err((fault, sink)) => (Some(fault), sink),
         };
-        let sink = sink.ok_or("the sink is not handed back")?;
         expect(&rt, whole.output.starts_with(&sink.bytes));
         if stopped.is_none() {
             expect(&rt, calls > 20 && sink.took(0, &whole.output));

@@ -10,6 +10,7 @@ use Rattle.jsteps.specs.declared.op.Op.{Op}
 use Rattle.jlisting.specs.Listing.{file_of, lines_of}
 use Rattle.jlisting.specs.declared.line.Line.{Line}
 use Rattle.std.specs.Io.KnownBytes.{Appends, Keeps, append_known}
+use Rattle.std.proofs.KnownBytes.{Appends-nil}
 use Rattle.std.proofs.lemmas.List.{take_at}
 use Rattle.flashbase.specs.Device.{PutsPart}
 use Rattle.jmount.specs.Mounts.{Answers}
@@ -300,6 +301,9 @@ behind_buffer (Some xs) kept = (length xs, ap Some (sym (take_at xs kept (length
 pub part_all : (old new : Option (List ℕ)) (bytes : List ℕ) → Appends old new bytes → PutsPart old new bytes
 part_all old new bytes put = (length bytes, subst (Appends old new) (sym (take_all (length bytes) bytes (omega arith))) put)
 
+pub part_none : (old new : Option (List ℕ)) (bytes : List ℕ) → new ≡ old → PutsPart old new bytes
+part_none old new bytes same = (0, subst (λ (n : Option (List ℕ)). Appends old n []) (sym same) (Appends-nil old))
+
 pub same_behind : (given mid taken : Option (List ℕ)) → Keeps mid taken → IsBehind given taken → IsBehind given mid
 same_behind given None taken kept part = tt
 same_behind given (Some xs) None kept part = absurd kept
@@ -313,12 +317,14 @@ part_of_run page e size blocks base ops accepted places stopped old mid taken gi
 
 -- and where none was
 pub part_of_front : (page : Page) (e : Endian) (size blocks : ℕ) (m : Mount) (ops : List Op) (old mid taken given : Option (List ℕ)) (before now : ℕ) (f : SessionFault)
-    → IsNotEmitted page e size blocks m old before f (Some (mid, now)) → Keeps mid taken → IsBehind given taken → GivesPart page e size blocks m.image ops old given
+    → IsNotEmitted page e size blocks m old mid before now f → Keeps mid taken → IsBehind given taken → GivesPart page e size blocks m.image ops old given
 part_of_front page e size blocks m ops old mid taken given before now session.Sink not kept part = (mid, inl not.1, same_behind given mid taken kept part)
 part_of_front page e size blocks m ops old mid taken given before now session.OutOfMemory not kept part =
     (mid, inl (part_all old mid (front_before e size blocks m.image) not.1), same_behind given mid taken kept part)
-part_of_front page e size blocks m ops old mid taken given before now session.ReadOnly not kept part = absurd not
-part_of_front page e size blocks m ops old mid taken given before now session.Geometry not kept part = absurd not
+part_of_front page e size blocks m ops old mid taken given before now session.ReadOnly not kept part =
+    (mid, inl (part_none old mid (front_before e size blocks m.image) not.1), same_behind given mid taken kept part)
+part_of_front page e size blocks m ops old mid taken given before now session.Geometry not kept part =
+    (mid, inl (part_none old mid (front_before e size blocks m.image) not.1), same_behind given mid taken kept part)
 part_of_front page e size blocks m ops old mid taken given before now (session.Refused f) not kept part = absurd not
 part_of_front page e size blocks m ops old mid taken given before now (session.Full a b) not kept part = absurd not
 part_of_front page e size blocks m ops old mid taken given before now session.Broken not kept part = absurd not

@@ -114,10 +114,8 @@ fn put_image<E: Order, S: Output>(
             Err(_) => Err((SessionFault::Sink, Some(output))),
         },
         Err((fault, mut output)) => {
-            if let Some(output) = &mut output {
-                let _ = output.finish();
-            }
-            Err((fault, output))
+            let _ = output.finish();
+            Err((fault, Some(output)))
         }
     }
 }

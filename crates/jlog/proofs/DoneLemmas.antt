@@ -28,11 +28,12 @@ use Rattle.jlog.specs.Places.{place_after, end_after, places, end_of_all, fit}
 use Rattle.jlog.specs.Output.{gap, output}
 use Rattle.jlog.specs.Left.{IsLeft, count_whole, intact}
 use Rattle.jlog.specs.Laws.{FitsBlock}
+use Rattle.jlog.specs.LeftLaws.{IsLoggable}
 use Rattle.jlog.specs.Headline.{IsBase, AreAccepted, Survives, resume_address, index_of_image, new_nodes}
 use Rattle.jlog.specs.Running.{written}
 use Rattle.jlog.specs.Done.{steps_on, GoesOnBy, EarlierStand, SurvivesAfter}
 use Rattle.jlog.proofs.PlaceLemmas.{place_is_least}
-use Rattle.jlog.proofs.HereLemmas.{Sure, torn_all}
+use Rattle.jlog.proofs.HereLemmas.{Sure, cuts_seen, torn_all}
 use Rattle.jlog.proofs.ImageLemmas.{block_size}
 use Rattle.jlog.proofs.IntactLemmas.{first_out, has_room, intact_is_counted}
 use Rattle.jlog.proofs.HeadlineLemmas.{all_fit, accepted_survives, planned_loggable, readable, sure_mounts}
@@ -167,6 +168,10 @@ nodes_long : (x : Indexed) (steps : List Step) → length (nodes_of x steps) ≡
 nodes_long x [] = refl
 nodes_long x (s ∷ steps) = ap suc (nodes_long (advanced x s) steps)
 
+all_behind : {A : Type 0} (P : A → Type 0) (xs ys : List A) → AllByRecursion P (xs ++ ys) → AllByRecursion P ys
+all_behind P [] ys all = all
+all_behind P (x ∷ xs) ys all = all_behind P xs ys all.1
+
 pub earlier_stand : (page : ℕ) (e : Endian) (size blocks : ℕ) (base : List ℕ) (earlier steps : List Step) → IsPage page → page + 80 ≤ size → IsBase e size blocks base
     → IsTrue (fit size blocks (resume_address e size blocks base) (written e (index_of_image e size base) (earlier ++ steps)))
     → GoesOn page (plain_nodes e size base) (earlier ++ steps) → EarlierStand e size blocks base earlier steps
@@ -184,13 +189,16 @@ earlier_stand page e size blocks base earlier steps is_page room is_base fits go
     let words : size % 4 ≡ 0 = (block_size size (readable e size blocks base is_base)).words in
     let is : all ≡ before ++ nodes = written_on e x earlier steps in
     let on : StepsGoOn e size start x earlier steps = steps_go_on e size start x earlier steps in
+    let loggable : AllByRecursion (IsLoggable e size) (nodes_of x (earlier ++ steps)) = planned_loggable page e size (nodes_of x (earlier ++ steps)) is_page room (go.written e) in
     let roomy : AllByRecursion (FitsBlock size) (before ++ nodes) =
-    subst (AllByRecursion (FitsBlock size)) is (has_room e size (nodes_of x (earlier ++ steps)) (planned_loggable page e size (nodes_of x (earlier ++ steps)) is_page room (go.written e))) in
+    subst (AllByRecursion (FitsBlock size)) is (has_room e size (nodes_of x (earlier ++ steps)) loggable) in
+    let later : AllByRecursion (IsLoggable e size) (nodes_of y steps) =
+    all_behind (IsLoggable e size) (nodes_of x earlier) (nodes_of y steps) (subst (AllByRecursion (IsLoggable e size)) (nodes_on x earlier steps) loggable) in
     let count : count_whole start (output e size start all) (front + k) (places size start all) ≡ length earlier + m =
     ap (λ (l : List (List ℕ)). count_whole start (output e size start l) (front + k) (places size start l)) is
     ∙ (count_on e size start k before nodes words roomy ∙ ap (λ (i : ℕ). i + m) (length-map (nodes_of x earlier) (canonical e) ∙ nodes_long x earlier)) in
     let sure : Sure e size start (front + k) (new_nodes e size base (earlier ++ steps)) =
-    record { first = nodes_of x earlier; rest = nodes_of y steps; both = nodes_on x earlier steps; uncut = omega arith; none = none } in
+    record { first = nodes_of x earlier; rest = nodes_of y steps; both = nodes_on x earlier steps; uncut = omega arith; seen = cuts_seen e size (nodes_of y steps) later none } in
     let there : IsLeft e size blocks base start (output e size start all) (front + k) image =
     subst (λ (o : List ℕ). IsLeft e size blocks base start o (front + k) image) (sym on.output_is) left in
     let mounts = sure_mounts page e size blocks (front + k) base image (earlier ++ steps) is_page room is_base fits go sure there in

@@ -1,12 +1,14 @@
 -- The walk over what a write left: what is told from a cursor on, for a node in the block of the cursor.
-use Rattle.std.proofs.Common.{◌≡◌, ◌≢◌, ℕ, suc, ◌+◌, ◌-◌, ◌*◌, ◌%◌, ◌<◌, ◌≤◌, true, false, List, [], ◌∷◌, ◌++◌, length, take, drop, get_or, map, refl, sym, ap, ap₂, subst, ◌∙◌, arith, inl, inr, length-append}
+use Rattle.std.proofs.Common.{◌≡◌, ◌≢◌, ℕ, suc, ◌+◌, ◌-◌, ◌*◌, ◌%◌, ◌^◌, ◌<◌, ◌≤◌, true, false, List, None, [], ◌∷◌, ◌++◌, length, take, drop, get_or, map, refl, sym, ap, ap₂, subst, ◌∙◌, arith, inl, inr, length-append}
 use Rattle.std.specs.Prelude.{IsTrue, bytes_eq}
+use Rattle.std.specs.List.{AllByRecursion}
 use Rattle.std.proofs.lemmas.Bool.{cases_Bool, cases_lt, cond-true, cond-false, and_parts, both_ways}
 use Rattle.std.proofs.lemmas.List.{get_or-take, drop-drop, take-append-drop, take-append-le, take_all, append-nil, length-take-le, length-replicate, ext_get_or}
 use Rattle.std.proofs.lemmas.Slice.Eq.{bytes_eq-Decides}
 use Rattle.flashbase.specs.Bytes.{pad4_of, erased}
 use Rattle.flashbase.proofs.BytesLemmas.{le_pad4, pad4_words, pad4_least}
-use Rattle.jnode.specs.Weak.{torn, is_weak}
+use Rattle.jnode.specs.Laws.{IsPlain}
+use Rattle.jnode.specs.Weak.{torn, is_weak, IsLeastWeak}
 use Rattle.jnode.specs.Writing.{canonical, filled}
 use Rattle.jnode.specs.declared.node.NodeRef.{NodeRef}
 use Rattle.jnode.specs.declared.node.Seen.{Seen}
@@ -16,7 +18,7 @@ use Rattle.jnode.proofs.WeakLemmas.{behind}
 use Rattle.jlog.specs.Places.{place_after, fit}
 use Rattle.jlog.specs.Output.{output}
 use Rattle.jlog.specs.Left.{intact}
-use Rattle.jlog.specs.LeftLaws.{IsLoggable, NoneWeak, placed, sighting_of}
+use Rattle.jlog.specs.LeftLaws.{IsStorable, IsLoggable, NoneWeak, placed, sighting_of}
 use Rattle.jlog.proofs.ByteLemmas.{erased_end, erased_is, past_cut, cut_node}
 use Rattle.jlog.proofs.PlaceLemmas.{times_words, place_here}
 use Rattle.jlog.proofs.OutputLemmas.{output_here, intact_here, placed_here}
@@ -31,40 +33,51 @@ bytes_of e xs = map (canonical e) xs
 abbrev pub Gives : Endian → ℕ → (ℕ → List ℕ) → ℕ → ℕ → ℕ → ℕ → ℕ → List NodeRef → Type 0
 Gives e size flash c d p n k xs = met e size flash d p n ≡ map sighting_of (take (intact size c k (bytes_of e xs)) (placed e size c xs))
 
--- None of the first nodes is cut, and none of those after them is weak.
+-- each cut of these is seen: their lengths spell no node where a header is torn, and none is weak
+abbrev pub CutsSeen : Endian → List NodeRef → Type 0
+CutsSeen e xs = AllByRecursion (λ x. IsPlain (length (canonical e x)) × IsLeastWeak e (canonical e x) None) xs
+
+pub cuts_seen : (e : Endian) (size : ℕ) (xs : List NodeRef) → AllByRecursion (IsLoggable e size) xs → NoneWeak e xs → CutsSeen e xs
+cuts_seen e size [] ok none = tt
+cuts_seen e size (x ∷ xs) ok none = ((ok.0.plain, none.0), cuts_seen e size xs ok.1 none.1)
+
+-- None of the first nodes is cut, and a cut of each of those after them is seen.
 pub record Sure (e : Endian) (size c k : ℕ) (xs : List NodeRef) : Type 0 where
   pub first : List NodeRef
   pub rest : List NodeRef
   pub both : xs ≡ first ++ rest
   pub uncut : length (output e size c (bytes_of e first)) ≤ k
-  pub none : NoneWeak e rest
+  pub seen : CutsSeen e rest
 
-pub none_weak : (e : Endian) (size c k : ℕ) (xs : List NodeRef) → NoneWeak e xs → Sure e size c k xs
-none_weak e size c k xs none = record { first = []; rest = xs; both = refl; uncut = omega arith; none = none }
+all_seen : (e : Endian) (size c k : ℕ) (xs : List NodeRef) → CutsSeen e xs → Sure e size c k xs
+all_seen e size c k xs seen = record { first = []; rest = xs; both = refl; uncut = omega arith; seen = seen }
+
+pub none_weak : (e : Endian) (size c k : ℕ) (xs : List NodeRef) → AllByRecursion (IsLoggable e size) xs → NoneWeak e xs → Sure e size c k xs
+none_weak e size c k xs ok none = all_seen e size c k xs (cuts_seen e size xs ok none)
 
 pub none_cut : (e : Endian) (size c k : ℕ) (xs : List NodeRef) → length (output e size c (bytes_of e xs)) ≤ k → Sure e size c k xs
-none_cut e size c k xs all = record { first = xs; rest = []; both = sym (append-nil xs); uncut = all; none = tt }
+none_cut e size c k xs all = record { first = xs; rest = []; both = sym (append-nil xs); uncut = all; seen = tt }
 
 -- after the first node
 sure_on : (e : Endian) (size c c' m k : ℕ) (x : NodeRef) (xs first rest : List NodeRef)
     → ((ys : List NodeRef) → length (output e size c (bytes_of e (x ∷ ys))) ≡ m + length (output e size c' (bytes_of e ys)))
-    → x ∷ xs ≡ first ++ rest → length (output e size c (bytes_of e first)) ≤ k → NoneWeak e rest → Sure e size c' (k - m) xs
-sure_on e size c c' m k x xs [] rest len both uncut none = none_weak e size c' (k - m) xs (subst (NoneWeak e) (sym both) none).1
-sure_on e size c c' m k x xs (y ∷ first) rest len both uncut none =
+    → x ∷ xs ≡ first ++ rest → length (output e size c (bytes_of e first)) ≤ k → CutsSeen e rest → Sure e size c' (k - m) xs
+sure_on e size c c' m k x xs [] rest len both uncut seen = all_seen e size c' (k - m) xs (subst (CutsSeen e) (sym both) seen).1
+sure_on e size c c' m k x xs (y ∷ first) rest len both uncut seen =
     let head : y ≡ x = cc in
     let tail : xs ≡ first ++ rest = cc in
     let long : length (output e size c (bytes_of e (x ∷ first))) ≤ k = subst (λ (z : NodeRef). length (output e size c (bytes_of e (z ∷ first))) ≤ k) head uncut in
-    record { first = first; rest = rest; both = tail; uncut = omega (arith, long, len first); none = none }
+    record { first = first; rest = rest; both = tail; uncut = omega (arith, long, len first); seen = seen }
 
 -- and from an address up to which no node begins
 pub sure_skips : (e : Endian) (size c c' k : ℕ) (front : List ℕ) (x : NodeRef) (xs : List NodeRef)
     → ((ys : List NodeRef) → output e size c (bytes_of e (x ∷ ys)) ≡ front ++ output e size c' (bytes_of e (x ∷ ys)))
     → Sure e size c k (x ∷ xs) → Sure e size c' (k - length front) (x ∷ xs)
-sure_skips e size c c' k front x xs out_is sure = by sure.first sure.rest sure.both sure.uncut sure.none
+sure_skips e size c c' k front x xs out_is sure = by sure.first sure.rest sure.both sure.uncut sure.seen
   where
-    by : (first rest : List NodeRef) → x ∷ xs ≡ first ++ rest → length (output e size c (bytes_of e first)) ≤ k → NoneWeak e rest → Sure e size c' (k - length front) (x ∷ xs)
-    by [] rest both uncut none = none_weak e size c' (k - length front) (x ∷ xs) (subst (NoneWeak e) (sym both) none)
-    by (y ∷ first) rest both uncut none =
+    by : (first rest : List NodeRef) → x ∷ xs ≡ first ++ rest → length (output e size c (bytes_of e first)) ≤ k → CutsSeen e rest → Sure e size c' (k - length front) (x ∷ xs)
+    by [] rest both uncut seen = all_seen e size c' (k - length front) (x ∷ xs) (subst (CutsSeen e) (sym both) seen)
+    by (y ∷ first) rest both uncut seen =
         let head : y ≡ x = cc in
         let long : length (output e size c (bytes_of e (x ∷ first))) ≤ k = subst (λ (z : NodeRef). length (output e size c (bytes_of e (z ∷ first))) ≤ k) head uncut in
         record {
@@ -72,7 +85,7 @@ sure_skips e size c c' k front x xs out_is sure = by sure.first sure.rest sure.b
           rest = rest;
           both = subst (λ (z : NodeRef). x ∷ xs ≡ z ∷ (first ++ rest)) head both;
           uncut = omega (arith, long, ap length (out_is first), length-append front (output e size c' (bytes_of e (x ∷ first))));
-          none = none;
+          seen = seen;
         }
 
 -- n blocks follow the cursor's, these nodes fit there, and the flash is as a stop after k of their bytes leaves it
@@ -194,22 +207,22 @@ stands_on e size blocks flash c d p n k x xs behind room at =
       cursor = cursor;
       ends = at.ends;
       room = subst (λ (q : ℕ). IsTrue (fit size blocks (q + m) (bytes_of e xs))) (place_here size c d (length node) words low high some) fits;
-      sure = sure_on e size c (c + m) m k x xs at.sure.first at.sure.rest (λ ys. len ys) at.sure.both at.sure.uncut at.sure.none;
+      sure = sure_on e size c (c + m) m k x xs at.sure.first at.sure.rest (λ ys. len ys) at.sure.both at.sure.uncut at.sure.seen;
       left = subst (λ (n : ℕ). Flash e size (c + m) blocks flash next (k - n)) (length-filled node) moved;
     }
 
-not_weak : (e : Endian) (size c k : ℕ) (x : NodeRef) (xs : List NodeRef) → Sure e size c k (x ∷ xs) → ((ys : List NodeRef) → length (output e size c (bytes_of e (x ∷ ys))) ≤ k → ⊥)
-    → is_weak e (canonical e x) k ≡ false
-not_weak e size c k x xs sure cut = by sure.first sure.rest sure.both sure.uncut sure.none
+cut_is_seen : (e : Endian) (size c k : ℕ) (x : NodeRef) (xs : List NodeRef) → Sure e size c k (x ∷ xs) → ((ys : List NodeRef) → length (output e size c (bytes_of e (x ∷ ys))) ≤ k → ⊥)
+    → IsPlain (length (canonical e x)) × (is_weak e (canonical e x) k ≡ false)
+cut_is_seen e size c k x xs sure cut = by sure.first sure.rest sure.both sure.uncut sure.seen
   where
-    by : (first rest : List NodeRef) → x ∷ xs ≡ first ++ rest → length (output e size c (bytes_of e first)) ≤ k → NoneWeak e rest → is_weak e (canonical e x) k ≡ false
-    by [] rest both uncut none = (subst (NoneWeak e) (sym both) none).0 k
-    by (y ∷ first) rest both uncut none =
+    by : (first rest : List NodeRef) → x ∷ xs ≡ first ++ rest → length (output e size c (bytes_of e first)) ≤ k → CutsSeen e rest → IsPlain (length (canonical e x)) × (is_weak e (canonical e x) k ≡ false)
+    by [] rest both uncut seen = let its = (subst (CutsSeen e) (sym both) seen).0 in (its.0, its.1 k)
+    by (y ∷ first) rest both uncut seen =
         let head : y ≡ x = cc in
         absurd (cut first (subst (λ (z : NodeRef). length (output e size c (bytes_of e (z ∷ first))) ≤ k) head uncut))
 
 -- it is intact, and the walk goes on after it
-here_whole : (e : Endian) (size blocks : ℕ) (flash : ℕ → List ℕ) (c d p n k : ℕ) (x : NodeRef) (xs : List NodeRef) → IsLoggable e size x → Walks e size blocks flash xs
+here_whole : (e : Endian) (size blocks : ℕ) (flash : ℕ → List ℕ) (c d p n k : ℕ) (x : NodeRef) (xs : List NodeRef) → IsStorable e size x → Walks e size blocks flash xs
     → 12 ≤ p → p + length (canonical e x) ≤ size → Stands e size blocks flash c d p n k (x ∷ xs) → bytes_eq (torn (canonical e x) k) (canonical e x) ≡ true
     → Gives e size flash c d p n k (x ∷ xs)
 here_whole e size blocks flash c d p n k x xs ok walks behind room at whole =
@@ -228,20 +241,21 @@ here_whole e size blocks flash c d p n k x xs ok walks behind room at whole =
     holds_behind e size c k d p (filled node ++ next) (flash d) at.cursor.at behind (left.each d (omega arith)) in
     let shown : drop p (flash d) ≡ filled node ++ drop (p + m) (flash d) =
     rest_whole size c k d p node next (flash d) at.cursor.at (left.long d (omega arith)) (omega (arith, on.cursor.high)) holds ((bytes_eq-Decides _ _).0 whole) in
+    let small : length node < 2 ^ 32 = omega (arith, at.cursor.small, room) in
     let later : ℕ = intact size (c + m) (k - m) (bytes_of e xs) in
     let count : intact size c k (bytes_of e (x ∷ xs)) ≡ suc later =
     intact_here size c d k node (bytes_of e xs) words low high some ∙ cond-true (bytes_eq (torn node k) node) (suc later) 0 whole in
     ap (λ (ss : List (ℕ × Seen)). ss ++ up e size flash (suc d) n)
-    (ap (told e (d * size) p) shown ∙ node_then e size (d * size) p x (drop (p + m) (flash d)) ok)
+    (ap (told e (d * size) p) shown ∙ node_then e size (d * size) p x (drop (p + m) (flash d)) ok small)
     ∙ (ap (λ (ss : List (ℕ × Seen)). sighting_of (d * size + p, x) ∷ ss) (walks (c + m) d (p + m) n (k - m) on)
     ∙ (ap (λ (q : ℕ). sighting_of (q, x) ∷ map sighting_of (take later (placed e size (c + m) xs))) (sym at.cursor.at)
     ∙ sym (ap₂ (λ (i : ℕ) (ns : List (ℕ × NodeRef)). map sighting_of (take i ns)) count (placed_here e size c d x xs words low high some))))
 
 -- it was cut, and nothing is told from there on
-here_cut : (e : Endian) (size blocks : ℕ) (flash : ℕ → List ℕ) (c d p n k : ℕ) (x : NodeRef) (xs : List NodeRef) → IsLoggable e size x
+here_cut : (e : Endian) (size blocks : ℕ) (flash : ℕ → List ℕ) (c d p n k : ℕ) (x : NodeRef) (xs : List NodeRef)
     → 12 ≤ p → p + length (canonical e x) ≤ size → Stands e size blocks flash c d p n k (x ∷ xs) → bytes_eq (torn (canonical e x) k) (canonical e x) ≡ false
     → Gives e size flash c d p n k (x ∷ xs)
-here_cut e size blocks flash c d p n k x xs ok behind room at differs =
+here_cut e size blocks flash c d p n k x xs behind room at differs =
     let node : List ℕ = canonical e x in
     let m : ℕ = pad4_of (length node) in
     let some : 0 < length node = omega (arith, canonical_long e x) in
@@ -257,14 +271,14 @@ here_cut e size blocks flash c d p n k x xs ok behind room at differs =
     holds_behind e size c k d p (filled node ++ next) (flash d) at.cursor.at behind (left.each d (omega arith)) in
     let changed : torn node k ≢ node = λ is. both_ways _ differs ((bytes_eq-Decides _ _).1 is) in
     let cut : k < length node = elim (cases_lt k (length node)) [ inl less ↦ less | inr all ↦ absurd (changed (torn_all node k all)) ] in
-    let weak : is_weak e node k ≡ false =
-    not_weak e size c k x xs at.sure (λ ys all.
+    let seen : IsPlain (length node) × (is_weak e node k ≡ false) =
+    cut_is_seen e size c k x xs at.sure (λ ys all.
     omega (arith, all, ap length (output_here e size c d node (bytes_of e ys) words low high some), length-append (filled node) (output e size (c + m) (bytes_of e ys)), length-filled node, le_pad4 (length node))) in
     let shown : drop p (flash d) ≡ take k node ++ erased (size - p - k) =
     rest_cut size c k d p node next (flash d) at.cursor.at (left.long d (omega arith)) cut room holds in
     let none : told e (d * size) p (drop p (flash d)) ≡ [] =
     ap (told e (d * size) p) shown
-    ∙ cut_told e size (d * size) p k (size - p - k) x ok (omega arith) (omega (arith, on.cursor.high)) (omega (arith, at.cursor.small)) changed weak in
+    ∙ cut_told e (d * size) p k (size - p - k) x seen.0 (omega arith) (omega (arith, on.cursor.high)) (omega (arith, at.cursor.small)) changed seen.1 in
     let clear : k - m ≡ 0 = omega (arith, le_pad4 (length node)) in
     let above : c + m ≤ suc d * size = omega (arith, on.cursor.at, on.cursor.high) in
     let later : ℕ = intact size (c + m) (k - m) (bytes_of e xs) in
@@ -274,9 +288,9 @@ here_cut e size blocks flash c d p n k x xs ok behind room at differs =
     ∙ (clear_up e size (c + m) (k - m) blocks next flash (suc d) n (omega (arith, at.cursor.large)) (λ i. past_cut next (k - m) i (omega (arith, clear))) above (omega arith) on.left
     ∙ sym (ap (λ (i : ℕ). map sighting_of (take i (placed e size c (x ∷ xs)))) count))
 
-pub here : (e : Endian) (size blocks : ℕ) (flash : ℕ → List ℕ) (c d p n k : ℕ) (x : NodeRef) (xs : List NodeRef) → IsLoggable e size x → Walks e size blocks flash xs
+pub here : (e : Endian) (size blocks : ℕ) (flash : ℕ → List ℕ) (c d p n k : ℕ) (x : NodeRef) (xs : List NodeRef) → IsStorable e size x → Walks e size blocks flash xs
     → 12 ≤ p → p + length (canonical e x) ≤ size → Stands e size blocks flash c d p n k (x ∷ xs) → Gives e size flash c d p n k (x ∷ xs)
 here e size blocks flash c d p n k x xs ok walks behind room at = elim (cases_Bool (bytes_eq (torn (canonical e x) k) (canonical e x))) [
   | inl whole ↦ here_whole e size blocks flash c d p n k x xs ok walks behind room at whole
-  | inr differs ↦ here_cut e size blocks flash c d p n k x xs ok behind room at differs
+  | inr differs ↦ here_cut e size blocks flash c d p n k x xs behind room at differs
 ]

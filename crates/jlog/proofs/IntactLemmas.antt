@@ -19,7 +19,7 @@ use Rattle.jlog.specs.Places.{IsLeastPlace, ArePlaces, place_after, end_after, p
 use Rattle.jlog.specs.Output.{gap, output}
 use Rattle.jlog.specs.Left.{bytes_at, is_whole, intact}
 use Rattle.jlog.specs.Laws.{FitsBlock, PlacesAreLeast, OutputIsLong, IntactIsCounted, WholeIsBeginning, AllIsIntact}
-use Rattle.jlog.specs.LeftLaws.{IsLoggable}
+use Rattle.jlog.specs.LeftLaws.{IsStorable, IsLoggable}
 use Rattle.jlog.proofs.PlaceLemmas.{pad4_same, pad4_behind, place_same, times_words, place_is_least, in_block}
 use Rattle.jlog.proofs.OutputLemmas.{places_skip}
 use Rattle.jlog.proofs.SightLemmas.{marker_long}
@@ -267,7 +267,14 @@ all_is_intact e size from k (node ∷ nodes) words ok all =
 
 -- ---- what may be written has room
 
+pub storable : (e : Endian) (size : ℕ) (xs : List NodeRef) → AllByRecursion (IsLoggable e size) xs → AllByRecursion (IsStorable e size) xs
+storable e size [] ok = tt
+storable e size (x ∷ xs) ok = (record { fits = ok.0.fits; writable = ok.0.writable; room = ok.0.room }, storable e size xs ok.1)
+
+pub storable_has_room : (e : Endian) (size : ℕ) (xs : List NodeRef) → AllByRecursion (IsStorable e size) xs → AllByRecursion (FitsBlock size) (map (canonical e) xs)
+storable_has_room e size [] ok = tt
+storable_has_room e size (x ∷ xs) ok =
+    (record { some = omega (arith, canonical_long e x); written = canonical_is_not_erased e x; within = ok.0.room }, storable_has_room e size xs ok.1)
+
 pub has_room : (e : Endian) (size : ℕ) (xs : List NodeRef) → AllByRecursion (IsLoggable e size) xs → AllByRecursion (FitsBlock size) (map (canonical e) xs)
-has_room e size [] ok = tt
-has_room e size (x ∷ xs) ok =
-    (record { some = omega (arith, canonical_long e x); written = canonical_is_not_erased e x; within = ok.0.room }, has_room e size xs ok.1)
+has_room e size xs ok = storable_has_room e size xs (storable e size xs ok)

@@ -15,8 +15,8 @@ use Rattle.jscan.specs.Blank.{marked}
 use Rattle.jlog.specs.Places.{place_after, end_after, places}
 use Rattle.jlog.specs.Output.{output}
 use Rattle.jlog.specs.Left.{HoldsWritten, HoldsMarker, IsLeft, intact}
-use Rattle.jlog.specs.LeftLaws.{IsLoggable, AreLogged, placed, tells, sighting_of, BaseStays, PlacedAreNew, LeftSightings, LeftNodes, LeftRefuses, WholeNodes, WholeRefuses, LeftIsWithin, RefusesAs, intact_of, IsLeftOf, IsUncut}
-use Rattle.jlog.proofs.IntactLemmas.{all_is_intact, has_room}
+use Rattle.jlog.specs.LeftLaws.{IsStorable, AreLogged, AreStored, placed, tells, sighting_of, BaseStays, PlacedAreNew, LeftSightings, LeftNodes, LeftRefuses, WholeNodes, WholeRefuses, LeftIsWithin, RefusesAs, intact_of, IsLeftOf, IsUncut}
+use Rattle.jlog.proofs.IntactLemmas.{all_is_intact, storable, storable_has_room}
 use Rattle.jlog.proofs.TellLemmas.{nodes_told, refuses_as}
 use Rattle.jlog.proofs.ByteLemmas.{erased_end, block_long, block_byte}
 use Rattle.jlog.proofs.PlaceLemmas.{place_front}
@@ -64,7 +64,7 @@ flash_left e size blocks from k base out image large left = record {
 }
 
 -- what is told from the block on where they begin
-new_told : (e : Endian) (size blocks block n k : ℕ) (base image : List ℕ) (new : List NodeRef) → block + n ≡ blocks → AreLogged e size blocks base block new
+new_told : (e : Endian) (size blocks block n k : ℕ) (base image : List ℕ) (new : List NodeRef) → block + n ≡ blocks → AreStored e size blocks base block new
     → Sure e size (block * size) k new
     → IsLeftOf e size blocks base block new k image
     → up e size (block_of size image) block n
@@ -72,7 +72,7 @@ new_told : (e : Endian) (size blocks block n k : ℕ) (base image : List ℕ) (n
 new_told e size blocks block zero k base image [] sum logged sure left = refl
 new_told e size blocks block zero k base image (x ∷ xs) sum logged sure left =
     let limits = block_size size logged.size_is in
-    let ok : IsLoggable e size x = logged.nodes.0 in
+    let ok : IsStorable e size x = logged.nodes.0 in
     let at : place_after size (block * size) (length (canonical e x)) ≡ block * size + 12 =
     place_front size (block * size) block (length (canonical e x)) limits.words refl ok.room (omega (arith, canonical_long e x)) in
     let fits : place_after size (block * size) (length (canonical e x)) + length (canonical e x) ≤ blocks * size = leb-true _ _ (and_parts _ _ logged.room).0 in
@@ -100,7 +100,7 @@ new_told e size blocks block (suc n) k base image new sum logged sure left =
 -- ---- the whole
 
 -- where none of the first nodes is cut, and none of the others is weak
-pub left_sightings : (e : Endian) (size blocks block k : ℕ) (base image : List ℕ) (new : List NodeRef) → AreLogged e size blocks base block new
+pub left_sightings : (e : Endian) (size blocks block k : ℕ) (base image : List ℕ) (new : List NodeRef) → AreStored e size blocks base block new
     → Sure e size (block * size) k new
     → IsLeftOf e size blocks base block new k image
     → filter tells (sightings e size image)
@@ -129,6 +129,15 @@ left_sightings e size blocks block k base image new logged sure left =
     ∙ sym old)
     (new_told e size blocks block n k base image new sum logged sure left)))
 
+pub stored : (e : Endian) (size blocks : ℕ) (base : List ℕ) (block : ℕ) (new : List NodeRef) → AreLogged e size blocks base block new → AreStored e size blocks base block new
+stored e size blocks base block new logged = record {
+  size_is = logged.size_is;
+  no_longer = logged.no_longer;
+  blank = logged.blank;
+  nodes = storable e size new logged.nodes;
+  room = logged.room;
+}
+
 -- ---- the laws
 
 placed_places : (e : Endian) (size from : ℕ) (new : List NodeRef) → map (λ n. (n.0, length (canonical e n.1))) (placed e size from new) ≡ places size from (map (canonical e) new)
@@ -145,34 +154,34 @@ placed_are_new e size from new = record { places = placed_places e size from new
 
 pub left_sightings_told : LeftSightings
 left_sightings_told e size blocks block k base image new logged none left =
-    left_sightings e size blocks block k base image new logged (none_weak e size (block * size) k new none) left
+    left_sightings e size blocks block k base image new (stored e size blocks base block new logged) (none_weak e size (block * size) k new logged.nodes none) left
 
-pub sure_nodes : (e : Endian) (size blocks block k : ℕ) (base image : List ℕ) (new : List NodeRef) → AreLogged e size blocks base block new → Sure e size (block * size) k new
+pub sure_nodes : (e : Endian) (size blocks block k : ℕ) (base image : List ℕ) (new : List NodeRef) → AreStored e size blocks base block new → Sure e size (block * size) k new
     → IsLeftOf e size blocks base block new k image → nodes e size image ≡ nodes e size base ++ intact_of e size block new k
 sure_nodes e size blocks block k base image new logged sure left =
     nodes_told e size base image (intact_of e size block new k) (left_sightings e size blocks block k base image new logged sure left)
 
-pub sure_refuses : (e : Endian) (size blocks block k : ℕ) (base image : List ℕ) (new : List NodeRef) → AreLogged e size blocks base block new → Sure e size (block * size) k new
+pub sure_refuses : (e : Endian) (size blocks block k : ℕ) (base image : List ℕ) (new : List NodeRef) → AreStored e size blocks base block new → Sure e size (block * size) k new
     → IsLeftOf e size blocks base block new k image → RefusesAs e size base image
 sure_refuses e size blocks block k base image new logged sure left =
     refuses_as e size base image (intact_of e size block new k) (left_sightings e size blocks block k base image new logged sure left)
 
 pub left_nodes : LeftNodes
 left_nodes e size blocks block k base image new logged none left =
-    sure_nodes e size blocks block k base image new logged (none_weak e size (block * size) k new none) left
+    sure_nodes e size blocks block k base image new (stored e size blocks base block new logged) (none_weak e size (block * size) k new logged.nodes none) left
 
 pub left_refuses : LeftRefuses
 left_refuses e size blocks block k base image new logged none left =
-    sure_refuses e size blocks block k base image new logged (none_weak e size (block * size) k new none) left
+    sure_refuses e size blocks block k base image new (stored e size blocks base block new logged) (none_weak e size (block * size) k new logged.nodes none) left
 
 -- without a cut all are kept
-all_placed : (e : Endian) (size blocks block k : ℕ) (base : List ℕ) (new : List NodeRef) → AreLogged e size blocks base block new
+all_placed : (e : Endian) (size blocks block k : ℕ) (base : List ℕ) (new : List NodeRef) → AreStored e size blocks base block new
     → IsUncut e size block new k
     → intact_of e size block new k ≡ placed e size (block * size) new
 all_placed e size blocks block k base new logged all =
     let ns : List (ℕ × NodeRef) = placed e size (block * size) new in
     let count : intact size (block * size) k (map (canonical e) new) ≡ length new =
-    all_is_intact e size (block * size) k (map (canonical e) new) (block_size size logged.size_is).words (has_room e size new logged.nodes) all ∙ length-map new (canonical e) in
+    all_is_intact e size (block * size) k (map (canonical e) new) (block_size size logged.size_is).words (storable_has_room e size new logged.nodes) all ∙ length-map new (canonical e) in
     let long : length ns ≡ length new = sym (length-map ns (λ n. n.1)) ∙ ap length (placed_nodes e size (block * size) new) in
     take_all (intact size (block * size) k (map (canonical e) new)) ns (omega (arith, count, long))
 

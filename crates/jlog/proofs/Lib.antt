@@ -13,11 +13,13 @@ pub mod RoomLemmas
 pub mod ExistLemmas
 pub mod SoundLemmas
 pub mod HeadlineLemmas
+pub mod AnewLemmas
 pub mod CodeLemmas
 pub mod PutLemmas
 pub mod RunningLemmas
 pub mod StepLemmas
 pub mod RunLemmas
+pub mod HaltLemmas
 pub mod DoneLemmas
 pub mod RoomCode
 pub mod SurviveLemmas

@@ -7,6 +7,7 @@ use Rattle.std.proofs.lemmas.Slice.Eq.{bytes_eq-Decides}
 use Rattle.flashbase.specs.Bytes.{pad4_of, erased}
 use Rattle.flashbase.proofs.BytesLemmas.{le_pad4, pad4_words}
 use Rattle.jnode.specs.Header.{is_good}
+use Rattle.jnode.specs.Laws.{IsPlain}
 use Rattle.jnode.specs.Reading.{seen_of, tile_of}
 use Rattle.jnode.specs.Weak.{torn, is_weak}
 use Rattle.jnode.specs.Writing.{canonical, clean_marker, filled}
@@ -26,7 +27,7 @@ use Rattle.jscan.specs.Blank.{marked}
 use Rattle.jscan.proofs.TileLemmas.{tile_good, tile_then_rest}
 use Rattle.jscan.proofs.HeaderlessLemmas.{seen_among, headerless_has_no_nodes, erased_none_good}
 use Rattle.jscan.proofs.MarkedLemmas.{marked_has_no_nodes}
-use Rattle.jlog.specs.LeftLaws.{IsLoggable, tells, sighting_of}
+use Rattle.jlog.specs.LeftLaws.{IsStorable, tells, sighting_of}
 
 -- what is told of the rest of a block, from a place on
 abbrev pub told : Endian → ℕ → ℕ → List ℕ → List (ℕ × Seen)
@@ -80,26 +81,25 @@ filled_headed e x small =
     let words : length (bytes ++ []) % 4 ≡ 0 = omega (arith, length-append bytes [], length-filled (canonical e x), pad4_words (length (canonical e x))) in
     subst (IsHeaded e) is.tile (tile_headed e (bytes ++ []) (good_found e (bytes ++ []) is.good) words)
 
-whole_seen : (e : Endian) (addr : ℕ) (x : NodeRef) (size : ℕ) → IsLoggable e size x → (addr, seen_of e (filled (canonical e x))) ≡ sighting_of (addr, x)
-whole_seen e addr (node.Entry entry) size ok =
+whole_seen : (e : Endian) (addr : ℕ) (x : NodeRef) (size : ℕ) → IsStorable e size x → length (canonical e x) < 2 ^ 32 → (addr, seen_of e (filled (canonical e x))) ≡ sighting_of (addr, x)
+whole_seen e addr (node.Entry entry) size ok small =
     ap (λ (s : Seen). (addr, s))
-    ((seen_entry e (filled (canonical e (node.Entry entry))) entry (filled_headed e (node.Entry entry) (omega (arith, ok.plain.0)))).1 (written_reads e (node.Entry entry) ok.fits ok.writable))
-whole_seen e addr (node.Inode inode) size ok =
+    ((seen_entry e (filled (canonical e (node.Entry entry))) entry (filled_headed e (node.Entry entry) small)).1 (written_reads e (node.Entry entry) ok.fits ok.writable))
+whole_seen e addr (node.Inode inode) size ok small =
     ap (λ (s : Seen). (addr, s))
-    ((seen_inode e (filled (canonical e (node.Inode inode))) inode (filled_headed e (node.Inode inode) (omega (arith, ok.plain.0)))).1 (written_reads e (node.Inode inode) ok.fits ok.writable))
+    ((seen_inode e (filled (canonical e (node.Inode inode))) inode (filled_headed e (node.Inode inode) small)).1 (written_reads e (node.Inode inode) ok.fits ok.writable))
 
 node_told : (addr : ℕ) (x : NodeRef) (ss : List (ℕ × Seen)) → filter tells (sighting_of (addr, x) ∷ ss) ≡ sighting_of (addr, x) ∷ filter tells ss
 node_told addr (node.Entry entry) ss = refl
 node_told addr (node.Inode inode) ss = refl
 
 -- A node that stands whole is told, and then what is after it.
-pub node_then : (e : Endian) (size start place : ℕ) (x : NodeRef) (more : List ℕ) → IsLoggable e size x
+pub node_then : (e : Endian) (size start place : ℕ) (x : NodeRef) (more : List ℕ) → IsStorable e size x → length (canonical e x) < 2 ^ 32
     → told e start place (filled (canonical e x) ++ more) ≡ sighting_of (start + place, x) ∷ told e start (place + pad4_of (length (canonical e x))) more
-node_then e size start place x more ok =
-    let small : length (canonical e x) < 2 ^ 32 = omega (arith, ok.plain.0) in
+node_then e size start place x more ok small =
     let is = canonical_is_tile e x more small in
     ap (filter tells) (tile_first e start place (filled (canonical e x)) more is.good is.tile)
-    ∙ ap (λ (s : ℕ × Seen). filter tells (s ∷ sightings_from e start (place + length (filled (canonical e x))) more)) (whole_seen e (start + place) x size ok)
+    ∙ ap (λ (s : ℕ × Seen). filter tells (s ∷ sightings_from e start (place + length (filled (canonical e x))) more)) (whole_seen e (start + place) x size ok small)
     ∙ node_told (start + place) x (sightings_from e start (place + length (filled (canonical e x))) more)
     ∙ ap (λ (n : ℕ). sighting_of (start + place, x) ∷ told e start (place + n) more) (length-filled (canonical e x))
 
@@ -124,14 +124,14 @@ damaged_told e start place k n x small within long same differs weak =
     ∙ erased_told e start (place + length tile) (n - (length tile - length (take k (canonical e x))))
 
 -- Of a node that was cut, and not weakly, nothing is told.
-pub cut_told : (e : Endian) (size start place k n : ℕ) (x : NodeRef) → IsLoggable e size x → k ≤ length (canonical e x) → pad4_of (length (canonical e x)) ≤ k + n → k + n ≤ 4194304
+pub cut_told : (e : Endian) (start place k n : ℕ) (x : NodeRef) → IsPlain (length (canonical e x)) → k ≤ length (canonical e x) → pad4_of (length (canonical e x)) ≤ k + n → k + n ≤ 4194304
     → torn (canonical e x) k ≢ canonical e x → is_weak e (canonical e x) k ≡ false → told e start place (take k (canonical e x) ++ erased n) ≡ []
-cut_told e size start place k n x ok within long room differs weak = elim (cases_Bool (bytes_eq (take 12 (torn (canonical e x) k)) (take 12 (canonical e x)))) [
-  | inl same ↦ damaged_told e start place k n x (omega (arith, ok.plain.0)) within long ((bytes_eq-Decides _ _).0 same) differs weak
+cut_told e start place k n x plain within long room differs weak = elim (cases_Bool (bytes_eq (take 12 (torn (canonical e x) k)) (take 12 (canonical e x)))) [
+  | inl same ↦ damaged_told e start place k n x (omega (arith, plain.0)) within long ((bytes_eq-Decides _ _).0 same) differs weak
   | inr other ↦
       let changed : take 12 (torn (canonical e x) k) ≢ take 12 (canonical e x) = λ is. both_ways _ other ((bytes_eq-Decides _ _).1 is) in
       ap (filter tells) (headerless_has_no_nodes e start place (take k (canonical e x) ++ erased n) (λ word. elim (cases_lt k 12) [
-        | inl inside ↦ torn_header_is_none e x k n word ok.plain inside room changed weak
+        | inl inside ↦ torn_header_is_none e x k n word plain inside room changed weak
         | inr past ↦ absurd (changed (cut_behind_keeps_header (canonical e x) k past (canonical_long e x)))
       ]))
 ]

@@ -25,7 +25,7 @@ use Rattle.jlog.proofs.ImageLemmas.{block_size}
 use Rattle.jlog.proofs.TellLemmas.{cons_cases}
 use Rattle.jlog.proofs.IntactLemmas.{intact_is_counted, has_room}
 use Rattle.jlog.proofs.HereLemmas.{Sure, none_weak}
-use Rattle.jlog.proofs.LeftLemmas.{placed_are_new, sure_nodes, sure_refuses, whole_nodes, whole_refuses}
+use Rattle.jlog.proofs.LeftLemmas.{placed_are_new, sure_nodes, sure_refuses, stored, whole_nodes, whole_refuses}
 
 -- ---- clashes go both ways, and no node clashes with itself
 
@@ -113,7 +113,7 @@ first_apart ns new n apart a b has_a has_b clash =
 
 -- ---- no fault
 
-sound_from : (e : Endian) (size : ℕ) (base image : List ℕ) → IsSound e size base → RefusesAs e size base image → NoneClash (plain_nodes e size image)
+pub sound_from : (e : Endian) (size : ℕ) (base image : List ℕ) → IsSound e size base → RefusesAs e size base image → NoneClash (plain_nodes e size image)
     → length image ≤ 268435456 → IsSound e size image
 sound_from e size base image sound refuses apart small = ((sound.0.0, small), none)
   where
@@ -152,25 +152,25 @@ sure_is_sound e size blocks block k base image new on sure left =
     let n : ℕ = count_whole from out k (places size from bytes) in
     let count : n ≡ intact size from k bytes = intact_is_counted e size from k bytes (block_size size on.logged.size_is).words (has_room e size new on.logged.nodes) in
     let are : plain_nodes e size image ≡ plain_nodes e size base ++ take n new =
-    plain_from e size base image (intact_of e size block new k) (sure_nodes e size blocks block k base image new on.logged sure left)
+    plain_from e size base image (intact_of e size block new k) (sure_nodes e size blocks block k base image new (stored e size blocks base block new on.logged) sure left)
     ∙ (ap (λ (ns : List NodeRef). plain_nodes e size base ++ ns) (intact_nodes e size block k new) ∙ ap (λ (i : ℕ). plain_nodes e size base ++ take i new) (sym count)) in
     record {
-      sound = sound_from e size base image on.sound (sure_refuses e size blocks block k base image new on.logged sure left)
+      sound = sound_from e size base image on.sound (sure_refuses e size blocks block k base image new (stored e size blocks base block new on.logged) sure left)
           (subst NoneClash (sym are) (first_apart (plain_nodes e size base) new n on.apart)) (omega (arith, left.no_longer, on.small));
       nodes = are;
     }
 
 pub left_is_sound : LeftIsSound
 left_is_sound e size blocks block k base image new on none left =
-    sure_is_sound e size blocks block k base image new on (none_weak e size (block * size) k new none) left
+    sure_is_sound e size blocks block k base image new on (none_weak e size (block * size) k new on.logged.nodes none) left
 
 pub whole_is_sound : WholeIsSound
 whole_is_sound e size blocks block k base image new on all left =
     let are : plain_nodes e size image ≡ plain_nodes e size base ++ new =
-    plain_from e size base image (placed e size (block * size) new) (whole_nodes e size blocks block k base image new on.logged all left)
+    plain_from e size base image (placed e size (block * size) new) (whole_nodes e size blocks block k base image new (stored e size blocks base block new on.logged) all left)
     ∙ ap (λ (ns : List NodeRef). plain_nodes e size base ++ ns) (placed_are_new e size (block * size) new).nodes in
     record {
-      sound = sound_from e size base image on.sound (whole_refuses e size blocks block k base image new on.logged all left)
+      sound = sound_from e size base image on.sound (whole_refuses e size blocks block k base image new (stored e size blocks base block new on.logged) all left)
           (subst NoneClash (sym are) on.apart) (omega (arith, left.no_longer, on.small));
       nodes = are;
     }

@@ -16,7 +16,7 @@ use Rattle.jscan.specs.Blank.{marked}
 use Rattle.jlog.specs.Places.{place_after, fit}
 use Rattle.jlog.specs.Output.{output}
 use Rattle.jlog.specs.Left.{intact}
-use Rattle.jlog.specs.LeftLaws.{IsLoggable, placed, sighting_of}
+use Rattle.jlog.specs.LeftLaws.{IsStorable, placed, sighting_of}
 use Rattle.jlog.proofs.ByteLemmas.{erased_end, erased_is, cut_within, cut_erased}
 use Rattle.jlog.proofs.PlaceLemmas.{place_here, place_front, place_over}
 use Rattle.jlog.proofs.OutputLemmas.{output_front, output_over, intact_skips, places_skip, placed_skip}
@@ -89,7 +89,7 @@ gives_skips e size c c' k x xs up before same =
     ap₂ (λ (i : ℕ) (ns : List (ℕ × NodeRef)). map sighting_of (take i ns)) (intact_skips size c c' k (canonical e x) (bytes_of e xs) up before same) (placed_skip e size c c' x xs same)
 
 -- the marker goes out, and then the node after it
-front : (e : Endian) (size blocks : ℕ) (flash : ℕ → List ℕ) (c d n k : ℕ) (x : NodeRef) (xs : List NodeRef) → IsLoggable e size x → Walks e size blocks flash xs
+front : (e : Endian) (size blocks : ℕ) (flash : ℕ → List ℕ) (c d n k : ℕ) (x : NodeRef) (xs : List NodeRef) → IsStorable e size x → Walks e size blocks flash xs
     → Stands e size blocks flash c d 0 n k (x ∷ xs) → Gives e size flash c d 0 n k (x ∷ xs)
 front e size blocks flash c d n k x xs ok walks at =
     let node : List ℕ = canonical e x in
@@ -142,7 +142,7 @@ rest_passed e size c d p k z out block at long is holds =
     ∙ (cut_within (erased z) out k i (omega (arith, inside, is, length-replicate {A = ℕ} z 0xFF)) ∙ (cut_erased [] z k i ∙ nothing_out i k))))
     ∙ erased_told e (d * size) p (size - p)
 
-over : (e : Endian) (size blocks : ℕ) (flash : ℕ → List ℕ) (c d p n k : ℕ) (x : NodeRef) (xs : List NodeRef) → IsLoggable e size x → Walks e size blocks flash xs
+over : (e : Endian) (size blocks : ℕ) (flash : ℕ → List ℕ) (c d p n k : ℕ) (x : NodeRef) (xs : List NodeRef) → IsStorable e size x → Walks e size blocks flash xs
     → 12 ≤ p → size < p + length (canonical e x) → Stands e size blocks flash c d p n k (x ∷ xs) → Gives e size flash c d p n k (x ∷ xs)
 over e size blocks flash c d p n k x xs ok walks behind_marker outside at =
     let node : List ℕ = canonical e x in
@@ -198,7 +198,7 @@ over e size blocks flash c d p n k x xs ok walks behind_marker outside at =
 
 -- ---- the walk
 
-step : (e : Endian) (size blocks : ℕ) (flash : ℕ → List ℕ) (x : NodeRef) (xs : List NodeRef) → IsLoggable e size x → Walks e size blocks flash xs → Walks e size blocks flash (x ∷ xs)
+step : (e : Endian) (size blocks : ℕ) (flash : ℕ → List ℕ) (x : NodeRef) (xs : List NodeRef) → IsStorable e size x → Walks e size blocks flash xs → Walks e size blocks flash (x ∷ xs)
 step e size blocks flash x xs ok walks c d p n k at = elim at.cursor.beside [
   | inl begins ↦
       subst (λ (q : ℕ). Stands e size blocks flash c d q n k (x ∷ xs) → Gives e size flash c d q n k (x ∷ xs)) (sym begins) (front e size blocks flash c d n k x xs ok walks) at
@@ -209,6 +209,6 @@ step e size blocks flash x xs ok walks c d p n k at = elim at.cursor.beside [
 ]
 
 -- What is told of the flash from a cursor on: of the nodes that were being written there those that are kept.
-pub walks_all : (e : Endian) (size blocks : ℕ) (flash : ℕ → List ℕ) (xs : List NodeRef) → AllByRecursion (IsLoggable e size) xs → Walks e size blocks flash xs
+pub walks_all : (e : Endian) (size blocks : ℕ) (flash : ℕ → List ℕ) (xs : List NodeRef) → AllByRecursion (IsStorable e size) xs → Walks e size blocks flash xs
 walks_all e size blocks flash [] ok = walks_none e size blocks flash
 walks_all e size blocks flash (x ∷ xs) ok = step e size blocks flash x xs ok.0 (walks_all e size blocks flash xs ok.1)

@@ -49,6 +49,12 @@ MarkerIsLeft = (e : Endian) (size blocks b k j : ℕ) (base out : List ℕ) → 
 
 -- ---- new nodes
 
+-- what blocks of this size hold, each after its marker
+pub record IsStorable (e : Endian) (size : ℕ) (node : NodeRef) : Type 0 where
+  pub fits : Fits node
+  pub writable : IsTrue (is_writable node)
+  pub room : header_len + length (canonical e node) ≤ size
+
 -- what is written to a log with blocks of this size
 pub record IsLoggable (e : Endian) (size : ℕ) (node : NodeRef) : Type 0 where
   pub fits : Fits node
@@ -62,6 +68,14 @@ pub record AreLogged (e : Endian) (size blocks : ℕ) (base : List ℕ) (block :
   pub no_longer : length base ≤ blocks * size
   pub blank : AreBlankFrom e size base blocks block
   pub nodes : AllByRecursion (IsLoggable e size) new
+  pub room : IsTrue (fit size blocks (block * size) (map (canonical e) new))
+
+-- The same of nodes of any length, of which no cut is to be seen.
+pub record AreStored (e : Endian) (size blocks : ℕ) (base : List ℕ) (block : ℕ) (new : List NodeRef) : Type 0 where
+  pub size_is : IsTrue (is_block_size size)
+  pub no_longer : length base ≤ blocks * size
+  pub blank : AreBlankFrom e size base blocks block
+  pub nodes : AllByRecursion (IsStorable e size) new
   pub room : IsTrue (fit size blocks (block * size) (map (canonical e) new))
 
 -- no cut of a node goes unseen by its checks
@@ -131,13 +145,34 @@ LeftRefuses = (e : Endian) (size blocks block k : ℕ) (base image : List ℕ) (
 
 -- ---- without a cut
 
--- Then the nodes are the base's and all new ones, whether a cut of them would be seen or not,
+-- Then the nodes are the base's and all new ones, of any length, and whether a cut of them would be seen or not,
 abbrev pub WholeNodes : Type 0
-WholeNodes = (e : Endian) (size blocks block k : ℕ) (base image : List ℕ) (new : List NodeRef) → AreLogged e size blocks base block new
+WholeNodes = (e : Endian) (size blocks block k : ℕ) (base image : List ℕ) (new : List NodeRef) → AreStored e size blocks base block new
     → IsUncut e size block new k → IsLeftOf e size blocks base block new k image
     → nodes e size image ≡ nodes e size base ++ placed e size (block * size) new
 
 -- and the same refuses it.
 abbrev pub WholeRefuses : Type 0
-WholeRefuses = (e : Endian) (size blocks block k : ℕ) (base image : List ℕ) (new : List NodeRef) → AreLogged e size blocks base block new
+WholeRefuses = (e : Endian) (size blocks block k : ℕ) (base image : List ℕ) (new : List NodeRef) → AreStored e size blocks base block new
     → IsUncut e size block new k → IsLeftOf e size blocks base block new k image → RefusesAs e size base image
+
+-- ---- an image of nodes alone
+
+-- Nodes of any length, for which an erased flash has room.
+pub record AreStorable (e : Endian) (size blocks : ℕ) (new : List NodeRef) : Type 0 where
+  pub size_is : IsTrue (is_block_size size)
+  pub nodes : AllByRecursion (IsStorable e size) new
+  pub room : IsTrue (fit size blocks 0 (map (canonical e) new))
+
+-- The image ends within the flash, has these nodes in order at their places, and nothing in it refuses a scan or forbids
+-- to write after it.
+pub record IsImageOf (e : Endian) (size blocks : ℕ) (new : List NodeRef) (image : List ℕ) : Type 0 where
+  pub within : length image ≤ blocks * size
+  pub has : nodes e size image ≡ placed e size 0 new
+  pub none_refused : first_refused e size image ≡ None
+  pub writable : is_read_only e size image ≡ false
+
+-- What goes out for such nodes from the start of the flash on is an image of them.
+abbrev pub OutputIsImage : Type 0
+OutputIsImage = (e : Endian) (size blocks : ℕ) (new : List NodeRef) → AreStorable e size blocks new
+    → IsImageOf e size blocks new (output e size 0 (map (canonical e) new))

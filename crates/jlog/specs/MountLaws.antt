@@ -1,15 +1,17 @@
 -- Laws of mounting what is left. Each is a statement: it holds since a public function's contract names it.
-use Rattle.std.specs.Prelude.{◌≡◌, ℕ, ◌*◌, ◌≤◌, List, ◌++◌, map, take}
+use Rattle.std.specs.Prelude.{◌≡◌, ℕ, ◌*◌, ◌≤◌, IsTrue, List, ◌++◌, map, take}
 use Rattle.jnode.specs.Writing.{canonical}
 use Rattle.jnode.specs.declared.node.NodeRef.{NodeRef}
 use Rattle.jnode.specs.declared.order.Endian.{Endian}
 use Rattle.jscan.specs.Image.{greatest_image}
-use Rattle.jmount.specs.Mounts.{IsSound, plain_nodes}
+use Rattle.jmount.specs.Mounts.{IsSound, MountsAs, plain_nodes}
+use Rattle.jmount.specs.StateOf.{state_of}
+use Rattle.jmount.specs.Tree.{is_directory}
 use Rattle.jsteps.specs.Laws.{NoneClash}
 use Rattle.jlog.specs.Places.{places}
 use Rattle.jlog.specs.Output.{output}
 use Rattle.jlog.specs.Left.{count_whole}
-use Rattle.jlog.specs.LeftLaws.{AreLogged, NoneWeak, IsLeftOf, IsUncut}
+use Rattle.jlog.specs.LeftLaws.{AreLogged, AreStorable, NoneWeak, IsLeftOf, IsUncut}
 
 -- No two nodes of an image without a fault clash.
 abbrev pub SoundNodesAreApart : Type 0
@@ -40,3 +42,13 @@ abbrev pub WholeIsSound : Type 0
 WholeIsSound = (e : Endian) (size blocks block k : ℕ) (base image : List ℕ) (new : List NodeRef) → GoesOnSoundly e size blocks base block new
     → IsUncut e size block new k → IsLeftOf e size blocks base block new k image
     → IsSoundWith e size image (plain_nodes e size base ++ new)
+
+-- An image of nodes alone has no fault where no two of them clash, and it has these nodes,
+abbrev pub OutputIsSound : Type 0
+OutputIsSound = (e : Endian) (size blocks : ℕ) (new : List NodeRef) → AreStorable e size blocks new → blocks * size ≤ greatest_image → NoneClash new
+    → IsSoundWith e size (output e size 0 (map (canonical e) new)) new
+
+-- and where they make the root a directory it mounts as the file system that they make.
+abbrev pub OutputMounts : Type 0
+OutputMounts = (e : Endian) (size blocks : ℕ) (new : List NodeRef) → AreStorable e size blocks new → blocks * size ≤ greatest_image → NoneClash new
+    → IsTrue (is_directory (state_of new) 1) → MountsAs e size (output e size 0 (map (canonical e) new)) (state_of new)

@@ -1,5 +1,5 @@
 -- What contracts see of a session.
-use Rattle.std.specs.Prelude.{ℕ, ◌≤◌, Bool, IsFalse, List, ◌++◌, take, Option, Result}
+use Rattle.std.specs.Prelude.{◌≡◌, ℕ, ◌+◌, ◌≤◌, Bool, IsTrue, IsFalse, List, [], ◌++◌, take, slice_get, vec_capacity, option_map, Option, Result}
 use Rattle.byteorder.specs.declared.ByteOrder.{Ghosts as OfByteOrder}
 use Rattle.flashbase.specs.declared.sink.Sink.{Ghosts as OfSink}
 use Rattle.jnode.specs.declared.order.Order.{Ghosts as OfOrder}
@@ -13,7 +13,9 @@ use Rattle.jsteps.specs.declared.page.Page.{Page}
 use Rattle.jlog.specs.Session.{Applies, Runs, IsFresh, attempted}
 use Rattle.jlog.specs.Done.{GoesOnBy, SurvivesAfter, steps_on}
 use Rattle.jlog.specs.declared.fault.SessionFault.{SessionFault}
+use Rattle.jlog.specs.declared.fault.SessionFault.TheVariants as fault
 use Rattle.jlog.specs.declared.report.Place.{Place}
+use Rattle.jlog.specs.declared.report.RunReport.{RunReport}
 use Rattle.jlog.specs.declared.session.Session.{Session}
 
 module _ {E : Type 0} {S : Type 0} {order : OfOrder E} {numbers : OfByteOrder E} {sink : OfSink S} where
@@ -47,6 +49,10 @@ module _ {E : Type 0} {S : Type 0} {order : OfOrder E} {numbers : OfByteOrder E}
   abbrev pub sink_of : Session E S order numbers sink → S
   sink_of session = session.sink
 
+  -- its buffer holds the longest node: the fields of an inode node, and the bytes of a page
+  abbrev pub HoldsLongestNode : Session E S order numbers sink → Type 0
+  HoldsLongestNode session = page_size (page_of session) + 68 ≤ vec_capacity session.buffer
+
   -- it goes on from its base, as resuming gives it
   abbrev pub IsResumed : Session E S order numbers sink → Type 0
   IsResumed session = IsFresh order.order (block_size_of session) (blocks_of session) (base_of session) (cursor_of session) (index_of_log session)
@@ -64,6 +70,15 @@ module _ {E : Type 0} {S : Type 0} {order : OfOrder E} {numbers : OfByteOrder E}
       Runs (page_size (page_of old)) order.order (block_size_of old) (blocks_of old) (cursor_of old) (index_of_log old) ops (is_broken old)
       accepted (cursor_of new) (index_of_log new) (is_broken new)
       (sink.taken (sink_of old)) (sink.taken (sink_of new)) (sink.failures (sink_of old)) (sink.failures (sink_of new)) places stopped
+
+  -- A broken session does nothing: it accepts no operation, tells no place, and leaves its sink alone. The first operation,
+  -- where there is one, meets S6.
+  pub record IsHalted (old : Session E S order numbers sink) (ops : List Op) (new : Session E S order numbers sink) (report : RunReport) : Type 0 where
+    pub none_accepted : report.accepted ≡ 0
+    pub no_places : report.places.items ≡ []
+    pub same_sink : sink_of new ≡ sink_of old
+    pub broken : IsTrue (is_broken new)
+    pub stopped : report.stopped ≡ option_map (λ _. fault.Broken) (slice_get ops 0)
 
   -- Since it was resumed these operations were done, in whatever calls, and the session goes on after them.
   abbrev pub HasDone : Session E S order numbers sink → List Op → Type 0

@@ -1,9 +1,9 @@
 //! Laws of a log. Each function's contract is a law, and its body is empty.
 
 ghost use Rattle.jlog.specs.Laws.{PlaceIsLeast, PlacesAreLeast, OutputIsLong, OutputGoesOn, OneMoreGoesOut, IntactIsCounted, WholeIsBeginning, AllIsIntact, RoomGoesOn, EndIsWithin};
-ghost use Rattle.jlog.specs.LeftLaws.{PlacedAreNew, BaseStays, LeftIsWithin, LeftSightings, LeftNodes, LeftRefuses, WholeNodes, WholeRefuses, WrittenIsLeft, MarkerIsLeft, PlacesAreLeft};
+ghost use Rattle.jlog.specs.LeftLaws.{PlacedAreNew, BaseStays, LeftIsWithin, LeftSightings, LeftNodes, LeftRefuses, WholeNodes, WholeRefuses, WrittenIsLeft, MarkerIsLeft, PlacesAreLeft, OutputIsImage};
 ghost use Rattle.jlog.specs.Headline.{AcceptedSurvives};
-ghost use Rattle.jlog.specs.MountLaws.{SoundNodesAreApart, LeftIsSound, WholeIsSound};
+ghost use Rattle.jlog.specs.MountLaws.{SoundNodesAreApart, LeftIsSound, WholeIsSound, OutputIsSound, OutputMounts};
 
 /// A node goes to the least place, and each next one to the least after it.
 pub fn place_is_least()
@@ -72,7 +72,7 @@ pub fn left_refuses()
     ensures { LeftRefuses }
 {}
 
-/// Without a cut the nodes are the base's and all new ones, weak or not, and the same refuses.
+/// Without a cut the nodes are the base's and all new ones, weak or not and of any length, and the same refuses.
 pub fn left_whole()
     ensures nodes { WholeNodes }
     ensures refuses { WholeRefuses }
@@ -94,4 +94,12 @@ pub fn left_is_sound()
 /// system after the steps whose nodes stand whole.
 pub fn accepted_survives()
     ensures { AcceptedSurvives }
+{}
+
+/// What goes out for any nodes from the start of an erased flash on is an image of these nodes, at their places, that nothing
+/// refuses; and where no two clash and the root is a directory, it mounts as the file system that they make.
+pub fn output_mounts()
+    ensures image { OutputIsImage }
+    ensures sound { OutputIsSound }
+    ensures mounts { OutputMounts }
 {}

@@ -92,3 +92,35 @@ fn a_sink_that_fails_once(rt: HostRuntime) -> Result<(), Fail> {
     }
     Ok(())
 }
+
+/// Whether nothing was accepted and no place is told, and this stopped it.
+fn is_halted(report: &RunReport, stopped: Option<SessionFault>) -> bool {
+    report.accepted == 0 && report.places.is_empty() && report.stopped == stopped
+}
+
+/// Whether a session whose sink failed runs nothing more, though the sink would take it: neither operations nor none. Its sink
+/// holds so many bytes.
+fn stays_broken(alloc: Global, sink: Taker, taken: usize) -> Result<bool, Fail> {
+    let ops = ops_of(alloc, &CUT_LINES, BY)?;
+    let mounted = mount::<LittleEndian>(alloc, &[], GEOMETRY)?;
+    let mut session = Session::<LittleEndian, _>::resume(alloc, &mounted, GEOMETRY, 1, sink)?;
+    let first = session.run(alloc, &ops);
+    let is_stopped = first.stopped == Some(SessionFault::Sink)
+        && is_halted(&session.run(alloc, &[]), None)
+        && is_halted(&session.run(alloc, &ops), Some(SessionFault::Broken))
+        && is_halted(
+            &session.run(alloc, ops.get(..1).unwrap_or(&ops)),
+            Some(SessionFault::Broken),
+        );
+    let sink = session.finish();
+    Ok(is_stopped && sink.bytes.len() == taken && sink.failures == 1)
+}
+
+#[test]
+fn a_broken_session_runs_nothing(rt: HostRuntime) -> Result<(), Fail> {
+    for (calls, taken) in [(0, 0), (1, 7), (2, 12), (5, 33), (12, 80), (13, 87)] {
+        let sink = Taker::failing(rt.alloc(), 7, calls, calls % 2 == 0);
+        expect_at(&rt, stays_broken(rt.alloc(), sink, taken)?, calls);
+    }
+    Ok(())
+}
