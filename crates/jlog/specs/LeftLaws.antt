@@ -166,7 +166,7 @@ pub record AreStorable (e : Endian) (size blocks : ℕ) (new : List NodeRef) : T
 
 -- The image ends within the flash, has these nodes in order at their places, and nothing in it refuses a scan or forbids
 -- to write after it.
-pub record IsImageOf (e : Endian) (size blocks : ℕ) (new : List NodeRef) (image : List ℕ) : Type 0 where
+pub record IsImageOfNodes (e : Endian) (size blocks : ℕ) (new : List NodeRef) (image : List ℕ) : Type 0 where
   pub within : length image ≤ blocks * size
   pub has : nodes e size image ≡ placed e size 0 new
   pub none_refused : first_refused e size image ≡ None
@@ -175,4 +175,4 @@ pub record IsImageOf (e : Endian) (size blocks : ℕ) (new : List NodeRef) (imag
 -- What goes out for such nodes from the start of the flash on is an image of them.
 abbrev pub OutputIsImage : Type 0
 OutputIsImage = (e : Endian) (size blocks : ℕ) (new : List NodeRef) → AreStorable e size blocks new
-    → IsImageOf e size blocks new (output e size 0 (map (canonical e) new))
+    → IsImageOfNodes e size blocks new (output e size 0 (map (canonical e) new))
