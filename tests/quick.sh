@@ -244,6 +244,33 @@ d 0750 1000 100 0 1000000000 5 /home
 l 0777 0 0 12 1000000000 4 /name -> etc\\x2fhostname" ls flash.img
 gives 0 "hello flash" cat flash.img '/home/start\x20here'
 
+# ---- The manual page of section 5: its listing, and what is printed of the image that it makes
+
+# block TEXT: the block of the page that begins with this line
+block() {
+    awk -v first="$1" '
+        /^\.Ed/ { if (on) exit; fresh = 0 }
+        fresh && $0 == first { on = 1 }
+        { fresh = 0 }
+        on { gsub(/\\e/, "\\"); print }
+        /^\.Bd/ { fresh = 1 }
+    ' "$top/docs/jffs2_image.5"
+}
+block "time 1000000000" > tree.txt
+gives 0 "accepted 5 nodes 8 bytes 504" build --blocks 1 tree.txt flash.img
+gives 0 "$(block 'block 0')" check flash.img
+gives 0 "$(block 'd 0755 0 0 0 0 1 /')" ls flash.img
+mkdir -p folder/tree/etc
+printf 'box\n' > folder/tree/etc/hostname
+printf 'box\n' > "folder/tree/two words"
+ln -s etc/hostname folder/tree/name
+chmod 755 folder/tree folder/tree/etc
+chmod 644 folder/tree/etc/hostname "folder/tree/two words"
+found=$(cd folder && jffs2_image listing --owner 0 0 --time 1000000000 tree)
+wanted=$(sed -n '/^\.Ss What listing/,/^\.Ed/p' "$top/docs/jffs2_image.5" |
+    sed -n '/^\.Bd/,$ { /^\./d; s/\\e/\\/g; p; }')
+same "what listing prints" "$found" "$wanted"
+
 # What goes wrong in a listing is told with its line
 printf '# two directories of one name\nmkdir 0755 /d\nmkdir 0755 /d\n' > tree.txt
 gives 1 "jffs2_image: S1 Refused O5 Exists line 3" build --blocks 1 tree.txt flash.img
