@@ -1,9 +1,10 @@
 #!/usr/bin/env python3
 """Compares the shell completions with the command line of the program: tests/completions.py
 
-The commands, options and words are taken from where the program makes them (crates/jcommand/src/commands.rt), and the values
-that --endian and --page take from the help (help.rt). Each file in completions/ must offer each of them, and nothing else:
-jffs2_image.bash is run by bash, _jffs2_image (zsh) and jffs2_image.fish are read. The last line is 'N passed, M failed'.
+The commands, options and words are taken from where the program makes them, commands.rt in
+crates/jcommand/src, and the values of --endian and --page from its help, help.rt. Each file in
+completions/ must offer each of them, and nothing else: jffs2_image.bash is run by bash,
+_jffs2_image (zsh) and jffs2_image.fish are read. The last line is 'N passed, M failed'.
 """
 import collections
 import os
@@ -12,7 +13,7 @@ import subprocess
 import sys
 
 ROOT = os.path.dirname(os.path.dirname(os.path.abspath(__file__)))
-# what clap adds to each command, and to a program that has a version and commands
+# what clap adds to each command, and to a program with a version and commands
 HELP = {"-h", "--help"}
 VERSION = {"-V", "--version"}
 HELP_COMMAND = "help"
@@ -25,9 +26,10 @@ def text_of(*path):
 
 
 def commands_of_the_program():
-    """Returns each command by its name, with its options and its words in order. The program itself has the name ''."""
+    """Returns each command by its name, with its options, and its words in order. The program
+    itself has the name ''."""
     text = text_of("crates", "jcommand", "src", "commands.rt")
-    bodies = {name: body for name, body in re.findall(r"^(?:pub\(crate\) )?fn (\w+)(.*?)^}", text, re.M | re.S)}
+    bodies = dict(re.findall(r"^(?:pub\(crate\) )?fn (\w+)(.*?)^}", text, re.M | re.S))
     found = {}
     for body in bodies.values():
         named = re.search(r'\bmake_(?:plain|writer|named)\(alloc, "(\w+)"', body)
@@ -64,9 +66,15 @@ def values_of_the_program():
 
 def offered_by_bash(*words):
     """What the completion offers where the last of these words is to be completed."""
-    script = 'source "$0"; COMP_WORDS=(jffs2_image "$@"); COMP_CWORD=$#; _jffs2_image; printf "%s\\n" "${COMPREPLY[@]}"'
-    file = os.path.join(ROOT, "completions", "jffs2_image.bash")
-    done = subprocess.run(["bash", "-c", script, file, *words], capture_output=True, text=True, check=False)
+    script = """
+        source "$0"
+        COMP_WORDS=(jffs2_image "$@")
+        COMP_CWORD=$#
+        _jffs2_image
+        printf '%s\\n' "${COMPREPLY[@]}"
+    """
+    line = ["bash", "-c", script, os.path.join(ROOT, "completions", "jffs2_image.bash"), *words]
+    done = subprocess.run(line, capture_output=True, text=True, check=False)
     return set(done.stdout.split()) if not done.stderr else {done.stderr}
 
 
@@ -74,9 +82,10 @@ def look_into_bash(program, values):
     for name, command in program.items():
         front = [name] if name else []
         yield f"options of {name or 'the program'}", offered_by_bash(*front, "-"), command.options
-        places = [bool(offered_by_bash(*front, *"x" * place, "/")) for place in range(len(command.words) + 1)]
+        places = range(len(command.words) + 1)
+        offered = [bool(offered_by_bash(*front, *"x" * place, "/")) for place in places]
         files = [word != "PATH" for word in command.words] + [False]
-        yield f"files among the words of {name or 'the program'}", places, files
+        yield f"files among the words of {name or 'the program'}", offered, files
     yield "commands", offered_by_bash(""), set(program) - {""}
     yield "commands of help", offered_by_bash(HELP_COMMAND, ""), set(program) - {""}
     for option, wanted in values.items():
@@ -110,9 +119,10 @@ def look_into_zsh(program, values):
         if branch:
             yield f"options of {name}", flags_of_zsh(branch, lists), command.options
             words = re.findall(r"'\d:(\w+):", branch)
-            yield f"words of {name}", words, command.words or (["command"] if name == HELP_COMMAND else [])
+            yield f"words of {name}", words, ["command"] if name == HELP_COMMAND else command.words
     for option, wanted in values.items():
-        yield f"values of {option}", set(re.search(rf"'{option}=[^(]*\(([^)]*)\)", text)[1].split()), wanted
+        offered = re.search(rf"'{option}=[^(]*\(([^)]*)\)", text)[1].split()
+        yield f"values of {option}", set(offered), wanted
 
 
 def rows_of_fish():
@@ -121,7 +131,8 @@ def rows_of_fish():
     for row in re.findall(r"^complete -c jffs2_image (.*)$", text, re.M):
         words = [quoted or plain for quoted, plain in re.findall(r"'([^']*)'|(\S+)", row)]
         values = dict(zip(words, words[1:]))
-        yield values.get("-n", "").split(), {flag: values[flag] for flag in ("-a", "-l", "-s") if flag in values}
+        condition = values.pop("-n", "").split()
+        yield condition, {flag: values[flag] for flag in ("-a", "-l", "-s") if flag in values}
 
 
 def look_into_fish(program, values):
@@ -153,7 +164,8 @@ def look_into_fish(program, values):
 def main():
     program, values = commands_of_the_program(), values_of_the_program()
     counts = collections.Counter()
-    for shell, look in (("bash", look_into_bash), ("zsh", look_into_zsh), ("fish", look_into_fish)):
+    looks = (("bash", look_into_bash), ("zsh", look_into_zsh), ("fish", look_into_fish))
+    for shell, look in looks:
         for about, found, wanted in look(program, values):
             counts[found == wanted] += 1
             if found != wanted:
