@@ -1,0 +1,79 @@
+# Completion of jffs2_image for bash. Source this file, or copy it to
+# ~/.local/share/bash-completion/completions/jffs2_image.
+
+# The options of a command; of the program where there is none.
+_jffs2_image_options() {
+    local plain='--block --endian' write='--blocks --page' help='-h --help'
+    case $1 in
+        check) echo "$plain --scan --shape $help" ;;
+        ls | cat) echo "$plain $help" ;;
+        build | append) echo "$plain $write $help" ;;
+        extract) echo "$plain --owners --quiet $help" ;;
+        listing) echo "--owner --time --quiet $help" ;;
+        '') echo "$help -V --version" ;;
+    esac
+}
+
+# How many values an option takes.
+_jffs2_image_count() {
+    case $1 in
+        --owner) echo 2 ;;
+        --block | --endian | --blocks | --page | --time) echo 1 ;;
+        *) echo 0 ;;
+    esac
+}
+
+# The values that are offered for an option.
+_jffs2_image_values() {
+    case $1 in
+        --block) echo '4096 8192 16384 32768 65536 131072 262144' ;;
+        --endian) echo 'little big' ;;
+        --page) echo '4096 8192 16384' ;;
+    esac
+}
+
+# How `compgen` finds a command's word at this place, counted from 0.
+_jffs2_image_kind() {
+    case $1:$2 in
+        check:0 | ls:0 | cat:0 | build:[01] | append:[012] | extract:0) echo -f ;;
+        extract:1 | listing:0) echo -d ;;
+    esac
+}
+
+_jffs2_image() {
+    local commands='check ls cat build append extract listing help'
+    local current=${COMP_WORDS[COMP_CWORD]} command='' option='' place=0 values=0 word kind
+    # bash cuts --option=value into three words
+    for word in "${COMP_WORDS[@]:1:COMP_CWORD-1}"; do
+        if [[ $word == '=' ]]; then
+            continue
+        elif ((values > 0)); then
+            values=$((values - 1))
+        elif [[ $word == -* ]]; then
+            option=$word
+            values=$(_jffs2_image_count "$word")
+        elif [[ -z $command ]]; then
+            command=$word
+        else
+            place=$((place + 1))
+        fi
+    done
+    [[ $current != '=' ]] || current=''
+    COMPREPLY=()
+    if ((values > 0)); then
+        word=$(_jffs2_image_values "$option")
+    elif [[ $current == -* ]]; then
+        word=$(_jffs2_image_options "$command")
+    elif [[ -z $command || $command:$place == help:0 ]]; then
+        word=$commands
+    else
+        kind=$(_jffs2_image_kind "$command" "$place")
+        [[ -n $kind ]] || return 0
+        compopt -o filenames 2> /dev/null
+        mapfile -t COMPREPLY < <(compgen "$kind" -- "$current")
+        return 0
+    fi
+    mapfile -t COMPREPLY < <(compgen -W "$word" -- "$current")
+}
+
+complete -F _jffs2_image jffs2_image

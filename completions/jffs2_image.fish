@@ -1,0 +1,43 @@
+# Completion of jffs2_image for fish. Copy this file to ~/.config/fish/completions/jffs2_image.fish.
+
+# Whether the command is one of these.
+function __jffs2_image_in
+    __fish_seen_subcommand_from $argv
+end
+
+# The commands
+complete -c jffs2_image -n __fish_use_subcommand -f
+complete -c jffs2_image -n __fish_use_subcommand -a check -d 'Report, and whether it mounts'
+complete -c jffs2_image -n __fish_use_subcommand -a ls -d 'The tree, a line for each object'
+complete -c jffs2_image -n __fish_use_subcommand -a cat -d 'Bytes of a regular file'
+complete -c jffs2_image -n __fish_use_subcommand -a build -d 'Make an image by a listing'
+complete -c jffs2_image -n __fish_use_subcommand -a append -d 'Extend an image by a listing'
+complete -c jffs2_image -n __fish_use_subcommand -a extract -d 'Tree into a new folder'
+complete -c jffs2_image -n __fish_use_subcommand -a listing -d 'Listing of a folder'
+complete -c jffs2_image -n __fish_use_subcommand -a help -d 'Help of a command'
+complete -c jffs2_image -n '__jffs2_image_in help' -f \
+    -a 'check ls cat build append extract listing help'
+
+# Options of the program and of every command
+complete -c jffs2_image -n 'not __jffs2_image_in help' -s h -l help -d 'Print help'
+complete -c jffs2_image -n __fish_use_subcommand -s V -l version -d 'Print the version'
+
+# Options of several commands
+complete -c jffs2_image -n '__jffs2_image_in check ls cat build append extract' -l block -x \
+    -a '4096 8192 16384 32768 65536 131072 262144' -d 'Size of an erase block'
+complete -c jffs2_image -n '__jffs2_image_in check ls cat build append extract' -l endian -x \
+    -a 'little big' -d 'Byte order'
+complete -c jffs2_image -n '__jffs2_image_in build append' -l blocks -x -d 'Number of blocks'
+complete -c jffs2_image -n '__jffs2_image_in build append' -l page -x \
+    -a '4096 8192 16384' -d 'Largest piece of a file in one node'
+complete -c jffs2_image -n '__jffs2_image_in extract listing' -l quiet -d 'Tell no progress'
+
+# Options of one command
+complete -c jffs2_image -n '__jffs2_image_in check' -l scan -d 'Report alone, no mount'
+complete -c jffs2_image -n '__jffs2_image_in check' -l shape -d 'Whether the tree is one'
+complete -c jffs2_image -n '__jffs2_image_in extract' -l owners -d 'Owners of the image'
+complete -c jffs2_image -n '__jffs2_image_in listing' -l owner -x -d 'Owner and group'
+complete -c jffs2_image -n '__jffs2_image_in listing' -l time -x -d 'Time of everything'
+
+# Words: files, and folders for listing
+complete -c jffs2_image -n '__jffs2_image_in listing' -x -a '(__fish_complete_directories)'
