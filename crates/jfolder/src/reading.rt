@@ -146,12 +146,7 @@ fn leave_out_others<N: Sink>(
         return Ok(());
     }
     let unnamed = joined(alloc, directory, "")?;
-    leave_out(
-        notes,
-        left_out,
-        unnamed.as_bytes(),
-        Reason::Unnamed(others),
-    )
+    leave_out(notes, left_out, unnamed.as_bytes(), Reason::Unnamed(others))
 }
 
 /// The paths of these names in a directory, in byte order as the names are.

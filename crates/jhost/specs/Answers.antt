@@ -1,11 +1,11 @@
 -- What an answer of the system comes to.
 use Rattle.std.specs.Prelude.{Result, Ok, Err}
-use Rattle.std_io.specs.IoError.{error_kind}
-use Rattle.std_io.specs.declared.io.error.Error.{Error}
-use Rattle.std_io.specs.declared.io.kind.ErrorKind.{ErrorKind}
-use Rattle.std_io.specs.declared.io.kind.ErrorKind.TheVariants as kind
-use Rattle.flashbase.specs.declared.load.LoadFault.{LoadFault}
-use Rattle.flashbase.specs.declared.load.LoadFault.TheVariants as load
+use Rattle.std.specs.IoError.{error_kind}
+use Rattle.std.specs.declared.io.Error.{Error}
+use Rattle.std.specs.declared.io.ErrorKind.{ErrorKind}
+use Rattle.std.specs.declared.io.ErrorKind.TheVariants as kind
+use Rattle.flashbase.specs.declared.source.LoadFault.{LoadFault}
+use Rattle.flashbase.specs.declared.source.LoadFault.TheVariants as load
 use Rattle.jfolder.specs.declared.fault.FolderFault.{FolderFault}
 use Rattle.jfolder.specs.declared.fault.FolderFault.TheVariants as folder
 

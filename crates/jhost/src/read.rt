@@ -2,7 +2,7 @@
 
 ghost use Rattle.std.specs.Prelude.{◌≡◌, IfErr, IfOk};
 ghost use Rattle.std.specs.Fs.{metadata_len, metadata_mode};
-ghost use Rattle.std_io.specs.IoError.{error_kind};
+ghost use Rattle.std.specs.IoError.{error_kind};
 ghost use Rattle.jfolder.specs.Known.{nothing};
 ghost use Rattle.jhost.specs.Answers.{answer_of, fault_of_kind, fault_of_load};
 
