@@ -99,13 +99,13 @@ abbrev pub IsLong : Known → List ℕ → Type 0
 IsLong known path = IfSome (known.bytes path) (λ told. 67108864 < length told)
 
 -- the name of the file is a word, but the host does not open it
-abbrev pub IsUnopened : Known → List ℕ → Type 0
-IsUnopened known path = IfSome (known.host_path path) IsFileWord × MayAnswer (known.is_opened path) false
+abbrev pub IsNotOpened : Known → List ℕ → Type 0
+IsNotOpened known path = IfSome (known.host_path path) IsFileWord × MayAnswer (known.is_opened path) false
 
 abbrev pub IsContentWhy : Known → List ℕ → ℕ → Reason → Type 0
 IsContentWhy known path size reason.Large = 268435456 < size
 IsContentWhy known path size reason.LargeWritten = HasNoWord known path × ((67108864 < size) ⊎ IsLong known path)
-IsContentWhy known path size why = IsRefusal ((0 < size) × ((known.host_path path ≡ None) ⊎ (IsUnopened known path ⊎ (AsksBytes known path size × IsLong known path)))) why
+IsContentWhy known path size why = IsRefusal ((0 < size) × ((known.host_path path ≡ None) ⊎ (IsNotOpened known path ⊎ (AsksBytes known path size × IsLong known path)))) why
 
 -- the target is not known, or none that an image can have
 abbrev pub IsTargetWhy : Known → List ℕ → Reason → Type 0
