@@ -1,10 +1,11 @@
 //! A folder of the system that is read.
 
-ghost use Rattle.std.specs.Prelude.{◌≡◌, IfErr, IfOk};
+ghost use Rattle.std.specs.Prelude.{◌≡◌, ◌++◌, ◌∷◌, [], IfOk};
 ghost use Rattle.std.specs.Fs.{metadata_len, metadata_mode};
 ghost use Rattle.std.specs.IoError.{error_kind};
-ghost use Rattle.jfolder.specs.Known.{nothing};
+ghost use Rattle.jfolder.specs.Known.{named_of, nothing};
 ghost use Rattle.jhost.specs.Answers.{answer_of, fault_of_kind, fault_of_load};
+ghost use Rattle.jhost.specs.NamesRead.{AddsEntry};
 
 use crate::paths::joined;
 use crate::progress::Progress;
@@ -95,16 +96,26 @@ fn output_file<R: Files>(rt: &R) -> Option<(u64, u64)> {
     }
 }
 
+/// Adds a name that is text.
+fn push_name<R: AllocGlobal>(rt: &R, names: &mut Names, name: &str) -> Result<(), AllocError>
+    ensures { IfOk result (λ _. named_of names.new ≡ record { texts = (named_of names.old).texts ++ name.now ∷ []; others = names.old.others }) }
+{
+    let name = String::from_str(rt.alloc(), name)?;
+    names.texts.push(name)?;
+    Ok(())
+}
+
 /// Adds the name of an entry. One that is no text comes as an error of its own kind, and is counted.
 fn add_name<R: Files + AllocGlobal>(
     rt: &R,
     names: &mut Names,
     entry: io::Result<DirEntry<&R>>,
-) -> io::Result<()> {
+) -> io::Result<()>
+    ensures { AddsEntry (named_of names.old) (named_of names.new) entry result }
+{
     match entry {
         Ok(entry) => {
-            let name = String::from_str(rt.alloc(), entry.file_name())?;
-            names.texts.push(name)?;
+            push_name(rt, names, entry.file_name())?;
             Ok(())
         }
         Err(error) => {
