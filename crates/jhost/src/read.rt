@@ -1,11 +1,12 @@
 //! A folder of the system that is read.
 
-ghost use Rattle.std.specs.Prelude.{◌≡◌, ◌++◌, ◌∷◌, [], IfOk};
-ghost use Rattle.std.specs.Fs.{metadata_len, metadata_mode};
+ghost use Rattle.std.specs.Prelude.{◌≡◌, ◌++◌, ◌∷◌, [], IfErr, IfNone, IfOk, IfSome, IsOk, None};
+ghost use Rattle.std.specs.Fs.{IsFile, file_type, metadata_len, metadata_mode};
 ghost use Rattle.std.specs.IoError.{error_kind};
 ghost use Rattle.jfolder.specs.Known.{named_of, nothing};
 ghost use Rattle.jhost.specs.Answers.{answer_of, fault_of_kind, fault_of_load};
 ghost use Rattle.jhost.specs.NamesRead.{AddsEntry};
+ghost use Rattle.jhost.specs.ReadFolders.{read_root};
 
 use crate::paths::joined;
 use crate::progress::Progress;
@@ -80,7 +81,10 @@ fn looked_of(metadata: &Metadata) -> Looked
 }
 
 /// The device and the number of a regular file.
-fn file_of(metadata: &Metadata) -> Option<(u64, u64)> {
+fn file_of(metadata: &Metadata) -> Option<(u64, u64)>
+    ensures regular { IfSome result (λ _. IsFile (file_type metadata.now)) }
+    ensures other { IfNone result (IsFile (file_type metadata.now) → ⊥) }
+{
     if !metadata.is_file() {
         return None;
     }
@@ -142,7 +146,9 @@ fn names_in<R: Files + AllocGlobal>(rt: &R, path: &str) -> io::Result<Names> {
 
 impl<'r, R: Files + AllocGlobal + Clock + Eprint> ReadFolder<'r, R> {
     /// The folder of a path. It tells how far it is only where `tells`. The file that standard output is written to is not told.
-    pub fn new(rt: &'r R, path: &str, tells: bool) -> Result<Self, AllocError> {
+    pub fn new(rt: &'r R, path: &str, tells: bool) -> Result<Self, AllocError>
+        ensures { IfOk result (λ folder. read_root folder ≡ path.now) }
+    {
         Ok(ReadFolder {
             rt,
             root: String::from_str(rt.alloc(), path)?,
@@ -156,7 +162,12 @@ impl<'r, R: Files + AllocGlobal + Clock + Eprint> ReadFolder<'r, R> {
     }
 
     /// What the system tells of an object, unless it is the file that standard output is.
-    fn told(&self, metadata: &Metadata) -> Result<Looked, FolderFault> {
+    fn told(&self, metadata: &Metadata) -> Result<Looked, FolderFault>
+        ensures mode { IfOk result (λ it. it.mode ≡ metadata_mode metadata.now) }
+        ensures size { IfOk result (λ it. it.size ≡ metadata_len metadata.now) }
+        ensures output { IfErr result (λ fault. fault ≡ FolderFault.Output) }
+        ensures every { self.now.output ≡ None → IsOk result }
+    {
         if self.output.is_some() && file_of(metadata) == self.output {
             return Err(FolderFault::Output);
         }
