@@ -1,6 +1,6 @@
 -- A walk that leaves no name out silently.
-use Rattle.std.proofs.Common.{◌≡◌, ℕ, Bool, true, false, ◌+◌, ◌<◌, get_or, take, List, [], ◌∷◌, ◌++◌, length, refl, sym, ap, ◌∙◌, subst, append_assoc, append-nil, map, reverse, Option, None, Some}
-use Rattle.std.specs.Prelude.{IfSome, IsPermutation, String, ◌==◌, if◌then◌else◌}
+use Rattle.std.proofs.Common.{◌≡◌, ℕ, ◌+◌, ◌<◌, get_or, take, List, [], ◌∷◌, ◌++◌, length, refl, sym, ap, ◌∙◌, subst, append_assoc, append-nil, map, reverse, Option, None, Some}
+use Rattle.std.specs.Prelude.{IfSome, IsPermutation, String}
 use Rattle.std.specs.List.{All, flat_map}
 use Rattle.std.specs.String.{string_bytes}
 use Rattle.std.specs.declared.alloc.Global.{Global}
@@ -65,14 +65,6 @@ passed_by P Q L p =
 map_twice : (f : List ℕ → List ℕ) (names : List (String Global)) → map f (texts names) ≡ map (λ (n : String Global). f (string_bytes n)) names
 map_twice f [] = refl
 map_twice f (n ∷ names) = ap (λ (l : Paths). f (string_bytes n) ∷ l) (map_twice f names)
-
-pub none_unnamed : (directory : List ℕ) (others : ℕ) → others == 0 ≡ true → left_paths [] ≡ unnamed_paths directory others
-none_unnamed directory others is = sym (ap (λ (b : Bool). if b then [] else child directory [] ∷ []) is)
-
-pub one_unnamed : (directory path : List ℕ) (others : ℕ) (why : Reason) (lefts : List LeftOut) → others == 0 ≡ false → path ≡ child directory [] → lefts ≡ (path, why) ∷ []
-    → left_paths lefts ≡ unnamed_paths directory others
-one_unnamed directory path others why lefts is same these =
-    ap left_paths these ∙ ap (λ (p : List ℕ). p ∷ []) same ∙ sym (ap (λ (b : Bool). if b then [] else child directory [] ∷ []) is)
 
 pub child_pushed : (old new : List (String Global)) (p : String Global) (path : List ℕ) → new ≡ old ++ p ∷ [] → string_bytes p ≡ path → texts old ++ path ∷ [] ≡ texts new ++ []
 child_pushed old new p path more is =

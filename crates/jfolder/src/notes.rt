@@ -57,7 +57,6 @@ pub fn leave_out<N: Sink>(
 }
 
 /// Puts the line of a folder that is not read.
-#[tactic(auto, unfolding(crate::specs::Notes::not_listed_line))]
 fn put_not_listed<N: Sink>(notes: &mut N, reason: Reason) -> Result<(), DeviceFault>
     ensures { Puts (N.taken notes.old) (N.taken notes.new) (N.failures notes.old) (N.failures notes.new) (not_listed_line reason) result }
 {
