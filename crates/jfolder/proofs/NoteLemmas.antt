@@ -1,5 +1,5 @@
 -- What is told, part after part.
-use Rattle.std.proofs.Common.{◌≡◌, ℕ, ◌+◌, ◌%◌, ◌^◌, ◌<◌, List, [], ◌++◌, length, length-append, refl, sym, ap, ◌∙◌, subst, arith, Option, Result, Ok, Err, inl, inr}
+use Rattle.std.proofs.Common.{◌≡◌, ℕ, ◌+◌, ◌%◌, ◌^◌, ◌<◌, List, [], ◌++◌, length, length-append, refl, sym, ap, ◌∙◌, subst, arith, Option, Result, Ok, Err, inl}
 use Rattle.std.specs.Io.KnownBytes.{Appends}
 use Rattle.std.proofs.KnownBytes.{Appends-nil, Appends-trans}
 use Rattle.std.proofs.lemmas.Grind.{flat_map-append}
@@ -7,13 +7,11 @@ use Rattle.flashbase.specs.Device.{PutsPart, next_count}
 use Rattle.flashbase.proofs.DeviceLemmas.{part_behind}
 use Rattle.jfolder.specs.Complete.{LeftOut}
 use Rattle.jfolder.specs.Known.{Known}
-use Rattle.jfolder.specs.Notes.{Tells, TellsMore, TellsWhy, left_out_line, left_out_text, not_listed_line}
-use Rattle.jfolder.specs.Reasons.{IsRootWhy}
+use Rattle.jfolder.specs.Notes.{Tells, TellsMore, left_out_line, left_out_text}
 use Rattle.jfolder.specs.declared.fault.ReadFault.{ReadFault}
 use Rattle.jfolder.specs.declared.fault.ReadFault.TheVariants as fault
 use Rattle.jfolder.specs.declared.found.Options.{Options}
 use Rattle.jfolder.specs.declared.reading.Folder.{Folder}
-use Rattle.jfolder.specs.declared.reason.Reason.{Reason}
 
 -- all of what is told up to here went out
 abbrev pub Told : (List LeftOut → Type 0) → Option (List ℕ) → Option (List ℕ) → ℕ → ℕ → ℕ → ℕ → Type 0
@@ -100,11 +98,3 @@ pub read_failed : (X : Type 0) (G : X → List LeftOut → Type 0) (known : Know
     → TellsMore G a b x y k m (Err e) → Tells known options a b x y r
 read_failed X G known options a b x y k m e v r is same p =
     subst (λ (s : Result Folder ReadFault). Tells known options a b x y s) (sym (is ∙ ap (λ (f : ReadFault). Err f) same)) (read_failed_at X G known options a b x y k m e p)
-
--- the folder itself is not read
-pub not_listed : (known : Known) (options : Options) (a b : Option (List ℕ)) (x y : ℕ) (why : Reason) (e : ReadFault) → IsRootWhy known options why → TellsWhy why a b x y e
-    → Tells known options a b x y (Err e)
-not_listed known options a b x y why (fault.Folder told) right p =
-    (subst (λ (w : Reason). Appends a b (not_listed_line w)) (sym p.0) p.1, p.2, subst (IsRootWhy known options) (sym p.0) right)
-not_listed known options a b x y why fault.Notes right p = (inr (why, p.0, right), p.1)
-not_listed known options a b x y why fault.OutOfMemory right p = absurd p
