@@ -115,7 +115,7 @@ fn add_name<R: Files + AllocGlobal>(
     names: &mut Names,
     entry: io::Result<DirEntry<&R>>,
 ) -> io::Result<()>
-    ensures { AddsEntry (named_of names.old) (named_of names.new) entry result }
+    ensures { AddsEntry (named_of names.old) (named_of names.new) entry.entry result }
 {
     match entry {
         Ok(entry) => {
