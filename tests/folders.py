@@ -14,6 +14,7 @@ import socket
 import stat
 import subprocess
 import sys
+import time
 
 import hostile_images as images
 from groups import PROGRAM, Done, run_all, verdict, write
@@ -111,13 +112,10 @@ def with_settings():
     for words in (["--owner", "1"], ["--owner", "1", "65536"], ["--owner", "1", "x"], ["--time", "4294967296"], ["--time", ""]):
         done = run("listing", *words, "plain/tree")
         verdict(f"wrong settings {words}", done.status == 2 and done.out == b"", done)
-    done = run("listing", "no such folder")
-    verdict("a folder that is not there", done == Done(1, b"", b"jffs2_image: P1 File no such folder\n"), done)
-    done = run("listing", "plain/tree.txt")
-    verdict("a file is no folder", done == Done(1, b"", b"jffs2_image: P1 File plain/tree.txt\n"), done)
     os.symlink("plain/tree", "way")
-    done = run("listing", "way")
-    verdict("a symlink is no folder", done.status == 1 and done.out == b"", done)
+    for name, why in (("no such folder", "the host refused it"), ("plain/tree.txt", "no directory"), ("way", "a symlink, which is not followed")):
+        done = run("listing", name)
+        verdict(f"no folder: {name}", done == Done(1, b"", f"not listed: {why}\njffs2_image: P1 File {name}\n".encode()), done)
 
 
 def what_a_listing_cannot_say():
@@ -128,14 +126,16 @@ def what_a_listing_cannot_say():
     unix = socket.socket(socket.AF_UNIX)
     unix.bind("odd/socket")
     write("odd/" + "n" * 255, b"")
-    write(b"odd/\xff", b"")
+    for name in (b"odd/\xff", b"odd/\xfe", b"odd/x\x80", b"odd/in/\xff"):
+        write(name, b"")
     write("odd/old", b"")
     os.utime("odd/old", (0, -1))
     write("odd/late", b"")
     os.utime("odd/late", (0, 1 << 32))
-    with open("odd/sparse", "wb") as file:
-        file.truncate(0x80000000)
-    wanted = {b"/fifo", b"/socket", b"/" + b"n" * 255, b"/", b"/old", b"/late", b"/sparse"}
+    for name, size in (("sparse", 268435457), ("a sparse", 67108865)):
+        with open(f"odd/{name}", "wb") as file:
+            file.truncate(size)
+    wanted = {b"/fifo", b"/socket", b"/" + b"n" * 255, b"/", b"/in/", b"/old", b"/late", b"/sparse", b"/a\\x20sparse"}
     if IS_ROOT:
         write("odd/owned", b"")
         os.chown("odd/owned", 65536, 0)
@@ -146,6 +146,10 @@ def what_a_listing_cannot_say():
     verdict("what a listing can't say", done.status == 3 and set(told) == wanted and len(told) == len(wanted), done)
     made = [line for line in done.out.split(b"\n") if line.split(b" ")[0] in (b"create", b"mkdir")]
     verdict("the rest is listed", made == [b"mkdir 755 /in", b"create 644 /kept"], done)
+    lines = done.err.splitlines()
+    verdict("names that are no text are counted", {b"left out /: names that are no text: 3", b"left out /in/: names that are no text: 1"} <= set(lines), done)
+    too_long = (b"left out /sparse: more than 268435456 bytes", b"left out /a\\x20sparse: more than 67108864 bytes, and a space or a line feed in its path")
+    verdict("files that no listing can have", set(too_long) <= set(lines), done)
     done = run("listing", "--owner", "0", "0", "--time", "0", "odd")
     verdict("settings say what the host can't", b"/old" in done.out and b"/late" in done.out and done.status == 3, done)
     unix.close()
@@ -255,7 +259,9 @@ def what_the_host_refuses():
         err = child.stderr.read()
     is_told = err == b"left out /b: the host refused it\n"
     verdict("a file that the host does not take", child.returncode == 3 and is_told, Done(child.returncode, b"", err))
-    verdict("the rest goes on", os.path.getsize("small/c") == 2000)
+    torn = os.lstat("small/b")
+    verdict("it is for its owner alone", stat.S_IMODE(torn.st_mode) == 0o600 and torn.st_size <= 3000)
+    verdict("the rest goes on", os.path.getsize("small/c") == 2000 and stat.S_IMODE(os.lstat("small/c").st_mode) == 0o644)
 
 
 def on_a_terminal():
@@ -276,10 +282,128 @@ def on_a_terminal():
         shutil.rmtree(name)
 
 
+def owners_and_times():
+    """An owner unlike its group, and a time of reading unlike that of the last change."""
+    os.mkdir("two")
+    write("two/a", b"a")
+    os.utime("two/a", (5, 7))
+    if IS_ROOT:
+        os.chown("two/a", 1000, 1001)
+    is_ = os.lstat("two/a")
+    done = run("listing", "two")
+    wanted = f"create 644 /a\npart /a 0 two/a\n".encode()
+    verdict("the time of the last change", b"\ntime 7\n" in done.out and done.out.endswith(wanted), done)
+    verdict("the owner and the group", f"\nowner {is_.st_uid} {is_.st_gid}\n".encode() in done.out or (is_.st_uid, is_.st_gid) == (0, 0), done)
+    listing = "create 644 /a\nattr 640 1000 1001 5 7 /a\nmkdir 755 /d\nattr 750 1002 1003 8 9 /d\n"
+    write("two.txt", listing)
+    done = run("build", "--blocks", "1", "two.txt", "two.img")
+    verdict("two owners and two times are built", done.status == 0, done)
+    done = run("extract", *(["--owners"] if IS_ROOT else []), "two.img", "two.back")
+    verdict("and extracted", done == Done(0, b"", b""), done)
+    for path, mode, owner, times in (("a", 0o640, (1000, 1001), (5, 7)), ("d", 0o750, (1002, 1003), (8, 9))):
+        is_ = os.lstat(f"two.back/{path}")
+        verdict(f"the times of {path}", (is_.st_atime, is_.st_mtime) == times)
+        verdict(f"the permissions of {path}", stat.S_IMODE(is_.st_mode) == mode)
+        verdict(f"the owners of {path}", (is_.st_uid, is_.st_gid) == owner or not IS_ROOT)
+
+
+def mounted(*places):
+    """Mounts an empty file system at each place. Answers whether that went."""
+    return all([subprocess.run(["mount", "-t", "tmpfs", "tmpfs", place], capture_output=True, check=False).returncode == 0 for place in places])
+
+
+def on_two_file_systems():
+    """Files of one number on two file systems are no links of one another."""
+    os.makedirs("disks/a")
+    os.makedirs("disks/b")
+    if not IS_ROOT or not mounted("disks/a", "disks/b"):
+        print("on_two_file_systems: left out, since nothing can be mounted here", flush=True)
+        subprocess.run(["umount", "disks/a"], capture_output=True, check=False)
+        return
+    try:
+        for place in ("a", "b"):
+            write(f"disks/{place}/x", place)
+            os.link(f"disks/{place}/x", f"disks/{place}/y")
+        numbers = [os.lstat(f"disks/{place}/x") for place in ("a", "b")]
+        verdict("they have one number", numbers[0].st_ino == numbers[1].st_ino and numbers[0].st_dev != numbers[1].st_dev)
+        done = run("listing", "--owner", "0", "0", "--time", "0", "disks")
+        wanted = [line for place in ("a", "b") for line in (f"create 644 /{place}/x", f"part /{place}/x 0 disks/{place}/x", f"link /{place}/x /{place}/y")]
+        told = [line for line in done.out.decode().splitlines() if line.split(" ")[0] in ("create", "part", "link")]
+        verdict("each has its own content and links", done.status == 0 and told == wanted, done)
+    finally:
+        subprocess.run(["umount", "disks/a", "disks/b"], check=True)
+
+
+def may_not_be_read():
+    """What the user may not read is told, and has no line that `build` fails at."""
+    os.makedirs("secret/hidden")
+    for name, content, mode in (("closed", b"x", 0), ("none", b"", 0), ("open", b"o", 0o644)):
+        write(f"secret/{name}", content)
+        os.chmod(f"secret/{name}", mode)
+    os.chmod("secret/hidden", 0)
+    os.chmod(".", 0o755)
+    other = {"user": 65534, "group": 65534, "extra_groups": []} if IS_ROOT else {}
+    words = ["listing", "--owner", "0", "0", "--time", "0", "secret"]
+    try:
+        done = run(*words, stdout=subprocess.PIPE, stderr=subprocess.PIPE, **other)
+    except PermissionError:
+        print("may_not_be_read: left out, since another user can't run the program here", flush=True)
+        return
+    left_out = b"left out /closed: the host refused it\nleft out /hidden: the host refused it\n"
+    verdict("it is told", (done.status, done.err) == (3, left_out), done)
+    rest = b"create 0 /none\ncreate 644 /open\npart /open 0 secret/open\n"
+    verdict("the rest is listed", done.out.endswith(rest) and b"closed" not in done.out, done)
+    write("secret.txt", done.out)
+    done = run("build", "--blocks", "1", "secret.txt", "secret.img", stdout=subprocess.PIPE, stderr=subprocess.PIPE)
+    verdict("the listing builds", done.status == 0, done)
+    os.chmod("secret/hidden", 0o700)
+
+
+def into_itself():
+    """The listing that is written into the folder is not in it."""
+    os.mkdir("self")
+    write("self/a", b"a")
+    for name in ("tree.txt", "a space"):
+        with open(f"self/{name}", "wb") as out:
+            done = run("listing", "--owner", "0", "0", "--time", "0", "self", stdout=out, stderr=subprocess.PIPE)
+        with open(f"self/{name}", "rb") as file:
+            listed = file.read()
+        told = name.replace(" ", "\\x20").encode()
+        verdict(f"it leaves itself out: {name}", (done.status, done.err) == (3, b"left out /" + told + b": the listing itself\n"), done)
+        verdict(f"the rest is there: {name}", b"part /a 0 self/a\n" in listed and told not in listed)
+        os.remove(f"self/{name}")
+
+
+def in_a_race():
+    """What another puts into the new folder while it is filled is not gone through, and stays."""
+    # The lines of 500 names fill the pipe, which is not read until the names at which the others stand are taken.
+    slashed = [(b"a/%03d" % k + b"n" * 240, 0o100644, b"") for k in range(500)]
+    nodes = files(*slashed, (b"y", DIRECTORY, b""), (b"z", 0o100644, b"new"))
+    write("race.img", laid([nodes, entry(502, 1, 900, b"in"), inode(900, 1, 0, 2, b"in")]))
+    os.mkdir("elsewhere.d")
+    write("elsewhere.f", b"old")
+    with subprocess.Popen([PROGRAM, "extract", "race.img", "race"], stdin=subprocess.DEVNULL, stdout=subprocess.DEVNULL, stderr=subprocess.PIPE) as child:
+        while not os.path.isdir("race") and child.poll() is None:
+            time.sleep(0.01)
+        os.symlink("../elsewhere.d", "race/y")
+        os.symlink("../elsewhere.f", "race/z")
+        err = child.stderr.read()
+    done = Done(child.returncode, b"", err)
+    verdict("names that are taken are told", done.status == 3 and err.endswith(b"left out /y: the host refused it\nleft out /z: the host refused it\n"), done)
+    with open("elsewhere.f", "rb") as file:
+        verdict("nothing goes through them", file.read() == b"old" and os.listdir("elsewhere.d") == [])
+    verdict("they stay", os.readlink("race/y") == "../elsewhere.d" and os.readlink("race/z") == "../elsewhere.f")
+
+
 GROUPS = (
     there_and_back,
     with_settings,
     what_a_listing_cannot_say,
+    owners_and_times,
+    on_two_file_systems,
+    may_not_be_read,
+    into_itself,
+    in_a_race,
     whatever_the_image_says,
     deep_and_long,
     in_the_way,

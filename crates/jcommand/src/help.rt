@@ -243,7 +243,7 @@ a line feed, which no such line can name, has its bytes in lines 'write'.
 Hard links become lines 'link'. Symlinks are never followed. With --owner and --time the
 listing is the same whoever makes it and whenever. What a listing can't say is left out,
 each with a line 'left out PATH: REASON' on standard error: sockets, FIFOs and devices,
-names above 254 bytes or that are no text, files above 2147483647 bytes, owners above
+names above 254 bytes or that are no text, files above 268435456 bytes, owners above
 65535 and times that 32 bits do not hold. The rest goes on.
 
 Examples:

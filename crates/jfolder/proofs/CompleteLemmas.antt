@@ -1,14 +1,14 @@
 -- A walk that leaves no name out silently.
-use Rattle.std.proofs.Common.{◌≡◌, ℕ, ◌+◌, ◌<◌, get_or, take, List, [], ◌∷◌, ◌++◌, length, refl, sym, ap, ◌∙◌, subst, append_assoc, append-nil, map, replicate, reverse, Option, None, Some}
+use Rattle.std.proofs.Common.{◌≡◌, ℕ, ◌+◌, ◌<◌, get_or, take, List, [], ◌∷◌, ◌++◌, length, refl, sym, ap, ◌∙◌, subst, append_assoc, append-nil, map, reverse, Option, None, Some}
 use Rattle.std.specs.Prelude.{IfSome, IsPermutation, String}
 use Rattle.std.specs.List.{All, flat_map}
 use Rattle.std.specs.String.{string_bytes}
 use Rattle.std.specs.declared.alloc.Global.{Global}
 use Rattle.std.proofs.lemmas.Grind.{flat_map-append}
-use Rattle.std.proofs.lemmas.List.{map-append, map_more, replicate_more}
+use Rattle.std.proofs.lemmas.List.{map-append, map_more}
 use Rattle.std.proofs.lemmas.List.Elements.{All-append, All-nil, All-push}
 use Rattle.std.proofs.lemmas.List.Sorted.{IsPermutation-append_comm, IsPermutation-append_left, IsPermutation-append_right, IsPermutation-map, IsPermutation-refl, IsPermutation-reverse, IsPermutation-sym, IsPermutation-to_front, IsPermutation-trans}
-use Rattle.jfolder.specs.Complete.{Covers, StaysCovered, IsComplete, IsNamed, LeftOut, NamesFit, Opened, child, children, children_of, listed_directories, item_paths, left_paths, path_if_directory}
+use Rattle.jfolder.specs.Complete.{Covers, StaysCovered, IsComplete, IsNamed, LeftOut, NamesFit, Opened, child, children, children_of, listed_directories, item_paths, left_paths, path_if_directory, unnamed_paths}
 use Rattle.jfolder.specs.Known.{Known, inside, named_of}
 use Rattle.jfolder.specs.Walking.{item_of}
 use Rattle.jfolder.specs.declared.found.Found.{Found}
@@ -66,14 +66,6 @@ map_twice : (f : List ℕ → List ℕ) (names : List (String Global)) → map f
 map_twice f [] = refl
 map_twice f (n ∷ names) = ap (λ (l : Paths). f (string_bytes n) ∷ l) (map_twice f names)
 
-pub unnamed_more : (before more : List LeftOut) (count : ℕ) (path : List ℕ) (why : Reason) → left_paths before ≡ replicate count path → more ≡ (path, why) ∷ []
-    → left_paths (before ++ more) ≡ replicate (count + 1) path
-unnamed_more before more count path why those these =
-    map-append (λ (left : LeftOut). left.0) before more
-    ∙ ap (λ (l : Paths). l ++ left_paths more) those
-    ∙ ap (λ (l : List LeftOut). replicate count path ++ left_paths l) these
-    ∙ replicate_more count path
-
 pub child_pushed : (old new : List (String Global)) (p : String Global) (path : List ℕ) → new ≡ old ++ p ∷ [] → string_bytes p ≡ path → texts old ++ path ∷ [] ≡ texts new ++ []
 child_pushed old new p path more is =
     ap (λ (l : List ℕ). texts old ++ l ∷ []) (sym is) ∙ sym (map-append (λ (q : String Global). string_bytes q) old (p ∷ [])) ∙ ap texts (sym more) ∙ sym (append-nil (texts new))
@@ -104,11 +96,11 @@ paths_more path_of names i n old new before more within is given same =
 
 -- names in another order, and how many others there are
 pub children_told : (directory : List ℕ) (names sorted : List (String Global)) (others : ℕ) (paths : Paths) (first then : List LeftOut) → IsPermutation names sorted
-    → left_paths first ≡ replicate others (child directory []) → IsPermutation (map (λ (n : String Global). child directory (string_bytes n)) sorted) (paths ++ left_paths then)
-    → IsPermutation (map (child directory) (texts names) ++ replicate others (child directory [])) (paths ++ left_paths (first ++ then))
+    → left_paths first ≡ unnamed_paths directory others → IsPermutation (map (λ (n : String Global). child directory (string_bytes n)) sorted) (paths ++ left_paths then)
+    → IsPermutation (map (child directory) (texts names) ++ unnamed_paths directory others) (paths ++ left_paths (first ++ then))
 children_told directory names sorted others paths first then order unnamed named =
     let X = map (child directory) (texts names) in
-    let R = replicate others (child directory []) in
+    let R = unnamed_paths directory others in
     let T = left_paths then in
     let sorts : IsPermutation X (paths ++ T) =
     subst (λ (xs : Paths). IsPermutation xs (paths ++ T)) (sym (map_twice (child directory) names))

@@ -1,5 +1,5 @@
 -- What is told, part after part.
-use Rattle.std.proofs.Common.{◌≡◌, ℕ, ◌+◌, ◌%◌, ◌^◌, ◌<◌, List, [], ◌++◌, length, length-append, refl, sym, ap, ◌∙◌, subst, arith, Option, Result, Ok, Err}
+use Rattle.std.proofs.Common.{◌≡◌, ℕ, ◌+◌, ◌%◌, ◌^◌, ◌<◌, List, [], ◌++◌, length, length-append, refl, sym, ap, ◌∙◌, subst, arith, Option, Result, Ok, Err, inl}
 use Rattle.std.specs.Io.KnownBytes.{Appends}
 use Rattle.std.proofs.KnownBytes.{Appends-nil, Appends-trans}
 use Rattle.std.proofs.lemmas.Grind.{flat_map-append}
@@ -90,7 +90,7 @@ told_same F G a b x y j k m n e f follows p =
 
 read_failed_at : (X : Type 0) (G : X → List LeftOut → Type 0) (known : Known) (options : Options) (a b : Option (List ℕ)) (x y k m : ℕ) (e : ReadFault) → TellsMore G a b x y k m (Err e)
     → Tells known options a b x y (Err e)
-read_failed_at X G known options a b x y k m fault.Notes p = p
+read_failed_at X G known options a b x y k m fault.Notes p = (inl p.0, p.1)
 read_failed_at X G known options a b x y k m (fault.Folder why) p = absurd p
 read_failed_at X G known options a b x y k m fault.OutOfMemory p = p
 

@@ -8,7 +8,7 @@ use Rattle.std.specs.declared.alloc.Global.{Global}
 use Rattle.std.proofs.lemmas.Bool.{false≢true}
 use Rattle.std.proofs.lemmas.List.Elements.{All-append, All-cons, All-contains, All-map, All-nil, All-pop, All-push, All-same, All-weaker}
 use Rattle.jfolder.specs.Actions.{AttributesFit, IsRooted, ItemFits, WhatFits}
-use Rattle.jfolder.specs.Known.{Known, inside}
+use Rattle.jfolder.specs.Known.{Known, MayAnswer, inside}
 use Rattle.jfolder.specs.Objects.{AreOne, HasObject, IsObjectTold, IsOfKind, LinkLeadsTo, kind_bits}
 use Rattle.jfolder.specs.Trees.{HasTarget, IsRegular, IsTree, LinksBack, MayFollow, Rise}
 use Rattle.jfolder.specs.Walking.{FoundFits, HasOptions, IsChild, IsFileOf, IsItemTold, IsPending, IsTold, IsToldAt, WalkFits, comes_next, item_of}
@@ -51,10 +51,11 @@ leads_at (Some k) (Some other) it same one = subst (λ (l : Looked). AreOne othe
 
 -- it leads to the object that is told at its first path
 pub link_object : (known : Known) (path : List ℕ) (it : Looked) (r : Result Found Skip) (first : String Global) (text : List ℕ) → IfSome (known.looked path) (λ k. it ≡ k)
-    → IfSome (known.looked (inside text)) (λ told. AreOne told it) → string_bytes first ≡ text → IfOk r (λ found. found.what ≡ what.Link first) → IfOk r (λ found. HasObject known path found.what)
-link_object known path it (Err e) first text same one is link = tt
-link_object known path it (Ok found) first text same one is link =
-    subst (HasObject known path) (sym link) (subst (LinkLeadsTo known path) (sym is) (leads_at (known.looked path) (known.looked (inside text)) it same one))
+    → IfSome (known.looked (inside text)) (λ told. AreOne told it) → MayAnswer (known.is_told (inside text)) true
+    → string_bytes first ≡ text → IfOk r (λ found. found.what ≡ what.Link first) → IfOk r (λ found. HasObject known path found.what)
+link_object known path it (Err e) first text same one seen is link = tt
+link_object known path it (Ok found) first text same one seen is link =
+    subst (HasObject known path) (sym link) (subst (LinkLeadsTo known path) (sym is) (leads_at (known.looked path) (known.looked (inside text)) it same one, seen))
 
 pub file_of : (items given : List Item) (k : ℕ) (i : Item) (bytes : Content) (text : List ℕ) → given ≡ items → k < length given → i ≡ get_or given k i
     → i.what ≡ what.Regular bytes → text ≡ path_of i → IsFileOf items text

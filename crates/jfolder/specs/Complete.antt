@@ -1,5 +1,5 @@
 -- Each name that the host tells is read or left out.
-use Rattle.std.specs.Prelude.{◌≡◌, ◌++◌, ◌∷◌, [], ℕ, List, map, replicate, All, IfSome, IsPermutation, Option, Some, None, ⊤}
+use Rattle.std.specs.Prelude.{◌≡◌, ◌==◌, ◌++◌, ◌∷◌, [], ℕ, List, map, All, IfSome, IsPermutation, Option, Some, None, ⊤, if◌then◌else◌}
 use Rattle.std.specs.List.{flat_map}
 use Rattle.std.specs.String.{string_bytes}
 use Rattle.jfolder.specs.Known.{Known, Named, inside, named_of}
@@ -25,9 +25,13 @@ item_paths items = map (λ i. string_bytes i.path) items
 abbrev pub child : List ℕ → List ℕ → List ℕ
 child directory name = directory ++ 47 ∷ name
 
--- the path of each name in the directory of this path: that of the empty name for each one that is no text
+-- the path that stands for all names in a directory that are no text, if there are any: that of the empty name
+abbrev pub unnamed_paths : List ℕ → ℕ → List (List ℕ)
+unnamed_paths directory others = if others == 0 then [] else child directory [] ∷ []
+
+-- the path of each name in the directory of this path
 abbrev pub children : List ℕ → Named → List (List ℕ)
-children directory names = map (child directory) names.texts ++ replicate names.others (child directory [])
+children directory names = map (child directory) names.texts ++ unnamed_paths directory names.others
 
 -- ---- directories
 

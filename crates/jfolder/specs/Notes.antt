@@ -1,5 +1,5 @@
 -- What is told of what a listing leaves out.
-use Rattle.std.specs.Prelude.{◌≡◌, ◌+◌, ◌%◌, ◌^◌, ℕ, List, ◌++◌, length, codes, All, Option, Result, Ok, Err}
+use Rattle.std.specs.Prelude.{◌≡◌, ◌+◌, ◌%◌, ◌^◌, ℕ, List, ◌++◌, [], ◌⊎◌, length, codes, decimal, All, Option, Result, Ok, Err}
 use Rattle.std.specs.List.{flat_map}
 use Rattle.std.specs.Io.KnownBytes.{Appends}
 use Rattle.flashbase.specs.Device.{PutsPart, next_count}
@@ -17,6 +17,8 @@ use Rattle.jfolder.specs.declared.reason.Reason.TheVariants as reason
 unfoldable pub reason_text : Reason → List ℕ
 reason_text reason.Refused = codes "the host refused it"
 reason_text reason.NoText = codes "no text"
+reason_text reason.Output = codes "the listing itself"
+reason_text (reason.Unnamed count) = codes "names that are no text: "
 reason_text reason.BadName = codes "a name that no file has"
 reason_text reason.LongName = codes "a name of more than 254 bytes"
 reason_text reason.Repeated = codes "a name that was told before"
@@ -25,14 +27,25 @@ reason_text reason.Fifo = codes "FIFO"
 reason_text reason.CharacterDevice = codes "character device"
 reason_text reason.BlockDevice = codes "block device"
 reason_text reason.UnknownKind = codes "a kind that is not known"
-reason_text reason.Large = codes "more than 2147483647 bytes"
+reason_text reason.Large = codes "more than 268435456 bytes"
+reason_text reason.LargeWritten = codes "more than 67108864 bytes, and a space or a line feed in its path"
 reason_text reason.Owner = codes "an owner above 65535"
 reason_text reason.Time = codes "a time before 1970 or after 2106"
 reason_text reason.Target = codes "a target of no bytes, of more than 4095, or with a zero byte"
 reason_text reason.NotDirectory = codes "no directory"
+reason_text reason.Symlink = codes "a symlink, which is not followed"
+
+-- how many names there are
+abbrev pub count_text : Reason → List ℕ
+count_text (reason.Unnamed count) = decimal count
+count_text _ = []
 
 unfoldable pub left_out_line : LeftOut → List ℕ
-left_out_line left = codes "left out " ++ word_of left.0 ++ codes ": " ++ reason_text left.1 ++ codes "\n"
+left_out_line left = codes "left out " ++ word_of left.0 ++ codes ": " ++ reason_text left.1 ++ count_text left.1 ++ codes "\n"
+
+-- the line of a folder that is not read at all
+unfoldable pub not_listed_line : Reason → List ℕ
+not_listed_line why = codes "not listed: " ++ reason_text why ++ codes "\n"
 
 abbrev pub left_out_text : List LeftOut → List ℕ
 left_out_text lefts = flat_map left_out_line lefts
@@ -46,11 +59,18 @@ TellsMore fits old new before now count total (Err fault.Notes) = ((lefts : List
 TellsMore fits old new before now count total (Err fault.OutOfMemory) = ((lefts : List LeftOut) × Appends old new (left_out_text lefts)) × (now ≡ before)
 TellsMore fits old new before now count total (Err (fault.Folder why)) = ⊥
 
+-- The folder itself is not read, and a line tells why. Where the sink failed, a beginning of it went out.
+abbrev pub TellsWhy : Reason → Option (List ℕ) → Option (List ℕ) → ℕ → ℕ → ReadFault → Type 0
+TellsWhy why old new before now (fault.Folder told) = (told ≡ why) × Appends old new (not_listed_line why) × (now ≡ before)
+TellsWhy why old new before now fault.Notes = PutsPart old new (not_listed_line why) × (now ≡ next_count before)
+TellsWhy why old new before now fault.OutOfMemory = ⊥
+
 -- A reading tells of the paths that it leaves out, each for a reason that is right, and counts them modulo 2^64; each path that the host tells of is
--- read, or is one of them. Where the folder itself is at fault it tells nothing.
+-- read, or is one of them. Where the folder itself is at fault it tells that alone.
 abbrev pub Tells : Known → Options → Option (List ℕ) → Option (List ℕ) → ℕ → ℕ → Result Folder ReadFault → Type 0
 Tells known options old new before now (Ok read) = (lefts : List LeftOut) × Appends old new (left_out_text lefts) × (now ≡ before) × (read.left_out ≡ length lefts % 2 ^ 64)
     × IsComplete known read.items.items lefts × All (IsRight known options read.items.items) lefts
-Tells known options old new before now (Err (fault.Folder why)) = (new ≡ old) × (now ≡ before) × IsRootWhy known options why
-Tells known options old new before now (Err fault.Notes) = ((lefts : List LeftOut) × PutsPart old new (left_out_text lefts)) × (now ≡ next_count before)
+Tells known options old new before now (Err (fault.Folder why)) = Appends old new (not_listed_line why) × (now ≡ before) × IsRootWhy known options why
+Tells known options old new before now (Err fault.Notes) = (((lefts : List LeftOut) × PutsPart old new (left_out_text lefts))
+    ⊎ ((why : Reason) × PutsPart old new (not_listed_line why) × IsRootWhy known options why)) × (now ≡ next_count before)
 Tells known options old new before now (Err fault.OutOfMemory) = ((lefts : List LeftOut) × Appends old new (left_out_text lefts)) × (now ≡ before)

@@ -1,12 +1,13 @@
 -- Why a path is left out: each reason is right by what is known of what the host tells.
-use Rattle.std.specs.Prelude.{◌≡◌, ◌≢◌, ◌≤◌, ◌<◌, ◌^◌, ◌⊎◌, ◌∷◌, ℕ, false, List, [], length, All, Contains, IfSome, Option, None, Some, ⊤, pos}
+use Rattle.std.specs.Prelude.{◌≡◌, ◌≢◌, ◌≤◌, ◌<◌, ◌^◌, ◌⊎◌, ◌∷◌, ℕ, false, List, [], length, All, Contains, Bool, IfSome, Option, None, Some, ⊤, pos}
 use Rattle.jmount.specs.Find.{is_name}
 use Rattle.jfolder.specs.Actions.{IsFileWord}
 use Rattle.jfolder.specs.Complete.{IsNamed, LeftOut, child, item_paths}
-use Rattle.jfolder.specs.Known.{Known, Named, inside, named_of}
-use Rattle.jfolder.specs.Objects.{kind_bits}
+use Rattle.jfolder.specs.Known.{Known, MayAnswer, Named, inside, named_of}
+use Rattle.jfolder.specs.Objects.{HasNoWord, kind_bits, kind_number}
 use Rattle.jfolder.specs.declared.fault.FolderFault.{FolderFault}
 use Rattle.jfolder.specs.declared.fault.FolderFault.TheVariants as folder
+use Rattle.jfolder.specs.declared.found.HostKind.{HostKind}
 use Rattle.jfolder.specs.declared.found.Options.{Options}
 use Rattle.jfolder.specs.declared.found.Skip.{Skip}
 use Rattle.jfolder.specs.declared.found.Skip.TheVariants as skip
@@ -28,9 +29,9 @@ IsWrongText name _ = ⊥
 abbrev pub IsWrongChild : List ℕ → List (List ℕ) → LeftOut → Type 0
 IsWrongChild directory names left = (name : List ℕ) × Contains names name × (left.0 ≡ child directory name) × IsWrongText name left.1
 
--- that of a name that is no text
+-- that of the names that are no text, with their number
 abbrev pub IsUnnamed : List ℕ → ℕ → LeftOut → Type 0
-IsUnnamed directory others left = (left.0 ≡ child directory []) × (0 < others) × (left.1 ≡ reason.NoText)
+IsUnnamed directory others left = (left.0 ≡ child directory []) × (0 < others) × (left.1 ≡ reason.Unnamed others)
 
 abbrev pub IsUnlisted : List ℕ → Named → LeftOut → Type 0
 IsUnlisted directory names left = IsWrongChild directory names.texts left ⊎ IsUnnamed directory names.others left
@@ -54,6 +55,10 @@ Refuses says _ = says
 abbrev pub IsUntold : {X : Type 0} → Option X → FolderFault → Type 0
 IsUntold known fault = Refuses (known ≡ None) fault
 
+-- the host is not known to tell of an object
+abbrev pub IsUnseen : Option Bool → FolderFault → Type 0
+IsUnseen known fault = Refuses (MayAnswer known false) fault
+
 -- the bytes of a file are not known, or more than the limit
 abbrev pub BytesAreUnread : Option (List ℕ) → ℕ → FolderFault → Type 0
 BytesAreUnread known limit fault = Refuses (IfSome known (λ told. limit < length told)) fault
@@ -62,6 +67,7 @@ BytesAreUnread known limit fault = Refuses (IfSome known (λ told. limit < lengt
 abbrev pub IsRefusal : Type 0 → Reason → Type 0
 IsRefusal says reason.Refused = says
 IsRefusal says reason.NoText = says
+IsRefusal says reason.Output = says
 IsRefusal says _ = ⊥
 
 -- ---- what an object is
@@ -74,6 +80,10 @@ IsKindWhy kind reason.Socket = kind ≡ 12
 IsKindWhy kind reason.UnknownKind = All (λ k. kind ≢ k) (1 ∷ 2 ∷ 4 ∷ 6 ∷ 8 ∷ 10 ∷ 12 ∷ [])
 IsKindWhy kind _ = ⊥
 
+-- a kind that a listing has
+abbrev pub HasListedKind : Looked → Type 0
+HasListedKind told = (kind : HostKind) × (kind_bits told.mode ≡ kind_number kind)
+
 -- an owner or a time that is told has no place in a listing, and no other is given
 abbrev pub IsAttributesWhy : Options → Looked → Reason → Type 0
 IsAttributesWhy options told reason.Owner = (options.owner ≡ None) × ((65535 < told.uid) ⊎ (65535 < told.gid))
@@ -82,15 +92,20 @@ IsAttributesWhy options told _ = ⊥
 
 -- the bytes of a file are asked for, since the name of the file is no word
 abbrev pub AsksBytes : Known → List ℕ → ℕ → Type 0
-AsksBytes known path size = (0 < size) × IfSome (known.host_path path) (λ name. IsFileWord name → ⊥)
+AsksBytes known path size = (0 < size) × (size ≤ 67108864) × HasNoWord known path
 
--- it has more bytes than a listing can say
+-- it has more bytes than may be written out
 abbrev pub IsLong : Known → List ℕ → Type 0
-IsLong known path = IfSome (known.bytes path) (λ told. 2147483647 < length told)
+IsLong known path = IfSome (known.bytes path) (λ told. 67108864 < length told)
+
+-- the name of the file is a word, but the host does not open it
+abbrev pub IsNotOpened : Known → List ℕ → Type 0
+IsNotOpened known path = IfSome (known.host_path path) IsFileWord × MayAnswer (known.is_opened path) false
 
 abbrev pub IsContentWhy : Known → List ℕ → ℕ → Reason → Type 0
-IsContentWhy known path size reason.Large = (2147483647 < size) ⊎ (AsksBytes known path size × IsLong known path)
-IsContentWhy known path size why = IsRefusal ((0 < size) × ((known.host_path path ≡ None) ⊎ (AsksBytes known path size × IsLong known path))) why
+IsContentWhy known path size reason.Large = 268435456 < size
+IsContentWhy known path size reason.LargeWritten = HasNoWord known path × ((67108864 < size) ⊎ IsLong known path)
+IsContentWhy known path size why = IsRefusal ((0 < size) × ((known.host_path path ≡ None) ⊎ (IsNotOpened known path ⊎ (AsksBytes known path size × IsLong known path)))) why
 
 -- the target is not known, or none that an image can have
 abbrev pub IsTargetWhy : Known → List ℕ → Reason → Type 0
@@ -105,7 +120,7 @@ IsObjectWhy known path told why =
 
 -- of an object of which this is told
 abbrev pub IsWhy : Known → Options → List ℕ → Looked → Reason → Type 0
-IsWhy known options path told why = IsKindWhy (kind_bits told.mode) why ⊎ (IsAttributesWhy options told why ⊎ IsObjectWhy known path told why)
+IsWhy known options path told why = IsKindWhy (kind_bits told.mode) why ⊎ ((HasListedKind told × IsAttributesWhy options told why) ⊎ IsObjectWhy known path told why)
 
 -- the host refuses to tell of the object, or tells one that is left out for this
 abbrev pub IsLeftFor : Known → Options → List ℕ → Reason → Type 0
@@ -120,21 +135,23 @@ IsRight known options items left = HasWrongName known left ⊎ (ComesAgain items
 
 -- ---- the folder itself
 
-abbrev pub IsNoDirectory : Looked → Reason → Type 0
-IsNoDirectory told reason.NotDirectory = kind_bits told.mode ≢ 4
-IsNoDirectory told _ = ⊥
+abbrev pub IsNoDirectory : ℕ → Reason → Type 0
+IsNoDirectory kind reason.Symlink = kind ≡ 10
+IsNoDirectory kind reason.NotDirectory = (kind ≢ 4) × (kind ≢ 10)
+IsNoDirectory kind _ = ⊥
 
 -- The host refuses to tell of the folder, or tells no directory, or an owner or a time that no listing says, or refuses to tell the names in it.
 abbrev pub IsRootWhy : Known → Options → Reason → Type 0
 IsRootWhy known options why = IsRefusal (known.looked [] ≡ None) why
     ⊎ ((told : Looked) × IfSome (known.looked []) (λ k. told ≡ k)
-    × (IsNoDirectory told why ⊎ (IsAttributesWhy options told why ⊎ ((kind_bits told.mode ≡ 4) × IsRefusal (known.names [] ≡ None) why))))
+    × (IsNoDirectory (kind_bits told.mode) why ⊎ ((kind_bits told.mode ≡ 4) × (IsAttributesWhy options told why ⊎ IsRefusal (known.names [] ≡ None) why))))
 
 -- ---- parts of a reading
 
 abbrev pub skip_of : FolderFault → Skip
 skip_of folder.Refused = skip.LeftOut reason.Refused
 skip_of folder.NoText = skip.LeftOut reason.NoText
+skip_of folder.Output = skip.LeftOut reason.Output
 skip_of folder.OutOfMemory = skip.OutOfMemory
 
 -- what is skipped is left out for such a reason, unless memory ran out

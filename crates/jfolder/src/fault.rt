@@ -14,6 +14,9 @@ pub enum FolderFault {
     /// What was asked for is no UTF-8.
     #[error("no text")]
     NoText,
+    /// It is the file that the listing is written to.
+    #[error("the listing itself")]
+    Output,
     #[error("out of memory")]
     OutOfMemory,
 }

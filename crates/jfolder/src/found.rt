@@ -5,8 +5,8 @@ ghost use Rattle.std.specs.String.{string_bytes};
 ghost use Rattle.jfolder.specs.Actions.{AttributesFit, ContentFits, IsFileWord, WhatFits};
 ghost use Rattle.jfolder.specs.Complete.{NamesFit};
 ghost use Rattle.jfolder.specs.Links.{IsIdentity};
-ghost use Rattle.jfolder.specs.Objects.{HasContent, HasObject, IsOfKind, SizeFits, kind_bits, kind_number};
-ghost use Rattle.jfolder.specs.Reasons.{IsAttributesWhy, IsContentWhy, IsKindWhy, IsObjectWhy, IsTargetWhy, IsWhy, SkipsFor};
+ghost use Rattle.jfolder.specs.Objects.{HasContent, HasNoWord, HasObject, IsOfKind, SizeFits, kind_bits, kind_number};
+ghost use Rattle.jfolder.specs.Reasons.{IsAttributesWhy, IsContentWhy, IsKindWhy, IsNoDirectory, IsObjectWhy, IsTargetWhy, IsWhy, SkipsFor};
 ghost use Rattle.jfolder.specs.Trees.{HasTarget, LinksBack};
 ghost use Rattle.jfolder.specs.Walking.{FoundFits, HasOptions, IsTold};
 
@@ -16,8 +16,11 @@ use crate::reason::Reason;
 use crate::tree::{Attributes, Content, What};
 use std::alloc::{AllocError, AllocFailed};
 
-/// The most bytes of a regular file.
-const MAX_SIZE: usize = 0x7FFF_FFFF;
+/// The most bytes of a regular file: `build` takes no file of more.
+const MAX_SIZE: usize = 268_435_456;
+
+/// The most bytes of a regular file that are written out, each in two digits. `build` takes no listing of more than `MAX_SIZE`.
+const MAX_WRITTEN: usize = MAX_SIZE / 4;
 
 /// The most bytes of a symlink's target.
 const MAX_TARGET: usize = 4095;
@@ -62,6 +65,7 @@ impl From<FolderFault> for Skip {
         match fault {
             FolderFault::Refused => Skip::LeftOut(Reason::Refused),
             FolderFault::NoText => Skip::LeftOut(Reason::NoText),
+            FolderFault::Output => Skip::LeftOut(Reason::Output),
             FolderFault::OutOfMemory => Skip::OutOfMemory,
         }
     }
@@ -109,6 +113,18 @@ pub fn kind_of(mode: u32) -> Result<HostKind, Reason>
         6 => Err(Reason::BlockDevice),
         12 => Err(Reason::Socket),
         _ => Err(Reason::UnknownKind),
+    }
+}
+
+/// Why an object of a mode is no directory, if it is none.
+pub fn not_directory(mode: u32) -> Option<Reason>
+    ensures none { IfNone result (kind_bits mode ≡ 4) }
+    ensures why { IfSome result (IsNoDirectory (kind_bits mode)) }
+{
+    match (mode >> 12) & 0xF {
+        4 => None,
+        10 => Some(Reason::Symlink),
+        _ => Some(Reason::NotDirectory),
     }
 }
 
@@ -178,7 +194,28 @@ fn known(bytes: &[u8])
     let _ = bytes;
 }
 
-/// Where the bytes of a regular file come from.
+/// The bytes of a regular file whose name is no word.
+fn bytes_of<F: HostFolder>(folder: &mut F, path: &str, size: u64) -> Result<Content, Skip>
+    requires some { 0 < size }
+    requires unnamed { HasNoWord (F.known folder.old) path.now }
+    ensures fits { IfOk result ContentFits }
+    ensures size { IfOk result (SizeFits size) }
+    ensures told { IfOk result (HasContent (F.known folder.old) path.now) }
+    ensures why { IfErr result (SkipsFor (IsContentWhy (F.known folder.old) path.now size)) }
+    ensures kept { F.known folder.new ≡ F.known folder.old }
+{
+    if size > MAX_WRITTEN as u64 {
+        return Err(Skip::LeftOut(Reason::LargeWritten));
+    }
+    let bytes = folder.bytes(path, MAX_WRITTEN)?;
+    if bytes.len() > MAX_WRITTEN {
+        return Err(Skip::LeftOut(Reason::LargeWritten));
+    }
+    known(bytes.as_slice());
+    Ok(Content::Bytes(bytes))
+}
+
+/// Where the bytes of a regular file come from: from the file of its name wherever a line can have that name.
 pub fn content_of<F: HostFolder>(folder: &mut F, path: &str, size: u64) -> Result<Content, Skip>
     ensures fits { IfOk result ContentFits }
     ensures size { IfOk result (SizeFits size) }
@@ -193,15 +230,11 @@ pub fn content_of<F: HostFolder>(folder: &mut F, path: &str, size: u64) -> Resul
         return Ok(Content::Empty);
     }
     let name = folder.host_path(path)?;
-    if is_file_word(name.as_bytes()) {
-        return Ok(Content::File(name));
+    if !is_file_word(name.as_bytes()) {
+        return bytes_of(folder, path, size);
     }
-    let bytes = folder.bytes(path, MAX_SIZE)?;
-    if bytes.len() > MAX_SIZE {
-        return Err(Skip::LeftOut(Reason::Large));
-    }
-    known(bytes.as_slice());
-    Ok(Content::Bytes(bytes))
+    folder.open(path)?;
+    Ok(Content::File(name))
 }
 
 /// The target of a symlink.

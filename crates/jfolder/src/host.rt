@@ -1,9 +1,9 @@
 //! A folder of the host, as it is read.
 
-ghost use Rattle.std.specs.Prelude.{◌≡◌, IfErr, IfOk, IfSome};
+ghost use Rattle.std.specs.Prelude.{◌≡◌, true, IfErr, IfOk, IfSome, OnOk};
 ghost use Rattle.std.specs.String.{string_bytes};
-ghost use Rattle.jfolder.specs.Known.{AreBytesOf, Known, named_of};
-ghost use Rattle.jfolder.specs.Reasons.{BytesAreUnread, IsUntold};
+ghost use Rattle.jfolder.specs.Known.{AreBytesOf, Known, MayAnswer, named_of};
+ghost use Rattle.jfolder.specs.Reasons.{BytesAreUnread, IsUnseen, IsUntold};
 
 use crate::fault::FolderFault;
 
@@ -38,7 +38,9 @@ pub trait HostFolder {
     fn look(&mut self, path: &str) -> Result<Looked, FolderFault>
         ensures kept { known self.new ≡ known self.old }
         ensures told { IfOk result (λ it. IfSome ((known self.old).looked path.now) (λ told. it ≡ told)) }
-        ensures untold { IfErr result (IsUntold ((known self.old).looked path.now)) };
+        ensures untold { IfErr result (IsUntold ((known self.old).looked path.now)) }
+        ensures seen { OnOk result (MayAnswer ((known self.old).is_told path.now) true) }
+        ensures unseen { IfErr result (IsUnseen ((known self.old).is_told path.now)) };
 
     /// The names in a directory.
     fn names(&mut self, path: &str) -> Result<Names, FolderFault>
@@ -64,4 +66,10 @@ pub trait HostFolder {
         ensures kept { known self.new ≡ known self.old }
         ensures told { IfOk result (λ it. IfSome ((known self.old).host_path path.now) (λ told. string_bytes it ≡ told)) }
         ensures untold { IfErr result (IsUntold ((known self.old).host_path path.now)) };
+
+    /// Opens a regular file to be read, and closes it. It is asked only where the name of the file is a word of a listing.
+    fn open(&mut self, path: &str) -> Result<(), FolderFault>
+        ensures kept { known self.new ≡ known self.old }
+        ensures opened { OnOk result (MayAnswer ((known self.old).is_opened path.now) true) }
+        ensures unopened { IfErr result (IsUnseen ((known self.old).is_opened path.now)) };
 }

@@ -2,12 +2,23 @@
 
 ghost use Rattle.std.specs.Prelude.{◌≡◌, ◌∷◌, []};
 ghost use Rattle.flashbase.specs.Device.{Puts};
-ghost use Rattle.jfolder.specs.Notes.{TellsMore, left_out_line};
+ghost use Rattle.jfolder.specs.Notes.{TellsMore, TellsWhy, count_text, left_out_line, not_listed_line};
+ghost use Rattle.jfolder.specs.Pieces.{piece_text};
 
 use crate::fault::ReadFault;
 use crate::reason::Reason;
 use crate::words::{Piece, put_pieces};
 use flashbase::{DeviceFault, Sink};
+
+/// How many names there are, after the reason in words.
+fn count_of(reason: Reason) -> Piece<'static>
+    ensures { piece_text result ≡ count_text reason }
+{
+    match reason {
+        Reason::Unnamed(count) => Piece::Decimal(count),
+        _ => Piece::Plain(b""),
+    }
+}
 
 /// Puts the line of a path that is left out.
 #[tactic(auto, unfolding(crate::specs::Notes::left_out_line))]
@@ -21,6 +32,7 @@ fn put_left_out<N: Sink>(notes: &mut N, path: &[u8], reason: Reason) -> Result<(
             Piece::Escaped(path),
             Piece::Plain(b": "),
             Piece::Plain(reason.text().as_bytes()),
+            count_of(reason),
             Piece::Plain(b"\n"),
         ],
     )
@@ -41,5 +53,29 @@ pub fn leave_out<N: Sink>(
             Ok(())
         }
         Err(DeviceFault) => Err(ReadFault::Notes),
+    }
+}
+
+/// Puts the line of a folder that is not read.
+fn put_not_listed<N: Sink>(notes: &mut N, reason: Reason) -> Result<(), DeviceFault>
+    ensures { Puts (N.taken notes.old) (N.taken notes.new) (N.failures notes.old) (N.failures notes.new) (not_listed_line reason) result }
+{
+    put_pieces(
+        notes,
+        &[
+            Piece::Plain(b"not listed: "),
+            Piece::Plain(reason.text().as_bytes()),
+            Piece::Plain(b"\n"),
+        ],
+    )
+}
+
+/// Tells why a folder is not read, and answers the fault of that.
+pub fn refuse_folder<N: Sink>(notes: &mut N, reason: Reason) -> ReadFault
+    ensures { TellsWhy reason (N.taken notes.old) (N.taken notes.new) (N.failures notes.old) (N.failures notes.new) result }
+{
+    match put_not_listed(notes, reason) {
+        Ok(()) => ReadFault::Folder(reason),
+        Err(DeviceFault) => ReadFault::Notes,
     }
 }

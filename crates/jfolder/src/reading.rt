@@ -1,11 +1,11 @@
 //! Reading a folder of the host.
 
-ghost use Rattle.std.specs.Prelude.{◌≡◌, ◌∷◌, ◌++◌, ◌⊎◌, [], length, map, replicate, reverse, All, IfErr, IfNone, IfOk, IfSome, IsPermutation, IsSome, IsSomeAnd, IsTrue, None};
+ghost use Rattle.std.specs.Prelude.{◌≡◌, ◌∷◌, ◌++◌, ◌⊎◌, [], true, length, map, reverse, All, IfErr, IfNone, IfOk, IfSome, IsPermutation, IsSome, IsSomeAnd, IsTrue, None};
 ghost use Rattle.std.specs.List.Sorted.{IsSorted};
 ghost use Rattle.std.specs.String.{string_bytes, string_cmp};
 ghost use Rattle.jfolder.specs.Actions.{AttributesFit, FitsListing, IsRooted, ItemFits};
-ghost use Rattle.jfolder.specs.Complete.{StaysCovered, NamesFit, child, children, children_of, left_paths};
-ghost use Rattle.jfolder.specs.Known.{inside, named_of};
+ghost use Rattle.jfolder.specs.Complete.{StaysCovered, NamesFit, child, children, children_of, left_paths, unnamed_paths};
+ghost use Rattle.jfolder.specs.Known.{MayAnswer, inside, named_of};
 ghost use Rattle.jfolder.specs.Links.{AreLinked, FirstsFit, HasOtherNames, IsFirst, LinksFit, Remembers, WalkLinks, id_of};
 ghost use Rattle.jfolder.specs.Notes.{Tells, TellsMore};
 ghost use Rattle.jfolder.specs.Objects.{AreOne, HasObject, IsObjectTold, IsOfKind, kind_bits};
@@ -16,10 +16,10 @@ ghost use Rattle.jfolder.specs.Walking.{FoundFits, HasOptions, IsChild, IsFileOf
 
 use crate::fault::{FolderFault, ReadFault};
 use crate::found::{
-    Found, HostKind, Options, Skip, attributes_of, first_found, identity_of, kind_of, link_to,
+    Found, Options, Skip, attributes_of, first_found, identity_of, link_to, not_directory,
 };
 use crate::host::{HostFolder, Looked, Names};
-use crate::notes::leave_out;
+use crate::notes::{leave_out, refuse_folder};
 use crate::order::is_before;
 use crate::reason::Reason;
 use crate::tree::{Attributes, Item, What};
@@ -31,7 +31,7 @@ use std::collections::BTreeMap;
 /// The most bytes of a name.
 const MAX_NAME: usize = 254;
 
-/// A folder that was read: its own attributes, what lies in it, and how many paths were left out, modulo 2^64.
+/// A folder that was read: its own attributes, what lies in it, and how many lines tell what was left out, modulo 2^64.
 #[derive(Drop)]
 pub struct Folder {
     pub root: Attributes,
@@ -88,6 +88,7 @@ fn inside(path: &str) -> Option<&str>
 /// tell, they are not.
 fn is_one<F: HostFolder>(folder: &mut F, first: &str, looked: &Looked) -> Result<bool, Skip>
     ensures one { IfOk result (λ one. IsTrue one → IfSome ((F.known folder.old).looked (inside first.now)) (λ told. AreOne told looked.now)) }
+    ensures seen { IfOk result (λ one. IsTrue one → MayAnswer ((F.known folder.old).is_told (inside first.now)) true) }
     ensures every { IfOk result (λ one. IsRooted first.now → IfSome ((F.known folder.old).looked (inside first.now)) (λ told. AreOne told looked.now → IsTrue one)) }
     ensures memory { IfErr result (SkipsFor (λ _. ⊥)) }
     ensures kept { F.known folder.new ≡ F.known folder.old }
@@ -129,7 +130,7 @@ fn add_child<N: Sink>(
     }
 }
 
-/// Tells that so many names in a directory are left out, since they are no text.
+/// Tells that so many names in a directory are left out, since they are no text. One line is for all of them.
 fn leave_out_others<N: Sink>(
     alloc: Global,
     directory: &str,
@@ -137,15 +138,15 @@ fn leave_out_others<N: Sink>(
     notes: &mut N,
     left_out: &mut u64,
 ) -> Result<(), ReadFault>
-    ensures { TellsMore (λ _ lefts. (left_paths lefts ≡ replicate others (child directory.now [])) × All (IsUnnamed directory.now others) lefts)
+    ensures { TellsMore (λ _ lefts. (left_paths lefts ≡ unnamed_paths directory.now others) × All (IsUnnamed directory.now others) lefts)
         (N.taken notes.old) (N.taken notes.new) (N.failures notes.old) (N.failures notes.new) left_out.old left_out.new result }
 {
     let _count = *left_out;
-    let unnamed = joined(alloc, directory, "")?;
-    for _told in 0..others {
-        leave_out(notes, left_out, unnamed.as_bytes(), Reason::NoText)?;
+    if others == 0 {
+        return Ok(());
     }
-    Ok(())
+    let unnamed = joined(alloc, directory, "")?;
+    leave_out(notes, left_out, unnamed.as_bytes(), Reason::Unnamed(others))
 }
 
 /// The paths of these names in a directory, in byte order as the names are.
@@ -433,8 +434,8 @@ fn root_of<F: HostFolder>(folder: &mut F, options: &Options) -> Result<(Attribut
     ensures kept { F.known folder.new ≡ F.known folder.old }
 {
     let looked = folder.look("")?;
-    if kind_of(looked.mode) != Ok(HostKind::Directory) {
-        return Err(Skip::LeftOut(Reason::NotDirectory));
+    if let Some(reason) = not_directory(looked.mode) {
+        return Err(Skip::LeftOut(reason));
     }
     let attributes = attributes_of(&looked, options)?;
     Ok((attributes, folder.names("")?))
@@ -442,11 +443,12 @@ fn root_of<F: HostFolder>(folder: &mut F, options: &Options) -> Result<(Attribut
 
 /// Reads a folder: a directory before what lies in it, and the names in it in byte order. A regular file that was met before is
 /// a link to its first path. Symlinks are not followed. What a listing cannot say is left out, with a line of the notes for each
-/// path, which says why by what the host tells. `options` say what takes the place of all owners and times.
+/// path, which says why by what the host tells; names in a directory that are no text have one line. `options` say what takes the
+/// place of all owners and times.
 ///
 /// # Errors
-/// `Folder`: the folder itself can't be read, is no directory, or has an owner or a time that a listing cannot say. `Notes`: the
-/// notes failed. `OutOfMemory`, also after 2^64 - 1 paths.
+/// `Folder`: the folder itself can't be read, is no directory, or has an owner or a time that a listing cannot say; a line of the
+/// notes says which. `Notes`: the notes failed. `OutOfMemory`, also after 2^64 - 1 paths.
 pub fn read_folder<F: HostFolder, N: Sink>(
     alloc: Global,
     folder: &mut F,
@@ -465,7 +467,7 @@ pub fn read_folder<F: HostFolder, N: Sink>(
 {
     let (root, names) = match root_of(folder, options) {
         Ok(found) => found,
-        Err(Skip::LeftOut(reason)) => return Err(ReadFault::Folder(reason)),
+        Err(Skip::LeftOut(reason)) => return Err(refuse_folder(notes, reason)),
         Err(Skip::OutOfMemory) => return Err(ReadFault::OutOfMemory),
     };
     let mut walk = Walk::new(alloc);

@@ -8,8 +8,12 @@ ghost use Rattle.jfolder.specs.Notes.{reason_text};
 pub enum Reason {
     /// The host refused to tell of it.
     Refused,
-    /// Its name, or the target of a symlink, is no UTF-8.
+    /// The target of a symlink is no UTF-8.
     NoText,
+    /// It is the file that the listing is written to.
+    Output,
+    /// So many names in a directory are no UTF-8.
+    Unnamed(u64),
     /// Its name is empty, `.` or `..`, or has a slash or a zero byte.
     BadName,
     /// Its name has more than 254 bytes.
@@ -21,8 +25,10 @@ pub enum Reason {
     CharacterDevice,
     BlockDevice,
     UnknownKind,
-    /// It has more than 2147483647 bytes.
+    /// It has more than 268435456 bytes, as many as `build` takes of a file.
     Large,
+    /// It has more than 67108864 bytes, and its name on the host is no word of a listing.
+    LargeWritten,
     /// Its owner or its group is above 65535.
     Owner,
     /// Its time is before 1970 or after 2106.
@@ -31,10 +37,12 @@ pub enum Reason {
     Target,
     /// It is no directory. Only the folder itself has to be one.
     NotDirectory,
+    /// The folder itself is a symlink.
+    Symlink,
 }
 
 impl Reason {
-    /// The reason in words.
+    /// The reason in words. Their number follows where it has one.
     #[tactic(auto, unfolding(crate::specs::Notes::reason_text))]
     pub fn text(self) -> &'static str
         ensures { result.now ≡ reason_text self }
@@ -42,6 +50,8 @@ impl Reason {
         match self {
             Reason::Refused => "the host refused it",
             Reason::NoText => "no text",
+            Reason::Output => "the listing itself",
+            Reason::Unnamed(_) => "names that are no text: ",
             Reason::BadName => "a name that no file has",
             Reason::LongName => "a name of more than 254 bytes",
             Reason::Repeated => "a name that was told before",
@@ -50,11 +60,15 @@ impl Reason {
             Reason::CharacterDevice => "character device",
             Reason::BlockDevice => "block device",
             Reason::UnknownKind => "a kind that is not known",
-            Reason::Large => "more than 2147483647 bytes",
+            Reason::Large => "more than 268435456 bytes",
+            Reason::LargeWritten => {
+                "more than 67108864 bytes, and a space or a line feed in its path"
+            }
             Reason::Owner => "an owner above 65535",
             Reason::Time => "a time before 1970 or after 2106",
             Reason::Target => "a target of no bytes, of more than 4095, or with a zero byte",
             Reason::NotDirectory => "no directory",
+            Reason::Symlink => "a symlink, which is not followed",
         }
     }
 }

@@ -76,11 +76,18 @@ pub fn is_text_of(alloc: Global, folder: &Folder, text: &[u8]) -> bool {
     put.is_ok() && sink.took(0, text) && listing(alloc, text).is_ok()
 }
 
-/// Why a folder is not read.
-pub fn fault_of(alloc: Global, objects: &[Object], options: &Options) -> Option<ReadFault> {
+/// Why a folder is not read, where the notes took just this reason.
+pub fn fault_of(
+    alloc: Global,
+    objects: &[Object],
+    options: &Options,
+    why: &str,
+) -> Option<ReadFault> {
     let mut told = Taker::new(alloc);
-    match read_folder(alloc, &mut Memory::new(alloc, objects), options, &mut told) {
-        Ok(_) => None,
-        Err(fault) => Some(fault),
+    let answer = read_folder(alloc, &mut Memory::new(alloc, objects), options, &mut told);
+    let line = format!(in alloc; "not listed: {why}\n").ok()?;
+    match answer {
+        Err(fault) if told.took(0, line.as_bytes()) => Some(fault),
+        _ => None,
     }
 }

@@ -40,6 +40,9 @@ pub fn make_object(
     }
 }
 
+/// The content of a file that is not opened.
+pub const UNREADABLE: &str = "-";
+
 /// The folder. After `calls` calls one is refused.
 #[derive(Drop)]
 pub struct Memory<'a> {
@@ -125,5 +128,12 @@ impl HostFolder for Memory<'_> {
         let mut name = text_of(self.alloc, "host/")?;
         name.push_str(self.find(path)?.path)?;
         Ok(name)
+    }
+
+    fn open(&mut self, path: &str) -> Result<(), FolderFault> {
+        match self.find(path)?.text {
+            UNREADABLE => Err(FolderFault::Refused),
+            _ => Ok(()),
+        }
     }
 }

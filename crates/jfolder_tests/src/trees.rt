@@ -2,7 +2,7 @@
 
 use crate::checks::{equal, expect};
 use crate::folders::{AS_TOLD, GIVEN, GIVEN_TEXT, TREE_NOTES, TREE_TEXT, fault_of, is_read, tree};
-use crate::memory::{Memory, Object, make_object};
+use crate::memory::{Memory, Object, UNREADABLE, make_object};
 use jfolder::{
     Attributes, Content, Item, Looked, ReadFault, Reason, What, put_listing, read_folder,
 };
@@ -76,14 +76,14 @@ const NO_TIME: &str = "left out /o: a time before 1970 or after 2106\n";
 fn times_and_sizes_have_an_end(rt: HostRuntime) {
     let rows = [
         (
-            (0, 2147483647, "abc"),
+            (0, 268435456, "abc"),
             "attr 755 0 0 0 0 /\ncreate 0 /o\npart /o 0 host/o\n",
             "",
         ),
         (
-            (0, 2147483648, ""),
+            (0, 268435457, ""),
             ROOT_TEXT,
-            "left out /o: more than 2147483647 bytes\n",
+            "left out /o: more than 268435456 bytes\n",
         ),
         (
             (4294967295, 0, ""),
@@ -107,18 +107,67 @@ fn times_and_sizes_have_an_end(rt: HostRuntime) {
 fn names_that_are_none_are_left_out(rt: HostRuntime) {
     let alloc = rt.alloc();
     let mut root = make_object("", 0o040755, (0, 0), 0, "");
-    root.others = 2;
+    root.others = 3;
+    let mut directory = make_object("d", 0o040755, (0, 0), 0, "");
+    directory.others = 1;
     let objects = [
         root,
         make_object("..", 0o040755, (0, 0), 0, ""),
         make_object("a\0", 0o100644, (0, 0), 0, ""),
         make_object("b", 0o100644, (0, 0), 0, ""),
         make_object("b", 0o100644, (0, 0), 0, ""),
+        directory,
     ];
     let notes =
-        "left out /: no text\nleft out /: no text\nleft out /..: a name that no file has\nleft out /a\\x00: a name that no file has\nleft out /b: a name that was told before\n";
-    let text = "attr 755 0 0 0 0 /\ncreate 644 /b\n";
+        "left out /: names that are no text: 3\nleft out /..: a name that no file has\nleft out /a\\x00: a name that no file has\nleft out /b: a name that was told before\nleft out /d/: names that are no text: 1\n";
+    let text = "attr 755 0 0 0 0 /\ncreate 644 /b\nmkdir 755 /d\n";
     expect(&rt, is_read(alloc, &objects, &AS_TOLD, text, notes, 5));
+}
+
+/// A file that is not opened, of this size and by this name.
+fn not_opened(path: &'static str, size: u64) -> [Object; 2] {
+    let mut other = make_object(path, 0o100644, (0, 0), 0, UNREADABLE);
+    other.looked.size = size;
+    [make_object("", 0o040755, (0, 0), 0, ""), other]
+}
+
+/// A file that can't be read has no line `part`, and one that is written out is not too long.
+#[test]
+fn files_that_are_not_listed(rt: HostRuntime) {
+    let rows = [
+        (("o", 1), ROOT_TEXT, "left out /o: the host refused it\n"),
+        (("o", 0), "attr 755 0 0 0 0 /\ncreate 644 /o\n", ""),
+        (
+            ("o o", 67108864),
+            "attr 755 0 0 0 0 /\ncreate 644 /o\\x20o\nwrite /o\\x20o 0 2d\n",
+            "",
+        ),
+        (
+            ("o o", 67108865),
+            ROOT_TEXT,
+            "left out /o\\x20o: more than 67108864 bytes, and a space or a line feed in its path\n",
+        ),
+    ];
+    for ((path, size), text, notes) in rows {
+        let objects = not_opened(path, size);
+        let left_out = u64::from(!notes.is_empty());
+        expect(
+            &rt,
+            is_read(rt.alloc(), &objects, &AS_TOLD, text, notes, left_out),
+        );
+    }
+}
+
+/// An owner and a kind that no listing has: the kind is told.
+#[test]
+fn a_kind_goes_before_an_owner(rt: HostRuntime) {
+    let mut objects = with_other(0o140000, -1, 0, "");
+    objects[1].looked.uid = 65536;
+    let notes = "left out /o: socket\n";
+    expect(
+        &rt,
+        is_read(rt.alloc(), &objects, &AS_TOLD, ROOT_TEXT, notes, 1),
+    );
 }
 
 #[test]
@@ -129,6 +178,7 @@ fn the_folder_itself_is_a_directory(rt: HostRuntime) {
             make_object("", 0o100644, (0, 0), 0, ""),
             Reason::NotDirectory,
         ),
+        (make_object("", 0o120777, (0, 0), 0, ""), Reason::Symlink),
         (make_object("x", 0o040755, (0, 0), 0, ""), Reason::Refused),
         (make_object("", 0o040755, (0, 65536), 0, ""), Reason::Owner),
         (make_object("", 0o040755, (0, 0), -1, ""), Reason::Time),
@@ -136,7 +186,7 @@ fn the_folder_itself_is_a_directory(rt: HostRuntime) {
     for (root, reason) in rows.iter() {
         equal(
             &rt,
-            fault_of(alloc, &[*root], &AS_TOLD),
+            fault_of(alloc, &[*root], &AS_TOLD, reason.text()),
             Some(ReadFault::Folder(*reason)),
         );
     }
@@ -158,7 +208,7 @@ fn lines_in(text: &[u8]) -> u64 {
 fn a_host_that_refuses_a_call(rt: HostRuntime) {
     let alloc = rt.alloc();
     let objects = tree();
-    for calls in 0..25 {
+    for calls in 0..26 {
         let mut folder = Memory::new(alloc, &objects);
         folder.calls = calls;
         let mut notes = Taker::new(alloc);

@@ -1,27 +1,41 @@
 //! A folder of the system that is read.
 
-ghost use Rattle.jfolder.specs.Known.{nothing};
+ghost use Rattle.std.specs.Prelude.{◌≡◌, ◌++◌, ◌∷◌, [], IfErr, IfNone, IfOk, IfSome, IsOk, None};
+ghost use Rattle.std.specs.Fs.{IsFile, file_type, metadata_len, metadata_mode};
+ghost use Rattle.std.specs.IoError.{error_kind};
+ghost use Rattle.jfolder.specs.Known.{named_of, nothing};
+ghost use Rattle.jhost.specs.Answers.{answer_of, fault_of_kind, fault_of_load};
+ghost use Rattle.jhost.specs.NamesRead.{AddsEntry};
+ghost use Rattle.jhost.specs.ReadFolders.{read_root};
 
 use crate::paths::joined;
 use crate::progress::Progress;
 use flashbase::{FromReader, LoadFault, load};
 use jfolder::{FolderFault, HostFolder, Looked, Names};
 use std::alloc::AllocError;
+use std::fs::{DirEntry, Metadata};
 use std::io::{Eprint, Error, ErrorKind};
 use std::os::unix::fs::MetadataExt;
 use std::rt::{Clock, Files};
 use std::{fs, io};
+
+/// The file that standard output is, by its own path.
+const OUTPUT: &str = "/dev/stdout";
 
 /// A folder of the system that is read.
 #[derive(Drop)]
 pub struct ReadFolder<'r, R: Files + AllocGlobal + Clock + Eprint> {
     rt: &'r R,
     root: String,
+    /// The device and the number of the regular file that standard output is, if it is one.
+    output: Option<(u64, u64)>,
     progress: Progress<'r, R>,
 }
 
 /// Why the host did not do what it was asked for.
-fn fault_of(error: Error) -> FolderFault {
+fn fault_of(error: &Error) -> FolderFault
+    ensures { result ≡ fault_of_kind (error_kind error.now) }
+{
     match error.kind() {
         ErrorKind::OutOfMemory => FolderFault::OutOfMemory,
         ErrorKind::InvalidFilename => FolderFault::NoText,
@@ -29,9 +43,32 @@ fn fault_of(error: Error) -> FolderFault {
     }
 }
 
-fn look_at<R: Files>(rt: &R, path: &str) -> io::Result<Looked> {
-    let metadata = fs::symlink_metadata(rt, path)?;
-    Ok(Looked {
+/// What a call of the host comes to.
+fn answered<T: Drop>(done: io::Result<T>) -> Result<T, FolderFault>
+    ensures { result ≡ answer_of done }
+{
+    match done {
+        Ok(answer) => Ok(answer),
+        Err(error) => Err(fault_of(&error)),
+    }
+}
+
+/// What a file that was not read whole comes to.
+fn unread(fault: LoadFault) -> FolderFault
+    ensures { result ≡ fault_of_load fault }
+{
+    match fault {
+        LoadFault::OutOfMemory => FolderFault::OutOfMemory,
+        _ => FolderFault::Refused,
+    }
+}
+
+/// What the system tells of an object. Each field is read here and nowhere else.
+fn looked_of(metadata: &Metadata) -> Looked
+    ensures mode { result.mode ≡ metadata_mode metadata.now }
+    ensures size { result.size ≡ metadata_len metadata.now }
+{
+    Looked {
         mode: metadata.mode(),
         uid: metadata.uid(),
         gid: metadata.gid(),
@@ -40,41 +77,101 @@ fn look_at<R: Files>(rt: &R, path: &str) -> io::Result<Looked> {
         links: metadata.nlink(),
         device: metadata.dev(),
         number: metadata.ino(),
-    })
+    }
 }
 
-/// The names in a directory. One that is no text comes as an error of its own kind, and the rest goes on.
+/// The device and the number of a regular file.
+fn file_of(metadata: &Metadata) -> Option<(u64, u64)>
+    ensures regular { IfSome result (λ _. IsFile (file_type metadata.now)) }
+    ensures other { IfNone result (IsFile (file_type metadata.now) → ⊥) }
+{
+    if !metadata.is_file() {
+        return None;
+    }
+    let looked = looked_of(metadata);
+    Some((looked.device, looked.number))
+}
+
+/// The regular file that standard output is, if it is one.
+fn output_file<R: Files>(rt: &R) -> Option<(u64, u64)> {
+    match fs::metadata(rt, OUTPUT) {
+        Ok(metadata) => file_of(&metadata),
+        Err(_) => None,
+    }
+}
+
+/// Adds a name that is text.
+fn push_name<R: AllocGlobal>(rt: &R, names: &mut Names, name: &str) -> Result<(), AllocError>
+    ensures { IfOk result (λ _. named_of names.new ≡ record { texts = (named_of names.old).texts ++ name.now ∷ []; others = names.old.others }) }
+{
+    let name = String::from_str(rt.alloc(), name)?;
+    names.texts.push(name)?;
+    Ok(())
+}
+
+/// Adds the name of an entry. One that is no text comes as an error of its own kind, and is counted.
+fn add_name<R: Files + AllocGlobal>(
+    rt: &R,
+    names: &mut Names,
+    entry: io::Result<DirEntry<&R>>,
+) -> io::Result<()>
+    ensures { AddsEntry (named_of names.old) (named_of names.new) entry.entry result }
+{
+    match entry {
+        Ok(entry) => {
+            push_name(rt, names, entry.file_name())?;
+            Ok(())
+        }
+        Err(error) => {
+            if error.kind() != ErrorKind::InvalidFilename {
+                return Err(error);
+            }
+            names.others = names.others.saturating_add(1);
+            Ok(())
+        }
+    }
+}
+
+/// The names in a directory.
 fn names_in<R: Files + AllocGlobal>(rt: &R, path: &str) -> io::Result<Names> {
     let mut names = Names {
         texts: Vec::new(rt.alloc()),
         others: 0,
     };
     for entry in fs::read_dir(&rt, path)? {
-        match entry {
-            Ok(entry) => names
-                .texts
-                .push(String::from_str(rt.alloc(), entry.file_name())?)?,
-            Err(error) => match error.kind() {
-                ErrorKind::InvalidFilename => names.others = names.others.saturating_add(1),
-                _ => return Err(error),
-            },
-        }
+        add_name(rt, &mut names, entry)?;
     }
     Ok(names)
 }
 
 impl<'r, R: Files + AllocGlobal + Clock + Eprint> ReadFolder<'r, R> {
-    /// The folder of a path. It tells how far it is only where `tells`.
-    pub fn new(rt: &'r R, path: &str, tells: bool) -> Result<Self, AllocError> {
+    /// The folder of a path. It tells how far it is only where `tells`. The file that standard output is written to is not told.
+    pub fn new(rt: &'r R, path: &str, tells: bool) -> Result<Self, AllocError>
+        ensures { IfOk result (λ folder. read_root folder ≡ path.now) }
+    {
         Ok(ReadFolder {
             rt,
             root: String::from_str(rt.alloc(), path)?,
+            output: output_file(rt),
             progress: Progress::new(rt, tells),
         })
     }
 
     fn joined(&self, path: &str) -> Result<String, AllocError> {
         joined(self.rt, self.root.as_str(), path)
+    }
+
+    /// What the system tells of an object, unless it is the file that standard output is.
+    fn told(&self, metadata: &Metadata) -> Result<Looked, FolderFault>
+        ensures mode { IfOk result (λ it. it.mode ≡ metadata_mode metadata.now) }
+        ensures size { IfOk result (λ it. it.size ≡ metadata_len metadata.now) }
+        ensures output { IfErr result (λ fault. fault ≡ FolderFault.Output) }
+        ensures every { self.now.output ≡ None → IsOk result }
+    {
+        if self.output.is_some() && file_of(metadata) == self.output {
+            return Err(FolderFault::Output);
+        }
+        Ok(looked_of(metadata))
     }
 
     /// Takes away what was told of how far it is.
@@ -90,41 +187,37 @@ impl<'r, R: Files + AllocGlobal + Clock + Eprint> HostFolder for ReadFolder<'r, 
     fn look(&mut self, path: &str) -> Result<Looked, FolderFault> {
         self.progress.step();
         let path = self.joined(path)?;
-        match look_at(self.rt, path.as_str()) {
-            Ok(looked) => Ok(looked),
-            Err(error) => Err(fault_of(error)),
-        }
+        let metadata = answered(fs::symlink_metadata(self.rt, path.as_str()))?;
+        self.told(&metadata)
     }
 
     fn names(&mut self, path: &str) -> Result<Names, FolderFault> {
         let path = self.joined(path)?;
-        match names_in(self.rt, path.as_str()) {
-            Ok(names) => Ok(names),
-            Err(error) => Err(fault_of(error)),
-        }
+        answered(names_in(self.rt, path.as_str()))
     }
 
     fn target(&mut self, path: &str) -> Result<String, FolderFault> {
         let path = self.joined(path)?;
-        match fs::read_link(self.rt, path.as_str()) {
-            Ok(target) => Ok(target.into_string()),
-            Err(error) => Err(fault_of(error)),
-        }
+        let target = answered(fs::read_link(self.rt, path.as_str()))?;
+        Ok(target.into_string())
     }
 
     fn bytes(&mut self, path: &str, limit: usize) -> Result<Vec<u8>, FolderFault> {
         let path = self.joined(path)?;
-        let Ok(file) = fs::open(self.rt, path.as_str()) else {
-            return Err(FolderFault::Refused);
-        };
+        let file = answered(fs::open(self.rt, path.as_str()))?;
         match load(self.rt.alloc(), &mut FromReader::new(file), limit) {
             Ok(bytes) => Ok(bytes),
-            Err(LoadFault::OutOfMemory) => Err(FolderFault::OutOfMemory),
-            Err(_) => Err(FolderFault::Refused),
+            Err(fault) => Err(unread(fault)),
         }
     }
 
     fn host_path(&mut self, path: &str) -> Result<String, FolderFault> {
         Ok(self.joined(path)?)
+    }
+
+    fn open(&mut self, path: &str) -> Result<(), FolderFault> {
+        let path = self.joined(path)?;
+        let _file = answered(fs::open(self.rt, path.as_str()))?;
+        Ok(())
     }
 }

@@ -1,9 +1,9 @@
-use Rattle.std.proofs.Common.{◌≡◌, ◌++◌, [], map, replicate, subst, sym}
+use Rattle.std.proofs.Common.{◌≡◌, ◌++◌, map, subst, sym}
 use Rattle.std.specs.Prelude.{IsPermutation, String, Vec}
 use Rattle.std.specs.List.{All}
 use Rattle.std.specs.String.{string_bytes}
 use Rattle.std.specs.declared.alloc.Global.{Global}
-use Rattle.jfolder.specs.Complete.{child, children, left_paths}
+use Rattle.jfolder.specs.Complete.{child, children, left_paths, unnamed_paths}
 use Rattle.jfolder.specs.Known.{named_of}
 use Rattle.jfolder.specs.Reasons.{IsUnlisted, IsUnnamed, IsWrongChild}
 use Rattle.jfolder.proofs.CompleteLemmas.{children_told, texts}
@@ -15,7 +15,7 @@ pub returns-clause-told : goal.returns-clause-told
 returns-clause-told g c =
     let directory = c.args.directory.now in
     let others = c.args.names.others in
-    tells_then {X = Vec (String Global) Global} (λ lefts. (left_paths lefts ≡ replicate others (child directory [])) × All (IsUnnamed directory others) lefts)
+    tells_then {X = Vec (String Global) Global} (λ lefts. (left_paths lefts ≡ unnamed_paths directory others) × All (IsUnnamed directory others) lefts)
     (λ paths lefts. IsPermutation (map (λ (n : String Global). child directory (string_bytes n)) c.as_slice.result.now) (texts paths.items ++ left_paths lefts)
     × All (IsWrongChild directory (texts c.as_slice.result.now)) lefts)
     (λ paths lefts. IsPermutation (children directory (named_of c.args.names)) (texts paths.items ++ left_paths lefts) × All (IsUnlisted directory (named_of c.args.names)) lefts)

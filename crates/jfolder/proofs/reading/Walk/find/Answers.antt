@@ -1,6 +1,6 @@
-use Rattle.std.proofs.Common.{◌≡◌, ℕ, List, sym, subst}
+use Rattle.std.proofs.Common.{◌≡◌, ℕ, List, true, sym, subst}
 use Rattle.std.specs.Prelude.{IfSome}
-use Rattle.jfolder.specs.Known.{Known, inside}
+use Rattle.jfolder.specs.Known.{Known, MayAnswer, inside}
 use Rattle.jfolder.specs.Links.{HasOtherNames, IsMet, id_of}
 use Rattle.jfolder.specs.Objects.{AreOne}
 use Rattle.jfolder.specs.Walking.{IsFileOf}
@@ -36,6 +36,7 @@ returns-then-branch-clause-object g c =
     (subst (λ (l : List ℕ). IfSome (known.looked l) (λ told. c.in_ok-looked.looked ≡ told)) c.in-Some.ensures.rest c.in_ok-looked.ensures.told)
     (subst (λ (k : Known). IfSome (k.looked (inside c.in-Some-first_path.first.now)) (λ told. AreOne told c.in_ok-looked.looked)) c.look.ensures.kept
     (c.in_ok-is_one.ensures.one c.if-branch.true))
+    (subst (λ (k : Known). MayAnswer (k.is_told (inside c.in-Some-first_path.first.now)) true) c.look.ensures.kept (c.in_ok-is_one.ensures.seen c.if-branch.true))
     c.in_ok-from_str.ensures.ok c.link_to.ensures.what
 
 pub returns-then-branch-clause-links : goal.returns-then-branch-clause-links

@@ -1,0 +1,24 @@
+-- What an answer of the system comes to.
+use Rattle.std.specs.Prelude.{Result, Ok, Err}
+use Rattle.std.specs.IoError.{error_kind}
+use Rattle.std.specs.declared.io.Error.{Error}
+use Rattle.std.specs.declared.io.ErrorKind.{ErrorKind}
+use Rattle.std.specs.declared.io.ErrorKind.TheVariants as kind
+use Rattle.flashbase.specs.declared.source.LoadFault.{LoadFault}
+use Rattle.flashbase.specs.declared.source.LoadFault.TheVariants as load
+use Rattle.jfolder.specs.declared.fault.FolderFault.{FolderFault}
+use Rattle.jfolder.specs.declared.fault.FolderFault.TheVariants as folder
+
+-- Memory ran out, or what was asked for is no text; all else is a refusal.
+abbrev pub fault_of_kind : ErrorKind → FolderFault
+fault_of_kind kind.OutOfMemory = folder.OutOfMemory
+fault_of_kind kind.InvalidFilename = folder.NoText
+fault_of_kind _ = folder.Refused
+
+abbrev pub answer_of : {T : Type 0} → Result T Error → Result T FolderFault
+answer_of (Ok answer) = Ok answer
+answer_of (Err error) = Err (fault_of_kind (error_kind error))
+
+abbrev pub fault_of_load : LoadFault → FolderFault
+fault_of_load load.OutOfMemory = folder.OutOfMemory
+fault_of_load _ = folder.Refused
