@@ -1,5 +1,5 @@
 -- A session that was broken.
-use Rattle.std.proofs.Common.{◌≡◌, ℕ, zero, suc, ◌<◌, List, [], ◌∷◌, length, Bool, Option, Some, None, Result, Ok, Err, refl, sym, ◌∙◌, arith, ap}
+use Rattle.std.proofs.Common.{◌≡◌, ℕ, ◌<◌, List, [], ◌∷◌, length, Bool, Some, None, Result, Ok, Err, refl, sym, ◌∙◌, arith, ap}
 use Rattle.std.specs.Prelude.{IsTrue, IsFalse, slice_get, option_map}
 use Rattle.jsteps.specs.declared.op.Op.{Op}
 use Rattle.jlog.specs.declared.fault.SessionFault.{SessionFault}
