@@ -11,27 +11,26 @@ use Rattle.std.specs.Option.{option_or}
 use Rattle.std.proofs.lemmas.Grind.{common_steps}
 use Rattle.std.proofs.lemmas.Bool.Decides.{nat_tests}
 use Rattle.std.proofs.lemmas.Str.{is_utf8-from_IsUtf8}
-use Rattle.flashbase.specs.Device.{next_count}
 use Rattle.jmount.specs.Find.{is_name}
 use Rattle.jmount.specs.Tree.{State, object}
 use Rattle.jmount.specs.Shown.{readable, shown}
 use Rattle.jmount.specs.declared.object.Object.{Object}
 use Rattle.jmount.specs.declared.object.Kind.{Kind}
 use Rattle.jmount.specs.declared.object.Kind.TheVariants as k
-use Rattle.jextract.specs.Folders.{Made, Deed, Link, Symlink, ReportsMore, Counts}
+use Rattle.jextract.specs.Folders.{Failures, refused_once, full_once, Made, Deed, Link, Symlink, ReportsMore, Counts}
 use Rattle.jextract.specs.Making.{Does, Follows, IsPathOf, FirstsAfter, Works, fault_of, firsts_of}
 use Rattle.jextract.specs.Outcomes.{Plan, Do, LeaveOut, Task, Make, path_of_task, Outcome, FirstPaths, FollowsPlan, firsts_if, firsts_with, made_at, is_refusal, is_target, plan_again, plan_anew, plan_at, plan_made, plan_of, plan_symlink, attributes_of}
 use Rattle.jextract.specs.Paths.{greatest_path, host_path, relative_path, text_if}
 use Rattle.jextract.specs.declared.folder.Attributes.{Attributes}
 use Rattle.jextract.specs.declared.folder.FolderFault.{FolderFault}
-use Rattle.jextract.specs.declared.folder.FolderFault.TheVariants.{Refused, OutOfMemory}
+use Rattle.jextract.specs.declared.folder.FolderFault.TheVariants.{Refused, NoSpace, OutOfMemory}
 use Rattle.jextract.specs.declared.making.MakeFault.{MakeFault}
 use Rattle.jextract.specs.declared.making.MakeFault.TheVariants as make
 use Rattle.jextract.specs.declared.reason.Reason.{Reason}
 use Rattle.jextract.specs.declared.reason.Reason.TheVariants as reason
 
 -- the deeds of a plan were not all done
-pub does_fail : (S : Type 0) {T : Type 0} (old new : Option (List Made)) (before now : ℕ) (path : List ℕ) (plan : Plan) (deeds : List Deed) (e : FolderFault) (r : Result T MakeFault)
+pub does_fail : (S : Type 0) {T : Type 0} (old new : Option (List Made)) (before now : Failures) (path : List ℕ) (plan : Plan) (deeds : List Deed) (e : FolderFault) (r : Result T MakeFault)
     → plan ≡ Do deeds → Does {T = S} old new before now (made_at path deeds) (Err e) → IsErrAnd r (λ x. x ≡ fault_of e) → Follows old new before now path plan r
 does_fail S old new before now path plan deeds e (Ok x) is does err = absurd err
 does_fail S {T} old new before now path plan deeds Refused (Err f) is does err =
@@ -40,7 +39,7 @@ does_fail S {T} old new before now path plan deeds OutOfMemory (Err f) is does e
     subst (λ (y : MakeFault). Follows {T = T} old new before now path plan (Err y)) (sym err) (deeds, is, does.0)
 
 -- the one deed of a plan was not done
-pub one_fails : (S : Type 0) {T : Type 0} (old new : Option (List Made)) (before now : ℕ) (path : List ℕ) (plan : Plan) (deed : Deed) (e : FolderFault) (r : Result T MakeFault)
+pub one_fails : (S : Type 0) {T : Type 0} (old new : Option (List Made)) (before now : Failures) (path : List ℕ) (plan : Plan) (deed : Deed) (e : FolderFault) (r : Result T MakeFault)
     → plan ≡ Do (deed ∷ []) → ReportsMore old new [] → Counts {T = S} before now (Err e) → IsErrAnd r (λ x. x ≡ fault_of e) → Follows old new before now path plan r
 one_fails S old new before now path plan deed Refused r is adds counts err =
     does_fail S old new before now path plan (deed ∷ []) Refused r is ((0, omega arith, adds), counts) err
@@ -80,7 +79,7 @@ follows_plan : (path : Result (List ℕ) Reason) (text : List ℕ) (plan planned
 follows_plan path text plan planned o at is follows =
     subst (λ (p : Result (List ℕ) Reason). FollowsPlan p plan o) (sym at) (subst (λ (q : Plan). FollowsPlan (Ok text) q o) (sym is) follows)
 
-pub works_as_planned : {T : Type 0} (s : State) (owners : Bool) (firsts : FirstPaths) (task : Task) (text : List ℕ) (old new : Option (List Made)) (before now : ℕ) (r : Result T MakeFault)
+pub works_as_planned : {T : Type 0} (s : State) (owners : Bool) (firsts : FirstPaths) (task : Task) (text : List ℕ) (old new : Option (List Made)) (before now : Failures) (r : Result T MakeFault)
     → host_path (path_of_task task) ≡ Ok text → Follows old new before now text (plan_at s owners firsts task) r → Works s owners firsts task old new before now r
 works_as_planned s owners firsts task text old new before now (Ok x) at follows =
     let o : Outcome = record { path = path_of_task task; deeds = made_at text follows.0; left_out = None } in
@@ -91,7 +90,7 @@ works_as_planned s owners firsts task text old new before now (Err (make.LeftOut
       (refl, follows_plan (host_path (path_of_task task)) text (plan_at s owners firsts task) (LeaveOut why) o at left.0 (refl, refl)),
       refl,
       left.1,
-      left.2 ∙ ap (λ (b : Bool). if b then next_count before else before) (sym left.3),
+      left.2 ∙ ap (λ (b : Bool). if b then refused_once before else before) (sym left.3),
     )
 works_as_planned s owners firsts task text old new before now (Err (make.LeftOut why)) at (inr refused) =
     let some = refused.2 in
@@ -103,7 +102,7 @@ works_as_planned s owners firsts task text old new before now (Err (make.LeftOut
       ),
       refl,
       some.2,
-      refused.3 ∙ ap (λ (x : Reason). if is_refusal (Some x) then next_count before else before) (sym refused.4),
+      refused.3 ∙ ap (λ (x : Reason). if is_refusal (Some x) then refused_once before else before) (sym refused.4),
     )
 works_as_planned s owners firsts task text old new before now (Err make.OutOfMemory) at follows =
     let some = follows.2 in
@@ -115,7 +114,7 @@ works_as_planned s owners firsts task text old new before now (Err make.OutOfMem
     )
 
 -- all of a plan was done, and then memory ran out
-pub works_then_fails : {T : Type 0} (s : State) (owners : Bool) (firsts : FirstPaths) (task : Task) (text : List ℕ) (old new : Option (List Made)) (before now : ℕ) (r : Result T MakeFault) (S : Type 0) (x : S)
+pub works_then_fails : {T : Type 0} (s : State) (owners : Bool) (firsts : FirstPaths) (task : Task) (text : List ℕ) (old new : Option (List Made)) (before now : Failures) (r : Result T MakeFault) (S : Type 0) (x : S)
     → host_path (path_of_task task) ≡ Ok text → Follows old new before now text (plan_at s owners firsts task) (Ok x) → IsErrAnd r (λ e. e ≡ make.OutOfMemory)
     → Works s owners firsts task old new before now r
 works_then_fails s owners firsts task text old new before now (Ok y) S x at follows err = absurd err
@@ -138,7 +137,7 @@ no_path_is_no_refusal path why is = names (list_all is_name path) is
     names false is = let e : reason.BadName ≡ why = cc in ap (λ (x : Reason). is_refusal (Some x)) (sym e)
 
 -- there is no path, or no memory for it
-pub works_without_path : {T : Type 0} (s : State) (owners : Bool) (firsts : FirstPaths) (task : Task) (made : Option (List Made)) (before : ℕ) (fault : MakeFault) (r : Result T MakeFault)
+pub works_without_path : {T : Type 0} (s : State) (owners : Bool) (firsts : FirstPaths) (task : Task) (made : Option (List Made)) (before : Failures) (fault : MakeFault) (r : Result T MakeFault)
     → IsPathOf (host_path (path_of_task task)) (Err fault) → IsErrAnd r (λ e. e ≡ fault) → Works s owners firsts task made made before before r
 works_without_path s owners firsts task made before fault (Ok x) gone err = absurd err
 works_without_path {T} s owners firsts task made before (make.LeftOut why) (Err e) gone err =
@@ -148,12 +147,12 @@ works_without_path {T} s owners firsts task made before (make.LeftOut why) (Err 
       (refl, subst (λ (p : Result (List ℕ) Reason). FollowsPlan p (plan_at s owners firsts task) o) (sym gone) (refl, refl)),
       refl,
       ReportsMore-nil made,
-      ap (λ (b : Bool). if b then next_count before else before) (sym (no_path_is_no_refusal (path_of_task task) why gone)),
+      ap (λ (b : Bool). if b then refused_once before else before) (sym (no_path_is_no_refusal (path_of_task task) why gone)),
     )
 works_without_path {T} s owners firsts task made before make.OutOfMemory (Err e) gone err =
     subst (λ (f : MakeFault). Works {T = T} s owners firsts task made made before before (Err f)) (sym err) (inl (ReportsMore-nil made))
 
-pub works_at_fault : {T : Type 0} (s : State) (owners : Bool) (firsts : FirstPaths) (task : Task) (old new : Option (List Made)) (before now : ℕ) (S : Type 0) (fault : MakeFault) (r : Result T MakeFault)
+pub works_at_fault : {T : Type 0} (s : State) (owners : Bool) (firsts : FirstPaths) (task : Task) (old new : Option (List Made)) (before now : Failures) (S : Type 0) (fault : MakeFault) (r : Result T MakeFault)
     → IsErrAnd r (λ e. e ≡ fault) → Works {T = S} s owners firsts task old new before now (Err fault) → Works s owners firsts task old new before now r
 works_at_fault s owners firsts task old new before now S fault (Ok x) err works = absurd err
 works_at_fault {T} s owners firsts task old new before now S fault (Err e) err works =

@@ -21,16 +21,16 @@ use Rattle.jextract.proofs.MakingLemmas.{ReportsMore-nil}
 -- ---- the tasks of a name
 
 tasks_more : (s : State) (path : List (List ℕ)) (name : List ℕ) (i : ℕ) (names : List (List ℕ × ℕ))
-    → tasks_of s path ((name, i) ∷ names) ≡ task_if s (path ++ name ∷ []) i ++ tasks_of s path names
+    → tasks_of path ((name, i) ∷ names) ≡ task_if s (path ++ name ∷ []) i ++ tasks_of path names
 tasks_more s path name i names = by (is_there s i) refl
   where
-    by : (there : Bool) → is_there s i ≡ there → tasks_of s path ((name, i) ∷ names) ≡ task_if s (path ++ name ∷ []) i ++ tasks_of s path names
+    by : (there : Bool) → is_there s i ≡ there → tasks_of path ((name, i) ∷ names) ≡ task_if s (path ++ name ∷ []) i ++ tasks_of path names
     by true is =
         ap (λ b. map (λ e. Make (path ++ e.0 ∷ []) e.1) (cond b ((name, i) ∷ filter (λ e. is_there s e.1) names) (filter (λ e. is_there s e.1) names))) is
-        ∙ sym (ap (λ (b : Bool). (if b then Make (path ++ name ∷ []) i ∷ [] else []) ++ tasks_of s path names) is)
+        ∙ sym (ap (λ (b : Bool). (if b then Make (path ++ name ∷ []) i ∷ [] else []) ++ tasks_of path names) is)
     by false is =
         ap (λ b. map (λ e. Make (path ++ e.0 ∷ []) e.1) (cond b ((name, i) ∷ filter (λ e. is_there s e.1) names) (filter (λ e. is_there s e.1) names))) is
-        ∙ sym (ap (λ (b : Bool). (if b then Make (path ++ name ∷ []) i ∷ [] else []) ++ tasks_of s path names) is)
+        ∙ sym (ap (λ (b : Bool). (if b then Make (path ++ name ∷ []) i ∷ [] else []) ++ tasks_of path names) is)
 
 -- what a walk has left, beside the names of the directory that it reads
 abbrev pub more_of : State → Walk → List Task
@@ -38,20 +38,20 @@ more_of s w = Complete (extraction_way w) w.ino ∷ tasks_up s (reverse w.above.
 
 -- what it has left, where it read a name
 todo_read : (s : State) (w : Walk) (name : List ℕ) (i : ℕ) (names : List (List ℕ × ℕ)) → w.left ≡ (name, i) ∷ names
-    → task_if s (extraction_way w ++ name ∷ []) i ++ (tasks_of s (extraction_way w) names ++ more_of s w) ≡ extraction_todo s w
+    → task_if s (extraction_way w ++ name ∷ []) i ++ (tasks_of (extraction_way w) names ++ more_of s w) ≡ extraction_todo s w
 todo_read s w name i names read =
-    sym (append_assoc (task_if s (extraction_way w ++ name ∷ []) i) (tasks_of s (extraction_way w) names) (more_of s w))
+    sym (append_assoc (task_if s (extraction_way w ++ name ∷ []) i) (tasks_of (extraction_way w) names) (more_of s w))
     ∙ ap (λ (t : List Task). t ++ more_of s w) (sym (tasks_more s (extraction_way w) name i names))
-    ∙ ap (λ (left : List (List ℕ × ℕ)). tasks_of s (extraction_way w) left ++ more_of s w) (sym read)
+    ∙ ap (λ (left : List (List ℕ × ℕ)). tasks_of (extraction_way w) left ++ more_of s w) (sym read)
 
 -- ---- the walk goes on in the same directory, or in the one that the name leads to
 
 stays_todo : (s : State) (w n : Walk) (names : List (List ℕ × ℕ)) → n.left ≡ names → n.ino ≡ w.ino → n.above.items ≡ w.above.items → extraction_way n ≡ extraction_way w
-    → tasks_of s (extraction_way w) names ++ more_of s w ≡ extraction_todo s n
+    → tasks_of (extraction_way w) names ++ more_of s w ≡ extraction_todo s n
 stays_todo s w n names left ino above way =
-    ap (λ (l : List (List ℕ × ℕ)). tasks_of s (extraction_way w) l ++ more_of s w) (sym left)
-    ∙ ap (λ (i : ℕ). tasks_of s (extraction_way w) n.left ++ Complete (extraction_way w) i ∷ tasks_up s (reverse w.above.items) (way_up (extraction_way w))) (sym ino)
-    ∙ ap (λ (a : List (ℕ × List (List ℕ × ℕ))). tasks_of s (extraction_way w) n.left ++ Complete (extraction_way w) n.ino ∷ tasks_up s (reverse a) (way_up (extraction_way w))) (sym above)
+    ap (λ (l : List (List ℕ × ℕ)). tasks_of (extraction_way w) l ++ more_of s w) (sym left)
+    ∙ ap (λ (i : ℕ). tasks_of (extraction_way w) n.left ++ Complete (extraction_way w) i ∷ tasks_up s (reverse w.above.items) (way_up (extraction_way w))) (sym ino)
+    ∙ ap (λ (a : List (ℕ × List (List ℕ × ℕ))). tasks_of (extraction_way w) n.left ++ Complete (extraction_way w) n.ino ∷ tasks_up s (reverse a) (way_up (extraction_way w))) (sym above)
     ∙ ap (tasks_up s ((n.ino, n.left) ∷ reverse n.above.items)) (sym way)
 
 advances_to : (s : State) (owners : Bool) (firsts then_ : FirstPaths) (todo other todo_ todo_other : List Task) (outcomes : List Outcome)
@@ -70,9 +70,9 @@ stays s owners w n name i old new read ino above way visits =
     let fewer = visits.3 in (
       visits.0,
       visits.1,
-      advances_to s owners (firsts_of w.firsts) (firsts_of n.firsts) (task_if s (extraction_way w ++ name ∷ []) i ++ (tasks_of s (extraction_way w) n.left ++ more_of s w)) (extraction_todo s w)
-          (tasks_of s (extraction_way w) n.left ++ more_of s w) (extraction_todo s n) visits.0 (todo_read s w name i n.left read) (stays_todo s w n n.left refl ino above way)
-          (visits.2 (tasks_of s (extraction_way w) n.left ++ more_of s w)),
+      advances_to s owners (firsts_of w.firsts) (firsts_of n.firsts) (task_if s (extraction_way w ++ name ∷ []) i ++ (tasks_of (extraction_way w) n.left ++ more_of s w)) (extraction_todo s w)
+          (tasks_of (extraction_way w) n.left ++ more_of s w) (extraction_todo s n) visits.0 (todo_read s w name i n.left read) (stays_todo s w n n.left refl ino above way)
+          (visits.2 (tasks_of (extraction_way w) n.left ++ more_of s w)),
       omega arith,
     )
 
@@ -80,7 +80,7 @@ pub enters : (s : State) (owners : Bool) (w n : Walk) (name : List ℕ) (i : ℕ
     → n.left ≡ entries_in s i → n.above.items ≡ w.above.items ++ (w.ino, names) ∷ [] → extraction_way n ≡ extraction_way w ++ name ∷ []
     → Visits s owners (firsts_of w.firsts) (firsts_of n.firsts) (extraction_way w ++ name ∷ []) i old new (Ok true) → Steps s owners w n old new (Ok true)
 enters s owners w n name i names old new read ino left above way visits =
-    let rest = tasks_of s (extraction_way w) names ++ more_of s w in
+    let rest = tasks_of (extraction_way w) names ++ more_of s w in
     let back : way_up (extraction_way n) ≡ extraction_way w =
     ap way_up way
     ∙ ap (λ (k : ℕ). take k (extraction_way w ++ name ∷ [])) {x = length (extraction_way w ++ name ∷ []) - 1} {y = length (extraction_way w)} (omega (arith, length_push (extraction_way w) name))
@@ -90,11 +90,11 @@ enters s owners w n name i names old new read ino left above way visits =
     ap (λ (p : List (List ℕ)). tasks_up s ((w.ino, names) ∷ reverse w.above.items) p) (sym back)
     ∙ ap (λ (l : List (ℕ × List (List ℕ × ℕ))). tasks_up s l (way_up (extraction_way n))) (sym reversed) in
     let todo : tasks_in s (extraction_way w ++ name ∷ []) i ++ rest ≡ extraction_todo s n =
-    append_assoc (tasks_of s (extraction_way w ++ name ∷ []) (entries_in s i)) (Complete (extraction_way w ++ name ∷ []) i ∷ []) rest
-    ∙ ap (λ (p : List (List ℕ)). tasks_of s p (entries_in s i) ++ Complete p i ∷ rest) (sym way)
-    ∙ ap (λ (l : List (List ℕ × ℕ)). tasks_of s (extraction_way n) l ++ Complete (extraction_way n) i ∷ rest) (sym left)
-    ∙ ap (λ (j : ℕ). tasks_of s (extraction_way n) n.left ++ Complete (extraction_way n) j ∷ rest) (sym ino)
-    ∙ ap (λ (t : List Task). tasks_of s (extraction_way n) n.left ++ Complete (extraction_way n) n.ino ∷ t) up in
+    append_assoc (tasks_of (extraction_way w ++ name ∷ []) (entries_in s i)) (Complete (extraction_way w ++ name ∷ []) i ∷ []) rest
+    ∙ ap (λ (p : List (List ℕ)). tasks_of p (entries_in s i) ++ Complete p i ∷ rest) (sym way)
+    ∙ ap (λ (l : List (List ℕ × ℕ)). tasks_of (extraction_way n) l ++ Complete (extraction_way n) i ∷ rest) (sym left)
+    ∙ ap (λ (j : ℕ). tasks_of (extraction_way n) n.left ++ Complete (extraction_way n) j ∷ rest) (sym ino)
+    ∙ ap (λ (t : List Task). tasks_of (extraction_way n) n.left ++ Complete (extraction_way n) n.ino ∷ t) up in
     let own : length n.left ≡ length (entries_in s i) = ap (λ l. length l) left in
     let one : length w.left ≡ length names + 1 = ap (λ l. length l) read ∙ omega arith in
     let sum : sum_by (λ (d : ℕ × List (List ℕ × ℕ)). length d.1) n.above.items ≡ sum_by (λ (d : ℕ × List (List ℕ × ℕ)). length d.1) w.above.items + length names =
@@ -122,7 +122,7 @@ pub visit_failed : (s : State) (owners : Bool) (w n : Walk) (name : List ℕ) (i
     → w.left ≡ (name, i) ∷ names → Visits s owners (firsts_of w.firsts) firsts_then (extraction_way w ++ name ∷ []) i old new (Err f)
     → StopsBy s owners (firsts_of w.firsts) (extraction_todo s w) old new f
 visit_failed s owners w n name i names firsts_then old new f read visits =
-    subst (λ (t : List Task). StopsBy s owners (firsts_of w.firsts) t old new f) (todo_read s w name i names read) (visits (tasks_of s (extraction_way w) names ++ more_of s w))
+    subst (λ (t : List Task). StopsBy s owners (firsts_of w.firsts) t old new f) (todo_read s w name i names read) (visits (tasks_of (extraction_way w) names ++ more_of s w))
 
 whole_part : (old new : Option (List ℕ)) (line : List ℕ) → Appends old new line → PutsPart old new line
 whole_part old new line put = (length line, subst (Appends old new) (sym (take_whole line)) put)
@@ -147,14 +147,14 @@ pub visited_then_stops : (s : State) (owners : Bool) (w : Walk) (name : List ℕ
     → w.left ≡ (name, i) ∷ names → Visits s owners (firsts_of w.firsts) firsts_then (extraction_way w ++ name ∷ []) i old new (Ok entered)
     → StopsBy s owners (firsts_of w.firsts) (extraction_todo s w) old new fault.OutOfMemory
 visited_then_stops s owners w name i names firsts_then old new entered read visits =
-    let rest = tasks_of s (extraction_way w) names ++ more_of s w in
+    let rest = tasks_of (extraction_way w) names ++ more_of s w in
     subst (λ (t : List Task). StopsBy s owners (firsts_of w.firsts) t old new fault.OutOfMemory) (todo_read s w name i names read)
     (stops_after s owners (firsts_of w.firsts) firsts_then (task_if s (extraction_way w ++ name ∷ []) i ++ rest) (todo_then s (extraction_way w ++ name ∷ []) i entered rest) visits.0 old new visits.1 (visits.2 rest))
 
 -- ---- where no name is left
 
 todo_left : (s : State) (w : Walk) → w.left ≡ [] → more_of s w ≡ extraction_todo s w
-todo_left s w none = ap (λ (left : List (List ℕ × ℕ)). tasks_of s (extraction_way w) left ++ more_of s w) (sym none)
+todo_left s w none = ap (λ (left : List (List ℕ × ℕ)). tasks_of (extraction_way w) left ++ more_of s w) (sym none)
 
 pub leave_failed : (s : State) (owners : Bool) (w : Walk) (old new : Sight) (f : ExtractFault) → w.left ≡ [] → Completes s owners (extraction_way w) w.ino old new (Err f)
     → StopsBy s owners (firsts_of w.firsts) (extraction_todo s w) old new f
