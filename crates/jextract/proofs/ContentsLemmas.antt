@@ -1,6 +1,7 @@
 -- The places of a file, block by block.
 use Rattle.std.proofs.Common.{◌≡◌, ℕ, zero, suc, ◌+◌, ◌-◌, ◌*◌, ◌/◌, ◌<◌, ◌≤◌, ◌==◌, Bool, true, false, List, [], ◌∷◌, ◌++◌, length, get_or, take, drop, map, append_assoc, append-nil, refl, sym, ap, ◌∙◌, subst, arith, Option, Some, None, Ok, if◌then◌else◌}
-use Rattle.std.specs.Prelude.{min, replicate, slice_index, unwrap_or}
+use Rattle.std.proofs.lemmas.Bool.Decides.{nat_tests}
+use Rattle.std.specs.Prelude.{min, replicate, sum, slice_index, unwrap_or}
 use Rattle.std.proofs.lemmas.Grind.{common_steps}
 use Rattle.std.proofs.lemmas.List.{same_lists, length-take, length-drop, length-replicate, length-map, get_or-take, get_or-drop, get_or-map, get_or-replicate, map-append}
 use Rattle.flashbase.specs.Lists.{below, each_below}
@@ -31,6 +32,11 @@ each_below-more a (suc n) f =
     ∙ ap (λ l. each_below a f ++ l) (sym (map-append (λ k. f (a + k)) (below n) (n ∷ [])))
 
 -- ---- a block
+
+-- bytes are zero where their sum is
+pub zero_sum : (bytes : List ℕ) → is_zero bytes ≡ (sum bytes == 0)
+zero_sum [] = refl
+zero_sum (b ∷ bytes) = let rest : is_zero bytes ≡ (sum bytes == 0) = zero_sum bytes in grind (arith, common_steps, nat_tests)
 
 -- the cells of a block are those of the whole from the block's first place on
 block_placed : (bytes : List ℕ) (j : ℕ) → hole_block * j < length bytes

@@ -5,18 +5,18 @@ use crate::images::{HUGE, LARGE, PLAIN, image_of};
 use crate::recorder::{Recorder, is_made_once};
 use byteorder::LittleEndian;
 use flashbase::FromWriter;
-use jextract::{Totals, extract};
+use jextract::extract;
 use jmount::mount;
 use std::alloc::Global;
 use std::test::Fail;
 use test_support::{DIRECTORY, FILE, Node, SYMLINK};
 
-/// What is made of an image, what is counted, and what is told.
+/// What is made of an image, how many objects are left out and how many lose bits, and what is told.
 fn extracted(
     alloc: Global,
     nodes: &[Node<'_>],
     owners: bool,
-) -> Result<(String, Totals, Vec<u8>), &'static str> {
+) -> Result<(String, (u64, u64), Vec<u8>), &'static str> {
     let image = image_of(alloc, nodes)?;
     let mounted = mount::<LittleEndian>(alloc, &image, LARGE).map_err(|_| "no mount")?;
     let mut folder = Recorder::new(alloc, u64::MAX, u64::MAX);
@@ -24,18 +24,12 @@ fn extracted(
     let totals = extract(alloc, &mounted, owners, &mut folder, &mut notes).map_err(
         |_| "not extracted",
     )?;
-    Ok((folder.lines, totals, notes.into_writer()))
+    let counted = (totals.left_out, totals.lost_bits);
+    Ok((folder.lines, counted, notes.into_writer()))
 }
 
-/// Nodes, what is made of them, what is counted, and what is told.
-type Row = (&'static [Node<'static>], &'static str, Totals, &'static str);
-
-const fn none_lost(left_out: u64) -> Totals {
-    Totals {
-        left_out,
-        lost_bits: 0,
-    }
-}
+/// Nodes, what is made of them, how many objects are left out and how many lose bits, and what is told.
+type Row = (&'static [Node<'static>], &'static str, (u64, u64), &'static str);
 
 const PLAIN_TREE: Row = (
     PLAIN,
@@ -48,10 +42,7 @@ symlink s /d/f 777 7 5\n\
 link t d/f\n\
 link u s\n\
 attributes  755 0 0\n",
-    Totals {
-        left_out: 1,
-        lost_bits: 1,
-    },
+    (1, 1),
     "left out /x: no inode\n",
 );
 
@@ -73,7 +64,7 @@ const BAD_NAMES: Row = (
 file ...\n\
 content ... [x] 644 7 5\n\
 attributes  755 7 5\n",
-    none_lost(5),
+    (5, 0),
     "left out /.: a name that no file has\n\
 left out /..: a name that no file has\n\
 left out /a\\x00b: a name that no file has\n\
@@ -98,7 +89,7 @@ directory y\n\
 link y/x x\n\
 attributes y 755 7 5\n\
 attributes  755 0 0\n",
-    none_lost(0),
+    (0, 0),
     "",
 );
 
@@ -114,7 +105,7 @@ const CIRCLE: Row = (
 directory d\n\
 attributes d 755 7 5\n\
 attributes  755 0 0\n",
-    none_lost(3),
+    (3, 0),
     "left out /d/x: directory again\n\
 left out /d/y: directory again\n\
 left out /z: directory again\n",
@@ -141,7 +132,7 @@ const OTHER_KINDS: Row = (
     ],
     "directory \n\
 attributes  755 0 0\n",
-    none_lost(8),
+    (8, 0),
     "left out /a: FIFO\n\
 left out /b: character device\n\
 left out /c: block device\n\
@@ -213,18 +204,11 @@ fn bits_that_go_with_owners(rt: HostRuntime) -> Result<(), Fail> {
         "directory \nfile a\ncontent a [x] 755 7 5\nlink b a\nfile c\ncontent c [x] 711 7 5\nfile e\n\
 content e [x] 0 7 5\ndirectory f\nattributes f 1775 7 5\nfile g\ncontent g [x] 1644 7 5\nattributes  755 0 0\n",
     );
-    equal(
-        &rt,
-        totals,
-        Totals {
-            left_out: 0,
-            lost_bits: 4,
-        },
-    );
+    equal(&rt, totals, (0, 4));
     let (lines, totals, _) = extracted(rt.alloc(), &nodes, true)?;
     expect(&rt, lines.contains("content a [x] 4755 7 5 1000:1001\n"));
     expect(&rt, lines.contains("attributes f 3775 7 5 1000:1001\n"));
-    equal(&rt, totals, none_lost(0));
+    equal(&rt, totals, (0, 0));
     Ok(())
 }
 
