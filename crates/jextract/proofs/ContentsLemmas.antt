@@ -1,12 +1,13 @@
 -- The places of a file, block by block.
-use Rattle.std.proofs.Common.{◌≡◌, ℕ, zero, suc, ◌+◌, ◌-◌, ◌*◌, ◌/◌, ◌<◌, ◌≤◌, ◌==◌, Bool, true, false, List, [], ◌∷◌, ◌++◌, length, get_or, take, drop, map, append_assoc, append-nil, refl, sym, ap, ◌∙◌, subst, arith, Option, Some, None, Ok, if◌then◌else◌}
+use Rattle.std.proofs.Common.{◌≡◌, ℕ, zero, suc, ◌+◌, ◌-◌, ◌*◌, ◌/◌, ◌<◌, ◌≤◌, ◌==◌, Bool, true, false, List, [], ◌∷◌, ◌++◌, length, get_or, take, drop, map, append_assoc, append-nil, refl, sym, ap, ◌∙◌, subst, arith, Option, Some, None, Result, Ok, Err, if◌then◌else◌}
 use Rattle.std.proofs.lemmas.Bool.Decides.{nat_tests}
 use Rattle.std.specs.Prelude.{min, replicate, sum, slice_index, unwrap_or}
 use Rattle.std.proofs.lemmas.Grind.{common_steps}
 use Rattle.std.proofs.lemmas.List.{same_lists, length-take, length-drop, length-replicate, length-map, get_or-take, get_or-drop, get_or-map, get_or-replicate, map-append}
 use Rattle.flashbase.specs.Lists.{below, each_below}
 use Rattle.flashbase.proofs.ListLemmas.{length-each_below, get_or-each_below}
-use Rattle.jextract.specs.Cells.{Cells, Extends, block_at, bytes_read, cell_at, cells_of, hole_block, is_zero, skipped, written}
+use Rattle.jextract.specs.Cells.{AddsCells, Cells, Extends, block_at, bytes_read, cell_at, cells_of, hole_block, is_zero, skipped, written}
+use Rattle.jextract.specs.declared.folder.FolderFault.{FolderFault}
 use Rattle.jextract.specs.Filling.{HasBlocks, PutsBlock, block_cells}
 
 -- ---- places that follow one another
@@ -73,7 +74,7 @@ block_placed bytes j within = by (is_zero (block_at bytes j)) refl
         ∙ sym (get_or-replicate (length (block_at bytes j)) k None d inside))
     by false z =
         same_lists (each_below count (λ k. cell_at bytes (4096 * j + k))) (written (block_at bytes j))
-        (length-each_below count (λ k. cell_at bytes (4096 * j + k)) ∙ sym has ∙ sym (length-map (λ (b : ℕ). Some b) (block_at bytes j)))
+        (length-each_below count (λ k. cell_at bytes (4096 * j + k)) ∙ sym has ∙ sym (length-map (block_at bytes j) (λ (b : ℕ). Some b)))
         (λ k d h.
         let within : k < count = omega (arith, length-each_below count (λ k. cell_at bytes (4096 * j + k))) in
         let inside : k < length (block_at bytes j) = omega (arith, has) in
@@ -89,10 +90,10 @@ skipped-more (suc a) b = let e : suc a + b ≡ suc (a + b) = omega arith in ap s
 
 -- a block of zeros makes the hole longer
 pub zeros_put : (cells : Option Cells) (hole : ℕ) (block : List ℕ) → is_zero block ≡ true → PutsBlock cells cells hole block (Ok (hole + length block))
-zeros_put cells hole block zero = (
+zeros_put cells hole block none = (
   [],
   Extends-nil cells,
-  skipped-more hole (length block) ∙ ap (λ (b : Bool). skipped hole ++ (if b then skipped (length block) else written block)) (sym zero),
+  skipped-more hole (length block) ∙ ap (λ (b : Bool). skipped hole ++ (if b then skipped (length block) else written block)) (sym none),
   omega arith,
 )
 
@@ -138,16 +139,21 @@ blocks_more old mid new bytes block j hole left within is has puts =
     )
 
 -- all blocks, and the hole at the end
-pub all_blocks : (old mid new : Option Cells) (bytes : List ℕ) (j hole : ℕ) → length bytes ≤ hole_block * j → HasBlocks old mid bytes j hole → Extends mid new (skipped hole)
+all_blocks : (old mid new : Option Cells) (bytes : List ℕ) (j hole : ℕ) → length bytes ≤ hole_block * j → HasBlocks old mid bytes j hole → Extends mid new (skipped hole)
     → Extends old new (cells_of bytes)
 unfolding cells_of
 all_blocks old mid new bytes j hole all has left =
     let whole : min (4096 * j) (length bytes) ≡ length bytes = omega arith in
     subst (Extends old new) (has.2 ∙ ap (λ (n : ℕ). each_below n (cell_at bytes)) whole) (Extends-trans old mid new has.0 (skipped hole) has.1 left)
 
+pub all_added : {T : Type 0} (old mid new : Option Cells) (bytes : List ℕ) (j hole : ℕ) (r : Result T FolderFault) → length bytes ≤ hole_block * j → HasBlocks old mid bytes j hole
+    → AddsCells mid new (skipped hole) r → AddsCells old new (cells_of bytes) r
+all_added old mid new bytes j hole (Ok x) all has left = all_blocks old mid new bytes j hole all has left
+all_added old mid new bytes j hole (Err e) all has left = tt {0}
+
 -- the block that was read
-pub block_read : (bytes block out : List ℕ) (j count : ℕ) → count ≡ min 4096 (length bytes - j * 4096) → out ≡ take count (drop (j * 4096) bytes) → out ≡ block_at bytes j
-block_read bytes block out j count is read =
+pub block_read : (bytes out : List ℕ) (j count : ℕ) → count ≡ min 4096 (length bytes - j * 4096) → out ≡ take count (drop (j * 4096) bytes) → out ≡ block_at bytes j
+block_read bytes out j count is read =
     let turned : j * 4096 ≡ 4096 * j = omega arith in
     let left : length (drop (4096 * j) bytes) ≡ length bytes - 4096 * j = length-drop (4096 * j) bytes in
     read ∙ ap (λ (n : ℕ). take count (drop n bytes)) turned

@@ -19,7 +19,7 @@ use Rattle.jmount.specs.declared.object.Kind.{Kind}
 use Rattle.jmount.specs.declared.object.Kind.TheVariants as k
 use Rattle.jextract.specs.Folders.{Failures, refused_once, full_once, Made, Deed, Link, Symlink, ReportsMore, Counts}
 use Rattle.jextract.specs.Making.{Does, DoesSome, Follows, HasBegun, IsPathOf, FirstsAfter, Works, fault_of, firsts_of}
-use Rattle.jextract.specs.Outcomes.{Plan, Do, LeaveOut, Task, Make, path_of_task, Outcome, FirstPaths, FollowsPlan, firsts_if, firsts_with, made_at, is_refusal, is_target, lost_at, plan_again, plan_anew, plan_at, plan_made, plan_of, plan_symlink, attributes_of}
+use Rattle.jextract.specs.Outcomes.{Plan, Do, LeaveOut, Task, Make, path_of_task, Outcome, FirstPaths, FollowsPlan, firsts_if, firsts_with, made_at, is_refusal, is_directory_kind, is_target, loses_bits, lost_at, lost_made, plan_again, plan_anew, plan_at, plan_made, plan_of, plan_symlink, attributes_of}
 use Rattle.jextract.specs.Paths.{greatest_path, host_path, relative_path, text_if}
 use Rattle.jextract.specs.declared.folder.Attributes.{Attributes}
 use Rattle.jextract.specs.declared.folder.FolderFault.{FolderFault}
@@ -199,6 +199,16 @@ pub planned_anew : (s : State) (owners : Bool) (firsts : FirstPaths) (path : Lis
     → firsts i ≡ None → plan_at s owners firsts (Make path i) ≡ plan_anew o.kind (readable s i) (attributes_of owners o)
 planned_anew s owners firsts path i o there known =
     ap (plan_made s owners firsts i) there ∙ ap (λ (f : Option (List ℕ)). plan_of f o.kind (readable s i) (attributes_of owners o)) known
+
+pub lost_again : (s : State) (owners : Bool) (firsts : FirstPaths) (path : List (List ℕ)) (i : ℕ) (o : Object) (first : List ℕ) → option_map shown (object s i) ≡ Some o
+    → firsts i ≡ Some first → false ≡ lost_at s owners firsts (Make path i)
+lost_again s owners firsts path i o first there known =
+    sym (ap (λ (f : Option (List ℕ)). lost_made owners f (option_map shown (object s i))) known ∙ ap (lost_made owners (Some first)) there)
+
+pub lost_anew : (s : State) (owners : Bool) (firsts : FirstPaths) (path : List (List ℕ)) (i : ℕ) (o : Object) → option_map shown (object s i) ≡ Some o
+    → firsts i ≡ None → (not (is_directory_kind o.kind) && loses_bits owners o.mode) ≡ lost_at s owners firsts (Make path i)
+lost_anew s owners firsts path i o there known =
+    sym (ap (λ (f : Option (List ℕ)). lost_made owners f (option_map shown (object s i))) known ∙ ap (lost_made owners None) there)
 
 -- ---- the paths at which objects were made first
 

@@ -1,13 +1,13 @@
 //! Making one object.
 
-ghost use Rattle.std.specs.Prelude.{◌≡◌, ◌==◌, not, [], ◌∷◌, Some, None, IfOk, MatchOption, false, true, length, map, option_map};
+ghost use Rattle.std.specs.Prelude.{◌≡◌, ◌==◌, ◌&&◌, not, [], ◌∷◌, Some, None, IfOk, MatchOption, false, true, length, map, option_map};
 ghost use Rattle.std.specs.List.{list_all};
 ghost use Rattle.jmount.specs.Shown.{readable, shown};
 ghost use Rattle.jmount.specs.Tree as tree;
 ghost use Rattle.jextract.specs.Cells.{cells_of};
 ghost use Rattle.jextract.specs.Folders.{Content, File};
 ghost use Rattle.jextract.specs.Making.{Does, FirstsAfter, Follows, Works, firsts_of};
-ghost use Rattle.jextract.specs.Outcomes.{Complete, Make, attributes_of, is_target, loses_bits, lost_completed, made_at, mode_given, plan_again, plan_anew, plan_completed, plan_symlink, reason_of};
+ghost use Rattle.jextract.specs.Outcomes.{Complete, Make, attributes_of, is_directory_kind, is_target, loses_bits, lost_completed, made_at, mode_given, plan_again, plan_anew, plan_completed, plan_symlink, reason_of};
 
 use crate::contents::put_contents;
 use crate::folder::{Attributes, Folder, FolderFault, Owner};
@@ -74,6 +74,13 @@ fn loses_bits(owners: bool, mode: u32) -> bool
     ensures { result ≡ loses_bits owners mode }
 {
     !owners && mode / 1024 % 4 != 0
+}
+
+/// Whether an object loses such a bit when it is made. A directory does when it is completed.
+fn loses_when_made(owners: bool, object: &Object) -> bool
+    ensures { result ≡ (not (is_directory_kind object.now.kind) && loses_bits owners object.now.mode) }
+{
+    object.kind != Kind::Directory && loses_bits(owners, object.mode)
 }
 
 /// What an object of the host gets of an object.
@@ -237,7 +244,7 @@ pub(crate) fn make<F: Folder>(
     let attributes = attributes_of(&object, owners);
     make_anew(mounted, ino, &object, path.as_str(), attributes, folder)?;
     firsts.insert(ino, path)?;
-    Ok(object.kind != Kind::Directory && loses_bits(owners, object.mode))
+    Ok(loses_when_made(owners, &object))
 }
 
 /// Gives a directory its attributes. Answers whether it lost a set-id bit.

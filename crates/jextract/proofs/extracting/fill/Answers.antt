@@ -1,10 +1,11 @@
-use Rattle.std.proofs.Common.{Bool, [], refl, subst, Ok}
+use Rattle.std.proofs.Common.{Bool, [], refl, subst, sym, Ok}
 use Rattle.jextract.specs.Outcomes.{root_alone, tasks_in}
 use Rattle.jextract.specs.Walking.{Sight, Steps, no_totals}
 use Rattle.jextract.specs.declared.extracting.Walk.{Walk}
 use Rattle.jextract.specs.declared.fault.ExtractFault.TheVariants.{OutOfMemory}
+use Rattle.jextract.specs.declared.totals.Totals.{Totals}
 use Rattle.jextract.proofs.StepLemmas.{stops_before}
-use Rattle.jextract.proofs.FillLemmas.{fills_at_fault, none_in, reached_first, reaches_end, reaches_fault, reaches_on, root_known}
+use Rattle.jextract.proofs.FillLemmas.{Reached, fills_at_fault, none_in, reached_first, reaches_end, reaches_fault, reaches_on, root_known}
 use Rattle.jextract.proofs.extracting.fill.Goals as goal
 
 pub returns-in_err-insert : goal.returns-in_err-insert
@@ -18,8 +19,9 @@ loop-walk-init g c =
     let s = c.args.mounted.now.state in
     let old : Sight = record { made = g.F.Folder.made c.args.folder.now; failures = g.F.Folder.failures c.args.folder.now; told = g.N.Sink.taken c.args.notes.now; told_failures = g.N.Sink.failures c.args.notes.now; totals = no_totals } in
     let w : Walk = record { path = c.new-2.result; ino = 1; left = c.entries.result; above = c.new-3.result; firsts = c.insert.new.self; totals = c.none.result } in
-    reached_first s c.args.owners w old c.new-2.ensures.items refl c.entries.ensures c.new-3.ensures.items
-    (root_known c.new-firsts.result c.insert.new.self c.new.result (none_in c.new-firsts.result c.new-firsts.ensures.empty) c.new.ensures.bytes c.in_ok-insert.ensures.updates.0)
+    subst (λ (t : Totals). Reached s c.args.owners w old (record { made = old.made; failures = old.failures; told = old.told; told_failures = old.told_failures; totals = t })) (sym c.none.ensures)
+    (reached_first s c.args.owners w old c.new-2.ensures.items refl c.entries.ensures c.new-3.ensures.items
+    (root_known c.new-firsts.result c.insert.new.self c.new.result (none_in c.new-firsts.result c.new-firsts.ensures.empty) c.new.ensures.bytes c.in_ok-insert.ensures.updates.0))
 
 pub returns-in_err-step : goal.returns-in_err-step
 returns-in_err-step g c =
