@@ -1,0 +1,6 @@
+use Rattle.std.proofs.Common.{ℕ, List, ◌∙◌, subst, sym}
+use Rattle.flashbase.specs.Device.{Puts}
+use Rattle.jreport.proofs.extraction_notes.put_attributes.Goals as goal
+
+pub returns : goal.returns
+returns g c = ?
