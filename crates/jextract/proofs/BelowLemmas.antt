@@ -1,6 +1,6 @@
 -- What is made has a way of directories that were made before.
 use Rattle.std.proofs.Common.{◌≡◌, ℕ, Bool, true, false, List, [], ◌∷◌, ◌++◌, map, append-nil, append_assoc, refl, sym, ap, ◌∙◌, subst, inl, inr, ◌⊎◌, ⊎_elim, Option, Some, None, Result, Ok, Err, if◌then◌else◌, Contains}
-use Rattle.std.specs.Prelude.{⊤, filter, option_map}
+use Rattle.std.specs.Prelude.{⊤, option_map}
 use Rattle.std.specs.List.{flat_map}
 use Rattle.std.proofs.lemmas.List.Elements.{Contains-append_left, Contains-append_right}
 use Rattle.flashbase.proofs.MemberLemmas.{Contains-here, Contains-there}

@@ -1,12 +1,13 @@
 -- The places of a file, block by block.
-use Rattle.std.proofs.Common.{◌≡◌, ℕ, zero, suc, ◌+◌, ◌-◌, ◌*◌, ◌/◌, ◌<◌, ◌≤◌, ◌==◌, Bool, true, false, List, [], ◌∷◌, ◌++◌, length, get_or, take, drop, map, append_assoc, append-nil, refl, sym, ap, ◌∙◌, subst, arith, Option, Some, None, Result, Ok, Err, if◌then◌else◌}
+use Rattle.std.proofs.Common.{◌≡◌, ℕ, zero, suc, ◌+◌, ◌-◌, ◌*◌, ◌/◌, ◌<◌, ◌≤◌, ◌==◌, Bool, true, false, List, [], ◌∷◌, ◌++◌, length, get_or, take, drop, append_assoc, append-nil, refl, sym, ap, ◌∙◌, subst, arith, Option, Some, None, Result, Ok, Err, if◌then◌else◌}
 use Rattle.std.proofs.lemmas.Bool.Decides.{nat_tests}
-use Rattle.std.specs.Prelude.{min, replicate, sum, slice_index, unwrap_or}
-use Rattle.std.proofs.lemmas.Grind.{common_steps}
+use Rattle.std.specs.Prelude.{min, sum, slice_index, unwrap_or}
+use Rattle.std.proofs.lemmas.Grind.{common_steps, same_number_lists}
 use Rattle.std.proofs.lemmas.List.{same_lists, length-take, length-drop, length-replicate, length-map, get_or-take, get_or-drop, get_or-map, get_or-replicate, map-append}
 use Rattle.flashbase.specs.Lists.{below, each_below}
 use Rattle.flashbase.proofs.ListLemmas.{length-each_below, get_or-each_below}
 use Rattle.jextract.specs.Cells.{AddsCells, Cells, Extends, block_at, bytes_read, cell_at, cells_of, hole_block, is_zero, skipped, written}
+use Rattle.jextract.specs.Laws.{HolesReadBack}
 use Rattle.jextract.specs.declared.folder.FolderFault.{FolderFault}
 use Rattle.jextract.specs.Filling.{HasBlocks, PutsBlock, block_cells}
 
@@ -162,3 +163,38 @@ block_read bytes out j count is read =
   where
     take_least : (n : ℕ) (xs : List ℕ) → take (min n (length xs)) xs ≡ take n xs
     take_least n xs = grind (arith, common_steps)
+
+-- ---- what a file reads as
+
+zero_at : (bytes : List ℕ) (k : ℕ) → is_zero bytes ≡ true → get_or bytes k 0 ≡ 0
+zero_at [] k zeros = refl
+zero_at (b ∷ bytes) zero zeros = grind (arith, common_steps, nat_tests)
+zero_at (b ∷ bytes) (suc k) zeros = zero_at bytes k (grind (arith, common_steps, nat_tests))
+
+-- a byte of a block of zeros
+zero_in : (bytes : List ℕ) (k : ℕ) → is_zero (block_at bytes (k / 4096)) ≡ true → get_or bytes k 0 ≡ 0
+zero_in bytes k zeros =
+    let within : k - 4096 * (k / 4096) < 4096 = omega arith in
+    let same : 4096 * (k / 4096) + (k - 4096 * (k / 4096)) ≡ k = omega arith in
+    ap (λ (n : ℕ). get_or bytes n 0) (sym same)
+    ∙ sym (get_or-take 4096 (drop (4096 * (k / 4096)) bytes) (k - 4096 * (k / 4096)) 0 within ∙ get_or-drop (4096 * (k / 4096)) bytes (k - 4096 * (k / 4096)) 0)
+    ∙ zero_at (block_at bytes (k / 4096)) (k - 4096 * (k / 4096)) zeros
+
+cell_reads : (bytes : List ℕ) (k : ℕ) → unwrap_or (cell_at bytes k) 0 ≡ get_or bytes k 0
+cell_reads bytes k = by (is_zero (block_at bytes (k / 4096))) refl
+  where
+    by : (b : Bool) → is_zero (block_at bytes (k / 4096)) ≡ b → unwrap_or (if b then None else Some (slice_index bytes k)) 0 ≡ get_or bytes k 0
+    by true zeros = sym (zero_in bytes k zeros)
+    by false some = refl
+
+pub holes_read_back : HolesReadBack
+unfolding cells_of
+holes_read_back bytes =
+    let cells = each_below (length bytes) (cell_at bytes) in
+    let whole : length (bytes_read cells) ≡ length bytes = length-map cells (λ (cell : Option ℕ). unwrap_or cell 0) ∙ length-each_below (length bytes) (cell_at bytes) in
+    same_number_lists (bytes_read cells) bytes whole
+    (λ k h.
+    let within : k < length cells = omega (arith, whole, length-each_below (length bytes) (cell_at bytes)) in
+    get_or-map (λ (cell : Option ℕ). unwrap_or cell 0) cells k None 0 within
+    ∙ ap (λ (cell : Option ℕ). unwrap_or cell 0) (get_or-each_below (length bytes) k (cell_at bytes) None (omega (arith, whole)))
+    ∙ cell_reads bytes k)

@@ -1,5 +1,5 @@
 -- The walk through a tree that is extracted.
-use Rattle.std.proofs.Common.{◌≡◌, ℕ, ◌+◌, ◌≤◌, ◌&&◌, ◌==◌, cond, Bool, true, false, List, [], ◌∷◌, ◌++◌, length, append-nil, refl, sym, ap, ◌∙◌, subst, arith, inl, inr, Option, Some, None, Result, Ok, Err, if◌then◌else◌}
+use Rattle.std.proofs.Common.{◌≡◌, ℕ, ◌+◌, ◌≤◌, ◌&&◌, ◌==◌, cond, Bool, true, false, List, [], ◌∷◌, length, append-nil, refl, sym, ap, ◌∙◌, subst, arith, inl, inr, Option, Some, None, Result, Ok, Err, if◌then◌else◌}
 use Rattle.std.specs.Prelude.{is_some, is_none, count_by, option_map, IsErrAnd}
 use Rattle.std.specs.Option.{option_or}
 use Rattle.std.specs.Io.KnownBytes.{Appends}
@@ -15,7 +15,7 @@ use Rattle.jmount.specs.declared.object.Kind.TheVariants as kind
 use Rattle.jmount.specs.declared.object.Object.{Object}
 use Rattle.jextract.specs.Folders.{Failures, ReportsMore, refused_once}
 use Rattle.jextract.specs.Making.{HasBegun, Works, FirstsAfter, count_after}
-use Rattle.jextract.specs.Outcomes.{Task, Make, Complete, path_of_task, Outcome, FirstPaths, Plan, FollowsPlan, IsOutcomeOf, AreOutcomes, AreFirstOutcomes, attributes_of, is_directory_kind, is_refusal, plan_of, plan_made, tasks_after, todo_if, firsts_after, firsts_if, firsts_with, line_if_left_out, outcome_line}
+use Rattle.jextract.specs.Outcomes.{Task, Make, Complete, path_of_task, Outcome, FirstPaths, Plan, FollowsPlan, IsOutcomeOf, attributes_of, is_directory_kind, is_refusal, plan_of, plan_made, tasks_after, todo_if, firsts_after, firsts_if, firsts_with, line_if_left_out, outcome_line}
 use Rattle.jextract.specs.Paths.{host_path}
 use Rattle.jextract.specs.Walking.{Settles, Advances, Sight, Had, Stopped, StopsBy, Visits, Completes, todo_then, totals_up, unmade}
 use Rattle.jextract.specs.declared.fault.ExtractFault.{ExtractFault}

@@ -1,4 +1,4 @@
-use Rattle.std.proofs.Common.{arith, length, take, ◌∙◌, ◌*◌}
+use Rattle.std.proofs.Common.{arith, take, ◌∙◌, ◌*◌}
 use Rattle.jmount.specs.Shown.{readable}
 use Rattle.jmount.proofs.PieceLemmas.{piece_read}
 use Rattle.jextract.proofs.ContentsLemmas.{all_added, block_read, blocks_more}
