@@ -116,8 +116,8 @@ impl<'r, R: Files + AllocGlobal + Clock + Eprint> FilledFolder<'r, R> {
     /// What a call comes to, counted where the host is to blame.
     fn counted<T: Drop>(&mut self, done: io::Result<T>) -> Result<T, FolderFault>
         ensures counts { Counts (⟦<FilledFolder<'r, R> as Folder>⟧.failures self.old) (⟦<FilledFolder<'r, R> as Folder>⟧.failures self.new) result }
-        ensures fault { IfErr done.entry (λ error. IsErrOf result (filling_fault (error_kind error))) }
-        ensures made { IfOk done.entry (λ made. result ≡ Ok made) }
+        ensures fault { IfErr done (λ error. IsErrOf result (filling_fault (error_kind error))) }
+        ensures made { IfOk done (λ made. result ≡ Ok made) }
     {
         match done {
             Ok(made) => Ok(made),
