@@ -308,10 +308,10 @@ def further_names():
 
 def holes():
     """Blocks of zeros take no room, however large the file is that an image claims."""
-    claimed = 256 << 20
-    write("bomb.img", laid(node for k in range(20) for node in (inode(k + 2, 1, 0, claimed, b""), entry(1, k + 1, k + 2, b"%d" % k))))
+    claimed = 64 << 20
+    write("bomb.img", laid(node for k in range(4) for node in (inode(k + 2, 1, 0, claimed, b""), entry(1, k + 1, k + 2, b"%d" % k))))
     done = run("extract", "bomb.img", "bomb")
-    sizes = [os.lstat(f"bomb/{k}") for k in range(20)]
+    sizes = [os.lstat(f"bomb/{k}") for k in range(4)]
     verdict("a bomb", done.status == 0 and all((is_.st_size, is_.st_blocks) == (claimed, 0) for is_ in sizes), done)
     shutil.rmtree("bomb")
     content = bytes(8192) + b"x" + bytes(10000)

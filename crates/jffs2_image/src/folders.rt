@@ -21,7 +21,7 @@ use jextract::{ExtractFault, Folder, Totals, extract};
 use jfolder::{HostFolder, ReadFault, put_listing, read_folder};
 use jmount::mount;
 use jnode::{Endian, Order};
-use jreport::{ProgramFault, attribute_count, extraction_notes, noted};
+use jreport::{ProgramFault, attribute_count, noted, put_notes};
 use jscan::Geometry;
 use std::alloc::{AllocError, Global};
 
@@ -237,7 +237,7 @@ fn note_extraction<E: Sink>(done: Extracted, errors: &mut E)
         attributes,
     } = done;
     if findings != 0 || totals.lost_bits != 0 || attributes != 0 {
-        let _ = extraction_notes(findings, totals.lost_bits, attributes, errors);
+        let _ = put_notes(findings, totals.lost_bits, attributes, errors);
     }
 }
 

@@ -85,7 +85,7 @@ fn put_attributes<T: Sink>(nodes: u64, sink: &mut T) -> Result<(), DeviceFault>
 }
 
 /// Puts a note each on so many findings, objects that lost bits of their modes, and nodes of extended attributes; none on none.
-pub fn extraction_notes<T: Sink>(
+pub fn put_notes<T: Sink>(
     findings: u64,
     lost_bits: u64,
     attributes: u64,
