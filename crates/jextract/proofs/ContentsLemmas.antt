@@ -6,7 +6,7 @@ use Rattle.std.proofs.lemmas.Grind.{common_steps, same_number_lists}
 use Rattle.std.proofs.lemmas.List.{same_lists, length-take, length-drop, length-replicate, length-map, get_or-take, get_or-drop, get_or-map, get_or-replicate, map-append}
 use Rattle.flashbase.specs.Lists.{below, each_below}
 use Rattle.flashbase.proofs.ListLemmas.{length-each_below, get_or-each_below}
-use Rattle.jextract.specs.Cells.{AddsCells, Cells, Extends, block_at, bytes_read, cell_at, cells_of, hole_block, is_zero, skipped, written}
+use Rattle.jextract.specs.Cells.{AddsCells, Cells, Extends, block_at, bytes_read, cell_at, cells_of, hole_block, is_zero, bytes_written, skipped}
 use Rattle.jextract.specs.Laws.{HolesReadBack}
 use Rattle.jextract.specs.declared.folder.FolderFault.{FolderFault}
 use Rattle.jextract.specs.Filling.{HasBlocks, PutsBlock, block_cells}
@@ -62,7 +62,7 @@ block_placed bytes j within = by (is_zero (block_at bytes j)) refl
         sym (get_or-take 4096 (drop (4096 * j) bytes) k 0 (omega arith) ∙ get_or-drop (4096 * j) bytes k 0)
 
     by : (b : Bool) → is_zero (block_at bytes j) ≡ b
-        → each_below count (λ k. cell_at bytes (4096 * j + k)) ≡ (if b then skipped (length (block_at bytes j)) else written (block_at bytes j))
+        → each_below count (λ k. cell_at bytes (4096 * j + k)) ≡ (if b then skipped (length (block_at bytes j)) else bytes_written (block_at bytes j))
     by true z =
         same_lists (each_below count (λ k. cell_at bytes (4096 * j + k))) (skipped (length (block_at bytes j)))
         (length-each_below count (λ k. cell_at bytes (4096 * j + k)) ∙ sym has ∙ sym (length-replicate (length (block_at bytes j)) None))
@@ -74,7 +74,7 @@ block_placed bytes j within = by (is_zero (block_at bytes j)) refl
         ∙ ap (λ (x : Bool). if x then None else Some (slice_index bytes (4096 * j + k))) z
         ∙ sym (get_or-replicate (length (block_at bytes j)) k None d inside))
     by false z =
-        same_lists (each_below count (λ k. cell_at bytes (4096 * j + k))) (written (block_at bytes j))
+        same_lists (each_below count (λ k. cell_at bytes (4096 * j + k))) (bytes_written (block_at bytes j))
         (length-each_below count (λ k. cell_at bytes (4096 * j + k)) ∙ sym has ∙ sym (length-map (block_at bytes j) (λ (b : ℕ). Some b)))
         (λ k d h.
         let within : k < count = omega (arith, length-each_below count (λ k. cell_at bytes (4096 * j + k))) in
@@ -94,17 +94,17 @@ pub zeros_put : (cells : Option Cells) (hole : ℕ) (block : List ℕ) → is_ze
 zeros_put cells hole block none = (
   [],
   Extends-nil cells,
-  skipped-more hole (length block) ∙ ap (λ (b : Bool). skipped hole ++ (if b then skipped (length block) else written block)) (sym none),
+  skipped-more hole (length block) ∙ ap (λ (b : Bool). skipped hole ++ (if b then skipped (length block) else bytes_written block)) (sym none),
   omega arith,
 )
 
 -- another is written after the hole
-pub block_put : (old mid new : Option Cells) (hole : ℕ) (block : List ℕ) → is_zero block ≡ false → Extends old mid (skipped hole) → Extends mid new (written block)
+pub block_put : (old mid new : Option Cells) (hole : ℕ) (block : List ℕ) → is_zero block ≡ false → Extends old mid (skipped hole) → Extends mid new (bytes_written block)
     → PutsBlock old new hole block (Ok 0)
 block_put old mid new hole block some left put = (
-  skipped hole ++ written block,
-  Extends-trans old mid new (skipped hole) (written block) left put,
-  append-nil (skipped hole ++ written block) ∙ ap (λ (b : Bool). skipped hole ++ (if b then skipped (length block) else written block)) (sym some),
+  skipped hole ++ bytes_written block,
+  Extends-trans old mid new (skipped hole) (bytes_written block) left put,
+  append-nil (skipped hole ++ bytes_written block) ∙ ap (λ (b : Bool). skipped hole ++ (if b then skipped (length block) else bytes_written block)) (sym some),
   omega arith,
 )
 

@@ -31,8 +31,8 @@ cell_at bytes place = if is_zero (block_at bytes (place / hole_block)) then None
 unfoldable pub cells_of : List ℕ → Cells
 cells_of bytes = each_below (length bytes) (cell_at bytes)
 
-abbrev pub written : List ℕ → Cells
-written bytes = map (λ b. Some b) bytes
+abbrev pub bytes_written : List ℕ → Cells
+bytes_written bytes = map (λ b. Some b) bytes
 
 abbrev pub skipped : ℕ → Cells
 skipped count = replicate count None

@@ -1,7 +1,7 @@
 //! The folder of the host that is filled.
 
 ghost use Rattle.std.specs.Prelude.{◌≡◌, [], List, Option, IfOk};
-ghost use Rattle.jextract.specs.Cells.{AddsCells, Cells, Fails, skipped, written};
+ghost use Rattle.jextract.specs.Cells.{AddsCells, Cells, Fails, bytes_written, skipped};
 ghost use Rattle.jextract.specs.Folders.{ReportsMore, AddsContent, AddsOne, Counts, Failures, IsEmptyIn, Made, Attributed, Directory, File, Link, Symlink, counted_if};
 ghost use Rattle.jextract.specs.declared.folder.FolderFault.{FolderFault};
 
@@ -55,7 +55,7 @@ pub trait FilledFile: Drop {
 
     /// Writes these bytes at the places that follow.
     fn write(&mut self, bytes: &[u8]) -> Result<(), FolderFault>
-        ensures adds { AddsCells (cells self.old) (cells self.new) (written bytes.now) result }
+        ensures adds { AddsCells (cells self.old) (cells self.new) (bytes_written bytes.now) result }
         ensures fails { Fails (fault self.old) (fault self.new) result };
 
     /// Leaves a hole of so many places.

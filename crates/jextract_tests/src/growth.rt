@@ -72,8 +72,7 @@ impl Folder for Tally {
         self.count()
     }
 
-    fn give_up_file(&mut self, _path: &str, _file: Nowhere) {
-    }
+    fn give_up_file(&mut self, _path: &str, _file: Nowhere) {}
 
     fn make_symlink(
         &mut self,
@@ -108,10 +107,12 @@ fn fault(alloc: Global, image: &[u8]) -> Option<ExtractFault> {
         failures: 0,
     };
     match extract(alloc, &mounted, false, &mut folder, &mut notes) {
-        Ok(Totals {
-            left_out: 1,
-            lost_bits: 1,
-        }) if folder.calls == 9 => None,
+        Ok(
+            Totals {
+                left_out: 1,
+                lost_bits: 1,
+            },
+        ) if folder.calls == 9 => None,
         Ok(_) => Some(ExtractFault::Folder),
         Err(fault) => Some(fault),
     }

@@ -52,9 +52,7 @@ fn a_thousand_bombs(rt: HostRuntime) -> Result<(), Fail> {
     }
     let mut nodes = Vec::new(rt.alloc());
     for ino in 2..1002u32 {
-        nodes
-            .push(Node::Hole(ino, 8191))
-            .map_err(|_| "no memory")?;
+        nodes.push(Node::Hole(ino, 8191)).map_err(|_| "no memory")?;
     }
     for (ino, name) in (2..1002u32).zip(&names) {
         nodes

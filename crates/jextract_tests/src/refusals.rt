@@ -70,7 +70,14 @@ fn a_refusal_at_each_call(rt: HostRuntime) -> Result<(), Fail> {
         let refused = u64::from(calls < 9);
         let left_out = refused.wrapping_add(1);
         // Only `/d/f`, which is `/t` too, has a bit to lose.
-        equal(&rt, answer, Ok(Totals { left_out, lost_bits: 1 }));
+        equal(
+            &rt,
+            answer,
+            Ok(Totals {
+                left_out,
+                lost_bits: 1,
+            }),
+        );
         equal(&rt, (folder.failures, folder.full), (refused, 0));
         equal(&rt, folder.lines.as_str(), made);
         expect(&rt, is_made_once(rt.alloc(), folder.lines.as_str())?);
@@ -93,7 +100,11 @@ fn no_space_at_each_call(rt: HostRuntime) -> Result<(), Fail> {
         equal(&rt, (folder.failures, folder.full), (0, 1));
         equal(&rt, folder.lines.split('\n').count(), calls as usize + 1);
         // The last call comes after the name that leads nowhere.
-        let told = if calls < 8 { "" } else { "left out /x: no inode\n" };
+        let told = if calls < 8 {
+            ""
+        } else {
+            "left out /x: no inode\n"
+        };
         equal(&rt, notes.into_writer().as_slice(), told.as_bytes());
     }
     Ok(())

@@ -29,7 +29,12 @@ fn extracted(
 }
 
 /// Nodes, what is made of them, how many objects are left out and how many lose bits, and what is told.
-type Row = (&'static [Node<'static>], &'static str, (u64, u64), &'static str);
+type Row = (
+    &'static [Node<'static>],
+    &'static str,
+    (u64, u64),
+    &'static str,
+);
 
 const PLAIN_TREE: Row = (
     PLAIN,
