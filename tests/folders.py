@@ -240,7 +240,7 @@ def in_the_way():
     verdict("what does not mount makes no folder", done.status == 1 and done.err.startswith(b"jffs2_image: M") and not os.path.exists("new"), done)
     write("dirty.img", files((b"a", 0o100644, b"a")) + b"dirt")
     done = run("extract", "dirty.img", "dirty")
-    verdict("findings are noted", done.status == 0 and b"note: 1 findings" in done.err and os.path.exists("dirty/a"), done)
+    verdict("findings are noted", done.status == 3 and b"note: 1 finding" in done.err and os.path.exists("dirty/a"), done)
 
 
 def on_bad_streams():
@@ -395,6 +395,76 @@ def in_a_race():
     verdict("they stay", os.readlink("race/y") == "../elsewhere.d" and os.readlink("race/z") == "../elsewhere.f")
 
 
+def set_id_bits():
+    """They are given with the owners alone, and their number is noted."""
+    modes = {b"u": 0o104755, b"g": 0o102711, b"b": 0o106777, b"d": 0o043775, b"t": 0o101644}
+    write("bits.img", files(*((name, mode, b"" if mode & 0o040000 else b"x") for name, mode in modes.items())))
+    done = run("extract", "bits.img", "dropped")
+    note = b"jffs2_image: note: objects that lost set-user-id or set-group-id bits: 4, see extract --owners\n"
+    verdict("set-id bits are noted", (done.status, done.err) == (0, note), done)
+    found = {name: stat.S_IMODE(os.lstat(os.path.join(b"dropped", name)).st_mode) for name in modes}
+    verdict("no set-id bit without owners", found == {name: mode & 0o1777 for name, mode in modes.items()}, Done(0, repr(found).encode(), b""))
+    if not IS_ROOT:
+        return
+    done = run("extract", "--owners", "bits.img", "kept")
+    found = {name: stat.S_IMODE(os.lstat(os.path.join(b"kept", name)).st_mode) for name in modes}
+    verdict("set-id bits with owners", done.status == 0 and done.err == b"" and found == {name: mode & 0o7777 for name, mode in modes.items()}, done)
+
+
+def missing_inodes():
+    """A name whose inode is missing is told, and the rest goes on."""
+    write("missing.img", laid([entry(1, 1, 9, b"gone"), inode(2, 1, 0, 1, b"x"), entry(1, 2, 2, b"there")]))
+    done = run("extract", "missing.img", "missing")
+    verdict("a name without an inode", done == Done(3, b"", b"left out /gone: no inode\n") and os.listdir("missing") == ["there"], done)
+
+
+def further_names():
+    """A further name of a symlink is a link to it, as one of a file is."""
+    write("names.img", laid([inode(2, 1, 0, 4, b"/tmp", SYMLINK), entry(1, 1, 2, b"a"), entry(1, 2, 2, b"b")]))
+    done = run("extract", "names.img", "names")
+    verdict("two names of a symlink", done.status == 0 and os.lstat("names/a").st_ino == os.lstat("names/b").st_ino, done)
+
+
+def holes():
+    """Blocks of zeros take no room, however large the file is that an image claims."""
+    claimed = 64 << 20
+    write("bomb.img", laid(node for k in range(4) for node in (inode(k + 2, 1, 0, claimed, b""), entry(1, k + 1, k + 2, b"%d" % k))))
+    done = run("extract", "bomb.img", "bomb")
+    sizes = [os.lstat(f"bomb/{k}") for k in range(4)]
+    verdict("a bomb", done.status == 0 and all((is_.st_size, is_.st_blocks) == (claimed, 0) for is_ in sizes), done)
+    shutil.rmtree("bomb")
+    content = bytes(8192) + b"x" + bytes(10000)
+    write("hole.img", laid([
+        inode(2, 1, 0, len(content), content[:4096]), inode(2, 2, 8192, len(content), b"x"), entry(1, 1, 2, b"f"),
+    ]))
+    done = run("extract", "hole.img", "hole")
+    with open("hole/f", "rb") as file:
+        same = file.read() == content
+    verdict("a file with holes", done.status == 0 and same and os.lstat("hole/f").st_blocks * 512 <= 4096, done)
+
+
+def a_full_disk():
+    """It ends the work, by one line, where a small file system can be mounted."""
+    os.mkdir("small_disk")
+    mounted = subprocess.run(["mount", "-t", "tmpfs", "-o", "size=64k", "none", "small_disk"], stderr=subprocess.DEVNULL, check=False)
+    if mounted.returncode != 0:
+        print("not run: a full disk (no file system can be mounted here)")
+        return
+    try:
+        write("large.img", laid(node for k in range(60) for node in (inode(k + 2, 1, 0, 4000, b"x" * 4000), entry(1, k + 1, k + 2, b"%02d" % k))))
+        done = run("extract", "large.img", "small_disk/new")
+        verdict("a full disk", done == Done(1, b"", b"jffs2_image: P7 NoSpace small_disk/new\n"), done)
+    finally:
+        subprocess.run(["umount", "small_disk"], check=True)
+
+
+def extended_attributes():
+    """Their nodes are counted in a note."""
+    write("attributes.img", files((b"a", 0o100644, b"a")) + images.header(0xE008, 12))
+    done = run("extract", "attributes.img", "attributes")
+    verdict("extended attributes are noted", done.status == 0 and b"note: nodes of extended attributes, which are not extracted: 1\n" in done.err, done)
+
+
 GROUPS = (
     there_and_back,
     with_settings,
@@ -410,6 +480,12 @@ GROUPS = (
     on_bad_streams,
     what_the_host_refuses,
     on_a_terminal,
+    set_id_bits,
+    missing_inodes,
+    further_names,
+    holes,
+    a_full_disk,
+    extended_attributes,
 )
 
 

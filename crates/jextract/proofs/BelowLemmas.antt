@@ -1,10 +1,10 @@
 -- What is made has a way of directories that were made before.
 use Rattle.std.proofs.Common.{◌≡◌, ℕ, Bool, true, false, List, [], ◌∷◌, ◌++◌, map, append-nil, append_assoc, refl, sym, ap, ◌∙◌, subst, inl, inr, ◌⊎◌, ⊎_elim, Option, Some, None, Result, Ok, Err, if◌then◌else◌, Contains}
-use Rattle.std.specs.Prelude.{⊤, filter, option_map}
+use Rattle.std.specs.Prelude.{⊤, option_map}
 use Rattle.std.specs.List.{flat_map}
 use Rattle.std.proofs.lemmas.List.Elements.{Contains-append_left, Contains-append_right}
 use Rattle.flashbase.proofs.MemberLemmas.{Contains-here, Contains-there}
-use Rattle.jmount.specs.Tree.{State, ObjectOf, object, has_bits, directory_bits, is_directory, is_there, entries_in}
+use Rattle.jmount.specs.Tree.{State, ObjectOf, object, has_bits, directory_bits, is_directory, entries_in}
 use Rattle.jmount.specs.Shown.{readable, shown}
 use Rattle.jmount.specs.declared.object.Kind.{Kind}
 use Rattle.jmount.specs.declared.object.Kind.TheVariants as kind
@@ -66,8 +66,8 @@ ways_names before path (e ∷ names) has there = (way_name before path e.0 has t
 
 ways_in : (before : List Made) (s : State) (path : List (List ℕ)) (i : ℕ) → HasWay before path → Contains before (directory_at path) → HaveWays before (tasks_in s path i)
 ways_in before s path i has there =
-    ways_append before (tasks_of s path (entries_in s i)) (Complete path i ∷ [])
-    (ways_names before path (filter (λ e. is_there s e.1) (entries_in s i)) has there) (has, tt)
+    ways_append before (tasks_of path (entries_in s i)) (Complete path i ∷ [])
+    (ways_names before path (entries_in s i) has there) (has, tt)
 
 -- ---- a directory that was made
 

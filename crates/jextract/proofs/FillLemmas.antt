@@ -13,13 +13,15 @@ use Rattle.flashbase.specs.Device.{PutsPart, next_count}
 use Rattle.flashbase.proofs.DeviceLemmas.{part_behind}
 use Rattle.jmount.specs.Tree.{State, entries_in}
 use Rattle.jextract.specs.Extracts.{AreTreeOutcomes, Extracts, DoesPart}
-use Rattle.jextract.specs.Folders.{Made, ReportsMore}
+use Rattle.jextract.specs.Folders.{Failures, Made, ReportsMore, refused_once}
 use Rattle.jextract.specs.Making.{firsts_of}
 use Rattle.jextract.specs.Outcomes.{Task, Outcome, FirstPaths, AreOutcomes, AreFirstOutcomes, all_lines, all_made, root_made, failures_after, is_refusal, outcome_line, root_alone, tasks_in}
-use Rattle.jextract.specs.Walking.{Advances, Sight, Had, Stopped, StopsBy, Steps, Fills, counted_up, tasks_up, extraction_todo}
+use Rattle.jextract.specs.Walking.{Advances, Sight, Had, Stopped, StopsBy, Steps, Fills, counted_up, no_totals, totals_up, tasks_up, extraction_todo}
 use Rattle.jextract.specs.declared.extracting.Walk.{Walk}
 use Rattle.jextract.specs.declared.fault.ExtractFault.{ExtractFault}
 use Rattle.jextract.specs.declared.fault.ExtractFault.TheVariants as fault
+use Rattle.jextract.specs.declared.totals.Totals.{Totals}
+use Rattle.jextract.proofs.StepLemmas.{failures-full}
 use Rattle.jextract.proofs.WalkLemmas.{had_none}
 
 pub ReportsMore-trans : (a b c : Option (List Made)) (xs ys : List Made) → ReportsMore a b xs → ReportsMore b c ys → ReportsMore a c (xs ++ ys)
@@ -28,9 +30,9 @@ ReportsMore-trans (Some x) None c xs ys p q = absurd p
 ReportsMore-trans (Some x) (Some y) None xs ys p q = absurd q
 ReportsMore-trans (Some x) (Some y) (Some z) xs ys p q = q ∙ ap (λ l. l ++ ys) p ∙ append_assoc x xs ys
 
-failures-append : (n : ℕ) (xs ys : List Outcome) → failures_after n (xs ++ ys) ≡ failures_after (failures_after n xs) ys
+failures-append : (n : Failures) (xs ys : List Outcome) → failures_after n (xs ++ ys) ≡ failures_after (failures_after n xs) ys
 failures-append n [] ys = refl
-failures-append n (o ∷ xs) ys = failures-append (if is_refusal o.left_out then next_count n else n) xs ys
+failures-append n (o ∷ xs) ys = failures-append (if is_refusal o.left_out then refused_once n else n) xs ys
 
 count-append : (test : Outcome → Bool) (xs ys : List Outcome) → count_by test (xs ++ ys) ≡ count_by test xs + count_by test ys
 count-append test xs ys = grind (arith, common_steps)
@@ -45,17 +47,24 @@ counted_up-more n a b = by (a == 0) (b == 0) (a + b == 0) refl refl refl
         → (if b == 0 then (if a == 0 then n else min (n + a) (2 ^ 64 - 1)) else min ((if a == 0 then n else min (n + a) (2 ^ 64 - 1)) + b) (2 ^ 64 - 1)) ≡ (if a + b == 0 then n else min (n + (a + b)) (2 ^ 64 - 1))
     by p q r ep eq er = grind (arith, common_steps, nat_tests)
 
+totals_up-more : (n : Totals) (a b c d : ℕ) → totals_up (totals_up n a c) b d ≡ totals_up n (a + b) (c + d)
+totals_up-more n a b c d =
+    ap (λ (x : ℕ). let t : Totals = record { left_out = x; lost_bits = counted_up (counted_up n.lost_bits c) d } in t) (counted_up-more n.left_out a b)
+    ∙ ap (λ (x : ℕ). let t : Totals = record { left_out = counted_up n.left_out (a + b); lost_bits = x } in t) (counted_up-more n.lost_bits c d)
+
 pub had_more : (a b c : Sight) (xs ys : List Outcome) → Had a b xs → Had b c ys → Had a c (xs ++ ys)
 had_more a b c xs ys one two =
-    let left : Outcome → Bool = λ o. is_some o.left_out in (
+    let left : Outcome → Bool = λ o. is_some o.left_out in
+    let lost : Outcome → Bool = λ o. o.lost in (
       subst (ReportsMore a.made c.made) (sym (flat_map-append (λ (o : Outcome). o.deeds) xs ys)) (ReportsMore-trans a.made b.made c.made (flat_map (λ o. o.deeds) xs) (flat_map (λ o. o.deeds) ys) one.0 two.0),
       two.1 ∙ ap (λ n. failures_after n ys) one.1 ∙ sym (failures-append a.failures xs ys),
       subst (Appends a.told c.told) (sym (flat_map-append outcome_line xs ys)) (Appends-trans a.told b.told c.told (all_lines xs) (all_lines ys) one.2 two.2),
       two.3 ∙ one.3,
       two.4
-          ∙ ap (λ n. counted_up n (count_by left ys)) one.4
-          ∙ counted_up-more a.left_out (count_by left xs) (count_by left ys)
-          ∙ ap (counted_up a.left_out) (sym (count-append left xs ys)),
+          ∙ ap (λ n. totals_up n (count_by left ys) (count_by lost ys)) one.4
+          ∙ totals_up-more a.totals (count_by left xs) (count_by left ys) (count_by lost xs) (count_by lost ys)
+          ∙ ap (λ n. totals_up a.totals n (count_by lost xs + count_by lost ys)) (sym (count-append left xs ys))
+          ∙ ap (totals_up a.totals (count_by left (xs ++ ys))) (sym (count-append lost xs ys)),
     )
 
 pub advances_more : (s : State) (owners : Bool) (f g h : FirstPaths) (x y z : List Task) (xs ys : List Outcome) → Advances s owners f x g y xs → Advances s owners g y h z ys
@@ -93,11 +102,18 @@ stopped_more s owners w old now next far stop = (
   subst (PutsPart old.told next.told) (sym (flat_map-append outcome_line far.0 stop.0)) (part_behind old.told now.told next.told (all_lines far.0) (all_lines stop.0) far.1.2 stop.3),
 )
 
+full_reached : (s : State) (owners : Bool) (w : Walk) (old now : Sight) → Reached s owners w old now → now.failures.full ≡ old.failures.full
+full_reached s owners w old now far = ap (λ (f : Failures). f.full) far.1.1 ∙ failures-full old.failures far.0
+
 pub reaches_fault : (s : State) (owners : Bool) (w : Walk) (old now next : Sight) (f : ExtractFault) → Reached s owners w old now
     → StopsBy s owners (firsts_of w.firsts) (extraction_todo s w) now next f → StopsBy s owners root_alone (tasks_in s [] 1) old next f
 reaches_fault s owners w old now next fault.Folder far stop = stop
-reaches_fault s owners w old now next fault.Notes far stop = (stopped_more s owners w old now next far stop.0, stop.1 ∙ ap next_count far.1.3)
-reaches_fault s owners w old now next fault.OutOfMemory far stop = (stopped_more s owners w old now next far stop.0, stop.1 ∙ far.1.3)
+reaches_fault s owners w old now next fault.Notes far stop =
+    (stopped_more s owners w old now next far stop.0, stop.1 ∙ ap next_count far.1.3, stop.2 ∙ full_reached s owners w old now far)
+reaches_fault s owners w old now next fault.NoSpace far stop =
+    (stopped_more s owners w old now next far stop.0, stop.1 ∙ far.1.3, stop.2 ∙ ap next_count (full_reached s owners w old now far))
+reaches_fault s owners w old now next fault.OutOfMemory far stop =
+    (stopped_more s owners w old now next far stop.0, stop.1 ∙ far.1.3, stop.2 ∙ full_reached s owners w old now far)
 
 -- ---- the folder was made, and then the tree in it
 
@@ -110,10 +126,10 @@ part_made s owners a b c told new_told outcomes first are adds part =
     take_whole : (xs : List Made) → take (length xs) xs ≡ xs
     take_whole xs = grind (arith, common_steps)
 
-pub extracts : (s : State) (owners : Bool) (a b c : Option (List Made)) (before mid now : ℕ) (told new_told : Option (List ℕ)) (told_before told_now : ℕ) (r : Result ℕ ExtractFault)
+pub extracts : (s : State) (owners : Bool) (a b c : Option (List Made)) (before mid now : Failures) (told new_told : Option (List ℕ)) (told_before told_now : ℕ) (r : Result Totals ExtractFault)
     → ReportsMore a b (root_made ∷ []) → mid ≡ before
-    → Fills s owners (record { made = b; failures = mid; told = told; told_failures = told_before; left_out = 0 })
-    (record { made = c; failures = now; told = new_told; told_failures = told_now; left_out = 0 }) r
+    → Fills s owners (record { made = b; failures = mid; told = told; told_failures = told_before; totals = no_totals })
+    (record { made = c; failures = now; told = new_told; told_failures = told_now; totals = no_totals }) r
     → Extracts s owners a c before now told new_told told_before told_now r
 extracts s owners a b c before mid now told new_told told_before told_now (Ok n) first same fills =
     let outcomes = fills.0 in
@@ -124,18 +140,24 @@ extracts s owners a b c before mid now told new_told told_before told_now (Ok n)
       had.1 ∙ ap (λ k. failures_after k outcomes) same,
       had.2,
       had.3,
-      had.4 ∙ from_zero (count_by (λ (o : Outcome). is_some o.left_out) outcomes),
+      had.4
+          ∙ ap (λ (x : ℕ). let t : Totals = record { left_out = x; lost_bits = counted_up 0 (count_by (λ (o : Outcome). o.lost) outcomes) } in t) (from_zero (count_by (λ (o : Outcome). is_some o.left_out) outcomes))
+          ∙ ap (λ (x : ℕ). let t : Totals = record { left_out = min (count_by (λ (o : Outcome). is_some o.left_out) outcomes) (2 ^ 64 - 1); lost_bits = x } in t) (from_zero (count_by (λ (o : Outcome). o.lost) outcomes)),
     )
   where
     from_zero : (k : ℕ) → counted_up 0 k ≡ min k (2 ^ 64 - 1)
     from_zero k = grind (arith, common_steps, nat_tests)
 extracts s owners a b c before mid now told new_told told_before told_now (Err fault.Folder) first same fills = absurd fills
-extracts s owners a b c before mid now told new_told told_before told_now (Err fault.Notes) first same fills = (part_made s owners a b c told new_told fills.0.0 first fills.0.1 fills.0.2 fills.0.3, fills.1)
-extracts s owners a b c before mid now told new_told told_before told_now (Err fault.OutOfMemory) first same fills = (part_made s owners a b c told new_told fills.0.0 first fills.0.1 fills.0.2 fills.0.3, fills.1)
+extracts s owners a b c before mid now told new_told told_before told_now (Err fault.Notes) first same fills =
+    (part_made s owners a b c told new_told fills.0.0 first fills.0.1 fills.0.2 fills.0.3, fills.1, fills.2 ∙ ap (λ (f : Failures). f.full) same)
+extracts s owners a b c before mid now told new_told told_before told_now (Err fault.NoSpace) first same fills =
+    (part_made s owners a b c told new_told fills.0.0 first fills.0.1 fills.0.2 fills.0.3, fills.1, fills.2 ∙ ap (λ (f : Failures). next_count f.full) same)
+extracts s owners a b c before mid now told new_told told_before told_now (Err fault.OutOfMemory) first same fills =
+    (part_made s owners a b c told new_told fills.0.0 first fills.0.1 fills.0.2 fills.0.3, fills.1, fills.2 ∙ ap (λ (f : Failures). f.full) same)
 
 -- ---- the walk from its start
 
-pub fills_at_fault : (s : State) (owners : Bool) (old new : Sight) (f : ExtractFault) (r : Result ℕ ExtractFault) → IsErrAnd r (λ e. e ≡ f)
+pub fills_at_fault : (s : State) (owners : Bool) (old new : Sight) (f : ExtractFault) (r : Result Totals ExtractFault) → IsErrAnd r (λ e. e ≡ f)
     → StopsBy s owners root_alone (tasks_in s [] 1) old new f → Fills s owners old new r
 fills_at_fault s owners old new f (Ok x) err stops = absurd err
 fills_at_fault s owners old new f (Err e) err stops = subst (λ (x : ExtractFault). StopsBy s owners root_alone (tasks_in s [] 1) old new x) (sym err) stops

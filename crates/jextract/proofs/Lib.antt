@@ -1,4 +1,5 @@
 pub mod BelowLemmas
+pub mod ContentsLemmas
 pub mod FillLemmas
 pub mod InsideLemmas
 pub mod LinkLemmas

@@ -13,6 +13,7 @@ use Rattle.jmount.specs.Tree.{State, object, is_directory}
 use Rattle.jmount.specs.declared.object.Kind.{Kind}
 use Rattle.jmount.specs.declared.object.Kind.TheVariants as kind
 use Rattle.jmount.specs.declared.object.Object.{Object}
+use Rattle.jextract.specs.Cells.{cells_of}
 use Rattle.jextract.specs.Folders.{Made, Deed, Directory, File, Content, Symlink, Link, Attributed}
 use Rattle.jextract.specs.Laws.{HasFile, AreLinkedBack, LinksLeadBack, is_linkable}
 use Rattle.jextract.specs.Outcomes.{Task, Make, Complete, path_of_task, Outcome, FirstPaths, Plan, Do, LeaveOut, FollowsPlan, IsOutcomeOf, AreFirstOutcomes, plan_of, plan_at, plan_made, plan_completed, attributes_of, is_target, firsts_after, firsts_if, firsts_with, tasks_after, root_made, root_alone, tasks_in, made_at}
@@ -57,8 +58,8 @@ plan_links (Some x) kind.Symlink bytes attributes first there = (same_link x fir
 plan_links None kind.Directory bytes attributes first there = let no : Directory ≡ Link first = only Directory (Link first) there in absurd (cc)
 plan_links None kind.Regular bytes attributes first there =
     ⊎_elim (λ (no : File ≡ Link first). absurd (cc))
-    (λ later. let no : Content bytes attributes ≡ Link first = only (Content bytes attributes) (Link first) later in absurd (cc))
-    (Contains-cases File (Content bytes attributes ∷ []) (Link first) there)
+    (λ later. let no : Content (cells_of bytes) attributes ≡ Link first = only (Content (cells_of bytes) attributes) (Link first) later in absurd (cc))
+    (Contains-cases File (Content (cells_of bytes) attributes ∷ []) (Link first) there)
 plan_links None kind.Symlink bytes attributes first there = absurd (symlink_links bytes attributes first (is_target bytes) there)
 plan_links known kind bytes attributes first there = absurd (Contains-none (Link first) there)
 
@@ -112,7 +113,7 @@ symlink_made text target attributes o false follows left = let other = follows.1
 
 file_made : (text : List ℕ) (kind : Kind) (bytes : List ℕ) (attributes : Attributes) (o : Outcome) → is_linked kind ≡ true
     → FollowsPlan (Ok text) (plan_of None kind bytes attributes) o → o.left_out ≡ None → HasFile o.deeds text
-file_made text kind.Regular bytes attributes o linked (inl all) left = has_first text File (Content bytes attributes ∷ []) o.deeds all.0 refl
+file_made text kind.Regular bytes attributes o linked (inl all) left = has_first text File (Content (cells_of bytes) attributes ∷ []) o.deeds all.0 refl
 file_made text kind.Regular bytes attributes o linked (inr part) left = let other = part.3 in absurd (cc)
 file_made text kind.Symlink bytes attributes o linked follows left = symlink_made text bytes attributes o (is_target bytes) follows left
 file_made text kind bytes attributes o linked follows left = absurd (false≢true linked)

@@ -1,6 +1,6 @@
 -- Making one object: what a call of the folder does of a plan.
 use Rattle.std.proofs.Common.{◌≡◌, ℕ, ◌<◌, ◌≤◌, ◌&&◌, Bool, true, false, not, ◌==◌, nat_lt, nat_le, List, [], ◌∷◌, length, take, append-nil, refl, sym, ap, ◌∙◌, subst, arith, inl, inr, ◌⊎◌, Option, Some, None, Result, Ok, Err, Bor, cond, if◌then◌else◌}
-use Rattle.std.specs.Prelude.{IsErrAnd, IsUtf8}
+use Rattle.std.specs.Prelude.{IfOk, IsErrAnd, IsUtf8}
 use Rattle.std.specs.List.{list_all}
 use Rattle.std.specs.Str.{is_utf8}
 use Rattle.std.specs.Prelude.{String, string_bytes, option_map, option_copied}
@@ -11,41 +11,40 @@ use Rattle.std.specs.Option.{option_or}
 use Rattle.std.proofs.lemmas.Grind.{common_steps}
 use Rattle.std.proofs.lemmas.Bool.Decides.{nat_tests}
 use Rattle.std.proofs.lemmas.Str.{is_utf8-from_IsUtf8}
-use Rattle.flashbase.specs.Device.{next_count}
 use Rattle.jmount.specs.Find.{is_name}
 use Rattle.jmount.specs.Tree.{State, object}
 use Rattle.jmount.specs.Shown.{readable, shown}
 use Rattle.jmount.specs.declared.object.Object.{Object}
 use Rattle.jmount.specs.declared.object.Kind.{Kind}
 use Rattle.jmount.specs.declared.object.Kind.TheVariants as k
-use Rattle.jextract.specs.Folders.{Made, Deed, Link, Symlink, ReportsMore, Counts}
-use Rattle.jextract.specs.Making.{Does, Follows, IsPathOf, FirstsAfter, Works, fault_of, firsts_of}
-use Rattle.jextract.specs.Outcomes.{Plan, Do, LeaveOut, Task, Make, path_of_task, Outcome, FirstPaths, FollowsPlan, firsts_if, firsts_with, made_at, is_refusal, is_target, plan_again, plan_anew, plan_at, plan_made, plan_of, plan_symlink, attributes_of}
+use Rattle.jextract.specs.Folders.{Failures, refused_once, Made, Deed, Link, Symlink, ReportsMore, Counts}
+use Rattle.jextract.specs.Making.{Does, DoesSome, Follows, HasBegun, IsPathOf, FirstsAfter, Works, fault_of, firsts_of}
+use Rattle.jextract.specs.Outcomes.{Plan, Do, LeaveOut, Task, Make, path_of_task, Outcome, FirstPaths, FollowsPlan, firsts_if, firsts_with, made_at, is_refusal, is_directory_kind, is_target, loses_bits, lost_at, lost_made, plan_again, plan_anew, plan_at, plan_made, plan_of, plan_symlink, attributes_of}
 use Rattle.jextract.specs.Paths.{greatest_path, host_path, relative_path, text_if}
 use Rattle.jextract.specs.declared.folder.Attributes.{Attributes}
 use Rattle.jextract.specs.declared.folder.FolderFault.{FolderFault}
-use Rattle.jextract.specs.declared.folder.FolderFault.TheVariants.{Refused, OutOfMemory}
+use Rattle.jextract.specs.declared.folder.FolderFault.TheVariants.{Refused, NoSpace, OutOfMemory}
 use Rattle.jextract.specs.declared.making.MakeFault.{MakeFault}
 use Rattle.jextract.specs.declared.making.MakeFault.TheVariants as make
 use Rattle.jextract.specs.declared.reason.Reason.{Reason}
 use Rattle.jextract.specs.declared.reason.Reason.TheVariants as reason
 
 -- the deeds of a plan were not all done
-pub does_fail : (S : Type 0) {T : Type 0} (old new : Option (List Made)) (before now : ℕ) (path : List ℕ) (plan : Plan) (deeds : List Deed) (e : FolderFault) (r : Result T MakeFault)
+pub does_fail : (S : Type 0) {T : Type 0} (old new : Option (List Made)) (before now : Failures) (path : List ℕ) (plan : Plan) (deeds : List Deed) (e : FolderFault) (r : Result T MakeFault)
     → plan ≡ Do deeds → Does {T = S} old new before now (made_at path deeds) (Err e) → IsErrAnd r (λ x. x ≡ fault_of e) → Follows old new before now path plan r
 does_fail S old new before now path plan deeds e (Ok x) is does err = absurd err
 does_fail S {T} old new before now path plan deeds Refused (Err f) is does err =
     subst (λ (y : MakeFault). Follows {T = T} old new before now path plan (Err y)) (sym err) (inr (deeds, is, does.0, does.1, refl))
+does_fail S {T} old new before now path plan deeds NoSpace (Err f) is does err =
+    subst (λ (y : MakeFault). Follows {T = T} old new before now path plan (Err y)) (sym err) (deeds, is, does.0, does.1)
 does_fail S {T} old new before now path plan deeds OutOfMemory (Err f) is does err =
-    subst (λ (y : MakeFault). Follows {T = T} old new before now path plan (Err y)) (sym err) (deeds, is, does.0)
+    subst (λ (y : MakeFault). Follows {T = T} old new before now path plan (Err y)) (sym err) (deeds, is, does.0, does.1)
 
 -- the one deed of a plan was not done
-pub one_fails : (S : Type 0) {T : Type 0} (old new : Option (List Made)) (before now : ℕ) (path : List ℕ) (plan : Plan) (deed : Deed) (e : FolderFault) (r : Result T MakeFault)
+pub one_fails : (S : Type 0) {T : Type 0} (old new : Option (List Made)) (before now : Failures) (path : List ℕ) (plan : Plan) (deed : Deed) (e : FolderFault) (r : Result T MakeFault)
     → plan ≡ Do (deed ∷ []) → ReportsMore old new [] → Counts {T = S} before now (Err e) → IsErrAnd r (λ x. x ≡ fault_of e) → Follows old new before now path plan r
-one_fails S old new before now path plan deed Refused r is adds counts err =
-    does_fail S old new before now path plan (deed ∷ []) Refused r is ((0, omega arith, adds), counts) err
-one_fails S old new before now path plan deed OutOfMemory r is adds counts err =
-    does_fail S old new before now path plan (deed ∷ []) OutOfMemory r is ((0, omega arith, adds), counts) err
+one_fails S old new before now path plan deed e r is adds counts err =
+    does_fail S old new before now path plan (deed ∷ []) e r is ((0, omega arith, adds), counts) err
 
 -- ---- targets
 
@@ -80,48 +79,65 @@ follows_plan : (path : Result (List ℕ) Reason) (text : List ℕ) (plan planned
 follows_plan path text plan planned o at is follows =
     subst (λ (p : Result (List ℕ) Reason). FollowsPlan p plan o) (sym at) (subst (λ (q : Plan). FollowsPlan (Ok text) q o) (sym is) follows)
 
-pub works_as_planned : {T : Type 0} (s : State) (owners : Bool) (firsts : FirstPaths) (task : Task) (text : List ℕ) (old new : Option (List Made)) (before now : ℕ) (r : Result T MakeFault)
-    → host_path (path_of_task task) ≡ Ok text → Follows old new before now text (plan_at s owners firsts task) r → Works s owners firsts task old new before now r
-works_as_planned s owners firsts task text old new before now (Ok x) at follows =
-    let o : Outcome = record { path = path_of_task task; deeds = made_at text follows.0; left_out = None } in
-    (o, (refl, follows_plan (host_path (path_of_task task)) text (plan_at s owners firsts task) (Do follows.0) o at follows.1 (inl (refl, refl))), refl, follows.2, follows.3)
-works_as_planned s owners firsts task text old new before now (Err (make.LeftOut why)) at (inl left) =
-    let o : Outcome = record { path = path_of_task task; deeds = []; left_out = Some why } in (
+-- some of a plan was done
+begun_as_planned : (s : State) (owners : Bool) (firsts : FirstPaths) (task : Task) (text : List ℕ) (old new : Option (List Made)) (deeds : List Deed)
+    → host_path (path_of_task task) ≡ Ok text → plan_at s owners firsts task ≡ Do deeds → DoesSome old new (made_at text deeds) → HasBegun s owners firsts task old new
+begun_as_planned s owners firsts task text old new deeds at is some =
+    let o : Outcome = record { path = path_of_task task; deeds = take some.0 (made_at text deeds); left_out = Some reason.Refused; lost = false } in
+    inr (
       o,
-      (refl, follows_plan (host_path (path_of_task task)) text (plan_at s owners firsts task) (LeaveOut why) o at left.0 (refl, refl)),
+      (refl, follows_plan (host_path (path_of_task task)) text (plan_at s owners firsts task) (Do deeds) o at is (inr (some.0, some.1, refl, refl)), refl),
+      some.2,
+    )
+
+pub works_as_planned : (s : State) (owners : Bool) (firsts : FirstPaths) (task : Task) (text : List ℕ) (old new : Option (List Made)) (before now : Failures) (r : Result Bool MakeFault)
+    → host_path (path_of_task task) ≡ Ok text → Follows old new before now text (plan_at s owners firsts task) r → IfOk r (λ lost. lost ≡ lost_at s owners firsts task)
+    → Works s owners firsts task old new before now r
+works_as_planned s owners firsts task text old new before now (Ok lost) at follows loses =
+    let o : Outcome = record { path = path_of_task task; deeds = made_at text follows.0; left_out = None; lost = lost } in (
+      o,
+      (refl, follows_plan (host_path (path_of_task task)) text (plan_at s owners firsts task) (Do follows.0) o at follows.1 (inl (refl, refl)), loses),
+      refl,
+      follows.2,
+      follows.3,
+      refl,
+    )
+works_as_planned s owners firsts task text old new before now (Err (make.LeftOut why)) at (inl left) loses =
+    let o : Outcome = record { path = path_of_task task; deeds = []; left_out = Some why; lost = false } in (
+      o,
+      (refl, follows_plan (host_path (path_of_task task)) text (plan_at s owners firsts task) (LeaveOut why) o at left.0 (refl, refl), refl),
       refl,
       left.1,
-      left.2 ∙ ap (λ (b : Bool). if b then next_count before else before) (sym left.3),
+      left.2 ∙ ap (λ (b : Bool). if b then refused_once before else before) (sym left.3),
+      refl,
     )
-works_as_planned s owners firsts task text old new before now (Err (make.LeftOut why)) at (inr refused) =
+works_as_planned s owners firsts task text old new before now (Err (make.LeftOut why)) at (inr refused) loses =
     let some = refused.2 in
-    let o : Outcome = record { path = path_of_task task; deeds = take some.0 (made_at text refused.0); left_out = Some why } in (
+    let o : Outcome = record { path = path_of_task task; deeds = take some.0 (made_at text refused.0); left_out = Some why; lost = false } in (
       o,
       (
         refl,
         follows_plan (host_path (path_of_task task)) text (plan_at s owners firsts task) (Do refused.0) o at refused.1 (inr (some.0, some.1, refl, ap Some refused.4)),
+        refl,
       ),
       refl,
       some.2,
-      refused.3 ∙ ap (λ (x : Reason). if is_refusal (Some x) then next_count before else before) (sym refused.4),
+      refused.3 ∙ ap (λ (x : Reason). if is_refusal (Some x) then refused_once before else before) (sym refused.4),
+      refl,
     )
-works_as_planned s owners firsts task text old new before now (Err make.OutOfMemory) at follows =
-    let some = follows.2 in
-    let o : Outcome = record { path = path_of_task task; deeds = take some.0 (made_at text follows.0); left_out = Some reason.Refused } in
-    inr (
-      o,
-      (refl, follows_plan (host_path (path_of_task task)) text (plan_at s owners firsts task) (Do follows.0) o at follows.1 (inr (some.0, some.1, refl, refl))),
-      some.2,
-    )
+works_as_planned s owners firsts task text old new before now (Err make.NoSpace) at follows loses =
+    (begun_as_planned s owners firsts task text old new follows.0 at follows.1 follows.2, follows.3)
+works_as_planned s owners firsts task text old new before now (Err make.OutOfMemory) at follows loses =
+    (begun_as_planned s owners firsts task text old new follows.0 at follows.1 follows.2, follows.3)
 
 -- all of a plan was done, and then memory ran out
-pub works_then_fails : {T : Type 0} (s : State) (owners : Bool) (firsts : FirstPaths) (task : Task) (text : List ℕ) (old new : Option (List Made)) (before now : ℕ) (r : Result T MakeFault) (S : Type 0) (x : S)
+pub works_then_fails : (s : State) (owners : Bool) (firsts : FirstPaths) (task : Task) (text : List ℕ) (old new : Option (List Made)) (before now : Failures) (r : Result Bool MakeFault) (S : Type 0) (x : S)
     → host_path (path_of_task task) ≡ Ok text → Follows old new before now text (plan_at s owners firsts task) (Ok x) → IsErrAnd r (λ e. e ≡ make.OutOfMemory)
     → Works s owners firsts task old new before now r
 works_then_fails s owners firsts task text old new before now (Ok y) S x at follows err = absurd err
-works_then_fails {T} s owners firsts task text old new before now (Err e) S x at follows err =
-    let done = works_as_planned s owners firsts task text old new before now (Ok x) at follows in
-    subst (λ (f : MakeFault). Works {T = T} s owners firsts task old new before now (Err f)) (sym err) (inr (done.0, done.1, done.3))
+works_then_fails s owners firsts task text old new before now (Err e) S x at follows err =
+    let done = works_as_planned s owners firsts task text old new before now (Ok (lost_at s owners firsts task)) at follows refl in
+    subst (λ (f : MakeFault). Works s owners firsts task old new before now (Err f)) (sym err) (inr (done.0, done.1, done.3), done.4)
 
 -- a reason that lies in the path is no refusal of the host
 pub no_path_is_no_refusal : (path : List (List ℕ)) (why : Reason) → host_path path ≡ Err why → is_refusal (Some why) ≡ false
@@ -138,30 +154,41 @@ no_path_is_no_refusal path why is = names (list_all is_name path) is
     names false is = let e : reason.BadName ≡ why = cc in ap (λ (x : Reason). is_refusal (Some x)) (sym e)
 
 -- there is no path, or no memory for it
-pub works_without_path : {T : Type 0} (s : State) (owners : Bool) (firsts : FirstPaths) (task : Task) (made : Option (List Made)) (before : ℕ) (fault : MakeFault) (r : Result T MakeFault)
+pub works_without_path : (s : State) (owners : Bool) (firsts : FirstPaths) (task : Task) (made : Option (List Made)) (before : Failures) (fault : MakeFault) (r : Result Bool MakeFault)
     → IsPathOf (host_path (path_of_task task)) (Err fault) → IsErrAnd r (λ e. e ≡ fault) → Works s owners firsts task made made before before r
 works_without_path s owners firsts task made before fault (Ok x) gone err = absurd err
-works_without_path {T} s owners firsts task made before (make.LeftOut why) (Err e) gone err =
-    let o : Outcome = record { path = path_of_task task; deeds = []; left_out = Some why } in
-    subst (λ (f : MakeFault). Works {T = T} s owners firsts task made made before before (Err f)) (sym err) (
+works_without_path s owners firsts task made before (make.LeftOut why) (Err e) gone err =
+    let o : Outcome = record { path = path_of_task task; deeds = []; left_out = Some why; lost = false } in
+    subst (λ (f : MakeFault). Works s owners firsts task made made before before (Err f)) (sym err) (
       o,
-      (refl, subst (λ (p : Result (List ℕ) Reason). FollowsPlan p (plan_at s owners firsts task) o) (sym gone) (refl, refl)),
+      (refl, subst (λ (p : Result (List ℕ) Reason). FollowsPlan p (plan_at s owners firsts task) o) (sym gone) (refl, refl), refl),
       refl,
       ReportsMore-nil made,
-      ap (λ (b : Bool). if b then next_count before else before) (sym (no_path_is_no_refusal (path_of_task task) why gone)),
+      ap (λ (b : Bool). if b then refused_once before else before) (sym (no_path_is_no_refusal (path_of_task task) why gone)),
+      refl,
     )
-works_without_path {T} s owners firsts task made before make.OutOfMemory (Err e) gone err =
-    subst (λ (f : MakeFault). Works {T = T} s owners firsts task made made before before (Err f)) (sym err) (inl (ReportsMore-nil made))
+works_without_path s owners firsts task made before make.NoSpace (Err e) gone err = absurd gone
+works_without_path s owners firsts task made before make.OutOfMemory (Err e) gone err =
+    subst (λ (f : MakeFault). Works s owners firsts task made made before before (Err f)) (sym err) (inl (ReportsMore-nil made), refl)
 
-pub works_at_fault : {T : Type 0} (s : State) (owners : Bool) (firsts : FirstPaths) (task : Task) (old new : Option (List Made)) (before now : ℕ) (S : Type 0) (fault : MakeFault) (r : Result T MakeFault)
-    → IsErrAnd r (λ e. e ≡ fault) → Works {T = S} s owners firsts task old new before now (Err fault) → Works s owners firsts task old new before now r
-works_at_fault s owners firsts task old new before now S fault (Ok x) err works = absurd err
-works_at_fault {T} s owners firsts task old new before now S fault (Err e) err works =
-    subst (λ (f : MakeFault). Works {T = T} s owners firsts task old new before now (Err f)) (sym err) (same fault works)
-  where
-    same : (f : MakeFault) → Works {T = S} s owners firsts task old new before now (Err f) → Works {T = T} s owners firsts task old new before now (Err f)
-    same (make.LeftOut why) works = works
-    same make.OutOfMemory works = works
+-- there is no object
+pub works_without_object : (s : State) (owners : Bool) (firsts : FirstPaths) (path : List (List ℕ)) (i : ℕ) (text : List ℕ) (made : Option (List Made)) (before : Failures)
+    → host_path path ≡ Ok text → option_map shown (object s i) ≡ None → Works s owners firsts (Make path i) made made before before (Err (make.LeftOut reason.Missing))
+works_without_object s owners firsts path i text made before at gone =
+    let o : Outcome = record { path = path; deeds = []; left_out = Some reason.Missing; lost = false } in (
+      o,
+      (refl, follows_plan (host_path path) text (plan_at s owners firsts (Make path i)) (LeaveOut reason.Missing) o at (ap (plan_made s owners firsts i) gone) (refl, refl), refl),
+      refl,
+      ReportsMore-nil made,
+      refl,
+      refl,
+    )
+
+pub works_at_fault : (s : State) (owners : Bool) (firsts : FirstPaths) (task : Task) (old new : Option (List Made)) (before now : Failures) (fault : MakeFault) (r : Result Bool MakeFault)
+    → IsErrAnd r (λ e. e ≡ fault) → Works s owners firsts task old new before now (Err fault) → Works s owners firsts task old new before now r
+works_at_fault s owners firsts task old new before now fault (Ok x) err works = absurd err
+works_at_fault s owners firsts task old new before now fault (Err e) err works =
+    subst (λ (f : MakeFault). Works s owners firsts task old new before now (Err f)) (sym err) works
 
 pub planned_again : (s : State) (owners : Bool) (firsts : FirstPaths) (path : List (List ℕ)) (i : ℕ) (o : Object) (first : List ℕ) → option_map shown (object s i) ≡ Some o
     → firsts i ≡ Some first → plan_at s owners firsts (Make path i) ≡ plan_again o.kind first
@@ -172,6 +199,16 @@ pub planned_anew : (s : State) (owners : Bool) (firsts : FirstPaths) (path : Lis
     → firsts i ≡ None → plan_at s owners firsts (Make path i) ≡ plan_anew o.kind (readable s i) (attributes_of owners o)
 planned_anew s owners firsts path i o there known =
     ap (plan_made s owners firsts i) there ∙ ap (λ (f : Option (List ℕ)). plan_of f o.kind (readable s i) (attributes_of owners o)) known
+
+pub lost_again : (s : State) (owners : Bool) (firsts : FirstPaths) (path : List (List ℕ)) (i : ℕ) (o : Object) (first : List ℕ) → option_map shown (object s i) ≡ Some o
+    → firsts i ≡ Some first → false ≡ lost_at s owners firsts (Make path i)
+lost_again s owners firsts path i o first there known =
+    sym (ap (λ (f : Option (List ℕ)). lost_made owners f (option_map shown (object s i))) known ∙ ap (lost_made owners (Some first)) there)
+
+pub lost_anew : (s : State) (owners : Bool) (firsts : FirstPaths) (path : List (List ℕ)) (i : ℕ) (o : Object) → option_map shown (object s i) ≡ Some o
+    → firsts i ≡ None → (not (is_directory_kind o.kind) && loses_bits owners o.mode) ≡ lost_at s owners firsts (Make path i)
+lost_anew s owners firsts path i o there known =
+    sym (ap (λ (f : Option (List ℕ)). lost_made owners f (option_map shown (object s i))) known ∙ ap (lost_made owners None) there)
 
 -- ---- the paths at which objects were made first
 

@@ -17,12 +17,13 @@ use Rattle.jname.proofs.SortedLemmas.{T_first, T_second}
 use Rattle.jmount.specs.Find as find
 use Rattle.jmount.specs.Find.{is_name}
 use Rattle.jmount.specs.Shown.{readable, shown}
-use Rattle.jmount.specs.Tree.{State, object, is_there, is_directory, entries_in}
+use Rattle.jmount.specs.Tree.{State, object, is_directory, entries_in}
 use Rattle.jmount.specs.declared.object.Kind.{Kind}
 use Rattle.jmount.specs.declared.object.Kind.TheVariants as kind
 use Rattle.jmount.specs.declared.object.Object.{Object}
 use Rattle.jmount.proofs.PathNameLemmas.{path_names_exactly}
 use Rattle.jextract.specs.Extracts.{AreFirstTreeOutcomes}
+use Rattle.jextract.specs.Cells.{Cells, cells_of}
 use Rattle.jextract.specs.Folders.{Made, Deed, Directory, File, Content, Symlink, Link, Attributed}
 use Rattle.jextract.specs.Laws.{HasNames, HasWay, AreMadeBelow, MakesOnce, MakesThroughDirectories, deeds_at, directory_at, is_one, is_of_directory}
 use Rattle.jextract.specs.Outcomes.{Task, Make, Complete, path_of_task, Outcome, FirstPaths, Plan, Do, LeaveOut, FollowsPlan, IsOutcomeOf, AreFirstOutcomes, plan_of, plan_at, plan_made, plan_completed, attributes_of, is_target, firsts_after, tasks_after, todo_if, made_at, all_made, root_made, root_alone, tasks_of, tasks_in}
@@ -158,7 +159,7 @@ names_differ s i = differ i (entries s.names) (entries_sorted s.names)
 
 -- ---- the names of a directory that lead to a path
 
-module _ (s : State) (way path : List (List ℕ)) where
+module _ (way path : List (List ℕ)) where
   abbrev leads_by : List ℕ × ℕ → Bool
   leads_by e = leads path (Make (way ++ e.0 ∷ []) e.1)
 
@@ -166,16 +167,11 @@ module _ (s : State) (way path : List (List ℕ)) where
   NoneLeads [] = ⊤
   NoneLeads (e ∷ es) = (leads_by e ≡ false) × NoneLeads es
 
-  none_of : (names : List (List ℕ × ℕ)) → NoneLeads names → filter (leads path) (tasks_of s way names) ≡ []
+  none_of : (names : List (List ℕ × ℕ)) → NoneLeads names → filter (leads path) (tasks_of way names) ≡ []
   none_of [] none = refl
-  none_of (e ∷ names) none = by (is_there s e.1) (none_of names none.1)
-    where
-      by : (b : Bool) → filter (leads path) (tasks_of s way names) ≡ []
-          → filter (leads path) (map (λ e. Make (way ++ e.0 ∷ []) e.1) (cond b (e ∷ filter (λ e. is_there s e.1) names) (filter (λ e. is_there s e.1) names))) ≡ []
-      by true rest =
-          let others : List Task = filter (leads path) (tasks_of s way names) in
-          ap (λ (l : Bool). cond l (Make (way ++ e.0 ∷ []) e.1 ∷ others) others) none.0 ∙ rest
-      by false rest = rest
+  none_of (e ∷ names) none =
+      let others : List Task = filter (leads path) (tasks_of way names) in
+      ap (λ (l : Bool). cond l (Make (way ++ e.0 ∷ []) e.1 ∷ others) others) none.0 ∙ none_of names none.1
 
   by_rest : (r : Option (List (List ℕ))) → rest_of way path ≡ r → (e : List ℕ × ℕ) → leads_by e ≡ is_some (rest_then e.0 r)
   by_rest r is e = ap is_some (rest_name way path e.0) ∙ ap (λ (x : Option (List (List ℕ))). is_some (rest_then e.0 x)) is
@@ -206,23 +202,17 @@ module _ (s : State) (way path : List (List ℕ)) where
       none_other names other.1,
     )
 
-    one_leads : (names : List (List ℕ × ℕ)) → Differ names → Stands [] (filter (leads path) (tasks_of s way names))
+    one_leads : (names : List (List ℕ × ℕ)) → Differ names → Stands [] (filter (leads path) (tasks_of way names))
     one_leads [] apart = refl
-    one_leads (e ∷ names) apart = by (is_there s e.1) (one_leads names apart.1)
+    one_leads (e ∷ names) apart = here (leads_by e) refl (one_leads names apart.1)
       where
-        here : (l : Bool) → leads_by e ≡ l → Stands [] (filter (leads path) (tasks_of s way names))
-            → Stands [] (cond l (Make (way ++ e.0 ∷ []) e.1 ∷ filter (leads path) (tasks_of s way names)) (filter (leads path) (tasks_of s way names)))
+        here : (l : Bool) → leads_by e ≡ l → Stands [] (filter (leads path) (tasks_of way names))
+            → Stands [] (cond l (Make (way ++ e.0 ∷ []) e.1 ∷ filter (leads path) (tasks_of way names)) (filter (leads path) (tasks_of way names)))
         here true lead rest =
             subst (λ (l : List Task). Stands [] (Make (way ++ e.0 ∷ []) e.1 ∷ l))
             (sym (none_of names (none_other names (subst (λ (n : List ℕ). Others n names) (leads_same e lead) apart.0))))
             refl
         here false lead rest = rest
-
-        by : (b : Bool) → Stands [] (filter (leads path) (tasks_of s way names))
-            → Stands [] (filter (leads path) (map (λ e. Make (way ++ e.0 ∷ []) e.1)
-            (cond b (e ∷ filter (λ e. is_there s e.1) names) (filter (λ e. is_there s e.1) names))))
-        by true rest = here (leads_by e) refl rest
-        by false rest = rest
 
 -- ---- what an outcome does at a path
 
@@ -296,11 +286,11 @@ one_of deed is zero = refl
 one_of deed is (suc zero) = is
 one_of deed is (suc (suc k)) = is
 
-two_of : (bytes : List ℕ) (attributes : Attributes) (k : ℕ) → is_one (take k (File ∷ Content bytes attributes ∷ [])) ≡ true
-two_of bytes attributes zero = refl
-two_of bytes attributes (suc zero) = refl
-two_of bytes attributes (suc (suc zero)) = refl
-two_of bytes attributes (suc (suc (suc k))) = refl
+two_of : (cells : Cells) (attributes : Attributes) (k : ℕ) → is_one (take k (File ∷ Content cells attributes ∷ [])) ≡ true
+two_of cells attributes zero = refl
+two_of cells attributes (suc zero) = refl
+two_of cells attributes (suc (suc zero)) = refl
+two_of cells attributes (suc (suc (suc k))) = refl
 
 none_of_plan : (k : ℕ) → is_one (take k []) ≡ true
 none_of_plan zero = refl
@@ -314,7 +304,7 @@ symlink_one target attributes k false = none_of_plan k
 plan_one : (known : Option (List ℕ)) (kind : Kind) (bytes : List ℕ) (attributes : Attributes) (k : ℕ)
     → is_one (take k (deeds_of (plan_of known kind bytes attributes))) ≡ true
 plan_one None kind.Directory bytes attributes k = one_of Directory refl k
-plan_one None kind.Regular bytes attributes k = two_of bytes attributes k
+plan_one None kind.Regular bytes attributes k = two_of (cells_of bytes) attributes k
 plan_one None kind.Symlink bytes attributes k = symlink_one bytes attributes k (is_target bytes)
 plan_one (Some first) kind.Regular bytes attributes k = one_of (Link first) refl k
 plan_one (Some first) kind.Symlink bytes attributes k = one_of (Link first) refl k
@@ -335,11 +325,11 @@ completed_one owners (Some o) (suc (suc k)) = refl
 
 tasks_filtered : (s : State) (path way : List (List ℕ)) (i : ℕ) (todo : List Task)
     → filter (leads path) (tasks_in s way i ++ todo)
-    ≡ filter (leads path) (tasks_of s way (entries_in s i)) ++ (filter (leads path) (Complete way i ∷ []) ++ filter (leads path) todo)
+    ≡ filter (leads path) (tasks_of way (entries_in s i)) ++ (filter (leads path) (Complete way i ∷ []) ++ filter (leads path) todo)
 tasks_filtered s path way i todo =
     filter-append (leads path) (tasks_in s way i) todo
-    ∙ ap (λ (l : List Task). l ++ filter (leads path) todo) (filter-append (leads path) (tasks_of s way (entries_in s i)) (Complete way i ∷ []))
-    ∙ append_assoc (filter (leads path) (tasks_of s way (entries_in s i))) (filter (leads path) (Complete way i ∷ [])) (filter (leads path) todo)
+    ∙ ap (λ (l : List Task). l ++ filter (leads path) todo) (filter-append (leads path) (tasks_of way (entries_in s i)) (Complete way i ∷ []))
+    ∙ append_assoc (filter (leads path) (tasks_of way (entries_in s i))) (filter (leads path) (Complete way i ∷ [])) (filter (leads path) todo)
 
 stands_if : (s : State) (path way : List (List ℕ)) (i : ℕ) (todo : List Task) (deeds : List Deed) (left_out : Option Reason)
     → Stands deeds (filter (leads path) todo)
@@ -354,7 +344,7 @@ stands_if s path way i todo deeds None rest entered = by (is_directory s i) refl
 
 -- a directory that was entered: one task at most leads from it to a path
 stands_entered : (s : State) (path way : List (List ℕ)) (i : ℕ) (todo names last rest : List Task) (deeds : List Deed)
-    → filter (leads path) (tasks_of s way (entries_in s i)) ≡ names → filter (leads path) (Complete way i ∷ []) ≡ last → filter (leads path) todo ≡ rest
+    → filter (leads path) (tasks_of way (entries_in s i)) ≡ names → filter (leads path) (Complete way i ∷ []) ≡ last → filter (leads path) todo ≡ rest
     → Stands deeds (names ++ (last ++ rest)) → Stands deeds (filter (leads path) (tasks_in s way i ++ todo))
 stands_entered s path way i todo names last rest deeds a b c stands =
     subst (Stands deeds) (sym (tasks_filtered s path way i todo
@@ -403,7 +393,7 @@ after_make s owners firsts way i o todo path before are is = by (rest_of way pat
         stands_if s path way i todo (before ++ deeds_at (relative_path path) o.deeds) o.left_out now
         (λ left d.
         stands_entered s path way i todo [] [] (filter (leads path) todo) (before ++ deeds_at (relative_path path) o.deeds)
-        (none_of s way path (entries_in s i) (none_apart s way path r (entries_in s i)))
+        (none_of way path (entries_in s i) (none_apart way path r (entries_in s i)))
         (ap (λ (x : Option (List (List ℕ))). let l : List Task = cond (is_end x) (Complete way i ∷ []) [] in l) r) refl now)
     by (Some (m ∷ rest)) r stands =
         let last = make_last before way i (filter (leads path) todo) stands in
@@ -413,10 +403,10 @@ after_make s owners firsts way i o todo path before are is = by (rest_of way pat
         subst (λ (d : List Deed). Stands d (filter (leads path) (todo_if s way i o.left_out todo))) (sym nothing)
         (stands_if s path way i todo [] o.left_out (subst (Stands []) (sym last.1) refl)
         (λ left d.
-        stands_entered s path way i todo (filter (leads path) (tasks_of s way (entries_in s i))) [] [] [] refl
+        stands_entered s path way i todo (filter (leads path) (tasks_of way (entries_in s i))) [] [] [] refl
         (ap (λ (x : Option (List (List ℕ))). let l : List Task = cond (is_end x) (Complete way i ∷ []) [] in l) r) last.1
-        (subst (Stands []) (sym (append-nil (filter (leads path) (tasks_of s way (entries_in s i)))))
-        (one_leads s way path m rest r (entries_in s i) (names_differ s i)))))
+        (subst (Stands []) (sym (append-nil (filter (leads path) (tasks_of way (entries_in s i)))))
+        (one_leads way path m rest r (entries_in s i) (names_differ s i)))))
     by (Some []) r stands =
         let last = make_last before way i (filter (leads path) todo) stands in
         let done = here s owners firsts (Make way i) o path is r in
@@ -427,7 +417,7 @@ after_make s owners firsts way i o todo path before are is = by (rest_of way pat
         (subst (Stands (deeds_at (relative_path path) o.deeds)) (sym last.1) (ap is_one done.1 ∙ made_one s owners firsts i (option_map shown (object s i)) done.0))
         (λ left d.
         stands_entered s path way i todo [] (Complete way i ∷ []) [] (deeds_at (relative_path path) o.deeds)
-        (none_of s way path (entries_in s i) (none_here s way path r (entries_in s i)))
+        (none_of way path (entries_in s i) (none_here way path r (entries_in s i)))
         (ap (λ (x : Option (List (List ℕ))). let l : List Task = cond (is_end x) (Complete way i ∷ []) [] in l) r) last.1
         (ap (deeds_at (relative_path path)) (directory_alone s owners firsts way i o is left d)
         ∙ deeds_here (relative_path path) (relative_path way) (Directory ∷ []) (ap relative_path (whole_is way path r)))))
@@ -457,16 +447,16 @@ stands_first : (s : State) (path : List (List ℕ)) → list_all is_name path �
     → Stands (deeds_at (relative_path path) (root_made ∷ [])) (filter (leads path) (tasks_in s [] 1))
 stands_first s [] is =
     subst (Stands (Directory ∷ []))
-    (sym (filter-append (leads []) (tasks_of s [] (entries_in s 1)) (Complete [] 1 ∷ [])
-    ∙ ap (λ (l : List Task). l ++ Complete [] 1 ∷ []) (none_of s [] [] (entries_in s 1) (none_here s [] [] refl (entries_in s 1)))))
+    (sym (filter-append (leads []) (tasks_of [] (entries_in s 1)) (Complete [] 1 ∷ [])
+    ∙ ap (λ (l : List Task). l ++ Complete [] 1 ∷ []) (none_of [] [] (entries_in s 1) (none_here [] [] refl (entries_in s 1)))))
     refl
 stands_first s (name ∷ rest) is =
     let path : List (List ℕ) = name ∷ rest in
     let other : [] ≡ relative_path path → ⊥ = λ same. let no : [] ≡ name ∷ rest = same_names [] (name ∷ rest) refl is same in absurd (cc) in
     subst (λ (d : List Deed). Stands d (filter (leads path) (tasks_in s [] 1))) (sym (deeds_away (relative_path path) [] (Directory ∷ []) other))
-    (subst (Stands []) (sym (filter-append (leads path) (tasks_of s [] (entries_in s 1)) (Complete [] 1 ∷ [])))
-    (subst (Stands []) (sym (append-nil (filter (leads path) (tasks_of s [] (entries_in s 1)))))
-    (one_leads s [] path name rest refl (entries_in s 1) (names_differ s 1))))
+    (subst (Stands []) (sym (filter-append (leads path) (tasks_of [] (entries_in s 1)) (Complete [] 1 ∷ [])))
+    (subst (Stands []) (sym (append-nil (filter (leads path) (tasks_of [] (entries_in s 1)))))
+    (one_leads [] path name rest refl (entries_in s 1) (names_differ s 1))))
 
 once_at : (s : State) (owners : Bool) (outcomes : List Outcome) (names : List (List ℕ)) → list_all is_name names ≡ true → AreFirstTreeOutcomes s owners outcomes
     → is_one (deeds_at (relative_path names) (all_made outcomes)) ≡ true
@@ -495,7 +485,7 @@ front_one [] more one = refl
 front_one (Directory ∷ []) more one = refl
 front_one (Directory ∷ Attributed attributes ∷ []) more one = refl
 front_one (File ∷ []) more one = refl
-front_one (File ∷ Content bytes attributes ∷ []) more one = refl
+front_one (File ∷ Content cells attributes ∷ []) more one = refl
 front_one (Symlink target attributes ∷ []) more one = refl
 front_one (Link first ∷ []) more one = refl
 front_one deeds more one = absurd (false≢true one)
@@ -540,10 +530,10 @@ of_directory (Directory ∷ Attributed attributes ∷ []) deed one made there =
     ⊎_elim (λ (is : Directory ≡ deed). sym (ap is_of_directory is)) (λ later. sym (ap is_of_directory (only (Attributed attributes) deed later)))
     (Contains-cases Directory (Attributed attributes ∷ []) deed there)
 of_directory (File ∷ []) deed one made there = let no : File ≡ Directory = only File Directory made in absurd (cc)
-of_directory (File ∷ Content bytes attributes ∷ []) deed one made there =
+of_directory (File ∷ Content cells attributes ∷ []) deed one made there =
     ⊎_elim (λ (no : File ≡ Directory). absurd (cc))
-    (λ later. let no : Content bytes attributes ≡ Directory = only (Content bytes attributes) Directory later in absurd (cc))
-    (Contains-cases File (Content bytes attributes ∷ []) Directory made)
+    (λ later. let no : Content cells attributes ≡ Directory = only (Content cells attributes) Directory later in absurd (cc))
+    (Contains-cases File (Content cells attributes ∷ []) Directory made)
 of_directory (Symlink target attributes ∷ []) deed one made there =
     let no : Symlink target attributes ≡ Directory = only (Symlink target attributes) Directory made in absurd (cc)
 of_directory (Link first ∷ []) deed one made there = let no : Link first ≡ Directory = only (Link first) Directory made in absurd (cc)

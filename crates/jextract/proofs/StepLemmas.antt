@@ -1,6 +1,6 @@
 -- The steps of the walk.
-use Rattle.std.proofs.Common.{◌≡◌, ℕ, ◌+◌, ◌-◌, cond, Bool, true, false, List, [], ◌∷◌, ◌++◌, length, map, take, append_assoc, append-nil, refl, sym, ap, ◌∙◌, subst, arith, Option, Result, Ok, Err, Bor, if◌then◌else◌}
-use Rattle.std.specs.Prelude.{filter, reverse, sum_by, IsErrAnd}
+use Rattle.std.proofs.Common.{◌≡◌, ℕ, ◌+◌, ◌-◌, Bool, true, false, List, [], ◌∷◌, ◌++◌, length, map, take, append_assoc, append-nil, refl, sym, ap, ◌∙◌, subst, arith, Option, Result, Ok, Err, Bor, if◌then◌else◌}
+use Rattle.std.specs.Prelude.{reverse, sum_by, IsErrAnd}
 use Rattle.std.specs.Io.KnownBytes.{Appends}
 use Rattle.std.proofs.KnownBytes.{Appends-nil}
 use Rattle.std.proofs.lemmas.Grind.{common_steps}
@@ -8,29 +8,19 @@ use Rattle.std.proofs.lemmas.List.Sums.{sum_by_push}
 use Rattle.std.proofs.lemmas.List.{map-append, reverse-append, length_push}
 use Rattle.std.proofs.Math.Seq.{take-append_seam}
 use Rattle.flashbase.specs.Device.{PutsPart}
-use Rattle.jmount.specs.Tree.{State, is_there, entries_in}
+use Rattle.jmount.specs.Tree.{State, entries_in}
 use Rattle.jmount.specs.Find.{way_up}
+use Rattle.jextract.specs.Folders.{Failures, refused_once}
 use Rattle.jextract.specs.Making.{firsts_of}
-use Rattle.jextract.specs.Outcomes.{Task, Make, Complete, Outcome, FirstPaths, AreFirstOutcomes, tasks_of, tasks_in, all_lines}
-use Rattle.jextract.specs.Walking.{Advances, Sight, Had, StopsBy, Visits, Completes, ExtractionGoesUp, Steps, task_if, todo_then, extraction_todo, tasks_up, extraction_way, unmade}
+use Rattle.jextract.specs.Outcomes.{Task, Make, Complete, Outcome, FirstPaths, AreFirstOutcomes, tasks_of, tasks_in, all_lines, failures_after, is_refusal}
+use Rattle.jextract.specs.Walking.{Advances, Sight, Had, StopsBy, Visits, Completes, ExtractionGoesUp, Steps, todo_then, extraction_todo, tasks_up, extraction_way, unmade}
 use Rattle.jextract.specs.declared.extracting.Walk.{Walk}
 use Rattle.jextract.specs.declared.fault.ExtractFault.{ExtractFault}
 use Rattle.jextract.specs.declared.fault.ExtractFault.TheVariants as fault
+use Rattle.jextract.specs.declared.totals.Totals.{Totals}
 use Rattle.jextract.proofs.MakingLemmas.{ReportsMore-nil}
 
 -- ---- the tasks of a name
-
-tasks_more : (s : State) (path : List (List ℕ)) (name : List ℕ) (i : ℕ) (names : List (List ℕ × ℕ))
-    → tasks_of s path ((name, i) ∷ names) ≡ task_if s (path ++ name ∷ []) i ++ tasks_of s path names
-tasks_more s path name i names = by (is_there s i) refl
-  where
-    by : (there : Bool) → is_there s i ≡ there → tasks_of s path ((name, i) ∷ names) ≡ task_if s (path ++ name ∷ []) i ++ tasks_of s path names
-    by true is =
-        ap (λ b. map (λ e. Make (path ++ e.0 ∷ []) e.1) (cond b ((name, i) ∷ filter (λ e. is_there s e.1) names) (filter (λ e. is_there s e.1) names))) is
-        ∙ sym (ap (λ (b : Bool). (if b then Make (path ++ name ∷ []) i ∷ [] else []) ++ tasks_of s path names) is)
-    by false is =
-        ap (λ b. map (λ e. Make (path ++ e.0 ∷ []) e.1) (cond b ((name, i) ∷ filter (λ e. is_there s e.1) names) (filter (λ e. is_there s e.1) names))) is
-        ∙ sym (ap (λ (b : Bool). (if b then Make (path ++ name ∷ []) i ∷ [] else []) ++ tasks_of s path names) is)
 
 -- what a walk has left, beside the names of the directory that it reads
 abbrev pub more_of : State → Walk → List Task
@@ -38,20 +28,17 @@ more_of s w = Complete (extraction_way w) w.ino ∷ tasks_up s (reverse w.above.
 
 -- what it has left, where it read a name
 todo_read : (s : State) (w : Walk) (name : List ℕ) (i : ℕ) (names : List (List ℕ × ℕ)) → w.left ≡ (name, i) ∷ names
-    → task_if s (extraction_way w ++ name ∷ []) i ++ (tasks_of s (extraction_way w) names ++ more_of s w) ≡ extraction_todo s w
-todo_read s w name i names read =
-    sym (append_assoc (task_if s (extraction_way w ++ name ∷ []) i) (tasks_of s (extraction_way w) names) (more_of s w))
-    ∙ ap (λ (t : List Task). t ++ more_of s w) (sym (tasks_more s (extraction_way w) name i names))
-    ∙ ap (λ (left : List (List ℕ × ℕ)). tasks_of s (extraction_way w) left ++ more_of s w) (sym read)
+    → Make (extraction_way w ++ name ∷ []) i ∷ (tasks_of (extraction_way w) names ++ more_of s w) ≡ extraction_todo s w
+todo_read s w name i names read = ap (λ (left : List (List ℕ × ℕ)). tasks_of (extraction_way w) left ++ more_of s w) (sym read)
 
 -- ---- the walk goes on in the same directory, or in the one that the name leads to
 
 stays_todo : (s : State) (w n : Walk) (names : List (List ℕ × ℕ)) → n.left ≡ names → n.ino ≡ w.ino → n.above.items ≡ w.above.items → extraction_way n ≡ extraction_way w
-    → tasks_of s (extraction_way w) names ++ more_of s w ≡ extraction_todo s n
+    → tasks_of (extraction_way w) names ++ more_of s w ≡ extraction_todo s n
 stays_todo s w n names left ino above way =
-    ap (λ (l : List (List ℕ × ℕ)). tasks_of s (extraction_way w) l ++ more_of s w) (sym left)
-    ∙ ap (λ (i : ℕ). tasks_of s (extraction_way w) n.left ++ Complete (extraction_way w) i ∷ tasks_up s (reverse w.above.items) (way_up (extraction_way w))) (sym ino)
-    ∙ ap (λ (a : List (ℕ × List (List ℕ × ℕ))). tasks_of s (extraction_way w) n.left ++ Complete (extraction_way w) n.ino ∷ tasks_up s (reverse a) (way_up (extraction_way w))) (sym above)
+    ap (λ (l : List (List ℕ × ℕ)). tasks_of (extraction_way w) l ++ more_of s w) (sym left)
+    ∙ ap (λ (i : ℕ). tasks_of (extraction_way w) n.left ++ Complete (extraction_way w) i ∷ tasks_up s (reverse w.above.items) (way_up (extraction_way w))) (sym ino)
+    ∙ ap (λ (a : List (ℕ × List (List ℕ × ℕ))). tasks_of (extraction_way w) n.left ++ Complete (extraction_way w) n.ino ∷ tasks_up s (reverse a) (way_up (extraction_way w))) (sym above)
     ∙ ap (tasks_up s ((n.ino, n.left) ∷ reverse n.above.items)) (sym way)
 
 advances_to : (s : State) (owners : Bool) (firsts then_ : FirstPaths) (todo other todo_ todo_other : List Task) (outcomes : List Outcome)
@@ -70,9 +57,9 @@ stays s owners w n name i old new read ino above way visits =
     let fewer = visits.3 in (
       visits.0,
       visits.1,
-      advances_to s owners (firsts_of w.firsts) (firsts_of n.firsts) (task_if s (extraction_way w ++ name ∷ []) i ++ (tasks_of s (extraction_way w) n.left ++ more_of s w)) (extraction_todo s w)
-          (tasks_of s (extraction_way w) n.left ++ more_of s w) (extraction_todo s n) visits.0 (todo_read s w name i n.left read) (stays_todo s w n n.left refl ino above way)
-          (visits.2 (tasks_of s (extraction_way w) n.left ++ more_of s w)),
+      advances_to s owners (firsts_of w.firsts) (firsts_of n.firsts) (Make (extraction_way w ++ name ∷ []) i ∷ (tasks_of (extraction_way w) n.left ++ more_of s w)) (extraction_todo s w)
+          (tasks_of (extraction_way w) n.left ++ more_of s w) (extraction_todo s n) visits.0 (todo_read s w name i n.left read) (stays_todo s w n n.left refl ino above way)
+          (visits.2 (tasks_of (extraction_way w) n.left ++ more_of s w)),
       omega arith,
     )
 
@@ -80,7 +67,7 @@ pub enters : (s : State) (owners : Bool) (w n : Walk) (name : List ℕ) (i : ℕ
     → n.left ≡ entries_in s i → n.above.items ≡ w.above.items ++ (w.ino, names) ∷ [] → extraction_way n ≡ extraction_way w ++ name ∷ []
     → Visits s owners (firsts_of w.firsts) (firsts_of n.firsts) (extraction_way w ++ name ∷ []) i old new (Ok true) → Steps s owners w n old new (Ok true)
 enters s owners w n name i names old new read ino left above way visits =
-    let rest = tasks_of s (extraction_way w) names ++ more_of s w in
+    let rest = tasks_of (extraction_way w) names ++ more_of s w in
     let back : way_up (extraction_way n) ≡ extraction_way w =
     ap way_up way
     ∙ ap (λ (k : ℕ). take k (extraction_way w ++ name ∷ [])) {x = length (extraction_way w ++ name ∷ []) - 1} {y = length (extraction_way w)} (omega (arith, length_push (extraction_way w) name))
@@ -90,11 +77,11 @@ enters s owners w n name i names old new read ino left above way visits =
     ap (λ (p : List (List ℕ)). tasks_up s ((w.ino, names) ∷ reverse w.above.items) p) (sym back)
     ∙ ap (λ (l : List (ℕ × List (List ℕ × ℕ))). tasks_up s l (way_up (extraction_way n))) (sym reversed) in
     let todo : tasks_in s (extraction_way w ++ name ∷ []) i ++ rest ≡ extraction_todo s n =
-    append_assoc (tasks_of s (extraction_way w ++ name ∷ []) (entries_in s i)) (Complete (extraction_way w ++ name ∷ []) i ∷ []) rest
-    ∙ ap (λ (p : List (List ℕ)). tasks_of s p (entries_in s i) ++ Complete p i ∷ rest) (sym way)
-    ∙ ap (λ (l : List (List ℕ × ℕ)). tasks_of s (extraction_way n) l ++ Complete (extraction_way n) i ∷ rest) (sym left)
-    ∙ ap (λ (j : ℕ). tasks_of s (extraction_way n) n.left ++ Complete (extraction_way n) j ∷ rest) (sym ino)
-    ∙ ap (λ (t : List Task). tasks_of s (extraction_way n) n.left ++ Complete (extraction_way n) n.ino ∷ t) up in
+    append_assoc (tasks_of (extraction_way w ++ name ∷ []) (entries_in s i)) (Complete (extraction_way w ++ name ∷ []) i ∷ []) rest
+    ∙ ap (λ (p : List (List ℕ)). tasks_of p (entries_in s i) ++ Complete p i ∷ rest) (sym way)
+    ∙ ap (λ (l : List (List ℕ × ℕ)). tasks_of (extraction_way n) l ++ Complete (extraction_way n) i ∷ rest) (sym left)
+    ∙ ap (λ (j : ℕ). tasks_of (extraction_way n) n.left ++ Complete (extraction_way n) j ∷ rest) (sym ino)
+    ∙ ap (λ (t : List Task). tasks_of (extraction_way n) n.left ++ Complete (extraction_way n) n.ino ∷ t) up in
     let own : length n.left ≡ length (entries_in s i) = ap (λ l. length l) left in
     let one : length w.left ≡ length names + 1 = ap (λ l. length l) read ∙ omega arith in
     let sum : sum_by (λ (d : ℕ × List (List ℕ × ℕ)). length d.1) n.above.items ≡ sum_by (λ (d : ℕ × List (List ℕ × ℕ)). length d.1) w.above.items + length names =
@@ -103,7 +90,7 @@ enters s owners w n name i names old new read ino left above way visits =
     let fewer = visits.3 in (
       visits.0,
       visits.1,
-      advances_to s owners (firsts_of w.firsts) (firsts_of n.firsts) (task_if s (extraction_way w ++ name ∷ []) i ++ rest) (extraction_todo s w) (tasks_in s (extraction_way w ++ name ∷ []) i ++ rest) (extraction_todo s n) visits.0
+      advances_to s owners (firsts_of w.firsts) (firsts_of n.firsts) (Make (extraction_way w ++ name ∷ []) i ∷ rest) (extraction_todo s w) (tasks_in s (extraction_way w ++ name ∷ []) i ++ rest) (extraction_todo s n) visits.0
           (todo_read s w name i names read) todo (visits.2 rest),
       omega arith,
     )
@@ -116,19 +103,28 @@ step_at_fault s owners w n old new f (Ok x) err stops = absurd err
 step_at_fault s owners w n old new f (Err e) err stops = subst (λ (x : ExtractFault). StopsBy s owners (firsts_of w.firsts) (extraction_todo s w) old new x) (sym err) stops
 
 pub stops_before : (s : State) (owners : Bool) (firsts : FirstPaths) (todo : List Task) (old : Sight) → StopsBy s owners firsts todo old old fault.OutOfMemory
-stops_before s owners firsts todo old = (([], tt {0}, ReportsMore-nil old.made, (0, Appends-nil old.told)), refl)
+stops_before s owners firsts todo old = (([], tt {0}, ReportsMore-nil old.made, (0, Appends-nil old.told)), refl, refl)
 
 pub visit_failed : (s : State) (owners : Bool) (w n : Walk) (name : List ℕ) (i : ℕ) (names : List (List ℕ × ℕ)) (firsts_then : FirstPaths) (old new : Sight) (f : ExtractFault)
     → w.left ≡ (name, i) ∷ names → Visits s owners (firsts_of w.firsts) firsts_then (extraction_way w ++ name ∷ []) i old new (Err f)
     → StopsBy s owners (firsts_of w.firsts) (extraction_todo s w) old new f
 visit_failed s owners w n name i names firsts_then old new f read visits =
-    subst (λ (t : List Task). StopsBy s owners (firsts_of w.firsts) t old new f) (todo_read s w name i names read) (visits (tasks_of s (extraction_way w) names ++ more_of s w))
+    subst (λ (t : List Task). StopsBy s owners (firsts_of w.firsts) t old new f) (todo_read s w name i names read) (visits (tasks_of (extraction_way w) names ++ more_of s w))
 
 whole_part : (old new : Option (List ℕ)) (line : List ℕ) → Appends old new line → PutsPart old new line
 whole_part old new line put = (length line, subst (Appends old new) (sym (take_whole line)) put)
   where
     take_whole : (xs : List ℕ) → take (length xs) xs ≡ xs
     take_whole xs = grind (arith, common_steps)
+
+-- what is left out is no want of room
+pub failures-full : (n : Failures) (outcomes : List Outcome) → (failures_after n outcomes).full ≡ n.full
+failures-full n [] = refl
+failures-full n (o ∷ outcomes) = failures-full (if is_refusal o.left_out then refused_once n else n) outcomes ∙ by (is_refusal o.left_out)
+  where
+    by : (b : Bool) → (if b then refused_once n else n).full ≡ n.full
+    by true = refl
+    by false = refl
 
 -- memory ran out after what was had
 pub stops_after : (s : State) (owners : Bool) (firsts firsts_then : FirstPaths) (todo todo_ : List Task) (outcomes : List Outcome) (old new : Sight) → Had old new outcomes
@@ -141,20 +137,21 @@ stops_after s owners firsts firsts_then todo todo_ outcomes old new had advances
     whole_part old.told new.told (all_lines outcomes) had.2,
   ),
   had.3,
+  ap (λ (f : Failures). f.full) had.1 ∙ failures-full old.failures outcomes,
 )
 
 pub visited_then_stops : (s : State) (owners : Bool) (w : Walk) (name : List ℕ) (i : ℕ) (names : List (List ℕ × ℕ)) (firsts_then : FirstPaths) (old new : Sight) (entered : Bool)
     → w.left ≡ (name, i) ∷ names → Visits s owners (firsts_of w.firsts) firsts_then (extraction_way w ++ name ∷ []) i old new (Ok entered)
     → StopsBy s owners (firsts_of w.firsts) (extraction_todo s w) old new fault.OutOfMemory
 visited_then_stops s owners w name i names firsts_then old new entered read visits =
-    let rest = tasks_of s (extraction_way w) names ++ more_of s w in
+    let rest = tasks_of (extraction_way w) names ++ more_of s w in
     subst (λ (t : List Task). StopsBy s owners (firsts_of w.firsts) t old new fault.OutOfMemory) (todo_read s w name i names read)
-    (stops_after s owners (firsts_of w.firsts) firsts_then (task_if s (extraction_way w ++ name ∷ []) i ++ rest) (todo_then s (extraction_way w ++ name ∷ []) i entered rest) visits.0 old new visits.1 (visits.2 rest))
+    (stops_after s owners (firsts_of w.firsts) firsts_then (Make (extraction_way w ++ name ∷ []) i ∷ rest) (todo_then s (extraction_way w ++ name ∷ []) i entered rest) visits.0 old new visits.1 (visits.2 rest))
 
 -- ---- where no name is left
 
 todo_left : (s : State) (w : Walk) → w.left ≡ [] → more_of s w ≡ extraction_todo s w
-todo_left s w none = ap (λ (left : List (List ℕ × ℕ)). tasks_of s (extraction_way w) left ++ more_of s w) (sym none)
+todo_left s w none = ap (λ (left : List (List ℕ × ℕ)). tasks_of (extraction_way w) left ++ more_of s w) (sym none)
 
 pub leave_failed : (s : State) (owners : Bool) (w : Walk) (old new : Sight) (f : ExtractFault) → w.left ≡ [] → Completes s owners (extraction_way w) w.ino old new (Err f)
     → StopsBy s owners (firsts_of w.firsts) (extraction_todo s w) old new f
@@ -196,15 +193,15 @@ leaves s owners w n old new done true none completes up =
     )
 
 -- a step that ends with this count
-pub step_left : (s : State) (owners : Bool) (w n : Walk) (old seen : Sight) (on : Bool) → n.left_out ≡ seen.left_out → Steps s owners w n old seen (Ok on)
-    → Steps s owners w n old (record { made = seen.made; failures = seen.failures; told = seen.told; told_failures = seen.told_failures; left_out = n.left_out }) (Ok on)
+pub step_left : (s : State) (owners : Bool) (w n : Walk) (old seen : Sight) (on : Bool) → n.totals ≡ seen.totals → Steps s owners w n old seen (Ok on)
+    → Steps s owners w n old (record { made = seen.made; failures = seen.failures; told = seen.told; told_failures = seen.told_failures; totals = n.totals }) (Ok on)
 step_left s owners w n old seen on is steps =
-    subst (λ (k : ℕ). Steps s owners w n old (record { made = seen.made; failures = seen.failures; told = seen.told; told_failures = seen.told_failures; left_out = k }) (Ok on)) (sym is) steps
+    subst (λ (k : Totals). Steps s owners w n old (record { made = seen.made; failures = seen.failures; told = seen.told; told_failures = seen.told_failures; totals = k }) (Ok on)) (sym is) steps
 
 -- the same, of a walk that knows another count before it goes up
 pub leaves_as : (s : State) (owners : Bool) (w m n : Walk) (old new : Sight) (done up : Bool) → w.left ≡ [] → extraction_way m ≡ extraction_way w → m.above.items ≡ w.above.items → m.firsts ≡ w.firsts
-    → Completes s owners (extraction_way w) w.ino old new (Ok done) → ExtractionGoesUp m n up → m.left_out ≡ new.left_out
-    → Steps s owners w n old (record { made = new.made; failures = new.failures; told = new.told; told_failures = new.told_failures; left_out = n.left_out }) (Ok up)
+    → Completes s owners (extraction_way w) w.ino old new (Ok done) → ExtractionGoesUp m n up → m.totals ≡ new.totals
+    → Steps s owners w n old (record { made = new.made; failures = new.failures; told = new.told; told_failures = new.told_failures; totals = n.totals }) (Ok up)
 leaves_as s owners w m n old new done false none way above firsts completes up count =
     step_left s owners w n old new false (up.2 ∙ count) (leaves s owners w n old new done false none completes (sym above ∙ up.0, up.1 ∙ firsts))
 leaves_as s owners w m n old new done true none way above firsts completes up count =

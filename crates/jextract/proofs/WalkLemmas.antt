@@ -1,5 +1,5 @@
 -- The walk through a tree that is extracted.
-use Rattle.std.proofs.Common.{◌≡◌, ℕ, ◌+◌, ◌≤◌, ◌&&◌, ◌==◌, cond, Bool, true, false, List, [], ◌∷◌, ◌++◌, length, append-nil, refl, sym, ap, ◌∙◌, subst, arith, inl, inr, Option, Some, None, Result, Ok, Err, if◌then◌else◌}
+use Rattle.std.proofs.Common.{◌≡◌, ℕ, ◌+◌, ◌≤◌, ◌&&◌, ◌==◌, cond, Bool, true, false, List, [], ◌∷◌, length, append-nil, refl, sym, ap, ◌∙◌, subst, arith, inl, inr, Option, Some, None, Result, Ok, Err, if◌then◌else◌}
 use Rattle.std.specs.Prelude.{is_some, is_none, count_by, option_map, IsErrAnd}
 use Rattle.std.specs.Option.{option_or}
 use Rattle.std.specs.Io.KnownBytes.{Appends}
@@ -8,21 +8,22 @@ use Rattle.std.proofs.lemmas.Bool.Decides.{nat_tests}
 use Rattle.std.specs.FinMap.{entries}
 use Rattle.std.proofs.lemmas.List.Sums.{sum_by-cons}
 use Rattle.flashbase.specs.Device.{PutsPart}
-use Rattle.jmount.specs.Tree.{State, ObjectOf, object, has_bits, directory_bits, entries_in}
+use Rattle.jmount.specs.Tree.{State, ObjectOf, object, has_bits, directory_bits, entries_in, is_directory, type_bits}
 use Rattle.jmount.specs.Shown.{kind_of, readable, shown}
 use Rattle.jmount.specs.declared.object.Kind.{Kind}
 use Rattle.jmount.specs.declared.object.Kind.TheVariants as kind
 use Rattle.jmount.specs.declared.object.Object.{Object}
-use Rattle.jextract.specs.Folders.{ReportsMore}
-use Rattle.jextract.specs.Making.{Works, FirstsAfter, count_after}
-use Rattle.jextract.specs.Outcomes.{Task, Make, Complete, path_of_task, Outcome, FirstPaths, Plan, FollowsPlan, IsOutcomeOf, AreOutcomes, AreFirstOutcomes, attributes_of, plan_of, plan_made, tasks_after, todo_if, firsts_after, firsts_if, firsts_with, line_if_left_out, outcome_line}
+use Rattle.jextract.specs.Folders.{Failures, ReportsMore, refused_once}
+use Rattle.jextract.specs.Making.{HasBegun, Works, FirstsAfter, count_after}
+use Rattle.jextract.specs.Outcomes.{Task, Make, Complete, path_of_task, Outcome, FirstPaths, Plan, FollowsPlan, IsOutcomeOf, attributes_of, is_directory_kind, is_refusal, plan_of, plan_made, tasks_after, todo_if, firsts_after, firsts_if, firsts_with, line_if_left_out, outcome_line}
 use Rattle.jextract.specs.Paths.{host_path}
-use Rattle.jextract.specs.Walking.{Settles, counted_up, Advances, Sight, Had, Stopped, StopsBy, Visits, Completes, task_if, todo_then, unmade, is_directory_kind}
+use Rattle.jextract.specs.Walking.{Settles, Advances, Sight, Had, Stopped, StopsBy, Visits, Completes, todo_then, totals_up, unmade}
 use Rattle.jextract.specs.declared.fault.ExtractFault.{ExtractFault}
 use Rattle.jextract.specs.declared.fault.ExtractFault.TheVariants as fault
 use Rattle.jextract.specs.declared.making.MakeFault.{MakeFault}
 use Rattle.jextract.specs.declared.making.MakeFault.TheVariants as make
 use Rattle.jextract.specs.declared.reason.Reason.{Reason}
+use Rattle.jextract.specs.declared.totals.Totals.{Totals}
 use Rattle.jextract.proofs.MakingLemmas.{ReportsMore-nil}
 use Rattle.flashbase.proofs.ListLemmas.{count_apart, count_fewer}
 use Rattle.jmount.proofs.DirectoryNameLemmas.{length_entries}
@@ -33,19 +34,23 @@ pub one_advances : (s : State) (owners : Bool) (firsts : FirstPaths) (task : Tas
     → Advances s owners firsts (task ∷ todo) (firsts_after firsts task o) (tasks_after s task o todo) (o ∷ [])
 one_advances s owners firsts task o todo is = (λ rest are. (is, are), λ rest are. (is, are))
 
-count_one : (o : Outcome) → count_by (λ (x : Outcome). is_some x.left_out) (o ∷ []) ≡ cond (is_some o.left_out) 1 0
-count_one o = omega (arith, sum_by-cons (λ (x : Outcome). cond (is_some x.left_out) 1 0) o [])
+count_one : (test : Outcome → Bool) (o : Outcome) → count_by test (o ∷ []) ≡ cond (test o) 1 0
+count_one test o = omega (arith, sum_by-cons (λ (x : Outcome). cond (test x) 1 0) o [])
 
-had_one : (old new : Sight) (o : Outcome) (path : List (List ℕ)) (why : Option Reason) → o.left_out ≡ why → o.path ≡ path → ReportsMore old.made new.made o.deeds
+had_one : (old new : Sight) (o : Outcome) (path : List (List ℕ)) (why : Option Reason) (lost : Bool) → o.left_out ≡ why → o.path ≡ path → o.lost ≡ lost → ReportsMore old.made new.made o.deeds
     → new.failures ≡ count_after old.failures why → Appends old.told new.told (line_if_left_out path why) → new.told_failures ≡ old.told_failures
-    → new.left_out ≡ counted_up old.left_out (cond (is_some why) 1 0) → Had old new (o ∷ [])
-had_one old new o path why left at adds failures told same count = (
+    → new.totals ≡ totals_up old.totals (cond (is_some why) 1 0) (cond lost 1 0) → Had old new (o ∷ [])
+had_one old new o path why lost left at loses adds failures told same count = (
   subst (ReportsMore old.made new.made) (sym (append-nil o.deeds)) adds,
   failures ∙ ap (count_after old.failures) (sym left),
   subst (Appends old.told new.told)
       (ap (λ (p : List (List ℕ)). line_if_left_out p why) (sym at) ∙ ap (line_if_left_out o.path) (sym left) ∙ sym (append-nil (outcome_line o))) told,
   same,
-  count ∙ ap (λ (w : Option Reason). counted_up old.left_out (cond (is_some w) 1 0)) (sym left) ∙ ap (counted_up old.left_out) (sym (count_one o)),
+  count
+      ∙ ap (λ (w : Option Reason). totals_up old.totals (cond (is_some w) 1 0) (cond lost 1 0)) (sym left)
+      ∙ ap (λ (b : Bool). totals_up old.totals (cond (is_some o.left_out) 1 0) (cond b 1 0)) (sym loses)
+      ∙ ap (λ (n : ℕ). totals_up old.totals n (cond o.lost 1 0)) (sym (count_one (λ x. is_some x.left_out) o))
+      ∙ ap (totals_up old.totals (count_by (λ (x : Outcome). is_some x.left_out) (o ∷ []))) (sym (count_one (λ x. x.lost) o)),
 )
 
 -- a task that was settled
@@ -53,18 +58,20 @@ abbrev pub Settled : State → Bool → FirstPaths → Task → Sight → Sight 
 Settled s owners firsts task old new done why =
     (o : Outcome) × IsOutcomeOf s owners firsts task o × Had old new (o ∷ []) × (o.left_out ≡ why) × (done ≡ is_none why)
 
-abbrev pub left_of : {T : Type 0} → Result T MakeFault → Option Reason
+abbrev pub left_of : Result Bool MakeFault → Option Reason
 left_of (Ok x) = None
 left_of (Err (make.LeftOut why)) = Some why
+left_of (Err make.NoSpace) = None
 left_of (Err make.OutOfMemory) = None
 
-pub settled : {T : Type 0} (s : State) (owners : Bool) (firsts : FirstPaths) (task : Task) (old new : Sight) (r : Result T MakeFault) (done : Bool)
+pub settled : (s : State) (owners : Bool) (firsts : FirstPaths) (task : Task) (old new : Sight) (r : Result Bool MakeFault) (done : Bool)
     → Works s owners firsts task old.made new.made old.failures new.failures r
-    → Settles r (path_of_task task) old.told new.told old.told_failures new.told_failures old.left_out new.left_out (Ok done) → Settled s owners firsts task old new done (left_of r)
-settled s owners firsts task old new (Ok x) done works tells =
-    (works.0, works.1, had_one old new works.0 (path_of_task task) None works.2 works.1.0 works.3 works.4 tells.1 tells.2 tells.3, works.2, tells.0)
+    → Settles r (path_of_task task) old.told new.told old.told_failures new.told_failures old.totals new.totals (Ok done) → Settled s owners firsts task old new done (left_of r)
+settled s owners firsts task old new (Ok lost) done works tells =
+    (works.0, works.1, had_one old new works.0 (path_of_task task) None lost works.2 works.1.0 works.5 works.3 works.4 tells.1 tells.2 tells.3, works.2, tells.0)
 settled s owners firsts task old new (Err (make.LeftOut why)) done works tells =
-    (works.0, works.1, had_one old new works.0 (path_of_task task) (Some why) works.2 works.1.0 works.3 works.4 tells.1 tells.2 tells.3, works.2, tells.0)
+    (works.0, works.1, had_one old new works.0 (path_of_task task) (Some why) false works.2 works.1.0 works.5 works.3 works.4 tells.1 tells.2 tells.3, works.2, tells.0)
+settled s owners firsts task old new (Err make.NoSpace) done works tells = absurd tells
 settled s owners firsts task old new (Err make.OutOfMemory) done works tells = absurd tells
 
 -- a task at which the walk stops
@@ -78,36 +85,56 @@ stops_told s owners firsts task todo old new o why is left adds part = (
       (ap (λ (p : List (List ℕ)). line_if_left_out p (Some why)) (sym is.0) ∙ ap (line_if_left_out o.path) (sym left) ∙ sym (append-nil (outcome_line o))) part,
 )
 
-pub stops : {T : Type 0} (s : State) (owners : Bool) (firsts : FirstPaths) (task : Task) (todo : List Task) (old new : Sight) (r : Result T MakeFault) (f : ExtractFault)
+-- what is left out is no want of room
+full_unchanged : (before now : Failures) (why : Option Reason) → now ≡ count_after before why → now.full ≡ before.full
+full_unchanged before now why is = ap (λ (f : Failures). f.full) is ∙ by (is_refusal why)
+  where
+    by : (b : Bool) → (if b then refused_once before else before).full ≡ before.full
+    by true = refl
+    by false = refl
+
+-- a task that was begun, and stopped at its fault
+stops_begun : (s : State) (owners : Bool) (firsts : FirstPaths) (task : Task) (todo : List Task) (old new : Sight) → HasBegun s owners firsts task old.made new.made
+    → Appends old.told new.told [] → Stopped s owners firsts (task ∷ todo) old new
+stops_begun s owners firsts task todo old new (inl adds) told = ([], tt {0}, adds, (0, told))
+stops_begun s owners firsts task todo old new (inr begun) told =
+    (begun.0 ∷ [], (begun.1, tt {0}), subst (ReportsMore old.made new.made) (sym (append-nil begun.0.deeds)) begun.2, (0, told))
+
+pub stops : (s : State) (owners : Bool) (firsts : FirstPaths) (task : Task) (todo : List Task) (old new : Sight) (r : Result Bool MakeFault) (f : ExtractFault)
     → Works s owners firsts task old.made new.made old.failures new.failures r
-    → Settles r (path_of_task task) old.told new.told old.told_failures new.told_failures old.left_out new.left_out (Err f) → StopsBy s owners firsts (task ∷ todo) old new f
+    → Settles r (path_of_task task) old.told new.told old.told_failures new.told_failures old.totals new.totals (Err f) → StopsBy s owners firsts (task ∷ todo) old new f
 stops s owners firsts task todo old new (Ok x) f works tells = absurd tells
 stops s owners firsts task todo old new (Err (make.LeftOut why)) fault.Folder works tells = absurd tells
 stops s owners firsts task todo old new (Err (make.LeftOut why)) fault.Notes works tells =
-    (stops_told s owners firsts task todo old new works.0 why works.1 works.2 works.3 tells.0, tells.1)
+    (stops_told s owners firsts task todo old new works.0 why works.1 works.2 works.3 tells.0, tells.1, full_unchanged old.failures new.failures (Some why) works.4)
+stops s owners firsts task todo old new (Err (make.LeftOut why)) fault.NoSpace works tells = absurd tells
 stops s owners firsts task todo old new (Err (make.LeftOut why)) fault.OutOfMemory works tells = absurd tells
+stops s owners firsts task todo old new (Err make.NoSpace) fault.Folder works tells = absurd tells
+stops s owners firsts task todo old new (Err make.NoSpace) fault.Notes works tells = absurd tells
+stops s owners firsts task todo old new (Err make.NoSpace) fault.NoSpace works tells =
+    (stops_begun s owners firsts task todo old new works.0 tells.0, tells.1, ap (λ (x : Failures). x.full) works.1)
+stops s owners firsts task todo old new (Err make.NoSpace) fault.OutOfMemory works tells = absurd tells
 stops s owners firsts task todo old new (Err make.OutOfMemory) fault.Folder works tells = absurd tells
 stops s owners firsts task todo old new (Err make.OutOfMemory) fault.Notes works tells = absurd tells
-stops s owners firsts task todo old new (Err make.OutOfMemory) fault.OutOfMemory (inl adds) tells = (([], tt {0}, adds, (0, tells.0)), tells.1)
-stops s owners firsts task todo old new (Err make.OutOfMemory) fault.OutOfMemory (inr begun) tells = (
-  (begun.0 ∷ [], (begun.1, tt {0}), subst (ReportsMore old.made new.made) (sym (append-nil begun.0.deeds)) begun.2, (0, tells.0)),
-  tells.1,
-)
+stops s owners firsts task todo old new (Err make.OutOfMemory) fault.NoSpace works tells = absurd tells
+stops s owners firsts task todo old new (Err make.OutOfMemory) fault.OutOfMemory works tells =
+    (stops_begun s owners firsts task todo old new works.0 tells.0, tells.1, ap (λ (x : Failures). x.full) works.1)
 
 -- ---- a directory that is completed
 
-pub completes : {T : Type 0} (s : State) (owners : Bool) (path : List (List ℕ)) (i : ℕ) (old new : Sight) (r : Result T MakeFault) (t : Result Bool ExtractFault)
+pub completes : (s : State) (owners : Bool) (path : List (List ℕ)) (i : ℕ) (old new : Sight) (r : Result Bool MakeFault) (t : Result Bool ExtractFault)
     → Works s owners (λ j. None) (Complete path i) old.made new.made old.failures new.failures r
-    → Settles r path old.told new.told old.told_failures new.told_failures old.left_out new.left_out t → Completes s owners path i old new t
-completes {T} s owners path i old new r (Ok done) works tells =
+    → Settles r path old.told new.told old.told_failures new.told_failures old.totals new.totals t → Completes s owners path i old new t
+completes s owners path i old new r (Ok done) works tells =
     let by = settled s owners (λ j. None) (Complete path i) old new r done works tells in
     (by.0 ∷ [], by.2, λ firsts todo. one_advances s owners firsts (Complete path i) by.0 todo by.1)
-completes {T} s owners path i old new r (Err f) works tells = λ firsts todo. stops s owners firsts (Complete path i) todo old new r f (anywhere firsts r works) tells
+completes s owners path i old new r (Err f) works tells = λ firsts todo. stops s owners firsts (Complete path i) todo old new r f (anywhere firsts r works) tells
   where
-    anywhere : (firsts : FirstPaths) (x : Result T MakeFault) → Works s owners (λ j. None) (Complete path i) old.made new.made old.failures new.failures x
+    anywhere : (firsts : FirstPaths) (x : Result Bool MakeFault) → Works s owners (λ j. None) (Complete path i) old.made new.made old.failures new.failures x
         → Works s owners firsts (Complete path i) old.made new.made old.failures new.failures x
     anywhere firsts (Ok y) works = works
     anywhere firsts (Err (make.LeftOut why)) works = works
+    anywhere firsts (Err make.NoSpace) works = works
     anywhere firsts (Err make.OutOfMemory) works = works
 
 -- ---- the names whose directory was not made
@@ -179,10 +206,6 @@ pub directory_is : (x : Option (ObjectOf (List ℕ))) (o : Object) → option_ma
 directory_is None o is = absurd (cc)
 directory_is (Some x) o is = let same : shown x ≡ o = cc in kind_is _ ∙ ap (λ (y : Object). is_directory_kind y.kind) same
 
-there_is : (x : Option (ObjectOf (List ℕ))) (o : Object) → option_map shown x ≡ Some o → is_some x ≡ true
-there_is None o is = absurd (cc)
-there_is (Some x) o is = refl
-
 pub kind_directory : (k : Kind) → is_directory_kind k ≡ true → k ≡ kind.Directory
 kind_directory kind.Directory is = refl
 kind_directory kind.Fifo is = absurd (cc)
@@ -193,25 +216,16 @@ kind_directory kind.Symlink is = absurd (cc)
 kind_directory kind.Socket is = absurd (cc)
 kind_directory kind.Other is = absurd (cc)
 
+-- a directory is there
+directory_there : (x : Option (ObjectOf (List ℕ))) → has_bits directory_bits x ≡ true → (o : Object) × (option_map shown x ≡ Some o) × (o.kind ≡ kind.Directory)
+directory_there None is = absurd (cc)
+directory_there (Some x) is = (shown x, refl, kind_directory (shown x).kind (sym (kind_is (type_bits x.mode)) ∙ is))
+
+no_more : (n : Totals) → n ≡ totals_up n 0 0
+no_more n = refl
+
 pub had_none : (old : Sight) → Had old old []
-had_none old = (ReportsMore-nil old.made, refl, Appends-nil old.told, refl, refl)
-
-gone_is : (x : Option (ObjectOf (List ℕ))) → option_map shown x ≡ None → is_some x ≡ false
-gone_is None is = refl
-gone_is (Some x) is = absurd (cc)
-
-pub visit_gone : (s : State) (owners : Bool) (firsts : FirstPaths) (path : List (List ℕ)) (i : ℕ) (old : Sight) → option_map shown (object s i) ≡ None
-    → Visits s owners firsts firsts path i old old (Ok false)
-visit_gone s owners firsts path i old gone =
-    let same : (todo : List Task) → todo ≡ task_if s path i ++ todo = λ todo. ap (λ (b : Bool). (if b then Make path i ∷ [] else []) ++ todo) (sym (gone_is (object s i) gone)) in (
-      [],
-      had_none old,
-      λ todo. (
-        λ rest are. subst (λ (t : List Task). AreOutcomes s owners firsts t rest) (same todo) are,
-        λ rest are. subst (λ (t : List Task). AreFirstOutcomes s owners firsts t rest) (same todo) are,
-      ),
-      omega arith,
-    )
+had_none old = (ReportsMore-nil old.made, refl, Appends-nil old.told, refl, no_more old.totals)
 
 -- the same way, told with equal words
 advances_as : (s : State) (owners : Bool) (firsts : FirstPaths) (todo other : List Task) (then_ then_other : FirstPaths) (todo_ todo_other : List Task) (outcomes : List Outcome)
@@ -221,57 +235,48 @@ advances_as s owners firsts todo other then_ then_other todo_ todo_other outcome
     (subst (λ (f : FirstPaths). Advances s owners firsts todo f todo_other outcomes) b
     (subst (λ (t : List Task). Advances s owners firsts todo then_ t outcomes) c advances))
 
-there_task : (s : State) (path : List (List ℕ)) (i : ℕ) (o : Object) (todo : List Task) → option_map shown (object s i) ≡ Some o → Make path i ∷ todo ≡ task_if s path i ++ todo
-there_task s path i o todo there = ap (λ (b : Bool). (if b then Make path i ∷ [] else []) ++ todo) (sym (there_is (object s i) o there))
-
-pub visit_made : {T : Type 0} (s : State) (owners : Bool) (firsts firsts_then : FirstPaths) (path : List (List ℕ)) (i : ℕ) (o : Object) (old new : Sight) (r : Result T MakeFault) (done : Bool)
-    → option_map shown (object s i) ≡ Some o
+pub visit_made : (s : State) (owners : Bool) (firsts firsts_then : FirstPaths) (path : List (List ℕ)) (i : ℕ) (old new : Sight) (r : Result Bool MakeFault) (done : Bool)
     → Works s owners firsts (Make path i) old.made new.made old.failures new.failures r → FirstsAfter firsts firsts_then path i r
-    → Settles r path old.told new.told old.told_failures new.told_failures old.left_out new.left_out (Ok done)
-    → Visits s owners firsts firsts_then path i old new (Ok (done && is_directory_kind o.kind))
-visit_made {T} s owners firsts firsts_then path i o old new (Err make.OutOfMemory) done there works after tells = absurd tells
-visit_made {T} s owners firsts firsts_then path i o old new (Err (make.LeftOut why)) done there works after tells =
-    let by = settled {T = T} s owners firsts (Make path i) old new (Err (make.LeftOut why)) done works tells in
-    let entered : done && is_directory_kind o.kind ≡ false = ap (λ (b : Bool). b && is_directory_kind o.kind) by.4 in
+    → Settles r path old.told new.told old.told_failures new.told_failures old.totals new.totals (Ok done)
+    → Visits s owners firsts firsts_then path i old new (Ok (done && is_directory s i))
+visit_made s owners firsts firsts_then path i old new (Err make.NoSpace) done works after tells = absurd tells
+visit_made s owners firsts firsts_then path i old new (Err make.OutOfMemory) done works after tells = absurd tells
+visit_made s owners firsts firsts_then path i old new (Err (make.LeftOut why)) done works after tells =
+    let by = settled s owners firsts (Make path i) old new (Err (make.LeftOut why)) done works tells in
+    let entered : done && is_directory s i ≡ false = ap (λ (b : Bool). b && is_directory s i) by.4 in
     let fewer : unmade s firsts_then ≡ unmade s firsts = ap (unmade s) after in (
       by.0 ∷ [],
       by.2,
-      λ todo. advances_as s owners firsts (Make path i ∷ todo) (task_if s path i ++ todo) (firsts_if firsts path i by.0.left_out) firsts_then (todo_if s path i by.0.left_out todo)
-          (todo_then s path i (done && is_directory_kind o.kind) todo) (by.0 ∷ []) (there_task s path i o todo there) (ap (firsts_if firsts path i) by.3 ∙ sym after)
+      λ todo. advances_as s owners firsts (Make path i ∷ todo) (Make path i ∷ todo) (firsts_if firsts path i by.0.left_out) firsts_then (todo_if s path i by.0.left_out todo)
+          (todo_then s path i (done && is_directory s i) todo) (by.0 ∷ []) refl (ap (firsts_if firsts path i) by.3 ∙ sym after)
           (ap (λ (w : Option Reason). todo_if s path i w todo) by.3 ∙ ap (λ (b : Bool). todo_then s path i b todo) (sym entered))
           (one_advances s owners firsts (Make path i) by.0 todo by.1),
       subst (λ (b : Bool). unmade s firsts_then + (if b then length (entries_in s i) else 0) ≤ unmade s firsts) (sym entered) (omega arith),
     )
-visit_made {T} s owners firsts firsts_then path i o old new (Ok x) done there works after tells =
-    let by = settled {T = T} s owners firsts (Make path i) old new (Ok x) done works tells in
-    let entered : done && is_directory_kind o.kind ≡ is_directory_kind o.kind = ap (λ (b : Bool). b && is_directory_kind o.kind) by.4 in
-    let directory = directory_is (object s i) o there in (
+visit_made s owners firsts firsts_then path i old new (Ok x) done works after tells =
+    let by = settled s owners firsts (Make path i) old new (Ok x) done works tells in
+    let entered : done && is_directory s i ≡ is_directory s i = ap (λ (b : Bool). b && is_directory s i) by.4 in (
       by.0 ∷ [],
       by.2,
-      λ todo. advances_as s owners firsts (Make path i ∷ todo) (task_if s path i ++ todo) (firsts_if firsts path i by.0.left_out) firsts_then (todo_if s path i by.0.left_out todo)
-          (todo_then s path i (done && is_directory_kind o.kind) todo) (by.0 ∷ []) (there_task s path i o todo there) (ap (firsts_if firsts path i) by.3 ∙ sym after)
-          (ap (λ (w : Option Reason). todo_if s path i w todo) by.3 ∙ ap (λ (b : Bool). todo_then s path i b todo) (directory ∙ sym entered))
+      λ todo. advances_as s owners firsts (Make path i ∷ todo) (Make path i ∷ todo) (firsts_if firsts path i by.0.left_out) firsts_then (todo_if s path i by.0.left_out todo)
+          (todo_then s path i (done && is_directory s i) todo) (by.0 ∷ []) refl (ap (firsts_if firsts path i) by.3 ∙ sym after)
+          (ap (λ (w : Option Reason). todo_if s path i w todo) by.3 ∙ ap (λ (b : Bool). todo_then s path i b todo) (sym entered))
           (one_advances s owners firsts (Make path i) by.0 todo by.1),
       subst (λ (b : Bool). unmade s firsts_then + (if b then length (entries_in s i) else 0) ≤ unmade s firsts) (sym entered)
-          (subst (λ (f : FirstPaths). unmade s f + (if is_directory_kind o.kind then length (entries_in s i) else 0) ≤ unmade s firsts) (sym after) (fewer by.0 by.1 by.3 (is_directory_kind o.kind) refl)),
+          (subst (λ (f : FirstPaths). unmade s f + (if is_directory s i then length (entries_in s i) else 0) ≤ unmade s firsts) (sym after) (fewer by.0 by.1 by.3 (is_directory s i) refl)),
     )
   where
-    fewer : (u : Outcome) → IsOutcomeOf s owners firsts (Make path i) u → u.left_out ≡ None → (b : Bool) → is_directory_kind o.kind ≡ b
+    fewer : (u : Outcome) → IsOutcomeOf s owners firsts (Make path i) u → u.left_out ≡ None → (b : Bool) → is_directory s i ≡ b
         → unmade s (firsts_with firsts (host_path path) i) + (if b then length (entries_in s i) else 0) ≤ unmade s firsts
     fewer u is left false other = omega (arith, unmade_after s firsts (host_path path) i)
     fewer u is left true dir =
+        let there = directory_there (object s i) dir in
+        let o = there.0 in
         let plan : plan_made s owners firsts i (option_map shown (object s i)) ≡ plan_of (firsts i) kind.Directory (readable s i) (attributes_of owners o) =
-        ap (plan_made s owners firsts i) there ∙ ap (λ (k : Kind). plan_of (firsts i) k (readable s i) (attributes_of owners o)) (kind_directory o.kind dir) in
+        ap (plan_made s owners firsts i) there.1 ∙ ap (λ (k : Kind). plan_of (firsts i) k (readable s i) (attributes_of owners o)) there.2 in
         let is_new = made_is_new (firsts i) (host_path path) (readable s i) u o owners (subst (λ (p : Plan). FollowsPlan (host_path path) p u) plan is.1) left in
         let count = unmade_entered s firsts is_new.1.0 i is_new.0 in
         subst (λ (p : Result (List ℕ) Reason). unmade s (firsts_with firsts p i) + length (entries_in s i) ≤ unmade s firsts) (sym is_new.1.1) (omega (arith, count))
-
-pub visit_stops : {T : Type 0} (s : State) (owners : Bool) (firsts firsts_then : FirstPaths) (path : List (List ℕ)) (i : ℕ) (o : Object) (old new : Sight) (r : Result T MakeFault) (f : ExtractFault)
-    → option_map shown (object s i) ≡ Some o → Works s owners firsts (Make path i) old.made new.made old.failures new.failures r
-    → Settles r path old.told new.told old.told_failures new.told_failures old.left_out new.left_out (Err f)
-    → Visits s owners firsts firsts_then path i old new (Err f)
-visit_stops s owners firsts firsts_then path i o old new r f there works tells =
-    λ todo. subst (λ (t : List Task). StopsBy s owners firsts t old new f) (there_task s path i o todo there) (stops s owners firsts (Make path i) todo old new r f works tells)
 
 pub visits_at_fault : (s : State) (owners : Bool) (firsts firsts_then : FirstPaths) (path : List (List ℕ)) (i : ℕ) (old new : Sight) (f : ExtractFault) (r : Result Bool ExtractFault)
     → IsErrAnd r (λ e. e ≡ f) → Visits s owners firsts firsts_then path i old new (Err f) → Visits s owners firsts firsts_then path i old new r

@@ -5,6 +5,7 @@ use Rattle.std.specs.Str.{bytes_eq, is_utf8}
 use Rattle.jmount.specs.Tree.{State, is_directory}
 use Rattle.jmount.specs.Find.{is_name}
 use Rattle.jextract.specs.Extracts.{AreTreeOutcomes, AreFirstTreeOutcomes}
+use Rattle.jextract.specs.Cells.{bytes_read, cells_of}
 use Rattle.jextract.specs.Folders.{Made, Deed, Directory, File, Content, Symlink, Link, Attributed}
 use Rattle.jextract.specs.Outcomes.{Outcome, all_made}
 use Rattle.jextract.specs.Paths.{greatest_path, relative_path}
@@ -49,7 +50,7 @@ is_one [] = true
 is_one (Directory ∷ []) = true
 is_one (Directory ∷ Attributed attributes ∷ []) = true
 is_one (File ∷ []) = true
-is_one (File ∷ Content bytes attributes ∷ []) = true
+is_one (File ∷ Content cells attributes ∷ []) = true
 is_one (Symlink target attributes ∷ []) = true
 is_one (Link first ∷ []) = true
 is_one _ = false
@@ -72,6 +73,10 @@ abbrev pub MakesThroughDirectories : Type 0
 MakesThroughDirectories = (s : State) (owners : Bool) (outcomes : List Outcome) (made other : Made) (way : List (List ℕ)) (name : List ℕ) (rest : List (List ℕ))
     → AreFirstTreeOutcomes s owners outcomes → Contains (all_made outcomes) made → HasNames made.path (way ++ name ∷ rest)
     → Contains (all_made outcomes) other → other.path ≡ relative_path way → is_of_directory other.deed ≡ true
+
+-- whatever bytes a file has, it reads as them, the holes of it too
+abbrev pub HolesReadBack : Type 0
+HolesReadBack = (bytes : List ℕ) → bytes_read (cells_of bytes) ≡ bytes
 
 -- a file or a symlink is made, which may have further names
 abbrev pub is_linkable : Deed → Bool

@@ -1,4 +1,6 @@
+pub mod Cells
 pub mod Extracts
+pub mod Filling
 pub mod Folders
 pub mod Laws
 pub mod Making

@@ -1,19 +1,20 @@
 -- What is made of a file system in a folder of the host, as far as the host lets it.
-use Rattle.std.specs.Prelude.{min, count_by, ◌^◌, ◌-◌, ◌≡◌, ℕ, ◌%◌, ◌<◌, ◌==◌, ◌&&◌, not, Bool, true, false, nat_lt, nat_le, List, [], ◌∷◌, ◌++◌, length, take, map, filter, flat_map, codes, Option, Some, None, option_map, Result, Ok, Err, ◌⊎◌, is_some, if◌then◌else◌}
+use Rattle.std.specs.Prelude.{min, count_by, ◌^◌, ◌-◌, ◌≡◌, ℕ, ◌/◌, ◌%◌, ◌<◌, ◌==◌, ◌&&◌, not, Bool, true, false, nat_lt, nat_le, List, [], ◌∷◌, ◌++◌, length, take, map, flat_map, codes, Option, Some, None, option_map, Result, Ok, Err, ◌⊎◌, is_some, is_none, if◌then◌else◌}
 use Rattle.std.specs.List.{list_all}
 use Rattle.std.specs.Option.{option_or}
-use Rattle.flashbase.specs.Device.{next_count}
 use Rattle.std.specs.Str.{is_utf8}
-use Rattle.jmount.specs.Tree.{State, object, is_there, is_directory, entries_in}
+use Rattle.jmount.specs.Tree.{State, object, is_directory, entries_in}
 use Rattle.jmount.specs.Shown.{readable, shown}
 use Rattle.jmount.specs.declared.object.Kind.{Kind}
 use Rattle.jmount.specs.declared.object.Kind.TheVariants as kind
 use Rattle.jmount.specs.declared.object.Object.{Object}
 use Rattle.jline.specs.Paths.{path_shown}
-use Rattle.jextract.specs.Folders.{Made, Deed, Directory, File, Content, Symlink, Link, Attributed}
+use Rattle.jextract.specs.Cells.{cells_of}
+use Rattle.jextract.specs.Folders.{Failures, refused_once, Made, Deed, Directory, File, Content, Symlink, Link, Attributed}
 use Rattle.jextract.specs.Paths.{host_path}
 use Rattle.jextract.specs.declared.folder.Attributes.{Attributes}
 use Rattle.jextract.specs.declared.folder.Owner.{Owner}
+use Rattle.jextract.specs.declared.totals.Totals.{Totals}
 use Rattle.jextract.specs.declared.reason.Reason.{Reason}
 use Rattle.jextract.specs.declared.reason.Reason.TheVariants as reason
 
@@ -22,9 +23,23 @@ use Rattle.jextract.specs.declared.reason.Reason.TheVariants as reason
 abbrev pub owner_if : Bool → Object → Option Owner
 owner_if owners o = if owners then Some (record { uid = o.uid; gid = o.gid }) else None
 
--- the low 12 bits of its mode, its times, and its owners where they are asked for
+-- The permissions that an object is given: the low 12 bits of its mode. Without owners, whoever extracts is to own it, and the
+-- two bits are dropped by which a program runs as its file's owner and group (Linux, include/uapi/linux/stat.h: S_ISUID and
+-- S_ISGID, octal 4000 and 2000).
+abbrev pub mode_given : Bool → ℕ → ℕ
+mode_given owners mode = if owners then mode % 4096 else mode % 1024
+
+-- whether it loses such a bit
+abbrev pub loses_bits : Bool → ℕ → Bool
+loses_bits owners mode = not owners && not (mode / 1024 % 4 == 0)
+
+-- its permissions, its times, and its owners where they are asked for
 abbrev pub attributes_of : Bool → Object → Attributes
-attributes_of owners o = record { mode = o.mode % 4096; mtime = o.mtime; atime = o.atime; owner = owner_if owners o }
+attributes_of owners o = record { mode = mode_given owners o.mode; mtime = o.mtime; atime = o.atime; owner = owner_if owners o }
+
+abbrev pub is_directory_kind : Kind → Bool
+is_directory_kind kind.Directory = true
+is_directory_kind _ = false
 
 -- What is to be done with an object. What is left out is told.
 pub data Plan : Type 0 where
@@ -49,7 +64,7 @@ reason_of _ = reason.UnknownKind
 -- what is done with an object that was not made before, by its kind, its bytes and its attributes
 abbrev pub plan_anew : Kind → List ℕ → Attributes → Plan
 plan_anew kind.Directory bytes attributes = Do (Directory ∷ [])
-plan_anew kind.Regular bytes attributes = Do (File ∷ Content bytes attributes ∷ [])
+plan_anew kind.Regular bytes attributes = Do (File ∷ Content (cells_of bytes) attributes ∷ [])
 plan_anew kind.Symlink bytes attributes = plan_symlink bytes attributes
 plan_anew other bytes attributes = LeaveOut (reason_of other)
 
@@ -83,16 +98,16 @@ abbrev pub path_of_task : Task → List (List ℕ)
 path_of_task (Make path i) = path
 path_of_task (Complete path i) = path
 
--- these names of a directory that lead to objects, each with its path
-abbrev pub tasks_of : State → List (List ℕ) → List (List ℕ × ℕ) → List Task
-tasks_of s path names = map (λ e. Make (path ++ e.0 ∷ []) e.1) (filter (λ e. is_there s e.1) names)
+-- these names of a directory, each with its path
+abbrev pub tasks_of : List (List ℕ) → List (List ℕ × ℕ) → List Task
+tasks_of path names = map (λ e. Make (path ++ e.0 ∷ []) e.1) names
 
 -- what lies in a directory, in byte order of the names, and then the directory itself
 abbrev pub tasks_in : State → List (List ℕ) → ℕ → List Task
-tasks_in s path i = tasks_of s path (entries_in s i) ++ Complete path i ∷ []
+tasks_in s path i = tasks_of path (entries_in s i) ++ Complete path i ∷ []
 
 abbrev pub plan_made : State → Bool → FirstPaths → ℕ → Option Object → Plan
-plan_made s owners firsts i None = Do []
+plan_made s owners firsts i None = LeaveOut reason.Missing
 plan_made s owners firsts i (Some o) = plan_of (firsts i) o.kind (readable s i) (attributes_of owners o)
 
 abbrev pub plan_completed : Bool → Option Object → Plan
@@ -105,11 +120,12 @@ plan_at s owners firsts (Complete path i) = plan_completed owners (option_map sh
 
 -- ---- an outcome
 
--- what was done of a task, and why it was left out, if it was
+-- what was done of a task, why it was left out, if it was, and whether its object lost a bit of its mode
 pub record Outcome : Type 0 where
   pub path : List (List ℕ)
   pub deeds : List Made
   pub left_out : Option Reason
+  pub lost : Bool
 
 abbrev pub made_at : List ℕ → List Deed → List Made
 made_at path deeds = map (λ deed. record { path = path; deed = deed }) deeds
@@ -125,8 +141,23 @@ FollowsPlan (Err why) plan o = (o.deeds ≡ []) × (o.left_out ≡ Some why)
 FollowsPlan (Ok path) (LeaveOut why) o = (o.deeds ≡ []) × (o.left_out ≡ Some why)
 FollowsPlan (Ok path) (Do deeds) o = IsDone (made_at path deeds) o
 
+-- A directory loses bits when it is completed, and what has several names when it is made by its first.
+abbrev pub lost_made : Bool → Option (List ℕ) → Option Object → Bool
+lost_made owners first None = false
+lost_made owners first (Some o) = is_none first && not (is_directory_kind o.kind) && loses_bits owners o.mode
+
+abbrev pub lost_completed : Bool → Option Object → Bool
+lost_completed owners None = false
+lost_completed owners (Some o) = loses_bits owners o.mode
+
+abbrev pub lost_at : State → Bool → FirstPaths → Task → Bool
+lost_at s owners firsts (Make path i) = lost_made owners (firsts i) (option_map shown (object s i))
+lost_at s owners firsts (Complete path i) = lost_completed owners (option_map shown (object s i))
+
 abbrev pub IsOutcomeOf : State → Bool → FirstPaths → Task → Outcome → Type 0
-IsOutcomeOf s owners firsts task o = (o.path ≡ path_of_task task) × FollowsPlan (host_path (path_of_task task)) (plan_at s owners firsts task) o
+IsOutcomeOf s owners firsts task o =
+    (o.path ≡ path_of_task task) × FollowsPlan (host_path (path_of_task task)) (plan_at s owners firsts task) o
+    × (o.lost ≡ (is_none o.left_out && lost_at s owners firsts task))
 
 -- ---- what follows from an outcome
 
@@ -186,6 +217,7 @@ left_out_reason reason.Fifo = codes "FIFO"
 left_out_reason reason.Socket = codes "socket"
 left_out_reason reason.UnknownKind = codes "a kind that is not known"
 left_out_reason reason.BadTarget = codes "bad target"
+left_out_reason reason.Missing = codes "no inode"
 left_out_reason reason.Refused = codes "the host refused it"
 
 unfoldable pub line_of_left_out : List (List ℕ) → Reason → List ℕ
@@ -204,13 +236,16 @@ is_refusal (Some reason.Refused) = true
 is_refusal (Some _) = false
 
 -- the count of the folder's failures after these
-abbrev pub failures_after : ℕ → List Outcome → ℕ
+abbrev pub failures_after : Failures → List Outcome → Failures
 failures_after n [] = n
-failures_after n (o ∷ outcomes) = failures_after (if is_refusal o.left_out then next_count n else n) outcomes
+failures_after n (o ∷ outcomes) = failures_after (if is_refusal o.left_out then refused_once n else n) outcomes
 
--- how many were left out, up to the greatest u64
-abbrev pub count_left_out : List Outcome → ℕ
-count_left_out outcomes = min (count_by (λ o. is_some o.left_out) outcomes) (2 ^ 64 - 1)
+-- how many were left out, and how many lost a bit of their modes, each up to the greatest u64
+abbrev pub totals_of : List Outcome → Totals
+totals_of outcomes = record {
+  left_out = min (count_by (λ o. is_some o.left_out) outcomes) (2 ^ 64 - 1);
+  lost_bits = min (count_by (λ o. o.lost) outcomes) (2 ^ 64 - 1);
+}
 
 -- all lines that are told
 abbrev pub all_lines : List Outcome → List ℕ

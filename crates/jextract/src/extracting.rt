@@ -1,16 +1,18 @@
 //! The tree of a mounted image, written into a folder of the host.
 
-ghost use Rattle.std.specs.Prelude.{◌≡◌, map};
+ghost use Rattle.std.specs.Prelude.{◌≡◌, if◌then◌else◌, map};
 ghost use Rattle.jextract.specs.Extracts.{Extracts};
+ghost use Rattle.jmount.specs.Tree as tree;
 ghost use Rattle.jextract.specs.Making.{firsts_of};
-ghost use Rattle.jextract.specs.Walking.{Completes, Enters, Fills, ExtractionGoesUp, Steps, Settles, Visits, is_directory_kind};
+ghost use Rattle.jextract.specs.Walking.{Completes, Enters, Fills, ExtractionGoesUp, Steps, Settles, Visits, no_totals, totals_up};
 
 use crate::fault::ExtractFault;
 use crate::folder::{Folder, FolderFault};
 use crate::making::{MakeFault, complete, make};
 use crate::notes::tell;
+use crate::totals::Totals;
 use flashbase::Sink;
-use jmount::{Kind, Mounted, Object};
+use jmount::{Kind, Mounted};
 use jname::Of;
 use std::alloc::Global;
 use std::collections::BTreeMap;
@@ -18,37 +20,70 @@ use std::mem;
 
 const ROOT: u32 = 1;
 
+impl Totals {
+    fn none() -> Totals
+        ensures { result ≡ no_totals }
+    {
+        Totals {
+            left_out: 0,
+            lost_bits: 0,
+        }
+    }
+
+    fn add_left_out(&mut self)
+        ensures { self.new ≡ totals_up self.old 1 0 }
+    {
+        self.left_out = self.left_out.saturating_add(1);
+    }
+
+    /// Counts an object that lost a bit, if it did.
+    fn add_lost(&mut self, lost: bool)
+        ensures { self.new ≡ totals_up self.old 0 (if lost then 1 else 0) }
+    {
+        if lost {
+            self.lost_bits = self.lost_bits.saturating_add(1);
+        }
+    }
+}
+
 /// Tells why a task was left out, if it was, and counts it. Answers whether it was done.
 fn settle<N: Sink>(
-    done: Result<(), MakeFault>,
+    done: Result<bool, MakeFault>,
     path: &[&[u8]],
-    left_out: &mut u64,
+    totals: &mut Totals,
     notes: &mut N,
 ) -> Result<bool, ExtractFault>
     ensures { Settles done (map (λ name. name.now) path.now) (N.taken notes.old) (N.taken notes.new)
-        (N.failures notes.old) (N.failures notes.new) left_out.old left_out.new result }
+        (N.failures notes.old) (N.failures notes.new) totals.old totals.new result }
 {
     match done {
-        Ok(()) => Ok(true),
+        Ok(lost) => {
+            totals.add_lost(lost);
+            Ok(true)
+        }
         Err(MakeFault::LeftOut(reason)) => {
-            *left_out = left_out.saturating_add(1);
+            totals.add_left_out();
             match tell(notes, path, reason) {
                 Ok(()) => Ok(false),
                 Err(_) => Err(ExtractFault::Notes),
             }
         }
+        Err(MakeFault::NoSpace) => Err(ExtractFault::NoSpace),
         Err(MakeFault::OutOfMemory) => Err(ExtractFault::OutOfMemory),
     }
 }
 
-/// Whether this object is a directory.
-fn is_directory(object: &Object) -> bool
-    ensures { result ≡ is_directory_kind object.now.kind }
+/// Whether this number is that of a directory.
+fn is_directory(mounted: &Mounted<'_>, ino: u32) -> bool
+    ensures { result ≡ tree.is_directory mounted.now.state ino }
 {
-    object.kind == Kind::Directory
+    match mounted.object(ino) {
+        Some(object) => object.kind == Kind::Directory,
+        None => false,
+    }
 }
 
-/// Makes the object that a path leads to, if there is one. Answers whether it is a directory that was made.
+/// Makes the object that a path leads to. Answers whether it is a directory that was made.
 fn visit<F: Folder, N: Sink>(
     alloc: Global,
     mounted: &Mounted<'_>,
@@ -56,20 +91,17 @@ fn visit<F: Folder, N: Sink>(
     path: &[&[u8]],
     ino: u32,
     firsts: &mut BTreeMap<u32, String>,
-    left_out: &mut u64,
+    totals: &mut Totals,
     folder: &mut F,
     notes: &mut N,
 ) -> Result<bool, ExtractFault>
     ensures { Visits mounted.now.state owners (firsts_of firsts.old) (firsts_of firsts.new) (map (λ name. name.now) path.now) ino
-        (record { made = F.made folder.old; failures = F.failures folder.old; told = N.taken notes.old; told_failures = N.failures notes.old; left_out = left_out.old })
-        (record { made = F.made folder.new; failures = F.failures folder.new; told = N.taken notes.new; told_failures = N.failures notes.new; left_out = left_out.new }) result }
+        (record { made = F.made folder.old; failures = F.failures folder.old; told = N.taken notes.old; told_failures = N.failures notes.old; totals = totals.old })
+        (record { made = F.made folder.new; failures = F.failures folder.new; told = N.taken notes.new; told_failures = N.failures notes.new; totals = totals.new }) result }
 {
-    let Some(object) = mounted.object(ino) else {
-        return Ok(false);
-    };
-    let done = make(alloc, mounted, owners, path, ino, &object, firsts, folder);
-    let is_made = settle(done, path, left_out, notes)?;
-    Ok(is_made && is_directory(&object))
+    let done = make(alloc, mounted, owners, path, ino, firsts, folder);
+    let is_made = settle(done, path, totals, notes)?;
+    Ok(is_made && is_directory(mounted, ino))
 }
 
 /// Completes the directory that a path leads to.
@@ -79,16 +111,16 @@ fn leave<F: Folder, N: Sink>(
     owners: bool,
     path: &[&[u8]],
     ino: u32,
-    left_out: &mut u64,
+    totals: &mut Totals,
     folder: &mut F,
     notes: &mut N,
 ) -> Result<bool, ExtractFault>
     ensures { Completes mounted.now.state owners (map (λ name. name.now) path.now) ino
-        (record { made = F.made folder.old; failures = F.failures folder.old; told = N.taken notes.old; told_failures = N.failures notes.old; left_out = left_out.old })
-        (record { made = F.made folder.new; failures = F.failures folder.new; told = N.taken notes.new; told_failures = N.failures notes.new; left_out = left_out.new }) result }
+        (record { made = F.made folder.old; failures = F.failures folder.old; told = N.taken notes.old; told_failures = N.failures notes.old; totals = totals.old })
+        (record { made = F.made folder.new; failures = F.failures folder.new; told = N.taken notes.new; told_failures = N.failures notes.new; totals = totals.new }) result }
 {
     let done = complete(alloc, mounted, owners, path, ino, folder);
-    settle(done, path, left_out, notes)
+    settle(done, path, totals, notes)
 }
 
 /// A walk through a tree, a directory before what lies in it.
@@ -104,8 +136,8 @@ struct Walk<'m, 'a> {
     above: Vec<(u32, Of<'m, 'a>)>,
     /// The path at which each object was made first.
     firsts: BTreeMap<u32, String>,
-    /// How many objects were left out.
-    left_out: u64,
+    /// What is counted so far.
+    totals: Totals,
 }
 
 impl<'m, 'a> Walk<'m, 'a> {
@@ -132,8 +164,8 @@ impl<'m, 'a> Walk<'m, 'a> {
         notes: &mut N,
     ) -> Result<bool, ExtractFault>
         ensures { Steps mounted.now.state owners self.old self.new
-            (record { made = F.made folder.old; failures = F.failures folder.old; told = N.taken notes.old; told_failures = N.failures notes.old; left_out = self.old.left_out })
-            (record { made = F.made folder.new; failures = F.failures folder.new; told = N.taken notes.new; told_failures = N.failures notes.new; left_out = self.new.left_out }) result }
+            (record { made = F.made folder.old; failures = F.failures folder.old; told = N.taken notes.old; told_failures = N.failures notes.old; totals = self.old.totals })
+            (record { made = F.made folder.new; failures = F.failures folder.new; told = N.taken notes.new; told_failures = N.failures notes.new; totals = self.new.totals }) result }
     {
         let Some((name, ino)) = self.left.next() else {
             leave(
@@ -142,7 +174,7 @@ impl<'m, 'a> Walk<'m, 'a> {
                 owners,
                 &self.path,
                 self.ino,
-                &mut self.left_out,
+                &mut self.totals,
                 folder,
                 notes,
             )?;
@@ -156,7 +188,7 @@ impl<'m, 'a> Walk<'m, 'a> {
             &self.path,
             ino,
             &mut self.firsts,
-            &mut self.left_out,
+            &mut self.totals,
             folder,
             notes,
         )? {
@@ -185,10 +217,10 @@ fn fill<F: Folder, N: Sink>(
     owners: bool,
     folder: &mut F,
     notes: &mut N,
-) -> Result<u64, ExtractFault>
+) -> Result<Totals, ExtractFault>
     ensures { Fills mounted.now.state owners
-        (record { made = F.made folder.old; failures = F.failures folder.old; told = N.taken notes.old; told_failures = N.failures notes.old; left_out = 0 })
-        (record { made = F.made folder.new; failures = F.failures folder.new; told = N.taken notes.new; told_failures = N.failures notes.new; left_out = 0 }) result }
+        (record { made = F.made folder.old; failures = F.failures folder.old; told = N.taken notes.old; told_failures = N.failures notes.old; totals = no_totals })
+        (record { made = F.made folder.new; failures = F.failures folder.new; told = N.taken notes.new; told_failures = N.failures notes.new; totals = no_totals }) result }
 {
     let mut firsts = BTreeMap::new(alloc);
     firsts.insert(ROOT, String::new(alloc))?;
@@ -198,36 +230,38 @@ fn fill<F: Folder, N: Sink>(
         left: mounted.entries(ROOT),
         above: Vec::new(alloc),
         firsts,
-        left_out: 0,
+        totals: Totals::none(),
     };
     while walk.step(alloc, mounted, owners, folder, notes)? {}
-    Ok(walk.left_out)
+    Ok(walk.totals)
 }
 
 /// Makes the folder, and in it the tree of a mounted image: a directory before what lies in it, and names in byte order.
-/// Answers how many objects were left out, up to the greatest `u64`; each of them is told as a line of the notes.
+/// Answers how many objects were left out, each of which is told as a line of the notes, and how many lost a set-id bit.
 ///
 /// A directory gets its attributes after all that lies in it, and one that was made before is not made again. A further name
-/// of a file or symlink is made as a link to the first. Owners are given only where `owners` asks for them. What the host
-/// refuses is left out, with all below it, and so are devices, FIFOs, sockets, and names and targets that no host takes.
+/// of a file or symlink is made as a link to the first. Where 4,096 bytes of a file are all zero, a hole is left. Owners are given
+/// only where `owners` asks for them, and without them no set-id bit of a mode. What the host refuses is left out, with all below
+/// it, and so are devices, FIFOs, sockets, names that lead nowhere, and names and targets that no host takes.
 /// Takes memory for the way to an object and for a path for each object, and for no file's bytes.
 ///
 /// # Errors
-/// `Folder`: the folder itself is refused, and nothing is done. `Notes`: the notes failed; `OutOfMemory`: out of memory; what
-/// was made so far stays.
+/// `Folder`: the folder itself is refused, and nothing is done. `Notes`: the notes failed; `NoSpace`: the host has no room left;
+/// `OutOfMemory`: out of memory; what was made so far stays.
 pub fn extract<F: Folder, N: Sink>(
     alloc: Global,
     mounted: &Mounted<'_>,
     owners: bool,
     folder: &mut F,
     notes: &mut N,
-) -> Result<u64, ExtractFault>
+) -> Result<Totals, ExtractFault>
     ensures { Extracts mounted.now.state owners (F.made folder.old) (F.made folder.new) (F.failures folder.old) (F.failures folder.new)
         (N.taken notes.old) (N.taken notes.new) (N.failures notes.old) (N.failures notes.new) result }
 {
     match folder.make_directory("") {
         Ok(()) => fill(alloc, mounted, owners, folder, notes),
         Err(FolderFault::Refused) => Err(ExtractFault::Folder),
+        Err(FolderFault::NoSpace) => Err(ExtractFault::NoSpace),
         Err(FolderFault::OutOfMemory) => Err(ExtractFault::OutOfMemory),
     }
 }

@@ -15,6 +15,9 @@ pub enum ExtractFault {
     /// What is left out can't be told.
     #[error("the notes failed")]
     Notes,
+    /// The host has no room for what is still to be made.
+    #[error("no space")]
+    NoSpace,
     #[error("out of memory")]
     OutOfMemory,
 }

@@ -27,6 +27,11 @@ pub fn makes_through_directories()
     ensures { law.MakesThroughDirectories }
 {}
 
+/// Whatever bytes a file has, it reads as them where holes are left for its blocks of zeros.
+pub fn holes_read_back()
+    ensures { law.HolesReadBack }
+{}
+
 /// A further name is of a file or a symlink that was made in the folder before, if the root is a directory.
 pub fn links_back()
     ensures { law.LinksLeadBack }

@@ -4,10 +4,13 @@
 //! says, each path at which something is made has names that lead into the folder (none of them is empty, `.` or `..`, or has
 //! a slash), each directory on the way to it was made before, and no path is made twice: so nothing is made through a symlink.
 //!
-//! `specs/Folders.antt` says what a folder is made to hold, `specs/Paths.antt` which paths a host may have,
+//! What it takes of a disk is bounded by the image's own data: where 4,096 bytes of a file are all zero, it leaves a hole.
+//!
+//! `specs/Folders.antt` says what a folder is made to hold, `specs/Cells.antt` which places of a file are written, `specs/Paths.antt` which paths a host may have,
 //! `specs/Outcomes.antt` what comes of each object, and `specs/Extracts.antt` what the call does. `laws` has what follows.
 #![tactic(auto)]
 
+mod contents;
 mod extracting;
 mod fault;
 mod folder;
@@ -16,8 +19,10 @@ mod making;
 mod notes;
 mod paths;
 mod reason;
+mod totals;
 
 pub use crate::extracting::extract;
 pub use crate::fault::ExtractFault;
-pub use crate::folder::{Attributes, Folder, FolderFault, Owner};
+pub use crate::folder::{Attributes, FilledFile, Folder, FolderFault, Owner};
 pub use crate::reason::Reason;
+pub use crate::totals::Totals;

@@ -1,13 +1,15 @@
 //! Making one object.
 
-ghost use Rattle.std.specs.Prelude.{◌≡◌, ◌==◌, not, ◌%◌, [], ◌∷◌, Some, None, MatchOption, false, true, length, map, option_map};
+ghost use Rattle.std.specs.Prelude.{◌≡◌, ◌==◌, ◌&&◌, not, [], ◌∷◌, Some, None, IfOk, MatchOption, false, true, length, map, option_map};
 ghost use Rattle.std.specs.List.{list_all};
 ghost use Rattle.jmount.specs.Shown.{readable, shown};
 ghost use Rattle.jmount.specs.Tree as tree;
+ghost use Rattle.jextract.specs.Cells.{cells_of};
 ghost use Rattle.jextract.specs.Folders.{Content, File};
 ghost use Rattle.jextract.specs.Making.{Does, FirstsAfter, Follows, Works, firsts_of};
-ghost use Rattle.jextract.specs.Outcomes.{Complete, Make, attributes_of, is_target, made_at, plan_again, plan_anew, plan_completed, plan_symlink, reason_of};
+ghost use Rattle.jextract.specs.Outcomes.{Complete, Make, attributes_of, is_directory_kind, is_target, loses_bits, lost_completed, made_at, mode_given, plan_again, plan_anew, plan_completed, plan_symlink, reason_of};
 
+use crate::contents::put_contents;
 use crate::folder::{Attributes, Folder, FolderFault, Owner};
 use crate::paths::host_path;
 use crate::reason::Reason;
@@ -22,6 +24,7 @@ const GREATEST_TARGET: usize = 4095;
 #[derive(Clone, Copy, Debug, PartialEq, Eq)]
 pub(crate) enum MakeFault {
     LeftOut(Reason),
+    NoSpace,
     OutOfMemory,
 }
 
@@ -33,6 +36,7 @@ impl From<FolderFault> for MakeFault {
     fn from(fault: FolderFault) -> MakeFault {
         match fault {
             FolderFault::Refused => MakeFault::LeftOut(Reason::Refused),
+            FolderFault::NoSpace => MakeFault::NoSpace,
             FolderFault::OutOfMemory => MakeFault::OutOfMemory,
         }
     }
@@ -58,6 +62,27 @@ impl<T: Drop> From<AllocFailed<T>> for MakeFault {
     }
 }
 
+/// The permissions that an object of the host gets of a mode.
+fn mode_given(owners: bool, mode: u32) -> u32
+    ensures { result ≡ mode_given owners mode }
+{
+    if owners { mode % 4096 } else { mode % 1024 }
+}
+
+/// Whether a mode loses one of its set-id bits by that.
+fn loses_bits(owners: bool, mode: u32) -> bool
+    ensures { result ≡ loses_bits owners mode }
+{
+    !owners && mode / 1024 % 4 != 0
+}
+
+/// Whether an object loses such a bit when it is made. A directory does when it is completed.
+fn loses_when_made(owners: bool, object: &Object) -> bool
+    ensures { result ≡ (not (is_directory_kind object.now.kind) && loses_bits owners object.now.mode) }
+{
+    object.kind != Kind::Directory && loses_bits(owners, object.mode)
+}
+
 /// What an object of the host gets of an object.
 fn attributes_of(object: &Object, owners: bool) -> Attributes
     ensures { result ≡ attributes_of owners object.now }
@@ -67,7 +92,7 @@ fn attributes_of(object: &Object, owners: bool) -> Attributes
         gid: u32::from(object.gid),
     };
     Attributes {
-        mode: object.mode % 4096,
+        mode: mode_given(owners, object.mode),
         mtime: object.mtime,
         atime: object.atime,
         owner: owners.then_some(owner),
@@ -78,19 +103,23 @@ fn attributes_of(object: &Object, owners: bool) -> Attributes
 fn make_file<F: Folder>(
     mounted: &Mounted<'_>,
     ino: u32,
+    size: u32,
     path: &str,
     attributes: Attributes,
     folder: &mut F,
 ) -> Result<(), FolderFault>
+    requires { length (readable mounted.now.state ino) ≡ size }
     ensures { Does (F.made folder.old) (F.made folder.new) (F.failures folder.old) (F.failures folder.new)
-        (made_at path.now (File ∷ Content (readable mounted.now.state ino) attributes ∷ [])) result }
+        (made_at path.now (File ∷ Content (cells_of (readable mounted.now.state ino)) attributes ∷ [])) result }
 {
     let mut file = folder.make_file(path)?;
-    if mounted.put_bytes(ino, &mut file).is_err() {
-        folder.give_up_file(path, file);
-        return Err(FolderFault::Refused);
+    match put_contents(mounted, ino, size, &mut file) {
+        Ok(()) => folder.finish_file(path, file, attributes),
+        Err(fault) => {
+            folder.give_up_file(path, file);
+            Err(fault)
+        }
     }
-    folder.finish_file(path, file, attributes)
 }
 
 fn has_no_zero(bytes: &[u8]) -> bool
@@ -165,7 +194,7 @@ fn make_anew<F: Folder>(
 {
     match object.kind {
         Kind::Directory => folder.make_directory(path)?,
-        Kind::Regular => make_file(mounted, ino, path, attributes, folder)?,
+        Kind::Regular => make_file(mounted, ino, object.size, path, attributes, folder)?,
         Kind::Symlink => make_symlink(mounted, ino, object.size, path, attributes, folder)?,
         kind => return Err(MakeFault::LeftOut(reason_of(kind))),
     }
@@ -190,51 +219,54 @@ fn make_again<F: Folder>(
     Ok(())
 }
 
-/// Makes the object that a path leads to.
+/// Makes the object that a path leads to. Answers whether it lost a set-id bit.
 pub(crate) fn make<F: Folder>(
     alloc: Global,
     mounted: &Mounted<'_>,
     owners: bool,
     names: &[&[u8]],
     ino: u32,
-    object: &Object,
     firsts: &mut BTreeMap<u32, String>,
     folder: &mut F,
-) -> Result<(), MakeFault>
-    requires { option_map shown (tree.object mounted.now.state ino) ≡ Some object.now }
+) -> Result<bool, MakeFault>
     ensures works { Works mounted.now.state owners (firsts_of firsts.old) (Make (map (λ name. name.now) names.now) ino)
         (F.made folder.old) (F.made folder.new) (F.failures folder.old) (F.failures folder.new) result }
     ensures firsts { FirstsAfter (firsts_of firsts.old) (firsts_of firsts.new) (map (λ name. name.now) names.now) ino result }
 {
     let path = host_path(alloc, names)?;
+    let Some(object) = mounted.object(ino) else {
+        return Err(MakeFault::LeftOut(Reason::Missing));
+    };
     if let Some(first) = firsts.get(&ino) {
-        return make_again(object.kind, path.as_str(), first.as_str(), folder);
+        make_again(object.kind, path.as_str(), first.as_str(), folder)?;
+        return Ok(false);
     }
-    let attributes = attributes_of(object, owners);
-    make_anew(mounted, ino, object, path.as_str(), attributes, folder)?;
+    let attributes = attributes_of(&object, owners);
+    make_anew(mounted, ino, &object, path.as_str(), attributes, folder)?;
     firsts.insert(ino, path)?;
-    Ok(())
+    Ok(loses_when_made(owners, &object))
 }
 
-/// Gives a directory its attributes.
+/// Gives a directory its attributes. Answers whether it lost a set-id bit.
 fn complete_at<F: Folder>(
     mounted: &Mounted<'_>,
     owners: bool,
     ino: u32,
     path: &str,
     folder: &mut F,
-) -> Result<(), MakeFault>
-    ensures { Follows (F.made folder.old) (F.made folder.new) (F.failures folder.old) (F.failures folder.new)
+) -> Result<bool, MakeFault>
+    ensures follows { Follows (F.made folder.old) (F.made folder.new) (F.failures folder.old) (F.failures folder.new)
         path.now (plan_completed owners (option_map shown (tree.object mounted.now.state ino))) result }
+    ensures lost { IfOk result (λ lost. lost ≡ lost_completed owners (option_map shown (tree.object mounted.now.state ino))) }
 {
     let Some(object) = mounted.object(ino) else {
-        return Ok(());
+        return Ok(false);
     };
     folder.finish_directory(path, attributes_of(&object, owners))?;
-    Ok(())
+    Ok(loses_bits(owners, object.mode))
 }
 
-/// Gives the directory that a path leads to its attributes.
+/// Gives the directory that a path leads to its attributes. Answers whether it lost a set-id bit.
 pub(crate) fn complete<F: Folder>(
     alloc: Global,
     mounted: &Mounted<'_>,
@@ -242,7 +274,7 @@ pub(crate) fn complete<F: Folder>(
     names: &[&[u8]],
     ino: u32,
     folder: &mut F,
-) -> Result<(), MakeFault>
+) -> Result<bool, MakeFault>
     ensures { Works mounted.now.state owners (λ i. None) (Complete (map (λ name. name.now) names.now) ino)
         (F.made folder.old) (F.made folder.new) (F.failures folder.old) (F.failures folder.new) result }
 {

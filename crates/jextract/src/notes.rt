@@ -22,6 +22,7 @@ fn reason_text(reason: Reason) -> &'static [u8]
         Reason::Socket => b"socket",
         Reason::UnknownKind => b"a kind that is not known",
         Reason::BadTarget => b"bad target",
+        Reason::Missing => b"no inode",
         Reason::Refused => b"the host refused it",
     }
 }

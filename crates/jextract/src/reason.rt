@@ -19,6 +19,8 @@ pub enum Reason {
     UnknownKind,
     /// It is a symlink whose target is empty, has more than 4,095 bytes or a zero byte, or is not UTF-8.
     BadTarget,
+    /// The image has no inode node of its number: the name leads nowhere.
+    Missing,
     /// The host did not do it, or not all of it.
     Refused,
 }

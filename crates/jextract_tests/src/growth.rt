@@ -1,25 +1,44 @@
 //! A growth that is refused is told as such.
 
-ghost use Rattle.jextract.specs.Folders.{Counts};
+ghost use Rattle.jextract.specs.Folders.{Counts, counted_if};
 
 use crate::checks::equal;
 use crate::images::{LARGE, PLAIN, image_of};
 use byteorder::LittleEndian;
-use jextract::{Attributes, ExtractFault, Folder, FolderFault, extract};
+use jextract::{Attributes, ExtractFault, FilledFile, Folder, FolderFault, Totals, extract};
 use jmount::mount;
 use std::alloc::Global;
-use test_support::{Counter, Matcher};
+use test_support::Matcher;
+
+/// A file that keeps nothing.
+#[derive(Drop)]
+struct Nowhere;
+
+impl FilledFile for Nowhere {
+    ghost use Rattle.std.specs.Prelude.{None};
+
+    ghost cells = { λ _. None };
+
+    ghost fault = { λ _. None };
+
+    fn write(&mut self, _bytes: &[u8]) -> Result<(), FolderFault> {
+        Ok(())
+    }
+
+    fn skip(&mut self, _count: u64) -> Result<(), FolderFault> {
+        Ok(())
+    }
+}
 
 /// Makes all and keeps nothing. It needs no memory.
 #[derive(Drop)]
 struct Tally {
     calls: u64,
-    failures: u64,
 }
 
 impl Tally {
     fn count(&mut self) -> Result<(), FolderFault>
-        ensures { Counts self.old.failures self.new.failures result }
+        ensures { result ≡ Ok tt }
     {
         self.calls = self.calls.wrapping_add(1);
         Ok(())
@@ -27,35 +46,33 @@ impl Tally {
 }
 
 impl Folder for Tally {
-    type File = Counter;
+    type File = Nowhere;
 
     ghost use Rattle.std.specs.Prelude.{None};
 
     ghost made = { λ _. None };
 
-    ghost failures = { λ t. t.failures };
+    ghost failures = { λ _. record { refused = 0; full = 0 } };
 
     fn make_directory(&mut self, _path: &str) -> Result<(), FolderFault> {
         self.count()
     }
 
-    fn make_file(&mut self, _path: &str) -> Result<Counter, FolderFault> {
+    fn make_file(&mut self, _path: &str) -> Result<Nowhere, FolderFault> {
         self.count()?;
-        Ok(Counter { taken: 0 })
+        Ok(Nowhere)
     }
 
     fn finish_file(
         &mut self,
         _path: &str,
-        _file: Counter,
+        _file: Nowhere,
         _attributes: Attributes,
     ) -> Result<(), FolderFault> {
         self.count()
     }
 
-    fn give_up_file(&mut self, _path: &str, _file: Counter) {
-        self.failures = self.failures.wrapping_add(1);
-    }
+    fn give_up_file(&mut self, _path: &str, _file: Nowhere) {}
 
     fn make_symlink(
         &mut self,
@@ -84,16 +101,18 @@ fn fault(alloc: Global, image: &[u8]) -> Option<ExtractFault> {
     let Ok(mounted) = mount::<LittleEndian>(alloc, image, LARGE) else {
         return Some(ExtractFault::OutOfMemory);
     };
-    let mut folder = Tally {
-        calls: 0,
-        failures: 0,
-    };
+    let mut folder = Tally { calls: 0 };
     let mut notes = Matcher {
-        rest: b"",
+        rest: b"left out /x: no inode\n",
         failures: 0,
     };
     match extract(alloc, &mounted, false, &mut folder, &mut notes) {
-        Ok(0) if folder.calls == 9 => None,
+        Ok(
+            Totals {
+                left_out: 1,
+                lost_bits: 1,
+            },
+        ) if folder.calls == 9 => None,
         Ok(_) => Some(ExtractFault::Folder),
         Err(fault) => Some(fault),
     }

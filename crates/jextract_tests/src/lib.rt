@@ -6,6 +6,8 @@ mod checks;
 #[cfg(test)]
 mod growth;
 #[cfg(test)]
+mod holes;
+#[cfg(test)]
 mod images;
 #[cfg(test)]
 mod recorder;

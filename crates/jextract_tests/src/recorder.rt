@@ -1,44 +1,114 @@
 //! A folder that keeps a record of what is made in it.
 
-ghost use Rattle.jextract.specs.Folders.{Counts};
+ghost use Rattle.std.specs.Prelude.{◌≡◌};
+ghost use Rattle.jextract.specs.Cells.{Fails};
+ghost use Rattle.jextract.specs.Folders.{Counts, counted_fault};
 
-use jextract::{Attributes, Folder, FolderFault};
+use jextract::{Attributes, FilledFile, Folder, FolderFault};
 use std::alloc::{AllocError, Global};
-use test_support::Taker;
 
-/// Keeps a line for each thing that is made. It refuses one call, after `calls` others.
+/// A file that keeps its bytes, and each hole as its length in brackets. It fails once, after `calls` others.
+#[derive(Drop)]
+pub(crate) struct RecordedFile {
+    text: Vec<u8>,
+    calls: u64,
+    /// What it fails with.
+    failure: FolderFault,
+    fault: Option<FolderFault>,
+    alloc: Global,
+}
+
+impl RecordedFile {
+    fn fail(&mut self, fault: FolderFault) -> Result<(), FolderFault>
+        ensures fails { Fails self.old.fault self.new.fault result }
+    {
+        self.fault = Some(fault);
+        Err(fault)
+    }
+
+    /// Keeps this text, or fails.
+    fn keep(&mut self, text: Result<&[u8], AllocError>) -> Result<(), FolderFault>
+        ensures fails { Fails self.old.fault self.new.fault result }
+    {
+        if self.calls == 0 {
+            self.calls = u64::MAX;
+            return self.fail(self.failure);
+        }
+        self.calls = self.calls.wrapping_sub(1);
+        let Ok(text) = text else {
+            return self.fail(FolderFault::OutOfMemory);
+        };
+        match self.text.extend_from_slice(text) {
+            Ok(()) => Ok(()),
+            Err(_) => self.fail(FolderFault::OutOfMemory),
+        }
+    }
+}
+
+impl FilledFile for RecordedFile {
+    ghost use Rattle.std.specs.Prelude.{None};
+
+    ghost cells = { λ _. None };
+
+    ghost fault = { λ f. f.fault };
+
+    fn write(&mut self, bytes: &[u8]) -> Result<(), FolderFault> {
+        self.keep(Ok(bytes))
+    }
+
+    fn skip(&mut self, count: u64) -> Result<(), FolderFault> {
+        match format!(in self.alloc; "({count})") {
+            Ok(text) => self.keep(Ok(text.as_bytes())),
+            Err(error) => self.keep(Err(error)),
+        }
+    }
+}
+
+/// Keeps a line for each thing that is made. It fails at one call, after `calls` others.
 #[derive(Drop)]
 pub(crate) struct Recorder {
     pub(crate) lines: String,
     pub(crate) calls: u64,
-    /// After how many puts a file fails once.
-    pub(crate) puts: usize,
-    /// Whether that failure is to take nothing, and not an Err.
-    pub(crate) is_silent: bool,
+    /// After how many writes and holes a file fails once.
+    pub(crate) puts: u64,
+    /// What the folder, or a file of it, fails with.
+    pub(crate) failure: FolderFault,
     pub(crate) failures: u64,
+    pub(crate) full: u64,
     alloc: Global,
 }
 
 impl Recorder {
-    pub(crate) fn new(alloc: Global, calls: u64, puts: usize) -> Recorder {
+    pub(crate) fn new(alloc: Global, calls: u64, puts: u64) -> Recorder {
         Recorder {
             lines: String::new(alloc),
             calls,
             puts,
-            is_silent: false,
+            failure: FolderFault::Refused,
             failures: 0,
+            full: 0,
             alloc,
         }
     }
 
-    /// Keeps a line, or refuses.
+    fn count(&mut self, fault: FolderFault)
+        ensures { record { refused = self.new.failures; full = self.new.full } ≡ counted_fault fault (record { refused = self.old.failures; full = self.old.full }) }
+    {
+        match fault {
+            FolderFault::Refused => self.failures = self.failures.wrapping_add(1),
+            FolderFault::NoSpace => self.full = self.full.wrapping_add(1),
+            FolderFault::OutOfMemory => {}
+        }
+    }
+
+    /// Keeps a line, or fails.
     fn keep(&mut self, line: Result<String, AllocError>) -> Result<(), FolderFault>
-        ensures { Counts self.old.failures self.new.failures result }
+        ensures { Counts (record { refused = self.old.failures; full = self.old.full }) (record { refused = self.new.failures; full = self.new.full }) result }
     {
         if self.calls == 0 {
             self.calls = u64::MAX;
-            self.failures = self.failures.wrapping_add(1);
-            return Err(FolderFault::Refused);
+            self.count(self.failure);
+            return Err(self.failure);
         }
         self.calls = self.calls.wrapping_sub(1);
         let Ok(line) = line else {
@@ -126,34 +196,42 @@ pub(crate) fn is_made_once(alloc: Global, lines: &str) -> Result<bool, AllocErro
 }
 
 impl Folder for Recorder {
-    type File = Taker;
+    type File = RecordedFile;
 
     ghost use Rattle.std.specs.Prelude.{None};
 
     ghost made = { λ _. None };
 
-    ghost failures = { λ r. r.failures };
+    ghost failures = { λ r. record { refused = r.failures; full = r.full } };
 
     fn make_directory(&mut self, path: &str) -> Result<(), FolderFault> {
         self.keep(format!(in self.alloc; "directory {path}\n"))
     }
 
-    fn make_file(&mut self, path: &str) -> Result<Taker, FolderFault> {
+    fn make_file(&mut self, path: &str) -> Result<RecordedFile, FolderFault> {
         self.keep(format!(in self.alloc; "file {path}\n"))?;
-        Ok(Taker::failing(self.alloc, 5, self.puts, self.is_silent))
+        Ok(RecordedFile {
+            text: Vec::new(self.alloc),
+            calls: self.puts,
+            failure: self.failure,
+            fault: None,
+            alloc: self.alloc,
+        })
     }
 
     fn finish_file(
         &mut self,
         path: &str,
-        file: Taker,
+        file: RecordedFile,
         attributes: Attributes,
     ) -> Result<(), FolderFault> {
-        self.keep(content_line(self.alloc, path, &file.bytes, attributes))
+        self.keep(content_line(self.alloc, path, &file.text, attributes))
     }
 
-    fn give_up_file(&mut self, _path: &str, _file: Taker) {
-        self.failures = self.failures.wrapping_add(1);
+    fn give_up_file(&mut self, _path: &str, file: RecordedFile) {
+        if let Some(fault) = file.fault {
+            self.count(fault);
+        }
     }
 
     fn make_symlink(

@@ -11,38 +11,44 @@ use std::alloc::Global;
 use std::test::Fail;
 use test_support::{DIRECTORY, FILE, Node, SYMLINK};
 
-/// What is made of an image, how many objects are left out, and what is told.
+/// What is made of an image, how many objects are left out and how many lose bits, and what is told.
 fn extracted(
     alloc: Global,
     nodes: &[Node<'_>],
     owners: bool,
-) -> Result<(String, u64, Vec<u8>), &'static str> {
+) -> Result<(String, (u64, u64), Vec<u8>), &'static str> {
     let image = image_of(alloc, nodes)?;
     let mounted = mount::<LittleEndian>(alloc, &image, LARGE).map_err(|_| "no mount")?;
-    let mut folder = Recorder::new(alloc, u64::MAX, usize::MAX);
+    let mut folder = Recorder::new(alloc, u64::MAX, u64::MAX);
     let mut notes = FromWriter::new(Vec::new(alloc));
-    let left_out = extract(alloc, &mounted, owners, &mut folder, &mut notes).map_err(
+    let totals = extract(alloc, &mounted, owners, &mut folder, &mut notes).map_err(
         |_| "not extracted",
     )?;
-    Ok((folder.lines, left_out, notes.into_writer()))
+    let counted = (totals.left_out, totals.lost_bits);
+    Ok((folder.lines, counted, notes.into_writer()))
 }
 
-/// Nodes, what is made of them, how many objects are left out, and what is told.
-type Row = (&'static [Node<'static>], &'static str, u64, &'static str);
+/// Nodes, what is made of them, how many objects are left out and how many lose bits, and what is told.
+type Row = (
+    &'static [Node<'static>],
+    &'static str,
+    (u64, u64),
+    &'static str,
+);
 
 const PLAIN_TREE: Row = (
     PLAIN,
     "directory \n\
 directory d\n\
 file d/f\n\
-content d/f [hi] 4755 7 5\n\
+content d/f [hi] 755 7 5\n\
 attributes d 1700 7 5\n\
 symlink s /d/f 777 7 5\n\
 link t d/f\n\
 link u s\n\
 attributes  755 0 0\n",
-    0,
-    "",
+    (1, 1),
+    "left out /x: no inode\n",
 );
 
 const BAD_NAMES: Row = (
@@ -63,7 +69,7 @@ const BAD_NAMES: Row = (
 file ...\n\
 content ... [x] 644 7 5\n\
 attributes  755 7 5\n",
-    5,
+    (5, 0),
     "left out /.: a name that no file has\n\
 left out /..: a name that no file has\n\
 left out /a\\x00b: a name that no file has\n\
@@ -88,7 +94,7 @@ directory y\n\
 link y/x x\n\
 attributes y 755 7 5\n\
 attributes  755 0 0\n",
-    0,
+    (0, 0),
     "",
 );
 
@@ -104,7 +110,7 @@ const CIRCLE: Row = (
 directory d\n\
 attributes d 755 7 5\n\
 attributes  755 0 0\n",
-    3,
+    (3, 0),
     "left out /d/x: directory again\n\
 left out /d/y: directory again\n\
 left out /z: directory again\n",
@@ -131,7 +137,7 @@ const OTHER_KINDS: Row = (
     ],
     "directory \n\
 attributes  755 0 0\n",
-    8,
+    (8, 0),
     "left out /a: FIFO\n\
 left out /b: character device\n\
 left out /c: block device\n\
@@ -146,10 +152,10 @@ const ROWS: [Row; 5] = [PLAIN_TREE, BAD_NAMES, TWINS, CIRCLE, OTHER_KINDS];
 
 #[test]
 fn worked_trees(rt: HostRuntime) -> Result<(), Fail> {
-    for (nodes, made, left_out, told) in ROWS {
-        let (lines, count, notes) = extracted(rt.alloc(), nodes, false)?;
+    for (nodes, made, counted, told) in ROWS {
+        let (lines, totals, notes) = extracted(rt.alloc(), nodes, false)?;
         equal(&rt, lines.as_str(), made);
-        equal(&rt, count, left_out);
+        equal(&rt, totals, counted);
         equal(&rt, notes.as_slice(), told.as_bytes());
     }
     Ok(())
@@ -180,6 +186,37 @@ fn owners_where_they_are_asked_for(rt: HostRuntime) -> Result<(), Fail> {
     Ok(())
 }
 
+/// Set-id bits, and no others, are dropped with the owners, of each object once; a sticky bit stays.
+#[test]
+fn bits_that_go_with_owners(rt: HostRuntime) -> Result<(), Fail> {
+    let nodes = [
+        Node::Inode(2, 0o104755, b"x"),
+        Node::Inode(3, 0o102711, b"x"),
+        Node::Inode(4, 0o106000, b"x"),
+        Node::Inode(5, 0o043775, b""),
+        Node::Inode(6, 0o101644, b"x"),
+        Node::Entry(1, 2, b"a"),
+        Node::Entry(1, 2, b"b"),
+        Node::Entry(1, 3, b"c"),
+        Node::Entry(1, 4, b"e"),
+        Node::Entry(1, 5, b"f"),
+        Node::Entry(1, 6, b"g"),
+    ];
+    let (lines, totals, _) = extracted(rt.alloc(), &nodes, false)?;
+    equal(
+        &rt,
+        lines.as_str(),
+        "directory \nfile a\ncontent a [x] 755 7 5\nlink b a\nfile c\ncontent c [x] 711 7 5\nfile e\n\
+content e [x] 0 7 5\ndirectory f\nattributes f 1775 7 5\nfile g\ncontent g [x] 1644 7 5\nattributes  755 0 0\n",
+    );
+    equal(&rt, totals, (0, 4));
+    let (lines, totals, _) = extracted(rt.alloc(), &nodes, true)?;
+    expect(&rt, lines.contains("content a [x] 4755 7 5 1000:1001\n"));
+    expect(&rt, lines.contains("attributes f 3775 7 5 1000:1001\n"));
+    equal(&rt, totals, (0, 0));
+    Ok(())
+}
+
 /// An image of so many directories, each in the one before, with names of this many bytes.
 fn deep(alloc: Global, levels: u32, name: &[u8]) -> Result<Vec<u8>, &'static str> {
     let mut nodes = Vec::new(alloc);
@@ -199,9 +236,9 @@ fn deep(alloc: Global, levels: u32, name: &[u8]) -> Result<Vec<u8>, &'static str
 fn depth(alloc: Global, levels: u32, name: &[u8]) -> Result<(usize, u64, usize), &'static str> {
     let image = deep(alloc, levels, name)?;
     let mounted = mount::<LittleEndian>(alloc, &image, HUGE).map_err(|_| "no mount")?;
-    let mut folder = Recorder::new(alloc, u64::MAX, usize::MAX);
+    let mut folder = Recorder::new(alloc, u64::MAX, u64::MAX);
     let mut notes = FromWriter::new(Vec::new(alloc));
-    let left_out = extract(alloc, &mounted, false, &mut folder, &mut notes).map_err(
+    let totals = extract(alloc, &mounted, false, &mut folder, &mut notes).map_err(
         |_| "not extracted",
     )?;
     let made = folder
@@ -209,7 +246,7 @@ fn depth(alloc: Global, levels: u32, name: &[u8]) -> Result<(usize, u64, usize),
         .split('\n')
         .filter(|line| line.starts_with("directory "))
         .count();
-    Ok((made, left_out, notes.into_writer().len()))
+    Ok((made, totals.left_out, notes.into_writer().len()))
 }
 
 #[test]

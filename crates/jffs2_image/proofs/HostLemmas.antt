@@ -54,6 +54,7 @@ make_fault page e size blocks m output from u v same before now (program.Session
 make_fault page e size blocks m output from u v same before now (program.Session f (Some k)) on not made left = absurd not
 make_fault page e size blocks m output from u v same before now (program.Path f) on not made left = absurd not
 make_fault page e size blocks m output from u v same before now program.NotRegular on not made left = absurd not
+make_fault page e size blocks m output from u v same before now (program.NoSpace folder) on not made left = absurd not
 make_fault page e size blocks m output from u v same before now program.Output on not made left = absurd not
 make_fault page e size blocks m output from u v same before now program.OutOfMemory on not made left = inr left
 
@@ -104,6 +105,7 @@ lines_blame u v rb rn mb mn (Err (program.Session session.OutOfMemory line)) rea
 lines_blame u v rb rn mb mn (Err (program.Session session.Broken line)) read made = made
 lines_blame u v rb rn mb mn (Err (program.Path f)) read made = tt
 lines_blame u v rb rn mb mn (Err program.NotRegular) read made = tt
+lines_blame u v rb rn mb mn (Err (program.NoSpace folder)) read made = tt
 lines_blame u v rb rn mb mn (Err program.Output) read made = made
 lines_blame u v rb rn mb mn (Err program.OutOfMemory) read made = made
 
@@ -119,6 +121,7 @@ parts_blame T u v rb rn mb mn told lines (program.Listing k) still not read = ab
 parts_blame T u v rb rn mb mn told lines (program.Session f line) still not read = absurd not
 parts_blame T u v rb rn mb mn told lines (program.Path f) still not read = absurd not
 parts_blame T u v rb rn mb mn told lines program.NotRegular still not read = absurd not
+parts_blame T u v rb rn mb mn told lines (program.NoSpace folder) still not read = absurd not
 parts_blame T u v rb rn mb mn told lines program.Output still not read = absurd not
 parts_blame T u v rb rn mb mn told lines program.OutOfMemory still not read = inl still
 
@@ -134,6 +137,7 @@ file_blame T u v rb rn mb mn name told (program.Listing k) still not read = absu
 file_blame T u v rb rn mb mn name told (program.Session f line) still not read = absurd not
 file_blame T u v rb rn mb mn name told (program.Path f) still not read = absurd not
 file_blame T u v rb rn mb mn name told program.NotRegular still not read = absurd not
+file_blame T u v rb rn mb mn name told (program.NoSpace folder) still not read = absurd not
 file_blame T u v rb rn mb mn name told program.Output still not read = absurd not
 file_blame T u v rb rn mb mn name told program.OutOfMemory still not read = absurd not
 
@@ -155,6 +159,7 @@ any_blame T u v rb rn mb mn (program.Session session.OutOfMemory line) w = w
 any_blame T u v rb rn mb mn (program.Session session.Broken line) w = w
 any_blame T u v rb rn mb mn (program.Path f) w = w
 any_blame T u v rb rn mb mn program.NotRegular w = w
+any_blame T u v rb rn mb mn (program.NoSpace folder) w = w
 any_blame T u v rb rn mb mn program.Output w = w
 any_blame T u v rb rn mb mn program.OutOfMemory w = w
 
@@ -288,6 +293,7 @@ files_not_made told held page e size blocks output base text lines parts m old n
     by (program.Session f (Some k)) not cut = absurd not
     by (program.Path f) not cut = tt
     by program.NotRegular not cut = tt
+    by (program.NoSpace folder) not cut = tt
     by program.Output not cut = absurd not
     by program.OutOfMemory not cut = inr cut
 

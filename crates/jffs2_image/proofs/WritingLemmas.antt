@@ -48,6 +48,7 @@ not_made held page e size blocks output base text m (program.Session f None) old
 not_made held page e size blocks output base text m (program.Session f (Some k)) old n mounts not = absurd not
 not_made held page e size blocks output base text m (program.Path f) old n mounts not = absurd not
 not_made held page e size blocks output base text m program.NotRegular old n mounts not = absurd not
+not_made held page e size blocks output base text m (program.NoSpace folder) old n mounts not = absurd not
 not_made held page e size blocks output base text m program.Output old n mounts not = absurd not
 not_made held page e size blocks output base text m program.OutOfMemory old n mounts not = (tt, refl, refl)
 
@@ -103,6 +104,7 @@ any_answer held page e size blocks output base text old new before now (program.
 any_answer held page e size blocks output base text old new before now (program.Session f line) w = w
 any_answer held page e size blocks output base text old new before now (program.Path f) w = w
 any_answer held page e size blocks output base text old new before now program.NotRegular w = w
+any_answer held page e size blocks output base text old new before now (program.NoSpace folder) w = w
 any_answer held page e size blocks output base text old new before now program.Output w = w
 any_answer held page e size blocks output base text old new before now program.OutOfMemory w = w
 
@@ -132,6 +134,7 @@ any_files told held page e size blocks base text old new (program.Session sessio
 any_files told held page e size blocks base text old new (program.Session f (Some line)) w = w
 any_files told held page e size blocks base text old new (program.Path f) w = w
 any_files told held page e size blocks base text old new program.NotRegular w = w
+any_files told held page e size blocks base text old new (program.NoSpace folder) w = w
 any_files told held page e size blocks base text old new program.Output w = w
 any_files told held page e size blocks base text old new program.OutOfMemory w = w
 

@@ -1,8 +1,9 @@
 -- What a run of the program does that works with a folder of the host.
-use Rattle.std.specs.Prelude.{◌≡◌, ◌⊎◌, ℕ, Bool, List, Option, Some, None, Result, Ok, Err}
+use Rattle.std.specs.Prelude.{◌≡◌, ◌==◌, ◌&&◌, if◌then◌else◌, ◌⊎◌, ℕ, Bool, List, Option, Some, None, Result, Ok, Err}
 use Rattle.jextract.specs.Folders.{Made}
 use Rattle.jfolder.specs.Known.{Known}
 use Rattle.jfolder.specs.declared.found.Options as reading
+use Rattle.jreport.specs.ExtractionNotes.{extraction_notes_of}
 use Rattle.jreport.specs.Faults.{fault_line_of}
 use Rattle.jreport.specs.declared.faults.ProgramFault.{ProgramFault}
 use Rattle.jreport.specs.declared.faults.ProgramFault.TheVariants as program
@@ -15,25 +16,35 @@ use Rattle.jcommand.specs.Status.{outcome_of}
 use Rattle.jcommand.specs.declared.outcome.Outcome.{Outcome}
 use Rattle.jcommand.specs.declared.outcome.Outcome.TheVariants as outcome
 use Rattle.jffs2_image.specs.Folders.{FillsFolder, ListsFolder, settings}
-use Rattle.jffs2_image.specs.Runs.{Finishes, IsCommand, Says, answer_finished, note_after}
+use Rattle.jffs2_image.specs.Runs.{Finishes, IsCommand, Says, answer_finished}
 use Rattle.jffs2_image.specs.declared.folders.Extracted.{Extracted}
 
 -- The command line asks for no folder, or for an extraction, or for a listing, and that is done.
 abbrev pub RunsTask : List (List ℕ) → (Result Request RequestFault → Type 0) → Type 0 → Type 0 → Type 0
 RunsTask args runs extracts lists = ((command : Result Request RequestFault) × IsCommand args command × runs command) ⊎ (extracts ⊎ lists)
 
--- what is said after all that was left out was told: a note on the findings of the image, or the fault
+-- the notes on what an extraction came to, if there are any
+abbrev pub notes_after_extraction : Extracted → Option (List ℕ)
+notes_after_extraction done =
+    if (done.findings == 0) && (done.totals.lost_bits == 0) && (done.attributes == 0) then None
+    else Some (extraction_notes_of done.findings done.totals.lost_bits done.attributes)
+
+-- what is said after all that was left out was told: the notes, or the fault
 abbrev pub said_after_extraction : Result Extracted ProgramFault → Option (List ℕ)
-said_after_extraction (Ok done) = note_after done.findings
+said_after_extraction (Ok done) = notes_after_extraction done
 said_after_extraction (Err fault) = Some (fault_line_of fault)
 
+-- what was left out, or else the findings of the image
+abbrev pub found_by_extraction : Extracted → ℕ
+found_by_extraction done = if done.totals.left_out == 0 then done.findings else done.totals.left_out
+
 abbrev pub outcome_of_extraction : Result Extracted ProgramFault → Outcome
-outcome_of_extraction (Ok done) = outcome_of done.left_out
+outcome_of_extraction (Ok done) = outcome_of (found_by_extraction done)
 outcome_of_extraction (Err fault) = outcome.Fault
 
 -- The image of a name is extracted into the folder of a name, and what was left out is told before what else is said. `told` are
--- the files of the host, which failed `read_before` and then `read_now` times, and `made` is what is made in its folders.
-pub record EndsExtraction (options : Options) (owners : Bool) (image folder : List ℕ) (told : List ℕ → Option (List ℕ)) (read_before read_now : ℕ) (made_old made_new : Option (List Made))
+-- the files of the host, which failed `read_before` and then `read_now` times, and `made` is what is made in the folder of each name.
+pub record EndsExtraction (options : Options) (owners : Bool) (image folder : List ℕ) (told : List ℕ → Option (List ℕ)) (read_before read_now : ℕ) (made_old made_new : List ℕ → Option (List Made))
     (old new : Option (List ℕ)) (before now : ℕ) (result : Outcome) : Type 0 where
   pub between : Option (List ℕ)
   pub count : ℕ
@@ -43,7 +54,7 @@ pub record EndsExtraction (options : Options) (owners : Bool) (image folder : Li
   pub ends : result ≡ outcome_of_extraction answer
 
 -- `extract`, of what is given
-pub record RunsExtract (args : List (List ℕ)) (told : List ℕ → Option (List ℕ)) (read_before read_now : ℕ) (made_old made_new : Option (List Made))
+pub record RunsExtract (args : List (List ℕ)) (told : List ℕ → Option (List ℕ)) (read_before read_now : ℕ) (made_old made_new : List ℕ → Option (List Made))
     (old new : Option (List ℕ)) (before now : ℕ) (result : Outcome) : Type 0 where
   pub options : Options
   pub owners : Bool

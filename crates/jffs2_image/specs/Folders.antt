@@ -1,12 +1,12 @@
 -- What the commands do that work with a folder of the host.
-use Rattle.std.specs.Prelude.{◌≡◌, ◌⊎◌, ℕ, Bool, List, [], ◌∷◌, All, map, Option, option_map, Result, Ok, Err}
+use Rattle.std.specs.Prelude.{◌≡◌, ◌≢◌, ◌⊎◌, ℕ, Bool, List, [], ◌∷◌, All, map, Option, option_map, Result, Ok, Err}
 use Rattle.std.specs.Io.KnownBytes.{Appends}
 use Rattle.flashbase.specs.Device.{PutsPart, next_count}
 use Rattle.jnode.specs.declared.order.Endian.{Endian}
 use Rattle.jmount.specs.Mount.{Mount}
 use Rattle.jmount.specs.Mounts.{Answers}
 use Rattle.jmount.specs.declared.fault.MountFault.{MountFault}
-use Rattle.jextract.specs.Folders.{Made}
+use Rattle.jextract.specs.Folders.{Failures, Made}
 use Rattle.jextract.specs.Extracts.{Extracts}
 use Rattle.jextract.specs.declared.fault.ExtractFault.{ExtractFault}
 use Rattle.jextract.specs.declared.fault.ExtractFault.TheVariants as extract
@@ -24,6 +24,7 @@ use Rattle.jfolder.specs.Text.{listing_text}
 use Rattle.jfolder.specs.declared.fault.ReadFault.{ReadFault}
 use Rattle.jfolder.specs.declared.fault.ReadFault.TheVariants as read
 use Rattle.jfolder.specs.declared.reading.Folder.{Folder}
+use Rattle.jreport.specs.ExtractionNotes.{attribute_count}
 use Rattle.jreport.specs.Notes.{noted}
 use Rattle.jreport.specs.declared.faults.ProgramFault.{ProgramFault}
 use Rattle.jreport.specs.declared.faults.ProgramFault.TheVariants as program
@@ -37,14 +38,17 @@ use Rattle.jffs2_image.specs.declared.folders.Extracted.{Extracted}
 abbrev pub IsExtractFault : List ℕ → ExtractFault → ProgramFault → Type 0
 IsExtractFault name extract.Folder (program.File file) = file.now ≡ name
 IsExtractFault name extract.Notes program.Output = Unit {0}
+IsExtractFault name extract.NoSpace (program.NoSpace file) = file.now ≡ name
 IsExtractFault name extract.OutOfMemory program.OutOfMemory = Unit {0}
 IsExtractFault name _ _ = ⊥
 
--- An image was extracted, if it mounts. `Ok` has how many objects were left out, and how many findings the image has.
-abbrev pub ExtractsBytes : Endian → ℕ → Bool → List ℕ → List ℕ → Option (List Made) → Option (List Made) → ℕ → ℕ → Option (List ℕ) → Option (List ℕ) → ℕ → ℕ → Result Extracted ProgramFault → Type 0
+-- An image was extracted, if it mounts. `Ok` has what was counted, and how many findings and nodes of extended attributes the
+-- image has.
+abbrev pub ExtractsBytes : Endian → ℕ → Bool → List ℕ → List ℕ → Option (List Made) → Option (List Made) → Failures → Failures → Option (List ℕ) → Option (List ℕ) → ℕ → ℕ → Result Extracted ProgramFault → Type 0
 ExtractsBytes e size owners image folder old new before now told_old told_new told_before told_now (Ok done) =
     (mount : Mount) × Answers e size image (Ok mount)
-    × Extracts mount.state owners old new before now told_old told_new told_before told_now (Ok done.left_out) × (done.findings ≡ noted mount)
+    × Extracts mount.state owners old new before now told_old told_new told_before told_now (Ok done.totals)
+    × (done.findings ≡ noted mount) × (done.attributes ≡ attribute_count mount)
 ExtractsBytes e size owners image folder old new before now told_old told_new told_before told_now (Err fault) =
     ((mount : Mount) × (refused : ExtractFault) × Answers e size image (Ok mount)
     × Extracts mount.state owners old new before now told_old told_new told_before told_now (Err refused) × IsExtractFault folder refused fault)
@@ -53,19 +57,21 @@ ExtractsBytes e size owners image folder old new before now told_old told_new to
 
 -- `extract` of the image of a name into the folder of a name: its bytes are extracted, or it can't be read. A file that can't be
 -- opened, or failed while it was read, is blamed only where it counts so, from `read_before` to `read_now`.
-abbrev pub ExtractsImage : Endian → ℕ → Bool → Option (List ℕ) → ℕ → ℕ → List ℕ → List ℕ → Option (List Made) → Option (List Made) → ℕ → ℕ → Option (List ℕ) → Option (List ℕ) → ℕ → ℕ → Result Extracted ProgramFault → Type 0
+abbrev pub ExtractsImage : Endian → ℕ → Bool → Option (List ℕ) → ℕ → ℕ → List ℕ → List ℕ → Option (List Made) → Option (List Made) → Failures → Failures → Option (List ℕ) → Option (List ℕ) → ℕ → ℕ → Result Extracted ProgramFault → Type 0
 ExtractsImage e size owners told read_before read_now image folder old new before now told_old told_new told_before told_now result =
     ((bytes : List ℕ) × AreOf told bytes × (read_now ≡ read_before)
     × ExtractsBytes e size owners bytes folder old new before now told_old told_new told_before told_now result)
     ⊎ ((fault : ProgramFault) × (result ≡ Err fault) × IsUnreadFile image told fault × IsReadFault read_before read_now fault
     × (new ≡ old) × (now ≡ before) × (told_new ≡ told_old) × (told_now ≡ told_before))
 
--- The same by a host that gives the folder and takes it back: its count of refusals is that folder's own. Or there is no
--- memory for the folder, and nothing is done.
-abbrev pub FillsFolder : Endian → ℕ → Bool → Option (List ℕ) → ℕ → ℕ → List ℕ → List ℕ → Option (List Made) → Option (List Made) → Option (List ℕ) → Option (List ℕ) → ℕ → ℕ → Result Extracted ProgramFault → Type 0
+-- The same by a host that gives the folder of the name and takes it back: its count of refusals is that folder's own. Or there is
+-- no memory for the folder, and nothing is done. In no other folder is anything made.
+abbrev pub FillsFolder : Endian → ℕ → Bool → Option (List ℕ) → ℕ → ℕ → List ℕ → List ℕ → (List ℕ → Option (List Made)) → (List ℕ → Option (List Made)) → Option (List ℕ) → Option (List ℕ) → ℕ → ℕ → Result Extracted ProgramFault → Type 0
 FillsFolder e size owners told read_before read_now image folder old new told_old told_new told_before told_now result =
-    ((before : ℕ) × (now : ℕ) × ExtractsImage e size owners told read_before read_now image folder old new before now told_old told_new told_before told_now result)
-    ⊎ ((result ≡ Err program.OutOfMemory) × (read_now ≡ read_before) × (new ≡ old) × (told_new ≡ told_old) × (told_now ≡ told_before))
+    (((before : Failures) × (now : Failures)
+    × ExtractsImage e size owners told read_before read_now image folder (old folder) (new folder) before now told_old told_new told_before told_now result)
+    ⊎ ((result ≡ Err program.OutOfMemory) × (read_now ≡ read_before) × (new folder ≡ old folder) × (told_new ≡ told_old) × (told_now ≡ told_before)))
+    × ((other : List ℕ) → other ≢ folder → new other ≡ old other)
 
 -- ---- listing
 

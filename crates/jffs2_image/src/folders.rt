@@ -1,33 +1,36 @@
 //! The commands that work with a folder of the host: `extract` and `listing`.
-ghost use Rattle.std.specs.Prelude.{◌≡◌, ℕ, List, IfOk, OnErr, Option};
+ghost use Rattle.std.specs.Prelude.{◌≡◌, ◌≢◌, ℕ, List, IfOk, Option};
 ghost use Rattle.flashbase.specs.Device.{Puts};
 ghost use Rattle.jfolder.specs.Known.{Known};
 ghost use Rattle.jfolder.specs.Text.{listing_text};
 ghost use Rattle.jcommand.specs.Parsed.{ExtractParsed, ListingParsed, IsFaultless};
 ghost use Rattle.jextract.specs.Folders.{Made};
 ghost use Rattle.jffs2_image.specs.Folders.{ExtractsImage, ExtractsBytes, FillsFolder, IsExtractFault, IsReadingFault, ListsFolder, settings};
-ghost use Rattle.jffs2_image.specs.FolderRuns.{EndsExtraction, EndsListing, FinishesListing, ListsGiven};
+ghost use Rattle.jcommand.specs.Status.{outcome_of};
+ghost use Rattle.jffs2_image.specs.FolderRuns.{EndsExtraction, EndsListing, FinishesListing, ListsGiven, found_by_extraction, notes_after_extraction};
+ghost use Rattle.jffs2_image.specs.Runs.{Says};
 
 use crate::host::Loader;
 use crate::output::Output;
-use crate::program::{note, report_fault};
+use crate::program::report_fault;
 use crate::writing::load_file;
 use byteorder::{BigEndian, LittleEndian};
 use flashbase::{DeviceFault, Sink};
 use jcommand::{Extraction, FolderListing, Outcome, Owner};
-use jextract::{ExtractFault, Folder, extract};
+use jextract::{ExtractFault, Folder, Totals, extract};
 use jfolder::{HostFolder, ReadFault, put_listing, read_folder};
 use jmount::mount;
 use jnode::{Endian, Order};
-use jreport::{ProgramFault, noted};
+use jreport::{ProgramFault, attribute_count, noted, put_notes};
 use jscan::Geometry;
 use std::alloc::{AllocError, Global};
 
-/// What an extraction came to: how many objects were left out, and how many findings the image has.
+/// What an extraction came to: what it counted, and how many findings and nodes of extended attributes the image has.
 #[derive(Clone, Copy)]
 pub struct Extracted {
-    pub left_out: u64,
+    pub totals: Totals,
     pub findings: u64,
+    pub attributes: u64,
 }
 
 /// Gives folders of the host by their names, and takes them back.
@@ -36,8 +39,8 @@ pub trait Folders {
 
     type Read: HostFolder + Drop;
 
-    /// What was made in all folders, in order, where it is told.
-    ghost made: { Self → Option (List Made) };
+    /// What was made in the folder of each name, in order, where it is told.
+    ghost made: { Self → List ℕ → Option (List Made) };
 
     /// What is known of what the host tells of the folder of each name.
     ghost reads: { Self → List ℕ → Known };
@@ -45,12 +48,13 @@ pub trait Folders {
     /// The folder of a name, which is to be made and filled. How far that is is told unless it is `quiet`. It goes on with
     /// what was made.
     fn filled(&mut self, name: &str, quiet: bool) -> Result<Self::Filled, AllocError>
-        ensures filled { IfOk result (λ folder. Self.Filled.made folder ≡ made self.old) }
-        ensures unchanged { OnErr result (made self.new ≡ made self.old) };
+        ensures filled { IfOk result (λ folder. Self.Filled.made folder ≡ made self.old name.now) }
+        ensures unchanged { made self.new ≡ made self.old };
 
-    /// Takes back a folder that was filled.
-    fn take_filled(&mut self, folder: Self::Filled)
-        ensures { made self.new ≡ Self.Filled.made folder };
+    /// Takes back the folder of a name, which was filled.
+    fn take_filled(&mut self, name: &str, folder: Self::Filled)
+        ensures filled { made self.new name.now ≡ Self.Filled.made folder }
+        ensures others { (other : List ℕ) → other ≢ name.now → made self.new other ≡ made self.old other };
 
     /// The folder of a name, which is to be read. How far that is is told unless it is `quiet`.
     fn read(&mut self, name: &str, quiet: bool) -> Result<Self::Read, AllocError>
@@ -69,6 +73,7 @@ fn extract_fault(fault: ExtractFault, name: &str) -> ProgramFault<'_>
     match fault {
         ExtractFault::Folder => ProgramFault::File(name),
         ExtractFault::Notes => ProgramFault::Output,
+        ExtractFault::NoSpace => ProgramFault::NoSpace(name),
         ExtractFault::OutOfMemory => ProgramFault::OutOfMemory,
     }
 }
@@ -91,9 +96,10 @@ fn extract_bytes<'a, E: Order, X: Folder, N: Sink>(
         Err(fault) => return Err(ProgramFault::Mount(fault)),
     };
     match extract(alloc, &mounted, owners, folder, notes) {
-        Ok(left_out) => Ok(Extracted {
-            left_out,
+        Ok(totals) => Ok(Extracted {
+            totals,
             findings: noted(&mounted),
+            attributes: attribute_count(&mounted),
         }),
         Err(fault) => Err(extract_fault(fault, name)),
     }
@@ -212,12 +218,38 @@ fn fill<'a, L: Loader, D: Folders, N: Sink>(
         (L.told loader.old asked.entry.image.now) (L.failures loader.old) (L.failures loader.new) asked.entry.image.now asked.entry.folder.now
         (D.made folders.old) (D.made folders.new) (N.taken notes.old) (N.taken notes.new) (N.failures notes.old) (N.failures notes.new) result }
 {
-    let Ok(mut folder) = folders.filled(asked.folder, asked.quiet) else {
+    let name = asked.folder;
+    let Ok(mut folder) = folders.filled(name, asked.quiet) else {
         return Err(ProgramFault::OutOfMemory);
     };
     let answer = extract_in_order(alloc, loader, asked, &mut folder, notes);
-    folders.take_filled(folder);
+    folders.take_filled(name, folder);
     answer
+}
+
+/// The notes on what an extraction came to, if there are any.
+fn note_extraction<E: Sink>(done: Extracted, errors: &mut E)
+    ensures { Says (errors.new ≡ errors.old) (E.taken errors.old) (E.taken errors.new) (E.failures errors.old) (E.failures errors.new) (notes_after_extraction done) }
+{
+    let Extracted {
+        totals,
+        findings,
+        attributes,
+    } = done;
+    if findings != 0 || totals.lost_bits != 0 || attributes != 0 {
+        let _ = put_notes(findings, totals.lost_bits, attributes, errors);
+    }
+}
+
+/// How an extraction ends: something is found where an object was left out, or where the image has findings.
+fn outcome_of_extracted(done: Extracted) -> Outcome
+    ensures { result ≡ outcome_of (found_by_extraction done) }
+{
+    if done.totals.left_out == 0 {
+        Outcome::of(done.findings)
+    } else {
+        Outcome::of(done.totals.left_out)
+    }
 }
 
 /// `extract` as a command: the image of a name in the folder of a name.
@@ -233,8 +265,8 @@ pub fn run_extract<L: Loader, D: Folders, E: Sink>(
 {
     match fill(alloc, loader, folders, asked, errors) {
         Ok(done) => {
-            note(done.findings, errors);
-            Outcome::of(done.left_out)
+            note_extraction(done, errors);
+            outcome_of_extracted(done)
         }
         Err(fault) => report_fault(&fault, errors),
     }

@@ -26,7 +26,7 @@ impl<'r, R: Files + AllocGlobal + Clock + Eprint> Folders for SystemFolders<'r, 
 
     type Read = ReadFolder<'r, R>;
 
-    ghost made = { λ _. None };
+    ghost made = { λ _ _. None };
 
     // What the system tells is not known.
     ghost reads = { λ _ _. nothing };
@@ -35,7 +35,7 @@ impl<'r, R: Files + AllocGlobal + Clock + Eprint> Folders for SystemFolders<'r, 
         FilledFolder::new(self.rt, name, self.is_terminal && !quiet)
     }
 
-    fn take_filled(&mut self, mut folder: FilledFolder<'r, R>) {
+    fn take_filled(&mut self, _name: &str, mut folder: FilledFolder<'r, R>) {
         folder.finish();
     }
 

@@ -1,15 +1,19 @@
 //! A folder of the system that is filled.
 
-ghost use Rattle.std.specs.Prelude.{◌≡◌, None, IfOk};
-ghost use Rattle.jextract.specs.Folders.{Counts};
+ghost use Rattle.std.specs.Prelude.{◌≡◌, true, None, Some, IfErr, IfOk, IsErrOf};
+ghost use Rattle.std.specs.Fs.{new_options, permissions_mode, with_create_new, with_write};
+ghost use Rattle.std.specs.IoError.{error_kind};
+ghost use Rattle.jextract.specs.Folders.{Counts, counted_fault};
+ghost use Rattle.jhost.specs.FilledFaults.{filling_fault};
+ghost use Rattle.jhost.specs.FilledFolders.{filled_root};
 
+use crate::file::{HostFile, fault_of};
 use crate::paths::joined;
 use crate::progress::Progress;
-use flashbase::FromWriter;
-use jextract::{Attributes, Folder, FolderFault};
+use jextract::{Attributes, Folder, FolderFault, Owner};
 use std::alloc::AllocError;
 use std::fs::{DirBuilder, FileTimes, OpenFile, OpenOptions, Permissions};
-use std::io::{Eprint, ErrorKind};
+use std::io::Eprint;
 use std::os::unix::fs::{DirBuilderExt, OpenOptionsExt, PermissionsExt, lchown, symlink};
 use std::rt::{Clock, Files};
 use std::time::{Duration, UNIX_EPOCH};
@@ -26,56 +30,102 @@ pub struct FilledFolder<'r, R: Files + AllocGlobal + Clock + Eprint> {
     rt: &'r R,
     root: String,
     failures: u64,
+    full: u64,
     progress: Progress<'r, R>,
 }
 
-/// The times of a file.
+/// When a file was read last and written last, in seconds.
+fn seconds_of(attributes: &Attributes) -> (u32, u32)
+    ensures { result ≡ (attributes.now.atime, attributes.now.mtime) }
+{
+    (attributes.atime, attributes.mtime)
+}
+
 fn times_of(attributes: &Attributes) -> FileTimes {
+    let (read, written) = seconds_of(attributes);
     FileTimes::new()
-        .set_accessed(UNIX_EPOCH + Duration::from_secs(u64::from(attributes.atime)))
-        .set_modified(UNIX_EPOCH + Duration::from_secs(u64::from(attributes.mtime)))
+        .set_accessed(UNIX_EPOCH + Duration::from_secs(u64::from(read)))
+        .set_modified(UNIX_EPOCH + Duration::from_secs(u64::from(written)))
+}
+
+fn permissions_of(attributes: &Attributes) -> Permissions
+    ensures { permissions_mode result ≡ attributes.now.mode }
+{
+    Permissions::from_mode(attributes.mode)
 }
 
 /// Gives an open file or directory its permissions and times.
 fn set_open<F: OpenFile>(file: &F, attributes: &Attributes) -> io::Result<()> {
     file.set_times(times_of(attributes))?;
-    file.set_permissions(Permissions::from_mode(attributes.mode))
+    file.set_permissions(permissions_of(attributes))
 }
 
-/// Gives a path its owner, where there is one.
+/// The user and the group, as a change of an owner takes them.
+fn numbers_of(owner: Owner) -> (Option<u32>, Option<u32>)
+    ensures { result ≡ (Some owner.uid, Some owner.gid) }
+{
+    (Some(owner.uid), Some(owner.gid))
+}
+
+/// Gives a path its owner, where there is one. A change of the owner may clear bits of the mode, so the mode comes after it.
 fn set_owner<R: Files>(rt: &R, path: &str, attributes: &Attributes) -> io::Result<()> {
     match attributes.owner {
-        Some(owner) => lchown(rt, path, Some(owner.uid), Some(owner.gid)),
+        Some(owner) => {
+            let (user, group) = numbers_of(owner);
+            lchown(rt, path, user, group)
+        }
         None => Ok(()),
     }
+}
+
+/// How a file is opened that is made: to be written, and only where nothing has its name.
+fn made_anew() -> OpenOptions
+    ensures { result ≡ with_create_new (with_write new_options true) true }
+{
+    let mut how = OpenOptions::new();
+    how.write(true).create_new(true);
+    how
 }
 
 impl<'r, R: Files + AllocGlobal + Clock + Eprint> FilledFolder<'r, R> {
     /// The folder of a path, which is not made yet. It tells how far it is only where `tells`.
     pub fn new(rt: &'r R, path: &str, tells: bool) -> Result<Self, AllocError>
-        ensures { IfOk result (λ folder. ⟦<FilledFolder<'r, R> as Folder>⟧.failures folder ≡ 0) }
+        ensures none { IfOk result (λ folder. ⟦<FilledFolder<'r, R> as Folder>⟧.failures folder ≡ record { refused = 0; full = 0 }) }
+        ensures root { IfOk result (λ folder. filled_root folder ≡ path.now) }
     {
         Ok(FilledFolder {
             rt,
             root: String::from_str(rt.alloc(), path)?,
             failures: 0,
+            full: 0,
             progress: Progress::new(rt, tells),
         })
     }
 
-    /// What a call comes to, counted where the host refused.
+    /// Counts a fault, where the host is to blame.
+    fn count(&mut self, fault: FolderFault)
+        ensures { ⟦<FilledFolder<'r, R> as Folder>⟧.failures self.new ≡ counted_fault fault (⟦<FilledFolder<'r, R> as Folder>⟧.failures self.old) }
+    {
+        match fault {
+            FolderFault::Refused => self.failures = self.failures.wrapping_add(1),
+            FolderFault::NoSpace => self.full = self.full.wrapping_add(1),
+            FolderFault::OutOfMemory => {}
+        }
+    }
+
+    /// What a call comes to, counted where the host is to blame.
     fn counted<T: Drop>(&mut self, done: io::Result<T>) -> Result<T, FolderFault>
-        ensures { Counts self.old.failures self.new.failures result }
+        ensures counts { Counts (⟦<FilledFolder<'r, R> as Folder>⟧.failures self.old) (⟦<FilledFolder<'r, R> as Folder>⟧.failures self.new) result }
+        ensures fault { IfErr done (λ error. IsErrOf result (filling_fault (error_kind error))) }
+        ensures made { IfOk done (λ made. result ≡ Ok made) }
     {
         match done {
             Ok(made) => Ok(made),
-            Err(error) => match error.kind() {
-                ErrorKind::OutOfMemory => Err(FolderFault::OutOfMemory),
-                _ => {
-                    self.failures = self.failures.wrapping_add(1);
-                    Err(FolderFault::Refused)
-                }
-            },
+            Err(error) => {
+                let fault = fault_of(&error);
+                self.count(fault);
+                Err(fault)
+            }
         }
     }
 
@@ -88,20 +138,21 @@ impl<'r, R: Files + AllocGlobal + Clock + Eprint> FilledFolder<'r, R> {
 
     fn make_file_at(&self, path: &str) -> io::Result<R::File> {
         let path = joined(self.rt, self.root.as_str(), path)?;
-        let mut how = OpenOptions::new();
-        how.write(true).create_new(true).mode(FILE_MODE);
+        let mut how = made_anew();
+        how.mode(FILE_MODE);
         how.open(self.rt, path.as_str())
     }
 
     fn finish_file_at(
         &self,
         path: &str,
-        file: &R::File,
+        file: &HostFile<R::File>,
         attributes: &Attributes,
     ) -> io::Result<()> {
         let path = joined(self.rt, self.root.as_str(), path)?;
+        file.set_end()?;
         set_owner(self.rt, path.as_str(), attributes)?;
-        set_open(file, attributes)
+        set_open(file.file(), attributes)
     }
 
     fn make_symlink_at(&self, path: &str, target: &str, attributes: &Attributes) -> io::Result<()> {
@@ -130,11 +181,11 @@ impl<'r, R: Files + AllocGlobal + Clock + Eprint> FilledFolder<'r, R> {
 }
 
 impl<'r, R: Files + AllocGlobal + Clock + Eprint> Folder for FilledFolder<'r, R> {
-    type File = FromWriter<R::File>;
+    type File = HostFile<R::File>;
 
     ghost made = { λ _. None };
 
-    ghost failures = { λ s. s.failures };
+    ghost failures = { λ s. record { refused = s.failures; full = s.full } };
 
     fn make_directory(&mut self, path: &str) -> Result<(), FolderFault> {
         self.progress.step();
@@ -142,25 +193,26 @@ impl<'r, R: Files + AllocGlobal + Clock + Eprint> Folder for FilledFolder<'r, R>
         self.counted(done)
     }
 
-    fn make_file(&mut self, path: &str) -> Result<FromWriter<R::File>, FolderFault> {
+    fn make_file(&mut self, path: &str) -> Result<HostFile<R::File>, FolderFault> {
         self.progress.step();
         let done = self.make_file_at(path);
-        Ok(FromWriter::new(self.counted(done)?))
+        Ok(HostFile::new(self.counted(done)?))
     }
 
     fn finish_file(
         &mut self,
         path: &str,
-        file: FromWriter<R::File>,
+        file: HostFile<R::File>,
         attributes: Attributes,
     ) -> Result<(), FolderFault> {
-        let file = file.into_writer();
         let done = self.finish_file_at(path, &file, &attributes);
         self.counted(done)
     }
 
-    fn give_up_file(&mut self, _path: &str, _file: FromWriter<R::File>) {
-        self.failures = self.failures.wrapping_add(1);
+    fn give_up_file(&mut self, _path: &str, file: HostFile<R::File>) {
+        if let Some(fault) = file.fault() {
+            self.count(fault);
+        }
     }
 
     fn make_symlink(

@@ -62,6 +62,7 @@ verdict_of_mounted e size image asked m old new before now (Err (program.Listing
 verdict_of_mounted e size image asked m old new before now (Err (program.Session fault line)) answers put = absurd put
 verdict_of_mounted e size image asked m old new before now (Err (program.Path f)) answers put = absurd put
 verdict_of_mounted e size image asked m old new before now (Err program.NotRegular) answers put = absurd put
+verdict_of_mounted e size image asked m old new before now (Err (program.NoSpace folder)) answers put = absurd put
 
 -- ---- the shape
 

@@ -226,6 +226,7 @@ line_failed s w n name i names set (program.Listing line) old new before now rea
 line_failed s w n name i names set (program.Session fault line) old new before now read put = absurd put
 line_failed s w n name i names set (program.Path f) old new before now read put = absurd put
 line_failed s w n name i names set program.NotRegular old new before now read put = absurd put
+line_failed s w n name i names set (program.NoSpace folder) old new before now read put = absurd put
 
 pub step_failed : (s : State) (w n : Walk) (old new : Option (List ℕ)) (before now : ℕ) (r : Result Bool ProgramFault) (fault : ProgramFault)
     → IsErrAnd r (λ e. e ≡ fault) → PutsStep s w n old new before now (Err fault) → PutsStep s w n old new before now r
@@ -318,6 +319,7 @@ root_failed T s empty set (program.Listing line) old new before now none put = a
 root_failed T s empty set (program.Session fault line) old new before now none put = absurd put
 root_failed T s empty set (program.Path f) old new before now none put = absurd put
 root_failed T s empty set program.NotRegular old new before now none put = absurd put
+root_failed T s empty set (program.NoSpace folder) old new before now none put = absurd put
 
 pub steps_on : (s : State) (w n : Walk) (a b c : Option (List ℕ)) (before now : ℕ) → Reaches s w a b → PutsStep s w n b c before now (Ok true) → Reaches s n a c
 steps_on s w n a b c before now far put = (
@@ -350,6 +352,7 @@ stopped T s w n (program.Listing line) a b c first before now far same put = abs
 stopped T s w n (program.Session fault line) a b c first before now far same put = absurd put
 stopped T s w n (program.Path f) a b c first before now far same put = absurd put
 stopped T s w n program.NotRegular a b c first before now far same put = absurd put
+stopped T s w n (program.NoSpace folder) a b c first before now far same put = absurd put
 
 pub tree_failed : {T : Type 0} (s : State) (old new : Option (List ℕ)) (before now : ℕ) (r : Result T ProgramFault) (fault : ProgramFault)
     → IsErrAnd r (λ e. e ≡ fault) → PutsTree {T = T} s old new before now (Err fault) → PutsTree s old new before now r

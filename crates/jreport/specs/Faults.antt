@@ -99,6 +99,7 @@ fault_text_of (program.Path fault) = find_text fault
 fault_text_of program.NotRegular = codes "P4 NotRegular"
 fault_text_of program.Output = codes "P5 Output"
 fault_text_of program.OutOfMemory = codes "P6 OutOfMemory"
+fault_text_of (program.NoSpace name) = codes "P7 NoSpace " ++ name.now
 
 -- the line on standard error
 unfoldable pub fault_line_of : ProgramFault → List ℕ

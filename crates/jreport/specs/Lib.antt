@@ -1,4 +1,5 @@
 pub mod Content
+pub mod ExtractionNotes
 pub mod Faults
 pub mod WholeImage
 pub mod ListedOnce

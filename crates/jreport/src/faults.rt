@@ -42,6 +42,8 @@ pub enum ProgramFault<'a> {
     /// Standard output failed.
     Output,
     OutOfMemory,
+    /// The host has no room for what is still to be made in the folder of this name.
+    NoSpace(&'a str),
 }
 
 impl From<LoadFault> for ProgramFault<'_> {
@@ -277,6 +279,10 @@ fn push_fault<'a>(line: &mut LineBuffer, fault: &ProgramFault<'a>) -> &'a str
         ProgramFault::NotRegular => line.push_text(b"P4 NotRegular"),
         ProgramFault::Output => line.push_text(b"P5 Output"),
         ProgramFault::OutOfMemory => line.push_text(b"P6 OutOfMemory"),
+        ProgramFault::NoSpace(name) => {
+            line.push_text(b"P7 NoSpace ");
+            return name;
+        }
     }
     ""
 }

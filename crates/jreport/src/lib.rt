@@ -13,6 +13,7 @@
 #![tactic(auto)]
 
 mod blocks;
+mod extraction_notes;
 pub mod fault_examples;
 mod faults;
 mod files;
@@ -30,6 +31,7 @@ pub mod tree_laws;
 mod verdict;
 mod whole_image;
 
+pub use crate::extraction_notes::{attribute_count, put_notes};
 pub use crate::faults::{ProgramFault, fault_line, fault_text};
 pub use crate::files::content;
 pub use crate::listing::tree_lines;

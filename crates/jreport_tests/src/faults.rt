@@ -65,6 +65,7 @@ const FAULTS: [(ProgramFault<'static>, &str); 22] = [
     (ProgramFault::NotRegular, "P4 NotRegular"),
     (ProgramFault::Output, "P5 Output"),
     (ProgramFault::OutOfMemory, "P6 OutOfMemory"),
+    (ProgramFault::NoSpace("out"), "P7 NoSpace out"),
 ];
 
 /// A session's faults, with the line of an operation and its text.

@@ -1,6 +1,7 @@
 use Rattle.std.proofs.Common.{[], ◌∷◌, ap}
 use Rattle.jmount.specs.Shown.{readable}
 use Rattle.jmount.specs.declared.object.Kind.{Kind}
+use Rattle.jextract.specs.Cells.{cells_of}
 use Rattle.jextract.specs.Folders.{Content, Directory, File}
 use Rattle.jextract.specs.Outcomes.{plan_anew}
 use Rattle.jextract.proofs.MakingLemmas.{does_fail, one_fails}
@@ -16,7 +17,7 @@ returns-in_err-make_directory-in-Directory g c =
 pub returns-in_err-make_file-in-Regular : goal.returns-in_err-make_file-in-Regular
 returns-in_err-make_file-in-Regular g c =
     let bytes = readable c.args.mounted.now.state c.args.ino in
-    does_fail (Unit {0}) _ _ _ _ _ _ (File ∷ Content bytes c.args.attributes ∷ []) c.in_err-make_file-in-Regular.field-0.0 _
+    does_fail (Unit {0}) _ _ _ _ _ _ (File ∷ Content (cells_of bytes) c.args.attributes ∷ []) c.in_err-make_file-in-Regular.field-0.0 _
     (ap (λ (kind : Kind). plan_anew kind bytes c.args.attributes) c.in-Regular.is) c.in_err-make_file-in-Regular.ensures
     c.from_residual-in_err-make_file-in-Regular.ensures.1
 
@@ -30,4 +31,4 @@ pub returns-in_ok-make_file-in-Regular : goal.returns-in_ok-make_file-in-Regular
 returns-in_ok-make_file-in-Regular g c =
     let bytes = readable c.args.mounted.now.state c.args.ino in
     let put = c.in_ok-make_file-in-Regular.ensures in
-    (File ∷ Content bytes c.args.attributes ∷ [], ap (λ (kind : Kind). plan_anew kind bytes c.args.attributes) c.in-Regular.is, put.0, put.1)
+    (File ∷ Content (cells_of bytes) c.args.attributes ∷ [], ap (λ (kind : Kind). plan_anew kind bytes c.args.attributes) c.in-Regular.is, put.0, put.1)

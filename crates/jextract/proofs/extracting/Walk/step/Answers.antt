@@ -12,9 +12,9 @@ pub returns-in_err-leave : goal.returns-in_err-leave
 returns-in_err-leave g c =
     let s = c.args.mounted.now.state in
     let w = c.args.self.now in
-    let old : Sight = record { made = g.F.Folder.made c.args.folder.now; failures = g.F.Folder.failures c.args.folder.now; told = g.N.Sink.taken c.args.notes.now; told_failures = g.N.Sink.failures c.args.notes.now; left_out = c.args.self.now.left_out } in
-    let new : Sight = record { made = g.F.Folder.made c.leave.new.folder; failures = g.F.Folder.failures c.leave.new.folder; told = g.N.Sink.taken c.leave.new.notes; told_failures = g.N.Sink.failures c.leave.new.notes; left_out = c.leave.new.left_out } in
-    let n : Walk = record { path = w.path; ino = w.ino; left = c.next.new.self; above = w.above; firsts = w.firsts; left_out = c.leave.new.left_out } in
+    let old : Sight = record { made = g.F.Folder.made c.args.folder.now; failures = g.F.Folder.failures c.args.folder.now; told = g.N.Sink.taken c.args.notes.now; told_failures = g.N.Sink.failures c.args.notes.now; totals = c.args.self.now.totals } in
+    let new : Sight = record { made = g.F.Folder.made c.leave.new.folder; failures = g.F.Folder.failures c.leave.new.folder; told = g.N.Sink.taken c.leave.new.notes; told_failures = g.N.Sink.failures c.leave.new.notes; totals = c.leave.new.totals } in
+    let n : Walk = record { path = w.path; ino = w.ino; left = c.next.new.self; above = w.above; firsts = w.firsts; totals = c.leave.new.totals } in
     let fault = c.in_err-leave.field-0.0 in
     step_at_fault s c.args.owners w n old new fault c.from_residual.result c.from_residual.ensures.1
     (leave_failed s c.args.owners w old new fault c.in_default.ensures.steps.0
@@ -24,10 +24,10 @@ pub returns-in_default : goal.returns-in_default
 returns-in_default g c =
     let s = c.args.mounted.now.state in
     let w = c.args.self.now in
-    let old : Sight = record { made = g.F.Folder.made c.args.folder.now; failures = g.F.Folder.failures c.args.folder.now; told = g.N.Sink.taken c.args.notes.now; told_failures = g.N.Sink.failures c.args.notes.now; left_out = c.args.self.now.left_out } in
-    let new : Sight = record { made = g.F.Folder.made c.leave.new.folder; failures = g.F.Folder.failures c.leave.new.folder; told = g.N.Sink.taken c.leave.new.notes; told_failures = g.N.Sink.failures c.leave.new.notes; left_out = c.leave.new.left_out } in
+    let old : Sight = record { made = g.F.Folder.made c.args.folder.now; failures = g.F.Folder.failures c.args.folder.now; told = g.N.Sink.taken c.args.notes.now; told_failures = g.N.Sink.failures c.args.notes.now; totals = c.args.self.now.totals } in
+    let new : Sight = record { made = g.F.Folder.made c.leave.new.folder; failures = g.F.Folder.failures c.leave.new.folder; told = g.N.Sink.taken c.leave.new.notes; told_failures = g.N.Sink.failures c.leave.new.notes; totals = c.leave.new.totals } in
     let done = c.in_ok-leave.field-0 in
-    let m : Walk = record { path = w.path; ino = w.ino; left = c.next.new.self; above = w.above; firsts = w.firsts; left_out = c.leave.new.left_out } in
+    let m : Walk = record { path = w.path; ino = w.ino; left = c.next.new.self; above = w.above; firsts = w.firsts; totals = c.leave.new.totals } in
     leaves_as s c.args.owners w m c.go_up.new.self old new done c.go_up.result c.in_default.ensures.steps.0 refl refl refl
     (subst (λ (p : List (List ℕ)). Completes s c.args.owners p w.ino old new (Ok done)) (ap (map (λ name. name.now)) c.deref.ensures.value) c.in_ok-leave.ensures) c.go_up.ensures refl
 
@@ -35,17 +35,17 @@ pub returns-in_err-push : goal.returns-in_err-push
 returns-in_err-push g c =
     let s = c.args.mounted.now.state in
     let w = c.args.self.now in
-    let old : Sight = record { made = g.F.Folder.made c.args.folder.now; failures = g.F.Folder.failures c.args.folder.now; told = g.N.Sink.taken c.args.notes.now; told_failures = g.N.Sink.failures c.args.notes.now; left_out = c.args.self.now.left_out } in
-    let n : Walk = record { path = c.push.new.self; ino = w.ino; left = c.next.new.self; above = w.above; firsts = w.firsts; left_out = w.left_out } in
+    let old : Sight = record { made = g.F.Folder.made c.args.folder.now; failures = g.F.Folder.failures c.args.folder.now; told = g.N.Sink.taken c.args.notes.now; told_failures = g.N.Sink.failures c.args.notes.now; totals = c.args.self.now.totals } in
+    let n : Walk = record { path = c.push.new.self; ino = w.ino; left = c.next.new.self; above = w.above; firsts = w.firsts; totals = w.totals } in
     step_at_fault s c.args.owners w n old old OutOfMemory c.from_residual-in_err-push.result c.from_residual-in_err-push.ensures.1 (stops_before s c.args.owners (firsts_of w.firsts) (extraction_todo s w) old)
 
 pub returns-in_err-visit : goal.returns-in_err-visit
 returns-in_err-visit g c =
     let s = c.args.mounted.now.state in
     let w = c.args.self.now in
-    let old : Sight = record { made = g.F.Folder.made c.args.folder.now; failures = g.F.Folder.failures c.args.folder.now; told = g.N.Sink.taken c.args.notes.now; told_failures = g.N.Sink.failures c.args.notes.now; left_out = c.args.self.now.left_out } in
-    let new : Sight = record { made = g.F.Folder.made c.visit.new.folder; failures = g.F.Folder.failures c.visit.new.folder; told = g.N.Sink.taken c.visit.new.notes; told_failures = g.N.Sink.failures c.visit.new.notes; left_out = c.visit.new.left_out } in
-    let n : Walk = record { path = c.push.new.self; ino = w.ino; left = c.next.new.self; above = w.above; firsts = c.visit.new.firsts; left_out = c.visit.new.left_out } in
+    let old : Sight = record { made = g.F.Folder.made c.args.folder.now; failures = g.F.Folder.failures c.args.folder.now; told = g.N.Sink.taken c.args.notes.now; told_failures = g.N.Sink.failures c.args.notes.now; totals = c.args.self.now.totals } in
+    let new : Sight = record { made = g.F.Folder.made c.visit.new.folder; failures = g.F.Folder.failures c.visit.new.folder; told = g.N.Sink.taken c.visit.new.notes; told_failures = g.N.Sink.failures c.visit.new.notes; totals = c.visit.new.totals } in
+    let n : Walk = record { path = c.push.new.self; ino = w.ino; left = c.next.new.self; above = w.above; firsts = c.visit.new.firsts; totals = c.visit.new.totals } in
     let way = way_on w c.in-Some.name c.deref-2.result.now c.push.new.self.items c.deref-2.ensures.value c.in_ok-push.ensures.items in
     let fault = c.in_err-visit.field-0.0 in
     let visits = visit_at s c.args.owners (firsts_of w.firsts) (firsts_of c.visit.new.firsts) _ (extraction_way w ++ c.in-Some.name.now ∷ []) c.in-Some.ino old new (Err fault) way c.in_err-visit.ensures in
@@ -56,11 +56,11 @@ pub returns-in_err-enter : goal.returns-in_err-enter
 returns-in_err-enter g c =
     let s = c.args.mounted.now.state in
     let w = c.args.self.now in
-    let old : Sight = record { made = g.F.Folder.made c.args.folder.now; failures = g.F.Folder.failures c.args.folder.now; told = g.N.Sink.taken c.args.notes.now; told_failures = g.N.Sink.failures c.args.notes.now; left_out = c.args.self.now.left_out } in
-    let new : Sight = record { made = g.F.Folder.made c.visit.new.folder; failures = g.F.Folder.failures c.visit.new.folder; told = g.N.Sink.taken c.visit.new.notes; told_failures = g.N.Sink.failures c.visit.new.notes; left_out = c.enter.new.self.left_out } in
+    let old : Sight = record { made = g.F.Folder.made c.args.folder.now; failures = g.F.Folder.failures c.args.folder.now; told = g.N.Sink.taken c.args.notes.now; told_failures = g.N.Sink.failures c.args.notes.now; totals = c.args.self.now.totals } in
+    let new : Sight = record { made = g.F.Folder.made c.visit.new.folder; failures = g.F.Folder.failures c.visit.new.folder; told = g.N.Sink.taken c.visit.new.notes; told_failures = g.N.Sink.failures c.visit.new.notes; totals = c.enter.new.self.totals } in
     let way = way_on w c.in-Some.name c.deref-2.result.now c.push.new.self.items c.deref-2.ensures.value c.in_ok-push.ensures.items in
     let entered = c.in_ok-visit.field-0 in
-    let seen : Sight = record { made = g.F.Folder.made c.visit.new.folder; failures = g.F.Folder.failures c.visit.new.folder; told = g.N.Sink.taken c.visit.new.notes; told_failures = g.N.Sink.failures c.visit.new.notes; left_out = c.visit.new.left_out } in
+    let seen : Sight = record { made = g.F.Folder.made c.visit.new.folder; failures = g.F.Folder.failures c.visit.new.folder; told = g.N.Sink.taken c.visit.new.notes; told_failures = g.N.Sink.failures c.visit.new.notes; totals = c.visit.new.totals } in
     let visits = visit_at s c.args.owners (firsts_of w.firsts) (firsts_of c.visit.new.firsts) _ (extraction_way w ++ c.in-Some.name.now ∷ []) c.in-Some.ino old seen (Ok entered) way c.in_ok-visit.ensures in
     let is : c.in_err-enter.field-0.0 ≡ OutOfMemory = c.in_err-enter.ensures in
     step_at_fault s c.args.owners w c.enter.new.self old new OutOfMemory c.from_residual-in_err-enter.result
@@ -71,8 +71,8 @@ pub returns-in_ok-enter : goal.returns-in_ok-enter
 returns-in_ok-enter g c =
     let s = c.args.mounted.now.state in
     let w = c.args.self.now in
-    let old : Sight = record { made = g.F.Folder.made c.args.folder.now; failures = g.F.Folder.failures c.args.folder.now; told = g.N.Sink.taken c.args.notes.now; told_failures = g.N.Sink.failures c.args.notes.now; left_out = c.args.self.now.left_out } in
-    let seen : Sight = record { made = g.F.Folder.made c.visit.new.folder; failures = g.F.Folder.failures c.visit.new.folder; told = g.N.Sink.taken c.visit.new.notes; told_failures = g.N.Sink.failures c.visit.new.notes; left_out = c.visit.new.left_out } in
+    let old : Sight = record { made = g.F.Folder.made c.args.folder.now; failures = g.F.Folder.failures c.args.folder.now; told = g.N.Sink.taken c.args.notes.now; told_failures = g.N.Sink.failures c.args.notes.now; totals = c.args.self.now.totals } in
+    let seen : Sight = record { made = g.F.Folder.made c.visit.new.folder; failures = g.F.Folder.failures c.visit.new.folder; told = g.N.Sink.taken c.visit.new.notes; told_failures = g.N.Sink.failures c.visit.new.notes; totals = c.visit.new.totals } in
     let way = way_on w c.in-Some.name c.deref-2.result.now c.push.new.self.items c.deref-2.ensures.value c.in_ok-push.ensures.items in
     let visits = visit_at s c.args.owners (firsts_of w.firsts) (firsts_of c.visit.new.firsts) _ (extraction_way w ++ c.in-Some.name.now ∷ []) c.in-Some.ino old seen (Ok c.in_ok-visit.field-0) way c.in_ok-visit.ensures in
     let is = c.in_ok-enter.ensures in
@@ -87,11 +87,11 @@ pub returns-else-branch : goal.returns-else-branch
 returns-else-branch g c =
     let s = c.args.mounted.now.state in
     let w = c.args.self.now in
-    let old : Sight = record { made = g.F.Folder.made c.args.folder.now; failures = g.F.Folder.failures c.args.folder.now; told = g.N.Sink.taken c.args.notes.now; told_failures = g.N.Sink.failures c.args.notes.now; left_out = c.args.self.now.left_out } in
-    let seen : Sight = record { made = g.F.Folder.made c.visit.new.folder; failures = g.F.Folder.failures c.visit.new.folder; told = g.N.Sink.taken c.visit.new.notes; told_failures = g.N.Sink.failures c.visit.new.notes; left_out = c.visit.new.left_out } in
+    let old : Sight = record { made = g.F.Folder.made c.args.folder.now; failures = g.F.Folder.failures c.args.folder.now; told = g.N.Sink.taken c.args.notes.now; told_failures = g.N.Sink.failures c.args.notes.now; totals = c.args.self.now.totals } in
+    let seen : Sight = record { made = g.F.Folder.made c.visit.new.folder; failures = g.F.Folder.failures c.visit.new.folder; told = g.N.Sink.taken c.visit.new.notes; told_failures = g.N.Sink.failures c.visit.new.notes; totals = c.visit.new.totals } in
     let way = way_on w c.in-Some.name c.deref-2.result.now c.push.new.self.items c.deref-2.ensures.value c.in_ok-push.ensures.items in
     let visits = visit_at s c.args.owners (firsts_of w.firsts) (firsts_of c.visit.new.firsts) _ (extraction_way w ++ c.in-Some.name.now ∷ []) c.in-Some.ino old seen (Ok c.in_ok-visit.field-0) way c.in_ok-visit.ensures in
-    let n : Walk = record { path = c.pop.new.self; ino = w.ino; left = c.next.new.self; above = w.above; firsts = c.visit.new.firsts; left_out = c.visit.new.left_out } in
+    let n : Walk = record { path = c.pop.new.self; ino = w.ino; left = c.next.new.self; above = w.above; firsts = c.visit.new.firsts; totals = c.visit.new.totals } in
     stays s c.args.owners w n c.in-Some.name.now c.in-Some.ino old seen c.in-Some.ensures.steps refl refl
     (way_back w c.in-Some.name c.push.new.self.items c.pop.new.self.items c.in_ok-push.ensures.items
     (c.pop.ensures.rest ∙ ap (λ (k : ℕ). take (k - 1) c.push.new.self.items) c.push.new.self.ok.0))
