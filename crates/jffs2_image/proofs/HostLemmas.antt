@@ -35,7 +35,7 @@ use Rattle.jffs2_image.specs.Writes.{GivesPart, Held, HoldsCut, HoldsPart, IsBeh
 
 -- no file was made, or not to its end
 pub make_fault : (page : Page) (e : Endian) (size blocks : ℕ) (m : Mount) (output : List ℕ) (from : ℕ) (u v same : Type 0) (before now : ℕ) (f : ProgramFault)
-    → resumes_by page e size blocks m ≡ Ok from → IsNotMade page e size blocks m output f → IsMakeFault before now f → Leaves v same f → BlamesMaker {T = Unit {0}} u v before now (Err f)
+    → resumes_by page e size blocks m ≡ Ok from → IsNotMade page e size blocks m output f → IsMakeFault before now f → Leaves v same f → BlamesMaker {T = ℕ} u v before now (Err f)
 make_fault page e size blocks m output from u v same before now (program.Load f) on not made left = absurd not
 make_fault page e size blocks m output from u v same before now (program.Scan f) on not made left = absurd not
 make_fault page e size blocks m output from u v same before now (program.Mount f) on not made left = absurd not
@@ -58,18 +58,18 @@ make_fault page e size blocks m output from u v same before now program.OutOfMem
 
 -- the image is not gone on from
 pub resume_fault : (page : Page) (e : Endian) (size blocks : ℕ) (m : Mount) (u v : Type 0) (before now : ℕ) (f : SessionFault) (line : Option ℕ)
-    → resumes_by page e size blocks m ≡ Err f → u → BlamesMaker {T = Unit {0}} u v before now (Err (program.Session f line))
+    → resumes_by page e size blocks m ≡ Err f → u → BlamesMaker {T = ℕ} u v before now (Err (program.Session f line))
 resume_fault page e size blocks m u v before now f line is still = by m.read_only (is_flash_of size blocks m.image && page_fits size page) is
   where
     by : (b c : Bool) → (if b then Err session.ReadOnly else (if c then Ok (resume_address e size blocks m.image) else Err session.Geometry)) ≡ Err f
-        → BlamesMaker {T = Unit {0}} u v before now (Err (program.Session f line))
-    by true c same = let is : session.ReadOnly ≡ f = cc in subst (λ (z : SessionFault). BlamesMaker {T = Unit {0}} u v before now (Err (program.Session z line))) is still
+        → BlamesMaker {T = ℕ} u v before now (Err (program.Session f line))
+    by true c same = let is : session.ReadOnly ≡ f = cc in subst (λ (z : SessionFault). BlamesMaker {T = ℕ} u v before now (Err (program.Session z line))) is still
     by false true same = cc
-    by false false same = let is : session.Geometry ≡ f = cc in subst (λ (z : SessionFault). BlamesMaker {T = Unit {0}} u v before now (Err (program.Session z line))) is still
+    by false false same = let is : session.Geometry ≡ f = cc in subst (λ (z : SessionFault). BlamesMaker {T = ℕ} u v before now (Err (program.Session z line))) is still
 
 -- a run on it stopped
 pub run_fault : (held : Held) (page : Page) (e : Endian) (size blocks : ℕ) (m : Mount) (ops : List Op) (accepted : ℕ) (places : List Place) (u v : Type 0) (before now : ℕ) (f : SessionFault) (line : Option ℕ)
-    → IsMade held page e size blocks m ops accepted places (Some f) → IsMadeUntil before now (Some f) → v → BlamesMaker {T = Unit {0}} u v before now (Err (program.Session f line))
+    → IsMade held page e size blocks m ops accepted places (Some f) → IsMadeUntil before now (Some f) → v → BlamesMaker {T = ℕ} u v before now (Err (program.Session f line))
 run_fault held page e size blocks m ops accepted places u v before now session.ReadOnly line made until left = absurd (made.put.emitted.runs.5.stop)
 run_fault held page e size blocks m ops accepted places u v before now session.Geometry line made until left = absurd (made.put.emitted.runs.5.stop)
 run_fault held page e size blocks m ops accepted places u v before now session.Sink line made until left = (inl until, left)
@@ -79,15 +79,15 @@ run_fault held page e size blocks m ops accepted places u v before now session.O
 run_fault held page e size blocks m ops accepted places u v before now session.Broken line made until left = left
 
 -- the answer is that fault
-pub maker_fault : (u v : Type 0) (before now : ℕ) (f : ProgramFault) (r : Result (Unit {0}) ProgramFault)
-    → IsErrAnd r (λ is. is ≡ f) → BlamesMaker {T = Unit {0}} u v before now (Err f) → BlamesMaker {T = Unit {0}} u v before now r
+pub maker_fault : (u v : Type 0) (before now : ℕ) (f : ProgramFault) (r : Result ℕ ProgramFault)
+    → IsErrAnd r (λ is. is ≡ f) → BlamesMaker {T = ℕ} u v before now (Err f) → BlamesMaker {T = ℕ} u v before now r
 maker_fault u v before now f (Ok x) is w = absurd is
-maker_fault u v before now f (Err other) is w = subst (λ (z : ProgramFault). BlamesMaker {T = Unit {0}} u v before now (Err z)) (sym is) w
+maker_fault u v before now f (Err other) is w = subst (λ (z : ProgramFault). BlamesMaker {T = ℕ} u v before now (Err z)) (sym is) w
 
 -- ---- both
 
 -- no file was read in vain
-pub lines_blame : (u v : Type 0) (rb rn mb mn : ℕ) (r : Result (Unit {0}) ProgramFault) → rn ≡ rb → BlamesMaker u v mb mn r → Blames u v rb rn mb mn r
+pub lines_blame : (u v : Type 0) (rb rn mb mn : ℕ) (r : Result ℕ ProgramFault) → rn ≡ rb → BlamesMaker u v mb mn r → Blames u v rb rn mb mn r
 lines_blame u v rb rn mb mn (Ok x) read made = (read, made.0, made.1)
 lines_blame u v rb rn mb mn (Err (program.Load f)) read made = absurd made
 lines_blame u v rb rn mb mn (Err (program.Scan f)) read made = tt
@@ -137,7 +137,7 @@ file_blame T u v rb rn mb mn name told program.Output still not read = absurd no
 file_blame T u v rb rn mb mn name told program.OutOfMemory still not read = absurd not
 
 -- a fault is none of an answer
-pub any_blame : (T : Type 0) (u v : Type 0) (rb rn mb mn : ℕ) (f : ProgramFault) → Blames {T = Unit {0}} u v rb rn mb mn (Err f) → Blames {T = T} u v rb rn mb mn (Err f)
+pub any_blame : (T : Type 0) (u v : Type 0) (rb rn mb mn : ℕ) (f : ProgramFault) → Blames {T = ℕ} u v rb rn mb mn (Err f) → Blames {T = T} u v rb rn mb mn (Err f)
 any_blame T u v rb rn mb mn (program.Load load.Device) w = w
 any_blame T u v rb rn mb mn (program.Load load.TooLarge) w = w
 any_blame T u v rb rn mb mn (program.Load load.OutOfMemory) w = w
@@ -159,7 +159,7 @@ any_blame T u v rb rn mb mn program.OutOfMemory w = w
 
 -- the answer is that fault, and a file was read before
 pub fault_blame : (T : Type 0) (u v : Type 0) (rb mid rn mb mn : ℕ) (f : ProgramFault) (r : Result T ProgramFault)
-    → IsErrAnd r (λ is. is ≡ f) → mid ≡ rb → Blames {T = Unit {0}} u v mid rn mb mn (Err f) → Blames {T = T} u v rb rn mb mn r
+    → IsErrAnd r (λ is. is ≡ f) → mid ≡ rb → Blames {T = ℕ} u v mid rn mb mn (Err f) → Blames {T = T} u v rb rn mb mn r
 fault_blame T u v rb mid rn mb mn f (Ok x) is same w = absurd is
 fault_blame T u v rb mid rn mb mn f (Err other) is same w =
     subst (λ (k : ℕ). Blames {T = T} u v k rn mb mn (Err other)) same (subst (λ (z : ProgramFault). Blames {T = T} u v mid rn mb mn (Err z)) (sym is) (any_blame T u v mid rn mb mn f w))
@@ -192,9 +192,9 @@ have_bytes : (told : List ℕ → Option (List ℕ)) (lines : List Line) (parts 
 have_bytes told lines parts are = λ name named. (are name named).1
 
 pub files_of_all : (told : List ℕ → Option (List ℕ)) (held : Held) (page : Page) (e : Endian) (size blocks : ℕ) (base text : List ℕ) (lines : List Line) (parts : Parts) (m : Mount) (accepted : ℕ) (places : List Place) (from : ℕ)
-    (old new : Option (List ℕ)) (x : Unit {0}) → m.image ≡ base → from ≡ resume_address e size blocks base → AreRead told lines parts → lines_of text ≡ Ok lines → Answers e size base (Ok m)
+    (old new : Option (List ℕ)) (x : ℕ) → m.image ≡ base → from ≡ resume_address e size blocks base → AreRead told lines parts → lines_of text ≡ Ok lines → Answers e size base (Ok m)
     → IsMade held page e size blocks m (ops_in (part_contents parts) lines) accepted places None → Appends old new (accepted_line from accepted places)
-    → RunsFiles {T = Unit {0}} told held page e size blocks base text old new (Ok x)
+    → RunsFiles {T = ℕ} told held page e size blocks base text old new (Ok x)
 files_of_all told held page e size blocks base text lines parts m accepted places from old new x same is are read mounts made put = (
   lines,
   accepted,
@@ -206,12 +206,12 @@ files_of_all told held page e size blocks base text lines parts m accepted place
 )
 
 pub files_in_part : (told : List ℕ → Option (List ℕ)) (held : Held) (page : Page) (e : Endian) (size blocks : ℕ) (base text : List ℕ) (lines : List Line) (parts : Parts) (m : Mount) (accepted : ℕ) (places : List Place) (from : ℕ)
-    (old new : Option (List ℕ)) (r : Result (Unit {0}) ProgramFault) → IsErrAnd r (λ is. is ≡ program.Output) → from ≡ resume_address e size blocks base → AreRead told lines parts → lines_of text ≡ Ok lines
+    (old new : Option (List ℕ)) (r : Result ℕ ProgramFault) → IsErrAnd r (λ is. is ≡ program.Output) → from ≡ resume_address e size blocks base → AreRead told lines parts → lines_of text ≡ Ok lines
     → Answers e size base (Ok m) → IsMade held page e size blocks m (ops_in (part_contents parts) lines) accepted places None → PutsPart old new (accepted_line from accepted places)
-    → RunsFiles {T = Unit {0}} told held page e size blocks base text old new r
+    → RunsFiles {T = ℕ} told held page e size blocks base text old new r
 files_in_part told held page e size blocks base text lines parts m accepted places from old new (Ok x) fault is are read mounts made put = absurd fault
 files_in_part told held page e size blocks base text lines parts m accepted places from old new (Err f) fault is are read mounts made put =
-    subst (λ (z : ProgramFault). RunsFiles {T = Unit {0}} told held page e size blocks base text old new (Err z)) (sym fault) (
+    subst (λ (z : ProgramFault). RunsFiles {T = ℕ} told held page e size blocks base text old new (Err z)) (sym fault) (
       lines,
       accepted,
       places,
@@ -249,7 +249,7 @@ cut_short told held page e size blocks base text lines parts m same are read hol
 pub files_until : (told : List ℕ → Option (List ℕ)) (held : Held) (page : Page) (e : Endian) (size blocks : ℕ) (base text : List ℕ) (lines : List Line) (parts : Parts) (m : Mount) (accepted : ℕ) (places : List Place)
     (old new : Option (List ℕ)) (f : SessionFault) (line : Option ℕ) → line ≡ option_map (λ l. l.number) (slice_get lines accepted) → m.image ≡ base → AreRead told lines parts → lines_of text ≡ Ok lines
     → Answers e size base (Ok m) → IsMade held page e size blocks m (ops_in (part_contents parts) lines) accepted places (Some f)
-    → RunsFiles {T = Unit {0}} told held page e size blocks base text old new (Err (program.Session f line))
+    → RunsFiles {T = ℕ} told held page e size blocks base text old new (Err (program.Session f line))
 files_until told held page e size blocks base text lines parts m accepted places old new session.Sink None is same are read mounts made =
     cut_short told held page e size blocks base text lines parts m same are read (made_in_part held page e size blocks m (ops_in (part_contents parts) lines) accepted places (Some session.Sink) made)
 files_until told held page e size blocks base text lines parts m accepted places old new session.OutOfMemory None is same are read mounts made =
@@ -263,15 +263,15 @@ files_until told held page e size blocks base text lines parts m accepted places
     (lines, accepted, places, record { mount = m; files = part_contents parts; read = read; mounts = mounts; made = made }, have_bytes told lines parts are, sym is)
 
 -- no fault of making is one of a line
-pub files_not_made : (told : List ℕ → Option (List ℕ)) (held : Held) (page : Page) (e : Endian) (size blocks : ℕ) (output base text : List ℕ) (lines : List Line) (parts : Parts) (m : Mount) (old new : Option (List ℕ)) (f : ProgramFault) (r : Result (Unit {0}) ProgramFault)
+pub files_not_made : (told : List ℕ → Option (List ℕ)) (held : Held) (page : Page) (e : Endian) (size blocks : ℕ) (output base text : List ℕ) (lines : List Line) (parts : Parts) (m : Mount) (old new : Option (List ℕ)) (f : ProgramFault) (r : Result ℕ ProgramFault)
     → IsErrAnd r (λ is. is ≡ f) → m.image ≡ base → AreRead told lines parts → lines_of text ≡ Ok lines → IsNotMade page e size blocks m output f
-    → HoldsCut held page e size blocks m.image (ops_in (part_contents parts) lines) f → RunsFiles {T = Unit {0}} told held page e size blocks base text old new r
+    → HoldsCut held page e size blocks m.image (ops_in (part_contents parts) lines) f → RunsFiles {T = ℕ} told held page e size blocks base text old new r
 files_not_made told held page e size blocks output base text lines parts m old new f (Ok x) fault same are read not cut = absurd fault
 files_not_made told held page e size blocks output base text lines parts m old new f (Err g) fault same are read not cut =
-    subst (λ (z : ProgramFault). RunsFiles {T = Unit {0}} told held page e size blocks base text old new (Err z)) (sym fault) (by f not cut)
+    subst (λ (z : ProgramFault). RunsFiles {T = ℕ} told held page e size blocks base text old new (Err z)) (sym fault) (by f not cut)
   where
     by : (f : ProgramFault) → IsNotMade page e size blocks m output f → HoldsCut held page e size blocks m.image (ops_in (part_contents parts) lines) f
-        → RunsFiles {T = Unit {0}} told held page e size blocks base text old new (Err f)
+        → RunsFiles {T = ℕ} told held page e size blocks base text old new (Err f)
     by (program.Load f) not cut = absurd not
     by (program.Scan f) not cut = tt
     by (program.Mount f) not cut = tt

@@ -1,5 +1,5 @@
 -- What a run of the program does: to standard output, to standard error, and in its outcome.
-use Rattle.std.specs.Prelude.{◌≡◌, ◌⊎◌, ◌==◌, ℕ, Bool, true, false, IsFalse, List, [], Option, Some, None, Result, Ok, Err, IsErrOf, if◌then◌else◌, string_bytes}
+use Rattle.std.specs.Prelude.{◌≡◌, ◌⊎◌, ◌==◌, ℕ, Bool, true, false, IsFalse, List, [], Option, Some, None, Result, Ok, Err, IfOk, IsErrOf, if◌then◌else◌, string_bytes}
 use Rattle.std.specs.Io.KnownBytes.{Appends, Keeps}
 use Rattle.flashbase.specs.Device.{PutsPart, next_count}
 use Rattle.jnode.specs.declared.order.Endian.{Endian}
@@ -23,7 +23,7 @@ use Rattle.jcommand.specs.declared.outcome.Outcome.{Outcome}
 use Rattle.jcommand.specs.declared.outcome.Outcome.TheVariants as outcome
 use Rattle.jsteps.specs.declared.page.Page.{Page}
 use Rattle.jffs2_image.specs.Host.{AreOf, HasFailed, RunsFiles}
-use Rattle.jffs2_image.specs.Writes.{Held, IsBehind, IsUnreadFile, WritesImage}
+use Rattle.jffs2_image.specs.Writes.{Held, IsBehind, IsNotedIn, IsUnreadFile, WritesImage}
 use Rattle.jffs2_image.specs.declared.program.Success.{Success}
 use Rattle.jffs2_image.specs.declared.program.Success.TheVariants as success
 use Rattle.jffs2_image.specs.declared.program.Stop.{Stop}
@@ -62,15 +62,20 @@ abbrev pub RunsListed : (List ℕ → Option (List ℕ)) → Held → Page → E
 RunsListed told held page e size blocks listing output image old new before now answer = (text : List ℕ) × AreOf (told listing) text
     × WritesImage held page e size blocks output image text old new before now answer × RunsFiles told held page e size blocks image text old new answer
 
--- what is put of an image, or why no more of it is
+-- What is put of an image, or why no more of it is. The answer of `build` is no finding, and that of `append` the number of
+-- findings of its base.
 abbrev pub PutsAnswer : (List ℕ → Option (List ℕ)) → Held → Endian → Parsed → List ℕ → Option (List ℕ) → Option (List ℕ) → ℕ → ℕ → Result ℕ ProgramFault → Type 0
 PutsAnswer told held e (ScanParsed options name) = PutsStream e options.geometry.block
 PutsAnswer told held e (CheckParsed options shape name) = PutsJudged e options.geometry.block shape
 PutsAnswer told held e (ListParsed options name) = PutsListing e options.geometry.block
 PutsAnswer told held e (CatParsed options name word) = λ image old new before now answer.
     (path : List ℕ) × (path_of word ≡ Some path) × PutsFile e options.geometry.block image path old new before now answer
-PutsAnswer told held e (BuildParsed options blocks page listing output) = RunsListed told held page e options.geometry.block blocks listing output
-PutsAnswer told held e (AppendParsed options blocks page name listing output) = RunsListed told held page e options.geometry.block blocks listing output
+PutsAnswer told held e (BuildParsed options blocks page listing output) = λ image old new before now answer.
+    RunsListed told held page e options.geometry.block blocks listing output image old new before now answer
+    × IfOk answer (λ n. n ≡ 0)
+PutsAnswer told held e (AppendParsed options blocks page name listing output) = λ image old new before now answer.
+    RunsListed told held page e options.geometry.block blocks listing output image old new before now answer
+    × IfOk answer (IsNotedIn e options.geometry.block image)
 
 -- its file can't be opened
 abbrev pub IsUnopened : List ℕ → ProgramFault → Type 0

@@ -19,6 +19,7 @@ use Rattle.jlog.specs.declared.report.Place.{Place}
 use Rattle.jbuild.specs.Accepted.{accepted_line}
 use Rattle.jbuild.specs.Emitting.{IsEmitted, front_before}
 use Rattle.jbuild.specs.Operations.{ops_in}
+use Rattle.jreport.specs.Notes.{noted}
 use Rattle.jreport.specs.declared.faults.ProgramFault.{ProgramFault}
 use Rattle.jreport.specs.declared.faults.ProgramFault.TheVariants as program
 
@@ -162,3 +163,7 @@ WritesImage held page e size blocks output base text old new before now (Err pro
     (lines : List Line) × (accepted : ℕ) × (places : List Place) × IsRunOn held page e size blocks base text lines accepted places None
     × PutsPart old new (accepted_line (resume_address e size blocks base) accepted places) × (now ≡ next_count before)
 WritesImage held page e size blocks output base text old new before now (Err fault) = IsWriteFault held page e size blocks output base text fault × (new ≡ old) × (now ≡ before)
+
+-- a base has so many findings of which a reader of files is told
+abbrev pub IsNotedIn : Endian → ℕ → List ℕ → ℕ → Type 0
+IsNotedIn e size base n = (m : Mount) × Answers e size base (Ok m) × (n ≡ noted m)

@@ -4,7 +4,7 @@ ghost use Rattle.jmount.specs.Mounts.{IsMountOf};
 ghost use Rattle.jlisting.specs.Listing.{lines_of};
 ghost use Rattle.jlog.specs.Resuming.{resumes_by};
 ghost use Rattle.jffs2_image.specs.Host.{AreOf, AreRead, Blames, BlamesMaker, IsHandedBack, IsMadeUntil, IsMakeFault, IsReadFault, Leaves, MakesFile, RunsFiles};
-ghost use Rattle.jffs2_image.specs.Writes.{GivesPart, HoldsCut, IsMade, IsNotGoneOn, IsNotMade, IsPartUnread, IsPut, IsUnreadFile, WritesImage};
+ghost use Rattle.jffs2_image.specs.Writes.{GivesPart, HoldsCut, IsMade, IsNotGoneOn, IsNotMade, IsNotedIn, IsPartUnread, IsPut, IsUnreadFile, WritesImage};
 
 use crate::host::{FileFault, Loader, MakeFault, Maker};
 use crate::output::Output;
@@ -15,7 +15,7 @@ use jlisting::{Line, listing};
 use jlog::{RunReport, SessionFault, page_fits, resume_at};
 use jmount::{Mounted, mount};
 use jnode::Order;
-use jreport::ProgramFault;
+use jreport::{ProgramFault, noted};
 use jscan::GREATEST_IMAGE;
 use jsteps::Op;
 use std::alloc::{AllocError, Global};
@@ -158,7 +158,8 @@ fn make_image<'a, E: Order, M: Maker>(
     }
 }
 
-/// Writes an image: the operations of a listing's lines, on a base. What they did is told in a line.
+/// Writes an image: the operations of a listing's lines, on a base. What they did is told in a line. Answers how many findings
+/// of the base to note.
 fn write_lines<'a, 'p, 'b: 'p, E: Order, M: Maker, T: Sink>(
     alloc: Global,
     maker: &mut M,
@@ -167,13 +168,14 @@ fn write_lines<'a, 'p, 'b: 'p, E: Order, M: Maker, T: Sink>(
     lines: Vec<Line<'b>>,
     parts: &'p Parts<'_>,
     sink: &mut T,
-) -> Result<(), ProgramFault<'a>>
+) -> Result<u64, ProgramFault<'a>>
     ensures writes { (text : List ℕ) → lines_of text ≡ Ok lines.entry.items
         → WritesImage (M.held maker.old, M.held maker.new) target.entry.page E.order target.entry.options.geometry.block target.entry.blocks target.entry.output.now base.now text
         (T.taken sink.old) (T.taken sink.new) (T.failures sink.old) (T.failures sink.new) result }
     ensures files { (told : List ℕ → Option (List ℕ)) → (text : List ℕ) → lines_of text ≡ Ok lines.entry.items → AreRead told lines.entry.items parts.entry.now
         → RunsFiles told (M.held maker.old, M.held maker.new) target.entry.page E.order target.entry.options.geometry.block target.entry.blocks base.now text (T.taken sink.old) (T.taken sink.new) result }
     ensures maker { BlamesMaker (maker.new ≡ maker.old) (MakesFile target.entry.output.now (M.names maker.old) (M.names maker.new)) (M.failures maker.old) (M.failures maker.new) result }
+    ensures noted { IfOk result (IsNotedIn E.order target.entry.options.geometry.block base.now) }
 {
     let numbers = numbers_of(alloc, &lines)?;
     let ops = operations(alloc, lines, parts)?;
@@ -185,11 +187,11 @@ fn write_lines<'a, 'p, 'b: 'p, E: Order, M: Maker, T: Sink>(
         return Err(ProgramFault::Session { fault, line });
     }
     put_accepted(from, report.accepted, &report.places, sink)?;
-    Ok(())
+    Ok(noted(&mounted))
 }
 
 /// Writes an image: the operations of a listing's text, on a base. What they did is told in a line. The file is made only
-/// after all was judged that can be before a byte is written.
+/// after all was judged that can be before a byte is written. Answers how many findings of the base to note.
 pub fn write_image<'a, E: Order, L: Loader, M: Maker, T: Sink>(
     alloc: Global,
     loader: &mut L,
@@ -198,13 +200,14 @@ pub fn write_image<'a, E: Order, L: Loader, M: Maker, T: Sink>(
     base: &[u8],
     text: &'a [u8],
     sink: &mut T,
-) -> Result<(), ProgramFault<'a>>
+) -> Result<u64, ProgramFault<'a>>
     ensures writes { WritesImage (M.held maker.old, M.held maker.new) target.entry.page E.order target.entry.options.geometry.block target.entry.blocks target.entry.output.now base.now text.now
         (T.taken sink.old) (T.taken sink.new) (T.failures sink.old) (T.failures sink.new) result }
     // Each file that a line names was read: its operation has the bytes that it has on the host.
     ensures files { RunsFiles (L.told loader.old) (M.held maker.old, M.held maker.new) target.entry.page E.order target.entry.options.geometry.block target.entry.blocks base.now text.now (T.taken sink.old) (T.taken sink.new) result }
     // Files are blamed only where they failed, and the image's is made only after all else was judged.
     ensures host { Blames (maker.new ≡ maker.old) (MakesFile target.entry.output.now (M.names maker.old) (M.names maker.new)) (L.failures loader.old) (L.failures loader.new) (M.failures maker.old) (M.failures maker.new) result }
+    ensures noted { IfOk result (IsNotedIn E.order target.entry.options.geometry.block base.now) }
 {
     let lines = listing(alloc, text)?;
     let parts = load_parts(alloc, loader, &lines)?;
