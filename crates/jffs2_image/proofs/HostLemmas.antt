@@ -5,6 +5,7 @@ use Rattle.std.specs.Option.{option_map_or}
 use Rattle.std.specs.Result.{IsErrAnd}
 use Rattle.flashbase.specs.declared.source.LoadFault.TheVariants as load
 use Rattle.jnode.specs.declared.order.Endian.{Endian}
+use Rattle.jscan.specs.Image.{greatest_image}
 use Rattle.jmount.specs.Mount.{Mount}
 use Rattle.jsteps.specs.declared.op.Op.{Op}
 use Rattle.jlisting.specs.Listing.{file_of, lines_of}
@@ -28,7 +29,7 @@ use Rattle.jbuild.specs.Parts.{part_contents, read_of}
 use Rattle.jbuild.specs.declared.parts.Parts.{Parts}
 use Rattle.jreport.specs.declared.faults.ProgramFault.{ProgramFault}
 use Rattle.jreport.specs.declared.faults.ProgramFault.TheVariants as program
-use Rattle.jffs2_image.specs.Host.{AreOf, AreRead, Blames, BlamesMaker, HaveBytes, IsCutShort, IsHandedBack, IsMadeUntil, IsMakeFault, IsReadFault, Leaves, RunsFiles}
+use Rattle.jffs2_image.specs.Host.{AreLoaded, AreOf, AreRead, Blames, BlamesMaker, HaveBytes, IsCutShort, IsHandedBack, IsMadeUntil, IsMakeFault, IsReadFault, Leaves, RunsFiles}
 use Rattle.jffs2_image.specs.Writes.{GivesPart, Held, HoldsCut, HoldsPart, IsBehind, IsHanded, IsMade, IsNotMade, IsPartUnread, IsUnreadFile}
 
 -- ---- the file that is made
@@ -169,17 +170,19 @@ fault_blame T u v rb mid rn mb mn f (Err other) is same w =
 -- the files of the first n lines were read
 pub record IsReading (told : List ℕ → Option (List ℕ)) (lines : List Line) (n : ℕ) (parts : Parts) : Type 0 where
   pub own : (name bytes : List ℕ) → read_of parts name ≡ Some bytes → AreOf (told name) bytes
+  pub within : (name bytes : List ℕ) → read_of parts name ≡ Some bytes → length bytes ≤ greatest_image
   pub each : (k : ℕ) (x : Line) (name : List ℕ) → k < n → slice_index_or lines k x ≡ x → file_of x.action ≡ Some name → IsTrue (is_some (read_of parts name))
 
-got_of : (told : Option (List ℕ)) (o : Option (List ℕ)) → IsTrue (is_some o) → ((bytes : List ℕ) → o ≡ Some bytes → AreOf told bytes) → AreOf told (option_map_or (λ bytes. bytes) o [])
-got_of told (Some bytes) is own = own bytes refl
-got_of told None is own = cc
+got_of : (told : Option (List ℕ)) (o : Option (List ℕ)) → IsTrue (is_some o) → ((bytes : List ℕ) → o ≡ Some bytes → AreOf told bytes)
+    → ((bytes : List ℕ) → o ≡ Some bytes → length bytes ≤ greatest_image) → AreLoaded told (option_map_or (λ bytes. bytes) o [])
+got_of told (Some bytes) is own within = (own bytes refl, within bytes refl)
+got_of told None is own within = cc
 
 -- all
 pub all_read : (told : List ℕ → Option (List ℕ)) (lines : List Line) (n : ℕ) (parts : Parts) → IsReading told lines n parts → length lines ≤ n → AreRead told lines parts
 all_read told lines n parts was all = λ name named.
     let is = was.each named.0 named.1 name (let below = named.2 in omega arith) named.3 named.4 in
-    (is, got_of (told name) (read_of parts name) is (was.own name))
+    (is, got_of (told name) (read_of parts name) is (was.own name) (was.within name))
 
 -- the line tells the length of what went out for them
 tells_on_base : (held : Held) (page : Page) (e : Endian) (size blocks : ℕ) (base : List ℕ) (ops : List Op) (m : Mount) (accepted : ℕ) (places : List Place) → m.image ≡ base

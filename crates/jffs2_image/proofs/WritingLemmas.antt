@@ -27,7 +27,7 @@ use Rattle.jscan.specs.Image.{is_block_size}
 use Rattle.jscan.specs.declared.geometry.ScanFault.TheVariants as scan
 use Rattle.jcommand.specs.Parsed.{Parsed, ScanParsed, CheckParsed, ListParsed, CatParsed, BuildParsed, AppendParsed}
 use Rattle.jcommand.specs.declared.parsed.Options.{Options}
-use Rattle.jffs2_image.specs.Host.{AreOf, RunsFiles}
+use Rattle.jffs2_image.specs.Host.{AreLoaded, RunsFiles}
 use Rattle.jffs2_image.specs.Runs.{Meets, RunsListed}
 use Rattle.jffs2_image.specs.Writes.{Held, IsHanded, IsMade, IsNotMade, IsNotedIn, IsRunOn, IsSessionFault, WritesImage}
 
@@ -101,14 +101,14 @@ no_scan held page e size blocks output base text old new before now answer w is 
 -- What a listing of these bytes comes to is what that of a name does, whose bytes these are; the host tells the same of its files
 -- as when they were not read yet.
 pub listed : (told later : List ℕ → Option (List ℕ)) (held : Held) (page : Page) (e : Endian) (size blocks : ℕ) (listing output base text : List ℕ) (old new : Option (List ℕ)) (before now : ℕ) (answer : Result ℕ ProgramFault)
-    → ((name : List ℕ) → later name ≡ told name) → AreOf (told listing) text
+    → ((name : List ℕ) → later name ≡ told name) → AreLoaded (told listing) text
     → WritesImage {T = ℕ} held page e size blocks output base text old new before now answer → RunsFiles {T = ℕ} later held page e size blocks base text old new answer
     → RunsListed told held page e size blocks listing output base old new before now answer
 listed told later held page e size blocks listing output base text old new before now answer same is w files =
     (text, is, w, subst (λ (t : List ℕ → Option (List ℕ)). RunsFiles {T = ℕ} t held page e size blocks base text old new answer) (fun_ext same) files)
 
 pub listed_fault : (told later : List ℕ → Option (List ℕ)) (held : Held) (page : Page) (e : Endian) (size blocks : ℕ) (listing output base text : List ℕ) (old new : Option (List ℕ)) (before now : ℕ) (f : ProgramFault) (answer : Result ℕ ProgramFault)
-    → IsErrAnd answer (λ is. is ≡ f) → ((name : List ℕ) → later name ≡ told name) → AreOf (told listing) text
+    → IsErrAnd answer (λ is. is ≡ f) → ((name : List ℕ) → later name ≡ told name) → AreLoaded (told listing) text
     → WritesImage {T = ℕ} held page e size blocks output base text old new before now (Err f) → RunsFiles {T = ℕ} later held page e size blocks base text old new (Err f)
     → RunsListed told held page e size blocks listing output base old new before now answer
 listed_fault told later held page e size blocks listing output base text old new before now f (Ok x) fault same is w files = absurd fault
@@ -130,7 +130,7 @@ builds told held page e options blocks listing output old new before now answer 
 }
 
 pub appends : (told : List ℕ → Option (List ℕ)) (held : Held) (page : Page) (e : Endian) (options : Options) (blocks : ℕ) (name listing output base : List ℕ) (old new : Option (List ℕ)) (before now : ℕ) (answer : Result ℕ ProgramFault)
-    → AreOf (told name) base → RunsListed told held page e options.geometry.block blocks listing output base old new before now answer
+    → AreLoaded (told name) base → RunsListed told held page e options.geometry.block blocks listing output base old new before now answer
     → IfOk answer (IsNotedIn e options.geometry.block base) → Meets told held e (AppendParsed options blocks page name listing output) old new before now answer
 appends told held page e options blocks name listing output base old new before now answer is runs noted = record {
   block_size = not_scanned told held page e options.geometry.block blocks listing output base old new before now answer runs;

@@ -1,8 +1,9 @@
 -- What a command that writes an image does with the host: the files that it reads, and the one that it makes.
-use Rattle.std.specs.Prelude.{◌≡◌, ◌⊎◌, ◌++◌, ℕ, List, [], ◌∷◌, Option, Some, None, Result, Ok, Err, IfSome, IsTrue, is_some, option_map, slice_get}
+use Rattle.std.specs.Prelude.{◌≡◌, ◌⊎◌, ◌++◌, ◌≤◌, ℕ, List, [], ◌∷◌, Option, Some, None, Result, Ok, Err, IfSome, IsTrue, is_some, length, option_map, slice_get}
 use Rattle.std.specs.Io.KnownBytes.{Appends}
 use Rattle.flashbase.specs.Device.{PutsPart, next_count}
 use Rattle.flashbase.specs.declared.source.LoadFault.TheVariants as load
+use Rattle.jscan.specs.Image.{greatest_image}
 use Rattle.jlisting.specs.Listing.{lines_of}
 use Rattle.jlisting.specs.declared.line.Line.{Line}
 use Rattle.jsteps.specs.declared.page.Page.{Page}
@@ -54,13 +55,17 @@ GivesFile told rest = IfSome told (λ bytes. rest ≡ Some bytes)
 abbrev pub AreOf : Option (List ℕ) → List ℕ → Type 0
 AreOf told bytes = IfSome told (λ known. bytes ≡ known)
 
+-- and they are no more than the greatest image has
+abbrev pub AreLoaded : Option (List ℕ) → List ℕ → Type 0
+AreLoaded told bytes = AreOf told bytes × (length bytes ≤ greatest_image)
+
 -- Each file that a line names was read, and has the bytes that it has on the host.
 abbrev pub AreRead : (List ℕ → Option (List ℕ)) → List Line → Parts → Type 0
-AreRead told lines parts = (name : List ℕ) → IsNamedByLine lines name → IsTrue (is_some (read_of parts name)) × AreOf (told name) (part_contents parts name)
+AreRead told lines parts = (name : List ℕ) → IsNamedByLine lines name → IsTrue (is_some (read_of parts name)) × AreLoaded (told name) (part_contents parts name)
 
 -- files have those bytes where lines name them
 abbrev pub HaveBytes : (List ℕ → Option (List ℕ)) → List Line → (List ℕ → List ℕ) → Type 0
-HaveBytes told lines files = (name : List ℕ) → IsNamedByLine lines name → AreOf (told name) (files name)
+HaveBytes told lines files = (name : List ℕ) → IsNamedByLine lines name → AreLoaded (told name) (files name)
 
 -- The file that was made has a beginning of what goes out for the base and the operations of all lines, with the bytes of the
 -- host's files.

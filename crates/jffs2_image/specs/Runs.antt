@@ -22,7 +22,7 @@ use Rattle.jcommand.specs.Status.{outcome_of}
 use Rattle.jcommand.specs.declared.outcome.Outcome.{Outcome}
 use Rattle.jcommand.specs.declared.outcome.Outcome.TheVariants as outcome
 use Rattle.jsteps.specs.declared.page.Page.{Page}
-use Rattle.jffs2_image.specs.Host.{AreOf, HasFailed, RunsFiles}
+use Rattle.jffs2_image.specs.Host.{AreLoaded, AreOf, HasFailed, RunsFiles}
 use Rattle.jffs2_image.specs.Writes.{Held, IsBehind, IsNotedIn, IsUnreadFile, WritesImage}
 use Rattle.jffs2_image.specs.declared.program.Success.{Success}
 use Rattle.jffs2_image.specs.declared.program.Success.TheVariants as success
@@ -55,11 +55,11 @@ IsImageOf told (CheckParsed options shape name) image = AreOf (told name) image
 IsImageOf told (ListParsed options name) image = AreOf (told name) image
 IsImageOf told (CatParsed options name word) image = AreOf (told name) image
 IsImageOf told (BuildParsed options blocks page listing output) image = image ≡ []
-IsImageOf told (AppendParsed options blocks page name listing output) image = AreOf (told name) image
+IsImageOf told (AppendParsed options blocks page name listing output) image = AreLoaded (told name) image
 
 -- the listing of a name is run on an image, with the bytes of the files that its lines name; each where the host tells its bytes
 abbrev pub RunsListed : (List ℕ → Option (List ℕ)) → Held → Page → Endian → ℕ → ℕ → List ℕ → List ℕ → List ℕ → Option (List ℕ) → Option (List ℕ) → ℕ → ℕ → Result ℕ ProgramFault → Type 0
-RunsListed told held page e size blocks listing output image old new before now answer = (text : List ℕ) × AreOf (told listing) text
+RunsListed told held page e size blocks listing output image old new before now answer = (text : List ℕ) × AreLoaded (told listing) text
     × WritesImage held page e size blocks output image text old new before now answer × RunsFiles told held page e size blocks image text old new answer
 
 -- What is put of an image, or why no more of it is. The answer of `build` is no finding, and that of `append` the number of

@@ -1,6 +1,7 @@
 //! Writing an image to a file of the host: a listing's operations on a base.
-ghost use Rattle.std.specs.Prelude.{◌≡◌, ℕ, List, Option, Ok, IfOk, IfErr, IfSome, OnOk, map, option_map, slice_get};
+ghost use Rattle.std.specs.Prelude.{◌≡◌, ◌≤◌, ℕ, List, Option, Ok, IfOk, IfErr, IfSome, OnOk, length, map, option_map, slice_get};
 ghost use Rattle.jmount.specs.Mounts.{IsMountOf};
+ghost use Rattle.jscan.specs.Image.{greatest_image};
 ghost use Rattle.jlisting.specs.Listing.{lines_of};
 ghost use Rattle.jlog.specs.Resuming.{resumes_by};
 ghost use Rattle.jffs2_image.specs.Host.{AreOf, AreRead, Blames, BlamesMaker, IsHandedBack, IsMadeUntil, IsMakeFault, IsReadFault, Leaves, MakesFile, RunsFiles};
@@ -24,6 +25,7 @@ use std::alloc::{AllocError, Global};
 pub fn load_file<'a, L: Loader>(loader: &mut L, name: &'a str) -> Result<Vec<u8>, ProgramFault<'a>>
     ensures unread { IfErr result (λ fault. IsUnreadFile name.entry.now (L.told loader.old name.entry.now) fault) }
     ensures bytes { IfOk result (λ bytes. AreOf (L.told loader.old name.entry.now) bytes.items) }
+    ensures within { IfOk result (λ bytes. length bytes.items ≤ greatest_image) }
     ensures read { OnOk result (L.failures loader.new ≡ L.failures loader.old) }
     ensures fault { IfErr result (λ fault. IsReadFault (L.failures loader.old) (L.failures loader.new) fault) }
     ensures stays { (other : List ℕ) → L.told loader.new other ≡ L.told loader.old other }
