@@ -1,6 +1,6 @@
 -- Who is to blame for a fault, and which files were read.
 use Rattle.std.proofs.Common.{◌≡◌, ℕ, Bool, true, false, ◌<◌, List, Option, Some, None, Result, Ok, Err, [], inl, inr, ◌≤◌, take, refl, sym, ap, subst, ◌∙◌, length, arith, take_all}
-use Rattle.std.specs.Prelude.{◌&&◌, if◌then◌else◌, IsTrue, option_map, slice_get, is_some, slice_index_or}
+use Rattle.std.specs.Prelude.{◌≢◌, ◌&&◌, if◌then◌else◌, IsTrue, option_map, slice_get, is_some, slice_index_or}
 use Rattle.std.specs.Option.{option_map_or}
 use Rattle.std.specs.Result.{IsErrAnd}
 use Rattle.flashbase.specs.declared.source.LoadFault.TheVariants as load
@@ -12,7 +12,8 @@ use Rattle.jlisting.specs.Listing.{file_of, lines_of}
 use Rattle.jlisting.specs.declared.line.Line.{Line}
 use Rattle.std.specs.Io.KnownBytes.{Appends, Keeps, append_known}
 use Rattle.std.proofs.lemmas.List.{take_at}
-use Rattle.flashbase.specs.Device.{PutsPart}
+use Rattle.std.proofs.lemmas.Option.{slice_get-map}
+use Rattle.flashbase.specs.Device.{PutsPart, next_count}
 use Rattle.jmount.specs.Mounts.{Answers}
 use Rattle.jsteps.specs.declared.page.Page.{Page}
 use Rattle.jlog.specs.Headline.{is_flash_of, resume_address}
@@ -24,13 +25,13 @@ use Rattle.jbuild.specs.Length.{TellsLength}
 use Rattle.jbuild.proofs.LengthLemmas.{goes_on_flash, line_tells_length}
 use Rattle.jbuild.specs.Accepted.{accepted_line}
 use Rattle.jbuild.specs.Emitting.{IsEmitted, IsNotEmitted, front_before}
-use Rattle.jbuild.specs.Operations.{ops_in}
+use Rattle.jbuild.specs.Operations.{op_in, ops_in}
 use Rattle.jbuild.specs.Parts.{part_contents, read_of}
 use Rattle.jbuild.specs.declared.parts.Parts.{Parts}
 use Rattle.jreport.specs.declared.faults.ProgramFault.{ProgramFault}
 use Rattle.jreport.specs.declared.faults.ProgramFault.TheVariants as program
-use Rattle.jffs2_image.specs.Host.{AreLoaded, AreOf, AreRead, Blames, BlamesMaker, HaveBytes, IsCutShort, IsHandedBack, IsMadeUntil, IsMakeFault, IsReadFault, Leaves, RunsFiles}
-use Rattle.jffs2_image.specs.Writes.{GivesPart, Held, HoldsCut, HoldsPart, IsBehind, IsHanded, IsMade, IsNotMade, IsPartUnread, IsUnreadFile}
+use Rattle.jffs2_image.specs.Host.{AreLoaded, AreOf, AreRead, Blames, BlamesMaker, HasFailed, HaveBytes, IsCutShort, IsHandedBack, IsMadeUntil, IsMakeFault, IsReadFault, Leaves, RunsFiles}
+use Rattle.jffs2_image.specs.Writes.{GivesCut, GivesPart, Held, HoldsCut, HoldsFront, HoldsPart, IsBehind, IsGivenOn, IsHanded, IsMade, IsNotMade, IsPartUnread, IsPut, IsUnreadFile}
 
 -- ---- the file that is made
 
@@ -73,7 +74,7 @@ pub run_fault : (held : Held) (page : Page) (e : Endian) (size blocks : ℕ) (m 
     → IsMade held page e size blocks m ops accepted places (Some f) → IsMadeUntil before now (Some f) → v → BlamesMaker {T = ℕ} u v before now (Err (program.Session f line))
 run_fault held page e size blocks m ops accepted places u v before now session.ReadOnly line made until left = absurd (made.put.emitted.runs.5.stop)
 run_fault held page e size blocks m ops accepted places u v before now session.Geometry line made until left = absurd (made.put.emitted.runs.5.stop)
-run_fault held page e size blocks m ops accepted places u v before now session.Sink line made until left = (inl until, left)
+run_fault held page e size blocks m ops accepted places u v before now session.Sink line made until left = (until, left)
 run_fault held page e size blocks m ops accepted places u v before now (session.Refused f) line made until left = left
 run_fault held page e size blocks m ops accepted places u v before now (session.Full a b) line made until left = left
 run_fault held page e size blocks m ops accepted places u v before now session.OutOfMemory line made until left = left
@@ -223,46 +224,27 @@ files_in_part told held page e size blocks base text lines parts m accepted plac
       subst (λ (at : ℕ). PutsPart old new (accepted_line at accepted places)) is put,
     )
 
--- what was kept is a beginning
-behind_kept : (taken given : Option (List ℕ)) → Keeps taken given → IsBehind given taken
-behind_kept None given kept = tt
-behind_kept (Some xs) None kept = absurd kept
-behind_kept (Some xs) (Some ys) kept = (length xs, ap Some (kept ∙ sym (take_all (length xs) xs (omega arith))))
-
--- a file that has all that was put out has a beginning of it
-made_in_part : (held : Held) (page : Page) (e : Endian) (size blocks : ℕ) (m : Mount) (ops : List Op) (accepted : ℕ) (places : List Place) (stopped : Option SessionFault)
-    → IsMade held page e size blocks m ops accepted places stopped → HoldsPart held page e size blocks m.image ops
-made_in_part held page e size blocks m ops accepted places stopped made = (
-  made.old,
-  made.given,
-  (
-    made.put.taken,
-    inr (accepted, places, stopped, made.before, made.now, made.put.emitted),
-    behind_kept made.put.taken made.given made.put.finished,
-  ),
-  made.handed,
-)
-
 cut_short : (told : List ℕ → Option (List ℕ)) (held : Held) (page : Page) (e : Endian) (size blocks : ℕ) (base text : List ℕ) (lines : List Line) (parts : Parts) (m : Mount)
     → m.image ≡ base → AreRead told lines parts → lines_of text ≡ Ok lines → HoldsPart held page e size blocks m.image (ops_in (part_contents parts) lines)
     → IsCutShort told held page e size blocks base text
 cut_short told held page e size blocks base text lines parts m same are read holds =
     (lines, part_contents parts, read, have_bytes told lines parts are, subst (λ (image : List ℕ). HoldsPart held page e size blocks image (ops_in (part_contents parts) lines)) same holds)
 
+-- an operation that stopped a run is that of a line
+no_line : (files : List ℕ → List ℕ) (lines : List Line) (n : ℕ) (o : Op) → slice_get (ops_in files lines) n ≡ Some o → None ≡ option_map (λ l. l.number) (slice_get lines n) → ⊥
+no_line files lines n o at none = by (slice_get lines n) (sym (slice_get-map (op_in files) lines n) ∙ at) none
+  where
+    by : (l : Option Line) → option_map (op_in files) l ≡ Some o → None ≡ option_map (λ l. l.number) l → ⊥
+    by (Some l) at none = cc
+    by None at none = cc
+
 pub files_until : (told : List ℕ → Option (List ℕ)) (held : Held) (page : Page) (e : Endian) (size blocks : ℕ) (base text : List ℕ) (lines : List Line) (parts : Parts) (m : Mount) (accepted : ℕ) (places : List Place)
-    (old new : Option (List ℕ)) (f : SessionFault) (line : Option ℕ) → line ≡ option_map (λ l. l.number) (slice_get lines accepted) → m.image ≡ base → AreRead told lines parts → lines_of text ≡ Ok lines
+    (old new : Option (List ℕ)) (f : SessionFault) (line : Option ℕ) → line ≡ option_map (λ l. l.number) (slice_get lines accepted) → AreRead told lines parts → lines_of text ≡ Ok lines
     → Answers e size base (Ok m) → IsMade held page e size blocks m (ops_in (part_contents parts) lines) accepted places (Some f)
     → RunsFiles {T = ℕ} told held page e size blocks base text old new (Err (program.Session f line))
-files_until told held page e size blocks base text lines parts m accepted places old new session.Sink None is same are read mounts made =
-    cut_short told held page e size blocks base text lines parts m same are read (made_in_part held page e size blocks m (ops_in (part_contents parts) lines) accepted places (Some session.Sink) made)
-files_until told held page e size blocks base text lines parts m accepted places old new session.OutOfMemory None is same are read mounts made =
-    cut_short told held page e size blocks base text lines parts m same are read (made_in_part held page e size blocks m (ops_in (part_contents parts) lines) accepted places (Some session.OutOfMemory) made)
-files_until told held page e size blocks base text lines parts m accepted places old new session.ReadOnly None is same are read mounts made = tt
-files_until told held page e size blocks base text lines parts m accepted places old new session.Geometry None is same are read mounts made = tt
-files_until told held page e size blocks base text lines parts m accepted places old new (session.Refused f) None is same are read mounts made = tt
-files_until told held page e size blocks base text lines parts m accepted places old new (session.Full a b) None is same are read mounts made = tt
-files_until told held page e size blocks base text lines parts m accepted places old new session.Broken None is same are read mounts made = tt
-files_until told held page e size blocks base text lines parts m accepted places old new f (Some n) is same are read mounts made =
+files_until told held page e size blocks base text lines parts m accepted places old new f None is are read mounts made =
+    absurd (no_line (part_contents parts) lines accepted made.put.emitted.runs.4 made.put.emitted.runs.5.next is)
+files_until told held page e size blocks base text lines parts m accepted places old new f (Some n) is are read mounts made =
     (lines, accepted, places, record { mount = m; files = part_contents parts; read = read; mounts = mounts; made = made }, have_bytes told lines parts are, sym is)
 
 -- no fault of making is one of a line
@@ -281,7 +263,7 @@ files_not_made told held page e size blocks output base text lines parts m old n
     by (program.File name) not cut = cut
     by (program.Listing k) not cut = tt
     by (program.Session session.Sink None) not cut = cut_short told held page e size blocks base text lines parts m same are read cut
-    by (program.Session session.OutOfMemory None) not cut = cut_short told held page e size blocks base text lines parts m same are read cut
+    by (program.Session session.OutOfMemory None) not cut = (lines, read, subst (λ (image : List ℕ). HoldsFront held e size blocks image) same cut)
     by (program.Session session.ReadOnly None) not cut = tt
     by (program.Session session.Geometry None) not cut = tt
     by (program.Session (session.Refused f) None) not cut = tt
@@ -308,18 +290,52 @@ same_behind given None taken kept part = tt
 same_behind given (Some xs) None kept part = absurd kept
 same_behind given (Some xs) (Some ys) kept part = (part.0, part.1 ∙ ap (λ (l : List ℕ). Some (take part.0 l)) kept)
 
+-- all of it
+pub given_on : (stopped : Option SessionFault) (taken given : Option (List ℕ)) (before now : ℕ) → Keeps taken given → now ≡ before → IsGivenOn stopped taken given before now
+given_on None taken given before now kept same = (kept, same)
+given_on (Some session.Sink) taken given before now kept same = inl (kept, same)
+given_on (Some session.OutOfMemory) taken given before now kept same = (kept, same)
+given_on (Some session.ReadOnly) taken given before now kept same = (kept, same)
+given_on (Some session.Geometry) taken given before now kept same = (kept, same)
+given_on (Some (session.Refused f)) taken given before now kept same = (kept, same)
+given_on (Some (session.Full a b)) taken given before now kept same = (kept, same)
+given_on (Some session.Broken) taken given before now kept same = (kept, same)
+
+-- the output failed after it had stopped a run
+pub given_on_part : (stopped : Option SessionFault) (mid taken given : Option (List ℕ)) (before now : ℕ) → stopped ≡ Some session.Sink → Keeps mid taken → IsBehind given taken → now ≡ next_count before
+    → IsGivenOn stopped mid given before now
+given_on_part stopped mid taken given before now is kept part same =
+    subst (λ (s : Option SessionFault). IsGivenOn s mid given before now) (sym is) (inr (same_behind given mid taken kept part, same))
+
+-- how often it failed
+pub put_until : (page : Page) (e : Endian) (size blocks : ℕ) (m : Mount) (ops : List Op) (accepted : ℕ) (places : List Place) (stopped : Option SessionFault) (old given : Option (List ℕ)) (before now : ℕ)
+    → IsPut page e size blocks m ops accepted places stopped old given before now → IsMadeUntil before now stopped
+put_until page e size blocks m ops accepted places None old given before now put = put.given_on.1 ∙ put.emitted.runs.3
+put_until page e size blocks m ops accepted places (Some session.Sink) old given before now put = by put.given_on
+  where
+    once = put.emitted.runs.5.stop.2
+    by : IsGivenOn (Some session.Sink) put.taken given put.count now → HasFailed before now
+    by (inl is) = inl (is.1 ∙ once)
+    by (inr is) = inr (is.1 ∙ ap next_count once)
+put_until page e size blocks m ops accepted places (Some session.OutOfMemory) old given before now put = tt
+put_until page e size blocks m ops accepted places (Some session.ReadOnly) old given before now put = tt
+put_until page e size blocks m ops accepted places (Some session.Geometry) old given before now put = tt
+put_until page e size blocks m ops accepted places (Some (session.Refused f)) old given before now put = tt
+put_until page e size blocks m ops accepted places (Some (session.Full a b)) old given before now put = tt
+put_until page e size blocks m ops accepted places (Some session.Broken) old given before now put = tt
+
 -- where operations were run
 pub part_of_run : (page : Page) (e : Endian) (size blocks : ℕ) (base : List ℕ) (ops : List Op) (accepted : ℕ) (places : List Place) (stopped : Option SessionFault) (old mid taken given : Option (List ℕ)) (before now : ℕ)
-    → IsEmitted page e size blocks base ops accepted places stopped old mid before now → Keeps mid taken → IsBehind given taken → GivesPart page e size blocks base ops old given
-part_of_run page e size blocks base ops accepted places stopped old mid taken given before now emitted kept part =
-    (mid, inr (accepted, places, stopped, before, now, emitted), same_behind given mid taken kept part)
+    → stopped ≢ Some session.Sink → IsEmitted page e size blocks base ops accepted places stopped old mid before now → Keeps mid taken → IsBehind given taken → GivesPart page e size blocks base ops old given
+part_of_run page e size blocks base ops accepted places stopped old mid taken given before now other emitted kept part =
+    (mid, inr (accepted, places, stopped, before, now, other, emitted), same_behind given mid taken kept part)
 
 -- and where none was
 pub part_of_front : (page : Page) (e : Endian) (size blocks : ℕ) (m : Mount) (ops : List Op) (old mid taken given : Option (List ℕ)) (before now : ℕ) (f : SessionFault)
-    → IsNotEmitted page e size blocks m old before f (Some (mid, now)) → Keeps mid taken → IsBehind given taken → GivesPart page e size blocks m.image ops old given
+    → IsNotEmitted page e size blocks m old before f (Some (mid, now)) → Keeps mid taken → IsBehind given taken → GivesCut f page e size blocks m.image ops old given
 part_of_front page e size blocks m ops old mid taken given before now session.Sink not kept part = (mid, inl not.1, same_behind given mid taken kept part)
 part_of_front page e size blocks m ops old mid taken given before now session.OutOfMemory not kept part =
-    (mid, inl (part_all old mid (front_before e size blocks m.image) not.1), same_behind given mid taken kept part)
+    (mid, not.1, same_behind given mid taken kept part)
 part_of_front page e size blocks m ops old mid taken given before now session.ReadOnly not kept part = absurd not
 part_of_front page e size blocks m ops old mid taken given before now session.Geometry not kept part = absurd not
 part_of_front page e size blocks m ops old mid taken given before now (session.Refused f) not kept part = absurd not
@@ -328,7 +344,7 @@ part_of_front page e size blocks m ops old mid taken given before now session.Br
 
 -- it is what the file holds
 pub cut_part : (held : Held) (page : Page) (e : Endian) (size blocks : ℕ) (base : List ℕ) (ops : List Op) (old given : Option (List ℕ)) (f : SessionFault)
-    → GivesPart page e size blocks base ops old given → IsHanded held old given → HoldsCut held page e size blocks base ops (program.Session f None)
+    → GivesCut f page e size blocks base ops old given → IsHanded held old given → HoldsCut held page e size blocks base ops (program.Session f None)
 cut_part held page e size blocks base ops old given session.Sink part handed = (old, given, part, handed)
 cut_part held page e size blocks base ops old given session.OutOfMemory part handed = (old, given, part, handed)
 cut_part held page e size blocks base ops old given session.ReadOnly part handed = tt

@@ -22,7 +22,7 @@ use Rattle.jcommand.specs.declared.parsed.Request.{Request}
 use Rattle.jcommand.specs.declared.command_line.RequestFault.{RequestFault}
 use Rattle.jreport.specs.declared.faults.ProgramFault.{ProgramFault}
 use Rattle.jreport.specs.declared.faults.ProgramFault.TheVariants as program
-use Rattle.jffs2_image.specs.Writes.{Held, HoldsNothing, HoldsPart, IsNamedByLine, IsPartUnread, IsRunOn, IsTooLong}
+use Rattle.jffs2_image.specs.Writes.{Held, HoldsFront, HoldsNothing, HoldsPart, IsNamedByLine, IsPartUnread, IsRunOn, IsTooLong}
 use Rattle.jffs2_image.specs.declared.host.FileFault.{FileFault}
 use Rattle.jffs2_image.specs.declared.host.FileFault.TheVariants as file
 use Rattle.jffs2_image.specs.declared.host.MakeFault.{MakeFault}
@@ -74,9 +74,14 @@ IsCutShort told held page e size blocks base text =
     (lines : List Line) × (files : List ℕ → List ℕ) × (lines_of text ≡ Ok lines) × HaveBytes told lines files
     × HoldsPart held page e size blocks base (ops_in files lines)
 
+-- no operation was run: it has a beginning of the base's bytes up to where writing goes on, and nothing else
+abbrev pub IsCutBefore : Held → Endian → ℕ → ℕ → List ℕ → List ℕ → Type 0
+IsCutBefore held e size blocks base text = (lines : List Line) × (lines_of text ≡ Ok lines) × HoldsFront held e size blocks base
+
 -- The operations that were run have the bytes of the host's files: those of all lines, told in a line that has the length of
--- what went out for them, or in a beginning of it; or those up to the one that stopped them. Where no line tells of them, because
--- the file failed or memory ran out, a beginning of what goes out for them is in the file that was made; or it is empty, or there is none.
+-- what went out for them, or in a beginning of it; or those up to the one that stopped them. Where no line is told, because
+-- the file failed before or after them, a beginning of what goes out for them is in it; where memory ran out before them, a
+-- beginning of the base; or it is empty, or there is none.
 abbrev pub RunsFiles : {T : Type 0} → (List ℕ → Option (List ℕ)) → Held → Page → Endian → ℕ → ℕ → List ℕ → List ℕ → Option (List ℕ) → Option (List ℕ) → Result T ProgramFault → Type 0
 RunsFiles told held page e size blocks base text old new (Ok _) =
     (lines : List Line) × (accepted : ℕ) × (places : List Place) × (run : IsRunOn held page e size blocks base text lines accepted places None)
@@ -91,7 +96,7 @@ RunsFiles told held page e size blocks base text old new (Err (program.Session f
 RunsFiles told held page e size blocks base text old new (Err (program.Load load.TooLarge)) =
     (lines : List Line) × (lines_of text ≡ Ok lines) × IsPartUnread told lines (program.Load load.TooLarge)
 RunsFiles told held page e size blocks base text old new (Err (program.Session session.Sink None)) = IsCutShort told held page e size blocks base text
-RunsFiles told held page e size blocks base text old new (Err (program.Session session.OutOfMemory None)) = IsCutShort told held page e size blocks base text
+RunsFiles told held page e size blocks base text old new (Err (program.Session session.OutOfMemory None)) = IsCutBefore held e size blocks base text
 RunsFiles told held page e size blocks base text old new (Err program.OutOfMemory) = (held.1 ≡ held.0) ⊎ HoldsNothing held
 RunsFiles told held page e size blocks base text old new (Err (program.File name)) = held.1 ≡ held.0
 RunsFiles told held page e size blocks base text old new (Err _) = Unit {0}
@@ -134,7 +139,7 @@ IsHandedBack before _ back = Unit {0}
 
 -- why a run on a file that was made stopped: the file failed, or it did not
 abbrev pub IsMadeUntil : ℕ → ℕ → Option SessionFault → Type 0
-IsMadeUntil before now (Some session.Sink) = now ≡ next_count before
+IsMadeUntil before now (Some session.Sink) = HasFailed before now
 IsMadeUntil before now (Some fault) = Unit {0}
 IsMadeUntil before now None = now ≡ before
 

@@ -1,11 +1,11 @@
 //! Writing an image to a file of the host: a listing's operations on a base.
-ghost use Rattle.std.specs.Prelude.{◌≡◌, ◌≤◌, ℕ, List, Option, Ok, IfOk, IfErr, IfSome, OnOk, length, map, option_map, slice_get};
+ghost use Rattle.std.specs.Prelude.{◌≡◌, ◌≢◌, ◌≤◌, ℕ, List, Option, Some, IsTrue, IsFalse, Ok, IfOk, IfErr, IfSome, OnOk, length, map, option_map, slice_get};
 ghost use Rattle.jmount.specs.Mounts.{IsMountOf};
 ghost use Rattle.jscan.specs.Image.{greatest_image};
 ghost use Rattle.jlisting.specs.Listing.{lines_of};
 ghost use Rattle.jlog.specs.Resuming.{resumes_by};
 ghost use Rattle.jffs2_image.specs.Host.{AreOf, AreRead, Blames, BlamesMaker, IsHandedBack, IsMadeUntil, IsMakeFault, IsReadFault, Leaves, MakesFile, RunsFiles};
-ghost use Rattle.jffs2_image.specs.Writes.{GivesPart, HoldsCut, IsMade, IsNotGoneOn, IsNotMade, IsNotedIn, IsPartUnread, IsPut, IsUnreadFile, WritesImage};
+ghost use Rattle.jffs2_image.specs.Writes.{GivesCut, HoldsCut, IsMade, IsNotGoneOn, IsNotMade, IsNotedIn, IsPartUnread, IsPut, IsUnreadFile, WritesImage};
 
 use crate::host::{FileFault, Loader, MakeFault, Maker};
 use crate::output::Output;
@@ -85,8 +85,19 @@ fn resumed_from<E: Order>(mounted: &Mounted<'_>, target: Target<'_>) -> Result<u
     Ok(from)
 }
 
-/// Puts out a base and what operations on it make, to the last byte. Answers what was done. Where the output failed it is
-/// handed back.
+/// Whether the output stopped a run.
+fn is_of_output(stopped: Option<SessionFault>) -> bool
+    ensures output { IsTrue result → stopped ≡ Some SessionFault.Sink }
+    ensures other { IsFalse result → stopped ≢ Some SessionFault.Sink }
+{
+    match stopped {
+        Some(SessionFault::Sink) => true,
+        _ => false,
+    }
+}
+
+/// Puts out a base and what operations on it make, to the last byte. Answers what was done, also where the output failed at an
+/// operation. Where it failed before or after them it is handed back.
 fn put_image<E: Order, S: Output>(
     alloc: Global,
     mounted: &Mounted<'_>,
@@ -99,7 +110,7 @@ fn put_image<E: Order, S: Output>(
         (S.taken output) (S.given done.0) (S.failures output) (S.failures done.0)) }
     ensures fault { IfErr result (λ refused. IsNotGoneOn target.entry.page E.order target.entry.options.geometry.block target.entry.blocks mounted.now refused.0) }
     ensures part { IfErr result (λ refused. IfSome refused.1
-        (λ back. GivesPart target.entry.page E.order target.entry.options.geometry.block target.entry.blocks mounted.now.image ops.now (S.taken output) (S.given back))) }
+        (λ back. GivesCut refused.0 target.entry.page E.order target.entry.options.geometry.block target.entry.blocks mounted.now.image ops.now (S.taken output) (S.given back))) }
     ensures back { IfErr result (λ refused. IsHandedBack (S.failures output) refused.0 (option_map (λ back. S.failures back) refused.1)) }
 {
     match emit::<E, S>(
@@ -113,7 +124,13 @@ fn put_image<E: Order, S: Output>(
     ) {
         Ok((mut output, report)) => match output.finish() {
             Ok(()) => Ok((output, report)),
-            Err(_) => Err((SessionFault::Sink, Some(output))),
+            Err(_) => {
+                if is_of_output(report.stopped) {
+                    Ok((output, report))
+                } else {
+                    Err((SessionFault::Sink, Some(output)))
+                }
+            }
         },
         Err((fault, mut output)) => {
             if let Some(output) = &mut output {

@@ -1,6 +1,6 @@
 use Rattle.std.proofs.Common.{Option, IfSome, sym, subst, ◌∙◌, option_map}
 use Rattle.jbuild.specs.Emitting.{IsNotEmitted}
-use Rattle.jffs2_image.specs.Writes.{GivesPart}
+use Rattle.jffs2_image.specs.Writes.{GivesCut}
 use Rattle.jffs2_image.proofs.HostLemmas.{part_of_front, part_of_run}
 use Rattle.jffs2_image.proofs.writing.put_image.Goals.{in-Some, in_default}
 use Rattle.jffs2_image.proofs.writing.put_image.Goals as goal
@@ -16,7 +16,7 @@ returns-after-output-clause-part g c =
     let t = a.target in
     let size = t.options.geometry.block in
     let m = a.mounted.now in
-    let gives = λ (back : Option g.row.S.Denot). IfSome back (λ back. GivesPart t.page e size t.blocks m.image a.ops.now (g.S.Sink.taken a.output) (g.S.Output.given back)) in
+    let gives = λ (back : Option g.row.S.Denot). IfSome back (λ back. GivesCut c.in-Err.fault t.page e size t.blocks m.image a.ops.now (g.S.Sink.taken a.output) (g.S.Output.given back)) in
     elim c.match-output.branch [
       | in-Some w ↦
           let not = subst (λ (back : Option g.row.S.Denot). IsNotEmitted t.page e size t.blocks m (g.S.Sink.taken a.output) (g.S.Sink.failures a.output) c.in-Err.fault

@@ -185,7 +185,7 @@ returns-in-Some-clause-files g c = λ known text read are.
     subst (λ (o : List Op). IsMade (g.M.Maker.held a.maker.now, g.M.Maker.held c.make_image.new.maker) a.target.page e a.target.options.geometry.block a.target.blocks m o r.accepted r.places.items (Some c.in-Some.fault)) same
     (subst (λ s. IsMade (g.M.Maker.held a.maker.now, g.M.Maker.held c.make_image.new.maker) a.target.page e a.target.options.geometry.block a.target.blocks m c.deref-2.result.now r.accepted r.places.items s) stopped c.in_ok-report.ensures.made) in
     let shown = line ∙ (ap (λ (l : List ℕ). slice_get l r.accepted) numbers ∙ slice_get-map (λ l. l.number) a.lines.items r.accepted) in
-    files_until known _ a.target.page e a.target.options.geometry.block a.target.blocks a.base.now text a.lines.items a.parts.now m r.accepted r.places.items (g.T.Sink.taken a.sink.now) (g.T.Sink.taken a.sink.now) c.in-Some.fault _ shown image are read mounts made
+    files_until known _ a.target.page e a.target.options.geometry.block a.target.blocks a.base.now text a.lines.items a.parts.now m r.accepted r.places.items (g.T.Sink.taken a.sink.now) (g.T.Sink.taken a.sink.now) c.in-Some.fault _ shown are read mounts made
 
 pub returns-in_err-report-clause-files : goal.returns-in_err-report-clause-files
 returns-in_err-report-clause-files g c = λ known text read are.
