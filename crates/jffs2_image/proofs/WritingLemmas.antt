@@ -126,6 +126,7 @@ pub builds : (told : List ℕ → Option (List ℕ)) (held : Held) (page : Page)
     → Meets told held e (BuildParsed options blocks page listing output) old new before now answer
 builds told held page e options blocks listing output old new before now answer runs none = record {
   block_size = not_scanned told held page e options.geometry.block blocks listing output [] old new before now answer runs;
+  told_of = λ wrong. tt;
   put = inl ([], refl, (runs, none));
 }
 
@@ -134,6 +135,7 @@ pub appends : (told : List ℕ → Option (List ℕ)) (held : Held) (page : Page
     → IfOk answer (IsNotedIn e options.geometry.block base) → Meets told held e (AppendParsed options blocks page name listing output) old new before now answer
 appends told held page e options blocks name listing output base old new before now answer is runs noted = record {
   block_size = not_scanned told held page e options.geometry.block blocks listing output base old new before now answer runs;
+  told_of = λ wrong. tt;
   put = inl (base, is, (runs, noted));
 }
 
@@ -145,10 +147,10 @@ MakesNoFile _ = Unit {0}
 
 pub met_by_any : (told : List ℕ → Option (List ℕ)) (held later : Held) (e : Endian) (parsed : Parsed) (old new : Option (List ℕ)) (before now : ℕ) (answer : Result ℕ ProgramFault) → MakesNoFile parsed
     → Meets told held e parsed old new before now answer → Meets told later e parsed old new before now answer
-met_by_any told held later e (ScanParsed options image) old new before now answer none m = record { block_size = m.block_size; put = m.put }
-met_by_any told held later e (CheckParsed options shape image) old new before now answer none m = record { block_size = m.block_size; put = m.put }
-met_by_any told held later e (ListParsed options image) old new before now answer none m = record { block_size = m.block_size; put = m.put }
-met_by_any told held later e (CatParsed options image word) old new before now answer none m = record { block_size = m.block_size; put = m.put }
+met_by_any told held later e (ScanParsed options image) old new before now answer none m = record { block_size = m.block_size; told_of = m.told_of; put = m.put }
+met_by_any told held later e (CheckParsed options shape image) old new before now answer none m = record { block_size = m.block_size; told_of = m.told_of; put = m.put }
+met_by_any told held later e (ListParsed options image) old new before now answer none m = record { block_size = m.block_size; told_of = m.told_of; put = m.put }
+met_by_any told held later e (CatParsed options image word) old new before now answer none m = record { block_size = m.block_size; told_of = m.told_of; put = m.put }
 met_by_any told held later e (BuildParsed options blocks page listing output) old new before now answer none m = absurd none
 met_by_any told held later e (AppendParsed options blocks page image listing output) old new before now answer none m = absurd none
 

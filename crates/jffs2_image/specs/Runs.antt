@@ -1,5 +1,5 @@
 -- What a run of the program does: to standard output, to standard error, and in its outcome.
-use Rattle.std.specs.Prelude.{◌≡◌, ◌⊎◌, ◌==◌, ℕ, Bool, true, false, IsFalse, List, [], Option, Some, None, Result, Ok, Err, IfOk, IsErrOf, if◌then◌else◌, string_bytes}
+use Rattle.std.specs.Prelude.{◌≡◌, ◌⊎◌, ◌==◌, ℕ, Bool, true, false, IsFalse, List, [], Option, Some, None, Result, Ok, Err, IfOk, IsErrAnd, IsErrOf, if◌then◌else◌, string_bytes}
 use Rattle.std.specs.Io.KnownBytes.{Appends, Keeps}
 use Rattle.flashbase.specs.Device.{PutsPart, next_count}
 use Rattle.jnode.specs.declared.order.Endian.{Endian}
@@ -94,10 +94,17 @@ IsEarlyFault told (CatParsed options image word) fault = IsUnopened image fault
 IsEarlyFault told (BuildParsed options blocks page listing output) fault = IsUnreadFile listing (told listing) fault
 IsEarlyFault told (AppendParsed options blocks page image listing output) fault = IsUnreadFile image (told image) fault ⊎ IsUnreadFile listing (told listing) fault
 
+-- of a block of no right size `check` says so of an image that it could open, and nothing else; other requests mount it
+abbrev pub TellsBlockSize : Parsed → Result ℕ ProgramFault → Type 0
+TellsBlockSize (ScanParsed options image) answer = IsErrAnd answer (λ fault. (fault ≡ program.Scan scan.BlockSize) ⊎ IsUnopened image fault)
+TellsBlockSize (CheckParsed options shape image) answer = IsErrAnd answer (λ fault. (fault ≡ program.Scan scan.BlockSize) ⊎ IsUnopened image fault)
+TellsBlockSize _ answer = Unit {0}
+
 -- A request is met in the byte order e, where the host tells these bytes of its files: there is an image, that of the name where
 -- it is told, of which the answer is put, or a fault comes before any is read.
 pub record Meets (told : List ℕ → Option (List ℕ)) (held : Held) (e : Endian) (parsed : Parsed) (old new : Option (List ℕ)) (before now : ℕ) (answer : Result ℕ ProgramFault) : Type 0 where
   pub block_size : IsErrOf answer (program.Scan scan.BlockSize) → IsFalse (is_block_size (options_parsed parsed).geometry.block)
+  pub told_of : IsFalse (is_block_size (options_parsed parsed).geometry.block) → TellsBlockSize parsed answer
   pub put : ((image : List ℕ) × IsImageOf told parsed image × PutsAnswer told held e parsed image old new before now answer)
       ⊎ ((fault : ProgramFault) × (answer ≡ Err fault) × IsEarlyFault told parsed fault × (new ≡ old) × (now ≡ before))
 
