@@ -1,8 +1,8 @@
 //! The note on an image that mounted, and yet has bytes where a node may have been.
 
-ghost use Rattle.std.specs.Prelude.{◌≡◌};
+ghost use Rattle.std.specs.Prelude.{◌≡◌, ◌≤◌, length};
 ghost use Rattle.flashbase.specs.Device.{Puts};
-ghost use Rattle.jreport.specs.Notes.{is_noted, note_line_of, noted};
+ghost use Rattle.jreport.specs.Notes.{findings_word, is_noted, note_line_of, noted};
 
 use flashbase::{DeviceFault, Sink};
 use jline::{LineBuffer, put_text};
@@ -32,6 +32,17 @@ pub fn noted(mounted: &Mounted<'_>) -> u64
     count
 }
 
+/// The word for so many findings.
+fn findings_word(findings: u64) -> &'static [u8]
+    ensures word { result.now ≡ findings_word findings }
+    ensures short { length result.now ≤ 9 }
+{
+    match findings {
+        1 => b" finding",
+        _ => b" findings",
+    }
+}
+
 /// The note that there are so many such findings.
 #[tactic(auto, unfolding(crate::specs::Notes::note_line_of))]
 fn write_note(line: &mut LineBuffer, findings: u64)
@@ -40,9 +51,8 @@ fn write_note(line: &mut LineBuffer, findings: u64)
     line.clear();
     line.push_text(b"jffs2_image: note: ");
     line.push_decimal(findings);
-    line.push_text(
-        b" findings, see check --scan; a wrong --block or --endian shows as findings too\n",
-    );
+    line.push_text(findings_word(findings));
+    line.push_text(b", see check --scan; a wrong --block or --endian shows as findings too\n");
 }
 
 /// Puts the note that there are so many such findings, as it is on standard error.
