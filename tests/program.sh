@@ -645,9 +645,11 @@ for order in little big; do
     run append "${flash[@]}" --blocks 1 made_$order create_b built; want 1 "" "jffs2_image: S2 Full needed 112 free 0 line 1"
     same built first_block
     head -c 12 made_$order > marked
-    for length in 0 7 12; do
-        head -c $length marked > torn
-        run append "${flash[@]}" --blocks 1 torn create_a built; want 0 "accepted 1 nodes 2 bytes 124" ""; same built made_$order
+    # Of a beginning of a marker `ls` has a note, and so has `append`.
+    for row in "0" "7 $(noted 1)" "12"; do
+        read -r length note <<< "$row"
+        head -c "$length" marked > torn
+        run append "${flash[@]}" --blocks 1 torn create_a built; want 0 "accepted 1 nodes 2 bytes 124" "$note"; same built made_$order
     done
     run append "${flash[@]}" --blocks 2 made_$order create_b built; want 0 "accepted 1 nodes 2 bytes 124" ""
     run ls "${flash[@]}" built; want 0 "$root"$'\n'"$file_a"$'\n'"$file_b" ""
@@ -675,7 +677,7 @@ run append --blocks 2 --endian big file create_b built; want 0 "accepted 1 nodes
 run append "${small[@]}" --blocks 4 "$tree" create_b built; want 0 "accepted 1 nodes 2 bytes 124" ""
 run append "${small[@]}" --blocks 4 --endian big "$tree" create_b built; want 0 "accepted 1 nodes 2 bytes 124" "$(noted "[1-9]*")"
 run append --blocks 1 flipped create_b built; want 1 "" "jffs2_image: S2 Full needed 112 free 0 line 1"
-run append --blocks 2 flipped listing none/built; want 1 "" "jffs2_image: P1 File none/built"
+run append --blocks 2 flipped create_b none/built; want 1 "" "jffs2_image: P1 File none/built"
 
 # IMAGE and OUT in one file, also where the first operation is refused
 cp made_little image
@@ -779,7 +781,7 @@ run append --blocks 2 empty create_a /dev/full; want 1 "" "jffs2_image: S4 Sink"
 run append --blocks 2 empty empty /dev/full; want 0 "$none_accepted" ""
 # More than the buffer holds: the operation is named at which the device is seen to be full; none where it is full before.
 head -c 70000 /dev/zero > long
-lines listing 'create 0644 /a' 'part /a 0 long'
+lines listing 'create 0644 /c' 'part /c 0 long'
 run build --blocks 4 listing /dev/full; want 1 "" "jffs2_image: S4 Sink line 2"
 run append --blocks 4 made_little listing /dev/full; want 1 "" "jffs2_image: S4 Sink line 1"
 run build --blocks 4 listing built; want 0 "accepted 2 nodes 20 bytes *" ""
