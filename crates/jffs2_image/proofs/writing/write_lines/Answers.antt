@@ -98,8 +98,14 @@ returns-clause-writes g c = λ text read.
     let run = run_on _ a.target.page e a.target.options.geometry.block a.target.blocks a.base.now text a.lines.items (part_contents a.parts.now) m r.accepted r.places.items None read mounts made in
     let from = goes_on_from a.target.page e a.target.options.geometry.block a.target.blocks m c.in_ok-from.from at ∙ ap (λ (l : List ℕ). resume_address e a.target.options.geometry.block a.target.blocks l) image in
     let put = c.in_ok-put_accepted.ensures in
-    told _ a.target.page e a.target.options.geometry.block a.target.blocks a.target.output.now a.base.now text a.lines.items r.accepted r.places.items c.in_ok-from.from _ _ _ _ _ from run
+    told _ a.target.page e a.target.options.geometry.block a.target.blocks a.target.output.now a.base.now text a.lines.items r.accepted r.places.items c.in_ok-from.from _ _ _ _ c.noted.result from run
     (subst (λ (l : List Place). Appends (g.T.Sink.taken a.sink.now) (g.T.Sink.taken c.put_accepted.new.sink) (accepted_line c.in_ok-from.from r.accepted l)) c.deref-3.ensures.value put.0) put.1
+
+pub returns-clause-noted : goal.returns-clause-noted
+returns-clause-noted g c =
+    let m = c.in_ok-mounted.mounted in
+    let mounts : Answers g.E.Order.order c.args.target.options.geometry.block c.args.base.now (Ok m) = search rules in
+    (m, mounts, c.noted.ensures)
 
 pub returns-in_err-from-clause-maker : goal.returns-in_err-from-clause-maker
 returns-in_err-from-clause-maker g c =
@@ -147,7 +153,7 @@ returns-clause-files g c = λ known text read are.
     (subst (λ s. IsMade (g.M.Maker.held a.maker.now, g.M.Maker.held c.make_image.new.maker) a.target.page e a.target.options.geometry.block a.target.blocks m c.deref-2.result.now r.accepted r.places.items s) stopped c.in_ok-report.ensures.made) in
     let from = goes_on_from a.target.page e a.target.options.geometry.block a.target.blocks m c.in_ok-from.from at ∙ ap (λ (l : List ℕ). resume_address e a.target.options.geometry.block a.target.blocks l) image in
     let put = c.in_ok-put_accepted.ensures in
-    files_of_all known _ a.target.page e a.target.options.geometry.block a.target.blocks a.base.now text a.lines.items a.parts.now m r.accepted r.places.items c.in_ok-from.from _ _ _ image from are read mounts made
+    files_of_all known _ a.target.page e a.target.options.geometry.block a.target.blocks a.base.now text a.lines.items a.parts.now m r.accepted r.places.items c.in_ok-from.from _ _ c.noted.result image from are read mounts made
     (subst (λ (l : List Place). Appends (g.T.Sink.taken a.sink.now) (g.T.Sink.taken c.put_accepted.new.sink) (accepted_line c.in_ok-from.from r.accepted l)) c.deref-3.ensures.value put.0)
 
 pub returns-in_err-put_accepted-clause-files : goal.returns-in_err-put_accepted-clause-files
