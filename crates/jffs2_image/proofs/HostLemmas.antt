@@ -7,6 +7,7 @@ use Rattle.flashbase.specs.declared.source.LoadFault.TheVariants as load
 use Rattle.jnode.specs.declared.order.Endian.{Endian}
 use Rattle.jscan.specs.Image.{greatest_image}
 use Rattle.jmount.specs.Mount.{Mount}
+use Rattle.jmount.specs.declared.fault.MountFault.{MountFault}
 use Rattle.jsteps.specs.declared.op.Op.{Op}
 use Rattle.jlisting.specs.Listing.{file_of, lines_of}
 use Rattle.jlisting.specs.declared.line.Line.{Line}
@@ -30,7 +31,7 @@ use Rattle.jbuild.specs.Parts.{part_contents, read_of}
 use Rattle.jbuild.specs.declared.parts.Parts.{Parts}
 use Rattle.jreport.specs.declared.faults.ProgramFault.{ProgramFault}
 use Rattle.jreport.specs.declared.faults.ProgramFault.TheVariants as program
-use Rattle.jffs2_image.specs.Host.{AreLoaded, AreOf, AreRead, Blames, BlamesMaker, HasFailed, HaveBytes, IsCutShort, IsHandedBack, IsMadeUntil, IsMakeFault, IsReadFault, Leaves, RunsFiles}
+use Rattle.jffs2_image.specs.Host.{AreAllRead, AreLoaded, AreOf, AreRead, Blames, BlamesMaker, HasFailed, HaveBytes, IsCutShort, IsHandedBack, IsMadeUntil, IsMakeFault, IsReadFault, Leaves, RunsFiles}
 use Rattle.jffs2_image.specs.Writes.{GivesCut, GivesPart, Held, HoldsCut, HoldsFront, HoldsPart, IsBehind, IsGivenOn, IsHanded, IsMade, IsNotMade, IsPartUnread, IsPut, IsUnreadFile}
 
 -- ---- the file that is made
@@ -247,6 +248,31 @@ files_until told held page e size blocks base text lines parts m accepted places
 files_until told held page e size blocks base text lines parts m accepted places old new f (Some n) is are read mounts made =
     (lines, accepted, places, record { mount = m; files = part_contents parts; read = read; mounts = mounts; made = made }, have_bytes told lines parts are, sym is)
 
+all_of_text : (told : List ℕ → Option (List ℕ)) (lines : List Line) (parts : Parts) (text : List ℕ) → AreRead told lines parts → lines_of text ≡ Ok lines → AreAllRead told text
+all_of_text told lines parts text are read = (lines, part_contents parts, read, have_bytes told lines parts are)
+
+-- a fault of the base
+pub files_not_mounted : (told : List ℕ → Option (List ℕ)) (held : Held) (page : Page) (e : Endian) (size blocks : ℕ) (base text : List ℕ) (lines : List Line) (parts : Parts) (old new : Option (List ℕ)) (f : MountFault) (r : Result ℕ ProgramFault)
+    → IsErrAnd r (λ is. is ≡ program.Mount f) → AreRead told lines parts → lines_of text ≡ Ok lines → RunsFiles {T = ℕ} told held page e size blocks base text old new r
+files_not_mounted told held page e size blocks base text lines parts old new f (Ok x) fault are read = absurd fault
+files_not_mounted told held page e size blocks base text lines parts old new f (Err g) fault are read =
+    subst (λ (z : ProgramFault). RunsFiles {T = ℕ} told held page e size blocks base text old new (Err z)) (sym fault) (all_of_text told lines parts text are read)
+
+pub files_not_resumed : (told : List ℕ → Option (List ℕ)) (held : Held) (page : Page) (e : Endian) (size blocks : ℕ) (base text : List ℕ) (lines : List Line) (parts : Parts) (m : Mount) (old new : Option (List ℕ)) (f : SessionFault) (r : Result ℕ ProgramFault)
+    → resumes_by page e size blocks m ≡ Err f → IsErrAnd r (λ is. is ≡ program.Session f None) → AreRead told lines parts → lines_of text ≡ Ok lines → RunsFiles {T = ℕ} told held page e size blocks base text old new r
+files_not_resumed told held page e size blocks base text lines parts m old new f (Ok x) is fault are read = absurd fault
+files_not_resumed told held page e size blocks base text lines parts m old new f (Err g) is fault are read =
+    subst (λ (z : ProgramFault). RunsFiles {T = ℕ} told held page e size blocks base text old new (Err z)) (sym fault)
+    (by m.read_only (is_flash_of size blocks m.image && page_fits size page) is)
+  where
+    by : (b c : Bool) → (if b then Err session.ReadOnly else (if c then Ok (resume_address e size blocks m.image) else Err session.Geometry)) ≡ Err f
+        → RunsFiles {T = ℕ} told held page e size blocks base text old new (Err (program.Session f None))
+    by true c same = let is : session.ReadOnly ≡ f = cc in
+        subst (λ (z : SessionFault). RunsFiles {T = ℕ} told held page e size blocks base text old new (Err (program.Session z None))) is (all_of_text told lines parts text are read)
+    by false true same = cc
+    by false false same = let is : session.Geometry ≡ f = cc in
+        subst (λ (z : SessionFault). RunsFiles {T = ℕ} told held page e size blocks base text old new (Err (program.Session z None))) is (all_of_text told lines parts text are read)
+
 -- no fault of making is one of a line
 pub files_not_made : (told : List ℕ → Option (List ℕ)) (held : Held) (page : Page) (e : Endian) (size blocks : ℕ) (output base text : List ℕ) (lines : List Line) (parts : Parts) (m : Mount) (old new : Option (List ℕ)) (f : ProgramFault) (r : Result ℕ ProgramFault)
     → IsErrAnd r (λ is. is ≡ f) → m.image ≡ base → AreRead told lines parts → lines_of text ≡ Ok lines → IsNotMade page e size blocks m output f
@@ -259,13 +285,13 @@ files_not_made told held page e size blocks output base text lines parts m old n
         → RunsFiles {T = ℕ} told held page e size blocks base text old new (Err f)
     by (program.Load f) not cut = absurd not
     by (program.Scan f) not cut = tt
-    by (program.Mount f) not cut = tt
+    by (program.Mount f) not cut = absurd not
     by (program.File name) not cut = cut
     by (program.Listing k) not cut = tt
     by (program.Session session.Sink None) not cut = cut_short told held page e size blocks base text lines parts m same are read cut
-    by (program.Session session.OutOfMemory None) not cut = (lines, read, subst (λ (image : List ℕ). HoldsFront held e size blocks image) same cut)
-    by (program.Session session.ReadOnly None) not cut = tt
-    by (program.Session session.Geometry None) not cut = tt
+    by (program.Session session.OutOfMemory None) not cut = (all_of_text told lines parts text are read, subst (λ (image : List ℕ). HoldsFront held e size blocks image) same cut)
+    by (program.Session session.ReadOnly None) not cut = all_of_text told lines parts text are read
+    by (program.Session session.Geometry None) not cut = all_of_text told lines parts text are read
     by (program.Session (session.Refused f) None) not cut = tt
     by (program.Session (session.Full a b) None) not cut = tt
     by (program.Session session.Broken None) not cut = tt

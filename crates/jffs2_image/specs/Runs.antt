@@ -1,5 +1,5 @@
 -- What a run of the program does: to standard output, to standard error, and in its outcome.
-use Rattle.std.specs.Prelude.{◌≡◌, ◌⊎◌, ◌==◌, ℕ, Bool, true, false, IsFalse, List, [], Option, Some, None, Result, Ok, Err, IfOk, IsErrAnd, IsErrOf, if◌then◌else◌, string_bytes}
+use Rattle.std.specs.Prelude.{◌≡◌, ◌⊎◌, ◌==◌, ℕ, Bool, true, false, IsFalse, IsTrue, is_some, List, [], Option, Some, None, Result, Ok, Err, IfOk, IsErrAnd, IsErrOf, if◌then◌else◌, string_bytes}
 use Rattle.std.specs.Io.KnownBytes.{Appends, Keeps}
 use Rattle.flashbase.specs.Device.{PutsPart, next_count}
 use Rattle.jnode.specs.declared.order.Endian.{Endian}
@@ -82,17 +82,19 @@ abbrev pub IsUnopened : List ℕ → ProgramFault → Type 0
 IsUnopened file (program.File name) = name.now ≡ file
 IsUnopened file _ = ⊥
 
--- why no image is read: its file can't be opened, or the word of the path can't be read; where an image is written, it or
--- the listing can't be opened, or not be read to its end
+-- why no image is read: its file can't be opened, or the word of the path can't be read, which is judged before; where an
+-- image is written, it or the listing can't be opened, or not be read to its end, and the listing comes after the image
 abbrev pub IsEarlyFault : (List ℕ → Option (List ℕ)) → Parsed → ProgramFault → Type 0
 IsEarlyFault told (ScanParsed options image) fault = IsUnopened image fault
 IsEarlyFault told (CheckParsed options shape image) fault = IsUnopened image fault
 IsEarlyFault told (ListParsed options image) fault = IsUnopened image fault
 IsEarlyFault told (CatParsed options image word) (program.Path find.BadPath) = path_of word ≡ None
 IsEarlyFault told (CatParsed options image word) program.OutOfMemory = Unit {0}
-IsEarlyFault told (CatParsed options image word) fault = IsUnopened image fault
+IsEarlyFault told (CatParsed options image word) fault = IsUnopened image fault × IsTrue (is_some (path_of word))
 IsEarlyFault told (BuildParsed options blocks page listing output) fault = IsUnreadFile listing (told listing) fault
-IsEarlyFault told (AppendParsed options blocks page image listing output) fault = IsUnreadFile image (told image) fault ⊎ IsUnreadFile listing (told listing) fault
+IsEarlyFault told (AppendParsed options blocks page image listing output) fault =
+    IsUnreadFile image (told image) fault
+    ⊎ ((bytes : List ℕ) × AreLoaded (told image) bytes × IsUnreadFile listing (told listing) fault)
 
 -- of a block of no right size `check` says so of an image that it could open, and nothing else; other requests mount it
 abbrev pub TellsBlockSize : Parsed → Result ℕ ProgramFault → Type 0

@@ -16,7 +16,7 @@ use Rattle.std.proofs.lemmas.Option.{slice_get-map}
 use Rattle.jffs2_image.specs.Writes.{Held, HoldsCut, IsMade, IsSessionFault}
 use Rattle.jffs2_image.proofs.WritingLemmas.{not_resumed, not_made, run_on, stopped_at, told, told_in_part, writes_fault, goes_on_from}
 use Rattle.jffs2_image.specs.Host.{IsMadeUntil}
-use Rattle.jffs2_image.proofs.HostLemmas.{files_in_part, files_not_made, files_of_all, files_until, make_fault, maker_fault, resume_fault, run_fault}
+use Rattle.jffs2_image.proofs.HostLemmas.{files_in_part, files_not_made, files_not_mounted, files_not_resumed, files_of_all, files_until, make_fault, maker_fault, resume_fault, run_fault}
 use Rattle.jffs2_image.proofs.writing.write_lines.Goals as goal
 
 pub returns-in_err-from-clause-writes : goal.returns-in_err-from-clause-writes
@@ -192,6 +192,21 @@ returns-in-Some-clause-files g c = λ known text read are.
     (subst (λ s. IsMade (g.M.Maker.held a.maker.now, g.M.Maker.held c.make_image.new.maker) a.target.page e a.target.options.geometry.block a.target.blocks m c.deref-2.result.now r.accepted r.places.items s) stopped c.in_ok-report.ensures.made) in
     let shown = line ∙ (ap (λ (l : List ℕ). slice_get l r.accepted) numbers ∙ slice_get-map (λ l. l.number) a.lines.items r.accepted) in
     files_until known _ a.target.page e a.target.options.geometry.block a.target.blocks a.base.now text a.lines.items a.parts.now m r.accepted r.places.items (g.T.Sink.taken a.sink.now) (g.T.Sink.taken a.sink.now) c.in-Some.fault _ shown are read mounts made
+
+pub returns-in_err-mounted-clause-files : goal.returns-in_err-mounted-clause-files
+returns-in_err-mounted-clause-files g c = λ known text read are.
+    let a = c.args in
+    files_not_mounted known _ a.target.page g.E.Order.order a.target.options.geometry.block a.target.blocks a.base.now text a.lines.items a.parts.now _ _ c.in_err-mounted.field-0.0 _
+    c.from_residual-in_err-mounted.ensures.1 are read
+
+pub returns-in_err-from-clause-files : goal.returns-in_err-from-clause-files
+returns-in_err-from-clause-files g c = λ known text read are.
+    let e = g.E.Order.order in
+    let a = c.args in
+    let m = c.in_ok-mounted.mounted in
+    let refused : resumes_by a.target.page e a.target.options.geometry.block a.target.blocks m ≡ Err c.in_err-from.field-0.0 = search rules in
+    files_not_resumed known _ a.target.page e a.target.options.geometry.block a.target.blocks a.base.now text a.lines.items a.parts.now m _ _ c.in_err-from.field-0.0 _
+    refused c.from_residual-in_err-from.ensures.1 are read
 
 pub returns-in_err-report-clause-files : goal.returns-in_err-report-clause-files
 returns-in_err-report-clause-files g c = λ known text read are.
