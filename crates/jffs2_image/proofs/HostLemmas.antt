@@ -339,6 +339,7 @@ pub put_until : (page : Page) (e : Endian) (size blocks : ℕ) (m : Mount) (ops 
 put_until page e size blocks m ops accepted places None old given before now put = put.given_on.1 ∙ put.emitted.runs.3
 put_until page e size blocks m ops accepted places (Some session.Sink) old given before now put = by put.given_on
   where
+    once : put.count ≡ next_count before
     once = put.emitted.runs.5.stop.2
     by : IsGivenOn (Some session.Sink) put.taken given put.count now → HasFailed before now
     by (inl is) = inl (is.1 ∙ once)
