@@ -341,6 +341,7 @@ put_until page e size blocks m ops accepted places (Some session.Sink) old given
   where
     once : put.count ≡ next_count before
     once = put.emitted.runs.5.stop.2
+
     by : IsGivenOn (Some session.Sink) put.taken given put.count now → HasFailed before now
     by (inl is) = inl (is.1 ∙ once)
     by (inr is) = inr (is.1 ∙ ap next_count once)

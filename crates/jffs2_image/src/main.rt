@@ -3,6 +3,7 @@
 //! `jcommand` reads the command line, `program` opens files and lets `jreport` do the work over them, and `writing` makes
 //! images by `jbuild`. `main` hands over the process's arguments and streams.
 #![tactic(auto)]
+
 ghost use Rattle.std.specs.Prelude.{◌≡◌, IfOk, map, string_bytes};
 ghost use Rattle.std.specs.Vec.Iter.{into_iter_items};
 
