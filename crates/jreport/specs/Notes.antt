@@ -17,7 +17,7 @@ abbrev pub noted : Mount → ℕ
 noted m = count_by (λ f. is_noted f.kind) m.findings
 
 -- the word for n of them
-abbrev pub findings_word : ℕ → List ℕ
+unfoldable pub findings_word : ℕ → List ℕ
 findings_word n = if n == 1 then codes " finding" else codes " findings"
 
 -- the line on standard error that tells of n of them

@@ -33,6 +33,7 @@ pub fn noted(mounted: &Mounted<'_>) -> u64
 }
 
 /// The word for so many findings.
+#[tactic(auto, unfolding(crate::specs::Notes::findings_word))]
 fn findings_word(findings: u64) -> &'static [u8]
     ensures word { result.now ≡ findings_word findings }
     ensures short { length result.now ≤ 9 }
