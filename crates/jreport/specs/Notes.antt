@@ -16,11 +16,12 @@ is_noted kind.Dirt = true
 abbrev pub noted : Mount → ℕ
 noted m = count_by (λ f. is_noted f.kind) m.findings
 
--- the word for n of them
-unfoldable pub findings_word : ℕ → List ℕ
-findings_word n = if n == 1 then codes " finding" else codes " findings"
+-- what is said of n of them
+unfoldable pub findings_text : ℕ → List ℕ
+findings_text n = if n == 1
+    then codes " finding, see check --scan; a wrong --block or --endian shows as findings too\n"
+    else codes " findings, see check --scan; a wrong --block or --endian shows as findings too\n"
 
 -- the line on standard error that tells of n of them
 unfoldable pub note_line_of : ℕ → List ℕ
-note_line_of n = codes "jffs2_image: note: " ++ (decimal n ++ (findings_word n
-    ++ codes ", see check --scan; a wrong --block or --endian shows as findings too\n"))
+note_line_of n = codes "jffs2_image: note: " ++ (decimal n ++ findings_text n)

@@ -2,7 +2,7 @@
 
 ghost use Rattle.std.specs.Prelude.{◌≡◌, ◌≤◌, length};
 ghost use Rattle.flashbase.specs.Device.{Puts};
-ghost use Rattle.jreport.specs.Notes.{findings_word, is_noted, note_line_of, noted};
+ghost use Rattle.jreport.specs.Notes.{findings_text, is_noted, note_line_of, noted};
 
 use flashbase::{DeviceFault, Sink};
 use jline::{LineBuffer, put_text};
@@ -32,15 +32,15 @@ pub fn noted(mounted: &Mounted<'_>) -> u64
     count
 }
 
-/// The word for so many findings.
-#[tactic(auto, unfolding(crate::specs::Notes::findings_word))]
-fn findings_word(findings: u64) -> &'static [u8]
-    ensures word { result.now ≡ findings_word findings }
-    ensures short { length result.now ≤ 9 }
+/// What is said of so many findings.
+#[tactic(auto, unfolding(crate::specs::Notes::findings_text))]
+fn findings_text(findings: u64) -> &'static [u8]
+    ensures text { result.now ≡ findings_text findings }
+    ensures short { length result.now ≤ 100 }
 {
     match findings {
-        1 => b" finding",
-        _ => b" findings",
+        1 => b" finding, see check --scan; a wrong --block or --endian shows as findings too\n",
+        _ => b" findings, see check --scan; a wrong --block or --endian shows as findings too\n",
     }
 }
 
@@ -52,8 +52,7 @@ fn write_note(line: &mut LineBuffer, findings: u64)
     line.clear();
     line.push_text(b"jffs2_image: note: ");
     line.push_decimal(findings);
-    line.push_text(findings_word(findings));
-    line.push_text(b", see check --scan; a wrong --block or --endian shows as findings too\n");
+    line.push_text(findings_text(findings));
 }
 
 /// Puts the note that there are so many such findings, as it is on standard error.
