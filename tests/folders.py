@@ -240,7 +240,7 @@ def in_the_way():
     verdict("what does not mount makes no folder", done.status == 1 and done.err.startswith(b"jffs2_image: M") and not os.path.exists("new"), done)
     write("dirty.img", files((b"a", 0o100644, b"a")) + b"dirt")
     done = run("extract", "dirty.img", "dirty")
-    verdict("findings are noted", done.status == 3 and b"note: 1 finding" in done.err and os.path.exists("dirty/a"), done)
+    verdict("findings are noted", done.status == 3 and b"note: 1 finding," in done.err and os.path.exists("dirty/a"), done)
 
 
 def on_bad_streams():

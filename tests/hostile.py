@@ -19,7 +19,7 @@ import hostile_model as model
 from groups import PROGRAM, ROOT, Done, run_all, verdict, write
 
 NO_MEMORY = re.compile(rb"((?:left out .*\n)*)jffs2_image: (?:L3|C5|M7|P6|S5) OutOfMemory(?: line \d+)?\n")
-NOTE = b"jffs2_image: note: %d findings, see check --scan; a wrong --block or --endian shows as findings too\n"
+NOTE = b"jffs2_image: note: %d %s, see check --scan; a wrong --block or --endian shows as findings too\n"
 OUTPUT = b"jffs2_image: P5 Output\n"
 SIZES = 10
 # A command is given up after so many seconds.
@@ -427,7 +427,7 @@ def on_any(number, image):
         done = run(["check", "--block", str(size), "any.img"])
         verdict(f"check of image {number} in blocks of {size}", done == Done(status, text(lines), b""), done)
     lines, refused, findings = model.ls(image)
-    note = NOTE % findings if findings else b""
+    note = NOTE % (findings, b"finding" if findings == 1 else b"findings") if findings else b""
     done = run(["ls", "any.img"])
     verdict(f"ls of image {number}", done == (fault(refused) if refused else Done(0, text(lines), note)), done)
     for name in (b"a", b"b"):
@@ -436,17 +436,17 @@ def on_any(number, image):
         verdict(f"cat of image {number}", done == (fault(why) if why else Done(0, content, note)), done)
     done = run(["check", "--scan", "any.img"])
     verdict(f"check --scan of image {number}", done.status in (0, 3) and not done.err, done)
-    goes_on(number, lines, refused)
+    goes_on(number, lines, refused, note)
 
 
-def goes_on(number, lines, refused):
-    """A file is made in the image, unless that is refused: what was listed stays, and the file is listed."""
+def goes_on(number, lines, refused, note):
+    """A file is made in the image, unless that is refused: what was listed stays, the file is listed, and findings are noted."""
     write("one.txt", "create 0644 /new\n")
     done, made = tried(["append", "--blocks", "2", "any.img", "one.txt", "out.img"])
     if done.status == 0:
         after, _, _ = model.ls(made)
         is_right = [line for line in after if not line.endswith(" /new")] == lines and len(after) == len(lines) + 1
-        verdict(f"append to image {number}", is_right and run(["ls", "out.img"]).out == text(after), done)
+        verdict(f"append to image {number}", is_right and run(["ls", "out.img"]).out == text(after) and done.err == note, done)
     else:
         told = [fault(why) for why in (refused, "S3 ReadOnly", "S1 Refused O12 Exhausted line 1")]
         verdict(f"append to image {number}", done in told, done)

@@ -130,6 +130,13 @@ for words in --help "check --help"; do
     [[ $bad == 0 ]] || echo "FAILED: one line feed ends $line"
 done
 
+line="the lines of help, 80 columns wide at most"
+for words in --help "check --help" "ls --help" "cat --help" "build --help" "append --help" "extract --help" "listing --help"; do
+    "$program" $words > out
+    awk 'length > 80 { print; wide = 1 } END { exit wide }' out
+    count $?
+done
+
 # The size of a block comes before the image is read, and after it is opened.
 for value in 0 4095 4097 4098 4194308 4294967295; do
     run check --scan --block $value block; want 1 "" "jffs2_image: C1 BlockSize"
@@ -220,7 +227,9 @@ run cat --block 8192 "$tree" /etc/passwd/a; want 1 "" "jffs2_image: P3 Path NotD
 # Notes of what was passed over
 # noted N: what standard error says
 noted() {
-    echo "jffs2_image: note: $1 findings, see check --scan; a wrong --block or --endian shows as findings too"
+    local word=findings
+    [[ $1 == 1 ]] && word=finding
+    echo "jffs2_image: note: $1 $word, see check --scan; a wrong --block or --endian shows as findings too"
 }
 # whole FILE: the bytes of the last run's output
 whole() {
@@ -636,9 +645,11 @@ for order in little big; do
     run append "${flash[@]}" --blocks 1 made_$order create_b built; want 1 "" "jffs2_image: S2 Full needed 112 free 0 line 1"
     same built first_block
     head -c 12 made_$order > marked
-    for length in 0 7 12; do
-        head -c $length marked > torn
-        run append "${flash[@]}" --blocks 1 torn create_a built; want 0 "accepted 1 nodes 2 bytes 124" ""; same built made_$order
+    # Of a beginning of a marker `ls` has a note, and so has `append`.
+    for row in "0" "7 $(noted 1)" "12"; do
+        read -r length note <<< "$row"
+        head -c "$length" marked > torn
+        run append "${flash[@]}" --blocks 1 torn create_a built; want 0 "accepted 1 nodes 2 bytes 124" "$note"; same built made_$order
     done
     run append "${flash[@]}" --blocks 2 made_$order create_b built; want 0 "accepted 1 nodes 2 bytes 124" ""
     run ls "${flash[@]}" built; want 0 "$root"$'\n'"$file_a"$'\n'"$file_b" ""
@@ -651,7 +662,7 @@ for order in little big; do
     # A torn node: its block is not written again.
     head -c 100 made_$order > torn
     { cat torn; erased 8092; } > torn_block
-    run append "${flash[@]}" --blocks 2 torn create_b built; want 0 "accepted 1 nodes 2 bytes 124" ""
+    run append "${flash[@]}" --blocks 2 torn create_b built; want 0 "accepted 1 nodes 2 bytes 124" "$(noted 1)"
     line="the bytes after a torn node"
     [[ $(wc -c < built) == 8316 ]]; count $?
     head -c 8192 built > torn; same torn torn_block
@@ -659,6 +670,14 @@ for order in little big; do
     run check "${flash[@]}" built
     want 3 $'*\n00000050 damaged 44 node-crc\n*\n0000200c inode 68 ino 3 version 1 *\n00002050 entry 44 pino 1 version 1 ino 3 *\nmount ok' ""
 done
+
+# What IMAGE has of damage, and what a wrong order or size of blocks makes of it, is noted as `ls` notes it; not at a fault.
+run append --blocks 2 flipped create_b built; want 0 "accepted 1 nodes 2 bytes 124" "$(noted 1)"
+run append --blocks 2 --endian big file create_b built; want 0 "accepted 1 nodes 2 bytes 124" "$(noted "[1-9]*")"
+run append "${small[@]}" --blocks 4 "$tree" create_b built; want 0 "accepted 1 nodes 2 bytes 124" ""
+run append "${small[@]}" --blocks 4 --endian big "$tree" create_b built; want 0 "accepted 1 nodes 2 bytes 124" "$(noted "[1-9]*")"
+run append --blocks 1 flipped create_b built; want 1 "" "jffs2_image: S2 Full needed 112 free 0 line 1"
+run append --blocks 2 flipped create_b none/built; want 1 "" "jffs2_image: P1 File none/built"
 
 # IMAGE and OUT in one file, also where the first operation is refused
 cp made_little image
@@ -748,7 +767,11 @@ run append --block 4097 --blocks 2 made_little create_a built; want 1 "" "jffs2_
 run append --blocks 2 none absent built; want 1 "" "jffs2_image: P1 File none"; unmade built
 run append --blocks 2 made_little none built; want 1 "" "jffs2_image: P1 File none"; unmade built
 run append --blocks 2 folder create_b built; want 1 "" "jffs2_image: L1 Device"; unmade built
-run append --blocks 2 larger create_b built; want 1 "" "jffs2_image: L2 TooLarge"; unmade built
+for file in larger /dev/zero; do
+    run append --blocks 2 $file create_b built; want 1 "" "jffs2_image: L2 TooLarge"; unmade built
+    run append --blocks 2 made_little $file built; want 1 "" "jffs2_image: L2 TooLarge"; unmade built
+    run build --blocks 2 $file built; want 1 "" "jffs2_image: L2 TooLarge"; unmade built
+done
 lines listing 'paint'
 run append --block 4097 --blocks 2 made_little listing built; want 1 "" "jffs2_image: P2 Listing line 1"; unmade built
 run append --blocks 2 made_little create_b folder; want 1 "" "jffs2_image: P1 File folder"
@@ -756,6 +779,14 @@ run append --blocks 2 made_little create_b nowhere/built; want 1 "" "jffs2_image
 run append --blocks 2 made_little empty /dev/full; want 1 "" "jffs2_image: S4 Sink"
 run append --blocks 2 empty create_a /dev/full; want 1 "" "jffs2_image: S4 Sink"
 run append --blocks 2 empty empty /dev/full; want 0 "$none_accepted" ""
+# More than the buffer holds: the operation is named at which the device is seen to be full; none where it is full before.
+head -c 70000 /dev/zero > long
+lines listing 'create 0644 /c' 'part /c 0 long'
+run build --blocks 4 listing /dev/full; want 1 "" "jffs2_image: S4 Sink line 2"
+run append --blocks 4 made_little listing /dev/full; want 1 "" "jffs2_image: S4 Sink line 1"
+run build --blocks 4 listing built; want 0 "accepted 2 nodes 20 bytes *" ""
+run append --blocks 8 built create_b /dev/full; want 1 "" "jffs2_image: S4 Sink"
+rm built
 
 # The examples of the help, of the manual page and of its folder
 mkdir -p files

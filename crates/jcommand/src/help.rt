@@ -1,11 +1,11 @@
-//! The texts of the help: what the program, its subcommands and their words are for, and what stands at the end of each.
+//! The texts of the help: what the program, its subcommands and their words are for, and what
+//! is at the end of each. Each line of the help is at most 80 columns wide.
 
 pub(crate) const PROGRAM: &str = "\
-Reads, checks, builds and extends flash images of JFFS2, a file system that is a log of
-nodes";
+Reads, checks, builds and extends flash images of JFFS2, a file system that is
+a log of nodes";
 
-pub(crate) const CHECK: &str =
-    "Print what stands in an image, what is wrong with it, and whether it mounts";
+pub(crate) const CHECK: &str = "Print what an image contains, what is wrong, and whether it mounts";
 
 pub(crate) const LIST: &str = "Print a line for each object of the tree";
 
@@ -19,23 +19,21 @@ pub(crate) const EXTRACT: &str = "Write the tree of an image into a new folder o
 
 pub(crate) const LISTING_OF: &str = "Print the listing that builds a folder of this host";
 
-pub(crate) const BLOCK: &str = "Size of a block in bytes: a multiple of 4 from 4096 to 4194304";
+pub(crate) const BLOCK: &str = "Erase block size: 4096 to 4194304 bytes";
 
 pub(crate) const ENDIAN: &str = "Byte order of the image: little or big";
 
-pub(crate) const BLOCKS: &str = "Number of blocks of the flash, which has 268435456 bytes at most";
+pub(crate) const BLOCKS: &str = "Blocks of the flash, of 268435456 bytes at most";
 
-pub(crate) const PAGE: &str = "Largest piece of a file in one node, in bytes: 4096, 8192 or 16384";
+pub(crate) const PAGE: &str = "Page size: 4096, 8192 or 16384 bytes";
 
-pub(crate) const SCAN: &str = "Print the tiles alone, and do not mount";
+pub(crate) const SCAN: &str = "Print the report alone, and do not mount";
 
-pub(crate) const SHAPE: &str =
-    "Print last whether each directory has one name and none lies below itself";
+pub(crate) const SHAPE: &str = "Print last whether the directories make a tree";
 
 pub(crate) const IMAGE: &str = "File with the bytes of the flash";
 
-pub(crate) const PATH: &str =
-    "Path of the file from the root, as /a/b; \\x and two hexadecimal digits are one byte";
+pub(crate) const PATH: &str = "Path from the root, as /a/b; \\x and two hex digits are one byte";
 
 pub(crate) const LISTING: &str = "File with the operations, a line each";
 
@@ -45,10 +43,9 @@ pub(crate) const NEW_FOLDER: &str = "Folder that is made, which must not be ther
 
 pub(crate) const OWNERS: &str = "Give what is made the owners that it has in the image";
 
-pub(crate) const OWNER: &str = "Owner and group of everything, in place of those of the folder";
+pub(crate) const OWNER: &str = "Owner and group of everything";
 
-pub(crate) const TIME: &str =
-    "Time of everything, in seconds since 1970, in place of those of the folder";
+pub(crate) const TIME: &str = "Time of everything, in seconds since 1970";
 
 pub(crate) const QUIET: &str = "Tell no progress";
 
@@ -56,10 +53,10 @@ pub(crate) const OUT: &str = "File that is made, or written over, with the bytes
 
 /// What is at the end of the program's help.
 pub(crate) const EPILOGUE: &str = "\
-Each command but listing takes --block, the size of an erase block, and --endian, the
-byte order. build and append need --blocks too, the number of blocks; the others only read.
-'jffs2_image help build' tells what a listing is, 'jffs2_image help check' what check
-prints, and so for the others.
+Each command but listing takes --block, the size of an erase block, which is a
+multiple of 4, and --endian, the byte order. build and append need --blocks too,
+the number of blocks; the others only read. 'jffs2_image help build' tells what
+a listing is, 'jffs2_image help check' what check prints, and so for the others.
 
 Examples:
   jffs2_image check flash.img
@@ -76,26 +73,28 @@ Exit status:
   2  the command line is wrong
   3  check found something, or extract or listing left something out
 
-A fault is one line, as 'jffs2_image: M6 RootKind'. Its letter says what gave up: C the
-report, L reading a file, M the mount, S the session that writes, P the program. P2 is a
-wrong line of a listing. The manual page jffs2_image.1 tells what each fault may mean and
-what to do.
+A fault is one line, as 'jffs2_image: M6 RootKind'. Its letter says what gave
+up: C the report, L reading a file, M the mount, S the session that writes, P
+the program. P2 is a wrong line of a listing. The manual page jffs2_image.1
+tells what each fault may mean and what to do.
 
-The image does not tell its block size or byte order. With a wrong --block, a wrong
---endian or a damaged image, ls and cat may show less than the flash holds, or zeros; a
-note on standard error then counts what check --scan finds. append goes on from what ls
-shows, so look there first.";
+The image does not tell its block size or byte order. With a wrong --block, a
+wrong --endian or a damaged image, ls and cat may show less than the flash
+holds, or zeros, and append goes on from that. A note on standard error then
+counts what check --scan finds.";
 
 pub(crate) const CHECK_EPILOGUE: &str = "\
-For each block it prints 'block' and its number, and then a line for each node and for
-each longest run of erased flash or dirt, with its address, kind and number of bytes.
-The last line has the totals. Findings are damaged, compressed, attribute, read-only and
-incompatible nodes, and runs of dirt or of words in the other byte order.
+For each block it prints 'block' and its number, and then a line for each node
+and for each longest run of erased flash or dirt, with its address, kind and
+number of bytes. The last line has the totals. Findings are damaged, compressed,
+attribute, read-only and incompatible nodes, and runs of dirt or of words in the
+other byte order.
 
-Then comes the verdict, unless --scan is given: 'mount ok', 'mount ok read-only', or
-'mount refused' and why. After an ok, 'dangling' tells of a name without an object. Last
-comes, with --shape and after an ok, 'shape ok', or 'shape broken' where a directory other
-than the root has two names or a directory lies below itself.
+Then comes the verdict, unless --scan is given: 'mount ok', 'mount ok
+read-only', or 'mount refused' and why. After an ok, 'dangling' tells of a name
+without an object. Last comes, with --shape and after an ok, 'shape ok', or
+'shape broken' where a directory other than the root has two names or a
+directory lies below itself.
 
 Examples:
   jffs2_image check flash.img
@@ -105,16 +104,17 @@ Exit status:
   0  done, and nothing was found
   1  a fault, which standard error names
   2  the command line is wrong
-  3  a finding, an image that does not mount, a name without an object, or a broken shape";
+  3  a finding, an image that does not mount, a name without an object, or a
+     broken shape";
 
 pub(crate) const LIST_EPILOGUE: &str = "\
-The root is the first line. A directory stands before what lies in it, and names are in
-byte order. A line is
+The root is the first line. A directory stands before what lies in it, and names
+are in byte order. A line is
 
   KIND MODE UID GID SIZE MTIME INO PATH
 
-  KIND   - regular file, d directory, l symlink, c character device, b block device,
-         p FIFO, s socket, ? anything else
+  KIND   - regular file, d directory, l symlink, c character device, b block
+         device, p FIFO, s socket, ? anything else
   MODE   the low 12 bits of the mode, as four octal digits
   SIZE   bytes
   MTIME  seconds since 1970
@@ -122,8 +122,9 @@ byte order. A line is
   PATH   from the root; a byte of a name that is no visible ASCII character, and
          backslash and slash, are \\x and two hexadecimal digits
 
-' -> TARGET' follows the path of a symlink, escaped likewise, or ' -> (long)' where the
-target has more than 4095 bytes. ' (again)' follows a directory that was met before.
+' -> TARGET' follows the path of a symlink, escaped likewise, or ' -> (long)'
+where the target has more than 4095 bytes. ' (again)' follows a directory that
+was met before.
 
 Example:
   jffs2_image ls --endian big flash.img
@@ -134,8 +135,8 @@ Exit status:
   2  the command line is wrong";
 
 pub(crate) const CAT_EPILOGUE: &str = "\
-The path begins with / and leads from the root by names, through directories alone:
-symlinks are not followed. A path can be given as ls prints it.
+The path begins with / and leads from the root by names, through directories
+alone: symlinks are not followed. A path can be given as ls prints it.
 
 Example:
   jffs2_image cat --endian big flash.img /etc/passwd
@@ -146,25 +147,26 @@ Exit status:
   2  the command line is wrong";
 
 pub(crate) const BUILD_EPILOGUE: &str = "\
-A listing has an operation a line. Its words are apart by one space; empty lines and those
-that begin with # are skipped.
+A listing has an operation a line. Its words are apart by one space; empty lines
+and those that begin with # are skipped.
 
-  time T                    time of what follows, in seconds since 1970; 0 at first
-  owner UID GID             owner of what is made from here on; 0 0 at first
-  mkdir MODE PATH           makes a directory
-  create MODE PATH          makes an empty regular file
-  symlink PATH TARGET       makes a symlink
-  write PATH OFFSET HEX     writes bytes into a file
-  part PATH OFFSET FILE     writes the bytes of FILE, a file of this host, into a file
-  truncate PATH SIZE        cuts a file, or lets it grow by zeros
-  link OLD NEW              gives a file the further name NEW
-  rename OLD NEW            moves OLD to NEW, which must not be there yet
-  remove PATH               removes a name; a directory must be empty
+  time T                 time of what follows, in seconds since 1970; 0 at first
+  owner UID GID          owner of what is made from here on; 0 0 at first
+  mkdir MODE PATH        makes a directory
+  create MODE PATH       makes an empty regular file
+  symlink PATH TARGET    makes a symlink
+  write PATH OFFSET HEX  writes bytes into a file
+  part PATH OFFSET FILE  writes the bytes of FILE, a file of this host, likewise
+  truncate PATH SIZE     cuts a file, or lets it grow by zeros
+  link OLD NEW           gives a file the further name NEW
+  rename OLD NEW         moves OLD to NEW, which must not be there yet
+  remove PATH            removes a name; a directory must be empty
   attr MODE UID GID ATIME MTIME PATH
-                            sets permissions, owner and times of what PATH names, or of /
+                         sets permissions, owner and times of PATH, or of /
 
-Numbers are decimal, MODE is octal, HEX is pairs of hexadecimal digits, or - for no bytes.
-In a path or a target, \\x and two hexadecimal digits are one byte: a space is \\x20.
+Numbers are decimal, MODE is octal, HEX is pairs of hexadecimal digits, or - for
+no bytes. In a path or a target, \\x and two hexadecimal digits are one byte: a
+space is \\x20.
 A listing of a small tree:
 
   time 1000000000
@@ -177,14 +179,16 @@ A listing of a small tree:
   create 0755 /home/start
   part /home/start 0 files/start.sh
 
-To be written, blocks have 8192 bytes at least, and 80 more than --page. For Linux, --page
-is the page size of the device's memory at most, which 'getconf PAGESIZE' tells there. OUT
-ends with the last node: the rest of the flash is erased, 0xFF. Where all was accepted, 'accepted A nodes N bytes B' is
-printed: A operations, the N nodes that they took, and their B bytes of the flash.
+To be written, blocks have 8192 bytes at least, and 80 more than --page, the
+largest piece of a file in one node. For Linux it is the page size of the
+device's memory at most, which 'getconf PAGESIZE' tells there. OUT ends with the
+last node: the rest of the flash is erased, 0xFF. Where all was accepted,
+'accepted A nodes N bytes B' is printed: A operations, the N nodes that they
+took, and their B bytes of the flash.
 
-The listing and each FILE are read before OUT is made. The first operation that is refused,
-or for which there is no room, is the last: the fault has the number of its line, and OUT
-holds what was accepted before it.
+The listing and each FILE are read before OUT is made. The first operation that
+is refused, or for which there is no room, is the last: the fault has the number
+of its line, and OUT holds what was accepted before it.
 
 Example:
   jffs2_image build --block 131072 --blocks 64 tree.txt flash.img
@@ -195,18 +199,22 @@ Exit status:
   2  the command line is wrong";
 
 pub(crate) const APPEND_EPILOGUE: &str = "\
-OUT begins with the bytes of IMAGE. Writing goes on at the first block from which on all
-blocks are blank, that is erased or with a clean marker alone. What is free in the blocks
-before it is not used. 'jffs2_image help build' tells what a listing is, what is printed,
-and what OUT holds after a fault.
+OUT begins with the bytes of IMAGE. Writing goes on at the first block from
+which on all blocks are blank, that is erased or with a clean marker alone. What
+is free in the blocks before it is not used. 'jffs2_image help build' tells what
+a listing is, what is printed, and what OUT holds after a fault.
 
-IMAGE and OUT can be one file, since IMAGE is held in memory before OUT is made. But if
-the power, the host or the disk fails while OUT is written, the old bytes are gone. To be
-safe write another file, and give it the old name when append has ended well.
+A wrong --block or --endian, or damage, hides a part of IMAGE, and then less of
+it counts for what is written. A note on standard error tells of it, as for ls.
+
+IMAGE and OUT can be one file, since IMAGE is held in memory before OUT is made.
+But if the power, the host or the disk fails while OUT is written, the old bytes
+are gone. To be safe write another file, and give it the old name when append
+has ended well.
 
 Examples:
   jffs2_image append --blocks 64 flash.img more.txt new.img
-  jffs2_image append --blocks 64 flash.img more.txt new.img && mv new.img flash.img
+  jffs2_image append --blocks 64 old.img more.txt new.img && mv new.img old.img
 
 Exit status:
   0  done
@@ -214,15 +222,17 @@ Exit status:
   2  the command line is wrong";
 
 pub(crate) const EXTRACT_EPILOGUE: &str = "\
-DIR is made, and in it each directory, regular file and symlink of the image, with its
-permissions and times; --owners gives owners too, for which this host asks a privilege.
-A further name of a file becomes a hard link. Symlinks are made and never followed.
+DIR is made, and in it each directory, regular file and symlink of the image,
+with its permissions and times; --owners gives owners too, for which this host
+asks a privilege. A further name of a file becomes a hard link. Symlinks are
+made and never followed.
 
-Whatever the image says, nothing is made outside DIR: each thing is made anew, below
-directories that were made before it. What this host can't hold is left out, each with a
-line 'left out PATH: REASON' on standard error: devices, FIFOs and sockets, names that are
-no text, that are . or .. or have a slash or a zero byte, directories that were met
-before, and what the host refuses. The rest goes on.
+Whatever the image says, nothing is made outside DIR: each thing is made anew,
+below directories that were made before it. What this host can't hold is left
+out, each with a line 'left out PATH: REASON' on standard error: devices, FIFOs
+and sockets, names that are no text, that are . or .. or have a slash or a zero
+byte, directories that were met before, and what the host refuses. The rest goes
+on.
 
 Example:
   jffs2_image extract --block 131072 flash.img tree
@@ -234,16 +244,18 @@ Exit status:
   3  something was left out";
 
 pub(crate) const LISTING_EPILOGUE: &str = "\
-The listing goes to standard output. 'jffs2_image build' reads it, and 'jffs2_image help
-build' tells what it means. Names are in byte order, so one folder has one listing, which
-can be edited and kept. The content of a file is not in it: a line 'part' names the file,
-from the working directory where DIR is no path from /. A file whose path has a space or
-a line feed, which no such line can name, has its bytes in lines 'write'.
+The listing goes to standard output. 'jffs2_image build' reads it, and
+'jffs2_image help build' tells what it means. Names are in byte order, so one
+folder has one listing, which can be edited and kept. The content of a file is
+not in it: a line 'part' names the file, from the working directory where DIR is
+no path from /. A file whose path has a space or a line feed, which no such line
+can name, has its bytes in lines 'write'.
 
-Hard links become lines 'link'. Symlinks are never followed. With --owner and --time the
-listing is the same whoever makes it and whenever. What a listing can't say is left out,
-each with a line 'left out PATH: REASON' on standard error: sockets, FIFOs and devices,
-names above 254 bytes or that are no text, files above 268435456 bytes, owners above
+Hard links become lines 'link'. Symlinks are never followed. --owner and --time
+take the place of those of the folder: with them the listing is the same whoever
+makes it and whenever. What a listing can't say is left out, each with a line
+'left out PATH: REASON' on standard error: sockets, FIFOs and devices, names
+above 254 bytes or that are no text, files above 268435456 bytes, owners above
 65535 and times that 32 bits do not hold. The rest goes on.
 
 Examples:

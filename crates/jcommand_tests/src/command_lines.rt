@@ -371,7 +371,10 @@ const HELP: [(&str, &str); 19] = [
         "t build --help",
         "Usage: t build [OPTIONS] --blocks <N> <LISTING> <OUT>",
     ),
-    ("t build -h", "Number of blocks of the flash"),
+    (
+        "t build -h",
+        "Blocks of the flash, of 268435456 bytes at most",
+    ),
     ("t help build", "write PATH OFFSET HEX"),
     ("t help build", "accepted A nodes N bytes B"),
     (

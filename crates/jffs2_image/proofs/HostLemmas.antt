@@ -1,18 +1,21 @@
 -- Who is to blame for a fault, and which files were read.
 use Rattle.std.proofs.Common.{◌≡◌, ℕ, Bool, true, false, ◌<◌, List, Option, Some, None, Result, Ok, Err, [], inl, inr, ◌≤◌, take, refl, sym, ap, subst, ◌∙◌, length, arith, take_all}
-use Rattle.std.specs.Prelude.{◌&&◌, if◌then◌else◌, IsTrue, option_map, slice_get, is_some, slice_index_or}
+use Rattle.std.specs.Prelude.{◌≢◌, ◌&&◌, if◌then◌else◌, IsTrue, option_map, slice_get, is_some, slice_index_or}
 use Rattle.std.specs.Option.{option_map_or}
 use Rattle.std.specs.Result.{IsErrAnd}
 use Rattle.flashbase.specs.declared.source.LoadFault.TheVariants as load
 use Rattle.jnode.specs.declared.order.Endian.{Endian}
+use Rattle.jscan.specs.Image.{greatest_image}
 use Rattle.jmount.specs.Mount.{Mount}
+use Rattle.jmount.specs.declared.fault.MountFault.{MountFault}
 use Rattle.jsteps.specs.declared.op.Op.{Op}
 use Rattle.jlisting.specs.Listing.{file_of, lines_of}
 use Rattle.jlisting.specs.declared.line.Line.{Line}
 use Rattle.std.specs.Io.KnownBytes.{Appends, Keeps, append_known}
 use Rattle.std.proofs.KnownBytes.{Appends-nil}
 use Rattle.std.proofs.lemmas.List.{take_at}
-use Rattle.flashbase.specs.Device.{PutsPart}
+use Rattle.std.proofs.lemmas.Option.{slice_get-map}
+use Rattle.flashbase.specs.Device.{PutsPart, next_count}
 use Rattle.jmount.specs.Mounts.{Answers}
 use Rattle.jsteps.specs.declared.page.Page.{Page}
 use Rattle.jlog.specs.Headline.{is_flash_of, resume_address}
@@ -23,20 +26,20 @@ use Rattle.jlog.specs.declared.report.Place.{Place}
 use Rattle.jbuild.specs.Length.{TellsLength}
 use Rattle.jbuild.proofs.LengthLemmas.{goes_on_flash, line_tells_length}
 use Rattle.jbuild.specs.Accepted.{accepted_line}
-use Rattle.jbuild.specs.Emitting.{IsEmitted, IsNotEmitted, front_before}
-use Rattle.jbuild.specs.Operations.{ops_in}
+use Rattle.jbuild.specs.Emitting.{IsEmitted, IsNotEmitted}
+use Rattle.jbuild.specs.Operations.{op_in, ops_in}
 use Rattle.jbuild.specs.Parts.{part_contents, read_of}
 use Rattle.jbuild.specs.declared.parts.Parts.{Parts}
 use Rattle.jreport.specs.declared.faults.ProgramFault.{ProgramFault}
 use Rattle.jreport.specs.declared.faults.ProgramFault.TheVariants as program
-use Rattle.jffs2_image.specs.Host.{AreOf, AreRead, Blames, BlamesMaker, HaveBytes, IsCutShort, IsHandedBack, IsMadeUntil, IsMakeFault, IsReadFault, Leaves, RunsFiles}
-use Rattle.jffs2_image.specs.Writes.{GivesPart, Held, HoldsCut, HoldsPart, IsBehind, IsHanded, IsMade, IsNotMade, IsPartUnread, IsUnreadFile}
+use Rattle.jffs2_image.specs.Host.{AreAllRead, AreLoaded, AreOf, AreRead, Blames, BlamesMaker, HasFailed, HaveBytes, IsCutShort, IsHandedBack, IsMadeUntil, IsMakeFault, IsReadFault, Leaves, RunsFiles}
+use Rattle.jffs2_image.specs.Writes.{GivesCut, GivesPart, Held, HoldsCut, HoldsFront, HoldsPart, IsBehind, IsGivenOn, IsHanded, IsMade, IsNotMade, IsPartUnread, IsPut, IsUnreadFile}
 
 -- ---- the file that is made
 
 -- no file was made, or not to its end
 pub make_fault : (page : Page) (e : Endian) (size blocks : ℕ) (m : Mount) (output : List ℕ) (from : ℕ) (u v same : Type 0) (before now : ℕ) (f : ProgramFault)
-    → resumes_by page e size blocks m ≡ Ok from → IsNotMade page e size blocks m output f → IsMakeFault before now f → Leaves v same f → BlamesMaker {T = Unit {0}} u v before now (Err f)
+    → resumes_by page e size blocks m ≡ Ok from → IsNotMade page e size blocks m output f → IsMakeFault before now f → Leaves v same f → BlamesMaker {T = ℕ} u v before now (Err f)
 make_fault page e size blocks m output from u v same before now (program.Load f) on not made left = absurd not
 make_fault page e size blocks m output from u v same before now (program.Scan f) on not made left = absurd not
 make_fault page e size blocks m output from u v same before now (program.Mount f) on not made left = absurd not
@@ -60,36 +63,36 @@ make_fault page e size blocks m output from u v same before now program.OutOfMem
 
 -- the image is not gone on from
 pub resume_fault : (page : Page) (e : Endian) (size blocks : ℕ) (m : Mount) (u v : Type 0) (before now : ℕ) (f : SessionFault) (line : Option ℕ)
-    → resumes_by page e size blocks m ≡ Err f → u → BlamesMaker {T = Unit {0}} u v before now (Err (program.Session f line))
+    → resumes_by page e size blocks m ≡ Err f → u → BlamesMaker {T = ℕ} u v before now (Err (program.Session f line))
 resume_fault page e size blocks m u v before now f line is still = by m.read_only (is_flash_of size blocks m.image && page_fits size page) is
   where
     by : (b c : Bool) → (if b then Err session.ReadOnly else (if c then Ok (resume_address e size blocks m.image) else Err session.Geometry)) ≡ Err f
-        → BlamesMaker {T = Unit {0}} u v before now (Err (program.Session f line))
-    by true c same = let is : session.ReadOnly ≡ f = cc in subst (λ (z : SessionFault). BlamesMaker {T = Unit {0}} u v before now (Err (program.Session z line))) is still
+        → BlamesMaker {T = ℕ} u v before now (Err (program.Session f line))
+    by true c same = let is : session.ReadOnly ≡ f = cc in subst (λ (z : SessionFault). BlamesMaker {T = ℕ} u v before now (Err (program.Session z line))) is still
     by false true same = cc
-    by false false same = let is : session.Geometry ≡ f = cc in subst (λ (z : SessionFault). BlamesMaker {T = Unit {0}} u v before now (Err (program.Session z line))) is still
+    by false false same = let is : session.Geometry ≡ f = cc in subst (λ (z : SessionFault). BlamesMaker {T = ℕ} u v before now (Err (program.Session z line))) is still
 
 -- a run on it stopped
 pub run_fault : (held : Held) (page : Page) (e : Endian) (size blocks : ℕ) (m : Mount) (ops : List Op) (accepted : ℕ) (places : List Place) (u v : Type 0) (before now : ℕ) (f : SessionFault) (line : Option ℕ)
-    → IsMade held page e size blocks m ops accepted places (Some f) → IsMadeUntil before now (Some f) → v → BlamesMaker {T = Unit {0}} u v before now (Err (program.Session f line))
+    → IsMade held page e size blocks m ops accepted places (Some f) → IsMadeUntil before now (Some f) → v → BlamesMaker {T = ℕ} u v before now (Err (program.Session f line))
 run_fault held page e size blocks m ops accepted places u v before now session.ReadOnly line made until left = absurd (made.put.emitted.runs.5.stop)
 run_fault held page e size blocks m ops accepted places u v before now session.Geometry line made until left = absurd (made.put.emitted.runs.5.stop)
-run_fault held page e size blocks m ops accepted places u v before now session.Sink line made until left = (inl until, left)
+run_fault held page e size blocks m ops accepted places u v before now session.Sink line made until left = (until, left)
 run_fault held page e size blocks m ops accepted places u v before now (session.Refused f) line made until left = left
 run_fault held page e size blocks m ops accepted places u v before now (session.Full a b) line made until left = left
 run_fault held page e size blocks m ops accepted places u v before now session.OutOfMemory line made until left = left
 run_fault held page e size blocks m ops accepted places u v before now session.Broken line made until left = left
 
 -- the answer is that fault
-pub maker_fault : (u v : Type 0) (before now : ℕ) (f : ProgramFault) (r : Result (Unit {0}) ProgramFault)
-    → IsErrAnd r (λ is. is ≡ f) → BlamesMaker {T = Unit {0}} u v before now (Err f) → BlamesMaker {T = Unit {0}} u v before now r
+pub maker_fault : (u v : Type 0) (before now : ℕ) (f : ProgramFault) (r : Result ℕ ProgramFault)
+    → IsErrAnd r (λ is. is ≡ f) → BlamesMaker {T = ℕ} u v before now (Err f) → BlamesMaker {T = ℕ} u v before now r
 maker_fault u v before now f (Ok x) is w = absurd is
-maker_fault u v before now f (Err other) is w = subst (λ (z : ProgramFault). BlamesMaker {T = Unit {0}} u v before now (Err z)) (sym is) w
+maker_fault u v before now f (Err other) is w = subst (λ (z : ProgramFault). BlamesMaker {T = ℕ} u v before now (Err z)) (sym is) w
 
 -- ---- both
 
 -- no file was read in vain
-pub lines_blame : (u v : Type 0) (rb rn mb mn : ℕ) (r : Result (Unit {0}) ProgramFault) → rn ≡ rb → BlamesMaker u v mb mn r → Blames u v rb rn mb mn r
+pub lines_blame : (u v : Type 0) (rb rn mb mn : ℕ) (r : Result ℕ ProgramFault) → rn ≡ rb → BlamesMaker u v mb mn r → Blames u v rb rn mb mn r
 lines_blame u v rb rn mb mn (Ok x) read made = (read, made.0, made.1)
 lines_blame u v rb rn mb mn (Err (program.Load f)) read made = absurd made
 lines_blame u v rb rn mb mn (Err (program.Scan f)) read made = tt
@@ -142,7 +145,7 @@ file_blame T u v rb rn mb mn name told program.Output still not read = absurd no
 file_blame T u v rb rn mb mn name told program.OutOfMemory still not read = absurd not
 
 -- a fault is none of an answer
-pub any_blame : (T : Type 0) (u v : Type 0) (rb rn mb mn : ℕ) (f : ProgramFault) → Blames {T = Unit {0}} u v rb rn mb mn (Err f) → Blames {T = T} u v rb rn mb mn (Err f)
+pub any_blame : (T : Type 0) (u v : Type 0) (rb rn mb mn : ℕ) (f : ProgramFault) → Blames {T = ℕ} u v rb rn mb mn (Err f) → Blames {T = T} u v rb rn mb mn (Err f)
 any_blame T u v rb rn mb mn (program.Load load.Device) w = w
 any_blame T u v rb rn mb mn (program.Load load.TooLarge) w = w
 any_blame T u v rb rn mb mn (program.Load load.OutOfMemory) w = w
@@ -165,7 +168,7 @@ any_blame T u v rb rn mb mn program.OutOfMemory w = w
 
 -- the answer is that fault, and a file was read before
 pub fault_blame : (T : Type 0) (u v : Type 0) (rb mid rn mb mn : ℕ) (f : ProgramFault) (r : Result T ProgramFault)
-    → IsErrAnd r (λ is. is ≡ f) → mid ≡ rb → Blames {T = Unit {0}} u v mid rn mb mn (Err f) → Blames {T = T} u v rb rn mb mn r
+    → IsErrAnd r (λ is. is ≡ f) → mid ≡ rb → Blames {T = ℕ} u v mid rn mb mn (Err f) → Blames {T = T} u v rb rn mb mn r
 fault_blame T u v rb mid rn mb mn f (Ok x) is same w = absurd is
 fault_blame T u v rb mid rn mb mn f (Err other) is same w =
     subst (λ (k : ℕ). Blames {T = T} u v k rn mb mn (Err other)) same (subst (λ (z : ProgramFault). Blames {T = T} u v mid rn mb mn (Err z)) (sym is) (any_blame T u v mid rn mb mn f w))
@@ -175,17 +178,19 @@ fault_blame T u v rb mid rn mb mn f (Err other) is same w =
 -- the files of the first n lines were read
 pub record IsReading (told : List ℕ → Option (List ℕ)) (lines : List Line) (n : ℕ) (parts : Parts) : Type 0 where
   pub own : (name bytes : List ℕ) → read_of parts name ≡ Some bytes → AreOf (told name) bytes
+  pub within : (name bytes : List ℕ) → read_of parts name ≡ Some bytes → length bytes ≤ greatest_image
   pub each : (k : ℕ) (x : Line) (name : List ℕ) → k < n → slice_index_or lines k x ≡ x → file_of x.action ≡ Some name → IsTrue (is_some (read_of parts name))
 
-got_of : (told : Option (List ℕ)) (o : Option (List ℕ)) → IsTrue (is_some o) → ((bytes : List ℕ) → o ≡ Some bytes → AreOf told bytes) → AreOf told (option_map_or (λ bytes. bytes) o [])
-got_of told (Some bytes) is own = own bytes refl
-got_of told None is own = cc
+got_of : (told : Option (List ℕ)) (o : Option (List ℕ)) → IsTrue (is_some o) → ((bytes : List ℕ) → o ≡ Some bytes → AreOf told bytes)
+    → ((bytes : List ℕ) → o ≡ Some bytes → length bytes ≤ greatest_image) → AreLoaded told (option_map_or (λ bytes. bytes) o [])
+got_of told (Some bytes) is own within = (own bytes refl, within bytes refl)
+got_of told None is own within = cc
 
 -- all
 pub all_read : (told : List ℕ → Option (List ℕ)) (lines : List Line) (n : ℕ) (parts : Parts) → IsReading told lines n parts → length lines ≤ n → AreRead told lines parts
 all_read told lines n parts was all = λ name named.
     let is = was.each named.0 named.1 name (let below = named.2 in omega arith) named.3 named.4 in
-    (is, got_of (told name) (read_of parts name) is (was.own name))
+    (is, got_of (told name) (read_of parts name) is (was.own name) (was.within name))
 
 -- the line tells the length of what went out for them
 tells_on_base : (held : Held) (page : Page) (e : Endian) (size blocks : ℕ) (base : List ℕ) (ops : List Op) (m : Mount) (accepted : ℕ) (places : List Place) → m.image ≡ base
@@ -198,9 +203,9 @@ have_bytes : (told : List ℕ → Option (List ℕ)) (lines : List Line) (parts 
 have_bytes told lines parts are = λ name named. (are name named).1
 
 pub files_of_all : (told : List ℕ → Option (List ℕ)) (held : Held) (page : Page) (e : Endian) (size blocks : ℕ) (base text : List ℕ) (lines : List Line) (parts : Parts) (m : Mount) (accepted : ℕ) (places : List Place) (from : ℕ)
-    (old new : Option (List ℕ)) (x : Unit {0}) → m.image ≡ base → from ≡ resume_address e size blocks base → AreRead told lines parts → lines_of text ≡ Ok lines → Answers e size base (Ok m)
+    (old new : Option (List ℕ)) (x : ℕ) → m.image ≡ base → from ≡ resume_address e size blocks base → AreRead told lines parts → lines_of text ≡ Ok lines → Answers e size base (Ok m)
     → IsMade held page e size blocks m (ops_in (part_contents parts) lines) accepted places None → Appends old new (accepted_line from accepted places)
-    → RunsFiles {T = Unit {0}} told held page e size blocks base text old new (Ok x)
+    → RunsFiles {T = ℕ} told held page e size blocks base text old new (Ok x)
 files_of_all told held page e size blocks base text lines parts m accepted places from old new x same is are read mounts made put = (
   lines,
   accepted,
@@ -212,12 +217,12 @@ files_of_all told held page e size blocks base text lines parts m accepted place
 )
 
 pub files_in_part : (told : List ℕ → Option (List ℕ)) (held : Held) (page : Page) (e : Endian) (size blocks : ℕ) (base text : List ℕ) (lines : List Line) (parts : Parts) (m : Mount) (accepted : ℕ) (places : List Place) (from : ℕ)
-    (old new : Option (List ℕ)) (r : Result (Unit {0}) ProgramFault) → IsErrAnd r (λ is. is ≡ program.Output) → from ≡ resume_address e size blocks base → AreRead told lines parts → lines_of text ≡ Ok lines
+    (old new : Option (List ℕ)) (r : Result ℕ ProgramFault) → IsErrAnd r (λ is. is ≡ program.Output) → from ≡ resume_address e size blocks base → AreRead told lines parts → lines_of text ≡ Ok lines
     → Answers e size base (Ok m) → IsMade held page e size blocks m (ops_in (part_contents parts) lines) accepted places None → PutsPart old new (accepted_line from accepted places)
-    → RunsFiles {T = Unit {0}} told held page e size blocks base text old new r
+    → RunsFiles {T = ℕ} told held page e size blocks base text old new r
 files_in_part told held page e size blocks base text lines parts m accepted places from old new (Ok x) fault is are read mounts made put = absurd fault
 files_in_part told held page e size blocks base text lines parts m accepted places from old new (Err f) fault is are read mounts made put =
-    subst (λ (z : ProgramFault). RunsFiles {T = Unit {0}} told held page e size blocks base text old new (Err z)) (sym fault) (
+    subst (λ (z : ProgramFault). RunsFiles {T = ℕ} told held page e size blocks base text old new (Err z)) (sym fault) (
       lines,
       accepted,
       places,
@@ -226,67 +231,73 @@ files_in_part told held page e size blocks base text lines parts m accepted plac
       subst (λ (at : ℕ). PutsPart old new (accepted_line at accepted places)) is put,
     )
 
--- what was kept is a beginning
-behind_kept : (taken given : Option (List ℕ)) → Keeps taken given → IsBehind given taken
-behind_kept None given kept = tt
-behind_kept (Some xs) None kept = absurd kept
-behind_kept (Some xs) (Some ys) kept = (length xs, ap Some (kept ∙ sym (take_all (length xs) xs (omega arith))))
-
--- a file that has all that was put out has a beginning of it
-made_in_part : (held : Held) (page : Page) (e : Endian) (size blocks : ℕ) (m : Mount) (ops : List Op) (accepted : ℕ) (places : List Place) (stopped : Option SessionFault)
-    → IsMade held page e size blocks m ops accepted places stopped → HoldsPart held page e size blocks m.image ops
-made_in_part held page e size blocks m ops accepted places stopped made = (
-  made.old,
-  made.given,
-  (
-    made.put.taken,
-    inr (accepted, places, stopped, made.before, made.now, made.put.emitted),
-    behind_kept made.put.taken made.given made.put.finished,
-  ),
-  made.handed,
-)
-
 cut_short : (told : List ℕ → Option (List ℕ)) (held : Held) (page : Page) (e : Endian) (size blocks : ℕ) (base text : List ℕ) (lines : List Line) (parts : Parts) (m : Mount)
     → m.image ≡ base → AreRead told lines parts → lines_of text ≡ Ok lines → HoldsPart held page e size blocks m.image (ops_in (part_contents parts) lines)
     → IsCutShort told held page e size blocks base text
 cut_short told held page e size blocks base text lines parts m same are read holds =
     (lines, part_contents parts, read, have_bytes told lines parts are, subst (λ (image : List ℕ). HoldsPart held page e size blocks image (ops_in (part_contents parts) lines)) same holds)
 
+-- an operation that stopped a run is that of a line
+no_line : (files : List ℕ → List ℕ) (lines : List Line) (n : ℕ) (o : Op) → slice_get (ops_in files lines) n ≡ Some o → None ≡ option_map (λ l. l.number) (slice_get lines n) → ⊥
+no_line files lines n o at none = by (slice_get lines n) (sym (slice_get-map (op_in files) lines n) ∙ at) none
+  where
+    by : (l : Option Line) → option_map (op_in files) l ≡ Some o → None ≡ option_map (λ l. l.number) l → ⊥
+    by (Some l) at none = cc
+    by None at none = cc
+
 pub files_until : (told : List ℕ → Option (List ℕ)) (held : Held) (page : Page) (e : Endian) (size blocks : ℕ) (base text : List ℕ) (lines : List Line) (parts : Parts) (m : Mount) (accepted : ℕ) (places : List Place)
-    (old new : Option (List ℕ)) (f : SessionFault) (line : Option ℕ) → line ≡ option_map (λ l. l.number) (slice_get lines accepted) → m.image ≡ base → AreRead told lines parts → lines_of text ≡ Ok lines
+    (old new : Option (List ℕ)) (f : SessionFault) (line : Option ℕ) → line ≡ option_map (λ l. l.number) (slice_get lines accepted) → AreRead told lines parts → lines_of text ≡ Ok lines
     → Answers e size base (Ok m) → IsMade held page e size blocks m (ops_in (part_contents parts) lines) accepted places (Some f)
-    → RunsFiles {T = Unit {0}} told held page e size blocks base text old new (Err (program.Session f line))
-files_until told held page e size blocks base text lines parts m accepted places old new session.Sink None is same are read mounts made =
-    cut_short told held page e size blocks base text lines parts m same are read (made_in_part held page e size blocks m (ops_in (part_contents parts) lines) accepted places (Some session.Sink) made)
-files_until told held page e size blocks base text lines parts m accepted places old new session.OutOfMemory None is same are read mounts made =
-    cut_short told held page e size blocks base text lines parts m same are read (made_in_part held page e size blocks m (ops_in (part_contents parts) lines) accepted places (Some session.OutOfMemory) made)
-files_until told held page e size blocks base text lines parts m accepted places old new session.ReadOnly None is same are read mounts made = tt
-files_until told held page e size blocks base text lines parts m accepted places old new session.Geometry None is same are read mounts made = tt
-files_until told held page e size blocks base text lines parts m accepted places old new (session.Refused f) None is same are read mounts made = tt
-files_until told held page e size blocks base text lines parts m accepted places old new (session.Full a b) None is same are read mounts made = tt
-files_until told held page e size blocks base text lines parts m accepted places old new session.Broken None is same are read mounts made = tt
-files_until told held page e size blocks base text lines parts m accepted places old new f (Some n) is same are read mounts made =
+    → RunsFiles {T = ℕ} told held page e size blocks base text old new (Err (program.Session f line))
+files_until told held page e size blocks base text lines parts m accepted places old new f None is are read mounts made =
+    absurd (no_line (part_contents parts) lines accepted made.put.emitted.runs.4 made.put.emitted.runs.5.next is)
+files_until told held page e size blocks base text lines parts m accepted places old new f (Some n) is are read mounts made =
     (lines, accepted, places, record { mount = m; files = part_contents parts; read = read; mounts = mounts; made = made }, have_bytes told lines parts are, sym is)
 
+all_of_text : (told : List ℕ → Option (List ℕ)) (lines : List Line) (parts : Parts) (text : List ℕ) → AreRead told lines parts → lines_of text ≡ Ok lines → AreAllRead told text
+all_of_text told lines parts text are read = (lines, part_contents parts, read, have_bytes told lines parts are)
+
+-- a fault of the base
+pub files_not_mounted : (told : List ℕ → Option (List ℕ)) (held : Held) (page : Page) (e : Endian) (size blocks : ℕ) (base text : List ℕ) (lines : List Line) (parts : Parts) (old new : Option (List ℕ)) (f : MountFault) (r : Result ℕ ProgramFault)
+    → IsErrAnd r (λ is. is ≡ program.Mount f) → AreRead told lines parts → lines_of text ≡ Ok lines → RunsFiles {T = ℕ} told held page e size blocks base text old new r
+files_not_mounted told held page e size blocks base text lines parts old new f (Ok x) fault are read = absurd fault
+files_not_mounted told held page e size blocks base text lines parts old new f (Err g) fault are read =
+    subst (λ (z : ProgramFault). RunsFiles {T = ℕ} told held page e size blocks base text old new (Err z)) (sym fault) (all_of_text told lines parts text are read)
+
+pub files_not_resumed : (told : List ℕ → Option (List ℕ)) (held : Held) (page : Page) (e : Endian) (size blocks : ℕ) (base text : List ℕ) (lines : List Line) (parts : Parts) (m : Mount) (old new : Option (List ℕ)) (f : SessionFault) (r : Result ℕ ProgramFault)
+    → resumes_by page e size blocks m ≡ Err f → IsErrAnd r (λ is. is ≡ program.Session f None) → AreRead told lines parts → lines_of text ≡ Ok lines → RunsFiles {T = ℕ} told held page e size blocks base text old new r
+files_not_resumed told held page e size blocks base text lines parts m old new f (Ok x) is fault are read = absurd fault
+files_not_resumed told held page e size blocks base text lines parts m old new f (Err g) is fault are read =
+    subst (λ (z : ProgramFault). RunsFiles {T = ℕ} told held page e size blocks base text old new (Err z)) (sym fault)
+    (by m.read_only (is_flash_of size blocks m.image && page_fits size page) is)
+  where
+    by : (b c : Bool) → (if b then Err session.ReadOnly else (if c then Ok (resume_address e size blocks m.image) else Err session.Geometry)) ≡ Err f
+        → RunsFiles {T = ℕ} told held page e size blocks base text old new (Err (program.Session f None))
+    by true c same = let is : session.ReadOnly ≡ f = cc in
+        subst (λ (z : SessionFault). RunsFiles {T = ℕ} told held page e size blocks base text old new (Err (program.Session z None))) is (all_of_text told lines parts text are read)
+    by false true same = cc
+    by false false same = let is : session.Geometry ≡ f = cc in
+        subst (λ (z : SessionFault). RunsFiles {T = ℕ} told held page e size blocks base text old new (Err (program.Session z None))) is (all_of_text told lines parts text are read)
+
 -- no fault of making is one of a line
-pub files_not_made : (told : List ℕ → Option (List ℕ)) (held : Held) (page : Page) (e : Endian) (size blocks : ℕ) (output base text : List ℕ) (lines : List Line) (parts : Parts) (m : Mount) (old new : Option (List ℕ)) (f : ProgramFault) (r : Result (Unit {0}) ProgramFault)
+pub files_not_made : (told : List ℕ → Option (List ℕ)) (held : Held) (page : Page) (e : Endian) (size blocks : ℕ) (output base text : List ℕ) (lines : List Line) (parts : Parts) (m : Mount) (old new : Option (List ℕ)) (f : ProgramFault) (r : Result ℕ ProgramFault)
     → IsErrAnd r (λ is. is ≡ f) → m.image ≡ base → AreRead told lines parts → lines_of text ≡ Ok lines → IsNotMade page e size blocks m output f
-    → HoldsCut held page e size blocks m.image (ops_in (part_contents parts) lines) f → RunsFiles {T = Unit {0}} told held page e size blocks base text old new r
+    → HoldsCut held page e size blocks m.image (ops_in (part_contents parts) lines) f → RunsFiles {T = ℕ} told held page e size blocks base text old new r
 files_not_made told held page e size blocks output base text lines parts m old new f (Ok x) fault same are read not cut = absurd fault
 files_not_made told held page e size blocks output base text lines parts m old new f (Err g) fault same are read not cut =
-    subst (λ (z : ProgramFault). RunsFiles {T = Unit {0}} told held page e size blocks base text old new (Err z)) (sym fault) (by f not cut)
+    subst (λ (z : ProgramFault). RunsFiles {T = ℕ} told held page e size blocks base text old new (Err z)) (sym fault) (by f not cut)
   where
     by : (f : ProgramFault) → IsNotMade page e size blocks m output f → HoldsCut held page e size blocks m.image (ops_in (part_contents parts) lines) f
-        → RunsFiles {T = Unit {0}} told held page e size blocks base text old new (Err f)
+        → RunsFiles {T = ℕ} told held page e size blocks base text old new (Err f)
     by (program.Load f) not cut = absurd not
     by (program.Scan f) not cut = tt
-    by (program.Mount f) not cut = tt
+    by (program.Mount f) not cut = absurd not
     by (program.File name) not cut = cut
     by (program.Listing k) not cut = tt
     by (program.Session session.Sink None) not cut = cut_short told held page e size blocks base text lines parts m same are read cut
-    by (program.Session session.OutOfMemory None) not cut = cut_short told held page e size blocks base text lines parts m same are read cut
-    by (program.Session session.ReadOnly None) not cut = tt
-    by (program.Session session.Geometry None) not cut = tt
+    by (program.Session session.OutOfMemory None) not cut = (all_of_text told lines parts text are read, subst (λ (image : List ℕ). HoldsFront held e size blocks image) same cut)
+    by (program.Session session.ReadOnly None) not cut = all_of_text told lines parts text are read
+    by (program.Session session.Geometry None) not cut = all_of_text told lines parts text are read
     by (program.Session (session.Refused f) None) not cut = tt
     by (program.Session (session.Full a b) None) not cut = tt
     by (program.Session session.Broken None) not cut = tt
@@ -315,18 +326,54 @@ same_behind given None taken kept part = tt
 same_behind given (Some xs) None kept part = absurd kept
 same_behind given (Some xs) (Some ys) kept part = (part.0, part.1 ∙ ap (λ (l : List ℕ). Some (take part.0 l)) kept)
 
+-- all of it
+pub given_on : (stopped : Option SessionFault) (taken given : Option (List ℕ)) (before now : ℕ) → Keeps taken given → now ≡ before → IsGivenOn stopped taken given before now
+given_on None taken given before now kept same = (kept, same)
+given_on (Some session.Sink) taken given before now kept same = inl (kept, same)
+given_on (Some session.OutOfMemory) taken given before now kept same = (kept, same)
+given_on (Some session.ReadOnly) taken given before now kept same = (kept, same)
+given_on (Some session.Geometry) taken given before now kept same = (kept, same)
+given_on (Some (session.Refused f)) taken given before now kept same = (kept, same)
+given_on (Some (session.Full a b)) taken given before now kept same = (kept, same)
+given_on (Some session.Broken) taken given before now kept same = (kept, same)
+
+-- the output failed after it had stopped a run
+pub given_on_part : (stopped : Option SessionFault) (mid taken given : Option (List ℕ)) (before now : ℕ) → stopped ≡ Some session.Sink → Keeps mid taken → IsBehind given taken → now ≡ next_count before
+    → IsGivenOn stopped mid given before now
+given_on_part stopped mid taken given before now is kept part same =
+    subst (λ (s : Option SessionFault). IsGivenOn s mid given before now) (sym is) (inr (same_behind given mid taken kept part, same))
+
+-- how often it failed
+pub put_until : (page : Page) (e : Endian) (size blocks : ℕ) (m : Mount) (ops : List Op) (accepted : ℕ) (places : List Place) (stopped : Option SessionFault) (old given : Option (List ℕ)) (before now : ℕ)
+    → IsPut page e size blocks m ops accepted places stopped old given before now → IsMadeUntil before now stopped
+put_until page e size blocks m ops accepted places None old given before now put = put.given_on.1 ∙ put.emitted.runs.3
+put_until page e size blocks m ops accepted places (Some session.Sink) old given before now put = by put.given_on
+  where
+    once : put.count ≡ next_count before
+    once = put.emitted.runs.5.stop.2
+
+    by : IsGivenOn (Some session.Sink) put.taken given put.count now → HasFailed before now
+    by (inl is) = inl (is.1 ∙ once)
+    by (inr is) = inr (is.1 ∙ ap next_count once)
+put_until page e size blocks m ops accepted places (Some session.OutOfMemory) old given before now put = tt
+put_until page e size blocks m ops accepted places (Some session.ReadOnly) old given before now put = tt
+put_until page e size blocks m ops accepted places (Some session.Geometry) old given before now put = tt
+put_until page e size blocks m ops accepted places (Some (session.Refused f)) old given before now put = tt
+put_until page e size blocks m ops accepted places (Some (session.Full a b)) old given before now put = tt
+put_until page e size blocks m ops accepted places (Some session.Broken) old given before now put = tt
+
 -- where operations were run
 pub part_of_run : (page : Page) (e : Endian) (size blocks : ℕ) (base : List ℕ) (ops : List Op) (accepted : ℕ) (places : List Place) (stopped : Option SessionFault) (old mid taken given : Option (List ℕ)) (before now : ℕ)
-    → IsEmitted page e size blocks base ops accepted places stopped old mid before now → Keeps mid taken → IsBehind given taken → GivesPart page e size blocks base ops old given
-part_of_run page e size blocks base ops accepted places stopped old mid taken given before now emitted kept part =
-    (mid, inr (accepted, places, stopped, before, now, emitted), same_behind given mid taken kept part)
+    → stopped ≢ Some session.Sink → IsEmitted page e size blocks base ops accepted places stopped old mid before now → Keeps mid taken → IsBehind given taken → GivesPart page e size blocks base ops old given
+part_of_run page e size blocks base ops accepted places stopped old mid taken given before now other emitted kept part =
+    (mid, inr (accepted, places, stopped, before, now, other, emitted), same_behind given mid taken kept part)
 
 -- and where none was
 pub part_of_front : (page : Page) (e : Endian) (size blocks : ℕ) (m : Mount) (ops : List Op) (old mid taken given : Option (List ℕ)) (before now : ℕ) (f : SessionFault)
-    → IsNotEmitted page e size blocks m old mid before now f → Keeps mid taken → IsBehind given taken → GivesPart page e size blocks m.image ops old given
+    → IsNotEmitted page e size blocks m old mid before now f → Keeps mid taken → IsBehind given taken → GivesCut f page e size blocks m.image ops old given
 part_of_front page e size blocks m ops old mid taken given before now session.Sink not kept part = (mid, inl not.1, same_behind given mid taken kept part)
 part_of_front page e size blocks m ops old mid taken given before now session.OutOfMemory not kept part =
-    (mid, inl (part_all old mid (front_before e size blocks m.image) not.1), same_behind given mid taken kept part)
+    (mid, not.1, same_behind given mid taken kept part)
 part_of_front page e size blocks m ops old mid taken given before now session.ReadOnly not kept part =
     (mid, inl (part_none old mid (front_before e size blocks m.image) not.1), same_behind given mid taken kept part)
 part_of_front page e size blocks m ops old mid taken given before now session.Geometry not kept part =
@@ -337,7 +384,7 @@ part_of_front page e size blocks m ops old mid taken given before now session.Br
 
 -- it is what the file holds
 pub cut_part : (held : Held) (page : Page) (e : Endian) (size blocks : ℕ) (base : List ℕ) (ops : List Op) (old given : Option (List ℕ)) (f : SessionFault)
-    → GivesPart page e size blocks base ops old given → IsHanded held old given → HoldsCut held page e size blocks base ops (program.Session f None)
+    → GivesCut f page e size blocks base ops old given → IsHanded held old given → HoldsCut held page e size blocks base ops (program.Session f None)
 cut_part held page e size blocks base ops old given session.Sink part handed = (old, given, part, handed)
 cut_part held page e size blocks base ops old given session.OutOfMemory part handed = (old, given, part, handed)
 cut_part held page e size blocks base ops old given session.ReadOnly part handed = tt

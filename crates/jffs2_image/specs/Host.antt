@@ -1,8 +1,9 @@
 -- What a command that writes an image does with the host: the files that it reads, and the one that it makes.
-use Rattle.std.specs.Prelude.{◌≡◌, ◌⊎◌, ◌++◌, ℕ, List, [], ◌∷◌, Option, Some, None, Result, Ok, Err, IfSome, IsTrue, is_some, option_map, slice_get}
+use Rattle.std.specs.Prelude.{◌≡◌, ◌⊎◌, ◌++◌, ◌≤◌, ℕ, List, [], ◌∷◌, Option, Some, None, Result, Ok, Err, IfSome, IsTrue, is_some, length, option_map, slice_get}
 use Rattle.std.specs.Io.KnownBytes.{Appends}
 use Rattle.flashbase.specs.Device.{PutsPart, next_count}
 use Rattle.flashbase.specs.declared.source.LoadFault.TheVariants as load
+use Rattle.jscan.specs.Image.{greatest_image}
 use Rattle.jlisting.specs.Listing.{lines_of}
 use Rattle.jlisting.specs.declared.line.Line.{Line}
 use Rattle.jsteps.specs.declared.page.Page.{Page}
@@ -21,7 +22,7 @@ use Rattle.jcommand.specs.declared.parsed.Request.{Request}
 use Rattle.jcommand.specs.declared.command_line.RequestFault.{RequestFault}
 use Rattle.jreport.specs.declared.faults.ProgramFault.{ProgramFault}
 use Rattle.jreport.specs.declared.faults.ProgramFault.TheVariants as program
-use Rattle.jffs2_image.specs.Writes.{Held, HoldsNothing, HoldsPart, IsNamedByLine, IsPartUnread, IsRunOn, IsTooLong}
+use Rattle.jffs2_image.specs.Writes.{Held, HoldsFront, HoldsNothing, HoldsPart, IsNamedByLine, IsPartUnread, IsRunOn, IsTooLong}
 use Rattle.jffs2_image.specs.declared.host.FileFault.{FileFault}
 use Rattle.jffs2_image.specs.declared.host.FileFault.TheVariants as file
 use Rattle.jffs2_image.specs.declared.host.MakeFault.{MakeFault}
@@ -54,13 +55,17 @@ GivesFile told rest = IfSome told (λ bytes. rest ≡ Some bytes)
 abbrev pub AreOf : Option (List ℕ) → List ℕ → Type 0
 AreOf told bytes = IfSome told (λ known. bytes ≡ known)
 
+-- and they are no more than the greatest image has
+abbrev pub AreLoaded : Option (List ℕ) → List ℕ → Type 0
+AreLoaded told bytes = AreOf told bytes × (length bytes ≤ greatest_image)
+
 -- Each file that a line names was read, and has the bytes that it has on the host.
 abbrev pub AreRead : (List ℕ → Option (List ℕ)) → List Line → Parts → Type 0
-AreRead told lines parts = (name : List ℕ) → IsNamedByLine lines name → IsTrue (is_some (read_of parts name)) × AreOf (told name) (part_contents parts name)
+AreRead told lines parts = (name : List ℕ) → IsNamedByLine lines name → IsTrue (is_some (read_of parts name)) × AreLoaded (told name) (part_contents parts name)
 
 -- files have those bytes where lines name them
 abbrev pub HaveBytes : (List ℕ → Option (List ℕ)) → List Line → (List ℕ → List ℕ) → Type 0
-HaveBytes told lines files = (name : List ℕ) → IsNamedByLine lines name → AreOf (told name) (files name)
+HaveBytes told lines files = (name : List ℕ) → IsNamedByLine lines name → AreLoaded (told name) (files name)
 
 -- The file that was made has a beginning of what goes out for the base and the operations of all lines, with the bytes of the
 -- host's files.
@@ -69,9 +74,14 @@ IsCutShort told held page e size blocks base text =
     (lines : List Line) × (files : List ℕ → List ℕ) × (lines_of text ≡ Ok lines) × HaveBytes told lines files
     × HoldsPart held page e size blocks base (ops_in files lines)
 
+-- the lines and the files that they name were read
+abbrev pub AreAllRead : (List ℕ → Option (List ℕ)) → List ℕ → Type 0
+AreAllRead told text = (lines : List Line) × (files : List ℕ → List ℕ) × (lines_of text ≡ Ok lines) × HaveBytes told lines files
+
 -- The operations that were run have the bytes of the host's files: those of all lines, told in a line that has the length of
--- what went out for them, or in a beginning of it; or those up to the one that stopped them. Where no line tells of them, because
--- the file failed or memory ran out, a beginning of what goes out for them is in the file that was made; or it is empty, or there is none.
+-- what went out for them, or in a beginning of it; or those up to the one that stopped them. Where no line is told, because
+-- the file failed before or after them, a beginning of what goes out for them is in it; where memory ran out before them, a
+-- beginning of the base; or it is empty, or there is none. A fault of the base comes after all was read.
 abbrev pub RunsFiles : {T : Type 0} → (List ℕ → Option (List ℕ)) → Held → Page → Endian → ℕ → ℕ → List ℕ → List ℕ → Option (List ℕ) → Option (List ℕ) → Result T ProgramFault → Type 0
 RunsFiles told held page e size blocks base text old new (Ok _) =
     (lines : List Line) × (accepted : ℕ) × (places : List Place) × (run : IsRunOn held page e size blocks base text lines accepted places None)
@@ -86,7 +96,10 @@ RunsFiles told held page e size blocks base text old new (Err (program.Session f
 RunsFiles told held page e size blocks base text old new (Err (program.Load load.TooLarge)) =
     (lines : List Line) × (lines_of text ≡ Ok lines) × IsPartUnread told lines (program.Load load.TooLarge)
 RunsFiles told held page e size blocks base text old new (Err (program.Session session.Sink None)) = IsCutShort told held page e size blocks base text
-RunsFiles told held page e size blocks base text old new (Err (program.Session session.OutOfMemory None)) = IsCutShort told held page e size blocks base text
+RunsFiles told held page e size blocks base text old new (Err (program.Session session.OutOfMemory None)) = AreAllRead told text × HoldsFront held e size blocks base
+RunsFiles told held page e size blocks base text old new (Err (program.Session session.ReadOnly None)) = AreAllRead told text
+RunsFiles told held page e size blocks base text old new (Err (program.Session session.Geometry None)) = AreAllRead told text
+RunsFiles told held page e size blocks base text old new (Err (program.Mount fault)) = AreAllRead told text
 RunsFiles told held page e size blocks base text old new (Err program.OutOfMemory) = (held.1 ≡ held.0) ⊎ HoldsNothing held
 RunsFiles told held page e size blocks base text old new (Err (program.File name)) = held.1 ≡ held.0
 RunsFiles told held page e size blocks base text old new (Err _) = Unit {0}
@@ -129,7 +142,7 @@ IsHandedBack before _ back = Unit {0}
 
 -- why a run on a file that was made stopped: the file failed, or it did not
 abbrev pub IsMadeUntil : ℕ → ℕ → Option SessionFault → Type 0
-IsMadeUntil before now (Some session.Sink) = now ≡ next_count before
+IsMadeUntil before now (Some session.Sink) = HasFailed before now
 IsMadeUntil before now (Some fault) = Unit {0}
 IsMadeUntil before now None = now ≡ before
 

@@ -1,5 +1,5 @@
 -- What a run of the program does: to standard output, to standard error, and in its outcome.
-use Rattle.std.specs.Prelude.{◌≡◌, ◌⊎◌, ◌==◌, ℕ, Bool, true, false, IsFalse, List, [], Option, Some, None, Result, Ok, Err, IsErrOf, if◌then◌else◌, string_bytes}
+use Rattle.std.specs.Prelude.{◌≡◌, ◌⊎◌, ◌==◌, ℕ, Bool, true, false, IsFalse, IsTrue, is_some, List, [], Option, Some, None, Result, Ok, Err, IfOk, IsErrAnd, IsErrOf, if◌then◌else◌, string_bytes}
 use Rattle.std.specs.Io.KnownBytes.{Appends, Keeps}
 use Rattle.flashbase.specs.Device.{PutsPart, next_count}
 use Rattle.jnode.specs.declared.order.Endian.{Endian}
@@ -22,8 +22,8 @@ use Rattle.jcommand.specs.Status.{outcome_of}
 use Rattle.jcommand.specs.declared.outcome.Outcome.{Outcome}
 use Rattle.jcommand.specs.declared.outcome.Outcome.TheVariants as outcome
 use Rattle.jsteps.specs.declared.page.Page.{Page}
-use Rattle.jffs2_image.specs.Host.{AreOf, HasFailed, RunsFiles}
-use Rattle.jffs2_image.specs.Writes.{Held, IsBehind, IsUnreadFile, WritesImage}
+use Rattle.jffs2_image.specs.Host.{AreLoaded, AreOf, HasFailed, RunsFiles}
+use Rattle.jffs2_image.specs.Writes.{Held, IsBehind, IsNotedIn, IsUnreadFile, WritesImage}
 use Rattle.jffs2_image.specs.declared.program.Success.{Success}
 use Rattle.jffs2_image.specs.declared.program.Success.TheVariants as success
 use Rattle.jffs2_image.specs.declared.program.Stop.{Stop}
@@ -55,44 +55,58 @@ IsImageOf told (CheckParsed options shape name) image = AreOf (told name) image
 IsImageOf told (ListParsed options name) image = AreOf (told name) image
 IsImageOf told (CatParsed options name word) image = AreOf (told name) image
 IsImageOf told (BuildParsed options blocks page listing output) image = image ≡ []
-IsImageOf told (AppendParsed options blocks page name listing output) image = AreOf (told name) image
+IsImageOf told (AppendParsed options blocks page name listing output) image = AreLoaded (told name) image
 
 -- the listing of a name is run on an image, with the bytes of the files that its lines name; each where the host tells its bytes
 abbrev pub RunsListed : (List ℕ → Option (List ℕ)) → Held → Page → Endian → ℕ → ℕ → List ℕ → List ℕ → List ℕ → Option (List ℕ) → Option (List ℕ) → ℕ → ℕ → Result ℕ ProgramFault → Type 0
-RunsListed told held page e size blocks listing output image old new before now answer = (text : List ℕ) × AreOf (told listing) text
+RunsListed told held page e size blocks listing output image old new before now answer = (text : List ℕ) × AreLoaded (told listing) text
     × WritesImage held page e size blocks output image text old new before now answer × RunsFiles told held page e size blocks image text old new answer
 
--- what is put of an image, or why no more of it is
+-- What is put of an image, or why no more of it is. The answer of `build` is no finding, and that of `append` the number of
+-- findings of its base.
 abbrev pub PutsAnswer : (List ℕ → Option (List ℕ)) → Held → Endian → Parsed → List ℕ → Option (List ℕ) → Option (List ℕ) → ℕ → ℕ → Result ℕ ProgramFault → Type 0
 PutsAnswer told held e (ScanParsed options name) = PutsStream e options.geometry.block
 PutsAnswer told held e (CheckParsed options shape name) = PutsJudged e options.geometry.block shape
 PutsAnswer told held e (ListParsed options name) = PutsListing e options.geometry.block
 PutsAnswer told held e (CatParsed options name word) = λ image old new before now answer.
     (path : List ℕ) × (path_of word ≡ Some path) × PutsFile e options.geometry.block image path old new before now answer
-PutsAnswer told held e (BuildParsed options blocks page listing output) = RunsListed told held page e options.geometry.block blocks listing output
-PutsAnswer told held e (AppendParsed options blocks page name listing output) = RunsListed told held page e options.geometry.block blocks listing output
+PutsAnswer told held e (BuildParsed options blocks page listing output) = λ image old new before now answer.
+    RunsListed told held page e options.geometry.block blocks listing output image old new before now answer
+    × IfOk answer (λ n. n ≡ 0)
+PutsAnswer told held e (AppendParsed options blocks page name listing output) = λ image old new before now answer.
+    RunsListed told held page e options.geometry.block blocks listing output image old new before now answer
+    × IfOk answer (IsNotedIn e options.geometry.block image)
 
 -- its file can't be opened
 abbrev pub IsUnopened : List ℕ → ProgramFault → Type 0
 IsUnopened file (program.File name) = name.now ≡ file
 IsUnopened file _ = ⊥
 
--- why no image is read: its file can't be opened, or the word of the path can't be read; where an image is written, it or
--- the listing can't be opened, or not be read to its end
+-- why no image is read: its file can't be opened, or the word of the path can't be read, which is judged before; where an
+-- image is written, it or the listing can't be opened, or not be read to its end, and the listing comes after the image
 abbrev pub IsEarlyFault : (List ℕ → Option (List ℕ)) → Parsed → ProgramFault → Type 0
 IsEarlyFault told (ScanParsed options image) fault = IsUnopened image fault
 IsEarlyFault told (CheckParsed options shape image) fault = IsUnopened image fault
 IsEarlyFault told (ListParsed options image) fault = IsUnopened image fault
 IsEarlyFault told (CatParsed options image word) (program.Path find.BadPath) = path_of word ≡ None
 IsEarlyFault told (CatParsed options image word) program.OutOfMemory = Unit {0}
-IsEarlyFault told (CatParsed options image word) fault = IsUnopened image fault
+IsEarlyFault told (CatParsed options image word) fault = IsUnopened image fault × IsTrue (is_some (path_of word))
 IsEarlyFault told (BuildParsed options blocks page listing output) fault = IsUnreadFile listing (told listing) fault
-IsEarlyFault told (AppendParsed options blocks page image listing output) fault = IsUnreadFile image (told image) fault ⊎ IsUnreadFile listing (told listing) fault
+IsEarlyFault told (AppendParsed options blocks page image listing output) fault =
+    IsUnreadFile image (told image) fault
+    ⊎ ((bytes : List ℕ) × AreLoaded (told image) bytes × IsUnreadFile listing (told listing) fault)
+
+-- of a block of no right size `check` says so of an image that it could open, and nothing else; other requests mount it
+abbrev pub TellsBlockSize : Parsed → Result ℕ ProgramFault → Type 0
+TellsBlockSize (ScanParsed options image) answer = IsErrAnd answer (λ fault. (fault ≡ program.Scan scan.BlockSize) ⊎ IsUnopened image fault)
+TellsBlockSize (CheckParsed options shape image) answer = IsErrAnd answer (λ fault. (fault ≡ program.Scan scan.BlockSize) ⊎ IsUnopened image fault)
+TellsBlockSize _ answer = Unit {0}
 
 -- A request is met in the byte order e, where the host tells these bytes of its files: there is an image, that of the name where
 -- it is told, of which the answer is put, or a fault comes before any is read.
 pub record Meets (told : List ℕ → Option (List ℕ)) (held : Held) (e : Endian) (parsed : Parsed) (old new : Option (List ℕ)) (before now : ℕ) (answer : Result ℕ ProgramFault) : Type 0 where
   pub block_size : IsErrOf answer (program.Scan scan.BlockSize) → IsFalse (is_block_size (options_parsed parsed).geometry.block)
+  pub told_of : IsFalse (is_block_size (options_parsed parsed).geometry.block) → TellsBlockSize parsed answer
   pub put : ((image : List ℕ) × IsImageOf told parsed image × PutsAnswer told held e parsed image old new before now answer)
       ⊎ ((fault : ProgramFault) × (answer ≡ Err fault) × IsEarlyFault told parsed fault × (new ≡ old) × (now ≡ before))
 

@@ -1,5 +1,5 @@
 -- What a command that writes an image does.
-use Rattle.std.specs.Prelude.{◌≡◌, ◌⊎◌, ◌<◌, ◌++◌, ℕ, List, [], ◌∷◌, Any, IfSome, length, take, slice_get, option_map, Option, Some, None, Result, Ok, Err, IsOk}
+use Rattle.std.specs.Prelude.{◌≡◌, ◌≢◌, ◌⊎◌, ◌<◌, ◌++◌, ℕ, List, [], ◌∷◌, Any, IfSome, length, take, slice_get, option_map, Option, Some, None, Result, Ok, Err, IsOk}
 use Rattle.std.specs.Io.KnownBytes.{Appends, Keeps}
 use Rattle.flashbase.specs.Device.{PutsPart, next_count}
 use Rattle.flashbase.specs.declared.source.LoadFault.TheVariants as load
@@ -19,6 +19,7 @@ use Rattle.jlog.specs.declared.report.Place.{Place}
 use Rattle.jbuild.specs.Accepted.{accepted_line}
 use Rattle.jbuild.specs.Emitting.{IsEmitted, front_before}
 use Rattle.jbuild.specs.Operations.{ops_in}
+use Rattle.jreport.specs.Notes.{noted}
 use Rattle.jreport.specs.declared.faults.ProgramFault.{ProgramFault}
 use Rattle.jreport.specs.declared.faults.ProgramFault.TheVariants as program
 
@@ -49,13 +50,24 @@ IsPartUnread told lines _ = ⊥
 
 -- ---- what goes out to the file that is made
 
--- A base and operations on it were put out, and all that was taken was given on: so many were accepted, their nodes have
--- these places, and this stopped them.
+-- what an output gave on is a beginning of what it took
+abbrev pub IsBehind : Option (List ℕ) → Option (List ℕ) → Type 0
+IsBehind given taken = IfSome taken (λ bytes. (n : ℕ) × (given ≡ Some (take n bytes)))
+
+-- All that was taken was given on. Where the output stopped a run, it may have failed once more, and given on a beginning.
+abbrev pub IsGivenOn : Option SessionFault → Option (List ℕ) → Option (List ℕ) → ℕ → ℕ → Type 0
+IsGivenOn (Some session.Sink) taken given before now =
+    (Keeps taken given × (now ≡ before)) ⊎ (IsBehind given taken × (now ≡ next_count before))
+IsGivenOn _ taken given before now = Keeps taken given × (now ≡ before)
+
+-- A base and operations on it were put out, and what was taken was given on: so many were accepted, their nodes have these
+-- places, and this stopped them.
 pub record IsPut (page : Page) (e : Endian) (size blocks : ℕ) (m : Mount) (ops : List Op) (accepted : ℕ) (places : List Place) (stopped : Option SessionFault) (old given : Option (List ℕ)) (before now : ℕ) : Type 0 where
   pub taken : Option (List ℕ)
+  pub count : ℕ
   pub resumes : IsOk (resumes_by page e size blocks m)
-  pub emitted : IsEmitted page e size blocks m.image ops accepted places stopped old taken before now
-  pub finished : Keeps taken given
+  pub emitted : IsEmitted page e size blocks m.image ops accepted places stopped old taken before count
+  pub given_on : IsGivenOn stopped taken given count now
 
 -- What was given to the files that were made and are lent out no more, in order, where the host tells it: before and after.
 abbrev pub Held : Type 0
@@ -76,24 +88,33 @@ pub record IsMade (held : Held) (page : Page) (e : Endian) (size blocks : ℕ) (
 
 -- ---- a file of which no line tells
 
--- what an output gave on is a beginning of what it took
-abbrev pub IsBehind : Option (List ℕ) → Option (List ℕ) → Type 0
-IsBehind given taken = IfSome taken (λ bytes. (n : ℕ) × (given ≡ Some (take n bytes)))
-
--- A beginning of the base's bytes up to where writing goes on was put out, or all of them, and then operations were run.
+-- A beginning of the base's bytes up to where writing goes on was put out; or all of them, and then operations were run, and
+-- it was not the output that stopped them.
 abbrev pub IsPutInPart : Page → Endian → ℕ → ℕ → List ℕ → List Op → Option (List ℕ) → Option (List ℕ) → Type 0
 IsPutInPart page e size blocks base ops old taken =
     PutsPart old taken (front_before e size blocks base)
     ⊎ ((accepted : ℕ) × (places : List Place) × (stopped : Option SessionFault) × (before : ℕ) × (now : ℕ)
-    × IsEmitted page e size blocks base ops accepted places stopped old taken before now)
+    × (stopped ≢ Some session.Sink) × IsEmitted page e size blocks base ops accepted places stopped old taken before now)
 
 -- of that a beginning was given on
 abbrev pub GivesPart : Page → Endian → ℕ → ℕ → List ℕ → List Op → Option (List ℕ) → Option (List ℕ) → Type 0
 GivesPart page e size blocks base ops old given = (taken : Option (List ℕ)) × IsPutInPart page e size blocks base ops old taken × IsBehind given taken
 
+-- The base's bytes up to there were put out and nothing else, and of that a beginning was given on.
+abbrev pub GivesFront : Endian → ℕ → ℕ → List ℕ → Option (List ℕ) → Option (List ℕ) → Type 0
+GivesFront e size blocks base old given = (taken : Option (List ℕ)) × Appends old taken (front_before e size blocks base) × IsBehind given taken
+
+-- the one or the other, by the fault: without memory no operation was run
+abbrev pub GivesCut : SessionFault → Page → Endian → ℕ → ℕ → List ℕ → List Op → Option (List ℕ) → Option (List ℕ) → Type 0
+GivesCut session.OutOfMemory page e size blocks base ops old given = GivesFront e size blocks base old given
+GivesCut _ page e size blocks base ops old given = GivesPart page e size blocks base ops old given
+
 -- to a file, to which nothing else was given
 abbrev pub HoldsPart : Held → Page → Endian → ℕ → ℕ → List ℕ → List Op → Type 0
 HoldsPart held page e size blocks base ops = (old : Option (List ℕ)) × (given : Option (List ℕ)) × GivesPart page e size blocks base ops old given × IsHanded held old given
+
+abbrev pub HoldsFront : Held → Endian → ℕ → ℕ → List ℕ → Type 0
+HoldsFront held e size blocks base = (old : Option (List ℕ)) × (given : Option (List ℕ)) × GivesFront e size blocks base old given × IsHanded held old given
 
 -- a file was made, and nothing was given to it
 abbrev pub HoldsNothing : Held → Type 0
@@ -103,7 +124,7 @@ HoldsNothing held = IsHanded held (Some []) (Some [])
 -- operations, or nothing; or there is no file.
 abbrev pub HoldsCut : Held → Page → Endian → ℕ → ℕ → List ℕ → List Op → ProgramFault → Type 0
 HoldsCut held page e size blocks base ops (program.Session session.Sink line) = HoldsPart held page e size blocks base ops
-HoldsCut held page e size blocks base ops (program.Session session.OutOfMemory line) = HoldsPart held page e size blocks base ops
+HoldsCut held page e size blocks base ops (program.Session session.OutOfMemory line) = HoldsFront held e size blocks base
 HoldsCut held page e size blocks base ops program.OutOfMemory = HoldsNothing held
 HoldsCut held page e size blocks base ops (program.File name) = held.1 ≡ held.0
 HoldsCut held page e size blocks base ops _ = Unit {0}
@@ -162,3 +183,7 @@ WritesImage held page e size blocks output base text old new before now (Err pro
     (lines : List Line) × (accepted : ℕ) × (places : List Place) × IsRunOn held page e size blocks base text lines accepted places None
     × PutsPart old new (accepted_line (resume_address e size blocks base) accepted places) × (now ≡ next_count before)
 WritesImage held page e size blocks output base text old new before now (Err fault) = IsWriteFault held page e size blocks output base text fault × (new ≡ old) × (now ≡ before)
+
+-- a base has so many findings of which a reader of files is told
+abbrev pub IsNotedIn : Endian → ℕ → List ℕ → ℕ → Type 0
+IsNotedIn e size base n = (m : Mount) × Answers e size base (Ok m) × (n ≡ noted m)

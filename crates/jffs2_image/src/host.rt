@@ -1,5 +1,5 @@
 //! Files of the host: those that are read whole, and the one that is made.
-ghost use Rattle.std.specs.Prelude.{◌≡◌, ◌<◌, ◌++◌, ℕ, List, [], ◌∷◌, Option, IfOk, IfSome, None, Some, Err, length};
+ghost use Rattle.std.specs.Prelude.{◌≡◌, ◌<◌, ◌≤◌, ◌++◌, ℕ, List, [], ◌∷◌, Option, IfOk, IfSome, None, Some, Err, length};
 ghost use Rattle.flashbase.specs.Device.{CountsErr, next_count};
 ghost use Rattle.jffs2_image.specs.Host.{AreOf, CountsFile, GivesFile, HoldsBy, MakesBy};
 
@@ -30,6 +30,7 @@ pub trait Loader {
     /// The bytes of the file of a name, if they are at most `limit`.
     fn load(&mut self, name: &str, limit: usize) -> Result<Vec<u8>, FileFault>
         ensures bytes { IfOk result (λ bytes. AreOf (told self.old name.now) bytes.items) }
+        ensures within { IfOk result (λ bytes. length bytes.items ≤ limit) }
         ensures large { result ≡ Err (FileFault.Load LoadFault.TooLarge) → IfSome (told self.old name.now) (λ bytes. limit < length bytes) }
         ensures count { CountsFile (failures self.old) (failures self.new) result }
         ensures stays { (other : List ℕ) → told self.new other ≡ told self.old other };

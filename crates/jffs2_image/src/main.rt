@@ -4,6 +4,9 @@
 //! images by `jbuild`. `main` hands over the process's arguments and streams.
 #![tactic(auto)]
 
+ghost use Rattle.std.specs.Prelude.{◌≡◌, IfOk, map, string_bytes};
+ghost use Rattle.std.specs.Vec.Iter.{into_iter_items};
+
 pub mod folders;
 pub mod host;
 pub mod output;
@@ -18,6 +21,7 @@ use jreport::ProgramFault;
 use output::BufferedOutput;
 use program::{report_fault, report_usage};
 use std::alloc::{AllocError, Global};
+use std::env::Args;
 use std::io::{ErrorKind, IsTerminal};
 use std::process::ExitCode;
 use std::rt::Env;
@@ -26,12 +30,29 @@ use system::SystemFolders;
 
 /// The arguments of the command line. Those that are not UTF-8 are `InvalidData`.
 fn args_of<R: Env + AllocGlobal>(rt: &R) -> io::Result<Vec<String>> {
-    let args: Vec<String> = env::args(rt)?.collect(rt.alloc())?;
-    Ok(args)
+    Ok(collected(rt.alloc(), env::args(rt)?)?)
 }
 
-fn texts_of(alloc: Global, args: &[String]) -> Result<Vec<&str>, AllocError> {
-    args.iter().map(|word| word.as_str()).collect(alloc)
+/// All arguments, in their order.
+fn collected(alloc: Global, args: Args) -> Result<Vec<String>, AllocError>
+    ensures { IfOk result (λ all. all.items ≡ into_iter_items args) }
+{
+    let mut all = Vec::new(alloc);
+    for arg in args {
+        all.push(arg)?;
+    }
+    Ok(all)
+}
+
+/// The texts of all arguments, in their order.
+fn texts_of(alloc: Global, args: &[String]) -> Result<Vec<&str>, AllocError>
+    ensures { IfOk result (λ texts. map (λ text. text.now) texts.items ≡ map string_bytes args.now) }
+{
+    let mut texts = Vec::new(alloc);
+    for word in args {
+        texts.push(word.as_str())?;
+    }
+    Ok(texts)
 }
 
 fn run(rt: &HostRuntime) -> Outcome {

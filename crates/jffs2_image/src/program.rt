@@ -125,7 +125,7 @@ fn cat<'a, E: Order, L: Loader, T: Sink>(
 }
 
 /// `build`: an image of what a listing makes of an empty file system. The listing's text is kept, since a fault may name a
-/// part of it.
+/// part of it. There is no finding to note.
 fn build<'a, E: Order, L: Loader, M: Maker, T: Sink>(
     alloc: Global,
     loader: &mut L,
@@ -144,7 +144,7 @@ fn build<'a, E: Order, L: Loader, M: Maker, T: Sink>(
 }
 
 /// `append`: an image with what a listing makes of its file system. It is held in memory before the file is made, so the two
-/// may be one. The listing's text is kept, since a fault may name a part of it.
+/// may be one. The listing's text is kept, since a fault may name a part of it. Answers how many findings of the image to note.
 fn append<'a, E: Order, L: Loader, M: Maker, T: Sink>(
     alloc: Global,
     loader: &mut L,
@@ -160,8 +160,7 @@ fn append<'a, E: Order, L: Loader, M: Maker, T: Sink>(
 {
     let base = load_file(loader, image)?;
     *text = load_file(loader, listing)?;
-    write_image::<E, _, _, _>(alloc, loader, maker, target, &base, text.as_slice(), sink)?;
-    Ok(0)
+    write_image::<E, _, _, _>(alloc, loader, maker, target, &base, text.as_slice(), sink)
 }
 
 /// Runs the request in the byte order `E`, and answers how much was found.

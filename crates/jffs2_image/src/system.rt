@@ -1,5 +1,5 @@
 //! Folders of the system, as the commands ask for them.
-ghost use Rattle.std.specs.Prelude.{None};
+ghost use Rattle.std.specs.Prelude.{◌↔◌, IsTrue, IsFalse, None};
 ghost use Rattle.jfolder.specs.Known.{nothing};
 
 use crate::folders::Folders;
@@ -13,6 +13,13 @@ use std::rt::{Clock, Files};
 pub struct SystemFolders<'r, R: Files + AllocGlobal + Clock + Eprint> {
     rt: &'r R,
     is_terminal: bool,
+}
+
+/// Whether it is told how far a command is: on a terminal, unless it is to be quiet.
+fn tells(is_terminal: bool, quiet: bool) -> bool
+    ensures { IsTrue result ↔ IsTrue is_terminal × IsFalse quiet }
+{
+    is_terminal && !quiet
 }
 
 impl<'r, R: Files + AllocGlobal + Clock + Eprint> SystemFolders<'r, R> {
@@ -32,7 +39,7 @@ impl<'r, R: Files + AllocGlobal + Clock + Eprint> Folders for SystemFolders<'r, 
     ghost reads = { λ _ _. nothing };
 
     fn filled(&mut self, name: &str, quiet: bool) -> Result<FilledFolder<'r, R>, AllocError> {
-        FilledFolder::new(self.rt, name, self.is_terminal && !quiet)
+        FilledFolder::new(self.rt, name, tells(self.is_terminal, quiet))
     }
 
     fn take_filled(&mut self, _name: &str, mut folder: FilledFolder<'r, R>) {
@@ -40,7 +47,7 @@ impl<'r, R: Files + AllocGlobal + Clock + Eprint> Folders for SystemFolders<'r, 
     }
 
     fn read(&mut self, name: &str, quiet: bool) -> Result<ReadFolder<'r, R>, AllocError> {
-        ReadFolder::new(self.rt, name, self.is_terminal && !quiet)
+        ReadFolder::new(self.rt, name, tells(self.is_terminal, quiet))
     }
 
     fn take_read(&mut self, mut folder: ReadFolder<'r, R>) {

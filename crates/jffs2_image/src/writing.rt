@@ -1,10 +1,11 @@
 //! Writing an image to a file of the host: a listing's operations on a base.
-ghost use Rattle.std.specs.Prelude.{◌≡◌, ℕ, List, Option, Ok, IfOk, IfErr, IfSome, OnOk, map, option_map, slice_get};
+ghost use Rattle.std.specs.Prelude.{◌≡◌, ◌≢◌, ◌≤◌, ℕ, List, Option, Some, IsTrue, IsFalse, Ok, IfOk, IfErr, IfSome, OnOk, length, map, option_map, slice_get};
 ghost use Rattle.jmount.specs.Mounts.{IsMountOf};
+ghost use Rattle.jscan.specs.Image.{greatest_image};
 ghost use Rattle.jlisting.specs.Listing.{lines_of};
 ghost use Rattle.jlog.specs.Resuming.{resumes_by};
 ghost use Rattle.jffs2_image.specs.Host.{AreOf, AreRead, Blames, BlamesMaker, IsHandedBack, IsMadeUntil, IsMakeFault, IsReadFault, Leaves, MakesFile, RunsFiles};
-ghost use Rattle.jffs2_image.specs.Writes.{GivesPart, HoldsCut, IsMade, IsNotGoneOn, IsNotMade, IsPartUnread, IsPut, IsUnreadFile, WritesImage};
+ghost use Rattle.jffs2_image.specs.Writes.{GivesCut, HoldsCut, IsMade, IsNotGoneOn, IsNotMade, IsNotedIn, IsPartUnread, IsPut, IsUnreadFile, WritesImage};
 
 use crate::host::{FileFault, Loader, MakeFault, Maker};
 use crate::output::Output;
@@ -15,7 +16,7 @@ use jlisting::{Line, listing};
 use jlog::{RunReport, SessionFault, page_fits, resume_at};
 use jmount::{Mounted, mount};
 use jnode::Order;
-use jreport::ProgramFault;
+use jreport::{ProgramFault, noted};
 use jscan::GREATEST_IMAGE;
 use jsteps::Op;
 use std::alloc::{AllocError, Global};
@@ -24,6 +25,7 @@ use std::alloc::{AllocError, Global};
 pub fn load_file<'a, L: Loader>(loader: &mut L, name: &'a str) -> Result<Vec<u8>, ProgramFault<'a>>
     ensures unread { IfErr result (λ fault. IsUnreadFile name.entry.now (L.told loader.old name.entry.now) fault) }
     ensures bytes { IfOk result (λ bytes. AreOf (L.told loader.old name.entry.now) bytes.items) }
+    ensures within { IfOk result (λ bytes. length bytes.items ≤ greatest_image) }
     ensures read { OnOk result (L.failures loader.new ≡ L.failures loader.old) }
     ensures fault { IfErr result (λ fault. IsReadFault (L.failures loader.old) (L.failures loader.new) fault) }
     ensures stays { (other : List ℕ) → L.told loader.new other ≡ L.told loader.old other }
@@ -83,8 +85,19 @@ fn resumed_from<E: Order>(mounted: &Mounted<'_>, target: Target<'_>) -> Result<u
     Ok(from)
 }
 
-/// Puts out a base and what operations on it make, to the last byte. Answers what was done. Where the output failed it is
-/// handed back.
+/// Whether the output stopped a run.
+fn is_of_output(stopped: Option<SessionFault>) -> bool
+    ensures output { IsTrue result → stopped ≡ Some SessionFault.Sink }
+    ensures other { IsFalse result → stopped ≢ Some SessionFault.Sink }
+{
+    match stopped {
+        Some(SessionFault::Sink) => true,
+        _ => false,
+    }
+}
+
+/// Puts out a base and what operations on it make, to the last byte. Answers what was done, also where the output failed at an
+/// operation. Where it failed before or after them it is handed back.
 fn put_image<E: Order, S: Output>(
     alloc: Global,
     mounted: &Mounted<'_>,
@@ -97,7 +110,7 @@ fn put_image<E: Order, S: Output>(
         (S.taken output) (S.given done.0) (S.failures output) (S.failures done.0)) }
     ensures fault { IfErr result (λ refused. IsNotGoneOn target.entry.page E.order target.entry.options.geometry.block target.entry.blocks mounted.now refused.0) }
     ensures part { IfErr result (λ refused. IfSome refused.1
-        (λ back. GivesPart target.entry.page E.order target.entry.options.geometry.block target.entry.blocks mounted.now.image ops.now (S.taken output) (S.given back))) }
+        (λ back. GivesCut refused.0 target.entry.page E.order target.entry.options.geometry.block target.entry.blocks mounted.now.image ops.now (S.taken output) (S.given back))) }
     ensures back { IfErr result (λ refused. IsHandedBack (S.failures output) refused.0 (option_map (λ back. S.failures back) refused.1)) }
 {
     match emit::<E, S>(
@@ -111,7 +124,13 @@ fn put_image<E: Order, S: Output>(
     ) {
         Ok((mut output, report)) => match output.finish() {
             Ok(()) => Ok((output, report)),
-            Err(_) => Err((SessionFault::Sink, Some(output))),
+            Err(_) => {
+                if is_of_output(report.stopped) {
+                    Ok((output, report))
+                } else {
+                    Err((SessionFault::Sink, Some(output)))
+                }
+            }
         },
         Err((fault, mut output)) => {
             let _ = output.finish();
@@ -156,7 +175,8 @@ fn make_image<'a, E: Order, M: Maker>(
     }
 }
 
-/// Writes an image: the operations of a listing's lines, on a base. What they did is told in a line.
+/// Writes an image: the operations of a listing's lines, on a base. What they did is told in a line. Answers how many findings
+/// of the base to note.
 fn write_lines<'a, 'p, 'b: 'p, E: Order, M: Maker, T: Sink>(
     alloc: Global,
     maker: &mut M,
@@ -165,13 +185,14 @@ fn write_lines<'a, 'p, 'b: 'p, E: Order, M: Maker, T: Sink>(
     lines: Vec<Line<'b>>,
     parts: &'p Parts<'_>,
     sink: &mut T,
-) -> Result<(), ProgramFault<'a>>
+) -> Result<u64, ProgramFault<'a>>
     ensures writes { (text : List ℕ) → lines_of text ≡ Ok lines.entry.items
         → WritesImage (M.held maker.old, M.held maker.new) target.entry.page E.order target.entry.options.geometry.block target.entry.blocks target.entry.output.now base.now text
         (T.taken sink.old) (T.taken sink.new) (T.failures sink.old) (T.failures sink.new) result }
     ensures files { (told : List ℕ → Option (List ℕ)) → (text : List ℕ) → lines_of text ≡ Ok lines.entry.items → AreRead told lines.entry.items parts.entry.now
         → RunsFiles told (M.held maker.old, M.held maker.new) target.entry.page E.order target.entry.options.geometry.block target.entry.blocks base.now text (T.taken sink.old) (T.taken sink.new) result }
     ensures maker { BlamesMaker (maker.new ≡ maker.old) (MakesFile target.entry.output.now (M.names maker.old) (M.names maker.new)) (M.failures maker.old) (M.failures maker.new) result }
+    ensures noted { IfOk result (IsNotedIn E.order target.entry.options.geometry.block base.now) }
 {
     let numbers = numbers_of(alloc, &lines)?;
     let ops = operations(alloc, lines, parts)?;
@@ -183,11 +204,11 @@ fn write_lines<'a, 'p, 'b: 'p, E: Order, M: Maker, T: Sink>(
         return Err(ProgramFault::Session { fault, line });
     }
     put_accepted(from, report.accepted, &report.places, sink)?;
-    Ok(())
+    Ok(noted(&mounted))
 }
 
 /// Writes an image: the operations of a listing's text, on a base. What they did is told in a line. The file is made only
-/// after all was judged that can be before a byte is written.
+/// after all was judged that can be before a byte is written. Answers how many findings of the base to note.
 pub fn write_image<'a, E: Order, L: Loader, M: Maker, T: Sink>(
     alloc: Global,
     loader: &mut L,
@@ -196,13 +217,14 @@ pub fn write_image<'a, E: Order, L: Loader, M: Maker, T: Sink>(
     base: &[u8],
     text: &'a [u8],
     sink: &mut T,
-) -> Result<(), ProgramFault<'a>>
+) -> Result<u64, ProgramFault<'a>>
     ensures writes { WritesImage (M.held maker.old, M.held maker.new) target.entry.page E.order target.entry.options.geometry.block target.entry.blocks target.entry.output.now base.now text.now
         (T.taken sink.old) (T.taken sink.new) (T.failures sink.old) (T.failures sink.new) result }
     // Each file that a line names was read: its operation has the bytes that it has on the host.
     ensures files { RunsFiles (L.told loader.old) (M.held maker.old, M.held maker.new) target.entry.page E.order target.entry.options.geometry.block target.entry.blocks base.now text.now (T.taken sink.old) (T.taken sink.new) result }
     // Files are blamed only where they failed, and the image's is made only after all else was judged.
     ensures host { Blames (maker.new ≡ maker.old) (MakesFile target.entry.output.now (M.names maker.old) (M.names maker.new)) (L.failures loader.old) (L.failures loader.new) (M.failures maker.old) (M.failures maker.new) result }
+    ensures noted { IfOk result (IsNotedIn E.order target.entry.options.geometry.block base.now) }
 {
     let lines = listing(alloc, text)?;
     let parts = load_parts(alloc, loader, &lines)?;

@@ -1,5 +1,5 @@
 -- What a reader of files is told of an image that mounted, and yet has bytes where a node may have been.
-use Rattle.std.specs.Prelude.{ℕ, Bool, true, false, List, ◌++◌, codes, count_by, decimal}
+use Rattle.std.specs.Prelude.{ℕ, ◌==◌, Bool, true, false, if◌then◌else◌, List, ◌++◌, codes, count_by, decimal}
 use Rattle.jmount.specs.Mount.{Mount}
 use Rattle.jscan.specs.declared.finding.FindingKind.{FindingKind}
 use Rattle.jscan.specs.declared.finding.FindingKind.TheVariants as kind
@@ -16,7 +16,12 @@ is_noted kind.Dirt = true
 abbrev pub noted : Mount → ℕ
 noted m = count_by (λ f. is_noted f.kind) m.findings
 
+-- what is said of n of them
+unfoldable pub findings_text : ℕ → List ℕ
+findings_text n = if n == 1
+    then codes " finding, see check --scan; a wrong --block or --endian shows as findings too\n"
+    else codes " findings, see check --scan; a wrong --block or --endian shows as findings too\n"
+
 -- the line on standard error that tells of n of them
 unfoldable pub note_line_of : ℕ → List ℕ
-note_line_of n = codes "jffs2_image: note: " ++ (decimal n
-    ++ codes " findings, see check --scan; a wrong --block or --endian shows as findings too\n")
+note_line_of n = codes "jffs2_image: note: " ++ (decimal n ++ findings_text n)

@@ -1,8 +1,8 @@
 //! The note on an image that mounted, and yet has bytes where a node may have been.
 
-ghost use Rattle.std.specs.Prelude.{◌≡◌};
+ghost use Rattle.std.specs.Prelude.{◌≡◌, ◌≤◌, length};
 ghost use Rattle.flashbase.specs.Device.{Puts};
-ghost use Rattle.jreport.specs.Notes.{is_noted, note_line_of, noted};
+ghost use Rattle.jreport.specs.Notes.{findings_text, is_noted, note_line_of, noted};
 
 use flashbase::{DeviceFault, Sink};
 use jline::{LineBuffer, put_text};
@@ -32,6 +32,18 @@ pub fn noted(mounted: &Mounted<'_>) -> u64
     count
 }
 
+/// What is said of so many findings.
+#[tactic(auto, unfolding(crate::specs::Notes::findings_text))]
+fn findings_text(findings: u64) -> &'static [u8]
+    ensures text { result.now ≡ findings_text findings }
+    ensures short { length result.now ≤ 100 }
+{
+    match findings {
+        1 => b" finding, see check --scan; a wrong --block or --endian shows as findings too\n",
+        _ => b" findings, see check --scan; a wrong --block or --endian shows as findings too\n",
+    }
+}
+
 /// The note that there are so many such findings.
 #[tactic(auto, unfolding(crate::specs::Notes::note_line_of))]
 fn write_note(line: &mut LineBuffer, findings: u64)
@@ -40,9 +52,7 @@ fn write_note(line: &mut LineBuffer, findings: u64)
     line.clear();
     line.push_text(b"jffs2_image: note: ");
     line.push_decimal(findings);
-    line.push_text(
-        b" findings, see check --scan; a wrong --block or --endian shows as findings too\n",
-    );
+    line.push_text(findings_text(findings));
 }
 
 /// Puts the note that there are so many such findings, as it is on standard error.

@@ -319,14 +319,16 @@ fn findings_of_mounted_images(rt: HostRuntime) -> Result<(), Fail> {
 }
 
 #[test]
-fn a_note(rt: HostRuntime) {
-    let mut sink = FromWriter::new(Vec::new(rt.alloc()));
-    equal(&rt, note_line(17, &mut sink), Ok(()));
-    equal(
-        &rt,
-        sink.into_writer().as_slice(),
-        b"jffs2_image: note: 17 findings, see check --scan; a wrong --block or --endian shows as findings too\n".as_slice(),
-    );
+fn notes(rt: HostRuntime) {
+    let one =
+        b"jffs2_image: note: 1 finding, see check --scan; a wrong --block or --endian shows as findings too\n";
+    let many =
+        b"jffs2_image: note: 17 findings, see check --scan; a wrong --block or --endian shows as findings too\n";
+    for (findings, wanted) in [(1, one.as_slice()), (17, many.as_slice())] {
+        let mut sink = FromWriter::new(Vec::new(rt.alloc()));
+        equal(&rt, note_line(findings, &mut sink), Ok(()));
+        equal(&rt, sink.into_writer().as_slice(), wanted);
+    }
 }
 
 #[test]

@@ -1,17 +1,11 @@
-use Rattle.std.proofs.Common.{Ok, rules}
-use Rattle.jffs2_image.proofs.WritingLemmas.{appends, listed, listed_fault}
+use Rattle.std.proofs.Common.{rules}
+use Rattle.jffs2_image.proofs.WritingLemmas.{appends, listed}
 use Rattle.jffs2_image.proofs.program.append.Goals as goal
-
-pub returns-in_err-write_image-clause-meets : goal.returns-in_err-write_image-clause-meets
-returns-in_err-write_image-clause-meets g c =
-    let a = c.args in
-    appends (g.L.Loader.told a.loader.now) _ a.target.page g.E.Order.order a.target.options a.target.blocks a.image.now a.listing.now a.target.output.now c.deref.result.now _ _ _ _ _ (search rules)
-    (listed_fault (g.L.Loader.told a.loader.now) _ _ a.target.page g.E.Order.order a.target.options.geometry.block a.target.blocks a.listing.now a.target.output.now c.deref.result.now c.as_slice.result.now _ _ _ _
-    c.in_err-write_image.field-0.0 _ c.from_residual-in_err-write_image.ensures.1 (search rules) (search rules) c.in_err-write_image.ensures.writes c.in_err-write_image.ensures.files)
 
 pub returns-clause-meets : goal.returns-clause-meets
 returns-clause-meets g c =
     let a = c.args in
-    appends (g.L.Loader.told a.loader.now) _ a.target.page g.E.Order.order a.target.options a.target.blocks a.image.now a.listing.now a.target.output.now c.deref.result.now _ _ _ _ (Ok 0) (search rules)
+    let w = c.write_image in
+    appends (g.L.Loader.told a.loader.now) _ a.target.page g.E.Order.order a.target.options a.target.blocks a.image.now a.listing.now a.target.output.now c.deref.result.now _ _ _ _ w.result (search rules)
     (listed (g.L.Loader.told a.loader.now) _ _ a.target.page g.E.Order.order a.target.options.geometry.block a.target.blocks a.listing.now a.target.output.now c.deref.result.now c.as_slice.result.now _ _ _ _
-    (Ok 0) (search rules) (search rules) c.in_ok-write_image.ensures.writes c.in_ok-write_image.ensures.files)
+    w.result (search rules) (search rules) w.ensures.writes w.ensures.files) w.ensures.noted

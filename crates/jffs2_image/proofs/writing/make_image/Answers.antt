@@ -2,8 +2,8 @@ use Rattle.std.proofs.Common.{Option, None, IfSome, option_map, sym, subst}
 use Rattle.jreport.specs.declared.faults.ProgramFault.{ProgramFault}
 use Rattle.jreport.specs.declared.faults.ProgramFault.TheVariants as program
 use Rattle.jffs2_image.specs.Host.{IsHandedBack}
-use Rattle.jffs2_image.specs.Writes.{GivesPart, HoldsCut}
-use Rattle.jffs2_image.proofs.HostLemmas.{cut_gone, cut_part}
+use Rattle.jffs2_image.specs.Writes.{GivesCut, HoldsCut}
+use Rattle.jffs2_image.proofs.HostLemmas.{cut_gone, cut_part, put_until}
 use Rattle.jffs2_image.proofs.WritingLemmas.{handed_back}
 use Rattle.jffs2_image.proofs.writing.make_image.Goals.{in-Some, in_default}
 use Rattle.jffs2_image.proofs.writing.make_image.Goals as goal
@@ -19,6 +19,11 @@ returns-in-Ok-put_image-clause-made g c = record {
       c.in-Ok.ensures.empty c.in-Ok.ensures.held c.take_back.ensures.held;
 }
 
+pub returns-in-Ok-put_image-clause-stopped : goal.returns-in-Ok-put_image-clause-stopped
+returns-in-Ok-put_image-clause-stopped g c =
+    let until = put_until _ _ _ _ _ _ _ _ _ _ _ _ _ c.in-Ok-put_image.ensures.put in
+    rw c.take_back.ensures.count (rw c.in-Ok.ensures.made at until)
+
 pub returns-after-output-clause-cut : goal.returns-after-output-clause-cut
 returns-after-output-clause-cut g c =
     let e = g.E.Order.order in
@@ -32,7 +37,7 @@ returns-after-output-clause-cut g c =
     let put = c.in-Err.ensures in
     subst (cut c.match-output.maker) (sym told) (elim c.match-output.branch [
       | in-Some w ↦
-          let part = subst (λ (back : Option g.row.M-Made.Denot). IfSome back (λ back. GivesPart t.page e size t.blocks base a.ops.now (g.M.Made.Sink.taken c.in-Ok.output) (g.M.Made.Output.given back)))
+          let part = subst (λ (back : Option g.row.M-Made.Denot). IfSome back (λ back. GivesCut c.in-Err.fault t.page e size t.blocks base a.ops.now (g.M.Made.Sink.taken c.in-Ok.output) (g.M.Made.Output.given back)))
           w.in-Some.is put.part in
           subst (λ (maker : g.row.M.Denot). cut maker (program.Session c.in-Err.fault None)) (sym w.maker-is)
           (cut_part _ t.page e size t.blocks base a.ops.now _ _ c.in-Err.fault part

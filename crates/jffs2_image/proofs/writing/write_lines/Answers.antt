@@ -16,7 +16,7 @@ use Rattle.std.proofs.lemmas.Option.{slice_get-map}
 use Rattle.jffs2_image.specs.Writes.{Held, HoldsCut, IsMade, IsSessionFault}
 use Rattle.jffs2_image.proofs.WritingLemmas.{not_resumed, not_made, run_on, stopped_at, told, told_in_part, writes_fault, goes_on_from}
 use Rattle.jffs2_image.specs.Host.{IsMadeUntil}
-use Rattle.jffs2_image.proofs.HostLemmas.{files_in_part, files_not_made, files_of_all, files_until, make_fault, maker_fault, resume_fault, run_fault}
+use Rattle.jffs2_image.proofs.HostLemmas.{files_in_part, files_not_made, files_not_mounted, files_not_resumed, files_of_all, files_until, make_fault, maker_fault, resume_fault, run_fault}
 use Rattle.jffs2_image.proofs.writing.write_lines.Goals as goal
 
 pub returns-in_err-from-clause-writes : goal.returns-in_err-from-clause-writes
@@ -98,8 +98,14 @@ returns-clause-writes g c = λ text read.
     let run = run_on _ a.target.page e a.target.options.geometry.block a.target.blocks a.base.now text a.lines.items (part_contents a.parts.now) m r.accepted r.places.items None read mounts made in
     let from = goes_on_from a.target.page e a.target.options.geometry.block a.target.blocks m c.in_ok-from.from at ∙ ap (λ (l : List ℕ). resume_address e a.target.options.geometry.block a.target.blocks l) image in
     let put = c.in_ok-put_accepted.ensures in
-    told _ a.target.page e a.target.options.geometry.block a.target.blocks a.target.output.now a.base.now text a.lines.items r.accepted r.places.items c.in_ok-from.from _ _ _ _ _ from run
+    told _ a.target.page e a.target.options.geometry.block a.target.blocks a.target.output.now a.base.now text a.lines.items r.accepted r.places.items c.in_ok-from.from _ _ _ _ c.noted.result from run
     (subst (λ (l : List Place). Appends (g.T.Sink.taken a.sink.now) (g.T.Sink.taken c.put_accepted.new.sink) (accepted_line c.in_ok-from.from r.accepted l)) c.deref-3.ensures.value put.0) put.1
+
+pub returns-clause-noted : goal.returns-clause-noted
+returns-clause-noted g c =
+    let m = c.in_ok-mounted.mounted in
+    let mounts : Answers g.E.Order.order c.args.target.options.geometry.block c.args.base.now (Ok m) = search rules in
+    (m, mounts, c.noted.ensures)
 
 pub returns-in_err-from-clause-maker : goal.returns-in_err-from-clause-maker
 returns-in_err-from-clause-maker g c =
@@ -147,7 +153,7 @@ returns-clause-files g c = λ known text read are.
     (subst (λ s. IsMade (g.M.Maker.held a.maker.now, g.M.Maker.held c.make_image.new.maker) a.target.page e a.target.options.geometry.block a.target.blocks m c.deref-2.result.now r.accepted r.places.items s) stopped c.in_ok-report.ensures.made) in
     let from = goes_on_from a.target.page e a.target.options.geometry.block a.target.blocks m c.in_ok-from.from at ∙ ap (λ (l : List ℕ). resume_address e a.target.options.geometry.block a.target.blocks l) image in
     let put = c.in_ok-put_accepted.ensures in
-    files_of_all known _ a.target.page e a.target.options.geometry.block a.target.blocks a.base.now text a.lines.items a.parts.now m r.accepted r.places.items c.in_ok-from.from _ _ _ image from are read mounts made
+    files_of_all known _ a.target.page e a.target.options.geometry.block a.target.blocks a.base.now text a.lines.items a.parts.now m r.accepted r.places.items c.in_ok-from.from _ _ c.noted.result image from are read mounts made
     (subst (λ (l : List Place). Appends (g.T.Sink.taken a.sink.now) (g.T.Sink.taken c.put_accepted.new.sink) (accepted_line c.in_ok-from.from r.accepted l)) c.deref-3.ensures.value put.0)
 
 pub returns-in_err-put_accepted-clause-files : goal.returns-in_err-put_accepted-clause-files
@@ -185,7 +191,22 @@ returns-in-Some-clause-files g c = λ known text read are.
     subst (λ (o : List Op). IsMade (g.M.Maker.held a.maker.now, g.M.Maker.held c.make_image.new.maker) a.target.page e a.target.options.geometry.block a.target.blocks m o r.accepted r.places.items (Some c.in-Some.fault)) same
     (subst (λ s. IsMade (g.M.Maker.held a.maker.now, g.M.Maker.held c.make_image.new.maker) a.target.page e a.target.options.geometry.block a.target.blocks m c.deref-2.result.now r.accepted r.places.items s) stopped c.in_ok-report.ensures.made) in
     let shown = line ∙ (ap (λ (l : List ℕ). slice_get l r.accepted) numbers ∙ slice_get-map (λ l. l.number) a.lines.items r.accepted) in
-    files_until known _ a.target.page e a.target.options.geometry.block a.target.blocks a.base.now text a.lines.items a.parts.now m r.accepted r.places.items (g.T.Sink.taken a.sink.now) (g.T.Sink.taken a.sink.now) c.in-Some.fault _ shown image are read mounts made
+    files_until known _ a.target.page e a.target.options.geometry.block a.target.blocks a.base.now text a.lines.items a.parts.now m r.accepted r.places.items (g.T.Sink.taken a.sink.now) (g.T.Sink.taken a.sink.now) c.in-Some.fault _ shown are read mounts made
+
+pub returns-in_err-mounted-clause-files : goal.returns-in_err-mounted-clause-files
+returns-in_err-mounted-clause-files g c = λ known text read are.
+    let a = c.args in
+    files_not_mounted known _ a.target.page g.E.Order.order a.target.options.geometry.block a.target.blocks a.base.now text a.lines.items a.parts.now _ _ c.in_err-mounted.field-0.0 _
+    c.from_residual-in_err-mounted.ensures.1 are read
+
+pub returns-in_err-from-clause-files : goal.returns-in_err-from-clause-files
+returns-in_err-from-clause-files g c = λ known text read are.
+    let e = g.E.Order.order in
+    let a = c.args in
+    let m = c.in_ok-mounted.mounted in
+    let refused : resumes_by a.target.page e a.target.options.geometry.block a.target.blocks m ≡ Err c.in_err-from.field-0.0 = search rules in
+    files_not_resumed known _ a.target.page e a.target.options.geometry.block a.target.blocks a.base.now text a.lines.items a.parts.now m _ _ c.in_err-from.field-0.0 _
+    refused c.from_residual-in_err-from.ensures.1 are read
 
 pub returns-in_err-report-clause-files : goal.returns-in_err-report-clause-files
 returns-in_err-report-clause-files g c = λ known text read are.
