@@ -73,9 +73,12 @@ def told(status, errors, lost):
 
 
 def extracted(what, words, image, new, wanted, lost):
-    """Extracts an image, and compares what is made."""
+    """Extracts an image, and compares what is made. Set-id bits come with the owners alone."""
     owners = ["--owners"] if os.geteuid() == 0 else []
     status, out, errors = run("extract", *words, *owners, image, new)
+    if not owners:
+        errors = "".join(line for line in errors.splitlines(True) if "note: objects that lost " not in line)
+        wanted = {path: (kind, mode & 0o1777, *more) for path, (kind, mode, *more) in wanted.items()}
     test(f"{what}: told", told(status, errors, lost) + ([f"{out!r}"] if out else []))
     test(f"{what}: made", differences(facts(new.encode())[0], wanted))
 

@@ -235,7 +235,12 @@ def extracted(what, words, image, folder, again):
     wanted = {path: fact for path, fact in wanted.items() if not any(path == name or path.startswith(name + b"/") for name in names)}
     made = folder + ".extracted"
     status, _, errors = run("extract", "--quiet", "--owners", *words, image, made)
-    lines = [line for line in errors.splitlines() if not line.startswith("jffs2_image: note: ")]
+    told = errors.splitlines()
+    lines = [line for line in told if not line.startswith("jffs2_image: note: ") and not line.endswith(": no inode")]
+    # What Linux does not show, findings and names without an inode, makes the status 3 too.
+    is_found = any(" finding" in line or line.endswith(": no inode") for line in told)
+    if is_found and status == 3 and not lost + len(again):
+        status = 0
     test(f"{what}: extract: told", folders.told(status, "\n".join(lines), lost + len(again)))
     got = folders.facts(made.encode())[0] if os.path.isdir(made) else {}
     test(f"{what}: extract", folders.differences(without_times(got), without_times(wanted)))

@@ -4,7 +4,7 @@
 //! says, each path at which something is made has names that lead into the folder (none of them is empty, `.` or `..`, or has
 //! a slash), each directory on the way to it was made before, and no path is made twice: so nothing is made through a symlink.
 //!
-//! What it takes of a disk is bounded by the image's own data: where 4,096 bytes of a file are all zero, it leaves a hole.
+//! A file takes room of a disk for its data alone: where a block of 4,096 bytes is all zero, a hole is left.
 //!
 //! `specs/Folders.antt` says what a folder is made to hold, `specs/Cells.antt` which places of a file are written, `specs/Paths.antt` which paths a host may have,
 //! `specs/Outcomes.antt` what comes of each object, and `specs/Extracts.antt` what the call does. `laws` has what follows.

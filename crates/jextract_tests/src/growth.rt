@@ -1,6 +1,6 @@
 //! A growth that is refused is told as such.
 
-ghost use Rattle.jextract.specs.Folders.{Counts, counted_if};
+ghost use Rattle.std.specs.Prelude.{◌≡◌};
 
 use crate::checks::equal;
 use crate::images::{LARGE, PLAIN, image_of};

@@ -107,8 +107,9 @@ impl Recorder {
     {
         if self.calls == 0 {
             self.calls = u64::MAX;
-            self.count(self.failure);
-            return Err(self.failure);
+            let failure = self.failure;
+            self.count(failure);
+            return Err(failure);
         }
         self.calls = self.calls.wrapping_sub(1);
         let Ok(line) = line else {
