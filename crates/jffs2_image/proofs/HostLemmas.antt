@@ -26,7 +26,7 @@ use Rattle.jlog.specs.declared.report.Place.{Place}
 use Rattle.jbuild.specs.Length.{TellsLength}
 use Rattle.jbuild.proofs.LengthLemmas.{goes_on_flash, line_tells_length}
 use Rattle.jbuild.specs.Accepted.{accepted_line}
-use Rattle.jbuild.specs.Emitting.{IsEmitted, IsNotEmitted}
+use Rattle.jbuild.specs.Emitting.{IsEmitted, IsNotEmitted, front_before}
 use Rattle.jbuild.specs.Operations.{op_in, ops_in}
 use Rattle.jbuild.specs.Parts.{part_contents, read_of}
 use Rattle.jbuild.specs.declared.parts.Parts.{Parts}

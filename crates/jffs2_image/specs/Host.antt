@@ -76,12 +76,14 @@ IsCutShort told held page e size blocks base text =
 
 -- the lines and the files that they name were read
 abbrev pub AreAllRead : (List ℕ → Option (List ℕ)) → List ℕ → Type 0
-AreAllRead told text = (lines : List Line) × (files : List ℕ → List ℕ) × (lines_of text ≡ Ok lines) × HaveBytes told lines files
+AreAllRead told text =
+    (lines : List Line) × (files : List ℕ → List ℕ) × (lines_of text ≡ Ok lines) × HaveBytes told lines files
 
--- The operations that were run have the bytes of the host's files: those of all lines, told in a line that has the length of
--- what went out for them, or in a beginning of it; or those up to the one that stopped them. Where no line is told, because
--- the file failed before or after them, a beginning of what goes out for them is in it; where memory ran out before them, a
--- beginning of the base; or it is empty, or there is none. A fault of the base comes after all was read.
+-- The operations that were run have the bytes of the host's files: those of all lines, told in a line
+-- that has the length of what went out for them, or in a beginning of it; or those up to the one that
+-- stopped them. Where no line is told, because the file failed before or after them, a beginning of
+-- what goes out for them is in it; where memory ran out before them, a beginning of the base; or it is
+-- empty, or there is none. A fault of the base comes after all was read.
 abbrev pub RunsFiles : {T : Type 0} → (List ℕ → Option (List ℕ)) → Held → Page → Endian → ℕ → ℕ → List ℕ → List ℕ → Option (List ℕ) → Option (List ℕ) → Result T ProgramFault → Type 0
 RunsFiles told held page e size blocks base text old new (Ok _) =
     (lines : List Line) × (accepted : ℕ) × (places : List Place) × (run : IsRunOn held page e size blocks base text lines accepted places None)
@@ -96,7 +98,8 @@ RunsFiles told held page e size blocks base text old new (Err (program.Session f
 RunsFiles told held page e size blocks base text old new (Err (program.Load load.TooLarge)) =
     (lines : List Line) × (lines_of text ≡ Ok lines) × IsPartUnread told lines (program.Load load.TooLarge)
 RunsFiles told held page e size blocks base text old new (Err (program.Session session.Sink None)) = IsCutShort told held page e size blocks base text
-RunsFiles told held page e size blocks base text old new (Err (program.Session session.OutOfMemory None)) = AreAllRead told text × HoldsFront held e size blocks base
+RunsFiles told held page e size blocks base text old new (Err (program.Session session.OutOfMemory None)) =
+    AreAllRead told text × HoldsFront held e size blocks base
 RunsFiles told held page e size blocks base text old new (Err (program.Session session.ReadOnly None)) = AreAllRead told text
 RunsFiles told held page e size blocks base text old new (Err (program.Session session.Geometry None)) = AreAllRead told text
 RunsFiles told held page e size blocks base text old new (Err (program.Mount fault)) = AreAllRead told text

@@ -62,8 +62,8 @@ abbrev pub RunsListed : (List ℕ → Option (List ℕ)) → Held → Page → E
 RunsListed told held page e size blocks listing output image old new before now answer = (text : List ℕ) × AreLoaded (told listing) text
     × WritesImage held page e size blocks output image text old new before now answer × RunsFiles told held page e size blocks image text old new answer
 
--- What is put of an image, or why no more of it is. The answer of `build` is no finding, and that of `append` the number of
--- findings of its base.
+-- What is put of an image, or why no more of it is. The answer of `build` is no finding, and that
+-- of `append` the number of findings of its base.
 abbrev pub PutsAnswer : (List ℕ → Option (List ℕ)) → Held → Endian → Parsed → List ℕ → Option (List ℕ) → Option (List ℕ) → ℕ → ℕ → Result ℕ ProgramFault → Type 0
 PutsAnswer told held e (ScanParsed options name) = PutsStream e options.geometry.block
 PutsAnswer told held e (CheckParsed options shape name) = PutsJudged e options.geometry.block shape
@@ -82,8 +82,9 @@ abbrev pub IsUnopened : List ℕ → ProgramFault → Type 0
 IsUnopened file (program.File name) = name.now ≡ file
 IsUnopened file _ = ⊥
 
--- why no image is read: its file can't be opened, or the word of the path can't be read, which is judged before; where an
--- image is written, it or the listing can't be opened, or not be read to its end, and the listing comes after the image
+-- why no image is read: its file can't be opened, or the word of the path can't be read, which is
+-- judged before; where an image is written, it or the listing can't be opened, or not be read to its
+-- end, and the listing comes after the image
 abbrev pub IsEarlyFault : (List ℕ → Option (List ℕ)) → Parsed → ProgramFault → Type 0
 IsEarlyFault told (ScanParsed options image) fault = IsUnopened image fault
 IsEarlyFault told (CheckParsed options shape image) fault = IsUnopened image fault
@@ -96,10 +97,13 @@ IsEarlyFault told (AppendParsed options blocks page image listing output) fault 
     IsUnreadFile image (told image) fault
     ⊎ ((bytes : List ℕ) × AreLoaded (told image) bytes × IsUnreadFile listing (told listing) fault)
 
--- of a block of no right size `check` says so of an image that it could open, and nothing else; other requests mount it
+-- of a size that no block has `check` says so where it could open the image, and nothing else; other
+-- requests mount it
 abbrev pub TellsBlockSize : Parsed → Result ℕ ProgramFault → Type 0
-TellsBlockSize (ScanParsed options image) answer = IsErrAnd answer (λ fault. (fault ≡ program.Scan scan.BlockSize) ⊎ IsUnopened image fault)
-TellsBlockSize (CheckParsed options shape image) answer = IsErrAnd answer (λ fault. (fault ≡ program.Scan scan.BlockSize) ⊎ IsUnopened image fault)
+TellsBlockSize (ScanParsed options image) answer =
+    IsErrAnd answer (λ fault. (fault ≡ program.Scan scan.BlockSize) ⊎ IsUnopened image fault)
+TellsBlockSize (CheckParsed options shape image) answer =
+    IsErrAnd answer (λ fault. (fault ≡ program.Scan scan.BlockSize) ⊎ IsUnopened image fault)
 TellsBlockSize _ answer = Unit {0}
 
 -- A request is met in the byte order e, where the host tells these bytes of its files: there is an image, that of the name where

@@ -54,14 +54,15 @@ IsPartUnread told lines _ = ⊥
 abbrev pub IsBehind : Option (List ℕ) → Option (List ℕ) → Type 0
 IsBehind given taken = IfSome taken (λ bytes. (n : ℕ) × (given ≡ Some (take n bytes)))
 
--- All that was taken was given on. Where the output stopped a run, it may have failed once more, and given on a beginning.
+-- All that was taken was given on. Where the output stopped a run, it may have failed once more, and
+-- given on a beginning.
 abbrev pub IsGivenOn : Option SessionFault → Option (List ℕ) → Option (List ℕ) → ℕ → ℕ → Type 0
 IsGivenOn (Some session.Sink) taken given before now =
     (Keeps taken given × (now ≡ before)) ⊎ (IsBehind given taken × (now ≡ next_count before))
 IsGivenOn _ taken given before now = Keeps taken given × (now ≡ before)
 
--- A base and operations on it were put out, and what was taken was given on: so many were accepted, their nodes have these
--- places, and this stopped them.
+-- A base and operations on it were put out, and what was taken was given on: so many were accepted,
+-- their nodes have these places, and this stopped them.
 pub record IsPut (page : Page) (e : Endian) (size blocks : ℕ) (m : Mount) (ops : List Op) (accepted : ℕ) (places : List Place) (stopped : Option SessionFault) (old given : Option (List ℕ)) (before now : ℕ) : Type 0 where
   pub taken : Option (List ℕ)
   pub count : ℕ
@@ -88,8 +89,8 @@ pub record IsMade (held : Held) (page : Page) (e : Endian) (size blocks : ℕ) (
 
 -- ---- a file of which no line tells
 
--- A beginning of the base's bytes up to where writing goes on was put out; or all of them, and then operations were run, and
--- it was not the output that stopped them.
+-- A beginning of the base's bytes up to where writing goes on was put out; or all of them, and then
+-- operations were run, and it was not the output that stopped them.
 abbrev pub IsPutInPart : Page → Endian → ℕ → ℕ → List ℕ → List Op → Option (List ℕ) → Option (List ℕ) → Type 0
 IsPutInPart page e size blocks base ops old taken =
     PutsPart old taken (front_before e size blocks base)
@@ -102,7 +103,8 @@ GivesPart page e size blocks base ops old given = (taken : Option (List ℕ)) ×
 
 -- The base's bytes up to there were put out and nothing else, and of that a beginning was given on.
 abbrev pub GivesFront : Endian → ℕ → ℕ → List ℕ → Option (List ℕ) → Option (List ℕ) → Type 0
-GivesFront e size blocks base old given = (taken : Option (List ℕ)) × Appends old taken (front_before e size blocks base) × IsBehind given taken
+GivesFront e size blocks base old given =
+    (taken : Option (List ℕ)) × Appends old taken (front_before e size blocks base) × IsBehind given taken
 
 -- the one or the other, by the fault: without memory no operation was run
 abbrev pub GivesCut : SessionFault → Page → Endian → ℕ → ℕ → List ℕ → List Op → Option (List ℕ) → Option (List ℕ) → Type 0
@@ -114,7 +116,9 @@ abbrev pub HoldsPart : Held → Page → Endian → ℕ → ℕ → List ℕ →
 HoldsPart held page e size blocks base ops = (old : Option (List ℕ)) × (given : Option (List ℕ)) × GivesPart page e size blocks base ops old given × IsHanded held old given
 
 abbrev pub HoldsFront : Held → Endian → ℕ → ℕ → List ℕ → Type 0
-HoldsFront held e size blocks base = (old : Option (List ℕ)) × (given : Option (List ℕ)) × GivesFront e size blocks base old given × IsHanded held old given
+HoldsFront held e size blocks base =
+    (old : Option (List ℕ)) × (given : Option (List ℕ)) × GivesFront e size blocks base old given
+    × IsHanded held old given
 
 -- a file was made, and nothing was given to it
 abbrev pub HoldsNothing : Held → Type 0

@@ -144,7 +144,8 @@ fn build<'a, E: Order, L: Loader, M: Maker, T: Sink>(
 }
 
 /// `append`: an image with what a listing makes of its file system. It is held in memory before the file is made, so the two
-/// may be one. The listing's text is kept, since a fault may name a part of it. Answers how many findings of the image to note.
+/// may be one. The listing's text is kept, since a fault may name a part of it. Answers how many
+/// findings of the image to note.
 fn append<'a, E: Order, L: Loader, M: Maker, T: Sink>(
     alloc: Global,
     loader: &mut L,

@@ -96,8 +96,8 @@ fn is_of_output(stopped: Option<SessionFault>) -> bool
     }
 }
 
-/// Puts out a base and what operations on it make, to the last byte. Answers what was done, also where the output failed at an
-/// operation. Where it failed before or after them it is handed back.
+/// Puts out a base and what operations on it make, to the last byte. Answers what was done, also
+/// where the output failed at an operation. Where it failed before or after them it is handed back.
 fn put_image<E: Order, S: Output>(
     alloc: Global,
     mounted: &Mounted<'_>,
@@ -175,8 +175,8 @@ fn make_image<'a, E: Order, M: Maker>(
     }
 }
 
-/// Writes an image: the operations of a listing's lines, on a base. What they did is told in a line. Answers how many findings
-/// of the base to note.
+/// Writes an image: the operations of a listing's lines, on a base. What they did is told in a line.
+/// Answers how many findings of the base to note.
 fn write_lines<'a, 'p, 'b: 'p, E: Order, M: Maker, T: Sink>(
     alloc: Global,
     maker: &mut M,
@@ -208,7 +208,8 @@ fn write_lines<'a, 'p, 'b: 'p, E: Order, M: Maker, T: Sink>(
 }
 
 /// Writes an image: the operations of a listing's text, on a base. What they did is told in a line. The file is made only
-/// after all was judged that can be before a byte is written. Answers how many findings of the base to note.
+/// after all was judged that can be before a byte is written. Answers how many findings of the base
+/// to note.
 pub fn write_image<'a, E: Order, L: Loader, M: Maker, T: Sink>(
     alloc: Global,
     loader: &mut L,

@@ -1,11 +1,12 @@
 //! A folder of the system that is read.
 
-ghost use Rattle.std.specs.Prelude.{◌≡◌, ◌++◌, ◌∷◌, [], IfErr, IfNone, IfOk, IfSome, IsOk, None};
+ghost use Rattle.std.specs.Prelude.{◌≡◌, ◌++◌, ◌∷◌, [], IfErr, IfNone, IfOk, IfSome, IsOk, None, string_bytes};
 ghost use Rattle.std.specs.Fs.{IsFile, file_type, metadata_len, metadata_mode};
 ghost use Rattle.std.specs.IoError.{error_kind};
 ghost use Rattle.jfolder.specs.Known.{named_of, nothing};
 ghost use Rattle.jhost.specs.Answers.{answer_of, fault_of_kind, fault_of_load};
 ghost use Rattle.jhost.specs.NamesRead.{AddsEntry};
+ghost use Rattle.jhost.specs.JoinedPaths.{joined_path};
 ghost use Rattle.jhost.specs.ReadFolders.{read_root};
 
 use crate::paths::joined;
@@ -157,7 +158,9 @@ impl<'r, R: Files + AllocGlobal + Clock + Eprint> ReadFolder<'r, R> {
         })
     }
 
-    fn joined(&self, path: &str) -> Result<String, AllocError> {
+    fn joined(&self, path: &str) -> Result<String, AllocError>
+        ensures { IfOk result (λ whole. string_bytes whole ≡ joined_path (read_root self.now) path.now) }
+    {
         joined(self.rt, self.root.as_str(), path)
     }
 
