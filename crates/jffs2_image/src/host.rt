@@ -1,10 +1,11 @@
 //! Files of the host: those that are read whole, and the one that is made.
-ghost use Rattle.std.specs.Prelude.{◌≡◌, ◌<◌, ◌≤◌, ◌++◌, ℕ, List, [], ◌∷◌, Option, IfOk, IfSome, None, Some, Err, length};
-ghost use Rattle.flashbase.specs.Device.{CountsErr, next_count};
+ghost use Rattle.std.specs.Prelude.{◌≡◌, ◌<◌, ◌≤◌, ◌++◌, ℕ, List, [], ◌∷◌, Option, IfOk, IfSome, None, Some, Err, length, vec_len};
+ghost use Rattle.flashbase.specs.Device.{CountsErr, CountsLoad, next_count};
 ghost use Rattle.jffs2_image.specs.Host.{AreOf, CountsFile, GivesFile, HoldsBy, MakesBy};
 
 use crate::output::{BufferedOutput, Output};
-use flashbase::{DeviceFault, FromReader, LoadFault, Source, load};
+use flashbase::{DeviceFault, FromReader, LoadFault, Source};
+use std::alloc::{AllocError, Global};
 use std::fs;
 use std::rt::Files;
 
@@ -84,18 +85,79 @@ pub trait Maker {
         ensures held { IfSome (held self.old) (λ files. IfSome (Self.Made.given made) (λ bytes. held self.new ≡ Some (files ++ bytes ∷ []))) };
 }
 
-/// Reads files of the system.
+/// How many bytes a file is asked for at once.
+const PIECE: usize = 65_536;
+
+fn zeros(alloc: Global) -> Result<Vec<u8>, AllocError>
+    ensures { IfOk result (λ zeros. vec_len zeros ≡ 65536) }
+{
+    vec![in alloc; 0u8; PIECE]
+}
+
+/// Reads all that the source has left, if it is at most `limit` bytes. They come through the piece,
+/// which may have any bytes.
+fn load_through<S: Source>(
+    alloc: Global,
+    source: &mut S,
+    piece: &mut [u8],
+    limit: usize,
+) -> Result<Vec<u8>, LoadFault>
+    requires { 0 < length piece.old }
+    ensures whole { IfOk result (λ v. IfSome (S.rest source.old) (λ bytes. v.items ≡ bytes)) }
+    ensures within { IfOk result (λ v. vec_len v ≤ limit) }
+    ensures too_large { result ≡ Err LoadFault.TooLarge
+        → IfSome (S.rest source.old) (λ bytes. limit < length bytes) }
+    ensures count { CountsLoad (S.failures source.old) (S.failures source.new) result }
+{
+    let mut bytes = Vec::new(alloc);
+    loop {
+        let n = source.fill(piece)?;
+        if n == 0 {
+            return Ok(bytes);
+        }
+        if limit - bytes.len() < n {
+            return Err(LoadFault::TooLarge);
+        }
+        bytes.extend_from_slice(&piece[..n])?;
+    }
+}
+
+/// The same through a piece that is made for the first file.
+fn load_by_piece<S: Source>(
+    alloc: Global,
+    source: &mut S,
+    piece: &mut Vec<u8>,
+    limit: usize,
+) -> Result<Vec<u8>, LoadFault>
+    ensures whole { IfOk result (λ v. IfSome (S.rest source.old) (λ bytes. v.items ≡ bytes)) }
+    ensures within { IfOk result (λ v. vec_len v ≤ limit) }
+    ensures too_large { result ≡ Err LoadFault.TooLarge
+        → IfSome (S.rest source.old) (λ bytes. limit < length bytes) }
+    ensures count { CountsLoad (S.failures source.old) (S.failures source.new) result }
+{
+    if piece.is_empty() {
+        *piece = zeros(alloc)?;
+    }
+    load_through(alloc, source, piece.as_mut_slice(), limit)
+}
+
+/// Reads files of the system, all through one piece.
 #[derive(Drop)]
 pub struct FileLoader<'r, R: Files + AllocGlobal> {
     rt: &'r R,
     failures: u64,
+    piece: Vec<u8>,
 }
 
 impl<'r, R: Files + AllocGlobal> FileLoader<'r, R> {
     pub fn new(rt: &'r R) -> Self
         ensures { ⟦<FileLoader<'r, R> as Loader>⟧.failures result ≡ 0 }
     {
-        FileLoader { rt, failures: 0 }
+        FileLoader {
+            rt,
+            failures: 0,
+            piece: Vec::new(rt.alloc()),
+        }
     }
 }
 
@@ -110,7 +172,7 @@ impl<'r, R: Files + AllocGlobal> Loader for FileLoader<'r, R> {
         let Ok(mut file) = self.open(name) else {
             return Err(FileFault::NotOpened);
         };
-        let loaded = load(self.rt.alloc(), &mut file, limit);
+        let loaded = load_by_piece(self.rt.alloc(), &mut file, &mut self.piece, limit);
         self.close(file);
         match loaded {
             Ok(bytes) => Ok(bytes),
