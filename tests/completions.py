@@ -60,7 +60,7 @@ def values_of_the_program():
     values = {}
     for option in ("endian", "page"):
         told = re.search(rf'const {option.upper()}: &str =\s*"[^"]*: ([^"]*)"', text)[1]
-        values[f"--{option}"] = set(re.split(r", | or ", told))
+        values[f"--{option}"] = set(re.split(r", | or ", told.removesuffix(" bytes")))
     return values
 
 
