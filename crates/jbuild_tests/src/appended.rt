@@ -116,8 +116,14 @@ fn refused(alloc: Global, base: &[u8], blocks: u32) -> Result<Option<SessionFaul
     let mounted = mount::<LittleEndian>(alloc, base, GEOMETRY)?;
     let sink = Taker::new(alloc);
     match emit::<LittleEndian, _>(alloc, &mounted, GEOMETRY, blocks, Page::P4096, &ops, sink) {
-        Err((fault, sink)) if sink.took(0, &[]) => Ok(Some(fault)),
-        _ => Ok(None),
+        Ok(_done) => Ok(None),
+        Err((fault, sink)) => {
+            if sink.took(0, &[]) {
+                Ok(Some(fault))
+            } else {
+                Err(Fail::from("the sink is not as it was"))
+            }
+        }
     }
 }
 

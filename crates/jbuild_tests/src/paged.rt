@@ -1,6 +1,6 @@
 //! Larger pages: where the nodes of a file go, and blocks that do not hold them.
 
-use crate::checks::{expect, expect_at};
+use crate::checks::{equal, expect, expect_at};
 use byteorder::{BigEndian, LittleEndian};
 use jbuild::emit;
 use jlog::{SessionFault, page_fits};
@@ -95,7 +95,7 @@ fn blocks_that_hold_a_page(rt: HostRuntime) -> Result<(), Fail> {
         };
         let mounted = mount::<LittleEndian>(alloc, &[], geometry)?;
         let sink = Taker::new(alloc);
-        let answer = emit::<LittleEndian, _>(
+        let refused = match emit::<LittleEndian, _>(
             alloc,
             &mounted,
             geometry,
@@ -103,14 +103,18 @@ fn blocks_that_hold_a_page(rt: HostRuntime) -> Result<(), Fail> {
             page,
             &write(1),
             sink,
-        ).err();
-        match page {
-            Page::P4096 => expect(&rt, answer.is_none()),
-            _ => expect(
-                &rt,
-                matches!(answer, Some((SessionFault::Geometry, sink)) if sink.took(0, &[])),
-            ),
-        }
+        ) {
+            Ok(_done) => None,
+            Err((fault, sink)) => {
+                expect(&rt, sink.took(0, &[]));
+                Some(fault)
+            }
+        };
+        let wanted = match page {
+            Page::P4096 => None,
+            _ => Some(SessionFault::Geometry),
+        };
+        equal(&rt, refused, wanted);
     }
     Ok(())
 }
