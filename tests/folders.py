@@ -265,12 +265,14 @@ def what_the_host_refuses():
 
 
 def on_a_terminal():
-    """Progress is told on a terminal alone, and not with --quiet."""
-    write("many.img", images.names(2000))
-    for words, name in ((["--quiet"], "quiet"), ([], "fast")):
+    """Progress is told on a terminal alone, not with --quiet, and is taken away at the end."""
+    # The lines of 500 names fill the terminal, or the pipe, which is not read for more than a second: so long the work takes.
+    write("slow.img", files(*((b"%03d" % k + b"n" * 240, 0o010644, b"") for k in range(500)), (b"z", 0o100644, b"z")))
+    for words, name in ((["--quiet"], "quiet"), ([], "slow")):
         main, end = pty.openpty()
-        with subprocess.Popen([PROGRAM, "extract", *words, "many.img", name], stdout=end, stderr=end) as child:
+        with subprocess.Popen([PROGRAM, "extract", *words, "slow.img", name], stdin=subprocess.DEVNULL, stdout=end, stderr=end) as child:
             os.close(end)
+            time.sleep(1.5)
             told = b""
             try:
                 while piece := os.read(main, 4096):
@@ -278,8 +280,16 @@ def on_a_terminal():
             except OSError:
                 pass
         os.close(main)
-        verdict(f"no progress {words}", child.returncode == 0 and (told == b"" or (not words and b"objects\r" in told)), Done(child.returncode, told, b""))
+        done = Done(child.returncode, told, b"")
+        verdict(f"the lines on a terminal {words}", (child.returncode, told.count(b"left out /")) == (3, 500), done)
+        verdict(f"progress {words}", (b" objects\r" in told) != bool(words), done)
+        behind = told.rpartition(b" objects\r")[2]
+        verdict(f"it is taken away {words}", bool(words) or b" " * 20 + b"\r" in behind, done)
         shutil.rmtree(name)
+    with open("slow.txt", "wb") as out, subprocess.Popen([PROGRAM, "extract", "slow.img", "slow"], stdout=out, stderr=subprocess.PIPE) as child:
+        time.sleep(1.5)
+        told = child.stderr.read()
+    verdict("no progress into a file", child.returncode == 3 and b"objects" not in told, Done(child.returncode, told, b""))
 
 
 def owners_and_times():
@@ -342,13 +352,12 @@ def may_not_be_read():
         os.chmod(f"secret/{name}", mode)
     os.chmod("secret/hidden", 0)
     os.chmod(".", 0o755)
+    # The program may stand where another user can't reach it.
+    shutil.copy(PROGRAM, "program")
+    os.chmod("program", 0o755)
     other = {"user": 65534, "group": 65534, "extra_groups": []} if IS_ROOT else {}
     words = ["listing", "--owner", "0", "0", "--time", "0", "secret"]
-    try:
-        done = run(*words, stdout=subprocess.PIPE, stderr=subprocess.PIPE, **other)
-    except PermissionError:
-        print("may_not_be_read: left out, since another user can't run the program here", flush=True)
-        return
+    done = run(*words, stdout=subprocess.PIPE, stderr=subprocess.PIPE, executable=os.path.abspath("program"), **other)
     left_out = b"left out /closed: the host refused it\nleft out /hidden: the host refused it\n"
     verdict("it is told", (done.status, done.err) == (3, left_out), done)
     rest = b"create 0 /none\ncreate 644 /open\npart /open 0 secret/open\n"

@@ -12,7 +12,7 @@ use std::alloc::Global;
 use std::test::Fail;
 use test_support::{Long, Taker};
 
-const FAULTS: [(ProgramFault<'static>, &str); 22] = [
+const FAULTS: [(ProgramFault<'static>, &str); 23] = [
     (ProgramFault::Load(LoadFault::Device), "L1 Device"),
     (ProgramFault::Load(LoadFault::TooLarge), "L2 TooLarge"),
     (ProgramFault::Load(LoadFault::OutOfMemory), "L3 OutOfMemory"),
