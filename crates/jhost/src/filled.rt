@@ -1,11 +1,12 @@
 //! A folder of the system that is filled.
 
-ghost use Rattle.std.specs.Prelude.{◌≡◌, true, None, Some, IfErr, IfOk, IsErrOf};
+ghost use Rattle.std.specs.Prelude.{◌≡◌, true, None, Some, IfErr, IfOk, IsErrOf, IsFalse};
 ghost use Rattle.std.specs.Fs.{new_options, permissions_mode, with_create_new, with_write};
 ghost use Rattle.std.specs.IoError.{error_kind};
 ghost use Rattle.jextract.specs.Folders.{Counts, counted_fault};
 ghost use Rattle.jhost.specs.FilledFaults.{filling_fault};
 ghost use Rattle.jhost.specs.FilledFolders.{filled_root};
+ghost use Rattle.jhost.specs.Silence.{FillsInSilence};
 
 use crate::file::{HostFile, fault_of};
 use crate::paths::joined;
@@ -92,6 +93,7 @@ impl<'r, R: Files + AllocGlobal + Clock + Eprint> FilledFolder<'r, R> {
     pub fn new(rt: &'r R, path: &str, tells: bool) -> Result<Self, AllocError>
         ensures none { IfOk result (λ folder. ⟦<FilledFolder<'r, R> as Folder>⟧.failures folder ≡ record { refused = 0; full = 0 }) }
         ensures root { IfOk result (λ folder. filled_root folder ≡ path.now) }
+        ensures silent { IsFalse tells → IfOk result (λ folder. FillsInSilence folder) }
     {
         Ok(FilledFolder {
             rt,

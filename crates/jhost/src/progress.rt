@@ -1,5 +1,8 @@
 //! How far long work is, told on a terminal.
 
+ghost use Rattle.std.specs.Prelude.{IsFalse};
+ghost use Rattle.jhost.specs.Silence.{IsSilent};
+
 use std::io::Eprint;
 use std::rt::Clock;
 use std::time::Duration;
@@ -16,7 +19,9 @@ pub struct Progress<'r, R: Clock + Eprint> {
 
 impl<'r, R: Clock + Eprint> Progress<'r, R> {
     /// No objects. It tells nothing unless it `tells`.
-    pub fn new(rt: &'r R, tells: bool) -> Self {
+    pub fn new(rt: &'r R, tells: bool) -> Self
+        ensures { IsFalse tells → IsSilent result }
+    {
         let due = if tells { a_second_from_now(rt) } else { None };
         Progress {
             rt,

@@ -1,6 +1,6 @@
 //! A folder of the system that is read.
 
-ghost use Rattle.std.specs.Prelude.{◌≡◌, ◌++◌, ◌∷◌, [], IfErr, IfNone, IfOk, IfSome, IsOk, None, string_bytes};
+ghost use Rattle.std.specs.Prelude.{◌≡◌, ◌++◌, ◌∷◌, [], IfErr, IfNone, IfOk, IfSome, IsFalse, IsOk, None, string_bytes};
 ghost use Rattle.std.specs.Fs.{IsFile, file_type, metadata_len, metadata_mode};
 ghost use Rattle.std.specs.IoError.{error_kind};
 ghost use Rattle.jfolder.specs.Known.{named_of, nothing};
@@ -8,6 +8,7 @@ ghost use Rattle.jhost.specs.Answers.{answer_of, fault_of_kind, fault_of_load};
 ghost use Rattle.jhost.specs.NamesRead.{AddsEntry};
 ghost use Rattle.jhost.specs.JoinedPaths.{joined_path};
 ghost use Rattle.jhost.specs.ReadFolders.{read_root};
+ghost use Rattle.jhost.specs.Silence.{ReadsInSilence};
 
 use crate::paths::joined;
 use crate::progress::Progress;
@@ -148,7 +149,8 @@ fn names_in<R: Files + AllocGlobal>(rt: &R, path: &str) -> io::Result<Names> {
 impl<'r, R: Files + AllocGlobal + Clock + Eprint> ReadFolder<'r, R> {
     /// The folder of a path. It tells how far it is only where `tells`. The file that standard output is written to is not told.
     pub fn new(rt: &'r R, path: &str, tells: bool) -> Result<Self, AllocError>
-        ensures { IfOk result (λ folder. read_root folder ≡ path.now) }
+        ensures root { IfOk result (λ folder. read_root folder ≡ path.now) }
+        ensures silent { IsFalse tells → IfOk result (λ folder. ReadsInSilence folder) }
     {
         Ok(ReadFolder {
             rt,

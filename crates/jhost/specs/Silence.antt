@@ -1,0 +1,15 @@
+-- Whether it is told how far work is.
+use Rattle.std.specs.Prelude.{◌≡◌, None}
+use Rattle.jhost.specs.declared.filled.FilledFolder.{FilledFolder}
+use Rattle.jhost.specs.declared.progress.Progress.{Progress}
+use Rattle.jhost.specs.declared.read.ReadFolder.{ReadFolder}
+
+-- nothing is due to be told
+abbrev pub IsSilent : {R : Type 0} → Progress R → Type 0
+IsSilent progress = progress.due ≡ None
+
+abbrev pub FillsInSilence : {R F D : Type 0} → FilledFolder R F D → Type 0
+FillsInSilence folder = IsSilent folder.progress
+
+abbrev pub ReadsInSilence : {R F D : Type 0} → ReadFolder R F D → Type 0
+ReadsInSilence folder = IsSilent folder.progress
