@@ -38,7 +38,8 @@ if is_program:
     wanted = open(os.path.join(top, crate, "args")).read().split("\n")[:-1]
     print(end=open(os.path.join(top, crate, "stdout")).read())
     sys.exit(asked != wanted)
-known = re.findall(r"\b[a-z]+(?:-fail)?\b|--[a-z]+", os.environ["RT_HELP"])
+known = re.findall(r"\b[a-z]+(?:-fail)?\b|--[a-z-]+[a-z]", os.environ["RT_HELP"])
+known.append("--allow-holes")  # a flag of the prover, which rt's help leaves out
 names = [word for word in words if re.fullmatch(r"[a-z]\w*", word)]
 unknown = [word for word in words if word.startswith("--") and word not in known]
 unknown += [names[0]] if not names or names[0] not in known else []
