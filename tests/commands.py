@@ -141,6 +141,7 @@ def main():
     program = os.path.realpath(sys.argv[1] if len(sys.argv) > 1 else PROGRAM)
     if not os.access(program, os.X_OK):
         sys.exit(f"{program} is no program")
+    os.umask(0o022)
     passed = failed = 0
     with tempfile.TemporaryDirectory() as folder:
         place = Place(folder, program)
