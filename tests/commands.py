@@ -23,7 +23,8 @@ import tempfile
 ROOT = os.path.dirname(os.path.dirname(os.path.abspath(__file__)))
 PROGRAM = os.path.join(ROOT, "crates", "jffs2_image", "out", "jffs2_image")
 BLOCK = re.compile(r"^```(\w*)\n(.*?)^```$", re.M | re.S)
-LITERAL = re.compile(r"^\.Bd -literal.*?\n(.*?)^\.Ed$(?:\n\.Pp\nIt prints\n\.Ql (.*?) \.$)?", re.M | re.S)
+LITERAL = re.compile(r"^\.Bd -literal.*?\n(.*?)^\.Ed$"
+                     r"(?:\n\.Pp\nIt prints\n\.Ql (.*?) \.$)?", re.M | re.S)
 
 # What stands for rt: it knows the words of its own help, and the crates.
 RT = r"""#!/usr/bin/env python3
