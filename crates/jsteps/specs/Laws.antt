@@ -114,6 +114,7 @@ OpFits (op.Truncate time path size) = IsWord time
 OpFits (op.Link time old new) = IsWord time
 OpFits (op.Remove time path) = IsWord time
 OpFits (op.Rename time old new) = IsWord time
+OpFits (op.Replace time old new) = IsWord time
 OpFits (op.SetAttributes time path attributes) = IsWord time × GivenFit attributes
 
 -- steps of which each is ready and has room when its turn comes, and an index after them that is consistent again

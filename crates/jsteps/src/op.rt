@@ -89,6 +89,13 @@ pub enum Op<'a> {
         old: Text<'a>,
         new: Text<'a>,
     },
+    /// The new name stands for what `old` names, which is no directory, whatever it stood for; then the old name goes. It
+    /// does not replace a directory. Where both paths lead to one name, nothing changes.
+    Replace {
+        time: u32,
+        old: Text<'a>,
+        new: Text<'a>,
+    },
     /// Other attributes of a directory, the root too, a regular file, a FIFO or a socket. Its bytes stay, and the operation's
     /// time is that of the last change of its attributes.
     SetAttributes {
@@ -126,6 +133,9 @@ impl Op<'_> {
                 let _known = *time;
             }
             Op::Rename { time, .. } => {
+                let _known = *time;
+            }
+            Op::Replace { time, .. } => {
                 let _known = *time;
             }
             Op::SetAttributes {

@@ -121,6 +121,7 @@ fn other_name<'a>(verb: &str, path: &'a str, second: &'a str, time: u32) -> Opti
     Some(match verb {
         "link" => Op::Link { time, old, new },
         "rename" => Op::Rename { time, old, new },
+        "replace" => Op::Replace { time, old, new },
         "remove" => Op::Remove { time, path: old },
         _ => return None,
     })
