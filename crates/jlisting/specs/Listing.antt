@@ -57,6 +57,9 @@ link_line s a b = text_of a >>= λ old. text_of b >>= λ new. operation (op.Link
 abbrev pub rename_line : Settings → List ℕ → List ℕ → Option Statement
 rename_line s a b = text_of a >>= λ old. text_of b >>= λ new. operation (op.Rename s.time old new)
 
+abbrev pub replace_line : Settings → List ℕ → List ℕ → Option Statement
+replace_line s a b = text_of a >>= λ old. text_of b >>= λ new. operation (op.Replace s.time old new)
+
 abbrev pub remove_line : Settings → List ℕ → Option Statement
 remove_line s a = text_of a >>= λ path. operation (op.Remove s.time path)
 
@@ -83,6 +86,7 @@ two_operands s name a b =
     else if bytes_eq name (codes "truncate") then truncate_line s a b
     else if bytes_eq name (codes "link") then link_line s a b
     else if bytes_eq name (codes "rename") then rename_line s a b
+    else if bytes_eq name (codes "replace") then replace_line s a b
     else None
 
 unfoldable pub three_operands : Settings → List ℕ → List ℕ → List ℕ → List ℕ → Option Statement

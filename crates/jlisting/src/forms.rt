@@ -1,7 +1,7 @@
 //! The forms of a line, each by the words after its first.
 
 ghost use Rattle.jword.specs.Words.{IsRead};
-ghost use Rattle.jlisting.specs.Listing.{time_line, owner_line, mkdir_line, create_line, symlink_line, write_line, part_line, truncate_line, link_line, rename_line, remove_line, attr_line};
+ghost use Rattle.jlisting.specs.Listing.{time_line, owner_line, mkdir_line, create_line, symlink_line, write_line, part_line, truncate_line, link_line, rename_line, replace_line, remove_line, attr_line};
 
 use crate::line::Action;
 use crate::statement::{Settings, Statement};
@@ -185,6 +185,24 @@ pub fn read_rename<'a>(
     let old = text_word(alloc, old)?;
     let new = text_word(alloc, new)?;
     Ok(Statement::Action(Action::Op(Op::Rename {
+        time: settings.time,
+        old,
+        new,
+    })))
+}
+
+/// `replace OLD NEW`
+pub fn read_replace<'a>(
+    alloc: Global,
+    settings: Settings,
+    old: &'a [u8],
+    new: &'a [u8],
+) -> Result<Statement<'a>, WordFault>
+    ensures { IsRead (replace_line settings old.entry.now new.entry.now) result }
+{
+    let old = text_word(alloc, old)?;
+    let new = text_word(alloc, new)?;
+    Ok(Statement::Action(Action::Op(Op::Replace {
         time: settings.time,
         old,
         new,

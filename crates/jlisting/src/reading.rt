@@ -7,7 +7,7 @@ ghost use Rattle.jlisting.specs.Listing.{one_operand, two_operands, three_operan
 
 use crate::forms::{
     read_attr, read_create, read_link, read_mkdir, read_owner, read_part, read_remove, read_rename,
-    read_symlink, read_time, read_truncate, read_write,
+    read_replace, read_symlink, read_time, read_truncate, read_write,
 };
 use crate::split::split_once;
 use crate::statement::{Settings, Statement};
@@ -59,6 +59,8 @@ fn read_two<'a>(
         read_link(alloc, settings, a, b)
     } else if is_word(name, b"rename") {
         read_rename(alloc, settings, a, b)
+    } else if is_word(name, b"replace") {
+        read_replace(alloc, settings, a, b)
     } else {
         Err(WordFault::Invalid)
     }

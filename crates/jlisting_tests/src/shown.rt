@@ -112,6 +112,7 @@ fn show_change(out: &mut String, op: &Op<'_>) -> Result<(), AllocError> {
         }
         Op::Link { time, old, new } => show_names(out, "link", *time, old, new),
         Op::Rename { time, old, new } => show_names(out, "rename", *time, old, new),
+        Op::Replace { time, old, new } => show_names(out, "replace", *time, old, new),
         Op::Remove { time, path } => {
             write!(out, "{time} remove")?;
             show_bytes(out, path)
