@@ -79,6 +79,8 @@ write_few page time ino size offset (b ∷ bytes) is_page ends =
 steps_few : (page : ℕ) (x : Indexed) (o : Op) (steps : List Step) → IsPage page → planned_by page x o ≡ Ok steps → length (steps_of page x.tree o) ≤ most_steps
 steps_few page x (op.Mkdir time path mode uid gid) steps is_page e = omega arith
 steps_few page x (op.Create time path mode uid gid) steps is_page e = omega arith
+steps_few page x (op.Fifo time path mode uid gid) steps is_page e = omega arith
+steps_few page x (op.Socket time path mode uid gid) steps is_page e = omega arith
 steps_few page x (op.Symlink time path link uid gid) steps is_page e = omega arith
 steps_few page x (op.Write time path offset bytes) steps is_page e =
     write_few page time (number_or_zero x.tree path) (size_named x.tree path) offset bytes is_page (accepted page x (op.Write time path offset bytes) steps e).large

@@ -198,6 +198,14 @@ all_fine page x (op.Create time path mode uid gid) steps is_page same fits is =
     let is_led = (led_alone x path false false same is.bad is.long is.found is.directory).0 in
     let bits : mode ≤ 0o7777 = ltb-false 0o7777 mode is.mode in
     make_fine page x time path (0o100000 + mode) uid gid [] same is_led fits.0 (omega arith) fits.1 fits.2 (omega arith)
+all_fine page x (op.Fifo time path mode uid gid) steps is_page same fits is =
+    let is_led = (led_alone x path false false same is.bad is.long is.found is.directory).0 in
+    let bits : mode ≤ 0o7777 = ltb-false 0o7777 mode is.mode in
+    make_fine page x time path (0o010000 + mode) uid gid [] same is_led fits.0 (omega arith) fits.1 fits.2 (omega arith)
+all_fine page x (op.Socket time path mode uid gid) steps is_page same fits is =
+    let is_led = (led_alone x path false false same is.bad is.long is.found is.directory).0 in
+    let bits : mode ≤ 0o7777 = ltb-false 0o7777 mode is.mode in
+    make_fine page x time path (0o140000 + mode) uid gid [] same is_led fits.0 (omega arith) fits.1 fits.2 (omega arith)
 all_fine page x (op.Symlink time path link uid gid) steps is_page same fits is =
     let is_led = (led_alone x path false false same is.bad is.long is.found is.directory).0 in
     let parts = three_false (length link == 0) (nat_lt 4095 (length link)) (list_any (λ b. b == 0) link) is.link in

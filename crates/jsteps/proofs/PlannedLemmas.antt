@@ -212,6 +212,12 @@ mkdir_made page x time path mode uid gid = made_as page x (op.Mkdir time path mo
 pub create_made : (page : ℕ) (x : Indexed) (time : ℕ) (path : List ℕ) (mode uid gid : ℕ) → planned_by page x (op.Create time path mode uid gid) ≡ made_plan x time path 0o100000 mode uid gid [] false
 create_made page x time path mode uid gid = made_as page x (op.Create time path mode uid gid) path (nat_lt 0o7777 mode) false (or_none (is_bad_path path)) (simp (or_none) refl)
 
+pub fifo_made : (page : ℕ) (x : Indexed) (time : ℕ) (path : List ℕ) (mode uid gid : ℕ) → planned_by page x (op.Fifo time path mode uid gid) ≡ made_plan x time path 0o010000 mode uid gid [] false
+fifo_made page x time path mode uid gid = made_as page x (op.Fifo time path mode uid gid) path (nat_lt 0o7777 mode) false (or_none (is_bad_path path)) (simp (or_none) refl)
+
+pub socket_made : (page : ℕ) (x : Indexed) (time : ℕ) (path : List ℕ) (mode uid gid : ℕ) → planned_by page x (op.Socket time path mode uid gid) ≡ made_plan x time path 0o140000 mode uid gid [] false
+socket_made page x time path mode uid gid = made_as page x (op.Socket time path mode uid gid) path (nat_lt 0o7777 mode) false (or_none (is_bad_path path)) (simp (or_none) refl)
+
 pub symlink_made : (page : ℕ) (x : Indexed) (time : ℕ) (path link : List ℕ) (uid gid : ℕ)
     → planned_by page x (op.Symlink time path link uid gid) ≡ made_plan x time path 0o120000 0o777 uid gid link (is_bad_target (op.Symlink time path link uid gid))
 symlink_made page x time path link uid gid =

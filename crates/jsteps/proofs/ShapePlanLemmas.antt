@@ -96,6 +96,12 @@ plan_keeps page x (op.Mkdir time path mode uid gid) steps same is shape =
 plan_keeps page x (op.Create time path mode uid gid) steps same is shape =
     let is_led = (led_alone x path false false same is.bad is.long is.found is.directory).0 in
     make_keeps x time path (0o100000 + mode) uid gid [] same is_led.parent_there.there shape
+plan_keeps page x (op.Fifo time path mode uid gid) steps same is shape =
+    let is_led = (led_alone x path false false same is.bad is.long is.found is.directory).0 in
+    make_keeps x time path (0o010000 + mode) uid gid [] same is_led.parent_there.there shape
+plan_keeps page x (op.Socket time path mode uid gid) steps same is shape =
+    let is_led = (led_alone x path false false same is.bad is.long is.found is.directory).0 in
+    make_keeps x time path (0o140000 + mode) uid gid [] same is_led.parent_there.there shape
 plan_keeps page x (op.Symlink time path link uid gid) steps same is shape =
     let is_led = (led_alone x path false false same is.bad is.long is.found is.directory).0 in
     make_keeps x time path 0o120777 uid gid link same is_led.parent_there.there shape

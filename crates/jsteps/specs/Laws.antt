@@ -108,6 +108,8 @@ GivenFit attributes = IsHalf attributes.uid × IsHalf attributes.gid × IsWord a
 abbrev pub OpFits : Op → Type 0
 OpFits (op.Mkdir time path mode uid gid) = IsWord time × IsHalf uid × IsHalf gid
 OpFits (op.Create time path mode uid gid) = IsWord time × IsHalf uid × IsHalf gid
+OpFits (op.Fifo time path mode uid gid) = IsWord time × IsHalf uid × IsHalf gid
+OpFits (op.Socket time path mode uid gid) = IsWord time × IsHalf uid × IsHalf gid
 OpFits (op.Symlink time path link uid gid) = IsWord time × IsHalf uid × IsHalf gid
 OpFits (op.Write time path offset new) = IsWord time
 OpFits (op.Truncate time path size) = IsWord time

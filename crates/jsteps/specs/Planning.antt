@@ -78,6 +78,8 @@ move_steps t time old new =
 abbrev pub steps_of : ℕ → Outline → Op → List Step
 steps_of page t (op.Mkdir time path mode uid gid) = make_steps t time path (0o040000 + mode) uid gid []
 steps_of page t (op.Create time path mode uid gid) = make_steps t time path (0o100000 + mode) uid gid []
+steps_of page t (op.Fifo time path mode uid gid) = make_steps t time path (0o010000 + mode) uid gid []
+steps_of page t (op.Socket time path mode uid gid) = make_steps t time path (0o140000 + mode) uid gid []
 steps_of page t (op.Symlink time path link uid gid) = make_steps t time path 0o120777 uid gid link
 steps_of page t (op.Write time path offset bytes) = write_steps page time (number_or_zero t path) (size_named t path) offset bytes
 steps_of page t (op.Truncate time path size) = resize_steps time (number_or_zero t path) (size_named t path) size

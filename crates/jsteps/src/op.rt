@@ -51,6 +51,22 @@ pub enum Op<'a> {
         uid: u16,
         gid: u16,
     },
+    /// A new FIFO.
+    Fifo {
+        time: u32,
+        path: Text<'a>,
+        mode: u32,
+        uid: u16,
+        gid: u16,
+    },
+    /// A new socket.
+    Socket {
+        time: u32,
+        path: Text<'a>,
+        mode: u32,
+        uid: u16,
+        gid: u16,
+    },
     /// A new symlink to a target of 1 to 4,095 bytes, none of them zero.
     Symlink {
         time: u32,
@@ -115,6 +131,12 @@ impl Op<'_> {
                 let _known = (*time, *uid, *gid);
             }
             Op::Create { time, uid, gid, .. } => {
+                let _known = (*time, *uid, *gid);
+            }
+            Op::Fifo { time, uid, gid, .. } => {
+                let _known = (*time, *uid, *gid);
+            }
+            Op::Socket { time, uid, gid, .. } => {
                 let _known = (*time, *uid, *gid);
             }
             Op::Symlink { time, uid, gid, .. } => {

@@ -366,6 +366,42 @@ fn create<'a>(
     )
 }
 
+/// A new FIFO.
+fn fifo<'a>(
+    alloc: Global,
+    index: &Index,
+    time: u32,
+    path: &'a [u8],
+    mode: u32,
+    uid: u16,
+    gid: u16,
+) -> Result<Vec<Step<'a>>, OpFault>
+    ensures { (page : ℕ) → GivesPlan result (planned_by page index.now (op.Fifo time path.now mode uid gid)) }
+{
+    let target = b"".as_slice();
+    make(
+        alloc, index, time, path, 0o010000, mode, uid, gid, target, false,
+    )
+}
+
+/// A new socket.
+fn socket<'a>(
+    alloc: Global,
+    index: &Index,
+    time: u32,
+    path: &'a [u8],
+    mode: u32,
+    uid: u16,
+    gid: u16,
+) -> Result<Vec<Step<'a>>, OpFault>
+    ensures { (page : ℕ) → GivesPlan result (planned_by page index.now (op.Socket time path.now mode uid gid)) }
+{
+    let target = b"".as_slice();
+    make(
+        alloc, index, time, path, 0o140000, mode, uid, gid, target, false,
+    )
+}
+
 /// Whether a symlink may not have this target.
 fn is_bad_target(target: &[u8]) -> bool
     ensures { result ≡ ((length target.now == 0) || nat_lt 4095 (length target.now) || list_any (λ b. b == 0) target.now) }
@@ -451,6 +487,20 @@ pub fn plan_paged<'a>(
             uid,
             gid,
         } => create(alloc, index, *time, path.as_slice(), *mode, *uid, *gid),
+        Op::Fifo {
+            time,
+            path,
+            mode,
+            uid,
+            gid,
+        } => fifo(alloc, index, *time, path.as_slice(), *mode, *uid, *gid),
+        Op::Socket {
+            time,
+            path,
+            mode,
+            uid,
+            gid,
+        } => socket(alloc, index, *time, path.as_slice(), *mode, *uid, *gid),
         Op::Symlink {
             time,
             path,

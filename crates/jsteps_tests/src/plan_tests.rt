@@ -53,10 +53,13 @@ const BYTES: [(&str, &str); 23] = [
     ("truncate /d/f 0", ""),
 ];
 
-const NAMES: [(&str, &str); 18] = [
+const NAMES: [(&str, &str); 21] = [
     ("mkdir /x 755", "make 40755 5 6 [], set 1 x 58"),
     ("mkdir /d/e/x 0", "make 40000 5 6 [], set 4 x 58"),
     ("create /d/x 7777", "make 107777 5 6 [], set 3 x 58"),
+    ("fifo /d/p 644", "make 10644 5 6 [], set 3 p 58"),
+    ("socket /n/s 7777", "make 147777 5 6 [], set 10 s 58"),
+    ("fifo /x 0", "make 10000 5 6 [], set 1 x 58"),
     ("symlink /n/l ../f", "make 120777 5 6 [../f], set 10 l 58"),
     ("link /a /d/b", "set 3 b 2"),
     ("link /s /l", "set 1 l 7"),
@@ -74,7 +77,7 @@ const NAMES: [(&str, &str); 18] = [
     ("rename /s /t", "set 1 t 7, clear 1 s"),
 ];
 
-const ALONE: [(&str, &str); 45] = [
+const ALONE: [(&str, &str); 53] = [
     ("mkdir x 755", "O1 BadPath"),
     ("create  644", "O1 BadPath"),
     ("remove /a/", "O1 BadPath"),
@@ -120,6 +123,14 @@ const ALONE: [(&str, &str); 45] = [
     ("symlink /x a\0b", "O11 BadTarget"),
     ("rename / /x", "O1 BadPath"),
     ("remove /", "O1 BadPath"),
+    ("fifo / 644", "O1 BadPath"),
+    ("socket x 644", "O1 BadPath"),
+    ("fifo /none/x 644", "O3 NotFound"),
+    ("socket /a/x 644", "O4 NotDirectory"),
+    ("fifo /q 10000", "O5 Exists"),
+    ("socket /d 644", "O5 Exists"),
+    ("fifo /x 10644", "O10 BadMode"),
+    ("socket /x 10000", "O10 BadMode"),
 ];
 
 const ROOT: [(&str, &str); 8] = [
@@ -261,7 +272,7 @@ const OTHER_KINDS: [(&str, &str); 6] = [
 ];
 
 /// No version is left for names of the root and for its file, and no number for a new object.
-const NONE_LEFT: [(&str, &str); 26] = [
+const NONE_LEFT: [(&str, &str); 28] = [
     ("create x 644", "O1 BadPath"),
     ("create /none/x 644", "O3 NotFound"),
     ("create /a/b 644", "O4 NotDirectory"),
@@ -275,6 +286,8 @@ const NONE_LEFT: [(&str, &str); 26] = [
     ("mkdir /d/y 755", "O12 Exhausted"),
     ("create /d/y 644", "O12 Exhausted"),
     ("symlink /d/y t", "O12 Exhausted"),
+    ("fifo /d/y 644", "O12 Exhausted"),
+    ("socket /d/y 644", "O12 Exhausted"),
     ("write /a 10 1", "O12 Exhausted"),
     ("truncate /a 9", "O12 Exhausted"),
     ("remove /z", "O12 Exhausted"),
