@@ -39,6 +39,12 @@ mkdir_line s a b = mode_of a >>= λ mode. text_of b >>= λ path. operation (op.M
 abbrev pub create_line : Settings → List ℕ → List ℕ → Option Statement
 create_line s a b = mode_of a >>= λ mode. text_of b >>= λ path. operation (op.Create s.time path mode s.uid s.gid)
 
+abbrev pub fifo_line : Settings → List ℕ → List ℕ → Option Statement
+fifo_line s a b = mode_of a >>= λ mode. text_of b >>= λ path. operation (op.Fifo s.time path mode s.uid s.gid)
+
+abbrev pub socket_line : Settings → List ℕ → List ℕ → Option Statement
+socket_line s a b = mode_of a >>= λ mode. text_of b >>= λ path. operation (op.Socket s.time path mode s.uid s.gid)
+
 abbrev pub symlink_line : Settings → List ℕ → List ℕ → Option Statement
 symlink_line s a b = text_of a >>= λ path. text_of b >>= λ target. operation (op.Symlink s.time path target s.uid s.gid)
 
@@ -82,6 +88,8 @@ two_operands s name a b =
     if bytes_eq name (codes "owner") then owner_line s a b
     else if bytes_eq name (codes "mkdir") then mkdir_line s a b
     else if bytes_eq name (codes "create") then create_line s a b
+    else if bytes_eq name (codes "fifo") then fifo_line s a b
+    else if bytes_eq name (codes "socket") then socket_line s a b
     else if bytes_eq name (codes "symlink") then symlink_line s a b
     else if bytes_eq name (codes "truncate") then truncate_line s a b
     else if bytes_eq name (codes "link") then link_line s a b

@@ -78,6 +78,20 @@ fn show_op(out: &mut String, op: &Op<'_>) -> Result<(), AllocError> {
             uid,
             gid,
         } => show_object(out, "create", (*time, *mode, *uid, *gid), path),
+        Op::Fifo {
+            time,
+            path,
+            mode,
+            uid,
+            gid,
+        } => show_object(out, "fifo", (*time, *mode, *uid, *gid), path),
+        Op::Socket {
+            time,
+            path,
+            mode,
+            uid,
+            gid,
+        } => show_object(out, "socket", (*time, *mode, *uid, *gid), path),
         Op::Symlink {
             time,
             path,
