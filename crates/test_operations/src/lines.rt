@@ -30,7 +30,9 @@ fn words(line: &str) -> (&str, &str, &str, &str) {
 pub fn op_of<'a>(line: &'a str, by: By) -> Option<Op<'a>> {
     let (verb, path, second, third) = words(line);
     match verb {
-        "mkdir" | "create" | "fifo" | "socket" | "symlink" => Some(new_object(verb, path, second, by)),
+        "mkdir" | "create" | "fifo" | "socket" | "symlink" => Some(new_object(
+            verb, path, second, by,
+        )),
         "write" | "erase" | "truncate" => Some(other_bytes(verb, path, second, third, by.time)),
         "attr" => Some(other_attributes(path, second, by.time)),
         _ => other_name(verb, path, second, by.time),
