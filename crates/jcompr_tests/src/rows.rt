@@ -1,7 +1,7 @@
 //! The numbers of the methods, and worked rows: data and all of their content, by hand.
 
 use crate::checks::{equal_at, expect_at};
-use jcompr::{DataFault, Method, decompress};
+use jcompr::{DataFault, Method, adler, decompress, mirrored};
 use std::alloc::Global;
 use std::test::Fail;
 
@@ -140,4 +140,30 @@ fn texts_of_faults(rt: HostRuntime) -> Result<(), Fail> {
         expect_at(&rt, shown.as_str() == text, text);
     }
     Ok(())
+}
+
+/// Checksums by zlib.
+#[test]
+fn checksums(rt: HostRuntime) {
+    for (bytes, wanted) in [
+        (b"".as_slice(), 0x0000_0001),
+        (b"a", 0x0062_0062),
+        (THREES, 0x417C_06E5),
+        (b"Wikipedia", 0x11E6_0398),
+    ] {
+        equal_at(&rt, adler(bytes), wanted, wanted);
+    }
+}
+
+/// Codes with their last bit first, by hand.
+#[test]
+fn mirrored_codes(rt: HostRuntime) {
+    for (code, length, wanted) in [
+        (0b1, 1, 0b1),
+        (0b011, 3, 0b110),
+        (0b0_1011, 5, 0b1_1010),
+        (0b000_0000_0000_0001, 15, 0b100_0000_0000_0000),
+    ] {
+        equal_at(&rt, mirrored(code, length), wanted, (code, length));
+    }
 }
