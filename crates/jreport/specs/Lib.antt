@@ -1,3 +1,5 @@
+pub mod Advice
+pub mod ConvertedLine
 pub mod Content
 pub mod ExtractionNotes
 pub mod Faults
