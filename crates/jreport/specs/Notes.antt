@@ -1,10 +1,6 @@
 -- What a reader of files is told of an image that mounted, and yet has bytes where a node may have been.
-use Rattle.std.specs.Prelude.{ℕ, ◌==◌, Bool, true, false, if◌then◌else◌, List, ◌++◌, codes, count_by, decimal, filter_map}
-use Rattle.jnode.specs.declared.order.Endian.{Endian}
+use Rattle.std.specs.Prelude.{ℕ, ◌==◌, Bool, true, false, if◌then◌else◌, List, ◌++◌, codes, count_by, decimal}
 use Rattle.jmount.specs.Mount.{Mount}
-use Rattle.jscan.specs.Findings.{finding_of}
-use Rattle.jscan.specs.Scans.{image_extents}
-use Rattle.jscan.specs.declared.extent.Extent.{Extent}
 use Rattle.jscan.specs.declared.finding.FindingKind.{FindingKind}
 use Rattle.jscan.specs.declared.finding.FindingKind.TheVariants as kind
 
@@ -19,14 +15,6 @@ is_noted kind.Dirt = true
 -- how many such findings a mounted image has
 abbrev pub noted : Mount → ℕ
 noted m = count_by (λ f. is_noted f.kind) m.findings
-
--- how many of these extents are such findings
-abbrev pub noted_among : List Extent → ℕ
-noted_among ss = count_by (λ f. is_noted f.kind) (filter_map finding_of ss)
-
--- how many an image has, also one that does not mount
-abbrev pub noted_in : Endian → ℕ → List ℕ → ℕ
-noted_in e size image = noted_among (image_extents e size image)
 
 -- what is said of n of them
 unfoldable pub findings_text : ℕ → List ℕ

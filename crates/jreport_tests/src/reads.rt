@@ -10,8 +10,8 @@ use flashbase::{FromReader, FromWriter, LoadFault, Sink, Source};
 use jline::put_escaped;
 use jmount::{FindFault, MountFault, mount};
 use jreport::{
-    ProgramFault, check_lines, content, file_bytes, image_file, image_tree, list_lines, note_line,
-    noted_in_image, path_word,
+    Found, ProgramFault, check_lines, content, file_bytes, found_in, image_file, image_tree,
+    list_lines, note_line, path_word,
 };
 use jscan::{Geometry, ScanFault};
 use std::alloc::Global;
@@ -337,25 +337,30 @@ fn findings_of_mounted_images(rt: HostRuntime) -> Result<(), Fail> {
             let (answer, _) = answer_and_text(rt.alloc(), call, &image, GEOMETRY);
             equal(&rt, answer, Ok(count));
         }
-        equal(&rt, noted_in_image::<LittleEndian>(&image, GEOMETRY), count);
+        equal(&rt, found_in::<LittleEndian>(&image, GEOMETRY).noted, count);
     }
     Ok(())
 }
 
-/// Blocks that do not mount, one after the other, and how many findings are told of.
-const FOUND_UNMOUNTED: [(&[&[u8]], &[&[u8]], u64); 3] = [
-    (&[COMPRESSED], &[], 0),
-    (&[COMPRESSED, &NO_LENGTH, COMPRESSED], &[OTHER_ORDER], 2),
+/// Blocks that do not mount, one after the other: how many findings are noted, and how many are
+/// attributes.
+const FOUND_UNMOUNTED: [(&[&[u8]], &[&[u8]], (u64, u64)); 3] = [
+    (&[COMPRESSED], &[], (0, 0)),
     (
-        &[DAMAGED_INODE_2, COMPRESSED],
+        &[COMPRESSED, &NO_LENGTH, COMPRESSED],
+        &[OTHER_ORDER],
+        (2, 0),
+    ),
+    (
+        &[DAMAGED_INODE_2, &ATTRIBUTE, COMPRESSED],
         &[&ATTRIBUTE, OTHER_ORDER, DAMAGED_INODE_2],
-        3,
+        (3, 2),
     ),
 ];
 
 #[test]
 fn findings_of_compressed_images(rt: HostRuntime) -> Result<(), Fail> {
-    for (nodes, tail, count) in FOUND_UNMOUNTED {
+    for (nodes, tail, wanted) in FOUND_UNMOUNTED {
         let image = raw_image(
             rt.alloc(),
             Raw {
@@ -364,7 +369,8 @@ fn findings_of_compressed_images(rt: HostRuntime) -> Result<(), Fail> {
                 ..ONE_BLOCK
             },
         )?;
-        equal(&rt, noted_in_image::<LittleEndian>(&image, GEOMETRY), count);
+        let Found { noted, attributes } = found_in::<LittleEndian>(&image, GEOMETRY);
+        equal(&rt, (noted, attributes), wanted);
     }
     Ok(())
 }

@@ -1,0 +1,173 @@
+//! Images that are decompressed: in memory, for a command that goes on with them, and into a file.
+ghost use Rattle.std.specs.Prelude.{◌≡◌, ◌⊎◌, ℕ, List, None, Ok, Err, IfOk, IfErr, OnOk};
+ghost use Rattle.jconvert.specs.Converting.{Converts, converted_bytes, converted_counts};
+ghost use Rattle.jreport.specs.FoundIn.{found_in};
+ghost use Rattle.jffs2_image.specs.Decompressing.{Decompresses, HoldsMade, IsNotConverted, IsNotWritten, IsTaken, fault_of_conversion};
+ghost use Rattle.jffs2_image.specs.Host.{AreLoaded, BlamesDecompress, HasFailed, IsWriteFault, MakesFile, ReadsFile};
+ghost use Rattle.jffs2_image.specs.Writes.{IsUnreadFile};
+
+use crate::host::{Loader, MakeFault, Maker};
+use crate::output::Output;
+use crate::writing::load_file;
+use flashbase::Sink;
+use jcommand::Options;
+use jconvert::{ConvertFault, Converted, Judged, decompressed, judge, write};
+use jlog::SessionFault;
+use jmount::MountFault;
+use jnode::Order;
+use jreport::{Found, ProgramFault, found_in, put_decompressed};
+use jscan::Geometry;
+use std::alloc::Global;
+
+/// An image that `decompress` makes, held in memory.
+#[derive(Drop)]
+pub struct Taken {
+    pub image: Vec<u8>,
+    /// What was found in the image that was read.
+    pub found: Found,
+}
+
+/// What the program gives up for where an image is not converted.
+fn conversion_fault(fault: ConvertFault) -> ProgramFault<'static>
+    ensures { result ≡ fault_of_conversion fault }
+{
+    match fault {
+        ConvertFault::BlockSize => ProgramFault::Mount(MountFault::BlockSize),
+        ConvertFault::TooLarge => ProgramFault::Mount(MountFault::TooLarge),
+        ConvertFault::Incompatible { addr, nodetype } => {
+            ProgramFault::Mount(MountFault::Incompatible { addr, nodetype })
+        }
+        ConvertFault::Compressed { addr, compr } => {
+            ProgramFault::Mount(MountFault::Compressed { addr, compr })
+        }
+        ConvertFault::Data { addr } => ProgramFault::Data { addr },
+        ConvertFault::TooLong { addr } => ProgramFault::TooLong { addr },
+        ConvertFault::ReadOnly => ProgramFault::from(SessionFault::ReadOnly),
+        ConvertFault::Geometry => ProgramFault::from(SessionFault::Geometry),
+        ConvertFault::Full { needed, free } => {
+            ProgramFault::from(SessionFault::Full { needed, free })
+        }
+        ConvertFault::Sink => ProgramFault::from(SessionFault::Sink),
+        ConvertFault::OutOfMemory => ProgramFault::from(SessionFault::OutOfMemory),
+    }
+}
+
+/// What `decompress` makes of an image, in memory, and what was found in the image.
+pub fn take_image<E: Order>(
+    alloc: Global,
+    image: &[u8],
+    geometry: Geometry,
+) -> Result<Taken, ProgramFault<'static>>
+    ensures taken { IfOk result (IsTaken E.order geometry.block image.now) }
+    ensures refused { IfErr result (IsNotConverted E.order geometry.block image.now) }
+{
+    match decompressed::<E>(alloc, image, geometry) {
+        Ok(made) => Ok(Taken {
+            image: made,
+            found: found_in::<E>(image, geometry),
+        }),
+        Err(fault) => Err(conversion_fault(fault)),
+    }
+}
+
+/// The same of the file of a name.
+pub fn take_file<'a, E: Order, L: Loader>(
+    alloc: Global,
+    loader: &mut L,
+    geometry: Geometry,
+    name: &'a str,
+) -> Result<Taken, ProgramFault<'a>>
+    ensures taken { IfOk result (λ taken. (image : List ℕ) × AreLoaded (L.told loader.old name.entry.now) image
+        × IsTaken E.order geometry.block image taken) }
+    ensures refused { IfErr result (λ fault. IsUnreadFile name.entry.now (L.told loader.old name.entry.now) fault
+        ⊎ ((image : List ℕ) × AreLoaded (L.told loader.old name.entry.now) image × IsNotConverted E.order geometry.block image fault
+        × (L.failures loader.new ≡ L.failures loader.old))) }
+    ensures host { ReadsFile (L.told loader.old name.entry.now) (L.failures loader.old) (L.failures loader.new) result }
+    ensures stays { (other : List ℕ) → L.told loader.new other ≡ L.told loader.old other }
+{
+    let image = load_file(loader, name)?;
+    match take_image::<E>(alloc, image.as_slice(), geometry) {
+        Ok(taken) => Ok(taken),
+        Err(fault) => Err(fault),
+    }
+}
+
+/// Puts out what is made of an image that was judged, to the last byte. Where the output failed it is handed back.
+fn put_converted<E: Order, S: Output>(
+    alloc: Global,
+    image: &[u8],
+    geometry: Geometry,
+    judged: &Judged,
+    output: S,
+) -> (S, Result<Converted, SessionFault>)
+    ensures put { IfOk result.1 (λ counts. counts ≡ converted_counts E.order geometry.block image.now) }
+{
+    match write::<E, S>(alloc, image, geometry, judged, output) {
+        Ok((mut output, counts)) => match output.finish() {
+            Ok(()) => (output, Ok(counts)),
+            Err(_) => (output, Err(SessionFault::Sink)),
+        },
+        Err((fault, mut output)) => {
+            let _ = output.finish();
+            match fault {
+                ConvertFault::Sink => (output, Err(SessionFault::Sink)),
+                _ => (output, Err(SessionFault::OutOfMemory)),
+            }
+        }
+    }
+}
+
+/// Makes the file, and puts out to it what is made of an image that was judged.
+fn make_converted<'a, E: Order, M: Maker>(
+    alloc: Global,
+    maker: &mut M,
+    image: &[u8],
+    geometry: Geometry,
+    judged: &Judged,
+    name: &'a str,
+) -> Result<Converted, ProgramFault<'a>>
+    ensures made { IfOk result (λ counts. (counts ≡ converted_counts E.order geometry.block image.now)
+        × HoldsMade (M.held maker.old, M.held maker.new) (converted_bytes E.order geometry.block image.now)) }
+    ensures fault { IfErr result (λ fault. IsNotWritten (M.held maker.old, M.held maker.new) name.entry.now (converted_bytes E.order geometry.block image.now) fault) }
+    ensures host { BlamesDecompress (maker.new ≡ maker.old) (MakesFile name.entry.now (M.names maker.old) (M.names maker.new)) 0 0 (M.failures maker.old) (M.failures maker.new) result }
+{
+    let output = match maker.make(name) {
+        Ok(output) => output,
+        Err(MakeFault::NotMade) => return Err(ProgramFault::File(name)),
+        Err(MakeFault::OutOfMemory) => return Err(ProgramFault::OutOfMemory),
+    };
+    let (output, answer) = put_converted::<E, M::Made>(alloc, image, geometry, judged, output);
+    maker.take_back(output);
+    match answer {
+        Ok(counts) => Ok(counts),
+        Err(fault) => Err(ProgramFault::from(fault)),
+    }
+}
+
+/// What `decompress` makes of an image goes to a file of this name, which is made only after all was judged that can be
+/// before a byte is written, and is told in a line. Answers how many findings of the image to note.
+pub fn decompress_into<'a, E: Order, M: Maker, T: Sink>(
+    alloc: Global,
+    maker: &mut M,
+    image: &[u8],
+    geometry: Geometry,
+    name: &'a str,
+    sink: &mut T,
+) -> Result<u64, ProgramFault<'a>>
+    ensures decompresses { Decompresses (M.held maker.old, M.held maker.new) E.order geometry.block name.entry.now image.now
+        (T.taken sink.old) (T.taken sink.new) (T.failures sink.old) (T.failures sink.new) result }
+    ensures host { (read : ℕ) → BlamesDecompress (maker.new ≡ maker.old) (MakesFile name.entry.now (M.names maker.old) (M.names maker.new))
+        read read (M.failures maker.old) (M.failures maker.new) result }
+{
+    let judged = match judge::<E>(alloc, image, geometry) {
+        Ok(judged) => judged,
+        Err(fault) => return Err(conversion_fault(fault)),
+    };
+    let Converted {
+        changed,
+        nodes,
+        bytes,
+    } = make_converted::<E, M>(alloc, maker, image, geometry, &judged, name)?;
+    put_decompressed(changed, nodes, bytes, sink)?;
+    Ok(found_in::<E>(image, geometry).noted)
+}
