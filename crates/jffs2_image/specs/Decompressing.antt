@@ -1,20 +1,20 @@
 -- What a command does of an image that it decompresses: `decompress`, and a command with `--decompress`.
-use Rattle.std.specs.Prelude.{◌≡◌, ◌⊎◌, ℕ, Bool, true, false, List, length, Option, Some, None, Result, Ok, Err}
-use Rattle.std.specs.Io.KnownBytes.{Appends, Keeps}
+use Rattle.std.specs.Prelude.{◌≡◌, ◌⊎◌, ℕ, Bool, true, false, List, Option, Some, None, Result, Ok, Err}
+use Rattle.std.specs.Io.KnownBytes.{Appends}
 use Rattle.flashbase.specs.Device.{PutsPart, next_count}
 use Rattle.jnode.specs.declared.order.Endian.{Endian}
 use Rattle.jmount.specs.declared.fault.MountFault.TheVariants as mount
 use Rattle.jlog.specs.declared.fault.SessionFault.{SessionFault}
 use Rattle.jlog.specs.declared.fault.SessionFault.TheVariants as session
-use Rattle.jconvert.specs.Converting.{Converts, converted_counts}
-use Rattle.jconvert.specs.declared.fault.ConvertFault.{ConvertFault}
-use Rattle.jconvert.specs.declared.fault.ConvertFault.TheVariants as convert
-use Rattle.jconvert.specs.declared.fault.Converted.{Converted}
+use Rattle.jconvert.specs.Converting.{Converts, converted_image, converted_of}
+use Rattle.jconvert.specs.declared.converted.Converted.{Converted}
+use Rattle.jexpand.specs.declared.fault.ConvertFault.{ConvertFault}
+use Rattle.jexpand.specs.declared.fault.ConvertFault.TheVariants as convert
 use Rattle.jreport.specs.ConvertedLine.{decompressed_line}
 use Rattle.jreport.specs.FoundIn.{found_in}
 use Rattle.jreport.specs.declared.faults.ProgramFault.{ProgramFault}
 use Rattle.jreport.specs.declared.faults.ProgramFault.TheVariants as program
-use Rattle.jffs2_image.specs.Writes.{Held, HoldsNothing, IsBehind, IsHanded}
+use Rattle.jffs2_image.specs.Writes.{GivesText, Held, HoldsNothing, IsHanded}
 use Rattle.jffs2_image.specs.declared.decompressing.Taken.{Taken}
 
 -- the program's fault that a fault of a conversion is
@@ -69,9 +69,7 @@ abbrev pub HoldsMade : Held → List ℕ → Type 0
 HoldsMade held bytes = (old : Option (List ℕ)) × (given : Option (List ℕ)) × Appends old given bytes × IsHanded held old given
 
 abbrev pub HoldsMadeInPart : Held → List ℕ → Type 0
-HoldsMadeInPart held bytes =
-    (old : Option (List ℕ)) × (taken : Option (List ℕ)) × (given : Option (List ℕ)) × PutsPart old taken bytes × IsBehind given taken
-    × IsHanded held old given
+HoldsMadeInPart held bytes = (old : Option (List ℕ)) × (given : Option (List ℕ)) × GivesText old given bytes × IsHanded held old given
 
 -- the line on what was made
 abbrev pub line_of_counts : Converted → List ℕ
@@ -87,14 +85,14 @@ IsNotWritten held output made _ = ⊥
 
 -- What `decompress` makes of an image is given to a file that it makes, and told in a line; it answers how many findings the
 -- image has. Or no file is made, since nothing is made of the image; or one is made, and not written to its end.
-abbrev pub Decompresses : Held → Endian → ℕ → List ℕ → List ℕ → Option (List ℕ) → Option (List ℕ) → ℕ → ℕ → Result ℕ ProgramFault → Type 0
-Decompresses held e size output image old new before now (Ok n) =
+abbrev pub DecompressesFile : Held → Endian → ℕ → List ℕ → List ℕ → Option (List ℕ) → Option (List ℕ) → ℕ → ℕ → Result ℕ ProgramFault → Type 0
+DecompressesFile held e size output image old new before now (Ok n) =
     (made : List ℕ) × Converts e size image (Ok made) × HoldsMade held made
-    × Appends old new (line_of_counts (converted_counts e size image)) × (now ≡ before) × (n ≡ (found_in e size image).noted)
-Decompresses held e size output image old new before now (Err program.Output) =
+    × Appends old new (line_of_counts (converted_of e size image)) × (now ≡ before) × (n ≡ (found_in e size image).noted)
+DecompressesFile held e size output image old new before now (Err program.Output) =
     (made : List ℕ) × Converts e size image (Ok made) × HoldsMade held made
-    × PutsPart old new (line_of_counts (converted_counts e size image)) × (now ≡ next_count before)
-Decompresses held e size output image old new before now (Err fault) =
+    × PutsPart old new (line_of_counts (converted_of e size image)) × (now ≡ next_count before)
+DecompressesFile held e size output image old new before now (Err fault) =
     ((IsNotConverted e size image fault × (held.1 ≡ held.0))
     ⊎ ((made : List ℕ) × Converts e size image (Ok made) × IsNotWritten held output made fault))
     × (new ≡ old) × (now ≡ before)

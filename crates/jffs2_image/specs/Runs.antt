@@ -22,9 +22,9 @@ use Rattle.jcommand.specs.Status.{outcome_of}
 use Rattle.jcommand.specs.declared.outcome.Outcome.{Outcome}
 use Rattle.jcommand.specs.declared.outcome.Outcome.TheVariants as outcome
 use Rattle.jsteps.specs.declared.page.Page.{Page}
-use Rattle.jffs2_image.specs.Decompressing.{Decompresses, IsGoneOnWith, PutsTaken}
+use Rattle.jffs2_image.specs.Decompressing.{DecompressesFile, IsGoneOnWith, PutsTaken}
 use Rattle.jffs2_image.specs.Host.{AreLoaded, AreOf, HasFailed, RunsFiles}
-use Rattle.jffs2_image.specs.Writes.{Held, IsBehind, IsNotedIn, IsUnreadFile, WritesImage}
+use Rattle.jffs2_image.specs.Writes.{GivesText, Held, IsBehind, IsNotedIn, IsUnreadFile, WritesImage}
 use Rattle.jffs2_image.specs.declared.program.Success.{Success}
 use Rattle.jffs2_image.specs.declared.program.Success.TheVariants as success
 use Rattle.jffs2_image.specs.declared.program.Stop.{Stop}
@@ -81,7 +81,7 @@ PutsAnswer told held e (AppendParsed options blocks page decompress name listing
     PutsTaken decompress e options.geometry.block
     (λ base old new before now answer. RunsListed told held page e options.geometry.block blocks listing output base old new before now answer
     × IfOk answer (IsNotedIn e options.geometry.block base))
-PutsAnswer told held e (DecompressParsed options name output) = Decompresses held e options.geometry.block output
+PutsAnswer told held e (DecompressParsed options name output) = DecompressesFile held e options.geometry.block output
 
 -- its file can't be opened
 abbrev pub IsUnopened : List ℕ → ProgramFault → Type 0
@@ -130,10 +130,6 @@ pub record Meets (told : List ℕ → Option (List ℕ)) (held : Held) (e : Endi
 abbrev pub Finishes : Option (List ℕ) → Option (List ℕ) → ℕ → ℕ → Bool → Type 0
 Finishes taken given before now true = Keeps taken given × (now ≡ before)
 Finishes taken given before now false = IsBehind given taken × (now ≡ next_count before)
-
--- a text was put, or a beginning of it, and of that a beginning was given on
-abbrev pub GivesText : Option (List ℕ) → Option (List ℕ) → List ℕ → Type 0
-GivesText old given text = (taken : Option (List ℕ)) × PutsPart old taken text × IsBehind given taken
 
 -- the answer of a request whose output was finished
 abbrev pub answer_finished : Result ℕ ProgramFault → Bool → Result ℕ ProgramFault

@@ -1,10 +1,10 @@
 //! Images that are decompressed: in memory, for a command that goes on with them, and into a file.
-ghost use Rattle.std.specs.Prelude.{◌≡◌, ◌⊎◌, ℕ, List, None, Ok, Err, IfOk, IfErr, OnOk};
-ghost use Rattle.jconvert.specs.Converting.{Converts, converted_bytes, converted_counts};
-ghost use Rattle.jreport.specs.FoundIn.{found_in};
-ghost use Rattle.jffs2_image.specs.Decompressing.{Decompresses, HoldsMade, IsNotConverted, IsNotWritten, IsTaken, fault_of_conversion};
-ghost use Rattle.jffs2_image.specs.Host.{AreLoaded, BlamesDecompress, HasFailed, IsWriteFault, MakesFile, ReadsFile};
-ghost use Rattle.jffs2_image.specs.Writes.{IsUnreadFile};
+ghost use Rattle.std.specs.Prelude.{◌≡◌, ◌⊎◌, ℕ, List, None, IfOk, IfErr, OnOk};
+ghost use Rattle.std.specs.Io.KnownBytes.{Appends};
+ghost use Rattle.jconvert.specs.Converting.{convert_fault, converted_image};
+ghost use Rattle.jffs2_image.specs.Decompressing.{DecompressesFile, HoldsMade, IsNotConverted, IsNotWritten, IsTaken, fault_of_conversion};
+ghost use Rattle.jffs2_image.specs.Host.{AreLoaded, BlamesDecompress, HasFailed, MakesFile, ReadsFile};
+ghost use Rattle.jffs2_image.specs.Writes.{GivesText, IsFaultOfMaking, IsUnreadFile};
 
 use crate::host::{Loader, MakeFault, Maker};
 use crate::output::Output;
@@ -92,54 +92,52 @@ pub fn take_file<'a, E: Order, L: Loader>(
     }
 }
 
-/// Puts out what is made of an image that was judged, to the last byte. Where the output failed it is handed back.
+/// Puts out what is made of an image that is not refused, to the last byte.
 fn put_converted<E: Order, S: Output>(
     alloc: Global,
     image: &[u8],
     geometry: Geometry,
-    judged: &Judged,
-    output: S,
-) -> (S, Result<Converted, SessionFault>)
-    ensures put { IfOk result.1 (λ counts. counts ≡ converted_counts E.order geometry.block image.now) }
+    output: &mut S,
+) -> Result<(), SessionFault>
+    requires { convert_fault E.order geometry.block image.now ≡ None }
+    ensures given { OnOk result (Appends (S.taken output.old) (S.given output.new) (converted_image E.order geometry.block image.now)) }
+    ensures count { OnOk result (S.failures output.new ≡ S.failures output.old) }
+    ensures part { IfErr result (λ _. GivesText (S.taken output.old) (S.given output.new) (converted_image E.order geometry.block image.now)) }
+    ensures fault { IfErr result IsFaultOfMaking }
+    ensures failed { IfErr result (λ fault. fault ≡ SessionFault.Sink → HasFailed (S.failures output.old) (S.failures output.new)) }
 {
-    match write::<E, S>(alloc, image, geometry, judged, output) {
-        Ok((mut output, counts)) => match output.finish() {
-            Ok(()) => (output, Ok(counts)),
-            Err(_) => (output, Err(SessionFault::Sink)),
-        },
-        Err((fault, mut output)) => {
-            let _ = output.finish();
-            match fault {
-                ConvertFault::Sink => (output, Err(SessionFault::Sink)),
-                _ => (output, Err(SessionFault::OutOfMemory)),
-            }
-        }
+    let put = write_converted::<E, S>(alloc, image, geometry, output);
+    let finished = output.finish();
+    match (put, finished) {
+        (Ok(()), Ok(())) => Ok(()),
+        (Err(ConvertFault::OutOfMemory), _) => Err(SessionFault::OutOfMemory),
+        _ => Err(SessionFault::Sink),
     }
 }
 
-/// Makes the file, and puts out to it what is made of an image that was judged.
+/// Makes the file, and puts out to it what is made of an image that is not refused.
 fn make_converted<'a, E: Order, M: Maker>(
     alloc: Global,
     maker: &mut M,
     image: &[u8],
     geometry: Geometry,
-    judged: &Judged,
     name: &'a str,
-) -> Result<Converted, ProgramFault<'a>>
-    ensures made { IfOk result (λ counts. (counts ≡ converted_counts E.order geometry.block image.now)
-        × HoldsMade (M.held maker.old, M.held maker.new) (converted_bytes E.order geometry.block image.now)) }
-    ensures fault { IfErr result (λ fault. IsNotWritten (M.held maker.old, M.held maker.new) name.entry.now (converted_bytes E.order geometry.block image.now) fault) }
-    ensures host { BlamesDecompress (maker.new ≡ maker.old) (MakesFile name.entry.now (M.names maker.old) (M.names maker.new)) 0 0 (M.failures maker.old) (M.failures maker.new) result }
+) -> Result<(), ProgramFault<'a>>
+    requires { convert_fault E.order geometry.block image.now ≡ None }
+    ensures made { OnOk result (HoldsMade (M.held maker.old, M.held maker.new) (converted_image E.order geometry.block image.now)) }
+    ensures fault { IfErr result (λ fault. IsNotWritten (M.held maker.old, M.held maker.new) name.entry.now (converted_image E.order geometry.block image.now) fault) }
+    ensures host { (read : ℕ) → BlamesDecompress (maker.new ≡ maker.old) (MakesFile name.entry.now (M.names maker.old) (M.names maker.new))
+        read read (M.failures maker.old) (M.failures maker.new) result }
 {
-    let output = match maker.make(name) {
+    let mut output = match maker.make(name) {
         Ok(output) => output,
         Err(MakeFault::NotMade) => return Err(ProgramFault::File(name)),
         Err(MakeFault::OutOfMemory) => return Err(ProgramFault::OutOfMemory),
     };
-    let (output, answer) = put_converted::<E, M::Made>(alloc, image, geometry, judged, output);
+    let answer = put_converted::<E, M::Made>(alloc, image, geometry, &mut output);
     maker.take_back(output);
     match answer {
-        Ok(counts) => Ok(counts),
+        Ok(()) => Ok(()),
         Err(fault) => Err(ProgramFault::from(fault)),
     }
 }
@@ -154,20 +152,16 @@ pub fn decompress_into<'a, E: Order, M: Maker, T: Sink>(
     name: &'a str,
     sink: &mut T,
 ) -> Result<u64, ProgramFault<'a>>
-    ensures decompresses { Decompresses (M.held maker.old, M.held maker.new) E.order geometry.block name.entry.now image.now
+    ensures decompresses { DecompressesFile (M.held maker.old, M.held maker.new) E.order geometry.block name.entry.now image.now
         (T.taken sink.old) (T.taken sink.new) (T.failures sink.old) (T.failures sink.new) result }
     ensures host { (read : ℕ) → BlamesDecompress (maker.new ≡ maker.old) (MakesFile name.entry.now (M.names maker.old) (M.names maker.new))
         read read (M.failures maker.old) (M.failures maker.new) result }
 {
-    let judged = match judge::<E>(alloc, image, geometry) {
-        Ok(judged) => judged,
+    let counts = match judge::<E>(alloc, image, geometry) {
+        Ok(counts) => counts,
         Err(fault) => return Err(conversion_fault(fault)),
     };
-    let Converted {
-        changed,
-        nodes,
-        bytes,
-    } = make_converted::<E, M>(alloc, maker, image, geometry, &judged, name)?;
-    put_decompressed(changed, nodes, bytes, sink)?;
+    make_converted::<E, M>(alloc, maker, image, geometry, name)?;
+    put_decompressed(counts.changed, counts.nodes, counts.bytes, sink)?;
     Ok(found_in::<E>(image, geometry).noted)
 }

@@ -6,7 +6,8 @@ ghost use Rattle.jreport.specs.Advice.{fault_lines_of};
 ghost use Rattle.flashbase.specs.Device.{CountsErr};
 ghost use Rattle.jffs2_image.specs.Host.{Blames, BlamesCommand, BlamesDecompress, BlamesFor, GivesFile, HasFailed, MakesFile, ReadsFile};
 ghost use Rattle.jffs2_image.specs.FolderRuns.{RunsExtract, RunsListing, RunsTask};
-ghost use Rattle.jffs2_image.specs.Runs.{GivesText, IsCommand, IsSaid, Meets, MeetsCommand, MeetsWhole, RunsCommand, Says, note_after, success_of};
+ghost use Rattle.jffs2_image.specs.Writes.{GivesText};
+ghost use Rattle.jffs2_image.specs.Runs.{IsCommand, IsSaid, Meets, MeetsCommand, MeetsWhole, RunsCommand, Says, note_after, success_of};
 
 use crate::decompressing::{decompress_into, take_file};
 use crate::folders::{Folders, run_extract, run_listing};

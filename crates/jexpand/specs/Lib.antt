@@ -1,0 +1,2 @@
+pub mod Expanded
+pub mod Refused
