@@ -131,7 +131,7 @@ for words in --help "check --help"; do
 done
 
 line="the lines of help, 80 columns wide at most"
-for words in --help "check --help" "ls --help" "cat --help" "build --help" "append --help" "extract --help" "listing --help"; do
+for words in --help "check --help" "ls --help" "cat --help" "build --help" "append --help" "decompress --help" "extract --help" "listing --help"; do
     "$program" $words > out
     awk 'length > 80 { print; wide = 1 } END { exit wide }' out
     count $?
@@ -816,7 +816,7 @@ run ls built; want 0 "$root"$'\nd *\nd *\n- * 11 0 * /a/file\nl 0777 * /link -> 
 run cat built /a/file; whole content
 
 # The manual page has the commands and options of the help, and the faults.
-for words in --help "check --help" "ls --help" "cat --help" "build --help" "append --help"; do
+for words in --help "check --help" "ls --help" "cat --help" "build --help" "append --help" "decompress --help"; do
     run $words
     for word in $(sed -n '/^Commands:/,/^$/s/^  \([a-z]*\) .*/\1/p' out); do
         told "$word" "^\.It Cm $word$"
@@ -827,7 +827,7 @@ for words in --help "check --help" "ls --help" "cat --help" "build --help" "appe
 done
 while read -r fault; do
     told "$fault" "^\.It $fault"
-done < <(grep -oE '`[CLMPSO][0-9]+ [A-Z][A-Za-z]+' "$format" | tr -d '`' | sort -u)
+done < <(grep -oE '`[CLMPSOZ][0-9]+ [A-Z][A-Za-z]+' "$format" | tr -d '`' | sort -u)
 run help build
 while read -r word values; do
     told "$word" "^\.It Li $word Ar $values$"
