@@ -1,14 +1,15 @@
 -- How many findings extents have, one extent after another.
-use Rattle.std.proofs.Common.{◌≡◌, ℕ, ◌+◌, ◌≤◌, Bool, List, [], ◌∷◌, ◌++◌, length, ap, arith, ◌∙◌, count_by, Option, Some, None}
+use Rattle.std.proofs.Common.{◌≡◌, ℕ, ◌+◌, ◌≤◌, Bool, List, [], ◌∷◌, ◌++◌, length, refl, ap, arith, ◌∙◌, count_by, Option, Some, None}
 use Rattle.std.specs.Prelude.{filter_map}
 use Rattle.std.proofs.lemmas.List.Elements.{filter_map-append}
+use Rattle.std.proofs.lemmas.List.Sums.{count_by-le-length}
 use Rattle.jscan.specs.Findings.{finding_of}
 use Rattle.jscan.specs.declared.extent.Extent.{Extent}
 use Rattle.jscan.specs.declared.finding.Finding.{Finding}
 use Rattle.jreport.specs.ExtractionNotes.{is_attribute_node}
 use Rattle.jreport.specs.FoundIn.{found_among}
 use Rattle.jreport.specs.Notes.{is_noted}
-use Rattle.jreport.specs.declared.found_in.Found.{Found}
+use Rattle.jreport.specs.declared.findings.Found.{Found}
 use Rattle.jreport.proofs.PutLemmas.{count_by-append}
 
 -- both together
@@ -26,18 +27,16 @@ found_append xs ys =
     λ i. record { noted = noted i; attributes = attributes i }
 
 -- no more than there are extents
-few : (test : Finding → Bool) (xs : List Extent) → count_by test (filter_map finding_of xs) ≤ length xs
-few test [] = omega arith
-few test (x ∷ xs) = by (finding_of x)
+length_found : (xs : List Extent) → length (filter_map finding_of xs) ≤ length xs
+length_found [] = omega arith
+length_found (x ∷ xs) = by (finding_of x) refl
   where
-    rest : count_by test (filter_map finding_of xs) ≤ length xs
-    rest = few test xs
+    by : (o : Option Finding) → finding_of x ≡ o → length (filter_map finding_of (x ∷ xs)) ≤ length (x ∷ xs)
+    by None is = rw is (omega (arith, length_found xs))
+    by (Some f) is = rw is (omega (arith, length_found xs))
 
-    one : (b : Bool) → (if_so : ℕ) → if_so ≤ 1 → if_so + count_by test (filter_map finding_of xs) ≤ length (x ∷ xs)
-    one b n least = omega (arith, rest, least)
-
-    by : (o : Option Finding) → count_by test (filter_map finding_of (x ∷ xs)) ≤ length (x ∷ xs)
-    by o = omega (arith, rest)
+few : (test : Finding → Bool) (xs : List Extent) → count_by test (filter_map finding_of xs) ≤ length xs
+few test xs = omega (arith, count_by-le-length test (filter_map finding_of xs), length_found xs)
 
 pub noted_few : (xs : List Extent) → (found_among xs).noted ≤ length xs
 noted_few xs = few (λ f. is_noted f.kind) xs

@@ -6,7 +6,7 @@ use Rattle.jscan.specs.Scans.{image_extents}
 use Rattle.jscan.specs.declared.extent.Extent.{Extent}
 use Rattle.jreport.specs.ExtractionNotes.{is_attribute_node}
 use Rattle.jreport.specs.Notes.{is_noted}
-use Rattle.jreport.specs.declared.found_in.Found.{Found}
+use Rattle.jreport.specs.declared.findings.Found.{Found}
 
 -- those of these extents: of damage, dirt or the other byte order, and of extended attributes
 abbrev pub found_among : List Extent → Found
