@@ -120,7 +120,7 @@ listed_fault told later held page e size blocks listing output base text old new
     (listed told later held page e size blocks listing output base text old new before now (Err f) same is w files)
 
 -- it is not that a block has the wrong size for a report
-not_scanned : (told : List ℕ → Option (List ℕ)) (held : Held) (page : Page) (e : Endian) (size blocks : ℕ) (listing output base : List ℕ) (old new : Option (List ℕ)) (before now : ℕ) (answer : Result ℕ ProgramFault)
+pub not_scanned : (told : List ℕ → Option (List ℕ)) (held : Held) (page : Page) (e : Endian) (size blocks : ℕ) (listing output base : List ℕ) (old new : Option (List ℕ)) (before now : ℕ) (answer : Result ℕ ProgramFault)
     → RunsListed told held page e size blocks listing output base old new before now answer → answer ≡ Err (program.Scan scan.BlockSize) → IsFalse (is_block_size size)
 not_scanned told held page e size blocks listing output base old new before now answer runs is = no_scan held page e size blocks output base runs.0 old new before now answer runs.2 is
 

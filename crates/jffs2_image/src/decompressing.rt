@@ -9,7 +9,7 @@ ghost use Rattle.jffs2_image.specs.Writes.{GivesText, IsFaultOfMaking, IsUnreadF
 use crate::host::{Loader, MakeFault, Maker};
 use crate::output::Output;
 use crate::writing::load_file;
-use flashbase::Sink;
+use flashbase::{DeviceFault, Sink};
 use jconvert::{ConvertFault, decompressed, judge, write_converted};
 use jlog::SessionFault;
 use jmount::MountFault;
@@ -84,7 +84,10 @@ pub fn take_file<'a, E: Order, L: Loader>(
     ensures host { ReadsFile (L.told loader.old name.entry.now) (L.failures loader.old) (L.failures loader.new) result }
     ensures stays { (other : List ℕ) → L.told loader.new other ≡ L.told loader.old other }
 {
-    let image = load_file(loader, name)?;
+    let image = match load_file(loader, name) {
+        Ok(image) => image,
+        Err(fault) => return Err(fault),
+    };
     match take_image::<E>(alloc, image.as_slice(), geometry) {
         Ok(taken) => Ok(taken),
         Err(fault) => Err(fault),
@@ -160,7 +163,12 @@ pub fn decompress_into<'a, E: Order, M: Maker, T: Sink>(
         Ok(counts) => counts,
         Err(fault) => return Err(conversion_fault(fault)),
     };
-    make_converted::<E, M>(alloc, maker, image, geometry, name)?;
-    put_decompressed(counts.changed, counts.nodes, counts.bytes, sink)?;
-    Ok(found_in::<E>(image, geometry).noted)
+    match make_converted::<E, M>(alloc, maker, image, geometry, name) {
+        Ok(()) => {}
+        Err(fault) => return Err(fault),
+    }
+    match put_decompressed(counts.changed, counts.nodes, counts.bytes, sink) {
+        Ok(()) => Ok(found_in::<E>(image, geometry).noted),
+        Err(DeviceFault) => Err(ProgramFault::Output),
+    }
 }

@@ -123,7 +123,7 @@ fn extract_decompressed<'a, E: Order, X: Folder, N: Sink>(
         Ok(taken) => taken,
         Err(fault) => return Err(fault),
     };
-    let done = match extract_bytes::<E, X, N>(
+    match extract_bytes::<E, X, N>(
         alloc,
         made.as_slice(),
         geometry,
@@ -132,14 +132,13 @@ fn extract_decompressed<'a, E: Order, X: Folder, N: Sink>(
         folder,
         notes,
     ) {
-        Ok(done) => done,
-        Err(fault) => return Err(fault),
-    };
-    Ok(Extracted {
-        totals: done.totals,
-        findings: found.noted,
-        attributes: found.attributes,
-    })
+        Ok(done) => Ok(Extracted {
+            totals: done.totals,
+            findings: found.noted,
+            attributes: found.attributes,
+        }),
+        Err(fault) => Err(fault),
+    }
 }
 
 /// `extract`: the tree of the image of a name is made in a folder, whose name is told where it can't be made.

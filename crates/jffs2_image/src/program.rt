@@ -101,9 +101,14 @@ fn list_decompressed<'a, E: Order, L: Loader, T: Sink>(
     ensures meets { Meets (L.told loader.old) (None, None) E.order (ListParsed options true image.now) (T.taken sink.old) (T.taken sink.new) (T.failures sink.old) (T.failures sink.new) result }
     ensures host { ReadsFile (L.told loader.old image.now) (L.failures loader.old) (L.failures loader.new) result }
 {
-    let taken = take_file::<E, L>(alloc, loader, options.geometry, image)?;
-    image_tree::<E, T>(alloc, taken.image.as_slice(), options.geometry, sink)?;
-    Ok(taken.found.noted)
+    let taken = match take_file::<E, L>(alloc, loader, options.geometry, image) {
+        Ok(taken) => taken,
+        Err(fault) => return Err(fault),
+    };
+    match image_tree::<E, T>(alloc, taken.image.as_slice(), options.geometry, sink) {
+        Ok(_) => Ok(taken.found.noted),
+        Err(fault) => Err(fault),
+    }
 }
 
 /// `ls`: answers how many findings to note.
@@ -141,9 +146,14 @@ fn cat_decompressed<'a, E: Order, L: Loader, T: Sink>(
     ensures host { ReadsFile (L.told loader.old image.now) (L.failures loader.old) (L.failures loader.new) result }
 {
     let path = path_word(alloc, path.as_bytes())?;
-    let taken = take_file::<E, L>(alloc, loader, options.geometry, image)?;
-    image_file::<E, T>(alloc, taken.image.as_slice(), options.geometry, &path, sink)?;
-    Ok(taken.found.noted)
+    let taken = match take_file::<E, L>(alloc, loader, options.geometry, image) {
+        Ok(taken) => taken,
+        Err(fault) => return Err(fault),
+    };
+    match image_file::<E, T>(alloc, taken.image.as_slice(), options.geometry, &path, sink) {
+        Ok(_) => Ok(taken.found.noted),
+        Err(fault) => Err(fault),
+    }
 }
 
 /// `cat`: answers how many findings to note. The word of the path is judged before the image is opened.
@@ -203,11 +213,19 @@ fn append_decompressed<'a, E: Order, L: Loader, M: Maker, T: Sink>(
     ensures meets { Meets (L.told loader.old) (M.held maker.old, M.held maker.new) E.order (AppendParsed target.entry.options target.entry.blocks target.entry.page true image.entry.now listing.entry.now target.entry.output.now) (T.taken sink.old) (T.taken sink.new) (T.failures sink.old) (T.failures sink.new) result }
     ensures host { BlamesFor (L.told loader.old) E.order (AppendParsed target.entry.options target.entry.blocks target.entry.page true image.entry.now listing.entry.now target.entry.output.now) (maker.new ≡ maker.old) (M.names maker.old) (M.names maker.new) (L.failures loader.old) (L.failures loader.new) (M.failures maker.old) (M.failures maker.new) result }
 {
-    let taken = take_file::<E, L>(alloc, loader, target.options.geometry, image)?;
-    *text = load_file(loader, listing)?;
+    let taken = match take_file::<E, L>(alloc, loader, target.options.geometry, image) {
+        Ok(taken) => taken,
+        Err(fault) => return Err(fault),
+    };
+    *text = match load_file(loader, listing) {
+        Ok(text) => text,
+        Err(fault) => return Err(fault),
+    };
     let base = taken.image.as_slice();
-    write_image::<E, _, _, _>(alloc, loader, maker, target, base, text.as_slice(), sink)?;
-    Ok(taken.found.noted)
+    match write_image::<E, _, _, _>(alloc, loader, maker, target, base, text.as_slice(), sink) {
+        Ok(_) => Ok(taken.found.noted),
+        Err(fault) => Err(fault),
+    }
 }
 
 /// `decompress`: answers how many findings of the image to note. It is held in memory before the file is made, so the two
@@ -224,7 +242,10 @@ fn decompress<'a, E: Order, L: Loader, M: Maker, T: Sink>(
     ensures meets { Meets (L.told loader.old) (M.held maker.old, M.held maker.new) E.order (DecompressParsed options image.entry.now output.entry.now) (T.taken sink.old) (T.taken sink.new) (T.failures sink.old) (T.failures sink.new) result }
     ensures host { BlamesDecompress (maker.new ≡ maker.old) (MakesFile output.entry.now (M.names maker.old) (M.names maker.new)) (L.failures loader.old) (L.failures loader.new) (M.failures maker.old) (M.failures maker.new) result }
 {
-    let bytes = load_file(loader, image)?;
+    let bytes = match load_file(loader, image) {
+        Ok(bytes) => bytes,
+        Err(fault) => return Err(fault),
+    };
     decompress_into::<E, M, T>(
         alloc,
         maker,
