@@ -132,7 +132,7 @@ for words in --help "check --help"; do
 done
 
 line="the lines of help, 80 columns wide at most"
-for words in --help "check --help" "ls --help" "cat --help" "build --help" "append --help" "extract --help" "listing --help"; do
+for words in --help "check --help" "ls --help" "cat --help" "build --help" "append --help" "decompress --help" "extract --help" "listing --help"; do
     "$program" $words > out
     awk 'length > 80 { print; wide = 1 } END { exit wide }' out
     count $?
@@ -818,7 +818,7 @@ run cat built /a/file; whole content
 
 # The manual pages have the commands and options of the help, the faults that the sources spell but
 # for those that no command tells, and the lines of a listing.
-for words in --help "check --help" "ls --help" "cat --help" "build --help" "append --help"; do
+for words in --help "check --help" "ls --help" "cat --help" "build --help" "append --help" "decompress --help"; do
     run $words
     for word in $(sed -n '/^Commands:/,/^$/s/^  \([a-z]*\) .*/\1/p' out); do
         told "$word" "^\.It Cm $word$"
@@ -829,7 +829,7 @@ for words in --help "check --help" "ls --help" "cat --help" "build --help" "appe
 done
 while read -r fault; do
     told "$fault" "^\.It $fault"
-done < <(grep -rhoE '"[CLMPSO][0-9]+ [A-Z][A-Za-z]+' "$sources"/*/src | tr -d '"' |
+done < <(grep -rhoE '"[CLMPSOZ][0-9]+ [A-Z][A-Za-z]+' "$sources"/*/src | tr -d '"' |
     grep -vE '^(C[234]|O13) ' | sort -u)
 run help build
 while read -r word values; do
