@@ -172,8 +172,8 @@ parsed_from args = parsed_by (subcommand_of program args)
 -- ---- words that ask for nothing
 
 -- clap takes the words
-unfoldable pub is_taken : List Text → Bool
-is_taken args = takes program args
+unfoldable pub are_words_taken : List Text → Bool
+are_words_taken args = takes program args
 
 -- clap has nothing against the words, and does not answer them by help
 unfoldable pub IsFaultless : List Text → Type 0

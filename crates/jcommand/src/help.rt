@@ -163,12 +163,15 @@ and those that begin with # are skipped.
   owner UID GID          owner of what is made from here on; 0 0 at first
   mkdir MODE PATH        makes a directory
   create MODE PATH       makes an empty regular file
+  fifo MODE PATH         makes a FIFO
+  socket MODE PATH       makes a socket
   symlink PATH TARGET    makes a symlink
   write PATH OFFSET HEX  writes bytes into a file
   part PATH OFFSET FILE  writes the bytes of FILE, a file of this host, likewise
   truncate PATH SIZE     cuts a file, or lets it grow by zeros
   link OLD NEW           gives a file the further name NEW
   rename OLD NEW         moves OLD to NEW, which must not be there yet
+  replace OLD NEW        moves OLD to NEW, in place of the file that is there
   remove PATH            removes a name; a directory must be empty
   attr MODE UID GID ATIME MTIME PATH
                          sets permissions, owner and times of PATH, or of /
