@@ -19,25 +19,29 @@ const TOLD: Converted = Converted {
     bytes: 728,
 };
 
-fn is_converted<E: Order>(rt: &impl Abort, alloc: Global, image: &[u8], wanted: &[u8]) {
-    match decompress::<E, Taker>(alloc, image, BLOCKS_OF_8_KIB, Taker::new(alloc)) {
-        Ok((sink, told)) => {
-            equal(rt, told, TOLD);
-            equal(rt, sink.bytes.as_slice(), wanted);
-        }
-        Err((fault, _)) => equal(rt, fault, ConvertFault::OutOfMemory),
-    }
-    match decompressed::<E>(alloc, image, BLOCKS_OF_8_KIB) {
-        Ok(bytes) => equal(rt, bytes.as_slice(), wanted),
-        Err(fault) => equal(rt, fault, ConvertFault::OutOfMemory),
-    }
+fn is_put<E: Order>(rt: &impl Abort, alloc: Global, image: &[u8], wanted: &[u8]) {
+    let sink = Taker::new(alloc);
+    let Ok((sink, told)) = decompress::<E, Taker>(alloc, image, BLOCKS_OF_8_KIB, sink) else {
+        panic!(rt; "refused");
+    };
+    equal(rt, told, TOLD);
+    expect(rt, sink.took(0, wanted));
 }
 
-/// Passes with each allocation failing in turn too: memory is then blamed.
 #[test]
 fn images_are_decompressed(rt: HostRuntime) {
-    is_converted::<LittleEndian>(&rt, rt.alloc(), little_image(), little_expanded());
-    is_converted::<BigEndian>(&rt, rt.alloc(), big_image(), big_expanded());
+    is_put::<LittleEndian>(&rt, rt.alloc(), little_image(), little_expanded());
+    is_put::<BigEndian>(&rt, rt.alloc(), big_image(), big_expanded());
+}
+
+/// The same image in memory. Passes with each allocation failing in turn too: memory is then blamed.
+#[test]
+fn images_in_memory(rt: HostRuntime) {
+    let given = decompressed::<BigEndian>(rt.alloc(), big_image(), BLOCKS_OF_8_KIB);
+    match given {
+        Ok(bytes) => equal(&rt, bytes.as_slice(), big_expanded()),
+        Err(fault) => equal(&rt, fault, ConvertFault::OutOfMemory),
+    }
 }
 
 /// An image of the profile goes out as it is, up to what is no node of it.
