@@ -222,7 +222,7 @@ while read -r name block order address compr changed bytes; do
     want 0 "decompressed $changed nodes 29 bytes $bytes" ""; same image out.img
     # A disk that takes nothing, or 1024 bytes
     run decompress "${flash[@]}" "$image" /dev/full; want 1 "" "jffs2_image: S4 Sink"
-    run append --decompress "${flash[@]}" --blocks 16 "$image" create /dev/full; want 1 "" "jffs2_image: S4 Sink"
+    run append --decompress "${flash[@]}" --blocks 16 "$image" create /dev/full; want 1 "" "jffs2_image: S4 Sink*"
     line="decompress of $name on a disk of 1024 bytes"
     (
         trap '' XFSZ
@@ -282,8 +282,8 @@ refused "S3 ReadOnly" --block 4096 read_only
 run ls later; want 1 "" $'jffs2_image: M4 Compressed at 00000038 compr 6\n'"$note"
 # The node fits into a larger block.
 run decompress --block 8196 long out.img; want 0 "decompressed 2 nodes 4 bytes 16448" ""
-run cat --block 8196 --decompress long /long; want 0 "*" ""
-head -c 8113 /dev/zero > piece; whole piece
+head -c 8113 /dev/zero > piece
+run cat --block 8196 --decompress long /long; whole piece
 # A method that is not read has no note: --decompress does not help.
 tail -c +141 wrong_method > unread
 { marker; cat unread; } > wrong_alone
@@ -322,8 +322,13 @@ run cat --decompress good /; want 1 "" "jffs2_image: P4 NotRegular"
 lines listing 'create 0644 /a'
 run append --decompress --blocks 4 good listing out.img; want 1 "" "jffs2_image: S1 Refused O5 Exists line 1"
 lines listing 'paint'
-run append --decompress --blocks 4 wrong_zlib listing none.img
+run append --decompress --blocks 4 good listing none.img
 want 1 "" "jffs2_image: P2 Listing line 1"; unmade none.img
+# The image is decompressed before the listing is read.
+for listing in listing none; do
+    run append --decompress --blocks 4 wrong_zlib $listing none.img
+    want 1 "" "jffs2_image: Z1 Data at 0000008c"; unmade none.img
+done
 # The greatest image, and one byte more
 truncate -s 268435457 larger
 run decompress larger none.img; want 1 "" "jffs2_image: L2 TooLarge"; unmade none.img
