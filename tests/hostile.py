@@ -86,7 +86,7 @@ MEMORY = (
     ["listing", "some.dir"],
     ["decompress", "packed.img", "out.img"],
     ["ls", "--decompress", "packed.img"],
-    ["cat", "--decompress", "packed.img", "/f1"],
+    ["cat", "--decompress", "packed.img", "/p1"],
     ["extract", "--decompress", "packed.img", "out.dir"],
     ["append", "--decompress", "--blocks", "200", "packed.img", "many.txt", "out.img"],
 )
