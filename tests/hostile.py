@@ -516,6 +516,8 @@ def on_compressed():
         for number, image in enumerate(packed.soups(60, 30, make, order)):
             on_converted(f"soup {number}", image, (8192, 65536)[number % 2], order)
         at_block_ends(make, order)
+        for about, image in packed.large(make):
+            on_converted(about, image, 262144, order)
     full = fault(f"S2 Full needed {4097 * 60068} free {4096 * 65524}")
     told = f"decompressed 4096 nodes 4096 bytes {4095 * 65536 + 60080}\n"
     for count, wanted in ((4096, Done(0, told.encode(), b"")), (4097, full)):
