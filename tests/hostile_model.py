@@ -23,6 +23,8 @@ def good(block, at, order):
     """Type and length of the good header at a place of a block."""
     if at + 12 > len(block):
         return None
+    if block[at] not in (0x19, 0x85):
+        return None
     magic, kind, length, sum_ = struct.unpack_from(order + "HHII", block, at)
     if magic != MAGIC or sum_ != crc(struct.pack(order + "HHI", magic, kind | ACCURATE, length)):
         return None
