@@ -25,7 +25,7 @@ for words in "check --decompress good" "listing --decompress folder" \
     "build --decompress --blocks 1 create out.img"; do
     run $words; want 2 "" "error: unexpected argument '--decompress' found*Usage: *"
 done
-run decompress --block=4k good out.img; want 2 "" "error: invalid value '4k' for '--block <N>'$wrong"
+run decompress --block=4k good out.img; want 2 "" "error: invalid value '4k' for '--block <N>': *--help*"
 run decompress --endian=middle good out.img
 want 2 "" "error: invalid value 'middle' for '--endian <ORDER>': *--help*"
 run ls --decompress --decompress good; want 2 "" "$wrong"
