@@ -119,10 +119,11 @@ def each_method(folder, image):
 
 
 def each_page(folder, image):
-    """Pages of other sizes. A node that a block does not hold when it is expanded is refused."""
+    """Pages of other sizes, without LZO, with which mkfs.jffs2 crashes then. A node that a block does
+    not hold when it is expanded is refused."""
     refused = 0
     for page, method, (order, block) in itertools.product(
-        PAGES, ("default", "rtime", "lzo"), (("little", 64), ("big", 128), ("little", 256))
+        PAGES, ("default", "zlib", "rtime"), (("little", 64), ("big", 128), ("little", 256))
     ):
         what = produced(folder, image, method, order, block, "-s", str(page))
         if out := opened(what, image, order, block * 1024):
