@@ -3,7 +3,7 @@
 python3 bench/decompress.py FOLDER [RUNS] [CRATES] [MEBIBYTES ..]
 
 Makes folders of 16, 64 and 128 MiB (or of those that are told) of the files of this machine's /usr,
-and of each the default image of mkfs.jffs2 (mtd-utils), little order, blocks of 64 KiB. Then it runs
+and of each the default image of mkfs.jffs2 (mtd-utils), little order, blocks of 64 KiB. It runs
 `decompress` and bench/decompress.c on each image, one after the other, so that other work on the
 machine meets both. Both must print the same line and write the same bytes. It prints the least
 processor time of each over the runs, the ratio, and the greatest memory over the image's length.
@@ -84,10 +84,12 @@ def compare(mebibytes):
     length, made = os.path.getsize(image), os.path.getsize(ours)
     first, second = min(times[0]), min(times[1])
     over = memory[0] / 1024 - length / (1 << 20)
+    sizes = [count / (1 << 20) for count in (length, made)]
     print(
-        f"{mebibytes:4} MiB: image {length / (1 << 20):6.1f} MiB, written {made / (1 << 20):6.1f} MiB;"
+        f"{mebibytes:4} MiB: image {sizes[0]:6.1f} MiB, written {sizes[1]:6.1f} MiB;"
         f" ours {first:6.3f} s, C {second:6.3f} s: {first / second:5.2f} times;"
-        f" memory {memory[0] / 1024:6.1f} MiB, {over:5.1f} over the image, C {memory[1] / 1024:6.1f}",
+        f" memory {memory[0] / 1024:6.1f} MiB, {over:5.1f} over the image,"
+        f" C {memory[1] / 1024:6.1f}",
         flush=True,
     )
     print("          ", lines.pop().decode().strip())

@@ -1,6 +1,6 @@
 #!/usr/bin/env bash
-# Runs `decompress`, and --decompress of the other commands, on images of mkfs.jffs2 (tests/data) and
-# on small ones that are made here: each line, each fault, and what stands in OUT.
+# Runs `decompress`, and --decompress of the other commands, on images of mkfs.jffs2 (tests/data)
+# and on small ones that are made here: each line, each fault, and what stands in OUT.
 # Usage: tests/decompress.sh [PROGRAM]. The last line is 'N passed, M failed'.
 set -u
 . "$(dirname "$0")/running.sh"
@@ -25,14 +25,16 @@ for words in "check --decompress good" "listing --decompress folder" \
     "build --decompress --blocks 1 create out.img"; do
     run $words; want 2 "" "error: unexpected argument '--decompress' found*Usage: *"
 done
-run decompress --block=4k good out.img; want 2 "" "error: invalid value '4k' for '--block <N>': *--help*"
+run decompress --block=4k good out.img
+want 2 "" "error: invalid value '4k' for '--block <N>': *--help*"
 run decompress --endian=middle good out.img
 want 2 "" "error: invalid value 'middle' for '--endian <ORDER>': *--help*"
 run ls --decompress --decompress good; want 2 "" "$wrong"
 unmade out.img
 for words in "decompress --help" "decompress -h" "help decompress"; do
     run $words
-    want 0 "*Usage: jffs2_image decompress *<IMAGE> <OUT>*--block <N>*65536*--endian <ORDER>*little*Exit status:*" ""
+    want 0 "*Usage: jffs2_image decompress *<IMAGE> <OUT>*--block <N>*65536*--endian <ORDER>*little*\
+Exit status:*" ""
 done
 run --help; want 0 "*Commands:*  decompress *" ""
 for command in ls cat append extract; do
@@ -118,7 +120,8 @@ for order in little big; do
 done
 : > empty
 for order in little big; do
-    run decompress --endian $order empty out.img; want 0 "decompressed 0 nodes 0 bytes 0" ""; same out.img empty
+    run decompress --endian $order empty out.img
+    want 0 "decompressed 0 nodes 0 bytes 0" ""; same out.img empty
 done
 erased 70000 > blank
 run decompress blank out.img; want 0 "decompressed 0 nodes 0 bytes 0" ""; same out.img empty
@@ -188,7 +191,8 @@ while read -r name block order address compr changed bytes; do
     run extract "${flash[@]}" out.img made; want 3 "" "$left_out"; made_of made
     run extract "${flash[@]}" --decompress "$image" made; want 3 "" "$left_out"; made_of made
     # Extended: the nodes of OUT stay, and the new ones go into the next block.
-    run append "${flash[@]}" --blocks 16 out.img create more.img; want 0 "accepted 1 nodes 2 bytes 124" ""
+    run append "${flash[@]}" --blocks 16 out.img create more.img
+    want 0 "accepted 1 nodes 2 bytes 124" ""
     run ls "${flash[@]}" more.img; want 0 "$with_new" ""
     run append --decompress "${flash[@]}" --blocks 16 "$image" create again.img
     want 0 "accepted 1 nodes 2 bytes 124" ""; same again.img more.img
@@ -222,7 +226,8 @@ while read -r name block order address compr changed bytes; do
     want 0 "decompressed $changed nodes 29 bytes $bytes" ""; same image out.img
     # A disk that takes nothing, or 1024 bytes
     run decompress "${flash[@]}" "$image" /dev/full; want 1 "" "jffs2_image: S4 Sink"
-    run append --decompress "${flash[@]}" --blocks 16 "$image" create /dev/full; want 1 "" "jffs2_image: S4 Sink*"
+    run append --decompress "${flash[@]}" --blocks 16 "$image" create /dev/full
+    want 1 "" "jffs2_image: S4 Sink*"
     line="decompress of $name on a disk of 1024 bytes"
     (
         trap '' XFSZ
@@ -244,7 +249,7 @@ END
 
 # ---- Faults: nothing is made, and what was there stays
 
-# refused FAULT WORD..: `decompress` and each command with --decompress, of an image with these words
+# refused FAULT WORD..: `decompress` and each command with --decompress, of an image by these words
 refused() {
     local fault="jffs2_image: $1"
     shift
@@ -295,8 +300,8 @@ unmade none.img
 # What does not mount is decompressed all the same.
 run decompress clash out.img; want 0 "decompressed 2 nodes 3 bytes 232" ""
 run check out.img; want 3 $'*findings 0\nmount refused M5 Clash at 00000090' ""
-for words in "ls --decompress clash" "cat --decompress clash /a" "extract --decompress clash none.img" \
-    "append --decompress --blocks 4 clash create none.img"; do
+for words in "ls --decompress clash" "cat --decompress clash /a" \
+    "extract --decompress clash none.img" "append --decompress --blocks 4 clash create none.img"; do
     run $words; want 1 "" "jffs2_image: M5 Clash at 00000090"
 done
 unmade none.img
@@ -308,7 +313,8 @@ run decompress damaged out.img; want 0 "decompressed 1 nodes 2 bytes 144" "$(not
 run check out.img; want 0 "*findings 0"$'\nmount ok' ""
 run ls --decompress damaged; want 0 "$root"$'\n- 0644 11 12 18 14 2 /a' "$(noted 1)"
 run cat --decompress damaged /a; want 0 "abcabcabcabcabcabc" "$(noted 1)"
-run append --decompress --blocks 4 damaged create out.img; want 0 "accepted 1 nodes 2 bytes 124" "$(noted 1)"
+run append --decompress --blocks 4 damaged create out.img
+want 0 "accepted 1 nodes 2 bytes 124" "$(noted 1)"
 run extract --decompress damaged made; want 3 "" "$(noted 1)"; rm -rf made
 # OUT that cannot be made
 run decompress good nowhere/out.img; want 1 "" "jffs2_image: P1 File nowhere/out.img"
@@ -320,7 +326,8 @@ run cat --decompress none '/\'; want 1 "" "jffs2_image: P3 Path BadPath"
 run cat --decompress good /none; want 1 "" "jffs2_image: P3 Path NotFound"
 run cat --decompress good /; want 1 "" "jffs2_image: P4 NotRegular"
 lines listing 'create 0644 /a'
-run append --decompress --blocks 4 good listing out.img; want 1 "" "jffs2_image: S1 Refused O5 Exists line 1"
+run append --decompress --blocks 4 good listing out.img
+want 1 "" "jffs2_image: S1 Refused O5 Exists line 1"
 lines listing 'paint'
 run append --decompress --blocks 4 good listing none.img
 want 1 "" "jffs2_image: P2 Listing line 1"; unmade none.img

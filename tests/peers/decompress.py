@@ -37,13 +37,15 @@ def make(folder):
     tree.make(folder)
     texts = os.path.join(folder, b"texts")
     os.mkdir(texts)
-    text = b"".join(open(name, "rb").read() for name in sorted(glob.glob(f"{HERE}/../../docs/*.md")))
+    names = sorted(glob.glob(f"{HERE}/../../docs/*.md"))
+    text = b"".join(open(name, "rb").read() for name in names)
     with open("/bin/bash", "rb") as file:
         code = file.read()
     for size in (1, 2, 12, 13, 40, 500, 4096, 5000, 70000, 200000):
         tree.write(os.path.join(texts, b"text%d" % size), text[size : 2 * size])
         tree.write(os.path.join(texts, b"code%d" % size), code[len(code) // 4 :][:size])
-        tree.write(os.path.join(texts, b"runs%d" % size), (b"a" * 300 + b"b" * 7)[: size % 307] * 40)
+        runs = (b"a" * 300 + b"b" * 7)[: size % 307] * 40
+        tree.write(os.path.join(texts, b"runs%d" % size), runs)
     tree.write(os.path.join(texts, b"lines"), b"".join(b"%d\n" % k for k in range(12000)))
 
 
@@ -92,7 +94,8 @@ def read_at_once(what, image, out, words):
 def produced(folder, image, method, order, block, *more):
     """Makes an image of this block size, in KiB."""
     options = (ORDERS[order][0], "-e", f"{block}KiB", *METHODS[method], *more)
-    subprocess.run(["mkfs.jffs2", "-r", folder, "-o", image, *options], check=True, capture_output=True)
+    words = ["mkfs.jffs2", "-r", folder, "-o", image, *options]
+    subprocess.run(words, check=True, capture_output=True)
     return " ".join(("mkfs.jffs2", *options))
 
 
@@ -114,13 +117,13 @@ def each_method(folder, image):
         what += ", sumtool"
         if out := opened(what, summed(image, order, block), order, block * 1024):
             got = run("ls", *words, out)
-            fine = tree.differences(tree.listed(got[1].decode()), tree.expected(folder, tree.Squash()))
-            test(f"{what}: ls", fine)
+            wanted = tree.expected(folder, tree.Squash())
+            test(f"{what}: ls", tree.differences(tree.listed(got[1].decode()), wanted))
 
 
 def each_page(folder, image):
-    """Pages of other sizes, without LZO, with which mkfs.jffs2 crashes then. A node that a block does
-    not hold when it is expanded is refused."""
+    """Pages of other sizes, without LZO, with which mkfs.jffs2 crashes then. A node that a block
+    does not hold when it is expanded is refused."""
     refused = 0
     for page, method, (order, block) in itertools.product(
         PAGES, ("default", "zlib", "rtime"), (("little", 64), ("big", 128), ("little", 256))
@@ -135,8 +138,10 @@ def each_page(folder, image):
 def extracted(folder, image, place):
     """`extract` of what `decompress` makes, and with --decompress, is the folder."""
     wanted, lost = folders.facts(folder)
-    for method, order, block in (("default", "little", 64), ("lzo", "big", 16), ("rtime", "big", 8)):
-        what, words = produced(folder, image, method, order, block), writing.geometry(order, block * 1024)
+    kinds = (("default", "little", 64), ("lzo", "big", 16), ("rtime", "big", 8))
+    for method, order, block in kinds:
+        what = produced(folder, image, method, order, block)
+        words = writing.geometry(order, block * 1024)
         out = opened(what, image, order, block * 1024)
         for way, more, file in (("then", [], out), ("at once", ["--decompress"], image)):
             new = os.path.join(place, f"{method} {way}")
@@ -147,7 +152,8 @@ def extended(folder, image, place):
     """`append` to what `decompress` makes, and with --decompress: the changed folder, one image."""
     changed = writing.copied(folder, b"changed")
     lines = writing.change(changed, Parts(place))
-    for method, order, block in itertools.product(("default", "lzo", "rtime"), ORDERS, (8, 64, 128)):
+    kinds = itertools.product(("default", "lzo", "rtime"), ORDERS, (8, 64, 128))
+    for method, order, block in kinds:
         what, size = produced(folder, image, method, order, block), block * 1024
         out = opened(what, image, order, size)
         if not out:
