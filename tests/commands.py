@@ -68,7 +68,8 @@ class Place:
         shutil.copytree(os.path.join(ROOT, data), os.path.join(self.top, data))
         os.mkdir(os.path.join(self.top, "crates", "jffs2_image", "out"))
         os.symlink(program, os.path.join(self.top, "crates", "jffs2_image", "out", "jffs2_image"))
-        os.mkdir(os.path.join(self.top, "tests"))
+        data = os.path.join("tests", "data")
+        shutil.copytree(os.path.join(ROOT, data), os.path.join(self.top, data))
         for name in os.listdir(os.path.join(ROOT, "tests")):
             if os.access(os.path.join(ROOT, "tests", name), os.X_OK):
                 self.script(os.path.join(self.top, "tests", name), "#!/bin/sh\n")
