@@ -6,9 +6,11 @@ _jffs2_image_options() {
     local plain='--block --endian' write='--blocks --page' help='-h --help'
     case $1 in
         check) echo "$plain --scan --shape $help" ;;
-        ls | cat) echo "$plain $help" ;;
-        build | append) echo "$plain $write $help" ;;
-        extract) echo "$plain --owners --quiet $help" ;;
+        ls | cat) echo "$plain --decompress $help" ;;
+        build) echo "$plain $write $help" ;;
+        append) echo "$plain $write --decompress $help" ;;
+        decompress) echo "$plain $help" ;;
+        extract) echo "$plain --decompress --owners --quiet $help" ;;
         listing) echo "--owner --time --quiet $help" ;;
         '') echo "$help -V --version" ;;
     esac
@@ -35,13 +37,13 @@ _jffs2_image_values() {
 # How `compgen` finds a command's word at this place, counted from 0.
 _jffs2_image_kind() {
     case $1:$2 in
-        check:0 | ls:0 | cat:0 | build:[01] | append:[012] | extract:0) echo -f ;;
+        check:0 | ls:0 | cat:0 | build:[01] | append:[012] | decompress:[01] | extract:0) echo -f ;;
         extract:1 | listing:0) echo -d ;;
     esac
 }
 
 _jffs2_image() {
-    local commands='check ls cat build append extract listing help'
+    local commands='check ls cat build append decompress extract listing help'
     local current=${COMP_WORDS[COMP_CWORD]} command='' option='' place=0 values=0 word kind
     # bash cuts --option=value into three words
     for word in "${COMP_WORDS[@]:1:COMP_CWORD-1}"; do

@@ -32,7 +32,7 @@ def commands_of_the_program():
     bodies = dict(re.findall(r"^(?:pub\(crate\) )?fn (\w+)(.*?)^}", text, re.M | re.S))
     found = {}
     for body in bodies.values():
-        named = re.search(r'\bmake_(?:plain|writer|named)\(alloc, "(\w+)"', body)
+        named = re.search(r'\bmake_(?:plain|writer|named)\(\s*alloc,\s*"(\w+)"', body)
         if named:
             name = "" if ".version(" in body else named[1]
             found[name] = Command(options_in(body, bodies) | HELP, words_in(body))

@@ -5,7 +5,8 @@ set -u
 program=$(realpath "${1:-$(dirname "$0")/../crates/jffs2_image/out/jffs2_image}")
 samples=$(realpath "$(dirname "$0")/../crates/jffs2_image/data")
 manual=$(realpath "$(dirname "$0")/../docs/jffs2_image.1")
-format=$(realpath "$(dirname "$0")/../docs/FORMAT.md")
+formats=${manual%1}5
+sources=${manual%/docs/*}/crates
 folder=$(mktemp -d)
 trap 'rm -rf "$folder"' EXIT
 cd "$folder" || exit 1
@@ -71,9 +72,9 @@ want() {
     fi
 }
 
-# told WORD PATTERN: the manual page has a line of this pattern.
+# told WORD PATTERN: a manual page has a line of this pattern.
 told() {
-    grep -qE -- "$2" "$manual"
+    grep -qE -- "$2" "$manual" "$formats"
     local missing=$?
     count $missing
     [[ $missing == 0 ]] || echo "FAILED: the manual page tells of $1"
@@ -131,7 +132,7 @@ for words in --help "check --help"; do
 done
 
 line="the lines of help, 80 columns wide at most"
-for words in --help "check --help" "ls --help" "cat --help" "build --help" "append --help" "extract --help" "listing --help"; do
+for words in --help "check --help" "ls --help" "cat --help" "build --help" "append --help" "decompress --help" "extract --help" "listing --help"; do
     "$program" $words > out
     awk 'length > 80 { print; wide = 1 } END { exit wide }' out
     count $?
@@ -795,8 +796,8 @@ run help build
 sed -n '/^A listing of a small tree:/,/^To be written/s/^  //p' out > example
 run build --blocks 1 example built; want 0 "accepted 7 nodes 12 bytes *" ""
 run cat built /home/start; whole content
-sed -n '/^# a small tree/,/^\.Ed/p' "$manual" | sed '/^\.Ed/d; s/\\e/\\/g' > example
-run build --blocks 1 example built; want 0 "accepted 7 nodes 12 bytes 748" ""
+sed -n "/^# a user's folder/,/^\.Ed/p" "$formats" | sed '/^\.Ed/d; s/\\e/\\/g' > example
+run build --blocks 1 example built; want 0 "accepted 5 nodes 7 bytes 440" ""
 run cat built '/home/start\x20here'; whole content
 lines listing 'mkdir 0755 /etc' 'create 0644 /etc/hostname' 'write /etc/hostname 0 626f780a'
 run build --blocks 64 listing built; want 0 "$(sed -n 's/^\.Ql \(accepted [0-9].*\) \.$/\1/p' "$manual")" ""
@@ -815,8 +816,9 @@ got=$?; line="an image of a folder"; want 0 "accepted 5 nodes 9 bytes *" ""
 run ls built; want 0 "$root"$'\nd *\nd *\n- * 11 0 * /a/file\nl 0777 * /link -> a\\\\x2ffile' ""
 run cat built /a/file; whole content
 
-# The manual page has the commands and options of the help, and the faults.
-for words in --help "check --help" "ls --help" "cat --help" "build --help" "append --help"; do
+# The manual pages have the commands and options of the help, the faults that the sources spell but
+# for those that no command tells, and the lines of a listing.
+for words in --help "check --help" "ls --help" "cat --help" "build --help" "append --help" "decompress --help"; do
     run $words
     for word in $(sed -n '/^Commands:/,/^$/s/^  \([a-z]*\) .*/\1/p' out); do
         told "$word" "^\.It Cm $word$"
@@ -827,7 +829,8 @@ for words in --help "check --help" "ls --help" "cat --help" "build --help" "appe
 done
 while read -r fault; do
     told "$fault" "^\.It $fault"
-done < <(grep -oE '`[CLMPSO][0-9]+ [A-Z][A-Za-z]+' "$format" | tr -d '`' | sort -u)
+done < <(grep -rhoE '"[CLMPSOZ][0-9]+ [A-Z][A-Za-z]+' "$sources"/*/src | tr -d '"' |
+    grep -vE '^(C[234]|O13) ' | sort -u)
 run help build
 while read -r word values; do
     told "$word" "^\.It Li $word Ar $values$"

@@ -1,7 +1,7 @@
 #!/usr/bin/env bash
-# Runs the commands that a user types, as README.md, the manual page and docs/FORMAT.md have them,
-# and compares what they print and write with what is told there. On a built program it takes
-# seconds.
+# Runs the commands that a user types, and compares what they print and write with what the
+# documents tell: worked examples here, and by tests/commands.py the commands of README.md,
+# CONTRIBUTING.md and the manual pages as they stand. On a built program it takes seconds.
 # Usage: tests/quick.sh [PROGRAM], or tests/quick.sh --try to have `rt try` build one first, without
 # a proof (about a minute). The last line is 'N passed, M failed'.
 set -u
@@ -79,7 +79,7 @@ holds() {
     same "what $1 and $2 hold" "$found" ""
 }
 
-# ---- README.md
+# ---- The sample, and a folder and back
 
 ln -s "$data" data
 gives 0 "accepted 17 nodes 28 bytes 1772" build --block 8192 --blocks 1 data/tree.txt tree.img
@@ -175,7 +175,7 @@ for length in 0 11 12 79 80 81 92 120 121 124; do
     same "the tree after $length bytes" "$(jffs2_image ls cut.img 2> /dev/null)" "$wanted"
 done
 
-# ---- The manual page
+# ---- Images by hand
 
 { head -c 120 a.img; printf b; } > flash.img
 same "damaged nodes alone" "$(jffs2_image check --scan flash.img | grep ' damaged ')" \
@@ -285,6 +285,14 @@ for command in check ls cat build append extract listing; do
     same "usage of $command" "$(grep -c "^Usage: [^ ]* $command" <<< "$found")" 1
     same "help in two ways" "$(jffs2_image "$command" --help)" "$found"
 done
+
+# ---- The commands of the documents
+
+"$top/tests/commands.py" "$program" > "$folder/commands"
+sed '$d' "$folder/commands"
+read -r good _ bad _ < <(tail -n 1 "$folder/commands")
+passed=$((passed + ${good:-0}))
+failed=$((failed + ${bad:-1}))
 
 echo "$passed passed, $failed failed"
 [[ $failed == 0 ]]

@@ -1,10 +1,18 @@
 #!/usr/bin/env python3
-"""Looks up each name in the tables of docs/TRACE.md and docs/PROOFS.md, and whether two files of specs/ define one name:
+"""Looks up the names that the documents use, and whether two files of specs/ define one name:
 tests/trace.py. The last line is 'N passed, M failed'.
 
-The names stand between backquotes, in three forms: `crate.File.name` is a definition in crates/crate/specs/File.antt,
-`crate::module::name` an item of crates/crate/src/module.rt, and `crate/name` an edit, crates/crate/must-fail/name.edit, or a
+Names between backquotes in docs/TRACE.md, PROOFS.md, WRONG-BODIES.md and GLOSSARY.md have three
+forms: `crate.File.name` is a definition in crates/crate/specs/File.antt, `crate::module::name` an
+item of crates/crate/src/module.rt, and `crate/name` an edit, crates/crate/must-fail/name.edit, or a
 module, crates/crate/src/name.rt.
+
+docs/PROOFS.md has a section for each crate. In it a heading names functions, types or traits of
+this crate. A point begins with the names of clauses of these functions, or with functions of the
+crate, as the laws.
+
+The first words of the lines of a listing, each of which crates/jlisting/src/forms.rt reads by a
+function, stand in the manual page of section 5, in the help and in docs/FORMAT.md.
 """
 import collections
 import glob
@@ -12,17 +20,21 @@ import os
 import re
 import sys
 
-HERE = os.path.dirname(os.path.abspath(__file__))
-CRATES = os.path.join(HERE, "..", "crates")
+ROOT = os.path.dirname(os.path.dirname(os.path.abspath(__file__)))
+CRATES = os.path.join(ROOT, "crates")
+DOCUMENTS = ("TRACE.md", "PROOFS.md", "WRONG-BODIES.md", "GLOSSARY.md")
 WORD = r"[A-Za-z_][A-Za-z0-9_]*"
 DEFINITION = re.compile(rf"({WORD})\.({WORD})\.({WORD})")
 ITEM = re.compile(rf"({WORD})::((?:{WORD}::)+)({WORD})")
 EDIT = re.compile(rf"({WORD})/({WORD})")
+QUOTED = re.compile(r"`([^`]+)`")
+# The names at the front of a point, up to the colon or to 'on Ok', 'at S1', 'field `x`'.
+LABELS = re.compile(r"- ((?:`[\w:]+`(?:,\s+)?)+)(?::|, (?:on|at|field) )")
 
 
 def text_of(*path):
     try:
-        with open(os.path.join(CRATES, *path), encoding="utf-8") as file:
+        with open(os.path.join(ROOT, *path), encoding="utf-8") as file:
             return file.read()
     except OSError:
         return ""
@@ -32,46 +44,141 @@ def is_there(name):
     """Whether what a name stands for is there; None where it has none of the three forms."""
     if found := DEFINITION.fullmatch(name):
         crate, file, word = found.groups()
-        text = text_of(crate, "specs", f"{file}.antt")
-        return bool(re.search(rf"^(?:(?:pub|unfoldable|abbrev|record|data|opaque) )*{word}\b", text, re.M))
+        if not os.path.isdir(os.path.join(CRATES, crate)):
+            return None
+        text = text_of("crates", crate, "specs", f"{file}.antt")
+        kinds = "pub|unfoldable|abbrev|record|data|opaque"
+        return bool(re.search(rf"^(?:(?:{kinds}) )*{word}\b", text, re.M))
     if found := ITEM.fullmatch(name):
         crate, modules, word = found.groups()
-        module = modules.split("::")[0]
-        text = text_of(crate, "src", f"{module}.rt")
-        return bool(re.search(rf"\b(?:fn|struct|enum|trait|type|const|impl(?:<[^>]*>)?) {word}\b", text))
+        if not os.path.isdir(os.path.join(CRATES, crate)):
+            return None
+        return word in items_of(text_of("crates", crate, "src", f"{modules.split('::')[0]}.rt"))
     if found := EDIT.fullmatch(name):
-        places = (("must-fail", f"{found[2]}.edit"), ("src", f"{found[2]}.rt"))
-        return any(os.path.isfile(os.path.join(CRATES, found[1], *place)) for place in places)
+        crate, word = found.groups()
+        places = (("must-fail", f"{word}.edit"), ("src", f"{word}.rt"))
+        if not os.path.isdir(os.path.join(CRATES, crate)):
+            return None
+        return any(os.path.isfile(os.path.join(CRATES, crate, *place)) for place in places)
     return None
 
 
+def items_of(text):
+    """The names of the items of a source file."""
+    items = rf"\b(?:fn|struct|enum|trait|type|const|impl(?:<[^>]*>)?) ({WORD})\b"
+    return set(re.findall(items, text))
+
+
+def clauses_of(text):
+    """For each function or type of a source file the names of its clauses."""
+    clauses = collections.defaultdict(set)
+    head = r" *(?:pub(?:\([a-z]+\))? )?(?:fn|struct|enum|trait) "
+    for part in re.split(rf"^(?={head})", text, flags=re.M):
+        if found := re.match(rf"{head}({WORD})", part):
+            clauses[found[1]] |= set(re.findall(r"\bensures\*? (\w+) \{", part))
+    return clauses
+
+
+def methods_of(text, name):
+    """The clauses of the functions in the blocks `impl .. name` and `trait name`."""
+    clauses = set()
+    for head in re.finditer(rf"^(?:pub )?(?:impl\b[^\n{{]*\b{name}\b|trait {name}\b)", text, re.M):
+        end = text.find("\n}\n", head.end())
+        clauses |= set(re.findall(r"\bensures\*? (\w+) \{", text[head.end():end]))
+        clauses |= set(re.findall(rf"\bfn ({WORD})", text[head.end():end]))
+    return clauses
+
+
+class Crate:
+    """What the sources of a crate define."""
+
+    def __init__(self, name):
+        paths = glob.glob(os.path.join(CRATES, name, "src", "**", "*.rt"), recursive=True)
+        self.texts = [text_of(path) for path in paths]
+        self.items = set().union(*map(items_of, self.texts))
+
+    def labels(self, heads):
+        """The names that points below these headings may begin with."""
+        labels = set(self.items)
+        for text in self.texts:
+            clauses = clauses_of(text)
+            for head in heads:
+                labels |= clauses.get(head, set()) | methods_of(text, head)
+        return labels
+
+
+def proofs_faults():
+    """Checks the headings and points of PROOFS.md. Returns how many names are right, and faults."""
+    right, faults, crate, labels = 0, [], None, set()
+    text = re.sub(r"\n +(?!- )", " ", text_of("docs", "PROOFS.md"))
+    for line in text.split("\n"):
+        if line.startswith("## "):
+            name = line.removeprefix("## ")
+            crate = Crate(name) if os.path.isdir(os.path.join(CRATES, name)) else None
+        elif line.startswith("### ") and crate:
+            heads = [name.split("::")[-1] for name in QUOTED.findall(line)]
+            labels = crate.labels(heads)
+            missing = [name for name in heads if name not in crate.items]
+            faults += [f"PROOFS.md: no source of the crate has `{name}`" for name in missing]
+            right += len(heads) - len(missing)
+        elif (found := LABELS.match(line.strip())) and crate:
+            names = [name.split("::")[-1] for name in QUOTED.findall(found[1])]
+            missing = [name for name in names if name not in labels]
+            faults += [f"PROOFS.md: `{name}` is no clause there: {line[:60]}" for name in missing]
+            right += len(names) - len(missing)
+    return right, faults
+
+
+def verb_faults():
+    """Looks for each first word of a line of a listing where users read of it. Returns how many are
+    there, and the faults."""
+    forms = text_of("crates", "jlisting", "src", "forms.rt")
+    verbs = re.findall(r"^pub fn read_(\w+)<", forms, re.M)
+    places = {
+        "docs/jffs2_image.5": r"^\.It Li {} Ar",
+        "docs/FORMAT.md": r"`{}[` ]",
+        "crates/jcommand/src/help.rt": r"^ *{} [A-Z]",
+    }
+    faults = [] if verbs else ["crates/jlisting/src/forms.rt reads no line"]
+    right = 0
+    for place, form in places.items():
+        text = text_of(*place.split("/"))
+        for verb in verbs:
+            if re.search(form.format(verb), text, re.M):
+                right += 1
+            else:
+                faults.append(f"{place} does not have the line {verb} of a listing")
+    return right, faults
+
+
 def shared_names():
-    """Returns each name that is defined in more than one file of specs/, with these files. An operator is none: a `do` block takes
-    the one that its file brings in."""
+    """Returns each name that is defined in more than one file of specs/, with these files. An
+    operator is none: a `do` block takes the one that its file brings in."""
     files = collections.defaultdict(set)
     for path in glob.glob(os.path.join(CRATES, "*", "specs", "**", "*.antt"), recursive=True):
-        with open(path, encoding="utf-8") as file:
-            for name in re.findall(r"^(?:(?:pub|unfoldable|abbrev|record|data|opaque) )+(\S+)", file.read(), re.M):
-                files[name].add(os.path.relpath(path, CRATES))
-    return {name: sorted(places) for name, places in sorted(files.items()) if len(places) > 1 and name not in ("use", "mod", "◌>>=◌")}
+        kinds = "pub|unfoldable|abbrev|record|data|opaque"
+        for name in re.findall(rf"^(?:(?:{kinds}) )+(\S+)", text_of(path), re.M):
+            files[name].add(os.path.relpath(path, CRATES))
+    several = [name for name in sorted(files) if len(files[name]) > 1]
+    return {name: sorted(files[name]) for name in several if name not in ("use", "mod", "◌>>=◌")}
 
 
 def main():
-    names = set()
-    for document in ("TRACE.md", "PROOFS.md"):
-        with open(os.path.join(HERE, "..", "docs", document), encoding="utf-8") as file:
-            names.update(name for row in file if row.startswith("|") for name in re.findall(r"`([^`]+)`", row))
-    answers = {name: is_there(name) for name in sorted(names)}
-    missing = [name for name, answer in answers.items() if answer is False]
-    for name in missing:
-        print(f"FAILED: a table of docs names {name}, which is not there")
+    answers = {}
+    for document in DOCUMENTS:
+        for name in QUOTED.findall(text_of("docs", document)):
+            answers[f"{document}: {name}"] = is_there(name)
+    faults = [f"docs/{name}, which is not there" for name in answers if answers[name] is False]
+    right = sum(answer is True for answer in answers.values())
+    for more, others in (proofs_faults(), verb_faults()):
+        right += more
+        faults += others
     shared = shared_names()
-    for name, places in shared.items():
-        print(f"FAILED: {name} is defined in {' and '.join(places)}")
-    passed = sum(answer is True for answer in answers.values()) + (not shared)
-    failed = len(missing) + len(shared)
-    print(f"{passed} passed, {failed} failed")
-    return 1 if failed or not passed else 0
+    faults += [f"{name} is defined in {' and '.join(places)}" for name, places in shared.items()]
+    for fault in faults:
+        print(f"FAILED: {fault}")
+    print(f"{right + (not shared)} passed, {len(faults)} failed")
+    return 1 if faults or not right else 0
 
 
 sys.exit(main())

@@ -38,13 +38,17 @@ plain_command name = with_rule (with_rule (new_app name) (option_or (codes "bloc
 abbrev pub check_app : App
 check_app = with_rule (with_rule (with_rule (plain_command (codes "check")) (flag (codes "scan"))) (flag (codes "shape"))) (word (codes "IMAGE"))
 
--- `ls [--block N] [--endian ORDER] IMAGE`
-abbrev pub ls_app : App
-ls_app = with_rule (plain_command (codes "ls")) (word (codes "IMAGE"))
+-- a subcommand that decompresses the image that it reads, where that is asked for
+abbrev pub decompressing : App → App
+decompressing app = with_rule app (flag (codes "decompress"))
 
--- `cat [--block N] [--endian ORDER] IMAGE PATH`
+-- `ls [--decompress] [--block N] [--endian ORDER] IMAGE`
+abbrev pub ls_app : App
+ls_app = with_rule (decompressing (plain_command (codes "ls"))) (word (codes "IMAGE"))
+
+-- `cat [--decompress] [--block N] [--endian ORDER] IMAGE PATH`
 abbrev pub cat_app : App
-cat_app = with_rule (with_rule (plain_command (codes "cat")) (word (codes "IMAGE"))) (word (codes "PATH"))
+cat_app = with_rule (with_rule (decompressing (plain_command (codes "cat"))) (word (codes "IMAGE"))) (word (codes "PATH"))
 
 -- a subcommand that writes to flash of so many blocks, by pages
 abbrev pub writer : Text → App
@@ -54,14 +58,18 @@ writer name = with_rule (with_rule (plain_command name) (required_option (codes 
 abbrev pub build_app : App
 build_app = with_rule (with_rule (writer (codes "build")) (word (codes "LISTING"))) (word (codes "OUT"))
 
--- `append --blocks N [--page N] [--block N] [--endian ORDER] IMAGE LISTING OUT`
+-- `append --blocks N [--page N] [--decompress] [--block N] [--endian ORDER] IMAGE LISTING OUT`
 abbrev pub append_app : App
-append_app = with_rule (with_rule (with_rule (writer (codes "append")) (word (codes "IMAGE"))) (word (codes "LISTING")))
+append_app = with_rule (with_rule (with_rule (decompressing (writer (codes "append"))) (word (codes "IMAGE"))) (word (codes "LISTING")))
     (word (codes "OUT"))
 
--- `extract [--block N] [--endian ORDER] [--owners] [--quiet] IMAGE DIR`
+-- `decompress [--block N] [--endian ORDER] IMAGE OUT`
+abbrev pub decompress_app : App
+decompress_app = with_rule (with_rule (plain_command (codes "decompress")) (word (codes "IMAGE"))) (word (codes "OUT"))
+
+-- `extract [--decompress] [--block N] [--endian ORDER] [--owners] [--quiet] IMAGE DIR`
 abbrev pub extract_app : App
-extract_app = with_rule (with_rule (with_rule (with_rule (plain_command (codes "extract")) (flag (codes "owners"))) (flag (codes "quiet"))) (word (codes "IMAGE"))) (word (codes "DIR"))
+extract_app = with_rule (with_rule (with_rule (with_rule (decompressing (plain_command (codes "extract"))) (flag (codes "owners"))) (flag (codes "quiet"))) (word (codes "IMAGE"))) (word (codes "DIR"))
 
 -- `listing [--owner UID GID] [--time T] [--quiet] DIR`
 abbrev pub listing_app : App
@@ -72,8 +80,8 @@ abbrev pub bare : App
 bare = let app = new_app (codes "jffs2_image") in record app { top = record app.top { has_version = true; subcommand_required = true } }
 
 unfoldable pub program : App
-program = with_subcommand (with_subcommand (with_subcommand (with_subcommand (with_subcommand (with_subcommand (with_subcommand bare
-    check_app.top) ls_app.top) cat_app.top) build_app.top) append_app.top) extract_app.top) listing_app.top
+program = with_subcommand (with_subcommand (with_subcommand (with_subcommand (with_subcommand (with_subcommand (with_subcommand (with_subcommand bare
+    check_app.top) ls_app.top) cat_app.top) build_app.top) append_app.top) decompress_app.top) extract_app.top) listing_app.top
 
 -- ---- what is made
 

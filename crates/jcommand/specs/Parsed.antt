@@ -60,37 +60,40 @@ number_option id rows = option_and_then decimal_number (first_of id rows)
 pub data Parsed : Type 0 where
   ScanParsed : Options → Text → Parsed
   CheckParsed : Options → Bool → Text → Parsed
-  ListParsed : Options → Text → Parsed
-  CatParsed : Options → Text → Text → Parsed
+  ListParsed : Options → Bool → Text → Parsed
+  CatParsed : Options → Bool → Text → Text → Parsed
   BuildParsed : Options → ℕ → Page → Text → Text → Parsed
-  AppendParsed : Options → ℕ → Page → Text → Text → Text → Parsed
+  AppendParsed : Options → ℕ → Page → Bool → Text → Text → Text → Parsed
+  DecompressParsed : Options → Text → Text → Parsed
 
 abbrev pub view : Request → Parsed
 view (request.Scan options image) = ScanParsed options image.now
 view (request.Check options shape image) = CheckParsed options shape image.now
-view (request.List options image) = ListParsed options image.now
-view (request.Cat options image path) = CatParsed options image.now path.now
+view (request.List options decompress image) = ListParsed options decompress image.now
+view (request.Cat options decompress image path) = CatParsed options decompress image.now path.now
 view (request.Build target listing) = BuildParsed target.options target.blocks target.page listing.now target.output.now
-view (request.Append target image listing) = AppendParsed target.options target.blocks target.page image.now listing.now target.output.now
+view (request.Append target decompress image listing) = AppendParsed target.options target.blocks target.page decompress image.now listing.now target.output.now
+view (request.Decompress options image output) = DecompressParsed options image.now output.now
 
 -- the same of a task: a request of an image, or one that works with a folder of the host
 pub data TaskParsed : Type 0 where
   ImageParsed : Parsed → TaskParsed
-  ExtractParsed : Options → Bool → Bool → Text → Text → TaskParsed
+  ExtractParsed : Options → Bool → Bool → Bool → Text → Text → TaskParsed
   ListingParsed : Option Owner → Option ℕ → Bool → Text → TaskParsed
 
 abbrev pub task_view : Task → TaskParsed
 task_view (task.Image r) = ImageParsed (view r)
-task_view (task.Extract x) = ExtractParsed x.options x.owners x.quiet x.image.now x.folder.now
+task_view (task.Extract x) = ExtractParsed x.options x.decompress x.owners x.quiet x.image.now x.folder.now
 task_view (task.Listing l) = ListingParsed l.owner l.time l.quiet l.folder.now
 
 abbrev pub options_of : Request → Options
 options_of (request.Scan options image) = options
 options_of (request.Check options shape image) = options
-options_of (request.List options image) = options
-options_of (request.Cat options image path) = options
+options_of (request.List options decompress image) = options
+options_of (request.Cat options decompress image path) = options
 options_of (request.Build target listing) = target.options
-options_of (request.Append target image listing) = target.options
+options_of (request.Append target decompress image listing) = target.options
+options_of (request.Decompress options image output) = options
 
 -- ---- by the rows of the subcommand's matches
 
@@ -113,11 +116,15 @@ abbrev pub check_in : List Row → Option Parsed
 check_in rows = image_in rows >>= λ p.
     Some (if is_given (first_of (codes "scan") rows) then ScanParsed p.0 p.1 else CheckParsed p.0 (is_given (first_of (codes "shape") rows)) p.1)
 
+-- whether what is read is decompressed
+abbrev pub is_decompressed : List Row → Bool
+is_decompressed rows = is_given (first_of (codes "decompress") rows)
+
 abbrev pub ls_in : List Row → Option Parsed
-ls_in rows = image_in rows >>= λ p. Some (ListParsed p.0 p.1)
+ls_in rows = image_in rows >>= λ p. Some (ListParsed p.0 (is_decompressed rows) p.1)
 
 abbrev pub cat_in : List Row → Option Parsed
-cat_in rows = image_in rows >>= λ p. first_of (codes "PATH") rows >>= λ path. Some (CatParsed p.0 p.1 path)
+cat_in rows = image_in rows >>= λ p. first_of (codes "PATH") rows >>= λ path. Some (CatParsed p.0 (is_decompressed rows) p.1 path)
 
 -- the number of blocks, the page, the listing and the output of a subcommand that writes
 abbrev pub writing_in : List Row → Option (ℕ × Page × Text × Text)
@@ -128,11 +135,14 @@ abbrev pub build_in : List Row → Option Parsed
 build_in rows = options_in rows >>= λ options. writing_in rows >>= λ w. Some (BuildParsed options w.0 w.1 w.2 w.3)
 
 abbrev pub append_in : List Row → Option Parsed
-append_in rows = image_in rows >>= λ p. writing_in rows >>= λ w. Some (AppendParsed p.0 w.0 w.1 p.1 w.2 w.3)
+append_in rows = image_in rows >>= λ p. writing_in rows >>= λ w. Some (AppendParsed p.0 w.0 w.1 (is_decompressed rows) p.1 w.2 w.3)
+
+abbrev pub decompress_in : List Row → Option Parsed
+decompress_in rows = image_in rows >>= λ p. first_of (codes "OUT") rows >>= λ output. Some (DecompressParsed p.0 p.1 output)
 
 abbrev pub extract_in : List Row → Option TaskParsed
 extract_in rows = image_in rows >>= λ p. first_of (codes "DIR") rows >>= λ folder.
-    Some (ExtractParsed p.0 (is_given (first_of (codes "owners") rows)) (is_given (first_of (codes "quiet") rows)) p.1 folder)
+    Some (ExtractParsed p.0 (is_decompressed rows) (is_given (first_of (codes "owners") rows)) (is_given (first_of (codes "quiet") rows)) p.1 folder)
 
 abbrev pub listing_in : List Row → Option TaskParsed
 listing_in rows = if_given (all_of (codes "owner") rows) owner_of >>= λ owner. if_given (first_of (codes "time") rows) decimal_number >>= λ time.
@@ -146,6 +156,7 @@ parsed name rows =
     else if bytes_eq name (codes "cat") then option_map ImageParsed (cat_in rows)
     else if bytes_eq name (codes "build") then option_map ImageParsed (build_in rows)
     else if bytes_eq name (codes "append") then option_map ImageParsed (append_in rows)
+    else if bytes_eq name (codes "decompress") then option_map ImageParsed (decompress_in rows)
     else if bytes_eq name (codes "extract") then extract_in rows
     else if bytes_eq name (codes "listing") then listing_in rows
     else None
@@ -161,8 +172,8 @@ parsed_from args = parsed_by (subcommand_of program args)
 -- ---- words that ask for nothing
 
 -- clap takes the words
-unfoldable pub is_taken : List Text → Bool
-is_taken args = takes program args
+unfoldable pub are_words_taken : List Text → Bool
+are_words_taken args = takes program args
 
 -- clap has nothing against the words, and does not answer them by help
 unfoldable pub IsFaultless : List Text → Type 0
@@ -193,6 +204,6 @@ IsOfImage _ = ⊥
 
 -- they ask to fill or to read a folder
 abbrev pub IsOfFolder : Option TaskParsed → Type 0
-IsOfFolder (Some (ExtractParsed options owners quiet image folder)) = Unit {0}
+IsOfFolder (Some (ExtractParsed options decompress owners quiet image folder)) = Unit {0}
 IsOfFolder (Some (ListingParsed owner time quiet folder)) = Unit {0}
 IsOfFolder _ = ⊥

@@ -2,7 +2,7 @@
 ghost use Rattle.std.specs.Prelude.{◌≡◌, ◌≢◌, ◌⊎◌, [], true, map, IfOk, IfErr, IsSome, OnOk, Some, option_map};
 ghost use Rattle.clap.specs.Words.{HasKind, fault_of, kind_of, subcommand_of, subcommand_rows_of, takes};
 ghost use Rattle.jcommand.specs.Commands.{program};
-ghost use Rattle.jcommand.specs.Parsed.{ImageParsed, IsOfFolder, IsOfImage, task_view, view, parsed_by, parsed_from, is_taken, IsFaultless, IsHelpRequested, IsHelpKind, IsRefusedByClap, IsUnreadable};
+ghost use Rattle.jcommand.specs.Parsed.{ImageParsed, IsOfFolder, IsOfImage, task_view, view, parsed_by, parsed_from, are_words_taken, IsFaultless, IsHelpRequested, IsHelpKind, IsRefusedByClap, IsUnreadable};
 ghost use Rattle.jcommand.specs.Refused.{IsHelp, IsUsage};
 ghost use Rattle.jcommand.specs.declared.command_line.RequestFault.TheVariants.{OutOfMemory};
 
@@ -133,7 +133,7 @@ fn unreadable(alloc: Global, matches: &ArgMatches<'_>) -> Result<String, AllocEr
 }
 
 /// What the words of a command line ask for. The first word is the program's own name.
-#[tactic(auto, unfolding(crate::specs::Parsed::parsed_from, crate::specs::Parsed::is_taken, crate::specs::Parsed::IsFaultless, crate::specs::Parsed::IsUnreadable))]
+#[tactic(auto, unfolding(crate::specs::Parsed::parsed_from, crate::specs::Parsed::are_words_taken, crate::specs::Parsed::IsFaultless, crate::specs::Parsed::IsUnreadable))]
 pub fn task<'a>(alloc: Global, args: &'a [&'a str]) -> Result<Task<'a>, RequestFault>
     // The subcommand and its values are clap's own function of the words.
     ensures ok { IfOk result (λ r. parsed_from (map (λ w. w.now) args.entry.now) ≡ Some (task_view r)) }
@@ -142,7 +142,7 @@ pub fn task<'a>(alloc: Global, args: &'a [&'a str]) -> Result<Task<'a>, RequestF
     ensures faultless { OnOk result (IsFaultless (map (λ w. w.now) args.entry.now)) }
 
     // Where clap takes the words and every value can be read, it can only run out of memory.
-    ensures only { is_taken (map (λ w. w.now) args.entry.now) ≡ true → IsSome (parsed_from (map (λ w. w.now) args.entry.now))
+    ensures only { are_words_taken (map (λ w. w.now) args.entry.now) ≡ true → IsSome (parsed_from (map (λ w. w.now) args.entry.now))
         → IfErr result (λ e. e ≡ RequestFault.OutOfMemory) }
 
     // Help comes only where clap answers the words by help, or by the version.
@@ -169,7 +169,7 @@ pub fn request<'a>(alloc: Global, args: &'a [&'a str]) -> Result<Request<'a>, Re
     ensures faultless { OnOk result (IsFaultless (map (λ w. w.now) args.entry.now)) }
 
     // Where clap takes the words and they ask for something of an image, it can only run out of memory.
-    ensures only { is_taken (map (λ w. w.now) args.entry.now) ≡ true → IsOfImage (parsed_from (map (λ w. w.now) args.entry.now))
+    ensures only { are_words_taken (map (λ w. w.now) args.entry.now) ≡ true → IsOfImage (parsed_from (map (λ w. w.now) args.entry.now))
         → IfErr result (λ e. e ≡ RequestFault.OutOfMemory) }
 
     // Help comes only where clap answers the words by help, or by the version.

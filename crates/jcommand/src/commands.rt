@@ -1,7 +1,7 @@
 //! The command line, built with clap: the program, its subcommands, and the words that each one takes.
 ghost use Rattle.std.specs.Prelude.{◌≡◌, Ok};
 ghost use Rattle.clap.specs.Words.{App, Rule, new_app, with_rule, with_subcommand};
-ghost use Rattle.jcommand.specs.Commands.{IsApp, IsRule, MakesApp, word, option_or, required_option, option_of, option_of_two, flag, plain_command, writer, check_app, ls_app, cat_app, build_app, append_app, extract_app, listing_app, bare, program};
+ghost use Rattle.jcommand.specs.Commands.{IsApp, IsRule, MakesApp, word, option_or, required_option, option_of, option_of_two, flag, plain_command, writer, check_app, ls_app, cat_app, build_app, append_app, decompress_app, extract_app, listing_app, bare, program};
 
 use crate::help;
 use clap::{Arg, ArgAction, Command};
@@ -122,20 +122,20 @@ fn make_check<'a>(alloc: Global) -> Made<'a>
 fn make_ls<'a>(alloc: Global) -> Made<'a>
     ensures { MakesApp result ls_app }
 {
+    let decompress = make_flag(alloc, "decompress", help::DECOMPRESSED);
     let image = make_word(alloc, "IMAGE", help::IMAGE);
-    add_arg(
-        make_plain(alloc, "ls", help::LIST, help::LIST_EPILOGUE),
-        image,
-    )
+    let command = make_plain(alloc, "ls", help::LIST, help::LIST_EPILOGUE);
+    add_arg(add_arg(command, decompress), image)
 }
 
 fn make_cat<'a>(alloc: Global) -> Made<'a>
     ensures { MakesApp result cat_app }
 {
+    let decompress = make_flag(alloc, "decompress", help::DECOMPRESSED);
     let image = make_word(alloc, "IMAGE", help::IMAGE);
     let path = make_word(alloc, "PATH", help::PATH);
     let command = make_plain(alloc, "cat", help::CAT, help::CAT_EPILOGUE);
-    add_arg(add_arg(command, image), path)
+    add_arg(add_arg(add_arg(command, decompress), image), path)
 }
 
 /// A subcommand that writes to flash of so many blocks, by pages.
@@ -159,25 +159,42 @@ fn make_build<'a>(alloc: Global) -> Made<'a>
 fn make_append<'a>(alloc: Global) -> Made<'a>
     ensures { MakesApp result append_app }
 {
+    let decompress = make_flag(alloc, "decompress", help::DECOMPRESSED);
     let image = make_word(alloc, "IMAGE", help::IMAGE);
     let listing = make_word(alloc, "LISTING", help::LISTING);
     let output = make_word(alloc, "OUT", help::OUT);
     let command = make_writer(alloc, "append", help::APPEND, help::APPEND_EPILOGUE);
-    add_arg(add_arg(add_arg(command, image), listing), output)
+    add_arg(
+        add_arg(add_arg(add_arg(command, decompress), image), listing),
+        output,
+    )
+}
+
+fn make_decompress<'a>(alloc: Global) -> Made<'a>
+    ensures { MakesApp result decompress_app }
+{
+    let image = make_word(alloc, "IMAGE", help::IMAGE);
+    let output = make_word(alloc, "OUT", help::OUT);
+    let command = make_plain(
+        alloc,
+        "decompress",
+        help::DECOMPRESS,
+        help::DECOMPRESS_EPILOGUE,
+    );
+    add_arg(add_arg(command, image), output)
 }
 
 fn make_extract<'a>(alloc: Global) -> Made<'a>
     ensures { MakesApp result extract_app }
 {
+    let decompress = make_flag(alloc, "decompress", help::DECOMPRESSED);
     let owners = make_flag(alloc, "owners", help::OWNERS);
     let quiet = make_flag(alloc, "quiet", help::QUIET);
     let image = make_word(alloc, "IMAGE", help::IMAGE);
     let folder = make_word(alloc, "DIR", help::NEW_FOLDER);
     let command = make_plain(alloc, "extract", help::EXTRACT, help::EXTRACT_EPILOGUE);
-    add_arg(
-        add_arg(add_arg(add_arg(command, owners), quiet), image),
-        folder,
-    )
+    let command = add_arg(add_arg(add_arg(command, decompress), owners), quiet);
+    add_arg(add_arg(command, image), folder)
 }
 
 fn make_listing<'a>(alloc: Global) -> Made<'a>
@@ -212,6 +229,7 @@ pub(crate) fn make_program<'a>(alloc: Global) -> Made<'a>
     let command = add_subcommand(command, make_cat(alloc));
     let command = add_subcommand(command, make_build(alloc));
     let command = add_subcommand(command, make_append(alloc));
+    let command = add_subcommand(command, make_decompress(alloc));
     let command = add_subcommand(command, make_extract(alloc));
     add_subcommand(command, make_listing(alloc))
 }

@@ -15,6 +15,8 @@ pub(crate) const BUILD: &str = "Make an image by a listing of operations";
 
 pub(crate) const APPEND: &str = "Copy an image, and extend the copy by a listing of operations";
 
+pub(crate) const DECOMPRESS: &str = "Copy an image, and decompress the data in the copy";
+
 pub(crate) const EXTRACT: &str = "Write the tree of an image into a new folder of this host";
 
 pub(crate) const LISTING_OF: &str = "Print the listing that builds a folder of this host";
@@ -32,6 +34,8 @@ pub(crate) const SCAN: &str = "Print the report alone, and do not mount";
 pub(crate) const SHAPE: &str = "Print last whether the directories make a tree";
 
 pub(crate) const IMAGE: &str = "File with the bytes of the flash";
+
+pub(crate) const DECOMPRESSED: &str = "Take the image as decompress would write it";
 
 pub(crate) const PATH: &str = "Path from the root, as /a/b; \\x and two hex digits are one byte";
 
@@ -55,8 +59,12 @@ pub(crate) const OUT: &str = "File that is made, or written over, with the bytes
 pub(crate) const EPILOGUE: &str = "\
 Each command but listing takes --block, the size of an erase block, which is a
 multiple of 4, and --endian, the byte order. build and append need --blocks too,
-the number of blocks; the others only read. 'jffs2_image help build' tells what
-a listing is, 'jffs2_image help check' what check prints, and so for the others.
+the number of blocks. 'jffs2_image help build' tells what a listing is,
+'jffs2_image help check' what check prints, and so for the others.
+
+The data of an image that Linux or mkfs.jffs2 wrote are often compressed. ls,
+cat, append and extract take them with --decompress, and decompress makes an
+image without them.
 
 Examples:
   jffs2_image check flash.img
@@ -64,7 +72,8 @@ Examples:
   jffs2_image cat --endian big flash.img /etc/passwd
   jffs2_image build --blocks 64 tree.txt flash.img
   jffs2_image append --blocks 64 flash.img more.txt new.img
-  jffs2_image extract flash.img tree
+  jffs2_image decompress dump.img flash.img
+  jffs2_image extract --decompress dump.img tree
   jffs2_image listing tree > tree.txt
 
 Exit status:
@@ -74,14 +83,14 @@ Exit status:
   3  check found something, or extract or listing left something out
 
 A fault is one line, as 'jffs2_image: M6 RootKind'. Its letter says what gave
-up: C the report, L reading a file, M the mount, S the session that writes, P
-the program. P2 is a wrong line of a listing. The manual page jffs2_image.1
-tells what each fault may mean and what to do.
+up: C the report, L reading a file, M the mount, Z compressed data, S the
+session that writes, P the program. P2 is a wrong line of a listing.
+The manual page jffs2_image.1 tells what each fault may mean and what to do.
 
 The image does not tell its block size or byte order. With a wrong --block, a
 wrong --endian or a damaged image, ls and cat may show less than the flash
-holds, or zeros, and append goes on from that. A note on standard error then
-counts what check --scan finds.";
+holds, or zeros, and append and decompress go on from that. A note on standard
+error then counts what check --scan finds.";
 
 pub(crate) const CHECK_EPILOGUE: &str = "\
 For each block it prints 'block' and its number, and then a line for each node
@@ -154,12 +163,15 @@ and those that begin with # are skipped.
   owner UID GID          owner of what is made from here on; 0 0 at first
   mkdir MODE PATH        makes a directory
   create MODE PATH       makes an empty regular file
+  fifo MODE PATH         makes a FIFO
+  socket MODE PATH       makes a socket
   symlink PATH TARGET    makes a symlink
   write PATH OFFSET HEX  writes bytes into a file
   part PATH OFFSET FILE  writes the bytes of FILE, a file of this host, likewise
   truncate PATH SIZE     cuts a file, or lets it grow by zeros
   link OLD NEW           gives a file the further name NEW
   rename OLD NEW         moves OLD to NEW, which must not be there yet
+  replace OLD NEW        moves OLD to NEW, in place of the file that is there
   remove PATH            removes a name; a directory must be empty
   attr MODE UID GID ATIME MTIME PATH
                          sets permissions, owner and times of PATH, or of /
@@ -215,6 +227,35 @@ has ended well.
 Examples:
   jffs2_image append --blocks 64 flash.img more.txt new.img
   jffs2_image append --blocks 64 old.img more.txt new.img && mv new.img old.img
+
+Exit status:
+  0  done
+  1  a fault, which standard error names
+  2  the command line is wrong";
+
+pub(crate) const DECOMPRESS_EPILOGUE: &str = "\
+OUT has the nodes of IMAGE in the order of their addresses, from the first block
+on. Where data are compressed, by RTIME, ZLIB or LZO, they stand there as they
+were before. So the other commands can take what mkfs.jffs2 makes by default and
+what Linux writes. What makes no part of the file system is left out: markers,
+padding, obsolete and damaged nodes, extended attributes and dirt. A note on
+standard error counts damage and dirt in IMAGE, as for ls.
+
+'decompressed C nodes N bytes B' is printed: C nodes of IMAGE are compressed,
+and OUT has N nodes and B bytes. All else is judged before OUT is made. M4
+Compressed: the method is none of the three. Z1 Data: the data are not what
+their method makes. Z2 TooLong: decompressed, a node does not fit into a block.
+
+IMAGE and OUT can be one file, since IMAGE is held in memory before OUT is made.
+But if the power, the host or the disk fails while OUT is written, the old bytes
+are gone.
+
+To look only, give ls, cat or extract --decompress: they do what they do of OUT,
+which is held in memory.
+
+Examples:
+  jffs2_image decompress --block 131072 dump.img flash.img
+  jffs2_image ls --block 131072 --decompress dump.img
 
 Exit status:
   0  done

@@ -3,7 +3,7 @@ ghost use Rattle.std.specs.Prelude.{◌≡◌, true, false, [], ◌∷◌, Some,
 ghost use Rattle.clap.specs.Words.{fault_of};
 ghost use Rattle.clap.specs.declared.error.ErrorKind.TheVariants.{DisplayHelp, DisplayVersion, MissingSubcommand, MissingRequiredArgument, UnknownArgument, WrongNumberOfValues};
 ghost use Rattle.jnode.specs.declared.order.Endian.TheVariants.{Little, Big};
-ghost use Rattle.jcommand.specs.Parsed.{ScanParsed, CheckParsed, ListParsed, CatParsed, BuildParsed, AppendParsed, ImageParsed, ExtractParsed, ListingParsed, parsed_from, endian_of, decimal_number, owner_of, page_of};
+ghost use Rattle.jcommand.specs.Parsed.{ScanParsed, CheckParsed, ListParsed, CatParsed, BuildParsed, AppendParsed, DecompressParsed, ImageParsed, ExtractParsed, ListingParsed, parsed_from, endian_of, decimal_number, owner_of, page_of};
 ghost use Rattle.jsteps.specs.declared.page.Page.TheVariants.{P4096, P8192, P16384};
 ghost use Rattle.jcommand.specs.Commands.{program};
 
@@ -34,16 +34,20 @@ pub fn known_requests()
     ensures shape { parsed_from (codes "jffs2_image" ∷ codes "check" ∷ codes "--shape" ∷ codes "a" ∷ [])
         ≡ Some (ImageParsed (CheckParsed (record { geometry = record { block = 65536 }; endian = Little }) true (codes "a"))) }
     ensures tree { parsed_from (codes "jffs2_image" ∷ codes "ls" ∷ codes "a" ∷ codes "--block=8192" ∷ [])
-        ≡ Some (ImageParsed (ListParsed (record { geometry = record { block = 8192 }; endian = Little }) (codes "a"))) }
+        ≡ Some (ImageParsed (ListParsed (record { geometry = record { block = 8192 }; endian = Little }) false (codes "a"))) }
+    ensures decompressed_tree { parsed_from (codes "jffs2_image" ∷ codes "ls" ∷ codes "--decompress" ∷ codes "a" ∷ [])
+        ≡ Some (ImageParsed (ListParsed (record { geometry = record { block = 65536 }; endian = Little }) true (codes "a"))) }
     ensures content { parsed_from (codes "jffs2_image" ∷ codes "cat" ∷ codes "a" ∷ codes "/b" ∷ [])
-        ≡ Some (ImageParsed (CatParsed (record { geometry = record { block = 65536 }; endian = Little }) (codes "a") (codes "/b"))) }
+        ≡ Some (ImageParsed (CatParsed (record { geometry = record { block = 65536 }; endian = Little }) false (codes "a") (codes "/b"))) }
     ensures made { parsed_from (codes "jffs2_image" ∷ codes "build" ∷ codes "--blocks" ∷ codes "2" ∷ codes "a" ∷ codes "b" ∷ [])
         ≡ Some (ImageParsed (BuildParsed (record { geometry = record { block = 65536 }; endian = Little }) 2 P4096 (codes "a") (codes "b"))) }
     ensures extended { parsed_from (codes "jffs2_image" ∷ codes "append" ∷ codes "a" ∷ codes "--block" ∷ codes "8192" ∷ codes "b"
         ∷ codes "--endian=big" ∷ codes "--page=16384" ∷ codes "c" ∷ codes "--blocks=3" ∷ [])
-        ≡ Some (ImageParsed (AppendParsed (record { geometry = record { block = 8192 }; endian = Big }) 3 P16384 (codes "a") (codes "b") (codes "c"))) }
+        ≡ Some (ImageParsed (AppendParsed (record { geometry = record { block = 8192 }; endian = Big }) 3 P16384 false (codes "a") (codes "b") (codes "c"))) }
+    ensures decompressed { parsed_from (codes "jffs2_image" ∷ codes "decompress" ∷ codes "--block=8192" ∷ codes "a" ∷ codes "b" ∷ [])
+        ≡ Some (ImageParsed (DecompressParsed (record { geometry = record { block = 8192 }; endian = Little }) (codes "a") (codes "b"))) }
     ensures extracted { parsed_from (codes "jffs2_image" ∷ codes "extract" ∷ codes "--owners" ∷ codes "a" ∷ codes "b" ∷ [])
-        ≡ Some (ExtractParsed (record { geometry = record { block = 65536 }; endian = Little }) true false (codes "a") (codes "b")) }
+        ≡ Some (ExtractParsed (record { geometry = record { block = 65536 }; endian = Little }) false true false (codes "a") (codes "b")) }
     ensures listed { parsed_from (codes "jffs2_image" ∷ codes "listing" ∷ codes "--quiet" ∷ codes "a" ∷ [])
         ≡ Some (ListingParsed None None true (codes "a")) }
     ensures listed_for { parsed_from (codes "jffs2_image" ∷ codes "listing" ∷ codes "--owner" ∷ codes "0" ∷ codes "7" ∷ codes "--time=9" ∷ codes "a" ∷ [])
@@ -64,6 +68,8 @@ pub fn known_refusals()
     ensures not_of_cat { fault_of program (codes "jffs2_image" ∷ codes "cat" ∷ codes "--blocks=2" ∷ codes "a" ∷ codes "/b" ∷ [])
         ≡ UnknownArgument ∷ [] }
     ensures one_owner { fault_of program (codes "jffs2_image" ∷ codes "listing" ∷ codes "a" ∷ codes "--owner" ∷ codes "1" ∷ []) ≡ WrongNumberOfValues ∷ [] }
+    ensures not_of_check { fault_of program (codes "jffs2_image" ∷ codes "check" ∷ codes "--decompress" ∷ codes "a" ∷ []) ≡ UnknownArgument ∷ [] }
+    ensures not_decompressed { fault_of program (codes "jffs2_image" ∷ codes "decompress" ∷ codes "a" ∷ []) ≡ MissingRequiredArgument ∷ [] }
     ensures no_folder { fault_of program (codes "jffs2_image" ∷ codes "extract" ∷ codes "a" ∷ []) ≡ MissingRequiredArgument ∷ [] }
     ensures unreadable_blocks { parsed_from (codes "jffs2_image" ∷ codes "build" ∷ codes "--blocks=x" ∷ codes "a" ∷ codes "b" ∷ []) ≡ None }
     ensures unreadable { parsed_from (codes "jffs2_image" ∷ codes "check" ∷ codes "--block=x" ∷ codes "--scan" ∷ codes "a" ∷ []) ≡ None }

@@ -1,7 +1,7 @@
 //! What the matches of the program's command line ask for.
 ghost use Rattle.std.specs.Prelude.{◌≡◌, IfSome, codes, map, option_map};
 ghost use Rattle.clap.specs.Words.{found_of, rows_of, all_of, first_of};
-ghost use Rattle.jcommand.specs.Parsed.{decimal_number, endian_of, page_of, number_option, options_in, image_in, is_given, check_in, ls_in, cat_in, writing_in, build_in, append_in, extract_in, listing_in, owner_number, owner_of, if_given, parsed, options_of, task_view, view};
+ghost use Rattle.jcommand.specs.Parsed.{decimal_number, endian_of, page_of, number_option, options_in, image_in, is_given, check_in, is_decompressed, ls_in, cat_in, writing_in, build_in, append_in, decompress_in, extract_in, listing_in, owner_number, owner_of, if_given, parsed, options_of, task_view, view};
 
 use clap::ArgMatches;
 use jnode::Endian;
@@ -45,14 +45,16 @@ pub enum Request<'a> {
         shape: bool,
         image: &'a str,
     },
-    /// `ls`: a line for each object of the tree.
+    /// `ls`: a line for each object of the tree; with `--decompress`, of what `decompress` makes of the image.
     List {
         options: Options,
+        decompress: bool,
         image: &'a str,
     },
-    /// `cat`: the content of a file.
+    /// `cat`: the content of a file; with `--decompress` in the same way.
     Cat {
         options: Options,
+        decompress: bool,
         image: &'a str,
         path: &'a str,
     },
@@ -61,11 +63,18 @@ pub enum Request<'a> {
         target: Target<'a>,
         listing: &'a str,
     },
-    /// `append`: the image with what the listing makes of its file system.
+    /// `append`: the image with what the listing makes of its file system; with `--decompress` in the same way.
     Append {
         target: Target<'a>,
+        decompress: bool,
         image: &'a str,
         listing: &'a str,
+    },
+    /// `decompress`: an image of the same nodes, whose data are not compressed.
+    Decompress {
+        options: Options,
+        image: &'a str,
+        output: &'a str,
     },
 }
 
@@ -78,16 +87,19 @@ impl Request<'_> {
             Request::Scan { options, .. }
             | Request::Check { options, .. }
             | Request::List { options, .. }
-            | Request::Cat { options, .. } => options,
+            | Request::Cat { options, .. }
+            | Request::Decompress { options, .. } => options,
             Request::Build { target, .. } | Request::Append { target, .. } => target.options,
         }
     }
 }
 
-/// The tree of an image in a new folder of the host; with `--owners`, its owners too.
+/// The tree of an image in a new folder of the host; with `--owners`, its owners too, and with `--decompress` that of
+/// what `decompress` makes of the image.
 #[derive(Clone, Copy)]
 pub struct Extraction<'a> {
     pub options: Options,
+    pub decompress: bool,
     pub owners: bool,
     pub quiet: bool,
     pub image: &'a str,
@@ -224,11 +236,22 @@ fn check_at<'a>(found: &ArgMatches<'a>) -> Option<Request<'a>>
     }
 }
 
+/// Whether what is read is decompressed.
+fn is_decompressed(found: &ArgMatches<'_>) -> bool
+    ensures { result ≡ is_decompressed (rows_of (found_of found.now)) }
+{
+    is_given(found, "decompress")
+}
+
 fn ls_at<'a>(found: &ArgMatches<'a>) -> Option<Request<'a>>
     ensures { option_map view result ≡ ls_in (rows_of (found_of found.now)) }
 {
     let (options, image) = image_at(found)?;
-    Some(Request::List { options, image })
+    Some(Request::List {
+        options,
+        decompress: is_decompressed(found),
+        image,
+    })
 }
 
 fn cat_at<'a>(found: &ArgMatches<'a>) -> Option<Request<'a>>
@@ -238,6 +261,7 @@ fn cat_at<'a>(found: &ArgMatches<'a>) -> Option<Request<'a>>
     let path = text_at(found, "PATH")?;
     Some(Request::Cat {
         options,
+        decompress: is_decompressed(found),
         image,
         path,
     })
@@ -276,8 +300,20 @@ fn append_at<'a>(found: &ArgMatches<'a>) -> Option<Request<'a>>
     let (target, listing) = writing_at(found, options)?;
     Some(Request::Append {
         target,
+        decompress: is_decompressed(found),
         image,
         listing,
+    })
+}
+
+fn decompress_at<'a>(found: &ArgMatches<'a>) -> Option<Request<'a>>
+    ensures { option_map view result ≡ decompress_in (rows_of (found_of found.now)) }
+{
+    let (options, image) = image_at(found)?;
+    Some(Request::Decompress {
+        options,
+        image,
+        output: text_at(found, "OUT")?,
     })
 }
 
@@ -288,6 +324,7 @@ fn extract_at<'a>(found: &ArgMatches<'a>) -> Option<Task<'a>>
     let folder = text_at(found, "DIR")?;
     Some(Task::Extract(Extraction {
         options,
+        decompress: is_decompressed(found),
         owners: is_given(found, "owners"),
         quiet: is_given(found, "quiet"),
         image,
@@ -360,6 +397,7 @@ pub(crate) fn parsed_of<'a>(name: &str, found: &ArgMatches<'a>) -> Option<Task<'
         "cat" => Some(Task::Image(cat_at(found)?)),
         "build" => Some(Task::Image(build_at(found)?)),
         "append" => Some(Task::Image(append_at(found)?)),
+        "decompress" => Some(Task::Image(decompress_at(found)?)),
         "extract" => extract_at(found),
         "listing" => listing_at(found),
         _ => None,

@@ -15,6 +15,11 @@ fn written(target: Target<'_>) -> (u32, u32, &str) {
     (target.blocks, target.page.size(), target.output)
 }
 
+/// What follows the values where the image is to be decompressed.
+fn mark(decompress: bool) -> &'static str {
+    if decompress { " decompressed" } else { "" }
+}
+
 /// A request as the name of its kind, the size of a block, the byte order, and its other values in the order of the
 /// command's help.
 fn shown(alloc: Global, request: Request<'_>) -> Result<String, AllocError> {
@@ -32,19 +37,41 @@ fn shown(alloc: Global, request: Request<'_>) -> Result<String, AllocError> {
             ..
         } => format!(in alloc; "check {block} {order} {image} shape"),
         Request::Check { image, .. } => format!(in alloc; "check {block} {order} {image}"),
-        Request::List { image, .. } => format!(in alloc; "ls {block} {order} {image}"),
-        Request::Cat { image, path, .. } => format!(in alloc; "cat {block} {order} {image} {path}"),
+        Request::List {
+            image,
+            decompress,
+            ..
+        } => {
+            let mark = mark(decompress);
+            format!(in alloc; "ls {block} {order} {image}{mark}")
+        }
+        Request::Cat {
+            image,
+            path,
+            decompress,
+            ..
+        } => {
+            let mark = mark(decompress);
+            format!(in alloc; "cat {block} {order} {image} {path}{mark}")
+        }
+        Request::Decompress { image, output, .. } => {
+            format!(in alloc; "decompress {block} {order} {image} {output}")
+        }
         Request::Build { target, listing } => {
             let (blocks, page, output) = written(target);
             format!(in alloc; "build {block} {order} {blocks} {page} {listing} {output}")
         }
         Request::Append {
             target,
+            decompress,
             image,
             listing,
         } => {
             let (blocks, page, output) = written(target);
-            format!(in alloc; "append {block} {order} {blocks} {page} {image} {listing} {output}")
+            let mark = mark(decompress);
+            format!(in alloc;
+                "append {block} {order} {blocks} {page} {image} {listing} {output}{mark}"
+            )
         }
     }
 }
@@ -56,6 +83,7 @@ fn shown_task(alloc: Global, task: Task<'_>) -> Result<String, AllocError> {
         Task::Extract(
             Extraction {
                 options,
+                decompress,
                 owners,
                 quiet,
                 image,
@@ -64,7 +92,8 @@ fn shown_task(alloc: Global, task: Task<'_>) -> Result<String, AllocError> {
         ) => {
             let block = options.geometry.block;
             let is_big = options.endian == Endian::Big;
-            format!(in alloc; "extract {block} {is_big} {owners} {quiet} {image} {folder}")
+            let mark = mark(decompress);
+            format!(in alloc; "extract {block} {is_big} {owners} {quiet} {image} {folder}{mark}")
         }
         Task::Listing(
             FolderListing {
@@ -97,7 +126,7 @@ pub fn answer_to(alloc: Global, line: &str) -> Result<String, AllocError> {
 }
 
 /// The text begins and goes on so, and one line feed ends it, and only one.
-fn is_text(text: &str, start: &str, parts: [&str; 2]) -> bool {
+pub(crate) fn is_text(text: &str, start: &str, parts: [&str; 2]) -> bool {
     text.starts_with(start)
         && text.contains(parts[0])
         && text.contains(parts[1])
@@ -106,7 +135,7 @@ fn is_text(text: &str, start: &str, parts: [&str; 2]) -> bool {
 }
 
 /// The text of a wrong command line, with this part, and the way to help.
-fn is_wrong(text: &str, part: &str) -> bool {
+pub(crate) fn is_wrong(text: &str, part: &str) -> bool {
     is_text(text, "wrong error: ", [part, "--help"])
 }
 

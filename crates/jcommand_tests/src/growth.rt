@@ -5,7 +5,7 @@ use jcommand::{Request, RequestFault, Task, task};
 use std::alloc::Global;
 
 /// Words, and what they ask for.
-const LINES: [(&[&str], &str); 9] = [
+const LINES: [(&[&str], &str); 10] = [
     (&["t", "check", "--scan", "--block=4096", "a.img"], "scan"),
     (&["t", "check", "--endian", "big", "a.img"], "check"),
     (&["t", "ls", "a.img"], "ls"),
@@ -14,6 +14,7 @@ const LINES: [(&[&str], &str); 9] = [
         &["t", "append", "a.img", "b.txt", "c.img", "--blocks=8"],
         "append",
     ),
+    (&["t", "decompress", "a.img", "b.img"], "decompress"),
     (&["t", "extract", "--owners", "a.img", "b"], "extract"),
     (
         &["t", "listing", "--owner", "1", "2", "--time=3", "a"],
@@ -32,6 +33,7 @@ fn asked(alloc: Global, words: &[&str]) -> &'static str {
         Ok(Task::Image(Request::Cat { .. })) => "cat",
         Ok(Task::Image(Request::Build { .. })) => "build",
         Ok(Task::Image(Request::Append { .. })) => "append",
+        Ok(Task::Image(Request::Decompress { .. })) => "decompress",
         Ok(Task::Extract(_)) => "extract",
         Ok(Task::Listing(_)) => "listing",
         Err(RequestFault::Help { .. }) => "help",

@@ -6,6 +6,8 @@ mod checks;
 #[cfg(test)]
 mod command_lines;
 #[cfg(test)]
+mod decompressing;
+#[cfg(test)]
 mod folders;
 #[cfg(test)]
 mod growth;

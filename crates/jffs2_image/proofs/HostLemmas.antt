@@ -58,6 +58,8 @@ make_fault page e size blocks m output from u v same before now (program.Session
 make_fault page e size blocks m output from u v same before now (program.Path f) on not made left = absurd not
 make_fault page e size blocks m output from u v same before now program.NotRegular on not made left = absurd not
 make_fault page e size blocks m output from u v same before now (program.NoSpace folder) on not made left = absurd not
+make_fault page e size blocks m output from u v same before now (program.Data addr) on not made left = absurd not
+make_fault page e size blocks m output from u v same before now (program.TooLong addr) on not made left = absurd not
 make_fault page e size blocks m output from u v same before now program.Output on not made left = absurd not
 make_fault page e size blocks m output from u v same before now program.OutOfMemory on not made left = inr left
 
@@ -109,6 +111,8 @@ lines_blame u v rb rn mb mn (Err (program.Session session.Broken line)) read mad
 lines_blame u v rb rn mb mn (Err (program.Path f)) read made = tt
 lines_blame u v rb rn mb mn (Err program.NotRegular) read made = tt
 lines_blame u v rb rn mb mn (Err (program.NoSpace folder)) read made = tt
+lines_blame u v rb rn mb mn (Err (program.Data addr)) read made = absurd made
+lines_blame u v rb rn mb mn (Err (program.TooLong addr)) read made = absurd made
 lines_blame u v rb rn mb mn (Err program.Output) read made = made
 lines_blame u v rb rn mb mn (Err program.OutOfMemory) read made = made
 
@@ -125,6 +129,8 @@ parts_blame T u v rb rn mb mn told lines (program.Session f line) still not read
 parts_blame T u v rb rn mb mn told lines (program.Path f) still not read = absurd not
 parts_blame T u v rb rn mb mn told lines program.NotRegular still not read = absurd not
 parts_blame T u v rb rn mb mn told lines (program.NoSpace folder) still not read = absurd not
+parts_blame T u v rb rn mb mn told lines (program.Data addr) still not read = absurd not
+parts_blame T u v rb rn mb mn told lines (program.TooLong addr) still not read = absurd not
 parts_blame T u v rb rn mb mn told lines program.Output still not read = absurd not
 parts_blame T u v rb rn mb mn told lines program.OutOfMemory still not read = inl still
 
@@ -141,6 +147,8 @@ file_blame T u v rb rn mb mn name told (program.Session f line) still not read =
 file_blame T u v rb rn mb mn name told (program.Path f) still not read = absurd not
 file_blame T u v rb rn mb mn name told program.NotRegular still not read = absurd not
 file_blame T u v rb rn mb mn name told (program.NoSpace folder) still not read = absurd not
+file_blame T u v rb rn mb mn name told (program.Data addr) still not read = absurd not
+file_blame T u v rb rn mb mn name told (program.TooLong addr) still not read = absurd not
 file_blame T u v rb rn mb mn name told program.Output still not read = absurd not
 file_blame T u v rb rn mb mn name told program.OutOfMemory still not read = absurd not
 
@@ -163,6 +171,8 @@ any_blame T u v rb rn mb mn (program.Session session.Broken line) w = w
 any_blame T u v rb rn mb mn (program.Path f) w = w
 any_blame T u v rb rn mb mn program.NotRegular w = w
 any_blame T u v rb rn mb mn (program.NoSpace folder) w = w
+any_blame T u v rb rn mb mn (program.Data addr) w = w
+any_blame T u v rb rn mb mn (program.TooLong addr) w = w
 any_blame T u v rb rn mb mn program.Output w = w
 any_blame T u v rb rn mb mn program.OutOfMemory w = w
 
@@ -305,6 +315,8 @@ files_not_made told held page e size blocks output base text lines parts m old n
     by (program.Path f) not cut = tt
     by program.NotRegular not cut = tt
     by (program.NoSpace folder) not cut = tt
+    by (program.Data addr) not cut = tt
+    by (program.TooLong addr) not cut = tt
     by program.Output not cut = absurd not
     by program.OutOfMemory not cut = inr cut
 

@@ -1,3 +1,4 @@
+pub mod DecompressingLemmas
 pub mod WritingLemmas
 pub mod HostLemmas
 pub mod RunLemmas

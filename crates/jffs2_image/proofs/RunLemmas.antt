@@ -3,8 +3,8 @@ use Rattle.std.proofs.Common.{ℕ, List, Option, inl, inr}
 use Rattle.std.specs.Prelude.{Result, Ok, Err}
 use Rattle.std.specs.Io.KnownBytes.{Keeps}
 use Rattle.flashbase.specs.Device.{Puts}
-use Rattle.jffs2_image.specs.Runs.{GivesText, IsSaid}
-use Rattle.jffs2_image.specs.Writes.{IsBehind}
+use Rattle.jffs2_image.specs.Runs.{IsSaid}
+use Rattle.jffs2_image.specs.Writes.{GivesText, IsBehind}
 use Rattle.jffs2_image.proofs.HostLemmas.{part_all, same_behind}
 
 -- whatever putting a text came to

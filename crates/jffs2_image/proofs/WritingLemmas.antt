@@ -25,7 +25,7 @@ use Rattle.flashbase.specs.declared.source.LoadFault.TheVariants as load
 use Rattle.std.specs.Prelude.{IfOk, IfSome, IsFalse}
 use Rattle.jscan.specs.Image.{is_block_size}
 use Rattle.jscan.specs.declared.geometry.ScanFault.TheVariants as scan
-use Rattle.jcommand.specs.Parsed.{Parsed, ScanParsed, CheckParsed, ListParsed, CatParsed, BuildParsed, AppendParsed}
+use Rattle.jcommand.specs.Parsed.{Parsed, ScanParsed, CheckParsed, ListParsed, CatParsed, BuildParsed, AppendParsed, DecompressParsed}
 use Rattle.jcommand.specs.declared.parsed.Options.{Options}
 use Rattle.jffs2_image.specs.Host.{AreLoaded, RunsFiles}
 use Rattle.jffs2_image.specs.Runs.{Meets, RunsListed}
@@ -49,6 +49,8 @@ not_made held page e size blocks output base text m (program.Session f (Some k))
 not_made held page e size blocks output base text m (program.Path f) old n mounts not = absurd not
 not_made held page e size blocks output base text m program.NotRegular old n mounts not = absurd not
 not_made held page e size blocks output base text m (program.NoSpace folder) old n mounts not = absurd not
+not_made held page e size blocks output base text m (program.Data addr) old n mounts not = absurd not
+not_made held page e size blocks output base text m (program.TooLong addr) old n mounts not = absurd not
 not_made held page e size blocks output base text m program.Output old n mounts not = absurd not
 not_made held page e size blocks output base text m program.OutOfMemory old n mounts not = (tt, refl, refl)
 
@@ -118,7 +120,7 @@ listed_fault told later held page e size blocks listing output base text old new
     (listed told later held page e size blocks listing output base text old new before now (Err f) same is w files)
 
 -- it is not that a block has the wrong size for a report
-not_scanned : (told : List ℕ → Option (List ℕ)) (held : Held) (page : Page) (e : Endian) (size blocks : ℕ) (listing output base : List ℕ) (old new : Option (List ℕ)) (before now : ℕ) (answer : Result ℕ ProgramFault)
+pub not_scanned : (told : List ℕ → Option (List ℕ)) (held : Held) (page : Page) (e : Endian) (size blocks : ℕ) (listing output base : List ℕ) (old new : Option (List ℕ)) (before now : ℕ) (answer : Result ℕ ProgramFault)
     → RunsListed told held page e size blocks listing output base old new before now answer → answer ≡ Err (program.Scan scan.BlockSize) → IsFalse (is_block_size size)
 not_scanned told held page e size blocks listing output base old new before now answer runs is = no_scan held page e size blocks output base runs.0 old new before now answer runs.2 is
 
@@ -133,7 +135,7 @@ builds told held page e options blocks listing output old new before now answer 
 
 pub appends : (told : List ℕ → Option (List ℕ)) (held : Held) (page : Page) (e : Endian) (options : Options) (blocks : ℕ) (name listing output base : List ℕ) (old new : Option (List ℕ)) (before now : ℕ) (answer : Result ℕ ProgramFault)
     → AreLoaded (told name) base → RunsListed told held page e options.geometry.block blocks listing output base old new before now answer
-    → IfOk answer (IsNotedIn e options.geometry.block base) → Meets told held e (AppendParsed options blocks page name listing output) old new before now answer
+    → IfOk answer (IsNotedIn e options.geometry.block base) → Meets told held e (AppendParsed options blocks page false name listing output) old new before now answer
 appends told held page e options blocks name listing output base old new before now answer is runs noted = record {
   block_size = not_scanned told held page e options.geometry.block blocks listing output base old new before now answer runs;
   told_of = λ wrong. tt;
@@ -143,17 +145,19 @@ appends told held page e options blocks name listing output base old new before 
 -- a request that makes no file is met whatever was given to files that are made
 abbrev pub MakesNoFile : Parsed → Type 0
 MakesNoFile (BuildParsed options blocks page listing output) = ⊥
-MakesNoFile (AppendParsed options blocks page image listing output) = ⊥
+MakesNoFile (AppendParsed options blocks page decompress image listing output) = ⊥
+MakesNoFile (DecompressParsed options image output) = ⊥
 MakesNoFile _ = Unit {0}
 
 pub met_by_any : (told : List ℕ → Option (List ℕ)) (held later : Held) (e : Endian) (parsed : Parsed) (old new : Option (List ℕ)) (before now : ℕ) (answer : Result ℕ ProgramFault) → MakesNoFile parsed
     → Meets told held e parsed old new before now answer → Meets told later e parsed old new before now answer
 met_by_any told held later e (ScanParsed options image) old new before now answer none m = record { block_size = m.block_size; told_of = m.told_of; put = m.put }
 met_by_any told held later e (CheckParsed options shape image) old new before now answer none m = record { block_size = m.block_size; told_of = m.told_of; put = m.put }
-met_by_any told held later e (ListParsed options image) old new before now answer none m = record { block_size = m.block_size; told_of = m.told_of; put = m.put }
-met_by_any told held later e (CatParsed options image word) old new before now answer none m = record { block_size = m.block_size; told_of = m.told_of; put = m.put }
+met_by_any told held later e (ListParsed options decompress image) old new before now answer none m = record { block_size = m.block_size; told_of = m.told_of; put = m.put }
+met_by_any told held later e (CatParsed options decompress image word) old new before now answer none m = record { block_size = m.block_size; told_of = m.told_of; put = m.put }
 met_by_any told held later e (BuildParsed options blocks page listing output) old new before now answer none m = absurd none
-met_by_any told held later e (AppendParsed options blocks page image listing output) old new before now answer none m = absurd none
+met_by_any told held later e (AppendParsed options blocks page decompress image listing output) old new before now answer none m = absurd none
+met_by_any told held later e (DecompressParsed options image output) old new before now answer none m = absurd none
 
 -- a file that was empty when it was made was handed back
 pub handed_back : (before mid after : Option (List (List ℕ))) (old given : Option (List ℕ)) → IfSome before (λ files. old ≡ Some []) → mid ≡ before

@@ -4,7 +4,7 @@ use Rattle.jextract.specs.Folders.{Made}
 use Rattle.jfolder.specs.Known.{Known}
 use Rattle.jfolder.specs.declared.found.Options as reading
 use Rattle.jreport.specs.ExtractionNotes.{extraction_notes_of}
-use Rattle.jreport.specs.Faults.{fault_line_of}
+use Rattle.jreport.specs.Advice.{fault_lines_of}
 use Rattle.jreport.specs.declared.faults.ProgramFault.{ProgramFault}
 use Rattle.jreport.specs.declared.faults.ProgramFault.TheVariants as program
 use Rattle.jcommand.specs.Parsed.{ExtractParsed, ListingParsed, IsFaultless, parsed_from}
@@ -32,7 +32,7 @@ notes_after_extraction done =
 -- what is said after all that was left out was told: the notes, or the fault
 abbrev pub said_after_extraction : Result Extracted ProgramFault → Option (List ℕ)
 said_after_extraction (Ok done) = notes_after_extraction done
-said_after_extraction (Err fault) = Some (fault_line_of fault)
+said_after_extraction (Err fault) = Some (fault_lines_of fault)
 
 -- what was left out, or else the findings of the image
 abbrev pub found_by_extraction : Extracted → ℕ
@@ -44,12 +44,12 @@ outcome_of_extraction (Err fault) = outcome.Fault
 
 -- The image of a name is extracted into the folder of a name, and what was left out is told before what else is said. `told` are
 -- the files of the host, which failed `read_before` and then `read_now` times, and `made` is what is made in the folder of each name.
-pub record EndsExtraction (options : Options) (owners : Bool) (image folder : List ℕ) (told : List ℕ → Option (List ℕ)) (read_before read_now : ℕ) (made_old made_new : List ℕ → Option (List Made))
+pub record EndsExtraction (options : Options) (decompress owners : Bool) (image folder : List ℕ) (told : List ℕ → Option (List ℕ)) (read_before read_now : ℕ) (made_old made_new : List ℕ → Option (List Made))
     (old new : Option (List ℕ)) (before now : ℕ) (result : Outcome) : Type 0 where
   pub between : Option (List ℕ)
   pub count : ℕ
   pub answer : Result Extracted ProgramFault
-  pub fills : FillsFolder options.endian options.geometry.block owners (told image) read_before read_now image folder made_old made_new old between before count answer
+  pub fills : FillsFolder decompress options.endian options.geometry.block owners (told image) read_before read_now image folder made_old made_new old between before count answer
   pub said : Says ((new ≡ between) × (now ≡ count)) between new count now (said_after_extraction answer)
   pub ends : result ≡ outcome_of_extraction answer
 
@@ -57,17 +57,18 @@ pub record EndsExtraction (options : Options) (owners : Bool) (image folder : Li
 pub record RunsExtract (args : List (List ℕ)) (told : List ℕ → Option (List ℕ)) (read_before read_now : ℕ) (made_old made_new : List ℕ → Option (List Made))
     (old new : Option (List ℕ)) (before now : ℕ) (result : Outcome) : Type 0 where
   pub options : Options
+  pub decompress : Bool
   pub owners : Bool
   pub quiet : Bool
   pub image : List ℕ
   pub folder : List ℕ
-  pub parsed : parsed_from args ≡ Some (ExtractParsed options owners quiet image folder)
+  pub parsed : parsed_from args ≡ Some (ExtractParsed options decompress owners quiet image folder)
   pub faultless : IsFaultless args
-  pub ends : EndsExtraction options owners image folder told read_before read_now made_old made_new old new before now result
+  pub ends : EndsExtraction options decompress owners image folder told read_before read_now made_old made_new old new before now result
 
 abbrev pub said_after_listing : Result ℕ ProgramFault → Option (List ℕ)
 said_after_listing (Ok n) = None
-said_after_listing (Err fault) = Some (fault_line_of fault)
+said_after_listing (Err fault) = Some (fault_lines_of fault)
 
 abbrev pub outcome_of_listing : Result ℕ ProgramFault → Outcome
 outcome_of_listing (Ok n) = outcome_of n

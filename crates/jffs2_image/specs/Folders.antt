@@ -1,5 +1,5 @@
 -- What the commands do that work with a folder of the host.
-use Rattle.std.specs.Prelude.{◌≡◌, ◌≢◌, ◌⊎◌, ℕ, Bool, List, [], ◌∷◌, All, map, Option, option_map, Result, Ok, Err}
+use Rattle.std.specs.Prelude.{◌≡◌, ◌≢◌, ◌⊎◌, ℕ, Bool, true, false, List, [], ◌∷◌, All, map, Option, option_map, Result, Ok, Err}
 use Rattle.std.specs.Io.KnownBytes.{Appends}
 use Rattle.flashbase.specs.Device.{PutsPart, next_count}
 use Rattle.jnode.specs.declared.order.Endian.{Endian}
@@ -24,10 +24,13 @@ use Rattle.jfolder.specs.Text.{listing_text}
 use Rattle.jfolder.specs.declared.fault.ReadFault.{ReadFault}
 use Rattle.jfolder.specs.declared.fault.ReadFault.TheVariants as read
 use Rattle.jfolder.specs.declared.reading.Folder.{Folder}
+use Rattle.jconvert.specs.Converting.{Converts}
 use Rattle.jreport.specs.ExtractionNotes.{attribute_count}
+use Rattle.jreport.specs.FoundIn.{found_in}
 use Rattle.jreport.specs.Notes.{noted}
 use Rattle.jreport.specs.declared.faults.ProgramFault.{ProgramFault}
 use Rattle.jreport.specs.declared.faults.ProgramFault.TheVariants as program
+use Rattle.jffs2_image.specs.Decompressing.{IsNotConverted}
 use Rattle.jffs2_image.specs.Host.{AreOf, IsReadFault}
 use Rattle.jffs2_image.specs.Writes.{IsUnreadFile}
 use Rattle.jffs2_image.specs.declared.folders.Extracted.{Extracted}
@@ -55,21 +58,38 @@ ExtractsBytes e size owners image folder old new before now told_old told_new to
     ⊎ ((refused : MountFault) × (fault ≡ program.Mount refused) × Answers e size image (Err refused)
     × (new ≡ old) × (now ≡ before) × (told_new ≡ told_old) × (told_now ≡ told_before))
 
+-- the same answer, with what was found in this image
+abbrev pub with_found : Endian → ℕ → List ℕ → Result Extracted ProgramFault → Result Extracted ProgramFault
+with_found e size image (Ok done) =
+    let found = found_in e size image in Ok (record { totals = done.totals; findings = found.noted; attributes = found.attributes })
+with_found e size image (Err fault) = Err fault
+
+-- The same where it may be asked to decompress the image: then that is extracted which `decompress` makes of it, and what was found
+-- in the image itself is counted; or it says why nothing is made of it.
+abbrev pub ExtractsTaken : Bool → Endian → ℕ → Bool → List ℕ → List ℕ → Option (List Made) → Option (List Made) → Failures → Failures → Option (List ℕ) → Option (List ℕ) → ℕ → ℕ → Result Extracted ProgramFault → Type 0
+ExtractsTaken false e size owners image folder old new before now told_old told_new told_before told_now result =
+    ExtractsBytes e size owners image folder old new before now told_old told_new told_before told_now result
+ExtractsTaken true e size owners image folder old new before now told_old told_new told_before told_now result =
+    ((made : List ℕ) × (done : Result Extracted ProgramFault) × Converts e size image (Ok made)
+    × ExtractsBytes e size owners made folder old new before now told_old told_new told_before told_now done × (result ≡ with_found e size image done))
+    ⊎ ((fault : ProgramFault) × (result ≡ Err fault) × IsNotConverted e size image fault
+    × (new ≡ old) × (now ≡ before) × (told_new ≡ told_old) × (told_now ≡ told_before))
+
 -- `extract` of the image of a name into the folder of a name: its bytes are extracted, or it can't be read. A file that can't be
 -- opened, or failed while it was read, is blamed only where it counts so, from `read_before` to `read_now`.
-abbrev pub ExtractsImage : Endian → ℕ → Bool → Option (List ℕ) → ℕ → ℕ → List ℕ → List ℕ → Option (List Made) → Option (List Made) → Failures → Failures → Option (List ℕ) → Option (List ℕ) → ℕ → ℕ → Result Extracted ProgramFault → Type 0
-ExtractsImage e size owners told read_before read_now image folder old new before now told_old told_new told_before told_now result =
+abbrev pub ExtractsImage : Bool → Endian → ℕ → Bool → Option (List ℕ) → ℕ → ℕ → List ℕ → List ℕ → Option (List Made) → Option (List Made) → Failures → Failures → Option (List ℕ) → Option (List ℕ) → ℕ → ℕ → Result Extracted ProgramFault → Type 0
+ExtractsImage decompress e size owners told read_before read_now image folder old new before now told_old told_new told_before told_now result =
     ((bytes : List ℕ) × AreOf told bytes × (read_now ≡ read_before)
-    × ExtractsBytes e size owners bytes folder old new before now told_old told_new told_before told_now result)
+    × ExtractsTaken decompress e size owners bytes folder old new before now told_old told_new told_before told_now result)
     ⊎ ((fault : ProgramFault) × (result ≡ Err fault) × IsUnreadFile image told fault × IsReadFault read_before read_now fault
     × (new ≡ old) × (now ≡ before) × (told_new ≡ told_old) × (told_now ≡ told_before))
 
 -- The same by a host that gives the folder of the name and takes it back: its count of refusals is that folder's own. Or there is
 -- no memory for the folder, and nothing is done. In no other folder is anything made.
-abbrev pub FillsFolder : Endian → ℕ → Bool → Option (List ℕ) → ℕ → ℕ → List ℕ → List ℕ → (List ℕ → Option (List Made)) → (List ℕ → Option (List Made)) → Option (List ℕ) → Option (List ℕ) → ℕ → ℕ → Result Extracted ProgramFault → Type 0
-FillsFolder e size owners told read_before read_now image folder old new told_old told_new told_before told_now result =
+abbrev pub FillsFolder : Bool → Endian → ℕ → Bool → Option (List ℕ) → ℕ → ℕ → List ℕ → List ℕ → (List ℕ → Option (List Made)) → (List ℕ → Option (List Made)) → Option (List ℕ) → Option (List ℕ) → ℕ → ℕ → Result Extracted ProgramFault → Type 0
+FillsFolder decompress e size owners told read_before read_now image folder old new told_old told_new told_before told_now result =
     (((before : Failures) × (now : Failures)
-    × ExtractsImage e size owners told read_before read_now image folder (old folder) (new folder) before now told_old told_new told_before told_now result)
+    × ExtractsImage decompress e size owners told read_before read_now image folder (old folder) (new folder) before now told_old told_new told_before told_now result)
     ⊎ ((result ≡ Err program.OutOfMemory) × (read_now ≡ read_before) × (new folder ≡ old folder) × (told_new ≡ told_old) × (told_now ≡ told_before)))
     × ((other : List ℕ) → other ≢ folder → new other ≡ old other)
 

@@ -1,5 +1,5 @@
 -- What a command that writes an image does with the host: the files that it reads, and the one that it makes.
-use Rattle.std.specs.Prelude.{◌≡◌, ◌⊎◌, ◌++◌, ◌≤◌, ℕ, List, [], ◌∷◌, Option, Some, None, Result, Ok, Err, IfSome, IsTrue, is_some, length, option_map, slice_get}
+use Rattle.std.specs.Prelude.{◌≡◌, ◌⊎◌, ◌++◌, ◌≤◌, ℕ, Bool, true, false, IsErrOf, List, [], ◌∷◌, Option, Some, None, Result, Ok, Err, IfSome, IsTrue, is_some, length, option_map, slice_get}
 use Rattle.std.specs.Io.KnownBytes.{Appends}
 use Rattle.flashbase.specs.Device.{PutsPart, next_count}
 use Rattle.flashbase.specs.declared.source.LoadFault.TheVariants as load
@@ -17,11 +17,12 @@ use Rattle.jbuild.specs.Length.{TellsLength}
 use Rattle.jbuild.specs.Operations.{ops_in}
 use Rattle.jbuild.specs.Parts.{part_contents, read_of}
 use Rattle.jbuild.specs.declared.parts.Parts.{Parts}
-use Rattle.jcommand.specs.Parsed.{Parsed, ScanParsed, CheckParsed, ListParsed, CatParsed, BuildParsed, AppendParsed, view}
+use Rattle.jcommand.specs.Parsed.{Parsed, ScanParsed, CheckParsed, ListParsed, CatParsed, BuildParsed, AppendParsed, DecompressParsed, options_of, view}
 use Rattle.jcommand.specs.declared.parsed.Request.{Request}
 use Rattle.jcommand.specs.declared.command_line.RequestFault.{RequestFault}
 use Rattle.jreport.specs.declared.faults.ProgramFault.{ProgramFault}
 use Rattle.jreport.specs.declared.faults.ProgramFault.TheVariants as program
+use Rattle.jffs2_image.specs.Decompressing.{IsNotConverted}
 use Rattle.jffs2_image.specs.Writes.{Held, HoldsFront, HoldsNothing, HoldsPart, IsNamedByLine, IsPartUnread, IsRunOn, IsTooLong}
 use Rattle.jffs2_image.specs.declared.host.FileFault.{FileFault}
 use Rattle.jffs2_image.specs.declared.host.FileFault.TheVariants as file
@@ -167,6 +168,8 @@ BlamesMaker untouched makes before now (Err (program.Session session.Sink line))
 BlamesMaker untouched makes before now (Err (program.Session fault line)) = makes
 BlamesMaker untouched makes before now (Err (program.File name)) = now ≡ next_count before
 BlamesMaker untouched makes before now (Err (program.Load fault)) = ⊥
+BlamesMaker untouched makes before now (Err (program.Data addr)) = ⊥
+BlamesMaker untouched makes before now (Err (program.TooLong addr)) = ⊥
 BlamesMaker untouched makes before now (Err (program.Listing n)) = ⊥
 BlamesMaker untouched makes before now (Err program.Output) = makes
 BlamesMaker untouched makes before now (Err program.OutOfMemory) = untouched ⊎ makes
@@ -186,6 +189,8 @@ Blames untouched makes read_before read_now made_before made_now (Err (program.F
     (untouched × (read_now ≡ next_count read_before)) ⊎ (made_now ≡ next_count made_before)
 Blames untouched makes read_before read_now made_before made_now (Err (program.Load load.Device)) = untouched × (read_now ≡ next_count read_before)
 Blames untouched makes read_before read_now made_before made_now (Err (program.Load fault)) = untouched
+Blames untouched makes read_before read_now made_before made_now (Err (program.Data addr)) = ⊥
+Blames untouched makes read_before read_now made_before made_now (Err (program.TooLong addr)) = ⊥
 Blames untouched makes read_before read_now made_before made_now (Err program.Output) = makes
 Blames untouched makes read_before read_now made_before made_now (Err program.OutOfMemory) = untouched ⊎ makes
 Blames untouched makes read_before read_now made_before made_now (Err _) = Unit {0}
@@ -198,26 +203,48 @@ ReadsFile told before now (Err (program.Load load.Device)) = now ≡ next_count 
 ReadsFile told before now (Err (program.Load load.TooLarge)) = IsTooLong told × (now ≡ before)
 ReadsFile told before now _ = now ≡ before
 
+-- With `--decompress`, the image of this file may also be refused for what it holds, and then no file is made and none failed.
+abbrev pub IsRefusedBefore : {T : Type 0} → Bool → Endian → ℕ → Option (List ℕ) → Type 0 → ℕ → ℕ → Result T ProgramFault → Type 0
+IsRefusedBefore false e size told untouched read_before read_now result = ⊥
+IsRefusedBefore true e size told untouched read_before read_now result =
+    (image : List ℕ) × (fault : ProgramFault) × AreLoaded told image × IsNotConverted e size image fault × IsErrOf result fault
+    × untouched × (read_now ≡ read_before)
+
+-- the same of `decompress`, of a file of which the host tells these bytes
+abbrev pub BlamesDecompress : {T : Type 0} → Type 0 → Type 0 → ℕ → ℕ → ℕ → ℕ → Result T ProgramFault → Type 0
+BlamesDecompress untouched makes read_before read_now made_before made_now (Ok _) = (read_now ≡ read_before) × (made_now ≡ made_before) × makes
+BlamesDecompress untouched makes read_before read_now made_before made_now (Err (program.File name)) =
+    (untouched × (read_now ≡ next_count read_before)) ⊎ (made_now ≡ next_count made_before)
+BlamesDecompress untouched makes read_before read_now made_before made_now (Err (program.Load load.Device)) = untouched × (read_now ≡ next_count read_before)
+BlamesDecompress untouched makes read_before read_now made_before made_now (Err (program.Session session.Sink line)) = HasFailed made_before made_now × makes
+BlamesDecompress untouched makes read_before read_now made_before made_now (Err (program.Session session.OutOfMemory line)) = untouched ⊎ makes
+BlamesDecompress untouched makes read_before read_now made_before made_now (Err program.Output) = makes
+BlamesDecompress untouched makes read_before read_now made_before made_now (Err program.OutOfMemory) = makes
+BlamesDecompress untouched makes read_before read_now made_before made_now (Err _) = untouched
+
 -- the same of a request that writes an image, whose file has the name of its output; any other reads the file of its image, and
 -- makes none
-abbrev pub BlamesFor : {T : Type 0} → (List ℕ → Option (List ℕ)) → Parsed → Type 0 → Option (List (List ℕ)) → Option (List (List ℕ)) → ℕ → ℕ → ℕ → ℕ → Result T ProgramFault → Type 0
-BlamesFor told (ScanParsed options image) untouched names_old names_new read_before read_now made_before made_now result =
+abbrev pub BlamesFor : {T : Type 0} → (List ℕ → Option (List ℕ)) → Endian → Parsed → Type 0 → Option (List (List ℕ)) → Option (List (List ℕ)) → ℕ → ℕ → ℕ → ℕ → Result T ProgramFault → Type 0
+BlamesFor told e (ScanParsed options image) untouched names_old names_new read_before read_now made_before made_now result =
     ReadsFile (told image) read_before read_now result × untouched
-BlamesFor told (CheckParsed options shape image) untouched names_old names_new read_before read_now made_before made_now result =
+BlamesFor told e (CheckParsed options shape image) untouched names_old names_new read_before read_now made_before made_now result =
     ReadsFile (told image) read_before read_now result × untouched
-BlamesFor told (ListParsed options image) untouched names_old names_new read_before read_now made_before made_now result =
+BlamesFor told e (ListParsed options decompress image) untouched names_old names_new read_before read_now made_before made_now result =
     ReadsFile (told image) read_before read_now result × untouched
-BlamesFor told (CatParsed options image path) untouched names_old names_new read_before read_now made_before made_now result =
+BlamesFor told e (CatParsed options decompress image path) untouched names_old names_new read_before read_now made_before made_now result =
     ReadsFile (told image) read_before read_now result × untouched
-BlamesFor told (BuildParsed options blocks page listing output) untouched names_old names_new read_before read_now made_before made_now result =
+BlamesFor told e (BuildParsed options blocks page listing output) untouched names_old names_new read_before read_now made_before made_now result =
     Blames untouched (MakesFile output names_old names_new) read_before read_now made_before made_now result
-BlamesFor told (AppendParsed options blocks page image listing output) untouched names_old names_new read_before read_now made_before made_now result =
+BlamesFor told e (AppendParsed options blocks page decompress image listing output) untouched names_old names_new read_before read_now made_before made_now result =
     Blames untouched (MakesFile output names_old names_new) read_before read_now made_before made_now result
+    ⊎ IsRefusedBefore decompress e options.geometry.block (told image) untouched read_before read_now result
+BlamesFor told e (DecompressParsed options image output) untouched names_old names_new read_before read_now made_before made_now result =
+    BlamesDecompress untouched (MakesFile output names_old names_new) read_before read_now made_before made_now result
 
--- the same of a command line; one that makes no request touches nothing
+-- the same of a command line, in the order that it names; one that makes no request touches nothing
 abbrev pub BlamesCommand : (List ℕ → Option (List ℕ)) → Result Request RequestFault → Type 0 → Type 0 → Option (List (List ℕ)) → Option (List (List ℕ)) → ℕ → ℕ → ℕ → ℕ → Result Success Stop → Type 0
 BlamesCommand told (Ok request) unread untouched names_old names_new read_before read_now made_before made_now (Ok ended) =
-    BlamesFor {T = Success} told (view request) untouched names_old names_new read_before read_now made_before made_now (Ok ended)
+    BlamesFor {T = Success} told (options_of request).endian (view request) untouched names_old names_new read_before read_now made_before made_now (Ok ended)
 BlamesCommand told (Ok request) unread untouched names_old names_new read_before read_now made_before made_now (Err (stop.Fault fault)) =
-    BlamesFor {T = Success} told (view request) untouched names_old names_new read_before read_now made_before made_now (Err fault)
+    BlamesFor {T = Success} told (options_of request).endian (view request) untouched names_old names_new read_before read_now made_before made_now (Err fault)
 BlamesCommand told _ unread untouched names_old names_new read_before read_now made_before made_now _ = unread × untouched

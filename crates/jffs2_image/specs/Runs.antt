@@ -6,14 +6,14 @@ use Rattle.jnode.specs.declared.order.Endian.{Endian}
 use Rattle.jscan.specs.Image.{is_block_size}
 use Rattle.jscan.specs.declared.geometry.ScanFault.TheVariants as scan
 use Rattle.jmount.specs.declared.fault.FindFault.TheVariants as find
-use Rattle.jreport.specs.Faults.{fault_line_of}
+use Rattle.jreport.specs.Advice.{fault_lines_of}
 use Rattle.jreport.specs.WholeImage.{PutsCheck, PutsFile, PutsListing}
 use Rattle.jreport.specs.Notes.{note_line_of}
 use Rattle.jreport.specs.Stream.{PutsStream}
 use Rattle.jreport.specs.Paths.{path_of}
 use Rattle.jreport.specs.declared.faults.ProgramFault.{ProgramFault}
 use Rattle.jreport.specs.declared.faults.ProgramFault.TheVariants as program
-use Rattle.jcommand.specs.Parsed.{Parsed, ScanParsed, CheckParsed, ListParsed, CatParsed, BuildParsed, AppendParsed, ImageParsed, IsFaultless, IsHelpRequested, IsRefusedByClap, IsUnreadable, parsed_from, view}
+use Rattle.jcommand.specs.Parsed.{Parsed, ScanParsed, CheckParsed, ListParsed, CatParsed, BuildParsed, AppendParsed, DecompressParsed, ImageParsed, IsFaultless, IsHelpRequested, IsRefusedByClap, IsUnreadable, parsed_from, view}
 use Rattle.jcommand.specs.declared.parsed.Options.{Options}
 use Rattle.jcommand.specs.declared.parsed.Request.{Request}
 use Rattle.jcommand.specs.declared.command_line.RequestFault.{RequestFault}
@@ -22,8 +22,9 @@ use Rattle.jcommand.specs.Status.{outcome_of}
 use Rattle.jcommand.specs.declared.outcome.Outcome.{Outcome}
 use Rattle.jcommand.specs.declared.outcome.Outcome.TheVariants as outcome
 use Rattle.jsteps.specs.declared.page.Page.{Page}
+use Rattle.jffs2_image.specs.Decompressing.{DecompressesFile, IsGoneOnWith, PutsTaken}
 use Rattle.jffs2_image.specs.Host.{AreLoaded, AreOf, HasFailed, RunsFiles}
-use Rattle.jffs2_image.specs.Writes.{Held, IsBehind, IsNotedIn, IsUnreadFile, WritesImage}
+use Rattle.jffs2_image.specs.Writes.{GivesText, Held, IsBehind, IsNotedIn, IsUnreadFile, WritesImage}
 use Rattle.jffs2_image.specs.declared.program.Success.{Success}
 use Rattle.jffs2_image.specs.declared.program.Success.TheVariants as success
 use Rattle.jffs2_image.specs.declared.program.Stop.{Stop}
@@ -34,10 +35,11 @@ use Rattle.jffs2_image.specs.declared.program.Stop.TheVariants as stop
 abbrev pub options_parsed : Parsed → Options
 options_parsed (ScanParsed options image) = options
 options_parsed (CheckParsed options shape image) = options
-options_parsed (ListParsed options image) = options
-options_parsed (CatParsed options image path) = options
+options_parsed (ListParsed options decompress image) = options
+options_parsed (CatParsed options decompress image path) = options
 options_parsed (BuildParsed options blocks page listing output) = options
-options_parsed (AppendParsed options blocks page image listing output) = options
+options_parsed (AppendParsed options blocks page decompress image listing output) = options
+options_parsed (DecompressParsed options image output) = options
 
 -- whether `check` found anything, as a number
 abbrev pub number_found : Bool → ℕ
@@ -52,50 +54,60 @@ PutsJudged e size asked image old new before now (Err fault) = PutsCheck e size 
 abbrev pub IsImageOf : (List ℕ → Option (List ℕ)) → Parsed → List ℕ → Type 0
 IsImageOf told (ScanParsed options name) image = AreOf (told name) image
 IsImageOf told (CheckParsed options shape name) image = AreOf (told name) image
-IsImageOf told (ListParsed options name) image = AreOf (told name) image
-IsImageOf told (CatParsed options name word) image = AreOf (told name) image
+IsImageOf told (ListParsed options decompress name) image = AreOf (told name) image
+IsImageOf told (CatParsed options decompress name word) image = AreOf (told name) image
 IsImageOf told (BuildParsed options blocks page listing output) image = image ≡ []
-IsImageOf told (AppendParsed options blocks page name listing output) image = AreLoaded (told name) image
+IsImageOf told (AppendParsed options blocks page decompress name listing output) image = AreLoaded (told name) image
+IsImageOf told (DecompressParsed options name output) image = AreLoaded (told name) image
 
 -- the listing of a name is run on an image, with the bytes of the files that its lines name; each where the host tells its bytes
 abbrev pub RunsListed : (List ℕ → Option (List ℕ)) → Held → Page → Endian → ℕ → ℕ → List ℕ → List ℕ → List ℕ → Option (List ℕ) → Option (List ℕ) → ℕ → ℕ → Result ℕ ProgramFault → Type 0
 RunsListed told held page e size blocks listing output image old new before now answer = (text : List ℕ) × AreLoaded (told listing) text
     × WritesImage held page e size blocks output image text old new before now answer × RunsFiles told held page e size blocks image text old new answer
 
--- What is put of an image, or why no more of it is. The answer of `build` is no finding, and that
--- of `append` the number of findings of its base.
+-- What is put of an image, or why no more of it is; with `--decompress`, of what `decompress` makes of it. The answer of
+-- `build` is no finding, and that of `append` the number of findings of its base.
 abbrev pub PutsAnswer : (List ℕ → Option (List ℕ)) → Held → Endian → Parsed → List ℕ → Option (List ℕ) → Option (List ℕ) → ℕ → ℕ → Result ℕ ProgramFault → Type 0
 PutsAnswer told held e (ScanParsed options name) = PutsStream e options.geometry.block
 PutsAnswer told held e (CheckParsed options shape name) = PutsJudged e options.geometry.block shape
-PutsAnswer told held e (ListParsed options name) = PutsListing e options.geometry.block
-PutsAnswer told held e (CatParsed options name word) = λ image old new before now answer.
-    (path : List ℕ) × (path_of word ≡ Some path) × PutsFile e options.geometry.block image path old new before now answer
+PutsAnswer told held e (ListParsed options decompress name) = PutsTaken decompress e options.geometry.block (PutsListing e options.geometry.block)
+PutsAnswer told held e (CatParsed options decompress name word) = λ image old new before now answer.
+    (path : List ℕ) × (path_of word ≡ Some path)
+    × PutsTaken decompress e options.geometry.block (λ bytes. PutsFile e options.geometry.block bytes path) image old new before now answer
 PutsAnswer told held e (BuildParsed options blocks page listing output) = λ image old new before now answer.
     RunsListed told held page e options.geometry.block blocks listing output image old new before now answer
     × IfOk answer (λ n. n ≡ 0)
-PutsAnswer told held e (AppendParsed options blocks page name listing output) = λ image old new before now answer.
-    RunsListed told held page e options.geometry.block blocks listing output image old new before now answer
-    × IfOk answer (IsNotedIn e options.geometry.block image)
+PutsAnswer told held e (AppendParsed options blocks page decompress name listing output) =
+    PutsTaken decompress e options.geometry.block
+    (λ base old new before now answer. RunsListed told held page e options.geometry.block blocks listing output base old new before now answer
+    × IfOk answer (IsNotedIn e options.geometry.block base))
+PutsAnswer told held e (DecompressParsed options name output) = DecompressesFile held e options.geometry.block output
 
 -- its file can't be opened
 abbrev pub IsUnopened : List ℕ → ProgramFault → Type 0
 IsUnopened file (program.File name) = name.now ≡ file
 IsUnopened file _ = ⊥
 
+-- the same, and one that is decompressed can't be read to its end either, since it is held in memory first
+abbrev pub IsUnreadIf : Bool → List ℕ → Option (List ℕ) → ProgramFault → Type 0
+IsUnreadIf false file told fault = IsUnopened file fault
+IsUnreadIf true file told fault = IsUnreadFile file told fault
+
 -- why no image is read: its file can't be opened, or the word of the path can't be read, which is
 -- judged before; where an image is written, it or the listing can't be opened, or not be read to its
--- end, and the listing comes after the image
-abbrev pub IsEarlyFault : (List ℕ → Option (List ℕ)) → Parsed → ProgramFault → Type 0
-IsEarlyFault told (ScanParsed options image) fault = IsUnopened image fault
-IsEarlyFault told (CheckParsed options shape image) fault = IsUnopened image fault
-IsEarlyFault told (ListParsed options image) fault = IsUnopened image fault
-IsEarlyFault told (CatParsed options image word) (program.Path find.BadPath) = path_of word ≡ None
-IsEarlyFault told (CatParsed options image word) program.OutOfMemory = Unit {0}
-IsEarlyFault told (CatParsed options image word) fault = IsUnopened image fault × IsTrue (is_some (path_of word))
-IsEarlyFault told (BuildParsed options blocks page listing output) fault = IsUnreadFile listing (told listing) fault
-IsEarlyFault told (AppendParsed options blocks page image listing output) fault =
+-- end, and the listing comes after the image, and after what `decompress` makes of it
+abbrev pub IsEarlyFault : (List ℕ → Option (List ℕ)) → Endian → Parsed → ProgramFault → Type 0
+IsEarlyFault told e (ScanParsed options image) fault = IsUnopened image fault
+IsEarlyFault told e (CheckParsed options shape image) fault = IsUnopened image fault
+IsEarlyFault told e (ListParsed options decompress image) fault = IsUnreadIf decompress image (told image) fault
+IsEarlyFault told e (CatParsed options decompress image word) (program.Path find.BadPath) = path_of word ≡ None
+IsEarlyFault told e (CatParsed options decompress image word) program.OutOfMemory = Unit {0}
+IsEarlyFault told e (CatParsed options decompress image word) fault = IsUnreadIf decompress image (told image) fault × IsTrue (is_some (path_of word))
+IsEarlyFault told e (BuildParsed options blocks page listing output) fault = IsUnreadFile listing (told listing) fault
+IsEarlyFault told e (AppendParsed options blocks page decompress image listing output) fault =
     IsUnreadFile image (told image) fault
-    ⊎ ((bytes : List ℕ) × AreLoaded (told image) bytes × IsUnreadFile listing (told listing) fault)
+    ⊎ ((bytes : List ℕ) × AreLoaded (told image) bytes × IsGoneOnWith decompress e options.geometry.block bytes × IsUnreadFile listing (told listing) fault)
+IsEarlyFault told e (DecompressParsed options image output) fault = IsUnreadFile image (told image) fault
 
 -- of a size that no block has `check` says so where it could open the image, and nothing else; other
 -- requests mount it
@@ -112,16 +124,12 @@ pub record Meets (told : List ℕ → Option (List ℕ)) (held : Held) (e : Endi
   pub block_size : IsErrOf answer (program.Scan scan.BlockSize) → IsFalse (is_block_size (options_parsed parsed).geometry.block)
   pub told_of : IsFalse (is_block_size (options_parsed parsed).geometry.block) → TellsBlockSize parsed answer
   pub put : ((image : List ℕ) × IsImageOf told parsed image × PutsAnswer told held e parsed image old new before now answer)
-      ⊎ ((fault : ProgramFault) × (answer ≡ Err fault) × IsEarlyFault told parsed fault × (new ≡ old) × (now ≡ before))
+      ⊎ ((fault : ProgramFault) × (answer ≡ Err fault) × IsEarlyFault told e parsed fault × (new ≡ old) × (now ≡ before))
 
 -- the output gave on what it took; or a beginning of it, and failed once more
 abbrev pub Finishes : Option (List ℕ) → Option (List ℕ) → ℕ → ℕ → Bool → Type 0
 Finishes taken given before now true = Keeps taken given × (now ≡ before)
 Finishes taken given before now false = IsBehind given taken × (now ≡ next_count before)
-
--- a text was put, or a beginning of it, and of that a beginning was given on
-abbrev pub GivesText : Option (List ℕ) → Option (List ℕ) → List ℕ → Type 0
-GivesText old given text = (taken : Option (List ℕ)) × PutsPart old taken text × IsBehind given taken
 
 -- the answer of a request whose output was finished
 abbrev pub answer_finished : Result ℕ ProgramFault → Bool → Result ℕ ProgramFault
@@ -145,10 +153,11 @@ pub record MeetsWhole (told : List ℕ → Option (List ℕ)) (held : Held) (par
 abbrev pub success_of : Parsed → ℕ → Success
 success_of (ScanParsed options image) n = success.Found n
 success_of (CheckParsed options shape image) n = success.Found n
-success_of (ListParsed options image) n = success.Shown n
-success_of (CatParsed options image path) n = success.Shown n
+success_of (ListParsed options decompress image) n = success.Shown n
+success_of (CatParsed options decompress image path) n = success.Shown n
 success_of (BuildParsed options blocks page listing output) n = success.Shown n
-success_of (AppendParsed options blocks page image listing output) n = success.Shown n
+success_of (AppendParsed options blocks page decompress image listing output) n = success.Shown n
+success_of (DecompressParsed options image output) n = success.Shown n
 
 -- What a command line is answered: the request is met; help goes out; a refusal and out of memory stay what they are, and leave
 -- the output as it was.
@@ -186,7 +195,7 @@ abbrev pub said_after : Result Success Stop → Option (List ℕ)
 said_after (Ok (success.Found n)) = None
 said_after (Ok (success.Shown n)) = note_after n
 said_after (Err (stop.Usage text)) = Some (string_bytes text)
-said_after (Err (stop.Fault fault)) = Some (fault_line_of fault)
+said_after (Err (stop.Fault fault)) = Some (fault_lines_of fault)
 
 -- standard error took the text; or it failed, once, and took a beginning of it
 abbrev pub IsSaid : Option (List ℕ) → Option (List ℕ) → ℕ → ℕ → List ℕ → Type 0

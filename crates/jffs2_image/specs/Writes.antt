@@ -54,6 +54,10 @@ IsPartUnread told lines _ = ⊥
 abbrev pub IsBehind : Option (List ℕ) → Option (List ℕ) → Type 0
 IsBehind given taken = IfSome taken (λ bytes. (n : ℕ) × (given ≡ Some (take n bytes)))
 
+-- a text was put, or a beginning of it, and of that a beginning was given on
+abbrev pub GivesText : Option (List ℕ) → Option (List ℕ) → List ℕ → Type 0
+GivesText old given text = (taken : Option (List ℕ)) × PutsPart old taken text × IsBehind given taken
+
 -- All that was taken was given on. Where the output stopped a run, it may have failed once more, and
 -- given on a beginning.
 abbrev pub IsGivenOn : Option SessionFault → Option (List ℕ) → Option (List ℕ) → ℕ → ℕ → Type 0

@@ -1,15 +1,16 @@
 //! The commands that work with a folder of the host: `extract` and `listing`.
-ghost use Rattle.std.specs.Prelude.{◌≡◌, ◌≢◌, ℕ, List, IfOk, Option};
+ghost use Rattle.std.specs.Prelude.{◌≡◌, ◌≢◌, ℕ, true, List, IfOk, Option};
 ghost use Rattle.flashbase.specs.Device.{Puts};
 ghost use Rattle.jfolder.specs.Known.{Known};
 ghost use Rattle.jfolder.specs.Text.{listing_text};
 ghost use Rattle.jcommand.specs.Parsed.{ExtractParsed, ListingParsed, IsFaultless};
 ghost use Rattle.jextract.specs.Folders.{Made};
-ghost use Rattle.jffs2_image.specs.Folders.{ExtractsImage, ExtractsBytes, FillsFolder, IsExtractFault, IsReadingFault, ListsFolder, settings};
+ghost use Rattle.jffs2_image.specs.Folders.{ExtractsImage, ExtractsBytes, ExtractsTaken, FillsFolder, IsExtractFault, IsReadingFault, ListsFolder, settings};
 ghost use Rattle.jcommand.specs.Status.{outcome_of};
 ghost use Rattle.jffs2_image.specs.FolderRuns.{EndsExtraction, EndsListing, FinishesListing, ListsGiven, found_by_extraction, notes_after_extraction};
 ghost use Rattle.jffs2_image.specs.Runs.{Says};
 
+use crate::decompressing::{Taken, take_image};
 use crate::host::Loader;
 use crate::output::Output;
 use crate::program::report_fault;
@@ -105,18 +106,54 @@ fn extract_bytes<'a, E: Order, X: Folder, N: Sink>(
     }
 }
 
+/// The same of what `decompress` makes of the image, with what was found in the image itself.
+fn extract_decompressed<'a, E: Order, X: Folder, N: Sink>(
+    alloc: Global,
+    image: &[u8],
+    geometry: Geometry,
+    owners: bool,
+    name: &'a str,
+    folder: &mut X,
+    notes: &mut N,
+) -> Result<Extracted, ProgramFault<'a>>
+    ensures { ExtractsTaken true E.order geometry.block owners image.now name.entry.now (X.made folder.old) (X.made folder.new)
+        (X.failures folder.old) (X.failures folder.new) (N.taken notes.old) (N.taken notes.new) (N.failures notes.old) (N.failures notes.new) result }
+{
+    let Taken { image: made, found } = match take_image::<E>(alloc, image, geometry) {
+        Ok(taken) => taken,
+        Err(fault) => return Err(fault),
+    };
+    match extract_bytes::<E, X, N>(
+        alloc,
+        made.as_slice(),
+        geometry,
+        owners,
+        name,
+        folder,
+        notes,
+    ) {
+        Ok(done) => Ok(Extracted {
+            totals: done.totals,
+            findings: found.noted,
+            attributes: found.attributes,
+        }),
+        Err(fault) => Err(fault),
+    }
+}
+
 /// `extract`: the tree of the image of a name is made in a folder, whose name is told where it can't be made.
 pub fn extract_image<'a, E: Order, L: Loader, X: Folder, N: Sink>(
     alloc: Global,
     loader: &mut L,
     geometry: Geometry,
+    decompress: bool,
     owners: bool,
     image: &'a str,
     name: &'a str,
     folder: &mut X,
     notes: &mut N,
 ) -> Result<Extracted, ProgramFault<'a>>
-    ensures { ExtractsImage E.order geometry.block owners (L.told loader.old image.entry.now) (L.failures loader.old) (L.failures loader.new) image.entry.now name.entry.now
+    ensures { ExtractsImage decompress E.order geometry.block owners (L.told loader.old image.entry.now) (L.failures loader.old) (L.failures loader.new) image.entry.now name.entry.now
         (X.made folder.old) (X.made folder.new) (X.failures folder.old) (X.failures folder.new)
         (N.taken notes.old) (N.taken notes.new) (N.failures notes.old) (N.failures notes.new) result }
 {
@@ -124,6 +161,17 @@ pub fn extract_image<'a, E: Order, L: Loader, X: Folder, N: Sink>(
         Ok(bytes) => bytes,
         Err(fault) => return Err(fault),
     };
+    if decompress {
+        return extract_decompressed::<E, X, N>(
+            alloc,
+            bytes.as_slice(),
+            geometry,
+            owners,
+            name,
+            folder,
+            notes,
+        );
+    }
     extract_bytes::<E, X, N>(
         alloc,
         bytes.as_slice(),
@@ -183,13 +231,14 @@ fn extract_in_order<'a, L: Loader, X: Folder, N: Sink>(
     folder: &mut X,
     notes: &mut N,
 ) -> Result<Extracted, ProgramFault<'a>>
-    ensures { ExtractsImage asked.entry.options.endian asked.entry.options.geometry.block asked.entry.owners
+    ensures { ExtractsImage asked.entry.decompress asked.entry.options.endian asked.entry.options.geometry.block asked.entry.owners
         (L.told loader.old asked.entry.image.now) (L.failures loader.old) (L.failures loader.new) asked.entry.image.now asked.entry.folder.now
         (X.made folder.old) (X.made folder.new) (X.failures folder.old) (X.failures folder.new)
         (N.taken notes.old) (N.taken notes.new) (N.failures notes.old) (N.failures notes.new) result }
 {
     let Extraction {
         options,
+        decompress,
         owners,
         image,
         folder: name,
@@ -198,10 +247,10 @@ fn extract_in_order<'a, L: Loader, X: Folder, N: Sink>(
     let geometry = options.geometry;
     match options.endian {
         Endian::Little => extract_image::<LittleEndian, L, X, N>(
-            alloc, loader, geometry, owners, image, name, folder, notes,
+            alloc, loader, geometry, decompress, owners, image, name, folder, notes,
         ),
         Endian::Big => extract_image::<BigEndian, L, X, N>(
-            alloc, loader, geometry, owners, image, name, folder, notes,
+            alloc, loader, geometry, decompress, owners, image, name, folder, notes,
         ),
     }
 }
@@ -214,7 +263,7 @@ fn fill<'a, L: Loader, D: Folders, N: Sink>(
     asked: Extraction<'a>,
     notes: &mut N,
 ) -> Result<Extracted, ProgramFault<'a>>
-    ensures { FillsFolder asked.entry.options.endian asked.entry.options.geometry.block asked.entry.owners
+    ensures { FillsFolder asked.entry.decompress asked.entry.options.endian asked.entry.options.geometry.block asked.entry.owners
         (L.told loader.old asked.entry.image.now) (L.failures loader.old) (L.failures loader.new) asked.entry.image.now asked.entry.folder.now
         (D.made folders.old) (D.made folders.new) (N.taken notes.old) (N.taken notes.new) (N.failures notes.old) (N.failures notes.new) result }
 {
@@ -260,7 +309,7 @@ pub fn run_extract<L: Loader, D: Folders, E: Sink>(
     asked: Extraction<'_>,
     errors: &mut E,
 ) -> Outcome
-    ensures { EndsExtraction asked.entry.options asked.entry.owners asked.entry.image.now asked.entry.folder.now (L.told loader.old) (L.failures loader.old) (L.failures loader.new)
+    ensures { EndsExtraction asked.entry.options asked.entry.decompress asked.entry.owners asked.entry.image.now asked.entry.folder.now (L.told loader.old) (L.failures loader.old) (L.failures loader.new)
         (D.made folders.old) (D.made folders.new) (E.taken errors.old) (E.taken errors.new) (E.failures errors.old) (E.failures errors.new) result }
 {
     match fill(alloc, loader, folders, asked, errors) {

@@ -7,7 +7,8 @@
 ghost use Rattle.std.specs.Prelude.{◌≡◌, IfOk, map, string_bytes};
 ghost use Rattle.std.specs.Vec.Iter.{into_iter_items};
 
-pub mod folders;
+pub mod decompressing;
+mod folders;
 pub mod host;
 pub mod output;
 pub mod program;

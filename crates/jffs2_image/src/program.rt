@@ -1,13 +1,15 @@
 //! The program on its arguments: it opens the image, lets `jreport` do the work, and says how that ended.
-ghost use Rattle.std.specs.Prelude.{◌≡◌, IfErr, IfOk, None, OnOk, Some, map};
+ghost use Rattle.std.specs.Prelude.{◌≡◌, true, IfErr, IfOk, None, OnOk, Some, map};
 ghost use Rattle.std.specs.Io.KnownBytes.{Appends};
-ghost use Rattle.jcommand.specs.Parsed.{Parsed, ScanParsed, CheckParsed, ListParsed, CatParsed, BuildParsed, AppendParsed, options_of, view};
-ghost use Rattle.jreport.specs.Faults.{fault_line_of};
+ghost use Rattle.jcommand.specs.Parsed.{Parsed, ScanParsed, CheckParsed, ListParsed, CatParsed, BuildParsed, AppendParsed, DecompressParsed, options_of, view};
+ghost use Rattle.jreport.specs.Advice.{fault_lines_of};
 ghost use Rattle.flashbase.specs.Device.{CountsErr};
-ghost use Rattle.jffs2_image.specs.Host.{Blames, BlamesCommand, BlamesFor, GivesFile, HasFailed, MakesFile, ReadsFile};
+ghost use Rattle.jffs2_image.specs.Host.{Blames, BlamesCommand, BlamesDecompress, BlamesFor, GivesFile, HasFailed, MakesFile, ReadsFile};
 ghost use Rattle.jffs2_image.specs.FolderRuns.{RunsExtract, RunsListing, RunsTask};
-ghost use Rattle.jffs2_image.specs.Runs.{GivesText, IsCommand, IsSaid, Meets, MeetsCommand, MeetsWhole, RunsCommand, Says, note_after, success_of};
+ghost use Rattle.jffs2_image.specs.Writes.{GivesText};
+ghost use Rattle.jffs2_image.specs.Runs.{IsCommand, IsSaid, Meets, MeetsCommand, MeetsWhole, RunsCommand, Says, note_after, success_of};
 
+use crate::decompressing::{decompress_into, take_file};
 use crate::folders::{Folders, run_extract, run_listing};
 use crate::host::{Loader, Maker};
 use crate::output::Output;
@@ -17,8 +19,8 @@ use flashbase::{Sink, put_all};
 use jcommand::{Options, Outcome, Request, RequestFault, Target, Task, task};
 use jnode::{Endian, Order};
 use jreport::{
-    ProgramFault, check_lines, fault_line, file_bytes, list_lines, note_line, path_word,
-    stream_lines,
+    ProgramFault, check_lines, fault_lines, file_bytes, image_file, image_tree, list_lines,
+    note_line, path_word, stream_lines,
 };
 use std::alloc::Global;
 
@@ -88,25 +90,51 @@ fn check<'a, E: Order, L: Loader, T: Sink>(
     Ok(u64::from(answer?))
 }
 
-/// `ls`: answers how many findings to note.
-fn list<'a, E: Order, L: Loader, T: Sink>(
+/// `ls --decompress`: answers how many findings of the image that was read to note.
+fn list_decompressed<'a, E: Order, L: Loader, T: Sink>(
     alloc: Global,
     loader: &mut L,
     options: Options,
     image: &'a str,
     sink: &mut T,
 ) -> Result<u64, ProgramFault<'a>>
-    ensures meets { Meets (L.told loader.old) (None, None) E.order (ListParsed options image.now) (T.taken sink.old) (T.taken sink.new) (T.failures sink.old) (T.failures sink.new) result }
+    ensures meets { Meets (L.told loader.old) (None, None) E.order (ListParsed options true image.now) (T.taken sink.old) (T.taken sink.new) (T.failures sink.old) (T.failures sink.new) result }
     ensures host { ReadsFile (L.told loader.old image.now) (L.failures loader.old) (L.failures loader.new) result }
 {
+    let taken = match take_file::<E, L>(alloc, loader, options.geometry, image) {
+        Ok(taken) => taken,
+        Err(fault) => return Err(fault),
+    };
+    match image_tree::<E, T>(alloc, taken.image.as_slice(), options.geometry, sink) {
+        Ok(_) => Ok(taken.found.noted),
+        Err(fault) => Err(fault),
+    }
+}
+
+/// `ls`: answers how many findings to note.
+fn list<'a, E: Order, L: Loader, T: Sink>(
+    alloc: Global,
+    loader: &mut L,
+    options: Options,
+    decompress: bool,
+    image: &'a str,
+    sink: &mut T,
+) -> Result<u64, ProgramFault<'a>>
+    ensures meets { Meets (L.told loader.old) (None, None) E.order (ListParsed options decompress image.now) (T.taken sink.old) (T.taken sink.new) (T.failures sink.old) (T.failures sink.new) result }
+    ensures host { ReadsFile (L.told loader.old image.now) (L.failures loader.old) (L.failures loader.new) result }
+{
+    if decompress {
+        return list_decompressed::<E, L, T>(alloc, loader, options, image, sink);
+    }
     let mut source = open(loader, image)?;
     let answer = list_lines::<E, _, _>(alloc, &mut source, options.geometry, sink);
     loader.close(source);
     answer
 }
 
-/// `cat`: answers how many findings to note. The word of the path is judged before the image is opened.
-fn cat<'a, E: Order, L: Loader, T: Sink>(
+/// `cat --decompress`: answers how many findings of the image that was read to note. The word of the path is judged before
+/// the image is opened.
+fn cat_decompressed<'a, E: Order, L: Loader, T: Sink>(
     alloc: Global,
     loader: &mut L,
     options: Options,
@@ -114,9 +142,36 @@ fn cat<'a, E: Order, L: Loader, T: Sink>(
     path: &str,
     sink: &mut T,
 ) -> Result<u64, ProgramFault<'a>>
-    ensures meets { Meets (L.told loader.old) (None, None) E.order (CatParsed options image.now path.now) (T.taken sink.old) (T.taken sink.new) (T.failures sink.old) (T.failures sink.new) result }
+    ensures meets { Meets (L.told loader.old) (None, None) E.order (CatParsed options true image.now path.now) (T.taken sink.old) (T.taken sink.new) (T.failures sink.old) (T.failures sink.new) result }
     ensures host { ReadsFile (L.told loader.old image.now) (L.failures loader.old) (L.failures loader.new) result }
 {
+    let path = path_word(alloc, path.as_bytes())?;
+    let taken = match take_file::<E, L>(alloc, loader, options.geometry, image) {
+        Ok(taken) => taken,
+        Err(fault) => return Err(fault),
+    };
+    match image_file::<E, T>(alloc, taken.image.as_slice(), options.geometry, &path, sink) {
+        Ok(_) => Ok(taken.found.noted),
+        Err(fault) => Err(fault),
+    }
+}
+
+/// `cat`: answers how many findings to note. The word of the path is judged before the image is opened.
+fn cat<'a, E: Order, L: Loader, T: Sink>(
+    alloc: Global,
+    loader: &mut L,
+    options: Options,
+    decompress: bool,
+    image: &'a str,
+    path: &str,
+    sink: &mut T,
+) -> Result<u64, ProgramFault<'a>>
+    ensures meets { Meets (L.told loader.old) (None, None) E.order (CatParsed options decompress image.now path.now) (T.taken sink.old) (T.taken sink.new) (T.failures sink.old) (T.failures sink.new) result }
+    ensures host { ReadsFile (L.told loader.old image.now) (L.failures loader.old) (L.failures loader.new) result }
+{
+    if decompress {
+        return cat_decompressed::<E, L, T>(alloc, loader, options, image, path, sink);
+    }
     let path = path_word(alloc, path.as_bytes())?;
     let mut source = open(loader, image)?;
     let answer = file_bytes::<E, _, _>(alloc, &mut source, options.geometry, &path, sink);
@@ -143,10 +198,9 @@ fn build<'a, E: Order, L: Loader, M: Maker, T: Sink>(
     Ok(0)
 }
 
-/// `append`: an image with what a listing makes of its file system. It is held in memory before the file is made, so the two
-/// may be one. The listing's text is kept, since a fault may name a part of it. Answers how many
-/// findings of the image to note.
-fn append<'a, E: Order, L: Loader, M: Maker, T: Sink>(
+/// `append --decompress`: the same of what `decompress` makes of the image. Answers how many findings of the image that was
+/// read to note.
+fn append_decompressed<'a, E: Order, L: Loader, M: Maker, T: Sink>(
     alloc: Global,
     loader: &mut L,
     maker: &mut M,
@@ -156,9 +210,74 @@ fn append<'a, E: Order, L: Loader, M: Maker, T: Sink>(
     text: &'a mut Vec<u8>,
     sink: &mut T,
 ) -> Result<u64, ProgramFault<'a>>
-    ensures meets { Meets (L.told loader.old) (M.held maker.old, M.held maker.new) E.order (AppendParsed target.entry.options target.entry.blocks target.entry.page image.entry.now listing.entry.now target.entry.output.now) (T.taken sink.old) (T.taken sink.new) (T.failures sink.old) (T.failures sink.new) result }
-    ensures host { Blames (maker.new ≡ maker.old) (MakesFile target.entry.output.now (M.names maker.old) (M.names maker.new)) (L.failures loader.old) (L.failures loader.new) (M.failures maker.old) (M.failures maker.new) result }
+    ensures meets { Meets (L.told loader.old) (M.held maker.old, M.held maker.new) E.order (AppendParsed target.entry.options target.entry.blocks target.entry.page true image.entry.now listing.entry.now target.entry.output.now) (T.taken sink.old) (T.taken sink.new) (T.failures sink.old) (T.failures sink.new) result }
+    ensures host { BlamesFor (L.told loader.old) E.order (AppendParsed target.entry.options target.entry.blocks target.entry.page true image.entry.now listing.entry.now target.entry.output.now) (maker.new ≡ maker.old) (M.names maker.old) (M.names maker.new) (L.failures loader.old) (L.failures loader.new) (M.failures maker.old) (M.failures maker.new) result }
 {
+    let taken = match take_file::<E, L>(alloc, loader, target.options.geometry, image) {
+        Ok(taken) => taken,
+        Err(fault) => return Err(fault),
+    };
+    *text = match load_file(loader, listing) {
+        Ok(text) => text,
+        Err(fault) => return Err(fault),
+    };
+    let base = taken.image.as_slice();
+    match write_image::<E, _, _, _>(alloc, loader, maker, target, base, text.as_slice(), sink) {
+        Ok(_) => Ok(taken.found.noted),
+        Err(fault) => Err(fault),
+    }
+}
+
+/// `decompress`: answers how many findings of the image to note. It is held in memory before the file is made, so the two
+/// may be one.
+fn decompress<'a, E: Order, L: Loader, M: Maker, T: Sink>(
+    alloc: Global,
+    loader: &mut L,
+    maker: &mut M,
+    options: Options,
+    image: &'a str,
+    output: &'a str,
+    sink: &mut T,
+) -> Result<u64, ProgramFault<'a>>
+    ensures meets { Meets (L.told loader.old) (M.held maker.old, M.held maker.new) E.order (DecompressParsed options image.entry.now output.entry.now) (T.taken sink.old) (T.taken sink.new) (T.failures sink.old) (T.failures sink.new) result }
+    ensures host { BlamesDecompress (maker.new ≡ maker.old) (MakesFile output.entry.now (M.names maker.old) (M.names maker.new)) (L.failures loader.old) (L.failures loader.new) (M.failures maker.old) (M.failures maker.new) result }
+{
+    let bytes = match load_file(loader, image) {
+        Ok(bytes) => bytes,
+        Err(fault) => return Err(fault),
+    };
+    decompress_into::<E, M, T>(
+        alloc,
+        maker,
+        bytes.as_slice(),
+        options.geometry,
+        output,
+        sink,
+    )
+}
+
+/// `append`: an image with what a listing makes of its file system. It is held in memory before the file is made, so the two
+/// may be one. The listing's text is kept, since a fault may name a part of it. Answers how many
+/// findings of the image to note.
+fn append<'a, E: Order, L: Loader, M: Maker, T: Sink>(
+    alloc: Global,
+    loader: &mut L,
+    maker: &mut M,
+    target: Target<'a>,
+    decompress: bool,
+    image: &'a str,
+    listing: &'a str,
+    text: &'a mut Vec<u8>,
+    sink: &mut T,
+) -> Result<u64, ProgramFault<'a>>
+    ensures meets { Meets (L.told loader.old) (M.held maker.old, M.held maker.new) E.order (AppendParsed target.entry.options target.entry.blocks target.entry.page decompress image.entry.now listing.entry.now target.entry.output.now) (T.taken sink.old) (T.taken sink.new) (T.failures sink.old) (T.failures sink.new) result }
+    ensures host { BlamesFor (L.told loader.old) E.order (AppendParsed target.entry.options target.entry.blocks target.entry.page decompress image.entry.now listing.entry.now target.entry.output.now) (maker.new ≡ maker.old) (M.names maker.old) (M.names maker.new) (L.failures loader.old) (L.failures loader.new) (M.failures maker.old) (M.failures maker.new) result }
+{
+    if decompress {
+        return append_decompressed::<E, L, M, T>(
+            alloc, loader, maker, target, image, listing, text, sink,
+        );
+    }
     let base = load_file(loader, image)?;
     *text = load_file(loader, listing)?;
     write_image::<E, _, _, _>(alloc, loader, maker, target, &base, text.as_slice(), sink)
@@ -174,7 +293,7 @@ fn run_in_order<'a, E: Order, L: Loader, M: Maker, T: Sink>(
     sink: &mut T,
 ) -> Result<u64, ProgramFault<'a>>
     ensures meets { Meets (L.told loader.old) (M.held maker.old, M.held maker.new) E.order (view request.entry) (T.taken sink.old) (T.taken sink.new) (T.failures sink.old) (T.failures sink.new) result }
-    ensures host { BlamesFor (L.told loader.old) (view request.entry) (maker.new ≡ maker.old) (M.names maker.old) (M.names maker.new) (L.failures loader.old) (L.failures loader.new)
+    ensures host { BlamesFor (L.told loader.old) E.order (view request.entry) (maker.new ≡ maker.old) (M.names maker.old) (M.names maker.new) (L.failures loader.old) (L.failures loader.new)
         (M.failures maker.old) (M.failures maker.new) result }
 {
     match request {
@@ -184,20 +303,33 @@ fn run_in_order<'a, E: Order, L: Loader, M: Maker, T: Sink>(
             shape,
             image,
         } => check::<E, _, _>(alloc, loader, options, shape, image, sink),
-        Request::List { options, image } => list::<E, _, _>(alloc, loader, options, image, sink),
+        Request::List {
+            options,
+            decompress,
+            image,
+        } => list::<E, _, _>(alloc, loader, options, decompress, image, sink),
         Request::Cat {
             options,
+            decompress,
             image,
             path,
-        } => cat::<E, _, _>(alloc, loader, options, image, path, sink),
+        } => cat::<E, _, _>(alloc, loader, options, decompress, image, path, sink),
         Request::Build { target, listing } => {
             build::<E, _, _, _>(alloc, loader, maker, target, listing, text, sink)
         }
         Request::Append {
             target,
+            decompress,
             image,
             listing,
-        } => append::<E, _, _, _>(alloc, loader, maker, target, image, listing, text, sink),
+        } => append::<E, _, _, _>(
+            alloc, loader, maker, target, decompress, image, listing, text, sink,
+        ),
+        Request::Decompress {
+            options,
+            image,
+            output,
+        } => decompress::<E, _, _, _>(alloc, loader, maker, options, image, output, sink),
     }
 }
 
@@ -211,7 +343,7 @@ fn run_request<'a, L: Loader, M: Maker, T: Sink>(
     sink: &mut T,
 ) -> Result<u64, ProgramFault<'a>>
     ensures meets { Meets (L.told loader.old) (M.held maker.old, M.held maker.new) (options_of request.entry).endian (view request.entry) (T.taken sink.old) (T.taken sink.new) (T.failures sink.old) (T.failures sink.new) result }
-    ensures host { BlamesFor (L.told loader.old) (view request.entry) (maker.new ≡ maker.old) (M.names maker.old) (M.names maker.new) (L.failures loader.old) (L.failures loader.new)
+    ensures host { BlamesFor (L.told loader.old) (options_of request.entry).endian (view request.entry) (maker.new ≡ maker.old) (M.names maker.old) (M.names maker.new) (L.failures loader.old) (L.failures loader.new)
         (M.failures maker.old) (M.failures maker.new) result }
 {
     match request.options().endian {
@@ -234,7 +366,7 @@ fn run_whole<'a, L: Loader, M: Maker, T: Output>(
     output: &mut T,
 ) -> Result<u64, ProgramFault<'a>>
     ensures meets { MeetsWhole (L.told loader.old) (M.held maker.old, M.held maker.new) (view request.entry) (T.taken output.old) (T.given output.new) (T.failures output.old) (T.failures output.new) result }
-    ensures host { BlamesFor (L.told loader.old) (view request.entry) (maker.new ≡ maker.old) (M.names maker.old) (M.names maker.new) (L.failures loader.old) (L.failures loader.new)
+    ensures host { BlamesFor (L.told loader.old) (options_of request.entry).endian (view request.entry) (maker.new ≡ maker.old) (M.names maker.old) (M.names maker.new) (L.failures loader.old) (L.failures loader.new)
         (M.failures maker.old) (M.failures maker.new) result }
 {
     let answer = run_request(alloc, loader, maker, request, text, output);
@@ -269,7 +401,8 @@ fn as_success(request: &Request<'_>, findings: u64) -> Success
         Request::List { .. }
         | Request::Cat { .. }
         | Request::Build { .. }
-        | Request::Append { .. } => Success::Shown(findings),
+        | Request::Append { .. }
+        | Request::Decompress { .. } => Success::Shown(findings),
     }
 }
 
@@ -300,12 +433,12 @@ fn run_command<'a, L: Loader, M: Maker, T: Output>(
     }
 }
 
-/// Reports a fault in one line.
+/// Reports a fault in one line, and the note after it where there is one.
 pub fn report_fault<E: Sink>(fault: &ProgramFault<'_>, errors: &mut E) -> Outcome
     ensures fault { result ≡ Outcome.Fault }
-    ensures reported { IsSaid (E.taken errors.old) (E.taken errors.new) (E.failures errors.old) (E.failures errors.new) (fault_line_of fault.now) }
+    ensures reported { IsSaid (E.taken errors.old) (E.taken errors.new) (E.failures errors.old) (E.failures errors.new) (fault_lines_of fault.now) }
 {
-    let _ = fault_line(fault, errors);
+    let _ = fault_lines(fault, errors);
     Outcome::Fault
 }
 
@@ -338,7 +471,7 @@ fn run_image<L: Loader, M: Maker, T: Output, E: Sink>(
     output: &mut T,
     errors: &mut E,
 ) -> Outcome
-    // A fault is one that is due, and is told in one line; `ls` and `cat` note what they passed over. What is told of the
+    // A fault is one that is due, and is told in one line, which a note may follow; `ls` and `cat` note what they passed over. What is told of the
     // host's files is so.
     ensures { (ran : RunsCommand (output.new ≡ output.old) (L.told loader.old) (M.held maker.old, M.held maker.new) command.entry (T.taken output.old) (T.given output.new) (T.failures output.old) (T.failures output.new)
         (Says (errors.new ≡ errors.old) (E.taken errors.old) (E.taken errors.new) (E.failures errors.old) (E.failures errors.new)) result)

@@ -4,7 +4,7 @@ ghost use Rattle.jmount.specs.Mounts.{IsMountOf};
 ghost use Rattle.jscan.specs.Image.{greatest_image};
 ghost use Rattle.jlisting.specs.Listing.{lines_of};
 ghost use Rattle.jlog.specs.Resuming.{resumes_by};
-ghost use Rattle.jffs2_image.specs.Host.{AreOf, AreRead, Blames, BlamesMaker, IsHandedBack, IsMadeUntil, IsMakeFault, IsReadFault, Leaves, MakesFile, RunsFiles};
+ghost use Rattle.jffs2_image.specs.Host.{AreOf, AreRead, Blames, BlamesMaker, IsHandedBack, IsMadeUntil, IsMakeFault, IsReadFault, Leaves, MakesFile, ReadsFile, RunsFiles};
 ghost use Rattle.jffs2_image.specs.Writes.{GivesCut, HoldsCut, IsMade, IsNotGoneOn, IsNotMade, IsNotedIn, IsPartUnread, IsPut, IsUnreadFile, WritesImage};
 
 use crate::host::{FileFault, Loader, MakeFault, Maker};
@@ -28,6 +28,7 @@ pub fn load_file<'a, L: Loader>(loader: &mut L, name: &'a str) -> Result<Vec<u8>
     ensures within { IfOk result (λ bytes. length bytes.items ≤ greatest_image) }
     ensures read { OnOk result (L.failures loader.new ≡ L.failures loader.old) }
     ensures fault { IfErr result (λ fault. IsReadFault (L.failures loader.old) (L.failures loader.new) fault) }
+    ensures host { ReadsFile (L.told loader.old name.entry.now) (L.failures loader.old) (L.failures loader.new) result }
     ensures stays { (other : List ℕ) → L.told loader.new other ≡ L.told loader.old other }
 {
     match loader.load(name, GREATEST_IMAGE) {

@@ -39,6 +39,12 @@ mkdir_line s a b = mode_of a >>= λ mode. text_of b >>= λ path. operation (op.M
 abbrev pub create_line : Settings → List ℕ → List ℕ → Option Statement
 create_line s a b = mode_of a >>= λ mode. text_of b >>= λ path. operation (op.Create s.time path mode s.uid s.gid)
 
+abbrev pub fifo_line : Settings → List ℕ → List ℕ → Option Statement
+fifo_line s a b = mode_of a >>= λ mode. text_of b >>= λ path. operation (op.Fifo s.time path mode s.uid s.gid)
+
+abbrev pub socket_line : Settings → List ℕ → List ℕ → Option Statement
+socket_line s a b = mode_of a >>= λ mode. text_of b >>= λ path. operation (op.Socket s.time path mode s.uid s.gid)
+
 abbrev pub symlink_line : Settings → List ℕ → List ℕ → Option Statement
 symlink_line s a b = text_of a >>= λ path. text_of b >>= λ target. operation (op.Symlink s.time path target s.uid s.gid)
 
@@ -56,6 +62,9 @@ link_line s a b = text_of a >>= λ old. text_of b >>= λ new. operation (op.Link
 
 abbrev pub rename_line : Settings → List ℕ → List ℕ → Option Statement
 rename_line s a b = text_of a >>= λ old. text_of b >>= λ new. operation (op.Rename s.time old new)
+
+abbrev pub replace_line : Settings → List ℕ → List ℕ → Option Statement
+replace_line s a b = text_of a >>= λ old. text_of b >>= λ new. operation (op.Replace s.time old new)
 
 abbrev pub remove_line : Settings → List ℕ → Option Statement
 remove_line s a = text_of a >>= λ path. operation (op.Remove s.time path)
@@ -79,10 +88,13 @@ two_operands s name a b =
     if bytes_eq name (codes "owner") then owner_line s a b
     else if bytes_eq name (codes "mkdir") then mkdir_line s a b
     else if bytes_eq name (codes "create") then create_line s a b
+    else if bytes_eq name (codes "fifo") then fifo_line s a b
+    else if bytes_eq name (codes "socket") then socket_line s a b
     else if bytes_eq name (codes "symlink") then symlink_line s a b
     else if bytes_eq name (codes "truncate") then truncate_line s a b
     else if bytes_eq name (codes "link") then link_line s a b
     else if bytes_eq name (codes "rename") then rename_line s a b
+    else if bytes_eq name (codes "replace") then replace_line s a b
     else None
 
 unfoldable pub three_operands : Settings → List ℕ → List ℕ → List ℕ → List ℕ → Option Statement

@@ -1,7 +1,7 @@
 //! The forms of a line, each by the words after its first.
 
 ghost use Rattle.jword.specs.Words.{IsRead};
-ghost use Rattle.jlisting.specs.Listing.{time_line, owner_line, mkdir_line, create_line, symlink_line, write_line, part_line, truncate_line, link_line, rename_line, remove_line, attr_line};
+ghost use Rattle.jlisting.specs.Listing.{time_line, owner_line, mkdir_line, create_line, fifo_line, socket_line, symlink_line, write_line, part_line, truncate_line, link_line, rename_line, replace_line, remove_line, attr_line};
 
 use crate::line::Action;
 use crate::statement::{Settings, Statement};
@@ -67,6 +67,46 @@ pub fn read_create<'a>(
     let mode = mode_word(mode)?;
     let path = text_word(alloc, path)?;
     Ok(Statement::Action(Action::Op(Op::Create {
+        time: settings.time,
+        path,
+        mode,
+        uid: settings.uid,
+        gid: settings.gid,
+    })))
+}
+
+/// `fifo MODE PATH`
+pub fn read_fifo<'a>(
+    alloc: Global,
+    settings: Settings,
+    mode: &'a [u8],
+    path: &'a [u8],
+) -> Result<Statement<'a>, WordFault>
+    ensures { IsRead (fifo_line settings mode.entry.now path.entry.now) result }
+{
+    let mode = mode_word(mode)?;
+    let path = text_word(alloc, path)?;
+    Ok(Statement::Action(Action::Op(Op::Fifo {
+        time: settings.time,
+        path,
+        mode,
+        uid: settings.uid,
+        gid: settings.gid,
+    })))
+}
+
+/// `socket MODE PATH`
+pub fn read_socket<'a>(
+    alloc: Global,
+    settings: Settings,
+    mode: &'a [u8],
+    path: &'a [u8],
+) -> Result<Statement<'a>, WordFault>
+    ensures { IsRead (socket_line settings mode.entry.now path.entry.now) result }
+{
+    let mode = mode_word(mode)?;
+    let path = text_word(alloc, path)?;
+    Ok(Statement::Action(Action::Op(Op::Socket {
         time: settings.time,
         path,
         mode,
@@ -185,6 +225,24 @@ pub fn read_rename<'a>(
     let old = text_word(alloc, old)?;
     let new = text_word(alloc, new)?;
     Ok(Statement::Action(Action::Op(Op::Rename {
+        time: settings.time,
+        old,
+        new,
+    })))
+}
+
+/// `replace OLD NEW`
+pub fn read_replace<'a>(
+    alloc: Global,
+    settings: Settings,
+    old: &'a [u8],
+    new: &'a [u8],
+) -> Result<Statement<'a>, WordFault>
+    ensures { IsRead (replace_line settings old.entry.now new.entry.now) result }
+{
+    let old = text_word(alloc, old)?;
+    let new = text_word(alloc, new)?;
+    Ok(Statement::Action(Action::Op(Op::Replace {
         time: settings.time,
         old,
         new,

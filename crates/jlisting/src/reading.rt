@@ -6,8 +6,8 @@ ghost use Rattle.jword.specs.Words.{IsRead};
 ghost use Rattle.jlisting.specs.Listing.{one_operand, two_operands, three_operands, six_operands, statement_of, statement_of_words};
 
 use crate::forms::{
-    read_attr, read_create, read_link, read_mkdir, read_owner, read_part, read_remove, read_rename,
-    read_symlink, read_time, read_truncate, read_write,
+    read_attr, read_create, read_fifo, read_link, read_mkdir, read_owner, read_part, read_remove,
+    read_rename, read_replace, read_socket, read_symlink, read_time, read_truncate, read_write,
 };
 use crate::split::split_once;
 use crate::statement::{Settings, Statement};
@@ -51,6 +51,10 @@ fn read_two<'a>(
         read_mkdir(alloc, settings, a, b)
     } else if is_word(name, b"create") {
         read_create(alloc, settings, a, b)
+    } else if is_word(name, b"fifo") {
+        read_fifo(alloc, settings, a, b)
+    } else if is_word(name, b"socket") {
+        read_socket(alloc, settings, a, b)
     } else if is_word(name, b"symlink") {
         read_symlink(alloc, settings, a, b)
     } else if is_word(name, b"truncate") {
@@ -59,6 +63,8 @@ fn read_two<'a>(
         read_link(alloc, settings, a, b)
     } else if is_word(name, b"rename") {
         read_rename(alloc, settings, a, b)
+    } else if is_word(name, b"replace") {
+        read_replace(alloc, settings, a, b)
     } else {
         Err(WordFault::Invalid)
     }

@@ -6,7 +6,7 @@ use jlisting::{Action, Line, listing};
 use std::test::Fail;
 
 /// Whole listings, each with the lines that are read of it.
-const LISTINGS: [(&[u8], &str); 10] = [
+const LISTINGS: [(&[u8], &str); 12] = [
     (
         b"create 0644 /a\nwrite /a 0 0102030405060708090a\ntruncate /a 4\nwrite /a 8 ff\n",
         "1: 0 create 644 0 0 /a\n2: 0 write 0 /a \\x01\\x02\\x03\\x04\\x05\\x06\\x07\\x08\\x09\\x0a\n\
@@ -37,6 +37,14 @@ const LISTINGS: [(&[u8], &str); 10] = [
     (
         b"time 7\nowner 8 9\nattr 0700 5 6 1 2 /\nremove /a\n",
         "3: 7 attr 700 5 6 1 2 /\n4: 7 remove /a\n",
+    ),
+    (
+        b"time 7\nreplace /\\x61 b\nreplace /b /\\x20\n",
+        "2: 7 replace /a b\n3: 7 replace /b /\\x20\n",
+    ),
+    (
+        b"time 7\nowner 1 65535\nfifo 0622 /\\x61\nsocket 777777 /b\n",
+        "3: 7 fifo 622 1 65535 /a\n4: 7 socket 777777 1 65535 /b\n",
     ),
 ];
 

@@ -78,6 +78,20 @@ fn show_op(out: &mut String, op: &Op<'_>) -> Result<(), AllocError> {
             uid,
             gid,
         } => show_object(out, "create", (*time, *mode, *uid, *gid), path),
+        Op::Fifo {
+            time,
+            path,
+            mode,
+            uid,
+            gid,
+        } => show_object(out, "fifo", (*time, *mode, *uid, *gid), path),
+        Op::Socket {
+            time,
+            path,
+            mode,
+            uid,
+            gid,
+        } => show_object(out, "socket", (*time, *mode, *uid, *gid), path),
         Op::Symlink {
             time,
             path,
@@ -112,6 +126,7 @@ fn show_change(out: &mut String, op: &Op<'_>) -> Result<(), AllocError> {
         }
         Op::Link { time, old, new } => show_names(out, "link", *time, old, new),
         Op::Rename { time, old, new } => show_names(out, "rename", *time, old, new),
+        Op::Replace { time, old, new } => show_names(out, "replace", *time, old, new),
         Op::Remove { time, path } => {
             write!(out, "{time} remove")?;
             show_bytes(out, path)

@@ -31,7 +31,7 @@ const NUMBERS: [(&[u8], usize); 14] = [
 ];
 
 /// Lines that mean nothing, each a listing of its own.
-const NOTHING: [&[u8]; 119] = [
+const NOTHING: [&[u8]; 137] = [
     b"truncate /a 00000000000",
     b"truncate /a 4294967296",
     b"truncate /a 9999999999",
@@ -104,6 +104,24 @@ const NOTHING: [&[u8]; 119] = [
     b"link /a ",
     b"link  /a",
     b"rename /a /b /c",
+    b"replace",
+    b"replace /a",
+    b"replace /a ",
+    b"replace  /a",
+    b"replace /a /b /c",
+    b"replace /a /\\",
+    b"Replace /a /b",
+    b"replaces /a /b",
+    b"fifo",
+    b"fifo 644",
+    b"fifo /a",
+    b"fifo 8 /a",
+    b"fifo 644 /a b",
+    b"socket",
+    b"socket 0000644 /a",
+    b"socket 644 ",
+    b"socket  /a",
+    b"sock 644 /a",
     b"symlink /a",
     b"symlink /a \\q",
     b"removes /a",

@@ -274,6 +274,44 @@ fn a_directory_that_is_renamed(rt: HostRuntime) -> Result<(), Fail> {
     Ok(())
 }
 
+/// A file in the place of another: its name stands for the whole old file up to the node that sets it, and for the whole
+/// new one from there on.
+#[test]
+fn a_file_that_is_replaced(rt: HostRuntime) -> Result<(), Fail> {
+    let ops = [
+        create(1, b"/a"),
+        write(2, b"/a", 0, &TEN),
+        create(3, b"/b"),
+        write(4, b"/b", 0, b"12"),
+        Op::Replace {
+            time: 5,
+            old: Text::lent(b"/b"),
+            new: Text::lent(b"/a"),
+        },
+    ];
+    let case = Case {
+        base: &[],
+        before: &[],
+        flash: small(1),
+        from: 0,
+        ops: &ops,
+        steps: &[
+            made(1),
+            named(b"a", 2),
+            put(0, 0, &TEN, 2),
+            made(3),
+            named(b"b", 3),
+            put(1, 0, b"12", 4),
+            named(b"a", 3),
+            Change::Clear { name: b"b" },
+        ],
+        whole: &[80, 121, 202, 272, 313, 386, 429, 473],
+    };
+    expect(&rt, survives::<LittleEndian>(rt.alloc(), &case, 476)?);
+    expect(&rt, survives::<BigEndian>(rt.alloc(), &case, 476)?);
+    Ok(())
+}
+
 /// The root's first inode node.
 #[test]
 fn a_root_that_gets_attributes(rt: HostRuntime) -> Result<(), Fail> {

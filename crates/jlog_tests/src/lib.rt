@@ -3,7 +3,8 @@
 //!
 //! `sessions` runs lines of operations onto an image, `run_tests` and `refusal_tests` have
 //! the tables, `cut_tests` mounts what a stop at each byte leaves (`stopped`) and compares it with a plain file system
-//! (`plain`), `sink_tests` lets a sink fail, and `place_tests` has single nodes.
+//! (`plain`), `sink_tests` lets a sink fail, `place_tests` has single nodes, and
+//! `made_tests` those of new objects, byte for byte.
 #![tactic(auto)]
 
 #[cfg(test)]
@@ -12,6 +13,8 @@ mod checks;
 mod cut_tests;
 #[cfg(test)]
 mod growth;
+#[cfg(test)]
+mod made_tests;
 #[cfg(test)]
 mod place_tests;
 #[cfg(test)]

@@ -54,6 +54,24 @@ const ROWS: &[Row] = &[
         len: 212,
     },
     Row {
+        blocks: 1,
+        lines: &[
+            "create /a 644",
+            "create /b 644",
+            "replace /b /a",
+            "replace /a /a",
+        ],
+        places: &[
+            (12, 68),
+            (80, 41),
+            (124, 68),
+            (192, 41),
+            (236, 41),
+            (280, 41),
+        ],
+        len: 324,
+    },
+    Row {
         blocks: 2,
         lines: &["create /a 644", "write /a 0 8192"],
         places: &[(12, 68), (80, 41), (124, 4164), (8204, 4164)],

@@ -33,7 +33,7 @@ entry_fits e tile are =
     let word = λ (k : ℕ). number_in-lt e 4 (drop k tile) (bytes-drop k tile are) in
     record { pino = word 12; version = word 16; ino = word 20; mctime = word 24; kind = are 29 }
 
-inode_fits : (e : Endian) (tile : List ℕ) (fill : Fill) → AreBytes tile → FitsInode (inode_of e tile fill)
+pub inode_fits : (e : Endian) (tile : List ℕ) (fill : Fill) → AreBytes tile → FitsInode (inode_of e tile fill)
 inode_fits e tile fill are =
     let word = λ (k : ℕ). number_in-lt e 4 (drop k tile) (bytes-drop k tile are) in
     let half = λ (k : ℕ). number_in-lt e 2 (drop k tile) (bytes-drop k tile are) in

@@ -3,6 +3,7 @@ pub mod HeaderLemmas
 pub mod TileLemmas
 pub mod ReadingLemmas
 pub mod WritingLemmas
+pub mod CompressedLemmas
 pub mod WeakLemmas
 pub mod MarkerLemmas
 pub mod FitsLemmas

@@ -70,7 +70,7 @@ header_reads e nodetype totlen tile b small_type small accurate =
       checksum = sum ∙ sym (ap crc_of covered);
     }
 
-tile_from : (e : Endian) (nodetype totlen : ℕ) (tile : List ℕ) → HasHeader e nodetype totlen tile → length tile ≡ pad4_of totlen
+pub tile_from : (e : Endian) (nodetype totlen : ℕ) (tile : List ℕ) → HasHeader e nodetype totlen tile → length tile ≡ pad4_of totlen
     → IsTrue (is_accurate nodetype) → IsTile e tile
 tile_from e nodetype totlen tile h long accurate = record {
   whole = long ∙ ap pad4_of (sym h.totlen_is);
@@ -339,7 +339,7 @@ written_reads e node fits writable = canonical_reads e node fits (writable_found
 
 -- ---- and is a tile of its own, whatever follows
 
-a_tile : (e : Endian) (nodetype totlen : ℕ) (bytes rest : List ℕ) → length bytes ≡ totlen → 12 ≤ totlen
+pub a_tile : (e : Endian) (nodetype totlen : ℕ) (bytes rest : List ℕ) → length bytes ≡ totlen → 12 ≤ totlen
     → HasHeader e nodetype totlen (filled bytes ++ rest) → IsTileOf e bytes (filled bytes ++ rest)
 a_tile e nodetype totlen bytes rest long least h =
     let whole = length-append (filled bytes) rest in
@@ -360,7 +360,7 @@ a_tile e nodetype totlen bytes rest long least h =
     }
 
 -- where bytes are filled up, what they begin with is in front
-header_of_filled : (e : Endian) (nodetype totlen : ℕ) (bytes back rest : List ℕ) → bytes ≡ header_bytes e nodetype totlen ++ back
+pub header_of_filled : (e : Endian) (nodetype totlen : ℕ) (bytes back rest : List ℕ) → bytes ≡ header_bytes e nodetype totlen ++ back
     → HeaderBytes e nodetype totlen (filled bytes ++ rest)
 header_of_filled e nodetype totlen bytes back rest is =
     let gap : List ℕ = erased (pad4_of (length bytes) - length bytes) in

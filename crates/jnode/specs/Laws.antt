@@ -6,8 +6,10 @@ use Rattle.jnode.specs.Order.{number_in, number_at, bytes_in}
 use Rattle.jnode.specs.Header.{IsGood, header_len, header_of, has_header, is_good, totlen_of}
 use Rattle.jnode.specs.Reading.{Reads, seen_of, node_in, tile_of}
 use Rattle.jnode.specs.Writing.{canonical, clean_marker, padding_node, filled, Fits, HoldsBytes, IsWritable, is_writable, totlen_most}
+use Rattle.jnode.specs.Compressed.{compressed_of, ReadsCompressedNode, canonical_compressed, FitsCompressed, IsWritableCompressed}
 use Rattle.jnode.specs.Weak.{torn, is_weak}
 use Rattle.jnode.specs.declared.order.Endian.{Endian}
+use Rattle.jnode.specs.declared.node.CompressedNode.{CompressedNode}
 use Rattle.jnode.specs.declared.node.NodeRef.{NodeRef}
 use Rattle.jnode.specs.declared.node.Damage.{Damage}
 use Rattle.jnode.specs.declared.node.Seen.TheVariants.{Marker, Padding, Damaged}
@@ -78,7 +80,22 @@ WrittenIsTile = (e : Endian) (node : NodeRef) (rest : List ℕ) → IsWord (leng
 abbrev pub WrittenIsNotErased : Type 0
 WrittenIsNotErased = (e : Endian) (node : NodeRef) → slice_index (canonical e node) 0 ≢ 0xFF
 
--- So is the clean marker, and it is seen as that.
+-- The written form of a compressed node, up to a multiple of 4, reads as that node,
+abbrev pub CompressedReadsBack : Type 0
+CompressedReadsBack = (e : Endian) (node : CompressedNode) → FitsCompressed node
+    → IsWritableCompressed node → ReadsCompressedNode e (filled (canonical_compressed e node)) node
+
+-- and is a tile of its own.
+abbrev pub CompressedIsTile : Type 0
+CompressedIsTile = (e : Endian) (node : CompressedNode) (rest : List ℕ)
+    → IsWord (length (canonical_compressed e node))
+    → IsTileOf e (canonical_compressed e node) (filled (canonical_compressed e node) ++ rest)
+
+-- What is read of such a node fits its widths.
+abbrev pub CompressedFits : Type 0
+CompressedFits = (e : Endian) (tile : List ℕ) → AreBytes tile → FitsCompressed (compressed_of e tile)
+
+-- The clean marker is a tile of its own too, and it is seen as that.
 pub record IsMarkerTile (e : Endian) (rest : List ℕ) : Type 0 where
   pub good : IsTrue (is_good e rest)
   pub tile : tile_of e rest ≡ clean_marker e

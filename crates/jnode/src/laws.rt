@@ -6,7 +6,7 @@ ghost use Rattle.jnode.specs.Reading.{seen_of};
 ghost use Rattle.jnode.specs.Writing.{header_bytes, clean_marker, padding_node, canonical_entry, canonical_inode, filled};
 ghost use Rattle.jnode.specs.Vectors.{little_marker, big_marker, entry_a, entry_a_big, obsolete_a, inode_2, no_length, length_13, named_a, new_file, hidden_entry, weak_write};
 ghost use Rattle.jnode.specs.Weak.{is_weak};
-ghost use Rattle.jnode.specs.Laws.{NumberReadsBack, NumberIsSpelled, GoodIsComputed, HeaderIsTwelveBytes, ErasedIsNotGood, ReadsOne, WritableIsComputed, WrittenReads, WrittenIsTile, WrittenIsNotErased, MarkerIsTile, PaddingIsTile, TornHeaderIsNone, TornNodeIsDamaged, TornIsTile, CutBehindKeepsHeader, TornMarkerIsNone, SeenIsRead, SeenFits};
+ghost use Rattle.jnode.specs.Laws.{NumberReadsBack, NumberIsSpelled, GoodIsComputed, HeaderIsTwelveBytes, ErasedIsNotGood, ReadsOne, WritableIsComputed, WrittenReads, WrittenIsTile, WrittenIsNotErased, MarkerIsTile, PaddingIsTile, TornHeaderIsNone, TornNodeIsDamaged, TornIsTile, CutBehindKeepsHeader, TornMarkerIsNone, SeenIsRead, SeenFits, CompressedReadsBack, CompressedIsTile, CompressedFits};
 
 use crate::node::{Damage, Seen};
 use crate::order::Endian;
@@ -69,6 +69,14 @@ pub fn written_reads()
 /// A written node is a tile of its own, whatever follows.
 pub fn written_is_tile()
     ensures { WrittenIsTile }
+{}
+
+/// The written form of a compressed node reads as that node, and is a tile of its own, whatever
+/// follows; what is read of one fits its widths.
+pub fn compressed_reads_back()
+    ensures reads { CompressedReadsBack }
+    ensures tile { CompressedIsTile }
+    ensures fits { CompressedFits }
 {}
 
 /// A written node does not begin with an erased byte.

@@ -7,6 +7,8 @@
 //!   `Part` whose end the image lacks; `read_node` and `read_part` say what its node is seen as.
 //! - `write_entry`, `write_inode`, `write_marker` and `write_padding` append the written form of a node; `marker_bytes`
 //!   is that of the marker.
+//! - `compressed_at` and `compressed_in` give the fields and data of a node that is seen as compressed, and
+//!   `write_compressed` appends one.
 //! - `weak_cut` gives the least cut of a written node that no check shows.
 //! - `Order` names the byte order, and `Endian` is that order as a value, which the definitions take.
 //! - `laws` has what holds of the definitions themselves: round trips, torn nodes, worked examples.
@@ -15,6 +17,7 @@
 //! `specs/Header.antt` and `specs/Reading.antt`.
 #![tactic(auto)]
 
+mod compressed;
 mod header;
 pub mod laws;
 mod layout;
@@ -25,8 +28,9 @@ mod undo;
 mod weak;
 mod writing;
 
+pub use crate::compressed::{compressed_at, compressed_fields, compressed_in, write_compressed};
 pub use crate::header::{Header, header_at, header_in};
-pub use crate::node::{Damage, Dirent, Fill, InodeNode, NodeRef, Seen};
+pub use crate::node::{CompressedNode, Damage, Dirent, Fill, InodeNode, NodeRef, Seen};
 pub use crate::order::{Endian, Order};
 pub use crate::reading::{read_node, read_part};
 pub use crate::weak::weak_cut;

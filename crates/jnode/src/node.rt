@@ -40,6 +40,50 @@ pub struct InodeNode<'a> {
     pub fill: Fill<'a>,
 }
 
+/// A version of an object as `InodeNode` is, whose `data` hold the bytes of its range compressed, by
+/// the method of number `compr`; 0 and 1 are none.
+#[derive(Drop)]
+pub struct CompressedNode<'a> {
+    pub ino: u32,
+    pub version: u32,
+    pub mode: u32,
+    pub uid: u16,
+    pub gid: u16,
+    pub isize: u32,
+    pub atime: u32,
+    pub mtime: u32,
+    pub ctime: u32,
+    pub offset: u32,
+    pub dsize: u32,
+    pub compr: u8,
+    pub data: Part<'a>,
+}
+
+impl CompressedNode<'_> {
+    ghost use Rattle.std.specs.Prelude.{◌≡◌};
+    ghost use Rattle.jnode.specs.Compressed.{inode_with};
+
+    /// The inode node of the same fields that gives this for its range.
+    pub fn inode_with<'b>(&self, fill: Fill<'b>) -> InodeNode<'b>
+        ensures { result ≡ inode_with self.now fill.entry }
+    {
+        InodeNode {
+            ino: self.ino,
+            version: self.version,
+            mode: self.mode,
+            uid: self.uid,
+            gid: self.gid,
+            isize: self.isize,
+            atime: self.atime,
+            mtime: self.mtime,
+            ctime: self.ctime,
+            offset: self.offset,
+            dsize: self.dsize,
+            fill,
+        }
+    }
+}
+
 /// A node that says something of the file system.
 #[derive(Drop)]
 pub enum NodeRef<'a> {

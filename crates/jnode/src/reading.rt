@@ -153,7 +153,7 @@ fn is_data_crc_right<E: Order>(tile: &Part<'_>) -> bool
     csize == 0 || is_crc_right::<E>(tile, inode::DATA_CRC, inode::LEN, csize as usize)
 }
 
-fn data<'a, E: Order>(tile: &Part<'a>) -> Part<'a>
+pub(crate) fn stored_data<'a, E: Order>(tile: &Part<'a>) -> Part<'a>
     requires { inode_len + csize_of E.order tile.now ≤ length tile.now }
     ensures { result ≡ data_of E.order tile.now }
 {
@@ -168,7 +168,7 @@ fn passed_seen<'a, E: Order>(tile: &Part<'a>) -> Seen<'a>
 {
     let compr = byte_in(tile, inode::COMPR);
     if compr == compr::NONE {
-        Seen::Inode(inode::<E>(tile, Fill::Data(data::<E>(tile))))
+        Seen::Inode(inode::<E>(tile, Fill::Data(stored_data::<E>(tile))))
     } else if compr == compr::ZERO {
         Seen::Inode(inode::<E>(tile, Fill::Zero))
     } else {

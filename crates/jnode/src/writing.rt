@@ -29,7 +29,7 @@ pub enum WriteFault {
 }
 
 /// Appends bytes for which there is room.
-fn put(out: &mut Vec<u8>, bytes: &[u8])
+pub(crate) fn put(out: &mut Vec<u8>, bytes: &[u8])
     requires { vec_len out.old + length bytes.now ≤ vec_capacity out.old }
     ensures items { out.new.items ≡ out.old.items ++ bytes.now }
     ensures len { vec_len out.new ≡ vec_len out.old + length bytes.now }
@@ -39,7 +39,7 @@ fn put(out: &mut Vec<u8>, bytes: &[u8])
     done.unwrap();
 }
 
-fn put_u16<E: Order>(out: &mut Vec<u8>, n: u16)
+pub(crate) fn put_u16<E: Order>(out: &mut Vec<u8>, n: u16)
     requires { vec_len out.old + 2 ≤ vec_capacity out.old }
     ensures items { out.new.items ≡ out.old.items ++ bytes_in E.order 2 n }
     ensures len { vec_len out.new ≡ vec_len out.old + 2 }
@@ -48,7 +48,7 @@ fn put_u16<E: Order>(out: &mut Vec<u8>, n: u16)
     put(out, &u16_bytes::<E>(n));
 }
 
-fn put_u32<E: Order>(out: &mut Vec<u8>, n: u32)
+pub(crate) fn put_u32<E: Order>(out: &mut Vec<u8>, n: u32)
     requires { vec_len out.old + 4 ≤ vec_capacity out.old }
     ensures items { out.new.items ≡ out.old.items ++ bytes_in E.order 4 n }
     ensures len { vec_len out.new ≡ vec_len out.old + 4 }
@@ -70,7 +70,7 @@ fn put_crc<E: Order>(out: &mut Vec<u8>, start: usize)
 }
 
 #[tactic(auto, unfolding(crate::specs::Writing::header_bytes))]
-fn put_header<E: Order>(out: &mut Vec<u8>, nodetype: u16, totlen: u32)
+pub(crate) fn put_header<E: Order>(out: &mut Vec<u8>, nodetype: u16, totlen: u32)
     requires { vec_len out.old + header_len ≤ vec_capacity out.old }
     ensures items { out.new.items ≡ out.old.items ++ header_bytes E.order nodetype totlen }
     ensures len { vec_len out.new ≡ vec_len out.old + header_len }
@@ -104,7 +104,8 @@ fn put_entry_front<E: Order>(out: &mut Vec<u8>, node: &Dirent<'_>)
 fn put_entry<E: Order>(out: &mut Vec<u8>, node: &Dirent<'_>)
     requires room { vec_len out.old + (entry_len + length node.now.name) ≤ vec_capacity out.old }
     requires name { length node.now.name ≤ 254 }
-    ensures { out.new.items ≡ out.old.items ++ canonical_entry E.order node.now }
+    ensures items { out.new.items ≡ out.old.items ++ canonical_entry E.order node.now }
+    ensures capacity { vec_capacity out.old ≤ vec_capacity out.new }
 {
     let start = out.len();
     let name = &node.name;
@@ -117,6 +118,7 @@ fn put_entry<E: Order>(out: &mut Vec<u8>, node: &Dirent<'_>)
 /// Appends the written form of an entry node. A refusal leaves `out` as it was.
 pub fn write_entry<E: Order>(out: &mut Vec<u8>, node: &Dirent<'_>) -> Result<(), WriteFault>
     ensures ok { OnOk result (out.new.items ≡ out.old.items ++ canonical_entry E.order node.now) }
+    ensures capacity { OnOk result (vec_capacity out.old ≤ vec_capacity out.new) }
     ensures writable { OnOk result (IsWritableEntry node.now) }
     ensures fits { OnOk result (FitsEntry node.now) }
     ensures err { OnErr result (out.new.items ≡ out.old.items) }
@@ -170,7 +172,8 @@ fn stored_compr(fill: &Fill<'_>) -> u8
 
 fn put_stored(out: &mut Vec<u8>, fill: &Fill<'_>)
     requires { vec_len out.old + length (stored_bytes fill.now) ≤ vec_capacity out.old }
-    ensures { out.new.items ≡ out.old.items ++ stored_bytes fill.now }
+    ensures items { out.new.items ≡ out.old.items ++ stored_bytes fill.now }
+    ensures capacity { vec_capacity out.old ≤ vec_capacity out.new }
 {
     match fill {
         Fill::Zero => {}
@@ -179,7 +182,7 @@ fn put_stored(out: &mut Vec<u8>, fill: &Fill<'_>)
 }
 
 #[tactic(auto, unfolding(crate::specs::Writing::object_bytes))]
-fn put_object<E: Order>(out: &mut Vec<u8>, node: &InodeNode<'_>)
+pub(crate) fn put_object<E: Order>(out: &mut Vec<u8>, node: &InodeNode<'_>)
     requires { vec_len out.old + 16 ≤ vec_capacity out.old }
     ensures items { out.new.items ≡ out.old.items ++ object_bytes E.order node.now }
     ensures len { vec_len out.new ≡ vec_len out.old + 16 }
@@ -200,7 +203,7 @@ fn put_object<E: Order>(out: &mut Vec<u8>, node: &InodeNode<'_>)
 }
 
 #[tactic(auto, unfolding(crate::specs::Writing::time_bytes))]
-fn put_times<E: Order>(out: &mut Vec<u8>, node: &InodeNode<'_>)
+pub(crate) fn put_times<E: Order>(out: &mut Vec<u8>, node: &InodeNode<'_>)
     requires { vec_len out.old + 16 ≤ vec_capacity out.old }
     ensures items { out.new.items ≡ out.old.items ++ time_bytes E.order node.now }
     ensures len { vec_len out.new ≡ vec_len out.old + 16 }
@@ -254,7 +257,7 @@ fn put_inode_front<E: Order>(out: &mut Vec<u8>, node: &InodeNode<'_>)
 }
 
 /// The checksum of the bytes from `start` on.
-fn crc_since(out: &Vec<u8>, start: usize) -> u32
+pub(crate) fn crc_since(out: &Vec<u8>, start: usize) -> u32
     requires { start ≤ vec_len out.now }
     ensures { result ≡ crc_of (drop start out.now.items) }
 {
@@ -266,6 +269,7 @@ fn put_inode<E: Order>(out: &mut Vec<u8>, node: &InodeNode<'_>)
     requires room { vec_len out.old + (inode_len + length (stored_bytes node.now.fill)) ≤ vec_capacity out.old }
     requires long { inode_len + length (stored_bytes node.now.fill) ≤ totlen_most }
     ensures items { out.new.items ≡ out.old.items ++ canonical_inode E.order node.now }
+    ensures capacity { vec_capacity out.old ≤ vec_capacity out.new }
     ensures fits { FitsInode node.now }
 {
     let start = out.len();
@@ -297,6 +301,7 @@ fn is_writable_inode(node: &InodeNode<'_>) -> bool
 /// Appends the written form of an inode node. A refusal leaves `out` as it was.
 pub fn write_inode<E: Order>(out: &mut Vec<u8>, node: &InodeNode<'_>) -> Result<(), WriteFault>
     ensures ok { OnOk result (out.new.items ≡ out.old.items ++ canonical_inode E.order node.now) }
+    ensures capacity { OnOk result (vec_capacity out.old ≤ vec_capacity out.new) }
     ensures writable { OnOk result (IsWritableInode node.now) }
     ensures fits { OnOk result (FitsInode node.now) }
     ensures err { OnErr result (out.new.items ≡ out.old.items) }
@@ -319,6 +324,7 @@ pub fn write_inode<E: Order>(out: &mut Vec<u8>, node: &InodeNode<'_>) -> Result<
 /// Appends the clean marker. A refusal leaves `out` as it was.
 pub fn write_marker<E: Order>(out: &mut Vec<u8>) -> Result<(), WriteFault>
     ensures ok { OnOk result (out.new.items ≡ out.old.items ++ clean_marker E.order) }
+    ensures capacity { OnOk result (vec_capacity out.old ≤ vec_capacity out.new) }
     ensures err { OnErr result (out.new.items ≡ out.old.items) }
     ensures memory { OnErr result ((result ≡ Err WriteFault.OutOfMemory) × (vec_capacity out.old < vec_len out.old + header_len)) }
 {
@@ -343,6 +349,7 @@ pub fn marker_bytes<E: Order>() -> [u8; header::LEN]
 /// Appends a padding node of `totlen` bytes. A refusal leaves `out` as it was.
 pub fn write_padding<E: Order>(out: &mut Vec<u8>, totlen: u32) -> Result<(), WriteFault>
     ensures ok { OnOk result (out.new.items ≡ out.old.items ++ padding_node E.order totlen) }
+    ensures capacity { OnOk result (vec_capacity out.old ≤ vec_capacity out.new) }
     ensures err { OnErr result (out.new.items ≡ out.old.items) }
 
     // Which refusal it is.

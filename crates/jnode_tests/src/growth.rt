@@ -1,10 +1,10 @@
 //! A growth that is refused appends nothing.
 
 use crate::checks::{expect, expect_at};
-use crate::nodes::{entry_of, new_file};
-use crate::vectors::{entry_a, inode_2, little_marker, padding_16};
+use crate::nodes::{compressed_of_5, entry_of, new_file, start_of};
+use crate::vectors::{compressed_5, entry_a, inode_2, little_marker, padding_16};
 use byteorder::LittleEndian;
-use jnode::{WriteFault, write_entry, write_inode, write_marker, write_padding};
+use jnode::{WriteFault, write_compressed, write_entry, write_inode, write_marker, write_padding};
 
 /// What is written.
 #[derive(Clone, Copy, Debug)]
@@ -13,6 +13,7 @@ enum What {
     Inode,
     Entry,
     Padding,
+    Compressed,
 }
 
 fn write(out: &mut Vec<u8>, what: What) -> Result<(), WriteFault> {
@@ -21,6 +22,7 @@ fn write(out: &mut Vec<u8>, what: What) -> Result<(), WriteFault> {
         What::Inode => write_inode::<LittleEndian>(out, &new_file()),
         What::Entry => write_entry::<LittleEndian>(out, &entry_of(1, b"a")),
         What::Padding => write_padding::<LittleEndian>(out, 16),
+        What::Compressed => write_compressed::<LittleEndian>(out, &compressed_of_5()),
     }
 }
 
@@ -33,6 +35,7 @@ fn refused_writes_append_nothing(rt: HostRuntime) {
         (What::Inode, inode_2()),
         (What::Entry, entry.get(..41).unwrap_or(&[])),
         (What::Padding, padding_16()),
+        (What::Compressed, start_of(compressed_5(), 73)),
     ] {
         let mut out = Vec::new(rt.alloc());
         let first = write(&mut out, what);

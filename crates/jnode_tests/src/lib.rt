@@ -4,6 +4,8 @@
 #[cfg(test)]
 mod checks;
 #[cfg(test)]
+mod compressed;
+#[cfg(test)]
 mod growth;
 #[cfg(test)]
 mod headers;

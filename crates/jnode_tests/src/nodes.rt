@@ -1,6 +1,6 @@
 //! Nodes that are written, and parts that an image cuts.
 
-use jnode::{Dirent, Fill, InodeNode, Part};
+use jnode::{CompressedNode, Dirent, Fill, InodeNode, Part};
 
 pub(crate) fn entry_of(pino: u32, name: &[u8]) -> Dirent<'_> {
     Dirent {
@@ -63,6 +63,25 @@ pub(crate) fn zeros_of_96<'a>() -> InodeNode<'a> {
         dsize: 96,
         fill: Fill::Zero,
         ..write_of(b"", 0)
+    }
+}
+
+/// The node of `compressed_5`.
+pub(crate) fn compressed_of_5<'a>() -> CompressedNode<'a> {
+    CompressedNode {
+        ino: 0x0102_0304,
+        version: 18,
+        mode: 0o100640,
+        uid: 0x0506,
+        gid: 0x0708,
+        isize: 1000,
+        atime: 21,
+        mtime: 22,
+        ctime: 23,
+        offset: 24,
+        dsize: 26,
+        compr: 6,
+        data: Part::new(b"abcd\xff", 0),
     }
 }
 

@@ -86,7 +86,7 @@ pub extents_below_more : (e : Endian) (size : ℕ) (image : List ℕ) (k : ℕ)
     → extents_below e size image (k + 1) ≡ extents_below e size image k ++ extents_of_block e size image k
 extents_below_more e size image k = flat_map_below (extents_of_block e size image) k
 
-length_extents_below : (e : Endian) (size : ℕ) (image : List ℕ) (k : ℕ) → length (extents_below e size image k) ≤ k * size
+pub length_extents_below : (e : Endian) (size : ℕ) (image : List ℕ) (k : ℕ) → length (extents_below e size image k) ≤ k * size
 length_extents_below e size image zero = omega arith
 length_extents_below e size image (suc k) =
     let here = length_extents e (k * size) (block_of size image k) in

@@ -1,3 +1,4 @@
+mod FoundLemmas
 pub mod BlockLemmas
 pub mod FaultLemmas
 pub mod GrowingLemmas

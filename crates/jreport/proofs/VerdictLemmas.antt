@@ -63,6 +63,8 @@ verdict_of_mounted e size image asked m old new before now (Err (program.Session
 verdict_of_mounted e size image asked m old new before now (Err (program.Path f)) answers put = absurd put
 verdict_of_mounted e size image asked m old new before now (Err program.NotRegular) answers put = absurd put
 verdict_of_mounted e size image asked m old new before now (Err (program.NoSpace folder)) answers put = absurd put
+verdict_of_mounted e size image asked m old new before now (Err (program.Data addr)) answers put = absurd put
+verdict_of_mounted e size image asked m old new before now (Err (program.TooLong addr)) answers put = absurd put
 
 -- ---- the shape
 

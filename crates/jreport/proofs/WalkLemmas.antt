@@ -227,6 +227,8 @@ line_failed s w n name i names set (program.Session fault line) old new before n
 line_failed s w n name i names set (program.Path f) old new before now read put = absurd put
 line_failed s w n name i names set program.NotRegular old new before now read put = absurd put
 line_failed s w n name i names set (program.NoSpace folder) old new before now read put = absurd put
+line_failed s w n name i names set (program.Data addr) old new before now read put = absurd put
+line_failed s w n name i names set (program.TooLong addr) old new before now read put = absurd put
 
 pub step_failed : (s : State) (w n : Walk) (old new : Option (List ℕ)) (before now : ℕ) (r : Result Bool ProgramFault) (fault : ProgramFault)
     → IsErrAnd r (λ e. e ≡ fault) → PutsStep s w n old new before now (Err fault) → PutsStep s w n old new before now r
@@ -320,6 +322,8 @@ root_failed T s empty set (program.Session fault line) old new before now none p
 root_failed T s empty set (program.Path f) old new before now none put = absurd put
 root_failed T s empty set program.NotRegular old new before now none put = absurd put
 root_failed T s empty set (program.NoSpace folder) old new before now none put = absurd put
+root_failed T s empty set (program.Data addr) old new before now none put = absurd put
+root_failed T s empty set (program.TooLong addr) old new before now none put = absurd put
 
 pub steps_on : (s : State) (w n : Walk) (a b c : Option (List ℕ)) (before now : ℕ) → Reaches s w a b → PutsStep s w n b c before now (Ok true) → Reaches s n a c
 steps_on s w n a b c before now far put = (
@@ -353,6 +357,8 @@ stopped T s w n (program.Session fault line) a b c first before now far same put
 stopped T s w n (program.Path f) a b c first before now far same put = absurd put
 stopped T s w n program.NotRegular a b c first before now far same put = absurd put
 stopped T s w n (program.NoSpace folder) a b c first before now far same put = absurd put
+stopped T s w n (program.Data addr) a b c first before now far same put = absurd put
+stopped T s w n (program.TooLong addr) a b c first before now far same put = absurd put
 
 pub tree_failed : {T : Type 0} (s : State) (old new : Option (List ℕ)) (before now : ℕ) (r : Result T ProgramFault) (fault : ProgramFault)
     → IsErrAnd r (λ e. e ≡ fault) → PutsTree {T = T} s old new before now (Err fault) → PutsTree s old new before now r

@@ -189,6 +189,8 @@ verdict_ends e size asked image a b c before mid now findings (program.Session f
 verdict_ends e size asked image a b c before mid now findings (program.Path f) report put = absurd put
 verdict_ends e size asked image a b c before mid now findings program.NotRegular report put = absurd put
 verdict_ends e size asked image a b c before mid now findings (program.NoSpace folder) report put = absurd put
+verdict_ends e size asked image a b c before mid now findings (program.Data addr) report put = absurd put
+verdict_ends e size asked image a b c before mid now findings (program.TooLong addr) report put = absurd put
 
 pub verdict_failed : (e : Endian) (size : ℕ) (asked : Bool) (items present again : List ℕ) (a b c : Option (List ℕ)) (before mid now findings : ℕ) (f : ProgramFault) (r : Result Bool ProgramFault)
     → IsErrAnd r (λ x. x ≡ f) → present ≡ items → again ≡ items
@@ -286,6 +288,8 @@ tree_failed X e size items present m a b before now f (Err x) is same answers pu
     by (program.Path f) p = p
     by program.NotRegular p = p
     by (program.NoSpace folder) p = p
+    by (program.Data addr) p = p
+    by (program.TooLong addr) p = p
 
 pub tree_is_read : (X : Type 0) {T : Type 0} (m : Mount) (a b : Option (List ℕ)) (before now : ℕ) (f : ProgramFault) (r : Result T ProgramFault)
     → IsErrAnd r (λ x. x ≡ f) → PutsTree {T = X} m.state a b before now (Err f) → IsRead r

@@ -100,6 +100,8 @@ fault_text_of program.NotRegular = codes "P4 NotRegular"
 fault_text_of program.Output = codes "P5 Output"
 fault_text_of program.OutOfMemory = codes "P6 OutOfMemory"
 fault_text_of (program.NoSpace name) = codes "P7 NoSpace " ++ name.now
+fault_text_of (program.Data addr) = codes "Z1 Data" ++ at_text addr
+fault_text_of (program.TooLong addr) = codes "Z2 TooLong" ++ at_text addr
 
 -- the line on standard error
 unfoldable pub fault_line_of : ProgramFault → List ℕ

@@ -1,3 +1,6 @@
+pub mod Advice
+pub mod ConvertedLine
+pub mod FoundIn
 pub mod Content
 pub mod ExtractionNotes
 pub mod Faults

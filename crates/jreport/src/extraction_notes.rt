@@ -11,7 +11,7 @@ use jline::{LineBuffer, put_text};
 use jmount::Mounted;
 use jscan::FindingKind;
 
-fn is_attribute(kind: FindingKind) -> bool
+pub fn is_attribute(kind: FindingKind) -> bool
     ensures { result ≡ is_attribute_node kind }
 {
     match kind {

@@ -14,6 +14,8 @@ pub fn known_fault_texts()
     ensures block_size { fault_text_of (fault.Scan scan.BlockSize) ≡ codes "C1 BlockSize" }
     ensures incompatible { fault_text_of (fault.Scan (scan.Incompatible 12 0xE0F7)) ≡ codes "C3 Incompatible at 0000000c type e0f7" }
     ensures output { fault_text_of fault.Output ≡ codes "P5 Output" }
+    ensures data { fault_text_of (fault.Data 4112) ≡ codes "Z1 Data at 00001010" }
+    ensures too_long { fault_text_of (fault.TooLong 0x3c) ≡ codes "Z2 TooLong at 0000003c" }
 {}
 
 /// The texts of what a listing and a session refuse.

@@ -44,6 +44,14 @@ pub enum ProgramFault<'a> {
     OutOfMemory,
     /// The host has no room for what is still to be made in the folder of this name.
     NoSpace(&'a str),
+    /// The data of the node at this address are not what their method of compression makes.
+    Data {
+        addr: u32,
+    },
+    /// The node at this address does not fit into a block without its compression.
+    TooLong {
+        addr: u32,
+    },
 }
 
 impl From<LoadFault> for ProgramFault<'_> {
@@ -282,6 +290,14 @@ fn push_fault<'a>(line: &mut LineBuffer, fault: &ProgramFault<'a>) -> &'a str
         ProgramFault::NoSpace(name) => {
             line.push_text(b"P7 NoSpace ");
             return name;
+        }
+        ProgramFault::Data { addr } => {
+            line.push_text(b"Z1 Data at ");
+            line.push_hex(8, u64::from(addr));
+        }
+        ProgramFault::TooLong { addr } => {
+            line.push_text(b"Z2 TooLong at ");
+            line.push_hex(8, u64::from(addr));
         }
     }
     ""

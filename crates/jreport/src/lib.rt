@@ -12,11 +12,14 @@
 //! `report_examples` and `fault_examples` have worked examples, and `tree_laws` laws of the listing.
 #![tactic(auto)]
 
+mod advice;
 mod blocks;
+mod converted;
 mod extraction_notes;
 pub mod fault_examples;
 mod faults;
 mod files;
+mod findings;
 mod listing;
 mod notes;
 pub mod path_laws;
@@ -31,9 +34,12 @@ pub mod tree_laws;
 mod verdict;
 mod whole_image;
 
+pub use crate::advice::fault_lines;
+pub use crate::converted::put_decompressed;
 pub use crate::extraction_notes::{attribute_count, put_notes};
 pub use crate::faults::{ProgramFault, fault_line, fault_text};
 pub use crate::files::content;
+pub use crate::findings::{Found, found_in};
 pub use crate::listing::tree_lines;
 pub use crate::notes::{note_line, noted};
 pub use crate::paths::path_word;
@@ -42,4 +48,4 @@ pub use crate::report_fault::ReportFault;
 pub use crate::stream::stream_lines;
 pub use crate::tree::put_object;
 pub use crate::verdict::verdict_lines;
-pub use crate::whole_image::{check_lines, file_bytes, list_lines};
+pub use crate::whole_image::{check_lines, file_bytes, image_file, image_tree, list_lines};

@@ -10,7 +10,7 @@ use jmount::Mounted;
 use jscan::FindingKind;
 
 /// Whether a finding may be in the place of a node.
-fn is_noted(kind: FindingKind) -> bool
+pub fn is_noted(kind: FindingKind) -> bool
     ensures { result ≡ is_noted kind }
 {
     match kind {

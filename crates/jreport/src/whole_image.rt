@@ -54,6 +54,39 @@ pub fn check_lines<E: Order, S: Source, T: Sink>(
     Ok(is_any(findings, bad))
 }
 
+/// Puts the content of the regular file that a path names in an image, as `file_bytes`.
+pub fn image_file<E: Order, T: Sink>(
+    alloc: Global,
+    image: &[u8],
+    geometry: Geometry,
+    path: &[u8],
+    sink: &mut T,
+) -> Result<u64, ProgramFault<'static>>
+    ensures put { PutsFile E.order geometry.block image.now path.now
+        (T.taken sink.old) (T.taken sink.new) (T.failures sink.old) (T.failures sink.new) result }
+    ensures read { IfErr result (λ fault. IsFaultOfLoad fault → ⊥) }
+{
+    let mounted = mount::<E>(alloc, image, geometry)?;
+    content(&mounted, path, sink)?;
+    Ok(noted(&mounted))
+}
+
+/// Puts a line for each object of an image's tree, as `list_lines`.
+pub fn image_tree<E: Order, T: Sink>(
+    alloc: Global,
+    image: &[u8],
+    geometry: Geometry,
+    sink: &mut T,
+) -> Result<u64, ProgramFault<'static>>
+    ensures put { PutsListing E.order geometry.block image.now
+        (T.taken sink.old) (T.taken sink.new) (T.failures sink.old) (T.failures sink.new) result }
+    ensures read { IfErr result (λ fault. IsFaultOfLoad fault → ⊥) }
+{
+    let tree = mount::<E>(alloc, image, geometry)?;
+    tree_lines(alloc, &tree, sink)?;
+    Ok(noted(&tree))
+}
+
 /// Reads an image, and puts the content of the regular file that a path names there. Answers how many findings of damage,
 /// dirt or the other byte order the image has.
 pub fn file_bytes<E: Order, S: Source, T: Sink>(
@@ -70,9 +103,7 @@ pub fn file_bytes<E: Order, S: Source, T: Sink>(
         (T.taken sink.old) (T.taken sink.new) (T.failures sink.old) (T.failures sink.new) result) }
 {
     let image = load(alloc, source, GREATEST_IMAGE)?;
-    let mounted = mount::<E>(alloc, image.as_slice(), geometry)?;
-    content(&mounted, path, sink)?;
-    Ok(noted(&mounted))
+    image_file::<E, T>(alloc, image.as_slice(), geometry, path, sink)
 }
 
 /// Reads an image, and puts a line for each object of its tree. Answers how many findings of damage, dirt or the other byte
@@ -90,7 +121,5 @@ pub fn list_lines<E: Order, S: Source, T: Sink>(
         (T.taken sink.old) (T.taken sink.new) (T.failures sink.old) (T.failures sink.new) result) }
 {
     let image = load(alloc, source, GREATEST_IMAGE)?;
-    let tree = mount::<E>(alloc, image.as_slice(), geometry)?;
-    tree_lines(alloc, &tree, sink)?;
-    Ok(noted(&tree))
+    image_tree::<E, T>(alloc, image.as_slice(), geometry, sink)
 }

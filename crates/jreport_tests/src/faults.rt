@@ -5,14 +5,14 @@ use flashbase::{FromWriter, LoadFault, PutFault};
 use jlisting::ListingFault;
 use jlog::SessionFault;
 use jmount::{FindFault, MountFault};
-use jreport::{ProgramFault, fault_line, fault_text};
+use jreport::{ProgramFault, fault_line, fault_lines, fault_text};
 use jscan::ScanFault;
 use jsteps::OpFault;
 use std::alloc::Global;
 use std::test::Fail;
 use test_support::{Long, Taker};
 
-const FAULTS: [(ProgramFault<'static>, &str); 23] = [
+const FAULTS: [(ProgramFault<'static>, &str); 25] = [
     (ProgramFault::Load(LoadFault::Device), "L1 Device"),
     (ProgramFault::Load(LoadFault::TooLarge), "L2 TooLarge"),
     (ProgramFault::Load(LoadFault::OutOfMemory), "L3 OutOfMemory"),
@@ -66,6 +66,11 @@ const FAULTS: [(ProgramFault<'static>, &str); 23] = [
     (ProgramFault::Output, "P5 Output"),
     (ProgramFault::OutOfMemory, "P6 OutOfMemory"),
     (ProgramFault::NoSpace("out"), "P7 NoSpace out"),
+    (ProgramFault::Data { addr: 0x1010 }, "Z1 Data at 00001010"),
+    (
+        ProgramFault::TooLong { addr: 0xABCDEF },
+        "Z2 TooLong at 00abcdef",
+    ),
 ];
 
 /// A session's faults, with the line of an operation and its text.
@@ -201,6 +206,55 @@ fn texts_of_a_listing(rt: HostRuntime) -> Result<(), Fail> {
     }
     let told = ProgramFault::Listing { line: 3 };
     expect(&rt, is_told(rt.alloc(), &told, "P2 Listing line 3")?);
+    Ok(())
+}
+
+/// The note after the line of a fault.
+fn note_after(alloc: Global, fault: &ProgramFault<'_>) -> Result<Vec<u8>, &'static str> {
+    let (_, line) = texts_of(alloc, fault)?;
+    let mut lines = FromWriter::new(Vec::new(alloc));
+    if fault_lines(fault, &mut lines).is_err() {
+        return Err("no text");
+    }
+    let mut lines = lines.into_writer();
+    if lines.starts_with(&line) {
+        lines.drain(..line.len());
+        Ok(lines)
+    } else {
+        Err("no line")
+    }
+}
+
+/// The methods of compression of Linux that there are, and whether they are read.
+const METHODS: [(u8, bool); 8] = [
+    (1, false),
+    (2, true),
+    (3, false),
+    (4, false),
+    (5, false),
+    (6, true),
+    (7, true),
+    (8, false),
+];
+
+const COMPRESSED_NOTE: &str =
+    "jffs2_image: note: the image is compressed; decompress writes one that is not, and --decompress reads it\n";
+
+#[test]
+fn notes_after_faults(rt: HostRuntime) -> Result<(), Fail> {
+    for (compr, is_read) in METHODS {
+        let wanted = if is_read { COMPRESSED_NOTE } else { "" };
+        let fault = ProgramFault::Mount(MountFault::Compressed { addr: 12, compr });
+        let note = note_after(rt.alloc(), &fault)?;
+        expect_at(&rt, note.as_slice() == wanted.as_bytes(), compr);
+    }
+    for fault in [
+        ProgramFault::Data { addr: 6 },
+        ProgramFault::Scan(ScanFault::Compressed { addr: 2, compr: 6 }),
+        ProgramFault::OutOfMemory,
+    ] {
+        expect(&rt, note_after(rt.alloc(), &fault)?.is_empty());
+    }
     Ok(())
 }
 

@@ -2,14 +2,17 @@
 
 use crate::checks::{equal, expect};
 use crate::images::{
-    CLASH, DAMAGED_INODE_2, FILE_AS_ROOT, GEOMETRY, LARGE, ONE_BLOCK, OTHER_ORDER, Raw, TREE,
-    image_of, raw_image,
+    CLASH, COMPRESSED, DAMAGED_INODE_2, FILE_AS_ROOT, GEOMETRY, LARGE, ONE_BLOCK, OTHER_ORDER, Raw,
+    TREE, image_of, raw_image,
 };
 use byteorder::LittleEndian;
 use flashbase::{FromReader, FromWriter, LoadFault, Sink, Source};
 use jline::put_escaped;
 use jmount::{FindFault, MountFault, mount};
-use jreport::{ProgramFault, check_lines, content, file_bytes, list_lines, note_line, path_word};
+use jreport::{
+    Found, ProgramFault, check_lines, content, file_bytes, found_in, image_file, image_tree,
+    list_lines, note_line, path_word,
+};
 use jscan::{Geometry, ScanFault};
 use std::alloc::Global;
 use std::test::Fail;
@@ -152,6 +155,23 @@ pub(crate) fn answer_and_text(
     (answer, sink.into_writer())
 }
 
+/// The same of an image that is in memory, of which `check` reads none.
+fn image_answer_and_text(
+    alloc: Global,
+    call: Call,
+    image: &[u8],
+) -> (Result<u64, ProgramFault<'static>>, Vec<u8>) {
+    let mut sink = FromWriter::new(Vec::new(alloc));
+    let answer = match call {
+        Call::Check => return answer_and_text(alloc, call, image, GEOMETRY),
+        Call::Content(path) => {
+            image_file::<LittleEndian, _>(alloc, image, GEOMETRY, path, &mut sink)
+        }
+        Call::Listing => image_tree::<LittleEndian, _>(alloc, image, GEOMETRY, &mut sink),
+    };
+    (answer, sink.into_writer())
+}
+
 pub(crate) const TREE_CHECKED: &[u8] = b"block 0\n\
 00000000 inode 68 ino 1 version 1 mode 40755 size 0 offset 0 data 0 none\n\
 00000044 inode 68 ino 2 version 1 mode 41700 size 0 offset 0 data 0 none\n\
@@ -216,6 +236,9 @@ fn worked_calls(rt: HostRuntime) -> Result<(), Fail> {
     for (nodes, call, want, text) in WHOLE {
         let image = image_of(rt.alloc(), nodes)?;
         let (answer, put) = answer_and_text(rt.alloc(), call, &image, GEOMETRY);
+        equal(&rt, answer, want);
+        equal(&rt, put.as_slice(), text);
+        let (answer, put) = image_answer_and_text(rt.alloc(), call, &image);
         equal(&rt, answer, want);
         equal(&rt, put.as_slice(), text);
     }
@@ -314,6 +337,40 @@ fn findings_of_mounted_images(rt: HostRuntime) -> Result<(), Fail> {
             let (answer, _) = answer_and_text(rt.alloc(), call, &image, GEOMETRY);
             equal(&rt, answer, Ok(count));
         }
+        equal(&rt, found_in::<LittleEndian>(&image, GEOMETRY).noted, count);
+    }
+    Ok(())
+}
+
+/// Blocks that do not mount, one after the other: how many findings are noted, and how many are
+/// attributes.
+const FOUND_UNMOUNTED: [(&[&[u8]], &[&[u8]], (u64, u64)); 3] = [
+    (&[COMPRESSED], &[], (0, 0)),
+    (
+        &[COMPRESSED, &NO_LENGTH, COMPRESSED],
+        &[OTHER_ORDER],
+        (2, 0),
+    ),
+    (
+        &[DAMAGED_INODE_2, &ATTRIBUTE, COMPRESSED],
+        &[&ATTRIBUTE, OTHER_ORDER, DAMAGED_INODE_2],
+        (3, 2),
+    ),
+];
+
+#[test]
+fn findings_of_compressed_images(rt: HostRuntime) -> Result<(), Fail> {
+    for (nodes, tail, wanted) in FOUND_UNMOUNTED {
+        let image = raw_image(
+            rt.alloc(),
+            Raw {
+                nodes,
+                tail,
+                ..ONE_BLOCK
+            },
+        )?;
+        let Found { noted, attributes } = found_in::<LittleEndian>(&image, GEOMETRY);
+        equal(&rt, (noted, attributes), wanted);
     }
     Ok(())
 }

@@ -5,10 +5,10 @@ use crate::images::{BLOCK, GEOMETRY, TREE, image_of};
 use byteorder::LittleEndian;
 use flashbase::{FromReader, PutFault};
 use jline::{put_escaped, put_hex, put_in_line, put_text, put_word};
-use jmount::{FindFault, mount};
+use jmount::{FindFault, MountFault, mount};
 use jreport::{
-    ProgramFault, content, fault_line, fault_text, note_line, put_object, put_report, stream_lines,
-    tree_lines, verdict_lines,
+    ProgramFault, content, fault_line, fault_lines, fault_text, note_line, put_decompressed,
+    put_object, put_report, stream_lines, tree_lines, verdict_lines,
 };
 use std::alloc::Global;
 use std::test::Fail;
@@ -26,6 +26,8 @@ enum Text {
     Note,
     Fault,
     FaultLine,
+    FaultLines,
+    Decompressed,
     Plain,
     Escaped,
     InLine,
@@ -33,7 +35,7 @@ enum Text {
     Hex,
 }
 
-const TEXTS: [Text; 14] = [
+const TEXTS: [Text; 16] = [
     Text::Report,
     Text::Stream,
     Text::Verdict,
@@ -43,6 +45,8 @@ const TEXTS: [Text; 14] = [
     Text::Note,
     Text::Fault,
     Text::FaultLine,
+    Text::FaultLines,
+    Text::Decompressed,
     Text::Plain,
     Text::Escaped,
     Text::InLine,
@@ -51,6 +55,11 @@ const TEXTS: [Text; 14] = [
 ];
 
 const FAULT: ProgramFault<'static> = ProgramFault::Path(FindFault::NotFound);
+
+const NOTED_FAULT: ProgramFault<'static> = ProgramFault::Mount(MountFault::Compressed {
+    addr: 8,
+    compr: 7,
+});
 
 const BYTES: &[u8] = b"a /\\\n\xff";
 
@@ -105,6 +114,8 @@ fn put(
             put_of(answer, sink.bytes.len())?;
         }
         Text::FaultLine => fault_line(&FAULT, sink)?,
+        Text::FaultLines => fault_lines(&NOTED_FAULT, sink)?,
+        Text::Decompressed => put_decompressed(7, 29, 30168, sink)?,
         Text::Plain => put_text(sink, BYTES)?,
         Text::Escaped => put_escaped(sink, BYTES)?,
         Text::InLine => put_in_line(sink, BYTES)?,

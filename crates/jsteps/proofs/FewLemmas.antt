@@ -6,9 +6,9 @@ use Rattle.std.proofs.lemmas.Bool.{cases_lt, cond_both, lt-ltb, ltb-false, false
 use Rattle.flashbase.specs.Lists.{below}
 use Rattle.flashbase.proofs.ListLemmas.{length-below}
 use Rattle.jsteps.specs.Nodes.{Indexed}
-use Rattle.jsteps.specs.Planning.{IsPage, page_size, plain_page, spelling_len, most_steps, piece_puts, page_puts, puts, zeros_to, write_steps, resize_steps, size_named, steps_of}
+use Rattle.jsteps.specs.Planning.{IsPage, page_size, plain_page, spelling_len, most_steps, piece_puts, page_puts, puts, zeros_to, write_steps, resize_steps, move_steps, size_named, steps_of}
 use Rattle.jsteps.specs.Refusals.{planned_by, greatest_size}
-use Rattle.jsteps.specs.Where.{number_or_zero}
+use Rattle.jsteps.specs.Where.{number_or_zero, is_one_entry}
 use Rattle.std.specs.declared.alloc.Global.{Global}
 use Rattle.jsteps.specs.declared.fault.OpFault.{OpFault}
 use Rattle.jsteps.specs.declared.op.Op.{Op}
@@ -79,6 +79,8 @@ write_few page time ino size offset (b ∷ bytes) is_page ends =
 steps_few : (page : ℕ) (x : Indexed) (o : Op) (steps : List Step) → IsPage page → planned_by page x o ≡ Ok steps → length (steps_of page x.tree o) ≤ most_steps
 steps_few page x (op.Mkdir time path mode uid gid) steps is_page e = omega arith
 steps_few page x (op.Create time path mode uid gid) steps is_page e = omega arith
+steps_few page x (op.Fifo time path mode uid gid) steps is_page e = omega arith
+steps_few page x (op.Socket time path mode uid gid) steps is_page e = omega arith
 steps_few page x (op.Symlink time path link uid gid) steps is_page e = omega arith
 steps_few page x (op.Write time path offset bytes) steps is_page e =
     write_few page time (number_or_zero x.tree path) (size_named x.tree path) offset bytes is_page (accepted page x (op.Write time path offset bytes) steps e).large
@@ -88,6 +90,8 @@ steps_few page x (op.Truncate time path size) steps is_page e =
 steps_few page x (op.Link time old new) steps is_page e = omega arith
 steps_few page x (op.Remove time path) steps is_page e = omega arith
 steps_few page x (op.Rename time old new) steps is_page e = omega arith
+steps_few page x (op.Replace time old new) steps is_page e =
+    cond_both (is_one_entry x.tree old new) [] (move_steps x.tree time old new) (λ steps. length steps ≤ most_steps) (λ yes. omega arith) (λ no. omega arith)
 steps_few page x (op.SetAttributes time path attributes) steps is_page e = omega arith
 
 pub planned_few : (page : ℕ) (x : Indexed) (o : Op) (steps : List Step) → IsPage page → planned_by page x o ≡ Ok steps → length steps ≤ most_steps

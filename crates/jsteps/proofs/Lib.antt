@@ -22,6 +22,7 @@ pub mod PlannedLemmas
 pub mod FileLemmas
 pub mod FewLemmas
 pub mod AttributesLemmas
+pub mod ReplaceLemmas
 pub mod ShapeMetLemmas
 pub mod ShapeStepLemmas
 pub mod ShapePlanLemmas

@@ -5,13 +5,13 @@ use Rattle.std.specs.List.{list_any, AllByRecursion}
 use Rattle.std.specs.Ordering.{eq_by_cmp, nat_cmp}
 use Rattle.std.specs.Cmp.{nat_cmp_total}
 use Rattle.std.specs.FinMap.{get, get-insert}
-use Rattle.std.proofs.lemmas.Bool.{or_parts, ltb-false, lt-ltb, true≢false, false≢true}
+use Rattle.std.proofs.lemmas.Bool.{cond_both, or_parts, ltb-false, lt-ltb, true≢false, false≢true}
 use Rattle.flashbase.specs.Ranges.{IsHalf, IsWord}
 use Rattle.jmount.specs.Tree.{ObjectOf, object, directory_bits}
 use Rattle.jsteps.specs.Nodes.{Indexed, object_at, advanced}
-use Rattle.jsteps.specs.Planning.{IsPage, size_named, make_steps, steps_of}
+use Rattle.jsteps.specs.Planning.{IsPage, size_named, make_steps, move_steps, steps_of}
 use Rattle.jsteps.specs.Refusals.{paths, has_bad_path, is_bad_path, is_long, is_not_found, meets_nothing, meets_other, is_wrong_kind, is_into_itself, is_too_large, is_bad_mode, is_bad_target, greatest_size, is_exhausted, refusals, unless_refused, planned_by}
-use Rattle.jsteps.specs.Where.{last_name, above, parent, ends_in_directory, number_or_zero, object_named, is_missing, is_unnamed, number_reached, is_unreached}
+use Rattle.jsteps.specs.Where.{last_name, above, parent, ends_in_directory, number_or_zero, object_named, is_missing, is_unnamed, number_reached, is_unreached, is_one_entry}
 use Rattle.jsteps.specs.Laws as law
 use Rattle.jsteps.specs.Laws.{IsConsistent, GivenFit, OpFits}
 use Rattle.jsteps.specs.declared.fault.OpFault.{OpFault}
@@ -23,7 +23,7 @@ use Rattle.jsteps.specs.declared.step.Step.TheVariants as step
 use Rattle.jsteps.proofs.IndexLemmas.{with_some}
 use Rattle.jsteps.proofs.ConsistentLemmas.{StepFits, root_below}
 use Rattle.jsteps.proofs.WhereLemmas.{HasLength, IsParent, IsTarget, last_name_length, bits_there, parent_is, target_is, not_missing, reached_is}
-use Rattle.jsteps.proofs.TakenLemmas.{IsFine, Shaped, AllFine, AllTaken, AllFine-one, AllFine-two, all_taken, taken_ready, taken_room, taken_written, taken_keeps_all, object_fits}
+use Rattle.jsteps.proofs.TakenLemmas.{IsFine, Shaped, AllFine, AllTaken, AllFine-none, AllFine-one, AllFine-two, all_taken, taken_ready, taken_room, taken_written, taken_keeps_all, object_fits}
 use Rattle.jsteps.proofs.PutsLemmas.{HasSize, resize_fine, write_fine}
 
 -- ---- what is not refused
@@ -182,6 +182,13 @@ make_fine page x time path mode uid gid bytes same is_led now mode_fits uid_fits
 parent_some : (x : Indexed) (path : List ℕ) → IsLed x path → is_some (object x.tree (parent x.tree path)) ≡ true
 parent_some x path is_led = bits_there directory_bits (object x.tree (parent x.tree path)) is_led.parent_there.there
 
+move_fine : (page : ℕ) (x : Indexed) (time : ℕ) (old new : List ℕ) → IsWord time → IsLed x old → IsLed x new → IsTarget x old → AllFine page x (move_steps x.tree time old new)
+move_fine page x time old new now led_old led_new target =
+    let set = step.SetName time (parent x.tree new) (last_name new) (number_or_zero x.tree old) in
+    AllFine-two page x set (step.ClearName time (parent x.tree old) (last_name old))
+    (set_fine page x time (parent x.tree new) (last_name new) (number_or_zero x.tree old) now led_new.parent_there.positive led_new.name (parent_some x new led_new) target.positive target.below)
+    (clear_fine page (advanced x set) time (parent x.tree old) (last_name old) now led_old.parent_there.positive led_old.name (parent_some x old led_old))
+
 all_fine : (page : ℕ) (x : Indexed) (o : Op) (steps : List Step) → IsPage page → IsConsistent x → OpFits o → IsAccepted page x o steps → AllFine page x (steps_of page x.tree o)
 all_fine page x (op.Mkdir time path mode uid gid) steps is_page same fits is =
     let is_led = (led_alone x path false false same is.bad is.long is.found is.directory).0 in
@@ -191,6 +198,14 @@ all_fine page x (op.Create time path mode uid gid) steps is_page same fits is =
     let is_led = (led_alone x path false false same is.bad is.long is.found is.directory).0 in
     let bits : mode ≤ 0o7777 = ltb-false 0o7777 mode is.mode in
     make_fine page x time path (0o100000 + mode) uid gid [] same is_led fits.0 (omega arith) fits.1 fits.2 (omega arith)
+all_fine page x (op.Fifo time path mode uid gid) steps is_page same fits is =
+    let is_led = (led_alone x path false false same is.bad is.long is.found is.directory).0 in
+    let bits : mode ≤ 0o7777 = ltb-false 0o7777 mode is.mode in
+    make_fine page x time path (0o010000 + mode) uid gid [] same is_led fits.0 (omega arith) fits.1 fits.2 (omega arith)
+all_fine page x (op.Socket time path mode uid gid) steps is_page same fits is =
+    let is_led = (led_alone x path false false same is.bad is.long is.found is.directory).0 in
+    let bits : mode ≤ 0o7777 = ltb-false 0o7777 mode is.mode in
+    make_fine page x time path (0o140000 + mode) uid gid [] same is_led fits.0 (omega arith) fits.1 fits.2 (omega arith)
 all_fine page x (op.Symlink time path link uid gid) steps is_page same fits is =
     let is_led = (led_alone x path false false same is.bad is.long is.found is.directory).0 in
     let parts = three_false (length link == 0) (nat_lt 4095 (length link)) (list_any (λ b. b == 0) link) is.link in
@@ -220,10 +235,12 @@ all_fine page x (op.Remove time path) steps is_page same fits is =
     (clear_fine page x time (parent x.tree path) (last_name path) fits is_led.parent_there.positive is_led.name (parent_some x path is_led))
 all_fine page x (op.Rename time old new) steps is_page same fits is =
     let both = led_both x old new same is.bad is.long is.found is.directory in
-    let set = step.SetName time (parent x.tree new) (last_name new) (number_or_zero x.tree old) in
-    AllFine-two page x set (step.ClearName time (parent x.tree old) (last_name old))
-    (set_fine page x time (parent x.tree new) (last_name new) (number_or_zero x.tree old) fits both.1.parent_there.positive both.1.name (parent_some x new both.1) both.2.positive both.2.below)
-    (clear_fine page (advanced x set) time (parent x.tree old) (last_name old) fits both.0.parent_there.positive both.0.name (parent_some x old both.0))
+    move_fine page x time old new fits both.0 both.1 both.2
+all_fine page x (op.Replace time old new) steps is_page same fits is =
+    cond_both (is_one_entry x.tree old new) [] (move_steps x.tree time old new) (AllFine page x) (λ yes. AllFine-none page x)
+    (λ no.
+    let both = led_both x old new same is.bad is.long is.found is.directory in
+    move_fine page x time old new fits both.0 both.1 both.2)
 all_fine page x (op.SetAttributes time path attributes) steps is_page same fits is =
     let found = or_parts (meets_nothing (above x.tree path)) (is_unreached x.tree path) is.found in
     let above_it = parent_is x path same found.0 (one_false (meets_other x.tree (above x.tree path)) is.directory) in

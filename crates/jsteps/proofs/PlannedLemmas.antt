@@ -98,7 +98,7 @@ answer_none {plan} {tests} {spent} {steps} from found r b items same is e b_is i
 pub bad_plan : (page : ℕ) (x : Indexed) (o : Op) → has_bad_path o ≡ true → planned_by page x o ≡ Err refused.BadPath
 bad_plan page x o e = planned_from page x o ∙ from_bad (has_bad_path o) (tests_of x.tree o) (is_exhausted page x o) (steps_of page x.tree o) e
 
-good_both : (old new : List ℕ) → is_bad_path old ≡ false → is_bad_path new ≡ false → (is_bad_path old || (is_bad_path new || false)) ≡ false
+pub good_both : (old new : List ℕ) → is_bad_path old ≡ false → is_bad_path new ≡ false → (is_bad_path old || (is_bad_path new || false)) ≡ false
 good_both old new e f = ap (λ b. b || (is_bad_path new || false)) e ∙ ap (λ b. b || false) f
 
 pub removed_from : (page : ℕ) (x : Indexed) (time : ℕ) (path : List ℕ) (site : Site) (dir : ℕ) → IsSiteOf x.tree path site → dir ≡ number_or_none site.above → dir ≤ 0xFFFFFFFF
@@ -212,6 +212,12 @@ mkdir_made page x time path mode uid gid = made_as page x (op.Mkdir time path mo
 pub create_made : (page : ℕ) (x : Indexed) (time : ℕ) (path : List ℕ) (mode uid gid : ℕ) → planned_by page x (op.Create time path mode uid gid) ≡ made_plan x time path 0o100000 mode uid gid [] false
 create_made page x time path mode uid gid = made_as page x (op.Create time path mode uid gid) path (nat_lt 0o7777 mode) false (or_none (is_bad_path path)) (simp (or_none) refl)
 
+pub fifo_made : (page : ℕ) (x : Indexed) (time : ℕ) (path : List ℕ) (mode uid gid : ℕ) → planned_by page x (op.Fifo time path mode uid gid) ≡ made_plan x time path 0o010000 mode uid gid [] false
+fifo_made page x time path mode uid gid = made_as page x (op.Fifo time path mode uid gid) path (nat_lt 0o7777 mode) false (or_none (is_bad_path path)) (simp (or_none) refl)
+
+pub socket_made : (page : ℕ) (x : Indexed) (time : ℕ) (path : List ℕ) (mode uid gid : ℕ) → planned_by page x (op.Socket time path mode uid gid) ≡ made_plan x time path 0o140000 mode uid gid [] false
+socket_made page x time path mode uid gid = made_as page x (op.Socket time path mode uid gid) path (nat_lt 0o7777 mode) false (or_none (is_bad_path path)) (simp (or_none) refl)
+
 pub symlink_made : (page : ℕ) (x : Indexed) (time : ℕ) (path link : List ℕ) (uid gid : ℕ)
     → planned_by page x (op.Symlink time path link uid gid) ≡ made_plan x time path 0o120000 0o777 uid gid link (is_bad_target (op.Symlink time path link uid gid))
 symlink_made page x time path link uid gid =
@@ -229,7 +235,7 @@ next_of : (b : Bool) (o : Option ℕ) (t : ℕ) → (b ≡ true → t ≡ unwrap
 next_of true o t h = let same : t ≡ unwrap_or o 0 = h refl in let two : t + 1 + 1 ≡ unwrap_or o 0 + 2 = omega arith in ap (nat_lt 0xFFFFFFFF) two
 next_of false o t h = refl
 
-renamed_spent : (x : Indexed) (dir left : ℕ) → dir ≤ 0xFFFFFFFF → left ≤ 0xFFFFFFFF
+pub renamed_spent : (x : Indexed) (dir left : ℕ) → dir ≤ 0xFFFFFFFF → left ≤ 0xFFFFFFFF
     → ((nat_lt 0xFFFFFFFF (top_at x.tops dir + 1) || nat_lt 0xFFFFFFFF dir) || ((nat_lt 0xFFFFFFFF (top_at (insert x.tops dir (top_at x.tops dir + 1)) left + 1) || nat_lt 0xFFFFFFFF left) || false)) ≡ spent_by x dir left
 renamed_spent x dir left le le_2 =
     let a = nat_lt 0xFFFFFFFF (top_at x.tops dir + 1) in

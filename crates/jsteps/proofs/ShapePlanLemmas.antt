@@ -2,13 +2,14 @@
 use Rattle.std.proofs.Common.{◌≡◌, ℕ, ◌+◌, ◌<◌, Bool, true, false, List, [], ◌∷◌, ◌++◌, length, Option, Some, None, Result, Ok, Err, refl, ap, sym, ◌∙◌, subst, arith}
 use Rattle.std.specs.Prelude.{is_some, unwrap_or, option_and_then, ◌&&◌, ◌==◌}
 use Rattle.std.specs.List.{list_any}
-use Rattle.std.proofs.lemmas.Bool.{eqb-false, or_parts, false≢true}
+use Rattle.std.specs.FinMap.{insert}
+use Rattle.std.proofs.lemmas.Bool.{cond_both, eqb-false, or_parts, false≢true}
 use Rattle.jmount.specs.Tree.{ObjectOf, Outline, object, named, is_directory, has_bits, directory_bits}
 use Rattle.jmount.specs.declared.fault.FindFault.{FindFault}
-use Rattle.jsteps.specs.Steps.{bytes, sizes, do_step, after}
+use Rattle.jsteps.specs.Steps.{bytes, sizes, do_step, after, renamed}
 use Rattle.jsteps.specs.Nodes.{Indexed}
-use Rattle.jsteps.specs.Planning.{size_named, make_steps, steps_of}
-use Rattle.jsteps.specs.Where.{names_above, last_name, above, number_or_none, parent, ends_in_directory, named_there, number_there, number_or_zero, number_reached, object_named, met}
+use Rattle.jsteps.specs.Planning.{size_named, make_steps, move_steps, steps_of}
+use Rattle.jsteps.specs.Where.{names_above, last_name, above, number_or_none, parent, ends_in_directory, named_there, number_there, number_or_zero, number_reached, object_named, is_one_entry, met}
 use Rattle.jsteps.specs.Laws.{IsConsistent}
 use Rattle.jmount.specs.Shape.{HasShape}
 use Rattle.jsteps.specs.ShapeLaws as law
@@ -95,6 +96,12 @@ plan_keeps page x (op.Mkdir time path mode uid gid) steps same is shape =
 plan_keeps page x (op.Create time path mode uid gid) steps same is shape =
     let is_led = (led_alone x path false false same is.bad is.long is.found is.directory).0 in
     make_keeps x time path (0o100000 + mode) uid gid [] same is_led.parent_there.there shape
+plan_keeps page x (op.Fifo time path mode uid gid) steps same is shape =
+    let is_led = (led_alone x path false false same is.bad is.long is.found is.directory).0 in
+    make_keeps x time path (0o010000 + mode) uid gid [] same is_led.parent_there.there shape
+plan_keeps page x (op.Socket time path mode uid gid) steps same is shape =
+    let is_led = (led_alone x path false false same is.bad is.long is.found is.directory).0 in
+    make_keeps x time path (0o140000 + mode) uid gid [] same is_led.parent_there.there shape
 plan_keeps page x (op.Symlink time path link uid gid) steps same is shape =
     let is_led = (led_alone x path false false same is.bad is.long is.found is.directory).0 in
     make_keeps x time path 0o120777 uid gid link same is_led.parent_there.there shape
@@ -123,6 +130,15 @@ plan_keeps page x (op.Rename time old new) steps same is shape =
     (λ there is_root. eqb-false 1 m (meets_root x.tree (names_above new) m (none there)) (sym is_root))
     (λ there. not_below x.tree old new shape above_old above_new entry (none there))
     shape
+plan_keeps page x (op.Replace time old new) steps same is shape =
+    cond_both (is_one_entry x.tree old new) [] (move_steps x.tree time old new) (λ steps. IsShaped (after sizes x.tree steps)) (λ yes. shape)
+    (λ no.
+    let both = led_both x old new same is.bad is.long is.found is.directory in
+    let kind : is_directory x.tree (number_or_zero x.tree old) ≡ false = ap (has_bits directory_bits) both.2.same ∙ is.kind in
+    let set = renamed x.tree (insert x.tree.names (parent x.tree new, last_name new) (number_or_zero x.tree old)) in
+    follows_keeps set (after sizes x.tree (move_steps x.tree time old new)) (clear_follows set (parent x.tree old, last_name old))
+    (set_keeps x.tree (parent x.tree new) (last_name new) (number_or_zero x.tree old)
+    (λ there d n e. absurd (false≢true (sym kind ∙ there))) (λ there ns h. absurd (false≢true (sym kind ∙ there))) shape))
 plan_keeps page x (op.SetAttributes time path attributes) steps same is shape =
     object_keeps x.tree (steps_of page x.tree (op.SetAttributes time path attributes)) (attributes_on_object time (unwrap_or (number_reached x.tree path) 0) attributes) shape
 

@@ -108,12 +108,15 @@ GivenFit attributes = IsHalf attributes.uid × IsHalf attributes.gid × IsWord a
 abbrev pub OpFits : Op → Type 0
 OpFits (op.Mkdir time path mode uid gid) = IsWord time × IsHalf uid × IsHalf gid
 OpFits (op.Create time path mode uid gid) = IsWord time × IsHalf uid × IsHalf gid
+OpFits (op.Fifo time path mode uid gid) = IsWord time × IsHalf uid × IsHalf gid
+OpFits (op.Socket time path mode uid gid) = IsWord time × IsHalf uid × IsHalf gid
 OpFits (op.Symlink time path link uid gid) = IsWord time × IsHalf uid × IsHalf gid
 OpFits (op.Write time path offset new) = IsWord time
 OpFits (op.Truncate time path size) = IsWord time
 OpFits (op.Link time old new) = IsWord time
 OpFits (op.Remove time path) = IsWord time
 OpFits (op.Rename time old new) = IsWord time
+OpFits (op.Replace time old new) = IsWord time
 OpFits (op.SetAttributes time path attributes) = IsWord time × GivenFit attributes
 
 -- steps of which each is ready and has room when its turn comes, and an index after them that is consistent again

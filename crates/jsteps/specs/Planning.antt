@@ -2,7 +2,7 @@
 use Rattle.std.specs.Prelude.{ℕ, ◌+◌, ◌-◌, ◌*◌, ◌/◌, ◌==◌, ◌≤◌, max, min, nat_lt, List, [], ◌∷◌, ◌++◌, length, take, drop, slice_range, flat_map, option_map, unwrap_or, if◌then◌else◌}
 use Rattle.flashbase.specs.Lists.{below}
 use Rattle.jmount.specs.Tree.{Outline}
-use Rattle.jsteps.specs.Where.{parent, last_name, number_or_zero, number_reached, object_named}
+use Rattle.jsteps.specs.Where.{parent, last_name, number_or_zero, number_reached, object_named, is_one_entry}
 use Rattle.jsteps.specs.declared.op.Op.{Op}
 use Rattle.jsteps.specs.declared.op.Op.TheVariants as op
 use Rattle.jsteps.specs.declared.page.Page.{Page}
@@ -69,17 +69,24 @@ abbrev pub make_steps : Outline → ℕ → List ℕ → ℕ → ℕ → ℕ →
 make_steps t time path mode uid gid bytes =
     step.MakeObject time mode uid gid bytes ∷ step.SetName time (parent t path) (last_name path) t.next ∷ []
 
+-- another name for an object: the new one is set, and then the old one cleared
+abbrev pub move_steps : Outline → ℕ → List ℕ → List ℕ → List Step
+move_steps t time old new =
+    step.SetName time (parent t new) (last_name new) (number_or_zero t old) ∷ step.ClearName time (parent t old) (last_name old) ∷ []
+
 -- the steps of an operation under a page
 abbrev pub steps_of : ℕ → Outline → Op → List Step
 steps_of page t (op.Mkdir time path mode uid gid) = make_steps t time path (0o040000 + mode) uid gid []
 steps_of page t (op.Create time path mode uid gid) = make_steps t time path (0o100000 + mode) uid gid []
+steps_of page t (op.Fifo time path mode uid gid) = make_steps t time path (0o010000 + mode) uid gid []
+steps_of page t (op.Socket time path mode uid gid) = make_steps t time path (0o140000 + mode) uid gid []
 steps_of page t (op.Symlink time path link uid gid) = make_steps t time path 0o120777 uid gid link
 steps_of page t (op.Write time path offset bytes) = write_steps page time (number_or_zero t path) (size_named t path) offset bytes
 steps_of page t (op.Truncate time path size) = resize_steps time (number_or_zero t path) (size_named t path) size
 steps_of page t (op.Link time old new) = step.SetName time (parent t new) (last_name new) (number_or_zero t old) ∷ []
 steps_of page t (op.Remove time path) = step.ClearName time (parent t path) (last_name path) ∷ []
-steps_of page t (op.Rename time old new) =
-    step.SetName time (parent t new) (last_name new) (number_or_zero t old) ∷ step.ClearName time (parent t old) (last_name old) ∷ []
+steps_of page t (op.Rename time old new) = move_steps t time old new
+steps_of page t (op.Replace time old new) = if is_one_entry t old new then [] else move_steps t time old new
 steps_of page t (op.SetAttributes time path attributes) = step.SetAttributes time (unwrap_or (number_reached t path) 0) attributes ∷ []
 
 -- No plan has more: two for each 4,096 bytes up to the greatest size of a file, and zeros.

@@ -82,6 +82,18 @@ pub fn small_plans()
     ensures same { planned small (op.Truncate 7 (codes "/a") 4) ≡ Ok [] }
 {}
 
+/// A name in the place of another, of a tree that has the file "/a" and the name "/q" of an object that is missing, and of
+/// one that has the directory "/d". Nothing is done where both are one.
+pub fn replaced_names()
+    ensures over { planned small (op.Replace 7 (codes "/a") (codes "/q")) ≡ Ok (step.SetName 7 1 (codes "q") 2 ∷ step.ClearName 7 1 (codes "a") ∷ []) }
+    ensures new { planned small (op.Replace 7 (codes "/a") (codes "/b")) ≡ Ok (step.SetName 7 1 (codes "b") 2 ∷ step.ClearName 7 1 (codes "a") ∷ []) }
+    ensures same { planned small (op.Replace 7 (codes "/a") (codes "/a")) ≡ Ok [] }
+    ensures root { planned small (op.Replace 7 (codes "/a") (codes "/")) ≡ Err refused.BadPath }
+    ensures dangling { planned small (op.Replace 7 (codes "/q") (codes "/a")) ≡ Err refused.NotFound }
+    ensures directory { planned nested (op.Replace 7 (codes "/d") (codes "/e")) ≡ Err refused.WrongKind }
+    ensures same_directory { planned nested (op.Replace 7 (codes "/d") (codes "/d")) ≡ Err refused.Exists }
+{}
+
 /// Other attributes, of the root too. Only the permission bits of the mode are other.
 pub fn attribute_plans()
     ensures file { planned small (op.SetAttributes 7 (codes "/a") given) ≡ Ok (step.SetAttributes 7 2 given ∷ []) }

@@ -51,6 +51,22 @@ pub enum Op<'a> {
         uid: u16,
         gid: u16,
     },
+    /// A new FIFO.
+    Fifo {
+        time: u32,
+        path: Text<'a>,
+        mode: u32,
+        uid: u16,
+        gid: u16,
+    },
+    /// A new socket.
+    Socket {
+        time: u32,
+        path: Text<'a>,
+        mode: u32,
+        uid: u16,
+        gid: u16,
+    },
     /// A new symlink to a target of 1 to 4,095 bytes, none of them zero.
     Symlink {
         time: u32,
@@ -89,6 +105,13 @@ pub enum Op<'a> {
         old: Text<'a>,
         new: Text<'a>,
     },
+    /// The new name stands for what `old` names, which is no directory, whatever it stood for; then the old name goes. It
+    /// does not replace a directory. Where both paths lead to one name, nothing changes.
+    Replace {
+        time: u32,
+        old: Text<'a>,
+        new: Text<'a>,
+    },
     /// Other attributes of a directory, the root too, a regular file, a FIFO or a socket. Its bytes stay, and the operation's
     /// time is that of the last change of its attributes.
     SetAttributes {
@@ -110,6 +133,12 @@ impl Op<'_> {
             Op::Create { time, uid, gid, .. } => {
                 let _known = (*time, *uid, *gid);
             }
+            Op::Fifo { time, uid, gid, .. } => {
+                let _known = (*time, *uid, *gid);
+            }
+            Op::Socket { time, uid, gid, .. } => {
+                let _known = (*time, *uid, *gid);
+            }
             Op::Symlink { time, uid, gid, .. } => {
                 let _known = (*time, *uid, *gid);
             }
@@ -126,6 +155,9 @@ impl Op<'_> {
                 let _known = *time;
             }
             Op::Rename { time, .. } => {
+                let _known = *time;
+            }
+            Op::Replace { time, .. } => {
                 let _known = *time;
             }
             Op::SetAttributes {

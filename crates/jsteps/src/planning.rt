@@ -17,8 +17,9 @@ use crate::page::Page;
 use crate::puts::{push_resize, push_write};
 use crate::refusal::{
     tests_of_attributes, tests_of_file, tests_of_name, tests_of_new, tests_of_removed,
+    tests_of_replaced,
 };
-use crate::site::{end_of, look_up, look_up_both, meets_above, reach};
+use crate::site::{end_of, is_one_entry, look_up, look_up_both, meets_above, reach};
 use crate::step::Step;
 use crate::stored::DIRECTORY;
 use crate::text::Text;
@@ -260,6 +261,36 @@ fn rename<'a>(
     Ok(two(alloc, set, clear)?)
 }
 
+/// Another name, in the place of what it names.
+fn replace<'a>(
+    alloc: Global,
+    index: &Index,
+    time: u32,
+    old: &'a [u8],
+    new: &'a [u8],
+) -> Result<Vec<Step<'a>>, OpFault>
+    ensures { (page : ℕ) → GivesPlan result (planned_by page index.now (op.Replace time old.now new.now)) }
+{
+    let Some((from, to)) = look_up_both(alloc, index, old, new)? else {
+        return Err(OpFault::BadPath);
+    };
+    let ino = from.number.unwrap_or(0);
+    let left = end_of(from.above);
+    let directory = end_of(to.above);
+    if let Some(fault) = tests_of_replaced(index, &from, &to).first() {
+        return Err(fault);
+    }
+    if is_one_entry(&from, &to) {
+        return Ok(Vec::new(alloc));
+    }
+    if are_spent(index, directory, left) {
+        return Err(OpFault::Exhausted);
+    }
+    let named = set_name(time, directory, to.last, ino);
+    let cleared = clear_name(time, left, from.last);
+    Ok(two(alloc, named, cleared)?)
+}
+
 /// A new object.
 fn make<'a>(
     alloc: Global,
@@ -332,6 +363,42 @@ fn create<'a>(
     let target = b"".as_slice();
     make(
         alloc, index, time, path, 0o100000, mode, uid, gid, target, false,
+    )
+}
+
+/// A new FIFO.
+fn fifo<'a>(
+    alloc: Global,
+    index: &Index,
+    time: u32,
+    path: &'a [u8],
+    mode: u32,
+    uid: u16,
+    gid: u16,
+) -> Result<Vec<Step<'a>>, OpFault>
+    ensures { (page : ℕ) → GivesPlan result (planned_by page index.now (op.Fifo time path.now mode uid gid)) }
+{
+    let target = b"".as_slice();
+    make(
+        alloc, index, time, path, 0o010000, mode, uid, gid, target, false,
+    )
+}
+
+/// A new socket.
+fn socket<'a>(
+    alloc: Global,
+    index: &Index,
+    time: u32,
+    path: &'a [u8],
+    mode: u32,
+    uid: u16,
+    gid: u16,
+) -> Result<Vec<Step<'a>>, OpFault>
+    ensures { (page : ℕ) → GivesPlan result (planned_by page index.now (op.Socket time path.now mode uid gid)) }
+{
+    let target = b"".as_slice();
+    make(
+        alloc, index, time, path, 0o140000, mode, uid, gid, target, false,
     )
 }
 
@@ -420,6 +487,20 @@ pub fn plan_paged<'a>(
             uid,
             gid,
         } => create(alloc, index, *time, path.as_slice(), *mode, *uid, *gid),
+        Op::Fifo {
+            time,
+            path,
+            mode,
+            uid,
+            gid,
+        } => fifo(alloc, index, *time, path.as_slice(), *mode, *uid, *gid),
+        Op::Socket {
+            time,
+            path,
+            mode,
+            uid,
+            gid,
+        } => socket(alloc, index, *time, path.as_slice(), *mode, *uid, *gid),
         Op::Symlink {
             time,
             path,
@@ -438,6 +519,9 @@ pub fn plan_paged<'a>(
         Op::Remove { time, path } => remove(alloc, index, *time, path.as_slice()),
         Op::Rename { time, old, new } => {
             rename(alloc, index, *time, old.as_slice(), new.as_slice())
+        }
+        Op::Replace { time, old, new } => {
+            replace(alloc, index, *time, old.as_slice(), new.as_slice())
         }
         Op::SetAttributes {
             time,

@@ -53,10 +53,13 @@ const BYTES: [(&str, &str); 23] = [
     ("truncate /d/f 0", ""),
 ];
 
-const NAMES: [(&str, &str); 18] = [
+const NAMES: [(&str, &str); 21] = [
     ("mkdir /x 755", "make 40755 5 6 [], set 1 x 58"),
     ("mkdir /d/e/x 0", "make 40000 5 6 [], set 4 x 58"),
     ("create /d/x 7777", "make 107777 5 6 [], set 3 x 58"),
+    ("fifo /d/p 644", "make 10644 5 6 [], set 3 p 58"),
+    ("socket /n/s 7777", "make 147777 5 6 [], set 10 s 58"),
+    ("fifo /x 0", "make 10000 5 6 [], set 1 x 58"),
     ("symlink /n/l ../f", "make 120777 5 6 [../f], set 10 l 58"),
     ("link /a /d/b", "set 3 b 2"),
     ("link /s /l", "set 1 l 7"),
@@ -74,7 +77,7 @@ const NAMES: [(&str, &str); 18] = [
     ("rename /s /t", "set 1 t 7, clear 1 s"),
 ];
 
-const ALONE: [(&str, &str); 45] = [
+const ALONE: [(&str, &str); 53] = [
     ("mkdir x 755", "O1 BadPath"),
     ("create  644", "O1 BadPath"),
     ("remove /a/", "O1 BadPath"),
@@ -120,6 +123,14 @@ const ALONE: [(&str, &str); 45] = [
     ("symlink /x a\0b", "O11 BadTarget"),
     ("rename / /x", "O1 BadPath"),
     ("remove /", "O1 BadPath"),
+    ("fifo / 644", "O1 BadPath"),
+    ("socket x 644", "O1 BadPath"),
+    ("fifo /none/x 644", "O3 NotFound"),
+    ("socket /a/x 644", "O4 NotDirectory"),
+    ("fifo /q 10000", "O5 Exists"),
+    ("socket /d 644", "O5 Exists"),
+    ("fifo /x 10644", "O10 BadMode"),
+    ("socket /x 10000", "O10 BadMode"),
 ];
 
 const ROOT: [(&str, &str); 8] = [
@@ -196,6 +207,36 @@ const MISSING: [(&str, &str); 20] = [
     ("rename /h/x /y", "O3 NotFound"),
 ];
 
+/// A name in the place of another, which may be none, or stand for nothing; and nothing where both are one.
+const REPLACED: [(&str, &str); 26] = [
+    ("replace /a /b", "set 1 b 2, clear 1 a"),
+    ("replace /a /d/f", "set 3 f 2, clear 1 a"),
+    ("replace /d/f /a", "set 1 a 5, clear 3 f"),
+    ("replace /s /a", "set 1 a 7, clear 1 s"),
+    ("replace /c /s", "set 1 s 8, clear 1 c"),
+    ("replace /a /q", "set 1 q 2, clear 1 a"),
+    ("replace /a /h/x", "set 9 x 2, clear 1 a"),
+    ("replace /a /a", ""),
+    ("replace /d/f /d/f", ""),
+    ("replace a /b", "O1 BadPath"),
+    ("replace /a b", "O1 BadPath"),
+    ("replace /a /", "O1 BadPath"),
+    ("replace / /d", "O1 BadPath"),
+    ("replace /none /a", "O3 NotFound"),
+    ("replace /none /d", "O3 NotFound"),
+    ("replace /q /a", "O3 NotFound"),
+    ("replace /q /q", "O3 NotFound"),
+    ("replace /d /none/x", "O3 NotFound"),
+    ("replace /a/b /d", "O4 NotDirectory"),
+    ("replace /a /s/x", "O4 NotDirectory"),
+    ("replace /a /d", "O5 Exists"),
+    ("replace /d /n", "O5 Exists"),
+    ("replace /d /d", "O5 Exists"),
+    ("replace /d /x", "O6 WrongKind"),
+    ("replace /d /a", "O6 WrongKind"),
+    ("replace /d /d/x", "O6 WrongKind"),
+];
+
 const ATTRIBUTES: [(&str, &str); 21] = [
     ("attr / 700", "attr 1 700 5 6 1 2 7"),
     ("attr /a 600", "attr 2 600 5 6 1 2 7"),
@@ -231,7 +272,7 @@ const OTHER_KINDS: [(&str, &str); 6] = [
 ];
 
 /// No version is left for names of the root and for its file, and no number for a new object.
-const NONE_LEFT: [(&str, &str); 24] = [
+const NONE_LEFT: [(&str, &str); 28] = [
     ("create x 644", "O1 BadPath"),
     ("create /none/x 644", "O3 NotFound"),
     ("create /a/b 644", "O4 NotDirectory"),
@@ -245,10 +286,14 @@ const NONE_LEFT: [(&str, &str); 24] = [
     ("mkdir /d/y 755", "O12 Exhausted"),
     ("create /d/y 644", "O12 Exhausted"),
     ("symlink /d/y t", "O12 Exhausted"),
+    ("fifo /d/y 644", "O12 Exhausted"),
+    ("socket /d/y 644", "O12 Exhausted"),
     ("write /a 10 1", "O12 Exhausted"),
     ("truncate /a 9", "O12 Exhausted"),
     ("remove /z", "O12 Exhausted"),
     ("rename /a /d/y", "O12 Exhausted"),
+    ("replace /a /d/x", "O12 Exhausted"),
+    ("replace /a /a", ""),
     ("attr / 700", "O12 Exhausted"),
     ("attr /a 600", "O12 Exhausted"),
     ("attr /a 10000", "O10 BadMode"),
@@ -259,7 +304,7 @@ const NONE_LEFT: [(&str, &str); 24] = [
 ];
 
 /// One version is left for names of the root and for `/a`, two for `/b` and for names of `/e`.
-const FEW_LEFT: [(&str, &str); 17] = [
+const FEW_LEFT: [(&str, &str); 20] = [
     ("write /a 9 1", "put 2 9 1"),
     ("write /a 10 1", "put 2 10 1"),
     ("write /a 11 1", "O12 Exhausted"),
@@ -277,6 +322,9 @@ const FEW_LEFT: [(&str, &str); 17] = [
     ("rename /a /y", "O12 Exhausted"),
     ("rename /a /d/y", "set 4 y 2, clear 1 a"),
     ("rename /e/m /e/n", "set 5 n 2, clear 5 m"),
+    ("replace /a /b", "O12 Exhausted"),
+    ("replace /a /d/y", "set 4 y 2, clear 1 a"),
+    ("replace /e/m /e/n", "set 5 n 2, clear 5 m"),
 ];
 
 #[test]
@@ -288,6 +336,7 @@ fn plans(rt: HostRuntime) -> Result<(), Fail> {
     agree(&rt, alloc, SMALL, &ROOT)?;
     agree(&rt, alloc, SMALL, &PAIRS)?;
     agree(&rt, alloc, SMALL, &MISSING)?;
+    agree(&rt, alloc, SMALL, &REPLACED)?;
     agree(&rt, alloc, SMALL, &ATTRIBUTES)?;
     agree(&rt, alloc, KINDS, &OTHER_KINDS)
 }
@@ -322,7 +371,10 @@ fn the_root_by_another_name(rt: HostRuntime) -> Result<(), Fail> {
         ("link /d/r /x", "O6 WrongKind"),
         ("remove /d/r", "O7 NotEmpty"),
         ("attr /d/r 700", "attr 1 700 5 6 1 2 7"),
-        ("mkdir /d/r/x 755", "make 40755 5 6 [], set 1 x 3"),
+        ("mkdir /d/r/x 755", "make 40755 5 6 [], set 1 x 4"),
+        ("replace /d/r/f /f", ""),
+        ("replace /f /d/r/d/f", "set 2 f 3, clear 1 f"),
+        ("replace /f /d/r", "O5 Exists"),
     ];
     agree(&rt, rt.alloc(), LOOP, &rows)
 }
@@ -342,13 +394,15 @@ fn lengthened(alloc: Global, line: &str, count: usize) -> Result<String, Fail> {
     Ok(text)
 }
 
-const LONG: [(&str, usize, &str); 20] = [
+const LONG: [(&str, usize, &str); 22] = [
     ("create /* 644", 254, "make 100644 5 6 [], set 1 * 58"),
     ("create /* 644", 255, "O2 NameTooLong"),
     ("create /d/* 644", 255, "O2 NameTooLong"),
     ("link /a /*", 255, "O2 NameTooLong"),
     ("rename /a /*", 254, "set 1 * 2, clear 1 a"),
     ("rename x /*", 255, "O1 BadPath"),
+    ("replace /a /*", 254, "set 1 * 2, clear 1 a"),
+    ("replace /* /d", 255, "O2 NameTooLong"),
     ("rename /* /a", 255, "O2 NameTooLong"),
     ("create /*/x 644", 255, "O2 NameTooLong"),
     ("create /a/* 644", 255, "O2 NameTooLong"),

@@ -70,10 +70,10 @@ pub const DANGLING: Tree = Tree {
     names: &[(1, 1, 57, "q")],
 };
 
-/// A directory with a further name for the root.
+/// A directory with a further name for the root, and a file.
 pub const LOOP: Tree = Tree {
-    objects: &[(2, 1, DIRECTORY, 0)],
-    names: &[(1, 1, 2, "d"), (2, 1, 1, "r")],
+    objects: &[(2, 1, DIRECTORY, 0), (3, 1, FILE, 0)],
+    names: &[(1, 1, 2, "d"), (2, 1, 1, "r"), (1, 2, 3, "f")],
 };
 
 /// The root and a file have the greatest version, and no number is free.

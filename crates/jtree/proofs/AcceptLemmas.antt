@@ -8,7 +8,7 @@ use Rattle.jmount.specs.Tree.{ObjectOf, Outline, object, named, has_bits, direct
 use Rattle.jmount.specs.declared.fault.FindFault.{FindFault}
 use Rattle.jsteps.specs.Nodes.{Indexed}
 use Rattle.jsteps.specs.Planning.{make_steps, steps_of}
-use Rattle.jsteps.specs.Refusals.{paths, paths_made, has_bad_path, is_bad_path, is_long, is_not_found, meets_nothing, meets_other, is_wrong_kind, is_not_empty, is_into_itself, is_too_large, is_bad_mode, is_bad_target, is_exhausted, greatest_size, refusals, unless_refused, planned_by}
+use Rattle.jsteps.specs.Refusals.{paths, has_bad_path, is_bad_path, is_long, is_not_found, meets_nothing, meets_other, is_taken, is_wrong_kind, is_not_empty, is_into_itself, is_too_large, is_bad_mode, is_bad_target, is_exhausted, greatest_size, refusals, unless_refused, planned_by}
 use Rattle.jsteps.specs.Where.{above, is_missing, ends_in_directory, last_name, number_there, number_or_none}
 use Rattle.jsteps.specs.declared.fault.OpFault.{OpFault}
 use Rattle.jsteps.specs.declared.op.Op.{Op}
@@ -27,7 +27,7 @@ pub record IsFree (page : ℕ) (x : Indexed) (o : Op) : Type 0 where
   pub long : list_any is_long (paths o) ≡ false
   pub found : is_not_found x.tree o ≡ false
   pub directory : list_any (λ path. meets_other x.tree (above x.tree path)) (paths o) ≡ false
-  pub fresh : list_any (λ path. is_some (number_there x.tree path)) (paths_made o) ≡ false
+  pub fresh : is_taken x.tree o ≡ false
   pub kind : is_wrong_kind x.tree o ≡ false
   pub empty : is_not_empty x.tree o ≡ false
   pub into : is_into_itself x.tree o ≡ false

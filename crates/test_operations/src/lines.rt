@@ -30,7 +30,9 @@ fn words(line: &str) -> (&str, &str, &str, &str) {
 pub fn op_of<'a>(line: &'a str, by: By) -> Option<Op<'a>> {
     let (verb, path, second, third) = words(line);
     match verb {
-        "mkdir" | "create" | "symlink" => Some(new_object(verb, path, second, by)),
+        "mkdir" | "create" | "fifo" | "socket" | "symlink" => Some(new_object(
+            verb, path, second, by,
+        )),
         "write" | "erase" | "truncate" => Some(other_bytes(verb, path, second, third, by.time)),
         "attr" => Some(other_attributes(path, second, by.time)),
         _ => other_name(verb, path, second, by.time),
@@ -62,6 +64,20 @@ fn new_object<'a>(verb: &str, path: &'a str, second: &'a str, by: By) -> Op<'a> 
             gid,
         },
         "create" => Op::Create {
+            time,
+            path,
+            mode,
+            uid,
+            gid,
+        },
+        "fifo" => Op::Fifo {
+            time,
+            path,
+            mode,
+            uid,
+            gid,
+        },
+        "socket" => Op::Socket {
             time,
             path,
             mode,
@@ -121,6 +137,7 @@ fn other_name<'a>(verb: &str, path: &'a str, second: &'a str, time: u32) -> Opti
     Some(match verb {
         "link" => Op::Link { time, old, new },
         "rename" => Op::Rename { time, old, new },
+        "replace" => Op::Replace { time, old, new },
         "remove" => Op::Remove { time, path: old },
         _ => return None,
     })

@@ -9,5 +9,6 @@ returns c =
     let cat = c.add_subcommand-command-3.ensures _ _ ls c.make_cat.ensures in
     let build = c.add_subcommand-command-4.ensures _ _ cat c.make_build.ensures in
     let append = c.add_subcommand-command-5.ensures _ _ build c.make_append.ensures in
-    let extract = c.add_subcommand-command-6.ensures _ _ append c.make_extract.ensures in
+    let decompress = c.add_subcommand-command-6.ensures _ _ append c.make_decompress.ensures in
+    let extract = c.add_subcommand-command-7.ensures _ _ decompress c.make_extract.ensures in
     c.add_subcommand.ensures _ _ extract c.make_listing.ensures

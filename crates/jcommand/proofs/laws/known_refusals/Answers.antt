@@ -55,3 +55,11 @@ returns-clause-one_owner c = refl
 pub returns-clause-no_folder : goal.returns-clause-no_folder
 unfolding clap_on_literals program parsed parsed_from
 returns-clause-no_folder c = refl
+
+pub returns-clause-not_of_check : goal.returns-clause-not_of_check
+unfolding clap_on_literals program parsed parsed_from
+returns-clause-not_of_check c = refl
+
+pub returns-clause-not_decompressed : goal.returns-clause-not_decompressed
+unfolding clap_on_literals program parsed parsed_from
+returns-clause-not_decompressed c = refl

@@ -43,3 +43,11 @@ returns-clause-listed c = refl
 pub returns-clause-listed_for : goal.returns-clause-listed_for
 unfolding clap_on_literals program parsed parsed_from
 returns-clause-listed_for c = refl
+
+pub returns-clause-decompressed_tree : goal.returns-clause-decompressed_tree
+unfolding clap_on_literals program parsed parsed_from
+returns-clause-decompressed_tree c = refl
+
+pub returns-clause-decompressed : goal.returns-clause-decompressed
+unfolding clap_on_literals program parsed parsed_from
+returns-clause-decompressed c = refl

@@ -29,3 +29,12 @@ returns-in-Rename-clause-few c = few_of (page_size c.args.page) c.args.index.now
 
 pub returns-in-SetAttributes-clause-few : goal.returns-in-SetAttributes-clause-few
 returns-in-SetAttributes-clause-few c = few_of (page_size c.args.page) c.args.index.now c.args.op.now _ (sizes_are_pages c.args.page) (search rules)
+
+pub returns-in-Replace-clause-few : goal.returns-in-Replace-clause-few
+returns-in-Replace-clause-few c = few_of (page_size c.args.page) c.args.index.now c.args.op.now _ (sizes_are_pages c.args.page) (search rules)
+
+pub returns-in-Fifo-clause-few : goal.returns-in-Fifo-clause-few
+returns-in-Fifo-clause-few c = few_of (page_size c.args.page) c.args.index.now c.args.op.now _ (sizes_are_pages c.args.page) (search rules)
+
+pub returns-in-Socket-clause-few : goal.returns-in-Socket-clause-few
+returns-in-Socket-clause-few c = few_of (page_size c.args.page) c.args.index.now c.args.op.now _ (sizes_are_pages c.args.page) (search rules)

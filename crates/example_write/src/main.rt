@@ -1,0 +1,68 @@
+//! Writes two files into an image in memory, cuts it as a power failure would, and mounts what is left.
+//!
+//! For each length it prints the names of the file system that is left, and the sizes of their files.
+//! The end of an image that is missing counts as erased flash.
+#![tactic(auto)]
+
+use anyhow::{Context, Result};
+use jffs2::{FromWriter, Geometry, LittleEndian, Op, Session, Text, mount};
+use std::alloc::Global;
+
+const GEOMETRY: Geometry = Geometry { block: 8192 };
+
+/// A regular file of mode 0644 in the root, and its bytes.
+fn file(path: &'static [u8], bytes: &'static [u8]) -> [Op<'static>; 2] {
+    [
+        Op::Create {
+            time: 0,
+            path: Text::lent(path),
+            mode: 0o644,
+            uid: 0,
+            gid: 0,
+        },
+        Op::Write {
+            time: 0,
+            path: Text::lent(path),
+            offset: 0,
+            bytes: Text::lent(bytes),
+        },
+    ]
+}
+
+/// The bytes of an image of one block with two files.
+fn build(alloc: Global) -> Result<Vec<u8>> {
+    let empty = mount::<LittleEndian>(alloc, &[], GEOMETRY)?;
+    let sink = FromWriter::new(Vec::new(alloc));
+    let mut session = Session::<LittleEndian, _>::resume(alloc, &empty, GEOMETRY, 1, sink)?;
+    for op in file(b"/one", b"first\n")
+        .iter()
+        .chain(&file(b"/two", b"second\n"))
+    {
+        session.apply(alloc, op)?;
+    }
+    Ok(session.finish().into_writer())
+}
+
+/// Prints the names of the image, each with the size of its file.
+fn print_names(rt: &impl Print, alloc: Global, image: &[u8]) -> Result<()> {
+    let mounted = mount::<LittleEndian>(alloc, image, GEOMETRY)?;
+    for (_, name, ino) in mounted.names() {
+        let name = str::from_utf8(name).context("a name that is no text")?;
+        if let Some(object) = mounted.object(ino) {
+            println!(rt; "  {name} {}", object.size)?;
+        }
+    }
+    Ok(())
+}
+
+fn main(rt: HostRuntime) -> Result<()> {
+    let image = build(rt.alloc())?;
+    // All of it; then cuts inside the write of the second file, the write of the first, and its name.
+    for length in [image.len(), 330, 150, 100] {
+        println!(&rt; "{length} bytes")?;
+        if let Some(left) = image.get(..length) {
+            print_names(&rt, rt.alloc(), left)?;
+        }
+    }
+    Ok(())
+}

@@ -1,0 +1,7 @@
+pub mod TallyLemmas
+pub mod JudgeLemmas
+pub mod WriteLemmas
+pub mod PlaceLemmas
+pub mod CallLemmas
+pub mod LawLemmas
+pub mod TileLemmas

@@ -1,0 +1,97 @@
+-- An image decompressed: which image goes out, and why none does.
+use Rattle.std.specs.Prelude.{◌≡◌, ℕ, ◌/◌, ◌+◌, ◌<◌, Bool, true, false, not, nat_lt, IsTrue, List, map, length, count_by, Option, Some, None, Result, Ok, Err, if◌then◌else◌}
+use Rattle.std.specs.Option.{option_or}
+use Rattle.std.specs.Io.KnownBytes.{Appends}
+use Rattle.flashbase.specs.Device.{PutsPart, next_count}
+use Rattle.jnode.specs.Writing.{canonical}
+use Rattle.jnode.specs.declared.order.Endian.{Endian}
+use Rattle.jnode.specs.declared.node.Seen.{Seen}
+use Rattle.jnode.specs.declared.node.Seen.TheVariants as seen
+use Rattle.jscan.specs.Image.{is_block_size, greatest_image, sightings}
+use Rattle.jscan.specs.Scans.{is_read_only}
+use Rattle.jlog.specs.Places.{fit, needed, free}
+use Rattle.jlog.specs.Output.{output}
+use Rattle.jexpand.specs.Expanded.{expanded_nodes}
+use Rattle.jexpand.specs.Refused.{nodes_fault}
+use Rattle.jexpand.specs.declared.fault.ConvertFault.{ConvertFault}
+use Rattle.jexpand.specs.declared.fault.ConvertFault.TheVariants as fault
+use Rattle.jconvert.specs.declared.converted.Converted.{Converted}
+
+-- ---- what goes out
+
+-- the written forms of the expanded nodes, in the order of their addresses
+abbrev pub expanded_forms : Endian → ℕ → List ℕ → List (List ℕ)
+expanded_forms e size image = map (canonical e) (expanded_nodes e size image)
+
+-- The image of them: what a log puts for these nodes from the start of an erased flash on.
+abbrev pub converted_image : Endian → ℕ → List ℕ → List ℕ
+converted_image e size image = output e size 0 (expanded_forms e size image)
+
+-- a node whose data were compressed
+abbrev pub is_changed : Seen → Bool
+is_changed (seen.Compressed compr) = true
+is_changed _ = false
+
+-- what is told of it: the nodes that were decompressed, all nodes, and the bytes
+abbrev pub converted_of : Endian → ℕ → List ℕ → Converted
+converted_of e size image = record {
+  changed = count_by (λ s. is_changed s.1) (sightings e size image);
+  nodes = length (expanded_nodes e size image);
+  bytes = length (converted_image e size image);
+}
+
+-- ---- why none does
+
+-- the least size of a block that is written
+abbrev pub least_written : ℕ
+least_written = 8192
+
+-- how many blocks of this size the greatest flash has
+abbrev pub greatest_blocks : ℕ → ℕ
+greatest_blocks size = greatest_image / size
+
+-- whether a flash of these blocks may be written, and has room for the nodes
+abbrev pub flash_fault : Endian → ℕ → List ℕ → Option ConvertFault
+flash_fault e size image =
+    let forms = expanded_forms e size image in
+    if is_read_only e size image then Some fault.ReadOnly
+    else if nat_lt size least_written then Some fault.Geometry
+    else if fit size (greatest_blocks size) 0 forms then None
+    else Some (fault.Full (needed forms) (free size (greatest_blocks size) 0))
+
+-- Why an image is not decompressed: its sizes come first, then the node of least address that is not expanded, then the
+-- flash that is to be written.
+abbrev pub convert_fault : Endian → ℕ → List ℕ → Option ConvertFault
+convert_fault e size image =
+    if not (is_block_size size) then Some fault.BlockSize
+    else if nat_lt greatest_image (length image) then Some fault.TooLarge
+    else option_or (nodes_fault e size image) (flash_fault e size image)
+
+-- The answer: the image that goes out, or why none does. Only memory may be wanting at any time.
+abbrev pub Converts : Endian → ℕ → List ℕ → Result (List ℕ) ConvertFault → Type 0
+Converts e size image (Ok bytes) = (convert_fault e size image ≡ None) × (bytes ≡ converted_image e size image)
+Converts e size image (Err fault.Sink) = ⊥
+Converts e size image (Err fault.OutOfMemory) = Unit {0}
+Converts e size image (Err f) = convert_fault e size image ≡ Some f
+
+-- What a call that writes the image does to a sink: all of it goes out, or a beginning, where the sink failed once or
+-- memory ran out. Nothing else is refused.
+abbrev pub WritesConverted : {T : Type 0} → Endian → ℕ → List ℕ → Option (List ℕ) → Option (List ℕ) → ℕ → ℕ
+    → Result T ConvertFault → Type 0
+WritesConverted e size image old new before now (Ok _) = Appends old new (converted_image e size image) × (now ≡ before)
+WritesConverted e size image old new before now (Err fault.Sink) = PutsPart old new (converted_image e size image) × (now ≡ next_count before)
+WritesConverted e size image old new before now (Err fault.OutOfMemory) = PutsPart old new (converted_image e size image) × (now ≡ before)
+WritesConverted e size image old new before now (Err _) = ⊥
+
+-- What decompressing into a sink answers: the image goes out, with what is told of it; or it is refused before a byte is
+-- put; or a beginning went out. The sink comes back in any case.
+abbrev pub Decompresses : Endian → ℕ → List ℕ → Option (List ℕ) → Option (List ℕ) → ℕ → ℕ → Result Converted ConvertFault → Type 0
+Decompresses e size image old new before now (Ok told) =
+    (convert_fault e size image ≡ None) × (told ≡ converted_of e size image)
+    × Appends old new (converted_image e size image) × (now ≡ before)
+Decompresses e size image old new before now (Err fault.Sink) =
+    (convert_fault e size image ≡ None) × PutsPart old new (converted_image e size image) × (now ≡ next_count before)
+Decompresses e size image old new before now (Err fault.OutOfMemory) =
+    PutsPart old new (converted_image e size image) × (now ≡ before)
+Decompresses e size image old new before now (Err f) =
+    (convert_fault e size image ≡ Some f) × (new ≡ old) × (now ≡ before)

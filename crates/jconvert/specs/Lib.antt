@@ -1,0 +1,4 @@
+pub mod Converting
+pub mod Tallying
+pub mod Putting
+pub mod Laws

@@ -1,0 +1,12 @@
+//! Laws of what goes out. Each function's contract is a law, and its body is empty.
+
+ghost use Rattle.jconvert.specs.Laws.{ConvertedIsImage, ConvertedMounts, ConvertedHasNoRoot, ConvertedClashes};
+
+/// What goes out is an image of exactly the expanded nodes, in order; it mounts as the file system that they make, or answers
+/// that two of them clash, or that the root is no directory.
+pub fn converted_mounts()
+    ensures image { ConvertedIsImage }
+    ensures mounts { ConvertedMounts }
+    ensures root { ConvertedHasNoRoot }
+    ensures clashes { ConvertedClashes }
+{}

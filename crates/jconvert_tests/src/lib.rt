@@ -1,0 +1,11 @@
+//! Tests of `jconvert`: images made by another program, and what they are decompressed to.
+#![tactic(auto)]
+
+#[cfg(test)]
+mod checks;
+#[cfg(test)]
+mod converting;
+#[cfg(test)]
+mod faults;
+#[cfg(test)]
+mod vectors;

@@ -1,0 +1,6 @@
+pub mod Standing
+pub mod Lines
+pub mod Planning
+pub mod Telling
+pub mod Laws
+pub mod Examples

@@ -1,0 +1,2 @@
+pub mod SightedLemmas
+pub mod NodeLemmas

@@ -1,0 +1,54 @@
+-- The nodes of an image with their data decompressed.
+use Rattle.std.specs.Prelude.{ℕ, ◌+◌, ◌/◌, ◌%◌, ◌==◌, List, [], drop, length, filter_map, Option, Some, None, option_map, option_and_then, if◌then◌else◌}
+use Rattle.jnode.specs.Compressed.{compressed_of, inode_with}
+use Rattle.jnode.specs.Reading.{tile_of, entry_len, inode_len}
+use Rattle.jnode.specs.Writing.{stored_bytes}
+use Rattle.jnode.specs.declared.node.CompressedNode.{CompressedNode}
+use Rattle.jnode.specs.declared.node.Fill.TheVariants.{Data}
+use Rattle.jnode.specs.declared.node.NodeRef.{NodeRef}
+use Rattle.jnode.specs.declared.node.NodeRef.TheVariants as node
+use Rattle.jnode.specs.declared.node.Seen.{Seen}
+use Rattle.jnode.specs.declared.node.Seen.TheVariants as seen
+use Rattle.jnode.specs.declared.order.Endian.{Endian}
+use Rattle.jscan.specs.Image.{block_of, sightings}
+use Rattle.jcompr.specs.Answer.{of_length}
+use Rattle.jcompr.specs.Content.{method_of, decompressed_of}
+use Rattle.jcompr.specs.declared.method.Method.{Method}
+
+-- the rest of its block from an address on
+abbrev pub rest_at : ℕ → List ℕ → ℕ → List ℕ
+rest_at size image addr = drop (addr % size) (block_of size image (addr / size))
+
+-- the node at an address where a compressed one is sighted
+abbrev pub compressed_node_at : Endian → ℕ → List ℕ → ℕ → CompressedNode
+compressed_node_at e size image addr = compressed_of e (tile_of e (rest_at size image addr))
+
+-- what data give by a method, where that is so many bytes
+abbrev pub unpacked : ℕ → List ℕ → Method → Option (List ℕ)
+unpacked size bytes method = option_and_then (of_length size) (decompressed_of method size bytes)
+
+-- The bytes that a compressed node gives for its range. A range of none has none, whatever the data; else they are what
+-- the data give by their method, as many as the range has.
+abbrev pub node_content : CompressedNode → Option (List ℕ)
+node_content node = if node.dsize == 0 then Some [] else option_and_then (unpacked node.dsize node.data) (method_of node.compr)
+
+-- the inode node of the same fields that has these bytes as they are
+abbrev pub with_content : CompressedNode → List ℕ → NodeRef
+with_content packed bytes = node.Inode (inode_with packed (Data bytes))
+
+-- The node that a sighted tile gives: an entry and an inode node as it is, a compressed one with its bytes.
+abbrev pub expanded_node : Endian → ℕ → List ℕ → ℕ × Seen → Option NodeRef
+expanded_node e size image (addr, seen.Entry entry) = Some (node.Entry entry)
+expanded_node e size image (addr, seen.Inode inode) = Some (node.Inode inode)
+expanded_node e size image (addr, seen.Compressed compr) =
+    let packed = compressed_node_at e size image addr in option_map (with_content packed) (node_content packed)
+expanded_node e size image _ = None
+
+-- The expanded nodes of an image, in the order of their addresses.
+abbrev pub expanded_nodes : Endian → ℕ → List ℕ → List NodeRef
+expanded_nodes e size image = filter_map (expanded_node e size image) (sightings e size image)
+
+-- the number of bytes of a node's written form
+abbrev pub node_length : NodeRef → ℕ
+node_length (node.Entry entry) = entry_len + length entry.name
+node_length (node.Inode inode) = inode_len + length (stored_bytes inode.fill)

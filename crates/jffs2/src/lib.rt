@@ -1,0 +1,49 @@
+//! Images of JFFS2, the Journalling Flash File System 2: read, checked, built and extended.
+//!
+//! This crate is the front door. It has no code of its own: it names, in one place, the calls and types
+//! of the crates below it that a program needs. `docs/PROOFS.md` says what is proved of each call,
+//! `docs/FORMAT.md` describes the medium byte by byte.
+//!
+//! | I want to | Call |
+//! |---|---|
+//! | read a file or a pipe into memory | [`load`] on a [`Source`], as [`FromReader`] |
+//! | see the file system of an image | [`mount`], which gives a [`Mounted`] |
+//! | follow a path | [`Mounted::find`]: the inode number that it leads to |
+//! | see kind, mode, owner, size and times of it | [`Mounted::object`] |
+//! | read its bytes | [`Mounted::read_at`], or [`Mounted::put_bytes`] into a [`Sink`] |
+//! | list a directory | [`Mounted::entries`]; [`Mounted::names`] has the names of all directories |
+//! | know what is damaged | [`Mounted::findings`], [`Mounted::dangling`], [`Mounted::shape`] |
+//! | print what `ls`, `cat` and `check` print | [`tree_lines`], [`content`], [`scan_lines`], [`verdict_lines`] |
+//! | see each node, with its address | [`scan`], or [`Sightings`] one by one |
+//! | see an image that is larger than memory | [`scan_stream`], [`stream_lines`] |
+//! | write to an image | [`Session::resume`], then [`Session::run`] with a list of [`Op`] |
+//! | put the old image and new operations out as one | [`emit`] |
+//! | read an image with compressed data | [`decompressed`], then [`mount`]; [`decompress`] writes it |
+//! | read operations from a text | [`listing`], then [`operations`] |
+//! | know whether a power cut inside a node would be seen | [`weak_cut`] |
+//!
+//! The byte order of an image is a type parameter, [`LittleEndian`] or [`BigEndian`]; the size of its
+//! erase blocks is the [`Geometry`]. Both have to be known: an image does not tell them.
+//!
+//! What allocates takes the allocator and may answer that memory is out; no call panics. An image is
+//! at most [`GREATEST_IMAGE`] bytes long, and is lent to [`mount`], not copied.
+//!
+//! The programs `example_read` and `example_write` use these calls.
+#![tactic(auto)]
+
+pub use byteorder::{BigEndian, LittleEndian};
+pub use flashbase::{
+    DeviceFault, FromReader, FromWriter, LoadFault, PutFault, Sink, Source, load, put_all,
+};
+pub use jbuild::{Parts, emit, operations};
+pub use jconvert::{ConvertFault, Converted, decompress, decompressed};
+pub use jlisting::{Action, Line, ListingFault, listing};
+pub use jlog::{Applied, Place, RunReport, Session, SessionFault};
+pub use jmount::{FindFault, Kind, MountFault, Mounted, Object, mount};
+pub use jnode::{Damage, Dirent, Endian, Fill, InodeNode, NodeRef, Order, Seen, weak_cut};
+pub use jreport::{ProgramFault, content, scan_lines, stream_lines, tree_lines, verdict_lines};
+pub use jscan::{
+    Counts, Extent, ExtentKind, Extents, Finding, FindingKind, GREATEST_IMAGE, Geometry, Scan,
+    ScanFault, Sightings, StreamFault, scan, scan_stream,
+};
+pub use jsteps::{Attributes, Op, OpFault, Page, Text};

@@ -1,0 +1,98 @@
+-- What a command does of an image that it decompresses: `decompress`, and a command with `--decompress`.
+use Rattle.std.specs.Prelude.{◌≡◌, ◌⊎◌, ℕ, Bool, true, false, List, Option, Some, None, Result, Ok, Err}
+use Rattle.std.specs.Io.KnownBytes.{Appends}
+use Rattle.flashbase.specs.Device.{PutsPart, next_count}
+use Rattle.jnode.specs.declared.order.Endian.{Endian}
+use Rattle.jmount.specs.declared.fault.MountFault.TheVariants as mount
+use Rattle.jlog.specs.declared.fault.SessionFault.{SessionFault}
+use Rattle.jlog.specs.declared.fault.SessionFault.TheVariants as session
+use Rattle.jconvert.specs.Converting.{Converts, converted_image, converted_of}
+use Rattle.jconvert.specs.declared.converted.Converted.{Converted}
+use Rattle.jexpand.specs.declared.fault.ConvertFault.{ConvertFault}
+use Rattle.jexpand.specs.declared.fault.ConvertFault.TheVariants as convert
+use Rattle.jreport.specs.ConvertedLine.{decompressed_line}
+use Rattle.jreport.specs.FoundIn.{found_in}
+use Rattle.jreport.specs.declared.faults.ProgramFault.{ProgramFault}
+use Rattle.jreport.specs.declared.faults.ProgramFault.TheVariants as program
+use Rattle.jffs2_image.specs.Writes.{GivesText, Held, HoldsNothing, IsHanded}
+use Rattle.jffs2_image.specs.declared.decompressing.Taken.{Taken}
+
+-- the program's fault that a fault of a conversion is
+abbrev pub fault_of_conversion : ConvertFault → ProgramFault
+fault_of_conversion convert.BlockSize = program.Mount mount.BlockSize
+fault_of_conversion convert.TooLarge = program.Mount mount.TooLarge
+fault_of_conversion (convert.Incompatible addr nodetype) = program.Mount (mount.Incompatible addr nodetype)
+fault_of_conversion (convert.Compressed addr compr) = program.Mount (mount.Compressed addr compr)
+fault_of_conversion (convert.Data addr) = program.Data addr
+fault_of_conversion (convert.TooLong addr) = program.TooLong addr
+fault_of_conversion convert.ReadOnly = program.Session session.ReadOnly None
+fault_of_conversion convert.Geometry = program.Session session.Geometry None
+fault_of_conversion (convert.Full needed free) = program.Session (session.Full needed free) None
+fault_of_conversion convert.Sink = program.Session session.Sink None
+fault_of_conversion convert.OutOfMemory = program.Session session.OutOfMemory None
+
+-- why nothing is made of an image
+abbrev pub IsNotConverted : Endian → ℕ → List ℕ → ProgramFault → Type 0
+IsNotConverted e size image fault = (refused : ConvertFault) × (fault ≡ fault_of_conversion refused) × Converts e size image (Err refused)
+
+-- ---- `--decompress`
+
+-- what `decompress` makes of an image, and what was found in the image itself
+pub record IsTaken (e : Endian) (size : ℕ) (image : List ℕ) (taken : Taken) : Type 0 where
+  pub made : Converts e size image (Ok taken.image.items)
+  pub found : taken.found ≡ found_in e size image
+
+-- the same answer, with this number of findings
+abbrev pub with_findings : ℕ → Result ℕ ProgramFault → Result ℕ ProgramFault
+with_findings n (Ok _) = Ok n
+with_findings n (Err fault) = Err fault
+
+-- What a command puts that may be asked to decompress its image: then it does the same of what `decompress` makes of it, and
+-- answers how many findings the image itself has; or it says why nothing is made of it.
+abbrev pub PutsTaken : Bool → Endian → ℕ → (List ℕ → Option (List ℕ) → Option (List ℕ) → ℕ → ℕ → Result ℕ ProgramFault → Type 0)
+    → List ℕ → Option (List ℕ) → Option (List ℕ) → ℕ → ℕ → Result ℕ ProgramFault → Type 0
+PutsTaken false e size Puts image old new before now answer = Puts image old new before now answer
+PutsTaken true e size Puts image old new before now answer =
+    ((made : List ℕ) × (done : Result ℕ ProgramFault) × Converts e size image (Ok made) × Puts made old new before now done
+    × (answer ≡ with_findings (found_in e size image).noted done))
+    ⊎ ((fault : ProgramFault) × (answer ≡ Err fault) × IsNotConverted e size image fault × (new ≡ old) × (now ≡ before))
+
+-- a command goes on with something: with the image, or with what `decompress` makes of it
+abbrev pub IsGoneOnWith : Bool → Endian → ℕ → List ℕ → Type 0
+IsGoneOnWith false e size image = Unit {0}
+IsGoneOnWith true e size image = (made : List ℕ) × Converts e size image (Ok made)
+
+-- ---- `decompress`
+
+-- a file was made, and these bytes were given to it, or a beginning of them
+abbrev pub HoldsMade : Held → List ℕ → Type 0
+HoldsMade held bytes = (old : Option (List ℕ)) × (given : Option (List ℕ)) × Appends old given bytes × IsHanded held old given
+
+abbrev pub HoldsMadeInPart : Held → List ℕ → Type 0
+HoldsMadeInPart held bytes = (old : Option (List ℕ)) × (given : Option (List ℕ)) × GivesText old given bytes × IsHanded held old given
+
+-- the line on what was made
+abbrev pub line_of_counts : Converted → List ℕ
+line_of_counts c = decompressed_line c.changed c.nodes c.bytes
+
+-- Where what is made of an image can't be written, or not to its end.
+abbrev pub IsNotWritten : Held → List ℕ → List ℕ → ProgramFault → Type 0
+IsNotWritten held output made (program.File name) = (name.now ≡ output) × (held.1 ≡ held.0)
+IsNotWritten held output made (program.Session session.Sink None) = HoldsMadeInPart held made
+IsNotWritten held output made (program.Session session.OutOfMemory None) = HoldsMadeInPart held made
+IsNotWritten held output made program.OutOfMemory = HoldsNothing held
+IsNotWritten held output made _ = ⊥
+
+-- What `decompress` makes of an image is given to a file that it makes, and told in a line; it answers how many findings the
+-- image has. Or no file is made, since nothing is made of the image; or one is made, and not written to its end.
+abbrev pub DecompressesFile : Held → Endian → ℕ → List ℕ → List ℕ → Option (List ℕ) → Option (List ℕ) → ℕ → ℕ → Result ℕ ProgramFault → Type 0
+DecompressesFile held e size output image old new before now (Ok n) =
+    (made : List ℕ) × Converts e size image (Ok made) × HoldsMade held made
+    × Appends old new (line_of_counts (converted_of e size image)) × (now ≡ before) × (n ≡ (found_in e size image).noted)
+DecompressesFile held e size output image old new before now (Err program.Output) =
+    (made : List ℕ) × Converts e size image (Ok made) × HoldsMade held made
+    × PutsPart old new (line_of_counts (converted_of e size image)) × (now ≡ next_count before)
+DecompressesFile held e size output image old new before now (Err fault) =
+    ((IsNotConverted e size image fault × (held.1 ≡ held.0))
+    ⊎ ((made : List ℕ) × Converts e size image (Ok made) × IsNotWritten held output made fault))
+    × (new ≡ old) × (now ≡ before)

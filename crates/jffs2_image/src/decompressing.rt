@@ -1,0 +1,174 @@
+//! Images that are decompressed: in memory, for a command that goes on with them, and into a file.
+ghost use Rattle.std.specs.Prelude.{◌≡◌, ◌⊎◌, ℕ, List, None, IfOk, IfErr, OnOk};
+ghost use Rattle.std.specs.Io.KnownBytes.{Appends};
+ghost use Rattle.jconvert.specs.Converting.{convert_fault, converted_image};
+ghost use Rattle.jffs2_image.specs.Decompressing.{DecompressesFile, HoldsMade, IsNotConverted, IsNotWritten, IsTaken, fault_of_conversion};
+ghost use Rattle.jffs2_image.specs.Host.{AreLoaded, BlamesDecompress, HasFailed, MakesFile, ReadsFile};
+ghost use Rattle.jffs2_image.specs.Writes.{GivesText, IsFaultOfMaking, IsUnreadFile};
+
+use crate::host::{Loader, MakeFault, Maker};
+use crate::output::Output;
+use crate::writing::load_file;
+use flashbase::{DeviceFault, Sink};
+use jconvert::{ConvertFault, decompressed, judge, write_converted};
+use jlog::SessionFault;
+use jmount::MountFault;
+use jnode::Order;
+use jreport::{Found, ProgramFault, found_in, put_decompressed};
+use jscan::Geometry;
+use std::alloc::Global;
+
+/// An image that `decompress` makes, held in memory.
+#[derive(Drop)]
+pub struct Taken {
+    pub image: Vec<u8>,
+    /// What was found in the image that was read.
+    pub found: Found,
+}
+
+/// What the program gives up for where an image is not converted.
+fn conversion_fault(fault: ConvertFault) -> ProgramFault<'static>
+    ensures { result ≡ fault_of_conversion fault }
+{
+    match fault {
+        ConvertFault::BlockSize => ProgramFault::Mount(MountFault::BlockSize),
+        ConvertFault::TooLarge => ProgramFault::Mount(MountFault::TooLarge),
+        ConvertFault::Incompatible { addr, nodetype } => {
+            ProgramFault::Mount(MountFault::Incompatible { addr, nodetype })
+        }
+        ConvertFault::Compressed { addr, compr } => {
+            ProgramFault::Mount(MountFault::Compressed { addr, compr })
+        }
+        ConvertFault::Data { addr } => ProgramFault::Data { addr },
+        ConvertFault::TooLong { addr } => ProgramFault::TooLong { addr },
+        ConvertFault::ReadOnly => ProgramFault::from(SessionFault::ReadOnly),
+        ConvertFault::Geometry => ProgramFault::from(SessionFault::Geometry),
+        ConvertFault::Full { needed, free } => {
+            ProgramFault::from(SessionFault::Full { needed, free })
+        }
+        ConvertFault::Sink => ProgramFault::from(SessionFault::Sink),
+        ConvertFault::OutOfMemory => ProgramFault::from(SessionFault::OutOfMemory),
+    }
+}
+
+/// What `decompress` makes of an image, in memory, and what was found in the image.
+pub fn take_image<E: Order>(
+    alloc: Global,
+    image: &[u8],
+    geometry: Geometry,
+) -> Result<Taken, ProgramFault<'static>>
+    ensures taken { IfOk result (IsTaken E.order geometry.block image.now) }
+    ensures refused { IfErr result (IsNotConverted E.order geometry.block image.now) }
+{
+    match decompressed::<E>(alloc, image, geometry) {
+        Ok(made) => Ok(Taken {
+            image: made,
+            found: found_in::<E>(image, geometry),
+        }),
+        Err(fault) => Err(conversion_fault(fault)),
+    }
+}
+
+/// The same of the file of a name.
+pub fn take_file<'a, E: Order, L: Loader>(
+    alloc: Global,
+    loader: &mut L,
+    geometry: Geometry,
+    name: &'a str,
+) -> Result<Taken, ProgramFault<'a>>
+    ensures taken { IfOk result (λ taken. (image : List ℕ) × AreLoaded (L.told loader.old name.entry.now) image
+        × IsTaken E.order geometry.block image taken) }
+    ensures refused { IfErr result (λ fault. IsUnreadFile name.entry.now (L.told loader.old name.entry.now) fault
+        ⊎ ((image : List ℕ) × AreLoaded (L.told loader.old name.entry.now) image × IsNotConverted E.order geometry.block image fault
+        × (L.failures loader.new ≡ L.failures loader.old))) }
+    ensures host { ReadsFile (L.told loader.old name.entry.now) (L.failures loader.old) (L.failures loader.new) result }
+    ensures stays { (other : List ℕ) → L.told loader.new other ≡ L.told loader.old other }
+{
+    let image = match load_file(loader, name) {
+        Ok(image) => image,
+        Err(fault) => return Err(fault),
+    };
+    match take_image::<E>(alloc, image.as_slice(), geometry) {
+        Ok(taken) => Ok(taken),
+        Err(fault) => Err(fault),
+    }
+}
+
+/// Puts out what is made of an image that is not refused, to the last byte.
+fn put_converted<E: Order, S: Output>(
+    alloc: Global,
+    image: &[u8],
+    geometry: Geometry,
+    output: &mut S,
+) -> Result<(), SessionFault>
+    requires { convert_fault E.order geometry.block image.now ≡ None }
+    ensures given { OnOk result (Appends (S.taken output.old) (S.given output.new) (converted_image E.order geometry.block image.now)) }
+    ensures count { OnOk result (S.failures output.new ≡ S.failures output.old) }
+    ensures part { IfErr result (λ _. GivesText (S.taken output.old) (S.given output.new) (converted_image E.order geometry.block image.now)) }
+    ensures fault { IfErr result IsFaultOfMaking }
+    ensures failed { IfErr result (λ fault. fault ≡ SessionFault.Sink → HasFailed (S.failures output.old) (S.failures output.new)) }
+{
+    let put = write_converted::<E, S>(alloc, image, geometry, output);
+    let finished = output.finish();
+    match (put, finished) {
+        (Ok(()), Ok(())) => Ok(()),
+        (Err(ConvertFault::OutOfMemory), _) => Err(SessionFault::OutOfMemory),
+        _ => Err(SessionFault::Sink),
+    }
+}
+
+/// Makes the file, and puts out to it what is made of an image that is not refused.
+fn make_converted<'a, E: Order, M: Maker>(
+    alloc: Global,
+    maker: &mut M,
+    image: &[u8],
+    geometry: Geometry,
+    name: &'a str,
+) -> Result<(), ProgramFault<'a>>
+    requires { convert_fault E.order geometry.block image.now ≡ None }
+    ensures made { OnOk result (HoldsMade (M.held maker.old, M.held maker.new) (converted_image E.order geometry.block image.now)) }
+    ensures fault { IfErr result (λ fault. IsNotWritten (M.held maker.old, M.held maker.new) name.entry.now (converted_image E.order geometry.block image.now) fault) }
+    ensures host { (read : ℕ) → BlamesDecompress (maker.new ≡ maker.old) (MakesFile name.entry.now (M.names maker.old) (M.names maker.new))
+        read read (M.failures maker.old) (M.failures maker.new) result }
+{
+    let mut output = match maker.make(name) {
+        Ok(output) => output,
+        Err(MakeFault::NotMade) => return Err(ProgramFault::File(name)),
+        Err(MakeFault::OutOfMemory) => return Err(ProgramFault::OutOfMemory),
+    };
+    let answer = put_converted::<E, M::Made>(alloc, image, geometry, &mut output);
+    maker.take_back(output);
+    match answer {
+        Ok(()) => Ok(()),
+        Err(fault) => Err(ProgramFault::from(fault)),
+    }
+}
+
+/// What `decompress` makes of an image goes to a file of this name, which is made only after all was judged that can be
+/// before a byte is written, and is told in a line. Answers how many findings of the image to note.
+pub fn decompress_into<'a, E: Order, M: Maker, T: Sink>(
+    alloc: Global,
+    maker: &mut M,
+    image: &[u8],
+    geometry: Geometry,
+    name: &'a str,
+    sink: &mut T,
+) -> Result<u64, ProgramFault<'a>>
+    ensures decompresses { DecompressesFile (M.held maker.old, M.held maker.new) E.order geometry.block name.entry.now image.now
+        (T.taken sink.old) (T.taken sink.new) (T.failures sink.old) (T.failures sink.new) result }
+    ensures host { (read : ℕ) → BlamesDecompress (maker.new ≡ maker.old) (MakesFile name.entry.now (M.names maker.old) (M.names maker.new))
+        read read (M.failures maker.old) (M.failures maker.new) result }
+{
+    let counts = match judge::<E>(alloc, image, geometry) {
+        Ok(counts) => counts,
+        Err(fault) => return Err(conversion_fault(fault)),
+    };
+    match make_converted::<E, M>(alloc, maker, image, geometry, name) {
+        Ok(()) => {}
+        Err(fault) => return Err(fault),
+    }
+    match put_decompressed(counts.changed, counts.nodes, counts.bytes, sink) {
+        Ok(()) => Ok(found_in::<E>(image, geometry).noted),
+        Err(DeviceFault) => Err(ProgramFault::Output),
+    }
+}

@@ -1,0 +1,4 @@
+pub mod CensusLemmas
+pub mod FirstLemmas
+pub mod LineLemmas
+pub mod TallyLemmas

@@ -1,0 +1,17 @@
+use Rattle.flashbase.proofs.DeviceLemmas.{first_failed, then_puts}
+use Rattle.jreport.specs.Advice.{advice_of, fault_lines_of}
+use Rattle.jreport.specs.Faults.{fault_line_of}
+use Rattle.jreport.proofs.advice.fault_lines.Goals as goal
+
+pub returns-in_err-fault_line : goal.returns-in_err-fault_line
+unfolding fault_lines_of
+returns-in_err-fault_line g c =
+    let put = c.in_err-fault_line.ensures in
+    first_failed _ _ _ _ (fault_line_of c.args.fault.now) (advice_of c.args.fault.now) _ c.from_residual.ensures.0 put.0 put.1
+
+pub returns : goal.returns
+unfolding fault_lines_of
+returns g c =
+    let put = c.in_ok-fault_line.ensures in
+    then_puts _ (g.T.Sink.taken c.fault_line.new.sink) _ _ _ _ (fault_line_of c.args.fault.now) (advice_of c.args.fault.now) _ put.0 put.1
+    (rw c.advice.ensures at c.put_text.ensures.puts)

@@ -1,0 +1,25 @@
+use Rattle.std.proofs.Common.{ℕ, refl, Ok}
+use Rattle.jreport.proofs.WholeImageLemmas.{tree_failed, tree_is_read, tree_put, mount_failed, mount_is_read}
+use Rattle.jreport.proofs.whole_image.image_tree.Goals as goal
+
+pub returns-in_err-tree-clause-put : goal.returns-in_err-tree-clause-put
+returns-in_err-tree-clause-put g c =
+    mount_failed g.E.Order.order c.args.geometry.block c.args.image.now c.args.image.now c.in_err-tree.field-0.0 _ _ _ _ c.from_residual.ensures.1 refl c.in_err-tree.ensures
+
+pub returns-in_err-tree-clause-read : goal.returns-in_err-tree-clause-read
+returns-in_err-tree-clause-read g c = mount_is_read c.in_err-tree.field-0.0 _ c.from_residual.ensures.1
+
+pub returns-in_err-tree_lines-clause-put : goal.returns-in_err-tree_lines-clause-put
+returns-in_err-tree_lines-clause-put g c =
+    tree_failed ℕ g.E.Order.order c.args.geometry.block c.args.image.now c.args.image.now c.in_ok-tree.tree
+    (g.T.Sink.taken c.args.sink.now) (g.T.Sink.taken c.tree_lines.new.sink) (g.T.Sink.failures c.args.sink.now) (g.T.Sink.failures c.tree_lines.new.sink)
+    c.in_err-tree_lines.field-0.0 _ c.from_residual-in_err-tree_lines.ensures.1 refl c.in_ok-tree.ensures c.in_err-tree_lines.ensures
+
+pub returns-in_err-tree_lines-clause-read : goal.returns-in_err-tree_lines-clause-read
+returns-in_err-tree_lines-clause-read g c = tree_is_read ℕ c.in_ok-tree.tree _ _ _ _ c.in_err-tree_lines.field-0.0 _ c.from_residual-in_err-tree_lines.ensures.1 c.in_err-tree_lines.ensures
+
+pub returns-clause-put : goal.returns-clause-put
+returns-clause-put g c =
+    tree_put g.E.Order.order c.args.geometry.block c.args.image.now c.args.image.now c.in_ok-tree.tree
+    (g.T.Sink.taken c.args.sink.now) (g.T.Sink.taken c.tree_lines.new.sink) (g.T.Sink.failures c.args.sink.now) (g.T.Sink.failures c.tree_lines.new.sink)
+    (Ok c.noted.result) refl c.in_ok-tree.ensures c.in_ok-tree_lines.ensures c.noted.ensures

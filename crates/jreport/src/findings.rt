@@ -1,0 +1,61 @@
+//! How many findings an image has of which a person is told, also an image that does not mount.
+
+ghost use Rattle.std.specs.Prelude.{◌≡◌, ◌%◌, ◌^◌, ◌+◌, ◌<◌, ◌≤◌, length};
+ghost use Rattle.jscan.specs.Extents.{extents};
+ghost use Rattle.jscan.specs.Scans.{IsScannable};
+ghost use Rattle.jreport.specs.FoundIn.{found_among, found_in};
+
+use crate::extraction_notes::is_attribute;
+use crate::notes::is_noted;
+use flashbase::Part;
+use jnode::Order;
+use jscan::{Extents, Geometry, block_at};
+
+/// How many findings there are of which a person is told.
+#[derive(Clone, Copy, Debug, PartialEq, Eq)]
+pub struct Found {
+    /// Of damage, dirt or the other byte order.
+    pub noted: u64,
+    /// Nodes of extended attributes.
+    pub attributes: u64,
+}
+
+/// Those of a block, which begins at the address `start`.
+fn found_in_block<E: Order>(start: u32, block: Part<'_>) -> Found
+    requires whole_words { length block % 4 ≡ 0 }
+    requires addressed { start + length block < 2 ^ 32 }
+    ensures found { result ≡ found_among (extents E.order start block.entry) }
+    ensures noted { result.noted ≤ length block.entry }
+    ensures attributes { result.attributes ≤ length block.entry }
+{
+    let mut found = Found {
+        noted: 0,
+        attributes: 0,
+    };
+    for extent in Extents::<E>::of_part(start, block) {
+        if let Some(finding) = extent.finding() {
+            found.noted += u64::from(is_noted(finding.kind));
+            found.attributes += u64::from(is_attribute(finding.kind));
+        }
+    }
+    found
+}
+
+/// Those of an image. It may be one that does not mount.
+pub fn found_in<E: Order>(image: &[u8], geometry: Geometry) -> Found
+    requires { IsScannable geometry.block image.now }
+    ensures { result ≡ found_in E.order geometry.block image.now }
+{
+    let size = geometry.block as usize;
+    let mut all = Found {
+        noted: 0,
+        attributes: 0,
+    };
+    for k in 0..image.len().div_ceil(size) {
+        let start = k * size;
+        let found = found_in_block::<E>(start as u32, block_at(image, start, size));
+        all.noted += found.noted;
+        all.attributes += found.attributes;
+    }
+    all
+}

@@ -1,0 +1,130 @@
+#!/usr/bin/env python3
+"""What `info` has to tell of an image, worked out from its bytes alone: info_model.py FILE prints the lines.
+
+    $ printf 'hello' > /tmp/hello; tests/info_model.py /tmp/hello
+    bytes 5
+    order none
+    block unknown
+    nodes entries 0 inodes 0 obsolete 0 damaged 0 other 0
+    data none 0 zero 0 rtime 0 zlib 0 lzo 0 other 0
+    highest inode 0 version 0
+
+It shares nothing with the crates. The layouts are those of include/uapi/linux/jffs2.h of Linux; the rules are those of
+docs/FORMAT.md."""
+import binascii
+import struct
+import sys
+
+MAGIC, ACCURATE = 0x1985, 0x2000
+DIRENT, INODE, MARKER = 0xE001, 0xE002, 0x2003
+SIZES = [1 << bits for bits in range(12, 23)]
+BEGINNINGS = [(b'\x1f\x8b', 'gzip'), (b'\xfd7zXZ\0', 'xz'), (b'UBI#', 'UBI'), (b'hsqs', 'squashfs'),
+              (b'HDR0', 'a TRX header'), (b'\x27\x05\x19\x56', 'a uImage header')]
+
+
+def crc(data):
+    """The checksum of Linux' crc32(0, ..): that of zip without its start and its end."""
+    return binascii.crc32(data, 0xFFFFFFFF) ^ 0xFFFFFFFF
+
+
+def walk(image, order):
+    """The nodes in one byte order: address, length in whole words, kind, inode number, version, compression."""
+    image = image + b'\xff' * (-len(image) % 4)
+    place = 0
+    while place + 12 <= len(image):
+        magic, kind, totlen, hdr_crc = struct.unpack_from(order + 'HHII', image, place)
+        if magic == MAGIC and 12 <= totlen <= len(image) - place:
+            head = struct.pack(order + 'HHI', magic, kind | ACCURATE, totlen)
+            if crc(head) == hdr_crc:
+                tile = (totlen + 3) // 4 * 4
+                yield (place, tile) + judged(image[place:place + tile], kind, totlen, order)
+                place += tile
+                continue
+        place += 4
+
+
+def whole_words(length):
+    return (length + 3) // 4
+
+
+def judged(tile, kind, totlen, order):
+    if not kind & ACCURATE:
+        return 'obsolete', 0, 0, None
+    if kind == DIRENT:
+        return judged_entry(tile, totlen, order)
+    if kind == INODE:
+        return judged_inode(tile, totlen, order)
+    return ('marker' if kind == MARKER else 'other'), 0, 0, None
+
+
+def judged_entry(tile, totlen, order):
+    damaged = 'damaged', 0, 0, None
+    if totlen < 40:
+        return damaged
+    pino, version, ino, _, nsize, _, node_crc, name_crc = struct.unpack_from(order + 'IIIIBBxxII', tile, 12)
+    if node_crc != crc(tile[:32]) or whole_words(40 + nsize) != whole_words(totlen):
+        return damaged
+    if not 1 <= nsize <= 254 or pino == 0 or name_crc != crc(tile[40:40 + nsize]):
+        return damaged
+    return 'entry', max(pino, ino), version, None
+
+
+def judged_inode(tile, totlen, order):
+    damaged = 'damaged', 0, 0, None
+    if totlen < 68:
+        return damaged
+    ino, version = struct.unpack_from(order + 'II', tile, 12)
+    offset, csize, dsize, compr = struct.unpack_from(order + 'IIIB', tile, 44)
+    data_crc, node_crc = struct.unpack_from(order + 'II', tile, 60)
+    if node_crc != crc(tile[:60]) or whole_words(68 + csize) != whole_words(totlen):
+        return damaged
+    if ino == 0 or offset + dsize > 0xFFFFFFFF or (compr == 0 and csize != dsize):
+        return damaged
+    if csize and data_crc != crc(tile[68:68 + csize]):
+        return damaged
+    return 'inode', ino, version, compr
+
+
+def sizes(nodes):
+    markers = [node[0] for node in nodes if node[2] == 'marker']
+    least = [size for size in SIZES if all(a // size == (a + n - 1) // size for a, n, *_ in nodes)]
+    greatest = [size for size in SIZES if all(a % size == 0 for a in markers)]
+    if not any(markers) or not least or not greatest or least[0] > greatest[-1]:
+        return 'block unknown'
+    return f'block from {least[0]} to {greatest[-1]} markers {len(markers)}'
+
+
+def lines(image):
+    little, big = list(walk(image, '<')), list(walk(image, '>'))
+    nodes, other = (big, little) if len(big) > len(little) else (little, big)
+    kinds = [node[2] for node in nodes]
+    ways = [node[5] for node in nodes if node[2] == 'inode']
+    order = f"order {'big' if nodes is big else 'little'} nodes {len(nodes)} other {len(other)}"
+    counted = [kinds.count(kind) for kind in ('entry', 'inode', 'obsolete', 'damaged')]
+    packed = [ways.count(way) for way in (0, 1, 2, 6, 7)]
+    return [
+        f'bytes {len(image)}',
+        order if nodes else 'order none',
+        sizes(nodes),
+        'nodes entries {} inodes {} obsolete {} damaged {} other {}'.format(*counted, len(nodes) - sum(counted)),
+        'data none {} zero {} rtime {} zlib {} lzo {} other {}'.format(*packed, len(ways) - sum(packed)),
+        f'highest inode {max([n[3] for n in nodes], default=0)} version {max([n[4] for n in nodes], default=0)}',
+    ]
+
+
+def note(image):
+    return next((f'the file begins as {name} does' for magic, name in BEGINNINGS if image.startswith(magic)), None)
+
+
+def main():
+    if len(sys.argv) != 2:
+        sys.exit(__doc__)
+    with open(sys.argv[1], 'rb') as file:
+        image = file.read()
+    print('\n'.join(lines(image)))
+    if note(image):
+        print('note:', note(image))
+
+
+if __name__ == '__main__':
+    main()
