@@ -73,7 +73,11 @@ fn streams_as_short_as_those_of_zlib(rt: HostRuntime) -> Result<(), Fail> {
         let answer = compress(alloc, &bytes, &mut packer).map_err(|_| "no memory")?;
         let stream = answer.ok_or("no stream")?;
         equal_at(&rt, block_of(stream), Some(block), (kind, count));
-        expect_at(&rt, stream.len() <= length.saturating_add(more), (kind, count, stream.len()));
+        expect_at(
+            &rt,
+            stream.len() <= length.saturating_add(more),
+            (kind, count, stream.len()),
+        );
     }
     Ok(())
 }
