@@ -15,6 +15,7 @@ import sys
 
 HERE = os.path.dirname(os.path.abspath(__file__))
 sys.path.insert(0, os.path.join(HERE, "../tests"))
+import compressed_images as packed  # noqa: E402
 import hostile_images as images  # noqa: E402
 from measuring import measured  # noqa: E402
 
@@ -25,7 +26,7 @@ PROGRAM = os.path.abspath(sys.argv[4] if len(sys.argv) > 4 else os.path.join(HER
 MOST = 2.3
 # Each thing at COUNT over this number, and the commands that it is given to. A chain's listing is as long as all of its paths.
 THINGS = (
-    (images.names, 1, ("check", "ls", "append")),
+    (images.names, 1, ("check", "ls", "append", "decompress")),
     (images.depths, 2, ("check", "cat", "append")),
     (images.circles, 2, ("check", "append")),
     (images.rising, 1, ("check", "cat")),
@@ -33,6 +34,8 @@ THINGS = (
     (images.shuffled, 1, ("check", "cat")),
     (images.nested, 1, ("check", "cat")),
     (images.striped, 1, ("check", "cat")),
+    (packed.many, 20, ("decompress", "ls --decompress")),
+    (packed.bomb, 100, ("decompress",)),
 )
 
 
@@ -44,6 +47,8 @@ def words_of(command, image, make, count):
         "ls": [PROGRAM, "ls", image],
         "cat": [PROGRAM, "cat", image, path],
         "append": [PROGRAM, "append", "--blocks", "1024", image, "one.txt", "more.img"],
+        "decompress": [PROGRAM, "decompress", image, "more.img"],
+        "ls --decompress": [PROGRAM, "ls", "--decompress", image],
     }[command]
 
 

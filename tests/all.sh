@@ -31,6 +31,7 @@ suite tests/trace.py
 suite tests/completions.py
 suite tests/quick.sh "$copy/crates/jffs2_image/out/jffs2_image"
 suite tests/program.sh "$copy/crates/jffs2_image/out/jffs2_image"
+suite tests/decompress.sh "$copy/crates/jffs2_image/out/jffs2_image"
 suite tests/hostile.py "$copy/crates/jffs2_image/out/jffs2_image"
 suite tests/folders.py "$copy/crates/jffs2_image/out/jffs2_image"
 cat "$times"

@@ -45,6 +45,7 @@ names = [word for word in words if re.fullmatch(r"[a-z]\w*", word)]
 unknown = [word for word in words if word.startswith("--") and word not in known]
 unknown += [names[0]] if not names or names[0] not in known else []
 unknown += [name for name in names[1:] if not os.path.isdir(os.path.join(top, name))]
+unknown += words[1:] if words[:1] == ["ci"] else []  # it takes no names
 for path in (word for word in words if "::" in word):
     *modules, name = path.split("::")
     text = open(os.path.join(top, crate, "src", modules[0] + ".rt")).read()

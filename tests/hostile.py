@@ -14,12 +14,18 @@ import subprocess
 import sys
 import threading
 
+import compressed_images as packed
+import decompress_model as opened
 import hostile_images as images
 import hostile_model as model
 from groups import PROGRAM, ROOT, Done, run_all, verdict, write
 
 NO_MEMORY = re.compile(rb"((?:left out .*\n)*)jffs2_image: (?:L3|C5|M7|P6|S5) OutOfMemory(?: line \d+)?\n")
 NOTE = b"jffs2_image: note: %d %s, see check --scan; a wrong --block or --endian shows as findings too\n"
+COMPRESSED = (
+    b"jffs2_image: note: the image is compressed; "
+    b"decompress writes one that is not, and --decompress reads it\n"
+)
 OUTPUT = b"jffs2_image: P5 Output\n"
 SIZES = 10
 # A command is given up after so many seconds.
@@ -78,11 +84,16 @@ MEMORY = (
     ["append", "--blocks", "200", "many.img", "many.txt", "out.img"],
     ["extract", "some.img", "out.dir"],
     ["listing", "some.dir"],
+    ["decompress", "packed.img", "out.img"],
+    ["ls", "--decompress", "packed.img"],
+    ["cat", "--decompress", "packed.img", "/p1"],
+    ["extract", "--decompress", "packed.img", "out.dir"],
+    ["append", "--decompress", "--blocks", "200", "packed.img", "many.txt", "out.img"],
 )
 
 
 def writes(words):
-    return words[0] in ("build", "append")
+    return words[0] in ("build", "append", "decompress")
 
 
 def below(top):
@@ -133,6 +144,7 @@ def in_little_memory():
     write("many.txt", LISTING)
     write("data", bytes(20000))
     write("creates.txt", "".join(f"create 0644 /f{k:05}\n" for k in range(20000)))
+    write("packed.img", packed.many(300))
     write("some.img", images.names(1000))
     os.mkdir("some.dir")
     for k in range(1000):
@@ -164,6 +176,7 @@ def with_refused_growths():
     shim = os.path.abspath("refuse.so")
     subprocess.run(["cc", "-O1", "-shared", "-fPIC", "-fno-builtin", "-o", shim, f"{ROOT}/tests/refuse.c", "-ldl"], check=True)
     write("small.img", images.sample())
+    write("packed.img", packed.sample())
     write("small.txt", "mkdir 0755 /d\ncreate 0644 /d/f\npart /d/f 0 data\nsymlink /s a\\x20b\nrename /d /e\n")
     write("data", b"data")
     small_folder("small.dir")
@@ -175,6 +188,11 @@ def with_refused_growths():
         ["build", "--blocks", "2", "small.txt", "out.img"],
         ["append", "--blocks", "2", "small.img", "small.txt", "out.img"],
         ["extract", "small.img", "out.dir"],
+        ["decompress", "packed.img", "out.img"],
+        ["ls", "--decompress", "packed.img"],
+        ["cat", "--decompress", "packed.img", "/zlib"],
+        ["append", "--decompress", "--blocks", "2", "packed.img", "small.txt", "out.img"],
+        ["extract", "--decompress", "packed.img", "out.dir"],
         ["listing", "small.dir"],
         ["--help"],
         ["paint"],
@@ -221,8 +239,20 @@ def without_reader(words, **others):
 
 
 HELP = (["--help"], ["check", "--help"])
-PRINTING = (["check", "small.img"], ["check", "--scan", "small.img"], ["ls", "small.img"], ["cat", "small.img", "/a"])
-WRITING = (["build", "--blocks", "2", "small.txt", "out.img"], ["append", "--blocks", "2", "small.img", "small.txt", "out.img"])
+PRINTING = (
+    ["check", "small.img"],
+    ["check", "--scan", "small.img"],
+    ["ls", "small.img"],
+    ["cat", "small.img", "/a"],
+    ["ls", "--decompress", "packed.img"],
+    ["cat", "--decompress", "packed.img", "/lzo"],
+)
+WRITING = (
+    ["build", "--blocks", "2", "small.txt", "out.img"],
+    ["append", "--blocks", "2", "small.img", "small.txt", "out.img"],
+    ["append", "--decompress", "--blocks", "2", "packed.img", "small.txt", "out.img"],
+    ["decompress", "packed.img", "out.img"],
+)
 
 
 def on_bad_streams():
@@ -270,7 +300,7 @@ def through_fifos():
     for words in (*PRINTING, *WRITING):
         right, wanted = tried(words)
         for place, name in enumerate(words):
-            if name in ("small.img", "small.txt"):
+            if name in ("small.img", "packed.img", "small.txt"):
                 feeder = fed("fifo", read(name))
                 done, made = tried([*words[:place], "fifo", *words[place + 1 :]])
                 verdict(f"{words} with a FIFO as {name}", (done, made) == (right, wanted), done)
@@ -289,13 +319,14 @@ def through_fifos():
 def into_fifo():
     """OUT is a FIFO: its reader gets the image; where the reader goes away, that is a fault."""
     write("large.txt", LISTING)
+    write("many.packed", packed.many(30))
     for words in WRITING:
         write("data", b"data")
         _, wanted = tried(words)
         done, got = read_by(lambda file: file.read(), [*words[:-1], "fifo"])
         verdict(f"{words} into a FIFO", done.status == 0 and got == [wanted], done)
         write("data", bytes(20000))
-        others = {"small.txt": "large.txt", "2": "100", "out.img": "fifo"}
+        others = {"small.txt": "large.txt", "2": "100", "out.img": "fifo", "packed.img": "many.packed"}
         done, _ = read_by(lambda file: None, [others.get(word, word) for word in words])
         is_told = re.fullmatch(rb"jffs2_image: S4 Sink( line \d+)?\n", done.err)
         verdict(f"{words} into a FIFO without reader", done.status == 1 and is_told, done)
@@ -330,6 +361,7 @@ def readings(name):
     yield from (["check", name], ["ls", name], ["cat", name, "/a"], ["build", "--blocks", "2", name, "out.img"])
     yield ["append", "--blocks", "2", name, "small.txt", "out.img"]
     yield ["append", "--blocks", "2", "small.img", name, "out.img"]
+    yield from (["decompress", name, "out.img"], ["ls", "--decompress", name])
 
 
 def on_devices():
@@ -342,7 +374,8 @@ def on_devices():
     os.symlink("loop", "loop")
     os.symlink("nowhere/file", "nowhere.link")
     for name in ("loop", "nowhere.link", "small.img/file", "x" * 5000, "y" * 256):
-        for words in (*readings(name), ["build", "--blocks", "2", "small.txt", name]):
+        makings = ["build", "--blocks", "2", "small.txt", name], ["decompress", "small.img", name]
+        for words in (*readings(name), *makings):
             done = run(words)
             verdict(f"{words[0]} of {name[:20]}", done == fault(f"P1 File {name}"), done)
     null = "/dev/null"
@@ -352,6 +385,8 @@ def on_devices():
         (["build", "--blocks", "2", null, null], b"accepted 0 nodes 0 bytes 0\n"),
         (["build", "--blocks", "2", "one.txt", null], b"accepted 1 nodes 2 bytes 124\n"),
         (["append", "--blocks", "2", null, "one.txt", null], b"accepted 1 nodes 2 bytes 124\n"),
+        (["decompress", null, null], b"decompressed 0 nodes 0 bytes 0\n"),
+        (["ls", "--decompress", null], NOWHERE),
     ):
         write("one.txt", "create 0644 /a\n")
         done = run(words)
@@ -362,6 +397,7 @@ TWICE = (
     (["append", "--blocks", "2", "copy", "small.txt", "other"], "small.img"),
     (["append", "--blocks", "2", "small.img", "copy", "other"], "small.txt"),
     (["build", "--blocks", "2", "copy", "other"], "small.txt"),
+    (["decompress", "copy", "other"], "packed.img"),
 )
 
 
@@ -427,13 +463,15 @@ def on_any(number, image):
         done = run(["check", "--block", str(size), "any.img"])
         verdict(f"check of image {number} in blocks of {size}", done == Done(status, text(lines), b""), done)
     lines, refused, findings = model.ls(image)
-    note = NOTE % (findings, b"finding" if findings == 1 else b"findings") if findings else b""
+    note = findings_note(findings)
     done = run(["ls", "any.img"])
-    verdict(f"ls of image {number}", done == (fault(refused) if refused else Done(0, text(lines), note)), done)
+    wanted = refusal(refused) if refused else Done(0, text(lines), note)
+    verdict(f"ls of image {number}", done == wanted, done)
     for name in (b"a", b"b"):
         content, why = model.cat(image, name)
         done = run(["cat", "any.img", f"/{name.decode()}"])
-        verdict(f"cat of image {number}", done == (fault(why) if why else Done(0, content, note)), done)
+        wanted = refusal(why) if why else Done(0, content, note)
+        verdict(f"cat of image {number}", done == wanted, done)
     done = run(["check", "--scan", "any.img"])
     verdict(f"check --scan of image {number}", done.status in (0, 3) and not done.err, done)
     goes_on(number, lines, refused, note)
@@ -448,12 +486,98 @@ def goes_on(number, lines, refused, note):
         is_right = [line for line in after if not line.endswith(" /new")] == lines and len(after) == len(lines) + 1
         verdict(f"append to image {number}", is_right and run(["ls", "out.img"]).out == text(after) and done.err == note, done)
     else:
-        told = [fault(why) for why in (refused, "S3 ReadOnly", "S1 Refused O12 Exhausted line 1")]
+        told = [refusal(why) for why in (refused, "S3 ReadOnly", "S1 Refused O12 Exhausted line 1")]
         verdict(f"append to image {number}", done in told, done)
+
+
+def findings_note(count):
+    return NOTE % (count, b"finding" if count == 1 else b"findings") if count else b""
+
+
+def refusal(why):
+    """The fault of an image that does not mount: a note tells where its data can be decompressed."""
+    done = fault(why or "")
+    return done._replace(err=done.err + COMPRESSED) if opened.noted(why) else done
 
 
 def text(lines):
     return "".join(f"{line}\n" for line in lines).encode()
+
+
+# ---- Compressed images
+
+
+def on_compressed():
+    """Compressed nodes in both orders: what they stand for, or the fault of least address."""
+    for order, sign in packed.ORDERS.items():
+        make = packed.Maker(sign)
+        for about, image in packed.images_of(make):
+            on_converted(about, image, 8192, order)
+        for number, image in enumerate(packed.soups(60, 30, make, order)):
+            on_converted(f"soup {number}", image, (8192, 65536)[number % 2], order)
+        at_block_ends(make, order)
+        for about, image in packed.large(make):
+            on_converted(about, image, 262144, order)
+    full = fault(f"S2 Full needed {4097 * 60068} free {4096 * 65524}")
+    told = f"decompressed 4096 nodes 4096 bytes {4095 * 65536 + 60080}\n"
+    for count, wanted in ((4096, Done(0, told.encode(), b"")), (4097, full)):
+        write("any.img", packed.bomb(count))
+        done = run(["decompress", "any.img", "/dev/null"])
+        verdict(f"{count} nodes of a block each", done == wanted, done)
+
+
+def at_block_ends(make, order):
+    """The longest nodes that a block holds beside its marker, and those of a byte more."""
+    for block, length in ((8192, 8192), (65536, 65536)):
+        for about, image in packed.longest(make, length):
+            on_converted(about, image, block, order)
+
+
+def on_converted(about, image, size, order):
+    """`decompress`, and each command with --decompress, by the rules."""
+    write("any.img", image)
+    about, sign = f"{about}, {order}, blocks of {size}", packed.ORDERS[order]
+    words = ["--block", str(size), "--endian", order]
+    result, why = opened.decompress(image, size, sign)
+    _, found, _, count = model.report(image, size, sign)
+    note = findings_note(count)
+    done, made = tried(["decompress", *words, "any.img", "out.img"])
+    if why:
+        verdict(f"decompress of {about}", (done, made) == (fault(why), None), done)
+    else:
+        wanted = Done(0, text([opened.line_of(result)]), note)
+        verdict(f"decompress of {about}", (done, made) == (wanted, result.image), done)
+    plain = model.refusal(found)
+    done = run(["ls", *words, "any.img"])
+    verdict(f"ls of {about}", done == refusal(plain) or not plain and done.status == 0, done)
+    lines, why = opened.ls(image, size, sign)
+    done = run(["ls", "--decompress", *words, "any.img"])
+    wanted = fault(why) if why else Done(0, text(lines), note)
+    verdict(f"ls --decompress of {about}", done == wanted, done)
+    for name in [line.split(" ")[7][1:] for line in lines if line[0] == "-"][:3] or ["a"]:
+        content, refused = opened.cat(image, name.encode(), size, sign)
+        done = run(["cat", "--decompress", *words, "any.img", f"/{name}"])
+        if "/" not in name:
+            wanted = fault(refused) if refused else Done(0, content, note)
+            verdict(f"cat --decompress of /{name} in {about}", done == wanted, done)
+    converted_goes_on(about, words, (lines, why, note), (result, size, sign))
+
+
+def converted_goes_on(about, words, listed, converted):
+    """A file is made behind what was decompressed: that stays, byte for byte, and in the tree."""
+    lines, why, note = listed
+    result, size, sign = converted
+    write("one.txt", "create 0644 /new\n")
+    named = ["any.img", "one.txt", "out.img"]
+    done, made = tried(["append", "--decompress", *words, "--blocks", "64", *named])
+    if why:
+        verdict(f"append --decompress to {about}", (done, made) == (fault(why), None), done)
+        return
+    after, _, _ = model.ls(made or b"", size, sign)
+    is_right = [line for line in after if not line.endswith(" /new")] == lines
+    is_right = is_right and len(after) == len(lines) + 1 and made.startswith(result.image)
+    wanted = (0, b"accepted 1 nodes 2 bytes 124\n", note)
+    verdict(f"append --decompress to {about}", is_right and done == wanted, done)
 
 
 def from_the_longest_file():
@@ -482,6 +606,7 @@ GROUPS = (
     on_devices,
     one_file_twice,
     on_images,
+    on_compressed,
     from_the_longest_file,
 )
 

@@ -1,5 +1,5 @@
 """What `check`, `ls` and `cat` print of an image, by the rules of docs/FORMAT.md in their plainest form: each byte of a file by itself,
-each pair of nodes against each other. Little order. It shares no code with the program, and is slow."""
+each pair of nodes against each other. Little order, or with ">" the big one. It shares no code with the program, and is slow."""
 import struct
 import zlib
 
@@ -15,25 +15,27 @@ def pad4(length):
     return (length + 3) // 4 * 4
 
 
-def word(data, at):
-    return struct.unpack_from("<I", data, at)[0]
+def word(data, at, order):
+    return struct.unpack_from(order + "I", data, at)[0]
 
 
-def good(block, at):
+def good(block, at, order):
     """Type and length of the good header at a place of a block."""
     if at + 12 > len(block):
         return None
-    magic, kind, length, sum_ = struct.unpack_from("<HHII", block, at)
-    if magic != MAGIC or sum_ != crc(struct.pack("<HHI", magic, kind | ACCURATE, length)):
+    if block[at] not in (0x19, 0x85):
+        return None
+    magic, kind, length, sum_ = struct.unpack_from(order + "HHII", block, at)
+    if magic != MAGIC or sum_ != crc(struct.pack(order + "HHI", magic, kind | ACCURATE, length)):
         return None
     return (kind, length) if 12 <= length <= len(block) - at else None
 
 
-def tiles(block):
+def tiles(block, order):
     """The tiles of a block: place, bytes, and the header's type and length."""
     at = 0
     while at < len(block):
-        head = good(block, at)
+        head = good(block, at, order)
         size = pad4(head[1]) if head else 4 if len(block) - at >= 12 else len(block) - at
         yield at, block[at : at + size], head
         at += size
@@ -43,43 +45,43 @@ def escaped(name, spared=b""):
     return "".join(chr(b) if 0x21 <= b <= 0x7E and (b not in b"\\/" or b in spared) else f"\\x{b:02x}" for b in name)
 
 
-def entry_seen(tile, length):
+def entry_seen(tile, length, order):
     if length < 40:
         return "damaged", "length"
-    pino, version, ino, _ = struct.unpack_from("<4I", tile, 12)
+    pino, version, ino, mctime = struct.unpack_from(order + "4I", tile, 12)
     size, kind = tile[28], tile[29]
-    if word(tile, 32) != crc(tile[:32]):
+    if word(tile, 32, order) != crc(tile[:32]):
         return "damaged", "node-crc"
     if pad4(40 + size) != pad4(length):
         return "damaged", "length"
     if not 1 <= size <= 254 or pino == 0:
         return "damaged", "range"
     name = tile[40 : 40 + size]
-    if word(tile, 36) != crc(name):
+    if word(tile, 36, order) != crc(name):
         return "damaged", "name-crc"
-    return "entry", (pino, version, ino, word(tile, 24), kind, name)
+    return "entry", (pino, version, ino, mctime, kind, name)
 
 
-def inode_seen(tile, length):
+def inode_seen(tile, length, order):
     if length < 68:
         return "damaged", "length"
-    ino, version, mode, uid, gid, isize, atime, mtime, ctime, offset, csize, dsize, compr = struct.unpack_from("<3I2H7IB", tile, 12)
-    if word(tile, 64) != crc(tile[:60]):
+    ino, version, mode, uid, gid, isize, atime, mtime, ctime, offset, csize, dsize, compr = struct.unpack_from(order + "3I2H7IB", tile, 12)
+    if word(tile, 64, order) != crc(tile[:60]):
         return "damaged", "node-crc"
     if pad4(68 + csize) != pad4(length):
         return "damaged", "length"
     if ino == 0 or offset + dsize > 0xFFFFFFFF or compr == 0 and csize != dsize:
         return "damaged", "range"
     data = tile[68 : 68 + csize]
-    if csize and word(tile, 60) != crc(data):
+    if csize and word(tile, 60, order) != crc(data):
         return "damaged", "data-crc"
-    if compr > 1:
-        return "compressed", compr
     fields = (ino, version, mode, uid, gid, isize, atime, mtime, ctime, offset, dsize)
+    if compr > 1:
+        return "compressed", (compr, fields, data)
     return "inode", (*fields, None if compr else data)
 
 
-def seen(tile, head):
+def seen(tile, head, order):
     """What a node's tile is seen as, and what it holds."""
     kind, length = head
     plain = {0x2003: "marker", 0x2004: "padding", 0xE008: "attribute", 0xE009: "attribute"}
@@ -88,9 +90,9 @@ def seen(tile, head):
     if kind in plain:
         return plain[kind], None
     if kind == 0xE001:
-        return entry_seen(tile, length)
+        return entry_seen(tile, length, order)
     if kind == 0xE002:
-        return inode_seen(tile, length)
+        return inode_seen(tile, length, order)
     return {0xC000: "incompatible", 0x8000: "read-only"}.get(kind & 0xC000, "skipped"), kind
 
 
@@ -102,31 +104,34 @@ def told(at, size, what, held):
     if what == "inode":
         fill = "zero" if held[11] is None else "none"
         return line + f" ino {held[0]} version {held[1]} mode {held[2]:o} size {held[5]} offset {held[9]} data {held[10]} {fill}"
-    return line + {"damaged": " {}", "compressed": " compr {}"}.get(what, " type {:04x}" if held is not None else "").format(held)
+    if what == "compressed":
+        return line + f" compr {held[0]}"
+    return line + {"damaged": " {}"}.get(what, " type {:04x}" if held is not None else "").format(held)
 
 
-def runs_of(data):
-    return "erased" if data == b"\xff" * len(data) else "other-order" if data[:2] == b"\x19\x85" else "dirt"
+def runs_of(data, order):
+    other = struct.pack({"<": ">H", ">": "<H"}[order], MAGIC)
+    return "erased" if data == b"\xff" * len(data) else "other-order" if data[:2] == other else "dirt"
 
 
-def report(image, size):
+def report(image, size, order="<"):
     """The lines of the report, and the nodes of the image with their addresses."""
     lines, nodes, run = [], [], None
     image += b"\xff" * (-len(image) % size)
     for start in range(0, len(image), size):
         lines.append(f"block {start // size}")
         run = None
-        for at, tile, head in tiles(image[start : start + size]):
+        for at, tile, head in tiles(image[start : start + size], order):
             if head:
-                what, held = seen(tile, head)
+                what, held = seen(tile, head, order)
                 nodes.append((start + at, what, held))
                 lines.append(told(start + at, len(tile), what, held))
                 run = None
-            elif run and run[1] == runs_of(tile):
+            elif run and run[1] == runs_of(tile, order):
                 run[2] += len(tile)
                 lines[-1] = f"{run[0]:08x} {run[1]} {run[2]}"
             else:
-                run = [start + at, runs_of(tile), len(tile)]
+                run = [start + at, runs_of(tile, order), len(tile)]
                 lines.append(f"{run[0]:08x} {run[1]} {run[2]}")
     words = [line.split(" ")[1] for line in lines]
     found = sum(words.count(word) for word in ("attribute", "read-only", "incompatible", "compressed", "damaged", "other-order", "dirt"))
@@ -146,7 +151,7 @@ def refusal(nodes):
         if what == "incompatible":
             return f"M3 Incompatible at {at:08x} type {held:04x}"
         if what == "compressed":
-            return f"M4 Compressed at {at:08x} compr {held}"
+            return f"M4 Compressed at {at:08x} compr {held[0]}"
         if what in ("entry", "inode"):
             below = [other for _, kind, other in nodes[:place] if kind == what and key(kind, other) == key(what, held)]
             if any(other != held for other in below):
@@ -210,9 +215,9 @@ def listed(nodes, ino, path, objects, names, met):
                 yield from listed(nodes, number, f"{path}/{escaped(name)}", objects, names, met)
 
 
-def check(image, size=65536):
+def check(image, size=65536, order="<"):
     """What `check` prints, and its status."""
-    lines, nodes, found, _ = report(image, size)
+    lines, nodes, found, _ = report(image, size, order)
     fault = refusal(nodes)
     if fault:
         return lines + [f"mount refused {fault}"], 3
@@ -222,16 +227,16 @@ def check(image, size=65536):
     return lines + dangling, 3 if found or dangling else 0
 
 
-def ls(image, size=65536):
+def ls(image, size=65536, order="<"):
     """What `ls` prints, or why not."""
-    _, nodes, _, noted = report(image, size)
+    _, nodes, _, noted = report(image, size, order)
     fault = refusal(nodes)
     return ([], fault, 0) if fault else (list(listed(nodes, 1, "", *tree(nodes), set())), None, noted)
 
 
-def cat(image, name, size=65536):
+def cat(image, name, size=65536, order="<"):
     """The bytes of the file of this name in the root, or why not."""
-    _, nodes, _, _ = report(image, size)
+    _, nodes, _, _ = report(image, size, order)
     fault = refusal(nodes)
     if fault:
         return b"", fault

@@ -2,30 +2,17 @@
 # Runs the finished program on lines and files that no proof covers: what the system gives it and takes from it.
 # Usage: tests/program.sh [PROGRAM]. The last line is 'N passed, M failed'.
 set -u
-program=$(realpath "${1:-$(dirname "$0")/../crates/jffs2_image/out/jffs2_image}")
-samples=$(realpath "$(dirname "$0")/../crates/jffs2_image/data")
-manual=$(realpath "$(dirname "$0")/../docs/jffs2_image.1")
-formats=${manual%1}5
-sources=${manual%/docs/*}/crates
-folder=$(mktemp -d)
-trap 'rm -rf "$folder"' EXIT
-cd "$folder" || exit 1
-# erased N: N bytes of erased flash
-erased() {
-    head -c "$1" /dev/zero | tr '\0' '\377'
-}
+. "$(dirname "$0")/running.sh"
+samples=$top/crates/jffs2_image/data
+manual=$top/docs/jffs2_image.1
+formats=$top/docs/jffs2_image.5
+sources=$top/crates
 : > empty
 erased 4096 > block
 erased 4097 > longer
 mkdir folder
 # The examples of docs/FORMAT.md: a clean marker, an entry of the root that names inode 2 `a`, and the node of inode 2, an
 # empty file.
-bytes() {
-    for byte in "$@"; do printf %b "\\x$byte"; done
-}
-marker() {
-    bytes 85 19 03 20 0c 00 00 00 b1 b0 1e e4
-}
 entry() {
     bytes 85 19 01 e0 29 00 00 00 6d a6 2f d7 01 00 00 00 01 00 00 00 02 00 00 00
     bytes 00 00 00 00 01 08 00 00 95 02 9b 91 ce 51 b5 3a 61 ff ff ff
@@ -49,28 +36,6 @@ hello_flash() {
 { entry; hello_flash 69; } > flipped
 # The first of the two nodes lies over the end of the first 4096 bytes.
 { erased 4012; entry; hello_flash 68; } > crossing
-passed=0
-failed=0
-
-# count WHETHER: counts the last run as passed (0) or failed.
-count() {
-    if [[ $1 == 0 ]]; then passed=$((passed + 1)); else failed=$((failed + 1)); fi
-}
-
-# want STATUS OUTPUT ERRORS: what the last run gave; a text is a pattern of bash
-want() {
-    local status=$1 output=$2 errors=$3
-    # shellcheck disable=SC2053
-    if [[ $got != "$status" || $(cat out) != $output || $(cat err) != $errors ]]; then
-        echo "FAILED: $line"
-        echo "  status $got, wanted $status"
-        echo "  output: $(head -c 300 out)"
-        echo "  errors: $(head -c 300 err)"
-        count 1
-    else
-        count 0
-    fi
-}
 
 # told WORD PATTERN: a manual page has a line of this pattern.
 told() {
@@ -78,12 +43,6 @@ told() {
     local missing=$?
     count $missing
     [[ $missing == 0 ]] || echo "FAILED: the manual page tells of $1"
-}
-
-run() {
-    line="jffs2_image $*"
-    "$program" "$@" > out 2> err < /dev/null
-    got=$?
 }
 
 help="*Usage: *Exit status:*0  done*1  a fault*2  the command line*3  check found*"
@@ -225,21 +184,6 @@ run cat --block 8192 "$tree" '/var/log/boot log'; want 0 "two words" ""
 run cat --block 8192 "$tree" /var/name; want 1 "" "jffs2_image: P4 NotRegular"
 run cat --block 8192 "$tree" /etc/passwd/a; want 1 "" "jffs2_image: P3 Path NotDirectory"
 
-# Notes of what was passed over
-# noted N: what standard error says
-noted() {
-    local word=findings
-    [[ $1 == 1 ]] && word=finding
-    echo "jffs2_image: note: $1 $word, see check --scan; a wrong --block or --endian shows as findings too"
-}
-# whole FILE: the bytes of the last run's output
-whole() {
-    cmp -s out "$1"
-    local differs=$?
-    count $differs
-    [[ $differs == 0 ]] || echo "FAILED: the bytes of $line"
-}
-
 # Trees
 root="d 0755 0 0 0 0 1 /"
 run ls block; want 0 "$root" ""
@@ -293,25 +237,6 @@ done
 
 # ---- Building and extending images
 
-# lines FILE LINE..: makes a text of these lines
-lines() {
-    printf '%s\n' "${@:2}" > "$1"
-}
-# same FILE OTHER: after the last run they have the same bytes
-same() {
-    cmp -s "$1" "$2"
-    local differs=$?
-    count $differs
-    [[ $differs == 0 ]] || echo "FAILED: $1 is not $2 after $line"
-}
-# unmade FILE: the last run did not make it
-unmade() {
-    [[ ! -e $1 ]]
-    local there=$?
-    count $there
-    [[ $there == 0 ]] || echo "FAILED: $1 was made by $line"
-    rm -f "$1"
-}
 # What `create 0644 /a` makes of an empty flash: a marker, the node of inode 2 and its entry, in either byte order. The
 # checksums of the big one are those of another program.
 { marker; empty_file; entry; } > made_little
@@ -853,5 +778,4 @@ line="standard error is closed"
 line="standard error is /dev/full"
 "$program" check --scan none > out 2> /dev/full; got=$?; : > err; want 1 "" ""
 
-echo "$passed passed, $failed failed"
-[[ $failed == 0 ]]
+finish

@@ -271,6 +271,26 @@ wanted=$(sed -n '/^\.Ss What listing/,/^\.Ed/p' "$top/docs/jffs2_image.5" |
     sed -n '/^\.Bd/,$ { /^\./d; s/\\e/\\/g; p; }')
 same "what listing prints" "$found" "$wanted"
 
+# ---- Images as devices and mkfs.jffs2 write them, compressed
+
+ln -s "$top/tests/data" dumps
+gives 1 "jffs2_image: M4 Compressed at 0000018c compr 6
+jffs2_image: note: the image is compressed; decompress writes one that is not, and --decompress reads it" \
+    ls --block 8192 dumps/default.img
+gives 0 "decompressed 7 nodes 29 bytes 30168" decompress --block 8192 dumps/default.img plain.img
+found=$(jffs2_image check --block 8192 plain.img)
+same "status of check" "$? ${found##*$'\n'}" "0 mount ok"
+found=$(jffs2_image ls --block 8192 plain.img)
+same "a line of ls" "$(grep /etc/log <<< "$found")" "- 0644 0 0 13893 1000000000 5 /etc/log"
+gives 0 "$found" ls --decompress --block 8192 dumps/default.img
+gives 0 "$(seq 1 3000)" cat --decompress --block 8192 dumps/default.img /etc/log
+gives 0 "root:x:0:0:root:/root:/bin/sh" cat --block 8192 plain.img /etc/passwd
+gives 0 "$found" ls --decompress --block 65536 --endian big dumps/lzo.img
+printf 'create 0644 /etc/version\nwrite /etc/version 0 312e300a\n' > more.txt
+gives 0 "accepted 2 nodes 3 bytes 200" append --decompress --block 8192 --blocks 8 dumps/default.img more.txt new.img
+gives 0 "1.0" cat --block 8192 new.img /etc/version
+gives 0 "root:x:0:0:root:/root:/bin/sh" cat --block 8192 new.img /etc/passwd
+
 # What goes wrong in a listing is told with its line
 printf '# two directories of one name\nmkdir 0755 /d\nmkdir 0755 /d\n' > tree.txt
 gives 1 "jffs2_image: S1 Refused O5 Exists line 3" build --blocks 1 tree.txt flash.img
@@ -280,7 +300,7 @@ gives 1 "jffs2_image: P2 Listing line 2" build --blocks 1 tree.txt none.img
 
 # ---- Help
 
-for command in check ls cat build append extract listing; do
+for command in check ls cat build append decompress extract listing; do
     found=$(jffs2_image help "$command")
     same "usage of $command" "$(grep -c "^Usage: [^ ]* $command" <<< "$found")" 1
     same "help in two ways" "$(jffs2_image "$command" --help)" "$found"

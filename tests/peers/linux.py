@@ -15,14 +15,19 @@ import writing
 from judging import COUNTS, produce, run, test
 from listing import Parts
 
+sys.path.append(os.path.dirname(os.path.dirname(os.path.abspath(__file__))))
+import decompress_model as model  # noqa: E402
+
 KERNEL = sys.argv[2]
 MODULES = ("virtio_pci", "virtio_blk", "jffs2")
 LATER = ("mtdram", "nandsim")
 HERE = os.path.dirname(os.path.abspath(__file__))
 FLASH = ["--block", "65536", "--blocks", "128"]
+LARGER_FLASH = ["--block", "65536", "--blocks", "512"]
 SECONDS = 1800
 AGAIN = " (again)"
-LIVE = ("planted", "churned", "nand", ".more")
+LIVE = ("planted", "churned", "nand", "packed_zlib", ".more")
+PACKED = ("packed_planted", "packed_churned", "packed_zlib", "packed_nand")
 STEPS = """time 1500000000
 mkdir 0755 /d
 mkdir 0700 /d/e
@@ -107,6 +112,15 @@ def written(what, command, listing, *words, place):
     os.remove(os.path.join(place, "lines"))
 
 
+def text(count):
+    """Bytes of which about a half can be compressed: words, runs, noise."""
+    pick, found = random.Random(5), b""
+    while len(found) < count:
+        words = b" ".join(pick.choices((b"flash", b"node", b"erase", b"block", b"entry", b"log"), k=300))
+        found += words + bytes((pick.randrange(256),)) * 300 + pick.randbytes(1500)
+    return found[:count]
+
+
 def cut(given):
     """Images of STEPS that end at each node and within each, as after a power failure."""
     image = os.path.join(given, "built-steps.img")
@@ -123,6 +137,7 @@ def inputs(place, given):
     """What is given to Linux: random bytes, images, and that it is to write. The folders that the images were built of, by the names of these."""
     for name, count in (("random", 250000), ("bytes", 9000), ("write", 0)):
         tree.write(os.path.join(given, name), random.Random(3).randbytes(count))
+    tree.write(os.path.join(given, "text"), text(250000))
     cut(given)
     folder = os.path.join(place, "folder").encode()
     os.mkdir(folder)
@@ -228,12 +243,47 @@ def compare_tree(what, words, image, folder):
     return again, any(times[path] != shown.get(path, times[path]) for path in times)
 
 
+def opened(what, words, image):
+    """What `decompress` makes of an image that Linux compressed, or nothing. What it prints, and what it writes of whole images, is
+    compared with the model."""
+    out = image + ".open"
+    if os.path.exists(out):
+        return out
+    status, told, errors = run("decompress", *words, image, out)
+    line = re.fullmatch(rb"decompressed (\d+) nodes (\d+) bytes (\d+)\n", told)
+    print(f"{what}: {told.decode().strip()} {errors}")
+    is_noted = all(" note: " in row and "finding" in row for row in errors.splitlines())
+    fine = status == 0 and line and is_noted and int(line[3]) == os.path.getsize(out)
+    test(f"{what}: decompress", [] if fine else [f"status {status}: {told} {errors}"])
+    if what in PACKED and fine:
+        with open(image, "rb") as file, open(out, "rb") as made:
+            wanted, _ = model.decompress(file.read(), int(words[1]))
+            test(f"{what}: bytes", [] if wanted and wanted.image == made.read() else ["other bytes than those of the model"])
+            test(f"{what}: line", [] if wanted and model.line_of(wanted).encode() + b"\n" == told else [f"{told}"])
+    status, told, errors = run("ls", *words, image)
+    is_told = status == 1 and "M4 Compressed at " in errors and "--decompress" in errors
+    test(f"{what}: ls without --decompress", [] if is_told else [f"status {status}: {errors}"])
+    first, second = run("ls", "--decompress", *words, image), run("ls", *words, out)
+    test(f"{what}: ls --decompress", [] if first[:2] == second[:2] else ["another list"])
+    return out if fine else None
+
+
+def clashes(what, words, image):
+    """Whether an image is refused since Linux wrote a hole anew under its old version; it tells so."""
+    status, out, _ = run("check", *words, image)
+    last = out.decode().splitlines()[-1]
+    if status == 3 and last.startswith("mount refused M5 Clash at "):
+        print(f"{what}: {last}")
+        return True
+    return False
+
+
 def extracted(what, words, image, folder, again):
     """Compares what `extract` makes of an image with a tree of Linux, in which some directories may be again."""
     wanted, lost = folders.facts(folder.encode())
     names = [b"/" + os.fsencode(path[1:]) for path in again]
     wanted = {path: fact for path, fact in wanted.items() if not any(path == name or path.startswith(name + b"/") for name in names)}
-    made = folder + ".extracted"
+    made = folder + (".at_once" if "--decompress" in words else ".extracted")
     status, _, errors = run("extract", "--quiet", "--owners", *words, image, made)
     told = errors.splitlines()
     lines = [line for line in told if not line.startswith("jffs2_image: note: ") and not line.endswith(": no inode")]
@@ -270,13 +320,19 @@ def said(what, log, counts):
 
 def judge(given, got, sources):
     """Compares each tree that Linux showed with what the program shows of the image."""
-    counts, others = collections.Counter(), []
+    counts, others, clashed = collections.Counter(), [], []
     for log in sorted(glob.glob(os.path.join(got, "*.log"))):
         what = os.path.basename(log)[:-4]
         said(what, log, counts)
         name = what.removesuffix(".again").removesuffix(".rw")
         image = next(file for file in (os.path.join(top, name + ".img") for top in (got, given)) if os.path.exists(file))
-        words = ["--block", "16384" if name.startswith("nand") else "65536"]
+        words = ["--block", "16384" if name.startswith(("nand", "packed_nand")) else "65536"]
+        packed = image if name.startswith("packed") else None
+        if packed and not (image := opened(what, words, packed)):
+            continue
+        if clashes(what, words, image):
+            clashed += [what]
+            continue
         if what == name:
             verdict(what, words, image)
         if not os.path.exists(log[:-4] + ".tar"):
@@ -286,9 +342,12 @@ def judge(given, got, sources):
         again, has_other = compare_tree(what, words, image, folder)
         others += [what] if has_other else []
         extracted(what, words, image, folder, again)
+        if packed:
+            extracted(f"{what}, at once", [*words, "--decompress"], packed, folder, again)
         if name in sources:
             wanted, seen = (without_times(folders.facts(top, 65535)[0]) for top in (sources[name], folder.encode()))
             test(f"{what}: Linux shows the folder", folders.differences(seen, wanted))
+    print(f"{len(clashed)} images clash: {' '.join(clashed)}")
     print(f"{len(others)} trees have a directory whose time is another in `ls` than in Linux: {' '.join(others)}")
     for line, count in counts.most_common():
         print(f"kernel: {count} x {line}")
@@ -298,6 +357,7 @@ def extend(got, given):
     """What Linux wrote, on empty flash and on ours, goes on by STEPS: images for a second boot."""
     for name, count in (("random", 250000), ("bytes", 9000)):
         tree.write(os.path.join(given, name), random.Random(4).randbytes(count))
+    extend_packed(got, given)
     for name in ("planted", "built.more", "appended.more"):
         image, out = os.path.join(got, name + ".img"), os.path.join(given, f"appended-{name}.img")
         with open(image, "rb") as file:
@@ -306,6 +366,20 @@ def extend(got, given):
             print(f"{name}: Linux wrote to its last block, so `append` has no room")
             continue
         written(name, "append", STEPS, *FLASH, image, out, place=given)
+
+
+def extend_packed(got, given):
+    """What Linux wrote and compressed, decompressed, and goes on by STEPS."""
+    for name in ("packed_planted", "packed_churned", "packed_zlib"):
+        image = os.path.join(got, name + ".img")
+        if not os.path.exists(image + ".open") or clashes(name, FLASH[:2], image + ".open"):
+            continue
+        subprocess.run(["cp", image + ".open", os.path.join(given, f"opened-{name}.img")], check=True)
+        out, twice = (os.path.join(given, f"appended-{name}{end}") for end in (".img", ".twice"))
+        written(name, "append", STEPS, *LARGER_FLASH, "--decompress", image, out, place=given)
+        written(name, "append", STEPS, *LARGER_FLASH, image + ".open", twice, place=given)
+        subprocess.run(["cmp", out, twice], check=True)
+        os.remove(twice)
 
 
 def main():
@@ -323,4 +397,5 @@ def main():
     return 1 if COUNTS[1] else 0
 
 
-sys.exit(main())
+if __name__ == "__main__":
+    sys.exit(main())

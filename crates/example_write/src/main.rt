@@ -5,39 +5,23 @@
 #![tactic(auto)]
 
 use anyhow::{Context, Result};
-use jffs2::{FromWriter, Geometry, LittleEndian, Op, Session, Text, mount};
+use jffs2::{FromWriter, Geometry, LittleEndian, Parts, Session, listing, mount, operations};
 use std::alloc::Global;
 
 const GEOMETRY: Geometry = Geometry { block: 8192 };
 
-/// A regular file of mode 0644 in the root, and its bytes.
-fn file(path: &'static [u8], bytes: &'static [u8]) -> [Op<'static>; 2] {
-    [
-        Op::Create {
-            time: 0,
-            path: Text::lent(path),
-            mode: 0o644,
-            uid: 0,
-            gid: 0,
-        },
-        Op::Write {
-            time: 0,
-            path: Text::lent(path),
-            offset: 0,
-            bytes: Text::lent(bytes),
-        },
-    ]
-}
+/// Two files, each an empty one that is written then.
+const LISTING: &[u8] =
+    b"create 0644 /one\nwrite /one 0 66697273740a\ncreate 0644 /two\nwrite /two 0 7365636f6e640a\n";
 
-/// The bytes of an image of one block with two files.
+/// The bytes of an image of one block with these files.
 fn build(alloc: Global) -> Result<Vec<u8>> {
+    let parts = Parts::new(alloc);
+    let ops = operations(alloc, listing(alloc, LISTING)?, &parts)?;
     let empty = mount::<LittleEndian>(alloc, &[], GEOMETRY)?;
     let sink = FromWriter::new(Vec::new(alloc));
     let mut session = Session::<LittleEndian, _>::resume(alloc, &empty, GEOMETRY, 1, sink)?;
-    for op in file(b"/one", b"first\n")
-        .iter()
-        .chain(&file(b"/two", b"second\n"))
-    {
+    for op in &ops {
         session.apply(alloc, op)?;
     }
     Ok(session.finish().into_writer())

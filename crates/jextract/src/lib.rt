@@ -6,8 +6,9 @@
 //!
 //! A file takes room of a disk for its data alone: where a block of 4,096 bytes is all zero, a hole is left.
 //!
-//! `specs/Folders.antt` says what a folder is made to hold, `specs/Cells.antt` which places of a file are written, `specs/Paths.antt` which paths a host may have,
-//! `specs/Outcomes.antt` what comes of each object, and `specs/Extracts.antt` what the call does. `laws` has what follows.
+//! `specs/Folders.antt` says what a folder is made to hold, `specs/Cells.antt` which places of a file are written,
+//! `specs/Paths.antt` which paths a host may have, `specs/Outcomes.antt` what comes of each object, and `specs/Extracts.antt`
+//! what the call does. `laws` has what follows.
 #![tactic(auto)]
 
 mod contents;

@@ -1,6 +1,6 @@
 -- What commands do of images that are decompressed.
 use Rattle.std.proofs.Common.{◌≡◌, ℕ, Bool, true, false, List, Option, Some, None, Result, Ok, Err, inl, inr, refl, sym, ap, ◌∙◌, subst}
-use Rattle.std.specs.Prelude.{◌⊎◌, IfOk}
+use Rattle.std.specs.Prelude.{◌⊎◌, IfOk, IsErrOf}
 use Rattle.flashbase.specs.declared.source.LoadFault.TheVariants as load
 use Rattle.jnode.specs.declared.order.Endian.{Endian}
 use Rattle.jscan.specs.declared.geometry.ScanFault.TheVariants as scan
@@ -113,12 +113,12 @@ same_fault : (n : ℕ) (done : Result ℕ ProgramFault) (f : ProgramFault) → w
 same_fault n (Ok x) f is = cc
 same_fault n (Err g) f is = is
 
-fault_or : ProgramFault → Result ℕ ProgramFault → ProgramFault
+abbrev fault_or : ProgramFault → Result ℕ ProgramFault → ProgramFault
 fault_or other (Ok x) = other
 fault_or other (Err f) = f
 
 -- one answer, one fault
-one_fault : {f g : ProgramFault} → Err f ≡ Err g → f ≡ g
+one_fault : {f g : ProgramFault} → IsErrOf {T = ℕ} {E = ProgramFault} (Err f) g → f ≡ g
 one_fault {f} is = ap (fault_or f) is
 
 -- `ls`: its file is not read, or nothing is made of it, or the tree of what is made goes out
@@ -233,8 +233,8 @@ decompress_unread told held e options name output old n f not = record {
 
 no_scan_made : (held : Held) (e : Endian) (size : ℕ) (output image : List ℕ) (old new : Option (List ℕ)) (before now : ℕ)
     → DecompressesFile held e size output image old new before now (Err (program.Scan scan.BlockSize)) → ⊥
-no_scan_made held e size output image old new before now (inl not, same) = no_scan not.0.0 (sym not.0.1)
-no_scan_made held e size output image old new before now (inr not, same) = not.2
+no_scan_made held e size output image old new before now (inl not, same, still) = no_scan not.0.0 (sym not.0.1)
+no_scan_made held e size output image old new before now (inr not, same, still) = not.2
 
 pub decompress_done : (told : List ℕ → Option (List ℕ)) (held : Held) (e : Endian) (options : Options) (name output image : List ℕ) (old new : Option (List ℕ)) (before now : ℕ) (done : Result ℕ ProgramFault)
     → AreLoaded (told name) image → DecompressesFile held e options.geometry.block output image old new before now done

@@ -1,3 +1,6 @@
+mod CommandLemmas
+mod TakenLemmas
+mod ExtractingLemmas
 pub mod DecompressingLemmas
 pub mod WritingLemmas
 pub mod HostLemmas

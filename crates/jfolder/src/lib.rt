@@ -2,16 +2,8 @@
 //!
 //! `read_folder` walks through a folder, a directory before what lies in it and each name in byte order, and follows no symlink.
 //! What a listing cannot say is left out, and a line of the notes tells it. A regular file that was met by another path is a
-//! link to that path. `put_listing` puts the text of the tree:
-//!
-//! | Line | For |
-//! |---|---|
-//! | `attr MODE UID GID TIME TIME /` | the folder itself, first |
-//! | `time T`, `owner UID GID` | what follows, where they are others than before |
-//! | `mkdir MODE PATH`, `create MODE PATH`, `symlink PATH TARGET` | a directory, a regular file, a symlink |
-//! | `part PATH 0 FILE` | the bytes of a file, by its name on the host |
-//! | `write PATH OFFSET HEX` | bytes of a file whose name on the host is no word, at most 4,096 a line |
-//! | `link FIRST PATH` | a further name of a file |
+//! link to that path. `put_listing` puts the text of the tree, in the lines that `jlisting` reads: first `attr` of the folder
+//! itself, then each object. The section LISTINGS of the manual page `docs/jffs2_image.5` tells what they are.
 //!
 //! It is built on `jlisting` (what the lines of a listing mean) and `jline` (escapes). Its promise: the text is read as the
 //! actions that make the tree.

@@ -1,4 +1,4 @@
-// All pieces of a file in one overlay.
+//! All pieces of a file in one overlay.
 ghost use Rattle.std.specs.Prelude.{◌≡◌, ℕ, ◌*◌, ◌<◌, ◌≤◌, ◌^◌, IfOk, length, All};
 ghost use Rattle.std.specs.List.Sorted.{IsNonDecreasingBy};
 ghost use Rattle.jfrag.specs.Pieces.{end_of};

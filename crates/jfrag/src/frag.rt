@@ -1,4 +1,4 @@
-// An overlay in ordered intervals.
+//! An overlay in ordered intervals.
 ghost use Rattle.std.specs.Prelude.{◌≡◌, ℕ, ◌+◌, ◌*◌, ◌<◌, ◌≤◌};
 ghost use Rattle.jfrag.specs.IntervalMap.{seen};
 ghost use Rattle.jfrag.specs.Layouts.{IsSoundLayout, IsSoundLayout-prop};

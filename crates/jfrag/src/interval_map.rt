@@ -1,4 +1,4 @@
-// Ordered intervals of pieces in a map: at each key begins what is visible up to the next key.
+//! Ordered intervals of pieces in a map: at each key begins what is visible up to the next key.
 ghost use Rattle.std.specs.Prelude.{◌≡◌, ◌≢◌, ℕ, ◌+◌, ◌-◌, ◌*◌, ◌<◌, ◌≤◌, ◌^◌, true, Some, None, IfOk, IfSome, length, slice_index, EachIndex, OnOk, OnErr, IsTrue, IsSome, is_some, count_by, ◌&&◌, if◌then◌else◌};
 ghost use Rattle.std.specs.Ordering.{nat_cmp};
 ghost use Rattle.std.specs.BTreeMap.{get, ContainsKey, IsUnchanged, IsOrdered, Updates, btree_map_len, values};

@@ -1,4 +1,4 @@
-// How the intervals of an overlay are stored.
+//! How the intervals of an overlay are stored.
 ghost use Rattle.std.specs.Prelude.{◌≡◌, ◌*◌, ℕ, ◌+◌, ◌<◌, ◌≤◌, ◌^◌, IfOk, OnOk, OnErr, length, slice_index, EachIndex};
 ghost use Rattle.std.specs.BTreeMap.{btree_map_len};
 ghost use Rattle.jfrag.specs.Pieces.{end_of};

@@ -1,4 +1,4 @@
-// What an overlay is, however it is stored.
+//! What an overlay is, however it is stored.
 ghost use Rattle.std.specs.Prelude.{◌≡◌, ℕ, ◌+◌, ◌*◌, ◌<◌, ◌≤◌, ◌^◌, OnOk, OnErr, None, Option, length};
 ghost use Rattle.flashbase.specs.Lists.{each_below};
 ghost use Rattle.jfrag.specs.Pieces.{end_of};

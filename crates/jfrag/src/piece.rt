@@ -1,4 +1,4 @@
-// Pieces of a file.
+//! Pieces of a file.
 ghost use Rattle.std.specs.Prelude.{◌≡◌, ℕ, ◌+◌, ◌≤◌, ◌<◌, ◌^◌, length, slice_index, EachIndex};
 ghost use Rattle.jfrag.specs.Overlays.{overlaid, outranks};
 

@@ -1,4 +1,4 @@
-// An overlay that is the list of its pieces.
+//! An overlay that is the list of its pieces.
 ghost use Rattle.std.specs.Prelude.{◌≡◌, ℕ, ◌+◌, ◌*◌, ◌<◌, ◌≤◌, ◌^◌, length, slice_index, EachIndex, vec_len, All};
 ghost use Rattle.jfrag.specs.Pieces.{end_of};
 ghost use Rattle.jfrag.specs.Overlays.{visible, byte_at};

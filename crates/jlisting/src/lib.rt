@@ -1,23 +1,6 @@
-//! The listing of operations that `build` and `append` read: a text, one operation a line.
+//! The listing of operations that `build` and `append` read: a text, one operation a line, such as `mkdir 0755 /etc`.
 //!
-//! | Line | Meaning |
-//! |---|---|
-//! | `time T` | the time of the operations that follow, 0 at first |
-//! | `owner UID GID` | the owner of the objects that follow, 0 and 0 at first |
-//! | `mkdir MODE PATH`, `create MODE PATH` | a new directory, a new regular file |
-//! | `symlink PATH TARGET` | a new symlink |
-//! | `write PATH OFFSET HEX` | bytes of a file from an offset on |
-//! | `part PATH OFFSET FILE` | the same, where the bytes are those of the file FILE of the host |
-//! | `truncate PATH SIZE` | a new size |
-//! | `link OLD NEW`, `rename OLD NEW` | a further name, another name |
-//! | `remove PATH` | a name that goes |
-//!
-//! A line ends with a line feed, which the last may lack. Empty lines and those that begin with `#` are skipped. Any
-//! other has its words between single spaces, none at its ends; every other byte belongs to a word, tabs and carriage
-//! returns too. In PATH, OLD, NEW and TARGET `\x` and two hexadecimal digits are one byte, and `\` has no other use. FILE
-//! is UTF-8 and taken as it is. Numbers have 1 to 10 decimal digits and are at most 4294967295, owners at most 65535.
-//! MODE has 1 to 6 octal digits. HEX is pairs of hexadecimal digits, or `-` for no bytes. Hexadecimal digits are taken in
-//! either case.
+//! The section LISTINGS of the manual page `docs/jffs2_image.5` has all lines, and what their words stand for.
 //!
 //! A listing is read in one pass, in time linear in its bytes. Its words are lent and not copied, but for those with an
 //! escape and for HEX.

@@ -1,4 +1,4 @@
-// The nodes of an image, entries and inode nodes apart.
+//! The nodes of an image, entries and inode nodes apart.
 
 ghost use Rattle.std.specs.Prelude.{◌≡◌, IfOk, IfErr, OnOk};
 ghost use Rattle.flashbase.specs.Lists.{greatest};

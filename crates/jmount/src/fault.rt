@@ -1,4 +1,4 @@
-// Why an image does not mount, and why a path names nothing.
+//! Why an image does not mount, and why a path names nothing.
 
 ghost use Rattle.std.specs.Prelude.{◌≡◌};
 ghost use Rattle.jmount.specs.declared.fault.MountFault.TheVariants.{OutOfMemory};

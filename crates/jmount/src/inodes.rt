@@ -1,4 +1,4 @@
-// The inode nodes of an image, by number and version.
+//! The inode nodes of an image, by number and version.
 
 ghost use Rattle.std.specs.Prelude.{◌≡◌, ◌==◌, ◌&&◌, ℕ, Some, Err, OnOk, OnErr, if◌then◌else◌};
 ghost use Rattle.std.specs.Ordering.{nat_cmp};

@@ -1,4 +1,4 @@
-// Mounting an image.
+//! Mounting an image.
 
 ghost use Rattle.std.specs.Prelude.{ℕ};
 ghost use Rattle.jnode.specs.declared.order.Endian.{Endian};

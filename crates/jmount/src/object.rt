@@ -1,4 +1,4 @@
-// What callers see of an object.
+//! What callers see of an object.
 
 /// What an object is, by bits 12 to 15 of its mode (Linux, `include/uapi/linux/stat.h`).
 #[derive(Clone, Copy, Debug, PartialEq, Eq)]

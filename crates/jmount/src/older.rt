@@ -1,4 +1,4 @@
-// The nodes of one number that are not its newest.
+//! The nodes of one number that are not its newest.
 
 ghost use Rattle.std.specs.Prelude.{◌≡◌, ◌≢◌, ◌<◌, ◌≤◌, ◌==◌, ◌++◌, ◌∷◌, ℕ, [], Some, None, Box, IfOk, Contains, length, take, OnOk, OnErr, if◌then◌else◌};
 ghost use Rattle.std.specs.declared.alloc.Global.{Global};

@@ -1,4 +1,4 @@
-// The text of paths.
+//! The text of paths.
 
 ghost use Rattle.std.specs.Prelude.{◌≡◌, ◌==◌, ◌&&◌, not, option_map};
 ghost use Rattle.std.specs.List.{list_all};

@@ -1,4 +1,4 @@
-// Where the nodes of one number stand, by version.
+//! Where the nodes of one number stand, by version.
 
 ghost use Rattle.std.specs.Prelude.{◌≡◌, [], IfOk, length};
 ghost use Rattle.std.specs.Ordering.{nat_cmp};

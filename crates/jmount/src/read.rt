@@ -1,4 +1,4 @@
-// The bytes of an object.
+//! The bytes of an object.
 
 ghost use Rattle.std.specs.Prelude.{◌≡◌, ◌-◌, ◌++◌, Some, length, min, take, drop};
 ghost use Rattle.flashbase.specs.Device.{Puts};

@@ -1,4 +1,4 @@
-// When two inode nodes say the same.
+//! When two inode nodes say the same.
 
 ghost use Rattle.std.specs.Prelude.{◌≡◌, ◌↔◌, IsTrue, length};
 

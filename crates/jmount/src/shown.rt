@@ -1,4 +1,4 @@
-// An object as callers see it, and its bytes.
+//! An object as callers see it, and its bytes.
 
 ghost use Rattle.std.specs.Prelude.{◌≡◌, ◌==◌, ◌||◌};
 ghost use Rattle.jmount.specs.Tree.{type_bits, directory_bits, regular_bits, symlink_bits};

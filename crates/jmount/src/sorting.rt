@@ -1,4 +1,4 @@
-// The entries of an image, added in order of directory and name.
+//! The entries of an image, added in order of directory and name.
 
 ghost use Rattle.std.specs.Prelude.{◌≡◌, IfOk, IsPermutation, map};
 ghost use Rattle.jnode.specs.declared.node.Dirent.{Dirent};

@@ -1,4 +1,4 @@
-// How an object of a mounted image is stored.
+//! How an object of a mounted image is stored.
 
 use jfrag::FragOverlay;
 

@@ -1,4 +1,4 @@
-// The objects that inode nodes make.
+//! The objects that inode nodes make.
 
 ghost use Rattle.std.specs.Prelude.{◌≡◌, ◌<◌, ◌^◌, ℕ, Some, IfOk, All, map, option_map};
 ghost use Rattle.std.specs.Ordering.{nat_cmp};

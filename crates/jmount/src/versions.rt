@@ -1,4 +1,4 @@
-// The inode nodes of one number.
+//! The inode nodes of one number.
 
 ghost use Rattle.std.specs.Prelude.{◌≡◌, ◌==◌, ◌<◌, ℕ, Some, None, Contains, OnOk, OnErr, if◌then◌else◌};
 ghost use Rattle.jnode.specs.declared.node.InodeNode.{InodeNode};

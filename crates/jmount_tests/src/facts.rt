@@ -1,4 +1,4 @@
-// What is asked of a mounted image.
+//! What is asked of a mounted image.
 
 use crate::images::{Item, image_of};
 use jmount::{FindFault, Kind, Mounted, Object, mount};

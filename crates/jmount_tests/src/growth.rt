@@ -1,4 +1,4 @@
-// A growth that is refused is told as such.
+//! A growth that is refused is told as such.
 
 use crate::checks::{equal, expect};
 use crate::images::{DIRECTORY, FILE, Item, Version, image_of};

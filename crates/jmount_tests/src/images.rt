@@ -1,4 +1,4 @@
-// How worked images are written down.
+//! How worked images are written down.
 
 use jnode::{Fill, InodeNode, Order, Part, WriteFault, write_entry, write_inode, write_marker};
 use std::alloc::Global;

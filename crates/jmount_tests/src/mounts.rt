@@ -1,4 +1,4 @@
-// Small images, and what they mount as.
+//! Small images, and what they mount as.
 
 use crate::checks::equal_at;
 use crate::facts::{Fact, first_wrong};

@@ -1,4 +1,4 @@
-// Images that do not mount, and one that is near to them.
+//! Images that do not mount, and one that is near to them.
 
 use crate::checks::equal_at;
 use crate::images::{DIRECTORY, FILE, Item, Version, image_of};

@@ -1,4 +1,4 @@
-// The shape of trees: second names of directories, and directories below themselves.
+//! The shape of trees: second names of directories, and directories below themselves.
 
 use crate::checks::equal_at;
 use crate::images::{DIRECTORY, FILE, Item, Version, image_of};

@@ -1,4 +1,4 @@
-// A directory in memory of its own.
+//! A directory in memory of its own.
 
 ghost use Rattle.std.specs.Prelude.{◌≡◌, ◌==◌, ◌&&◌, ℕ, List, Some, IfOk, OnOk, OnErr, if◌then◌else◌, bytes_eq};
 ghost use Rattle.std.specs.Cow.{cow_slice_items};

@@ -1,4 +1,4 @@
-// What is stored of one directory: its names, and the greatest version of its entries.
+//! What is stored of one directory: its names, and the greatest version of its entries.
 
 ghost use Rattle.std.specs.Prelude.{◌≡◌, ◌≤◌, ◌==◌, ◌&&◌, ℕ, List, Some, None, IsSome, IfOk, OnOk, OnErr, if◌then◌else◌, bytes_eq};
 ghost use Rattle.std.specs.Cow.{cow_slice_items};

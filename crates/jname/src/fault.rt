@@ -1,4 +1,4 @@
-// Why an entry is not added.
+//! Why an entry is not added.
 
 ghost use Rattle.std.specs.Prelude.{◌≡◌};
 ghost use Rattle.jname.specs.declared.fault.NameFault.TheVariants.{OutOfMemory};

@@ -1,4 +1,4 @@
-// A few names in a row, in byte order.
+//! A few names in a row, in byte order.
 
 ghost use Rattle.std.specs.Prelude.{◌≡◌, ◌≢◌, ◌≤◌, ◌++◌, List, [], length, Ok, OnOk, OnErr};
 ghost use Rattle.std.specs.Ordering.{nat_cmp};

@@ -1,4 +1,4 @@
-// The names of a directory.
+//! The names of a directory.
 
 ghost use Rattle.std.specs.Prelude.{◌≡◌, ◌≢◌, ◌==◌, ◌&&◌, ◌++◌, ℕ, List, [], ◌∷◌, Some, None, IfOk, OnOk, OnErr, if◌then◌else◌, bytes_eq, option_map};
 ghost use Rattle.std.specs.Cow.{cow_slice_items};

@@ -1,4 +1,4 @@
-// The contents of several entries of one name, by version.
+//! The contents of several entries of one name, by version.
 
 ghost use Rattle.std.specs.Prelude.{◌≡◌, ◌<◌, ◌==◌, ℕ, Some, None, IsSome, OnOk, OnErr, if◌then◌else◌};
 ghost use Rattle.std.specs.Ordering.{nat_cmp};

@@ -1,4 +1,4 @@
-// What is stored of one name: the contents of its entries, by version.
+//! What is stored of one name: the contents of its entries, by version.
 
 ghost use Rattle.std.specs.Prelude.{◌≡◌, ◌≢◌, ◌==◌, ℕ, Some, None, IfOk, OnOk, OnErr, if◌then◌else◌};
 

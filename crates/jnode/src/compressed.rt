@@ -1,4 +1,4 @@
-// Inode nodes whose data are compressed, read and written.
+//! Inode nodes whose data are compressed, read and written.
 
 ghost use Rattle.std.specs.Prelude.{◌≡◌, ◌≢◌, ◌≤◌, ◌<◌, ◌+◌, ◌++◌, ◌%◌, ◌↔◌, ℕ, Some, None, IsTrue, length, vec_len, vec_capacity, OnOk, OnErr, IfSome};
 ghost use Rattle.flashbase.specs.Ranges.{IsWord};

@@ -1,4 +1,4 @@
-// The header that each node begins with.
+//! The header that each node begins with.
 
 ghost use Rattle.std.specs.Prelude.{◌≡◌, ◌≤◌, ◌↔◌, length, take, IsSome, IfSome};
 ghost use Rattle.jnode.specs.Header.{header_len, IsGood, header_crc_of, header_of, header_at, has_header, is_good_front, header_by_front, is_accurate};

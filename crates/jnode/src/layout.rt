@@ -1,5 +1,5 @@
-// Where the fields of nodes are, in bytes from the node's start, and the words of the format
-// (Linux, include/uapi/linux/jffs2.h).
+//! Where the fields of nodes are, in bytes from the node's start, and the words of the format
+//! (Linux, include/uapi/linux/jffs2.h).
 
 /// The magic that each node begins with.
 pub(crate) const MAGIC: u16 = 0x1985;

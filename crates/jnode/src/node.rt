@@ -1,4 +1,4 @@
-// What the nodes of an image say.
+//! What the nodes of an image say.
 
 use flashbase::Part;
 

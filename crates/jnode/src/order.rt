@@ -1,4 +1,4 @@
-// The byte order of an image, and numbers in it.
+//! The byte order of an image, and numbers in it.
 
 ghost use Rattle.std.specs.Prelude.{◌≡◌, ◌≤◌, ◌+◌, ◌<◌, ℕ, List, length, slice_index};
 ghost use Rattle.jnode.specs.Order.{number_in, bytes_in, number_at, little_numbers, big_numbers, little_spelled, big_spelled};

@@ -1,4 +1,4 @@
-// Reading a node.
+//! Reading a node.
 
 ghost use Rattle.std.specs.Prelude.{◌≡◌, ◌≤◌, ◌↔◌, ◌<◌, ◌^◌, ◌+◌, ◌%◌, ℕ, IsTrue, length, take, drop};
 ghost use Rattle.flashbase.specs.Bytes.{pad4_of};

@@ -1,4 +1,4 @@
-// The checksum run backwards.
+//! The checksum run backwards.
 
 ghost use Rattle.std.specs.Prelude.{◌≡◌};
 ghost use Rattle.flashbase.specs.Crc.{push_bit, push_byte};

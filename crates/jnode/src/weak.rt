@@ -1,4 +1,4 @@
-// The least cut of a written node that no check shows.
+//! The least cut of a written node that no check shows.
 
 ghost use Rattle.std.specs.Prelude.{◌≡◌, ◌↔◌, ◌<◌, ◌≤◌, IsTrue, IfSome, length, drop};
 ghost use Rattle.jnode.specs.Weak.{torn, is_weak, is_sound, IsLeastWeak, IsWrittenNode, IsLeastHidden, stored_at};

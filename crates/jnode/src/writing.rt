@@ -1,4 +1,4 @@
-// Writing a node.
+//! Writing a node.
 
 ghost use Rattle.std.specs.Prelude.{◌≡◌, ◌≢◌, ◌≤◌, ◌<◌, ◌^◌, ◌+◌, ◌++◌, ◌↔◌, ◌⊎◌, IsTrue, length, drop, vec_len, vec_capacity, OnOk, OnErr};
 ghost use Rattle.flashbase.specs.Crc.{crc_of};

@@ -2,8 +2,8 @@
 //! files.
 //!
 //! It is built on `jline` (lines of text), `jscan` (the extents of an image) and `jmount` (the file system that its nodes
-//! make); faults of `jlog` and `jlisting` are among those that it spells. Its promise to the program: what goes to a sink is the text of the bytes that were read, and a fault says why
-//! no more of it did.
+//! make); faults of `jlog` and `jlisting` are among those that it spells. Its promise to the program: what goes to a sink is
+//! the text of the bytes that were read, and a fault says why no more of it did.
 //!
 //! `specs/Report.antt` says what the report of an image is, `specs/Verdict.antt` what is said of its mount,
 //! `specs/TreeText.antt` what the listing is, `specs/Content.antt` which bytes a path names, `specs/Notes.antt` what is

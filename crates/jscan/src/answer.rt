@@ -1,4 +1,4 @@
-// What a scan gives.
+//! What a scan gives.
 
 use crate::extent::{Extent, ExtentKind};
 use crate::finding::Finding;

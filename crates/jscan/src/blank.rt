@@ -1,4 +1,4 @@
-// Where writing may go on.
+//! Where writing may go on.
 
 ghost use Rattle.std.specs.Prelude.{◌≡◌, ◌↔◌, ◌≤◌, ◌*◌, ◌-◌, ◌++◌, true, IsTrue, bytes_eq, length, take};
 ghost use Rattle.flashbase.specs.Bytes.{erased};

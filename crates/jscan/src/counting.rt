@@ -1,4 +1,4 @@
-// What the blocks of a source contain, counted block by block.
+//! What the blocks of a source contain, counted block by block.
 
 ghost use Rattle.std.specs.Prelude.{◌≡◌, ◌↔◌, ◌+◌, ◌*◌, ◌<◌, ◌≤◌, Err, IfSome, OnOk, Some, false, length, min, option_map};
 ghost use Rattle.jscan.specs.Counts.{counts_of, no_counts};

@@ -1,4 +1,4 @@
-// What a scan counts.
+//! What a scan counts.
 
 ghost use Rattle.std.specs.Prelude.{◌≡◌, ◌+◌, ◌%◌, ◌<◌, ◌^◌, length};
 ghost use Rattle.jscan.specs.Counts.{is_entry_tile, is_inode_tile, is_found, counted, block_counted};

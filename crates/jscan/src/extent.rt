@@ -1,4 +1,4 @@
-// An extent of a block.
+//! An extent of a block.
 
 use jnode::Seen;
 

@@ -1,4 +1,4 @@
-// The extents of a block, in order.
+//! The extents of a block, in order.
 
 ghost use Rattle.std.specs.Prelude.{◌≡◌, ◌%◌, ◌<◌, ◌≤◌, ◌+◌, ◌^◌, ℕ, length, take, IfSome, IfNone, IsTrue};
 ghost use Rattle.jscan.specs.Extents.{class_of, is_one_run, extent_kind_of};

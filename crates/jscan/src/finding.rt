@@ -1,4 +1,4 @@
-// What a scan finds beside the nodes, and what it refuses.
+//! What a scan finds beside the nodes, and what it refuses.
 
 ghost use Rattle.std.specs.Prelude.{◌≡◌};
 ghost use Rattle.jscan.specs.Findings.{found_node, found, finding_of, refused_node, refusal_of};

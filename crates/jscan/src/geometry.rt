@@ -1,4 +1,4 @@
-// The geometry of a flash, and why an image is not scanned.
+//! The geometry of a flash, and why an image is not scanned.
 
 ghost use Rattle.std.specs.Prelude.{◌≡◌};
 ghost use Rattle.jscan.specs.Image.{is_block_size, greatest_image};

@@ -1,4 +1,4 @@
-// The extents of an image, block by block.
+//! The extents of an image, block by block.
 
 ghost use Rattle.std.specs.Prelude.{◌≡◌, ◌≤◌, true, length};
 ghost use Rattle.jscan.specs.Image.{is_block_size, greatest_image, block_count};

@@ -1,5 +1,5 @@
-// Parts of a block: what an image has of it, and the missing tail, which counts as erased. A part that the
-// image has whole is read as the slice it is.
+//! Parts of a block: what an image has of it, and the missing tail, which counts as erased. A part that the
+//! image has whole is read as the slice it is.
 
 ghost use Rattle.std.specs.Prelude.{◌≡◌, ◌↔◌, ◌==◌, ◌*◌, ◌^◌, ◌<◌, ◌≤◌, ℕ, IfSome, IsSome, length, slice_index};
 ghost use Rattle.std.specs.List.{list_all};

@@ -1,4 +1,4 @@
-// What an image contains.
+//! What an image contains.
 
 ghost use Rattle.std.specs.Prelude.{◌≡◌, ◌↔◌, ◌<◌, Err, None, IfOk, IfErr, OnOk, true, false, length};
 ghost use Rattle.jscan.specs.Image.{is_block_size, greatest_image, nodes};

@@ -1,4 +1,4 @@
-// The nodes' tiles of an image, in order.
+//! The nodes' tiles of an image, in order.
 
 use crate::extent::{Extent, ExtentKind};
 use crate::geometry::{Geometry, ScanFault};

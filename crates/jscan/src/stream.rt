@@ -1,4 +1,4 @@
-// The blocks of a source, one after the other, through a buffer of one block.
+//! The blocks of a source, one after the other, through a buffer of one block.
 
 ghost use Rattle.std.specs.Prelude.{◌≡◌, ◌-◌, ◌<◌, ◌≤◌, ◌++◌, Err, IfOk, IfErr, OnOk, false, true, length, replicate, take, vec_len};
 ghost use Rattle.std.specs.Option.{ForSome};

@@ -1,4 +1,4 @@
-// The tiles of a block, in order.
+//! The tiles of a block, in order.
 
 ghost use Rattle.std.specs.Prelude.{◌≡◌, ◌%◌, ◌<◌, ◌≤◌, ◌+◌, ◌^◌, ℕ, length, take};
 ghost use Rattle.jnode.specs.Header.{IsGood};

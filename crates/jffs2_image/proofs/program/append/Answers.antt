@@ -1,4 +1,6 @@
-use Rattle.std.proofs.Common.{rules}
+use Rattle.std.proofs.Common.{◌≡◌, Bool, false, rules, subst, sym}
+use Rattle.jcommand.specs.Parsed.{AppendParsed}
+use Rattle.jffs2_image.specs.Runs.{Meets}
 use Rattle.jffs2_image.proofs.WritingLemmas.{appends, listed}
 use Rattle.jffs2_image.proofs.program.append.Goals as goal
 
@@ -6,6 +8,7 @@ pub returns-clause-meets : goal.returns-clause-meets
 returns-clause-meets g c =
     let a = c.args in
     let w = c.write_image in
-    appends (g.L.Loader.told a.loader.now) _ a.target.page g.E.Order.order a.target.options a.target.blocks a.image.now a.listing.now a.target.output.now c.deref.result.now _ _ _ _ w.result (search rules)
+    let plain : a.decompress ≡ false = search rules in
+    rw plain (appends (g.L.Loader.told a.loader.now) _ a.target.page g.E.Order.order a.target.options a.target.blocks a.image.now a.listing.now a.target.output.now c.deref.result.now _ _ _ _ w.result (search rules)
     (listed (g.L.Loader.told a.loader.now) _ _ a.target.page g.E.Order.order a.target.options.geometry.block a.target.blocks a.listing.now a.target.output.now c.deref.result.now c.as_slice.result.now _ _ _ _
-    w.result (search rules) (search rules) w.ensures.writes w.ensures.files) w.ensures.noted
+    w.result (search rules) (search rules) w.ensures.writes w.ensures.files) w.ensures.noted)

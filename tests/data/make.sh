@@ -1,0 +1,37 @@
+#!/usr/bin/env bash
+# Makes the images of this folder, as mkfs.jffs2 of mtd-utils 2.1.5 writes them, compressed:
+#   default.img  little order, blocks of 8 KiB: its default, zlib and (for short data) rtime
+#   lzo.img      big order, blocks of 64 KiB: lzo alone
+#   rtime.img    little order, blocks of 8 KiB, padded: rtime alone, and summaries by sumtool
+# All hold one folder: text, zeros, noise, a hard link, a symlink, a FIFO, a device, an empty file.
+# tests/decompress.sh has what they say. Usage: tests/data/make.sh (as root, needs mtd-utils)
+set -eu
+here=$(cd "$(dirname "$0")" && pwd)
+PATH=$PATH:/usr/sbin
+place=$(mktemp -d)
+trap 'rm -rf "$place"' EXIT
+cd "$place"
+mkdir -p folder/etc/init.d
+seq 1 3000 > folder/etc/log
+printf 'root:x:0:0:root:/root:/bin/sh\n' > folder/etc/passwd
+printf '%s\n' '#!/bin/sh' 'exec true' > folder/etc/init.d/start
+printf 'aaaaaaaaaaaa' > folder/short
+head -c 5000 /dev/zero > folder/zeros
+for k in $(seq 32); do printf '%s' "$k" | sha256sum | cut -c 1-64; done | xxd -r -p > folder/noise
+: > folder/empty
+ln folder/etc/log folder/log
+ln -s etc/passwd folder/way
+mkfifo folder/fifo
+mknod folder/null c 1 3
+chmod 755 folder folder/etc folder/etc/init.d folder/etc/init.d/start
+chmod 644 folder/etc/log folder/etc/passwd folder/short folder/zeros folder/noise folder/empty
+chmod 600 folder/fifo folder/null
+find folder -exec touch -h -d @1000000000 {} +
+make() {
+    mkfs.jffs2 -r folder -U "${@:2}" -o "$here/$1.img"
+}
+make default -l -e 8KiB
+make lzo -b -e 64KiB -x zlib -x rtime -X lzo
+make rtime -l -e 8KiB -x zlib
+mv "$here/rtime.img" whole.img
+sumtool -l -e 8KiB -p -i whole.img -o "$here/rtime.img"

@@ -1,0 +1,95 @@
+# shellcheck shell=bash
+# What the suites program.sh and decompress.sh share: which program it is, a new folder that they
+# run in and that goes away at the end, runs of the program, and how many tests passed. A suite
+# sources this first.
+top=$(cd "$(dirname "${BASH_SOURCE[0]}")/.." && pwd)
+program=$(realpath "${1:-$top/crates/jffs2_image/out/jffs2_image}")
+folder=$(mktemp -d)
+trap 'rm -rf "$folder"' EXIT
+cd "$folder" || exit 1
+passed=0
+failed=0
+
+# count WHETHER: counts the last run as passed (0) or failed.
+count() {
+    if [[ $1 == 0 ]]; then passed=$((passed + 1)); else failed=$((failed + 1)); fi
+}
+
+# want STATUS OUTPUT ERRORS: what the last run gave; a text is a pattern of bash
+want() {
+    local status=$1 output=$2 errors=$3
+    # shellcheck disable=SC2053
+    if [[ $got != "$status" || $(cat out) != $output || $(cat err) != $errors ]]; then
+        echo "FAILED: $line"
+        echo "  status $got, wanted $status"
+        echo "  output: $(head -c 300 out)"
+        echo "  errors: $(head -c 300 err)"
+        count 1
+    else
+        count 0
+    fi
+}
+
+# finish: the last line of a suite, and its status
+finish() {
+    echo "$passed passed, $failed failed"
+    [[ $failed == 0 ]]
+}
+
+run() {
+    line="jffs2_image $*"
+    "$program" "$@" > out 2> err < /dev/null
+    got=$?
+}
+
+# bytes HEX..: these bytes
+bytes() {
+    for byte in "$@"; do printf %b "\\x$byte"; done
+}
+
+# erased N: N bytes of erased flash
+erased() {
+    head -c "$1" /dev/zero | tr '\0' '\377'
+}
+
+# A clean marker of the little order
+marker() {
+    bytes 85 19 03 20 0c 00 00 00 b1 b0 1e e4
+}
+
+# noted N: what standard error says
+noted() {
+    local word=findings
+    [[ $1 == 1 ]] && word=finding
+    echo "jffs2_image: note: $1 $word, see check --scan; a wrong --block or --endian shows as findings too"
+}
+
+# whole FILE: the bytes of the last run's output
+whole() {
+    cmp -s out "$1"
+    local differs=$?
+    count $differs
+    [[ $differs == 0 ]] || echo "FAILED: the bytes of $line"
+}
+
+# lines FILE LINE..: makes a text of these lines
+lines() {
+    printf '%s\n' "${@:2}" > "$1"
+}
+
+# same FILE OTHER: after the last run they have the same bytes
+same() {
+    cmp -s "$1" "$2"
+    local differs=$?
+    count $differs
+    [[ $differs == 0 ]] || echo "FAILED: $1 is not $2 after $line"
+}
+
+# unmade FILE: the last run did not make it
+unmade() {
+    [[ ! -e $1 ]]
+    local there=$?
+    count $there
+    [[ $there == 0 ]] || echo "FAILED: $1 was made by $line"
+    rm -f "$1"
+}
