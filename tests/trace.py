@@ -1,6 +1,7 @@
 #!/usr/bin/env python3
-"""Looks up the names that the documents use, and whether two files of specs/ define one name:
-tests/trace.py. The last line is 'N passed, M failed'.
+"""Looks up the names that the documents use, whether docs/TRACE.md or WRONG-BODIES.md names each
+edit, and whether two files of specs/ define one name: tests/trace.py. The last line is 'N passed, M
+failed'.
 
 Names between backquotes in docs/TRACE.md, PROOFS.md, WRONG-BODIES.md and GLOSSARY.md have three
 forms: `crate.File.name` is a definition in crates/crate/specs/File.antt, `crate::module::name` an
@@ -151,6 +152,18 @@ def verb_faults():
     return right, faults
 
 
+def edit_faults():
+    """Looks for each edit in docs/TRACE.md and WRONG-BODIES.md. Returns how many are there, and the
+    faults."""
+    named = QUOTED.findall(text_of("docs", "TRACE.md") + text_of("docs", "WRONG-BODIES.md"))
+    paths = glob.glob(os.path.join(CRATES, "*", "must-fail", "*.edit"))
+    edits = [os.path.relpath(path, CRATES).removesuffix(".edit") for path in sorted(paths)]
+    edits = [edit.replace(f"{os.sep}must-fail{os.sep}", "/") for edit in edits]
+    missing = sorted(set(edits) - set(named))
+    faults = [f"TRACE.md and WRONG-BODIES.md do not name the edit {edit}" for edit in missing]
+    return len(edits) - len(missing), faults
+
+
 def shared_names():
     """Returns each name that is defined in more than one file of specs/, with these files. An
     operator is none: a `do` block takes the one that its file brings in."""
@@ -170,7 +183,7 @@ def main():
             answers[f"{document}: {name}"] = is_there(name)
     faults = [f"docs/{name}, which is not there" for name in answers if answers[name] is False]
     right = sum(answer is True for answer in answers.values())
-    for more, others in (proofs_faults(), verb_faults()):
+    for more, others in (proofs_faults(), verb_faults(), edit_faults()):
         right += more
         faults += others
     shared = shared_names()
