@@ -1,0 +1,51 @@
+#!/usr/bin/env python3
+"""Compression beside zlib: python3 bench/packing.py FOLDER [RUNS] [CRATES]
+
+Compresses pieces of 4 KiB of text, of machine code and of random bytes by `bench_deflate` and by zlib at level 6
+(bench/deflate.c), one after the other, so that other work on the machine meets both. It prints the least processor time of each
+over the runs for one piece, the ratio, and the bytes that each made. Needs cc and zlib1g-dev. The program is the one that
+`rt run` built here, or in CRATES.
+"""
+import os
+import random
+import subprocess
+import sys
+
+HERE = os.path.dirname(os.path.abspath(__file__))
+from compression import FOLDER, PIECE, PIECES, RUNS, CRATES, machine_code, text  # noqa: E402
+from measuring import taken  # noqa: E402
+
+ROUNDS = 100
+
+
+def compare(name, content):
+    """Runs both on a file of these bytes, and prints what a piece takes, the ratio, and what came out."""
+    file = f"{FOLDER}/{name.replace(' ', '_')}.raw"
+    content = content[: PIECE * PIECES]
+    with open(file, "wb") as out:
+        out.write(content)
+    words = [str(PIECE), str(ROUNDS)]
+    commands = (
+        [f"{CRATES}/bench_deflate/out/bench_deflate", file, *words, f"{FOLDER}/streams"],
+        [f"{FOLDER}/deflate", file, *words, "6"],
+    )
+    told, times = [None, None], ([], [])
+    for _ in range(RUNS):
+        for which, command in enumerate(commands):
+            times[which].append(taken(command, FOLDER)[0])
+            with open(f"{FOLDER}/out", "rb") as out:
+                told[which] = int(out.read())
+    ours, theirs = (min(tries) / ROUNDS / (len(content) // PIECE) * 1e6 for tries in times)
+    print(f"{name:14} ours {ours:7.1f} us {told[0]:8} bytes  zlib 6 {theirs:7.1f} us {told[1]:8} bytes {ours / theirs:6.2f} times", flush=True)
+
+
+def main():
+    os.makedirs(FOLDER, exist_ok=True)
+    subprocess.run(["cc", "-O2", "-o", f"{FOLDER}/deflate", f"{HERE}/deflate.c", "-lz"], check=True)
+    compare("text", text())
+    compare("machine code", machine_code())
+    compare("random bytes", random.Random(1).randbytes(PIECE * PIECES))
+
+
+if __name__ == "__main__":
+    main()
