@@ -412,7 +412,7 @@ const HELP: [(&str, &str); 19] = [
     ),
     ("t help append", "IMAGE and OUT can be one file"),
     ("t --help", "jffs2_image build --blocks 64"),
-    ("t --help", "S the session that writes"),
+    ("t --help", "session that writes, P the program"),
 ];
 
 #[test]

@@ -45,6 +45,9 @@ fn is_told(alloc: Global, row: &Row) -> bool {
     let Ok(image) = image_of(alloc, row) else {
         return false;
     };
+    if image.len() > GREATEST_IMAGE {
+        return false;
+    }
     match told(alloc, &image) {
         Ok((text, order)) => {
             let info = info_of(&image);

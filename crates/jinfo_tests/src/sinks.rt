@@ -13,7 +13,10 @@ const NOTE: &[u8] = b"jffs2_image: note: the file begins as UBI does\n";
 fn is_cut(alloc: Global, image: &[u8], text: &[u8], limit: usize) -> bool {
     let mut sink = Taker::limited(alloc, 7, limit);
     let answer = put_info(image, &mut sink);
-    answer == Err(InfoFault::Output) && sink.took(1, &text[..limit])
+    match text.get(..limit) {
+        Some(wanted) => answer == Err(InfoFault::Output) && sink.took(1, wanted),
+        None => false,
+    }
 }
 
 /// The first limit at which a sink that fails is not told so.
