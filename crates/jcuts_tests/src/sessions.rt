@@ -6,41 +6,55 @@ use jlog::Session;
 use jmount::mount;
 use jscan::Geometry;
 use jsteps::{Op, Text};
+use std::alloc::Global;
 use std::test::Fail;
 use test_support::{MADE, Taker};
 
 const GEOMETRY: Geometry = Geometry { block: 8192 };
 
-#[test]
-fn each_sink_has_its_bytes(rt: HostRuntime) -> Result<(), Fail> {
-    let alloc = rt.alloc();
-    let create = Op::Create {
+/// A file is made.
+fn create() -> Op<'static> {
+    Op::Create {
         time: 0,
         path: Text::lent(b"/a"),
         mode: 0o644,
         uid: 0,
         gid: 0,
-    };
-    let write = Op::Write {
+    }
+}
+
+/// Three bytes are written to it, whose node ends in 0xFF.
+fn write() -> Op<'static> {
+    Op::Write {
         time: 0,
         path: Text::lent(b"/a"),
         offset: 0,
         bytes: Text::lent(b"\xFF\xFF\xFF"),
-    };
+    }
+}
+
+/// The node of these bytes alone, up to a multiple of 4.
+fn is_written(sink: &Taker) -> bool {
+    sink.bytes.len() == 72 && sink.bytes.ends_with(b"\xFF\xFF\xFF\xFF")
+}
+
+/// Whether the file's nodes are in the first sink and those of its bytes in the second, and the session goes on behind each.
+fn is_apart(alloc: Global) -> Result<bool, Fail> {
     let mounted = mount::<LittleEndian>(alloc, &[], GEOMETRY)?;
     let sink = Taker::new(alloc);
     let mut session = Session::<LittleEndian, _>::resume(alloc, &mounted, GEOMETRY, 1, sink)?;
-    expect(&rt, session.cursor() == 0);
-    session.apply(alloc, &create)?;
-    expect(&rt, session.cursor() == 124);
+    session.apply(alloc, &create())?;
+    let made = session.cursor();
     let first = session.replace_sink(Taker::new(alloc));
-    session.apply(alloc, &write)?;
-    expect(&rt, session.cursor() == 196);
+    session.apply(alloc, &write())?;
+    let written = session.cursor();
     let second = session.finish();
-    expect(&rt, first.took(0, &MADE));
-    expect(
-        &rt,
-        second.bytes.len() == 72 && second.bytes.ends_with(b"\xFF\xFF\xFF\xFF"),
-    );
+    Ok(made == 124 && written == 196 && first.took(0, &MADE) && is_written(&second))
+}
+
+#[test]
+fn each_sink_has_its_bytes(rt: HostRuntime) -> Result<(), Fail> {
+    let is_so = is_apart(rt.alloc())?;
+    expect(&rt, is_so);
     Ok(())
 }
