@@ -12,6 +12,7 @@ _jffs2_image_options() {
         decompress) echo "$plain $help" ;;
         extract) echo "$plain --decompress --owners --quiet $help" ;;
         listing) echo "--owner --time --quiet $help" ;;
+        info) echo "$help" ;;
         '') echo "$help -V --version" ;;
     esac
 }
@@ -37,13 +38,15 @@ _jffs2_image_values() {
 # How `compgen` finds a command's word at this place, counted from 0.
 _jffs2_image_kind() {
     case $1:$2 in
-        check:0 | ls:0 | cat:0 | build:[01] | append:[012] | decompress:[01] | extract:0) echo -f ;;
+        check:0 | ls:0 | cat:0 | build:[01] | append:[012] | decompress:[01] | extract:0 | info:0)
+            echo -f
+            ;;
         extract:1 | listing:0) echo -d ;;
     esac
 }
 
 _jffs2_image() {
-    local commands='check ls cat build append decompress extract listing help'
+    local commands='check ls cat build append decompress extract listing info help'
     local current=${COMP_WORDS[COMP_CWORD]} command='' option='' place=0 values=0 word kind
     # bash cuts --option=value into three words
     for word in "${COMP_WORDS[@]:1:COMP_CWORD-1}"; do

@@ -15,9 +15,10 @@ complete -c jffs2_image -n __fish_use_subcommand -a append -d 'Extend an image b
 complete -c jffs2_image -n __fish_use_subcommand -a decompress -d 'Copy with data decompressed'
 complete -c jffs2_image -n __fish_use_subcommand -a extract -d 'Tree into a new folder'
 complete -c jffs2_image -n __fish_use_subcommand -a listing -d 'Listing of a folder'
+complete -c jffs2_image -n __fish_use_subcommand -a info -d 'What it shows of order and blocks'
 complete -c jffs2_image -n __fish_use_subcommand -a help -d 'Help of a command'
 complete -c jffs2_image -n '__jffs2_image_in help' -f \
-    -a 'check ls cat build append decompress extract listing help'
+    -a 'check ls cat build append decompress extract listing info help'
 
 # Options of the program and of every command
 complete -c jffs2_image -n 'not __jffs2_image_in help' -s h -l help -d 'Print help'

@@ -28,9 +28,12 @@ sed -i '/^bench_/d' "$copy/crates.txt"
 suite tests/gate_clock.py "$times" tests/edits.py --with-ci --built "$copy"
 suite tests/growths.py --built "$copy"
 suite tests/trace.py
+suite tests/form.py
 suite tests/completions.py
 suite tests/quick.sh "$copy/crates/jffs2_image/out/jffs2_image"
+suite tests/commands.py --try "$copy/crates/jffs2_image/out/jffs2_image"
 suite tests/program.sh "$copy/crates/jffs2_image/out/jffs2_image"
+suite tests/listings.py "$copy/crates/jffs2_image/out/jffs2_image"
 suite tests/decompress.sh "$copy/crates/jffs2_image/out/jffs2_image"
 suite tests/hostile.py "$copy/crates/jffs2_image/out/jffs2_image"
 suite tests/folders.py "$copy/crates/jffs2_image/out/jffs2_image"

@@ -1,5 +1,5 @@
 #!/usr/bin/env python3
-"""Runs the commands of the documents as they stand there: tests/commands.py [PROGRAM]
+"""Runs the commands of the documents as they stand: tests/commands.py [--try | --real] [PROGRAM]
 
 Of README.md and CONTRIBUTING.md these are the blocks that begin with ```sh, each begun at the top
 of the repository. A block ```text after one is what it prints, where a line `...` stands for any
@@ -7,11 +7,13 @@ lines. Of the manual pages they are the literal blocks of QUICK START and EXAMPL
 section in a folder with a folder `tree`; 'It prints' tells the last line. Each block must end with
 status 0.
 
-The commands get a copy of what they need: data, documents and completions, the program, and a home
-of its own. The gate proves and tests by itself, so here `rt` and the scripts of tests/ only look
-whether they can be called so. `rt try -- WORDS` and `rt run -- WORDS` run the program, and of
-another crate they print its file `stdout` where its file `args` has these words. The last line is
-'N passed, M failed'.
+The commands get a copy of the repository, the program, and a home of their own. Proving takes an
+hour, and the gate does it by itself. So `rt` and the scripts of tests/ are stand-ins, which look
+whether they can be called so: `rt try -- WORDS` and `rt run -- WORDS` run the program, and of
+another crate they print its file `stdout` where its file `args` has these words. With --try, as in
+the gate, each `rt try` is the toolchain's own. With --real nothing is a stand-in but tests/all.sh,
+which is the gate; the documents build the program, so PROGRAM is not taken. The last line is 'N
+passed, M failed'.
 """
 import os
 import re
@@ -30,7 +32,9 @@ LITERAL = re.compile(r"^\.Bd -literal.*?\n(.*?)^\.Ed$"
 RT = r"""#!/usr/bin/env python3
 import os, re, subprocess, sys
 words, crate = sys.argv[1:], os.path.basename(os.getcwd())
-top = os.path.join(os.environ["REAL_TOP"], "crates")
+if words[:1] == ["try"] and "REAL_RT" in os.environ:
+    sys.exit(subprocess.call([os.environ["REAL_RT"], *words]))
+top = os.path.join(os.environ["TOP"], "crates")
 is_program = words[:2] in (["try", "--"], ["run", "--"])
 if is_program and crate == "jffs2_image":
     sys.exit(subprocess.call(["out/jffs2_image", *words[2:]]))
@@ -45,7 +49,6 @@ names = [word for word in words if re.fullmatch(r"[a-z]\w*", word)]
 unknown = [word for word in words if word.startswith("--") and word not in known]
 unknown += [names[0]] if not names or names[0] not in known else []
 unknown += [name for name in names[1:] if not os.path.isdir(os.path.join(top, name))]
-unknown += words[1:] if words[:1] == ["ci"] else []  # it takes no names
 for path in (word for word in words if "::" in word):
     *modules, name = path.split("::")
     text = open(os.path.join(top, crate, "src", modules[0] + ".rt")).read()
@@ -58,30 +61,33 @@ sys.exit(bool(unknown))
 class Place:
     """A folder with what the commands need, and their environment."""
 
-    def __init__(self, folder, program):
-        self.folder, self.top = folder, os.path.join(folder, "top")
-        for part in ("docs", "completions"):
-            shutil.copytree(os.path.join(ROOT, part), os.path.join(self.top, part))
-        for crate in os.listdir(os.path.join(ROOT, "crates")):
-            os.makedirs(os.path.join(self.top, "crates", crate))
-        data = os.path.join("crates", "jffs2_image", "data")
-        shutil.copytree(os.path.join(ROOT, data), os.path.join(self.top, data))
-        os.mkdir(os.path.join(self.top, "crates", "jffs2_image", "out"))
-        os.symlink(program, os.path.join(self.top, "crates", "jffs2_image", "out", "jffs2_image"))
-        data = os.path.join("tests", "data")
-        shutil.copytree(os.path.join(ROOT, data), os.path.join(self.top, data))
-        for name in os.listdir(os.path.join(ROOT, "tests")):
-            path = os.path.join(ROOT, "tests", name)
-            if os.path.isfile(path) and os.access(path, os.X_OK):
-                self.script(os.path.join(self.top, "tests", name), "#!/bin/sh\n")
-        os.mkdir(os.path.join(folder, "bin"))
-        self.script(os.path.join(folder, "bin", "rt"), RT)
-        help_of_rt = subprocess.run(["rt", "help"], capture_output=True, text=True, check=False)
+    def __init__(self, folder, program, mode):
+        self.folder, self.top, self.mode = folder, os.path.join(folder, "top"), mode
+        shutil.copytree(ROOT, self.top, ignore=shutil.ignore_patterns(".git", "out"))
         home = os.path.join(folder, "home")
         os.mkdir(home)
-        path = f"{home}/.local/bin:{folder}/bin:{os.environ['PATH']}"
-        self.environment = {"PATH": path, "HOME": home, "LC_ALL": "C", "REAL_TOP": ROOT}
+        path = [os.path.join(home, ".local", "bin"), os.environ["PATH"]]
+        self.environment = {"HOME": home, "LC_ALL": "C", "TOP": self.top}
+        self.script(os.path.join(self.top, "tests", "all.sh"), "#!/bin/sh\n")
+        if mode != "--real":
+            path.insert(1, os.path.join(folder, "bin"))
+            self.stand_in(program)
+        self.environment["PATH"] = ":".join(path)
+
+    def stand_in(self, program):
+        """Puts the program where it is built, and stand-ins for rt and the scripts of tests/."""
+        os.mkdir(os.path.join(self.top, "crates", "jffs2_image", "out"))
+        os.symlink(program, os.path.join(self.top, "crates", "jffs2_image", "out", "jffs2_image"))
+        for name in os.listdir(os.path.join(self.top, "tests")):
+            path = os.path.join(self.top, "tests", name)
+            if os.path.isfile(path) and os.access(path, os.X_OK):
+                self.script(path, "#!/bin/sh\n")
+        os.mkdir(os.path.join(self.folder, "bin"))
+        self.script(os.path.join(self.folder, "bin", "rt"), RT)
+        help_of_rt = subprocess.run(["rt", "help"], capture_output=True, text=True, check=False)
         self.environment["RT_HELP"] = help_of_rt.stdout + help_of_rt.stderr
+        if self.mode == "--try":
+            self.environment["REAL_RT"] = shutil.which("rt")
 
     @staticmethod
     def script(path, text):
@@ -125,6 +131,8 @@ def run_blocks(place, where, name, blocks):
     """Runs the blocks of a document. Returns how many did as told, and how many did not."""
     passed = failed = 0
     for commands, told in blocks:
+        if place.mode == "--real":
+            print(f"{name}:\n{commands}", end="", flush=True)
         status, printed, said = place.run(where, commands)
         if status == 0 and (told is None or is_as_told(printed, told)):
             passed += 1
@@ -142,13 +150,15 @@ def text_of(*path):
 
 
 def main():
-    program = os.path.realpath(sys.argv[1] if len(sys.argv) > 1 else PROGRAM)
-    if not os.access(program, os.X_OK):
+    words = sys.argv[1:]
+    mode = words.pop(0) if words[:1] in (["--try"], ["--real"]) else None
+    program = os.path.realpath(words[0] if words else PROGRAM)
+    if mode != "--real" and not os.access(program, os.X_OK):
         sys.exit(f"{program} is no program")
     os.umask(0o022)
     passed = failed = 0
     with tempfile.TemporaryDirectory() as folder:
-        place = Place(folder, program)
+        place = Place(folder, program, mode)
         runs = [(name, place.top, list(blocks_of_page(text_of(name))))
                 for name in ("README.md", "CONTRIBUTING.md")]
         for page in ("jffs2_image.1", "jffs2_image.5"):

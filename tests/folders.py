@@ -442,6 +442,11 @@ def holes():
     sizes = [os.lstat(f"bomb/{k}") for k in range(4)]
     verdict("a bomb", done.status == 0 and all((is_.st_size, is_.st_blocks) == (claimed, 0) for is_ in sizes), done)
     shutil.rmtree("bomb")
+    write("holes.img", laid(node for k in range(1000) for node in (inode(k + 2, 1, 0, 8191, b""), entry(1, k + 1, k + 2, b"%d" % k))))
+    done = run("extract", "holes.img", "holes")
+    sizes = {(is_.st_size, is_.st_blocks) for is_ in (os.lstat(f"holes/{k}") for k in range(1000))}
+    verdict("a thousand files that are holes", done.status == 0 and sizes == {(8191, 0)}, done)
+    shutil.rmtree("holes")
     content = bytes(8192) + b"x" + bytes(10000)
     write("hole.img", laid([
         inode(2, 1, 0, len(content), content[:4096]), inode(2, 2, 8192, len(content), b"x"), entry(1, 1, 2, b"f"),

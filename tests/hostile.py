@@ -18,10 +18,14 @@ import compressed_images as packed
 import decompress_model as opened
 import hostile_images as images
 import hostile_model as model
+import hostile_rows as rows
 from groups import PROGRAM, ROOT, Done, run_all, verdict, write
 
 NO_MEMORY = re.compile(rb"((?:left out .*\n)*)jffs2_image: (?:L3|C5|M7|P6|S5) OutOfMemory(?: line \d+)?\n")
-NOTE = b"jffs2_image: note: %d %s, see check --scan; a wrong --block or --endian shows as findings too\n"
+NOTE = (
+    b"jffs2_image: note: %d %s, see check --scan; "
+    b"a wrong --block or --endian shows as findings too, see info\n"
+)
 COMPRESSED = (
     b"jffs2_image: note: the image is compressed; "
     b"decompress writes one that is not, and --decompress reads it\n"
@@ -433,17 +437,72 @@ GREAT = (
 )
 
 
+def does(about, words, wanted):
+    """A command that ends so."""
+    done = run(words)
+    verdict(f"{words[0]}: {about}", done == wanted, done)
+
+
+def extends(about, words, lines, wanted):
+    """Operations onto an image that end so, one fault or a line."""
+    write("more.txt", "".join(f"{line}\n" for line in lines))
+    does(f"{about}, {lines[0][:60]}", ["append", *words, "more.txt", "out.img"], wanted)
+
+
+def accepted(count, nodes, size):
+    return Done(0, f"accepted {count} nodes {nodes} bytes {size}\n".encode(), b"")
+
+
+def refused(why):
+    return fault(f"S1 Refused {why} line 1")
+
+
+FOUND, NOT_FOUND = fault("P4 NotRegular"), fault("P3 Path NotFound")
+
+
+def more_of_names(count):
+    """Names in the order of their bytes; the first and the last are found, and their versions go on."""
+    lines = "".join(f"- 0644 0 0 0 0 2 /{number:06}\n" for number in range(count))
+    does(f"{count} names", ["ls", "great.img"], Done(0, (rows.ROOT + lines).encode(), b""))
+    for number, wanted in ((0, Done(0, b"", b"")), (count - 1, Done(0, b"", b"")), (count, NOT_FOUND)):
+        does(f"name {number} of {count}", ["cat", "great.img", f"/{number:06}"], wanted)
+    extends(f"{count} names", ["--blocks", "80", "great.img"], ["create 0644 /new"], accepted(1, 2, 124))
+    done = run(["check", "--scan", "out.img"])
+    verdict("the next version of a name", b" pino 1 version %d ino 3 type 8 name new\n" % (count + 1) in done.out, done)
+
+
+def more_of_depths(count):
+    """Directories in one another: the last one is found, the first not put below it, and only the last is removed."""
+    bottom = "/d" * count
+    for path, wanted in ((bottom, FOUND), (bottom + "/x", NOT_FOUND)):
+        does(f"{len(path)} bytes of a path", ["cat", "great.img", path], wanted)
+    for line, wanted in (
+        (f"rename /d {bottom}/x", refused("O8 IntoItself")),
+        ("remove " + "/d" * (count // 2), refused("O7 NotEmpty")),
+        (f"remove {bottom}", accepted(1, 1, 56)),
+    ):
+        extends(f"{count} directories", ["--blocks", "64", "great.img"], [line], wanted)
+
+
+def more_of_versions(count):
+    """Versions of one range: the last one's bytes, and versions go on."""
+    does("the last version", ["cat", "great.img", "/a"], Done(0, b"%04x" % (count - 1 & 0xFFFF), b""))
+    extends(f"{count} versions", ["--blocks", "200", "great.img"], ["write /a 0 00"], accepted(1, 1, 84))
+    done = run(["check", "--scan", "out.img"])
+    verdict("the next version", b" ino 2 version %d mode 100644 size 4 offset 0 data 1 none\n" % (count + 1) in done.out, done)
+
+
+MORE = {
+    images.names: more_of_names,
+    images.depths: more_of_depths,
+    images.rising: more_of_versions,
+    images.falling: more_of_versions,
+    images.shuffled: more_of_versions,
+}
+
+
 def on_images():
-    """Loops, great numbers, and what no producer writes."""
-    write("circle.img", images.circle())
-    lines = NOWHERE + b"d 0755 0 0 0 0 2 /d\nd 0755 0 0 0 0 1 /d/x (again)\nd 0755 0 0 0 0 2 /d/y (again)\n"
-    done = run(["ls", "circle.img"])
-    verdict("ls of a circle", done == Done(0, lines, b""), done)
-    for line, told in (("rename /d /d/y/z", "O8 IntoItself"), ("remove /d/x", "O7 NotEmpty"), ("create 0644 /d/y/y/x/f", None)):
-        write("one.txt", line + "\n")
-        done = run(["append", "--blocks", "2", "circle.img", "one.txt", "out.img"])
-        wanted = fault(f"S1 Refused {told} line 1") if told else Done(0, b"accepted 1 nodes 2 bytes 124\n", b"")
-        verdict(f"{line} in a circle", done == wanted, done)
+    """Great numbers, and what no producer writes."""
     for make, count, lines in GREAT:
         write("great.img", make(count))
         listed, checked = run(["ls", "great.img"], stack=1 << 19), run(["check", "great.img"], stack=1 << 19)
@@ -451,6 +510,7 @@ def on_images():
         verdict(f"ls of {count} {make.__name__}", is_listed, listed)
         is_checked = checked.status == 0 and checked.out.endswith(b"findings 0\nmount ok\n")
         verdict(f"check of {count} {make.__name__}", is_checked, checked)
+        MORE.get(make, lambda count: None)(count)
     for number, image in enumerate((*images.turned(images.sample()), *images.soups(200, 20), *images.soups(30, 120), images.circles(40))):
         on_any(number, image)
 
@@ -502,6 +562,106 @@ def refusal(why):
 
 def text(lines):
     return "".join(f"{line}\n" for line in lines).encode()
+
+
+# ---- Small images in both orders
+
+
+def makers():
+    """Each order, what makes its nodes, and what makes those of the other one."""
+    little, big = (packed.Maker(sign) for sign in packed.ORDERS.values())
+    yield from ((["--endian", "little"], little, big), (["--endian", "big"], big, little))
+
+
+def in_circles():
+    """Directories that hold themselves and the root: paths through them, refusals, and what is made by such ways."""
+    for order, make, _ in makers():
+        write("any.img", rows.circle(make))
+        about, onto = f"a circle, {order[1]}", [*order, "--block", "8192", "--blocks", "2", "any.img"]
+        does(about, ["ls", *order, "any.img"], Done(0, rows.CIRCLE_LINES.encode(), b""))
+        for path in (*rows.CIRCLE_DIRECTORIES, "/d/y/y/x/y"):
+            does(f"{about}, {path}", ["cat", *order, "any.img", path], FOUND if path in rows.CIRCLE_DIRECTORIES else NOT_FOUND)
+        for line, why in rows.CIRCLE_REFUSALS:
+            extends(about, onto, [line], refused(why))
+        extends(about, onto, ["create 0600 /d/y/y/f", "rename /d/x/d/f /d/x/g"], accepted(2, 4, 212))
+        made = rows.CIRCLE_LINES + "- 0600 0 0 0 0 3 /g\n"
+        does(f"{about}, more", ["ls", *order, "--block", "8192", "out.img"], Done(0, made.encode(), b""))
+        # A path of 100,000 names.
+        extends(about, onto, ["create 0600 " + "/d/x" * 50000 + "/g"], accepted(1, 2, 124))
+        does(f"{about}, by a long path", ["ls", *order, "--block", "8192", "out.img"], Done(0, made.encode(), b""))
+
+
+def on_lengths():
+    """A header of any length at each place: a node is there exactly where it holds the header and ends in its block."""
+    all_of_them = list(rows.lengths())
+    for order, make, _ in makers():
+        words = ["check", "--block", str(rows.BLOCK), *order, "any.img"]
+        image = b"".join(rows.lone_header(make, *row).ljust(rows.BLOCK, b"\xff") for row in all_of_them)
+        lines, status = rows.lone_report(all_of_them)
+        write("any.img", image)
+        does(f"headers, {order[1]}", words, Done(status, lines.encode(), b""))
+        # An image that ends behind the header: one length of each place in turn, and those that wrap around.
+        for row in [*all_of_them[:6132][::7], *all_of_them[6132:]]:
+            lines, status = rows.lone_report([row])
+            write("any.img", rows.lone_header(make, *row))
+            does(f"a header {row}, {order[1]}", words, Done(status, lines.encode(), b""))
+
+
+def with_each_byte_changed():
+    """Each byte of a small image changed to each other value: what stands without the node that holds it, and a file more."""
+    for order, make, _ in makers():
+        words = [*order, "--block", str(rows.CHANGED_BLOCK)]
+        for at in range(rows.PARTS[-1][0]):
+            about = f"byte {at} changed, {order[1]}"
+            image, (report, _, found, noted) = rows.changed(make, at)
+            lines, content = rows.changed_lines(at)
+            note = findings_note(noted)
+            write("any.img", image)
+            does(about, ["ls", *words, "any.img"], Done(0, lines.encode(), note))
+            wanted = NOT_FOUND if content is None else Done(0, content, note)
+            does(about, ["cat", *words, "any.img", f"/{at + 1:02x}"], wanted)
+            done = run(["check", *words, "any.img"])
+            is_right = done.status == (3 if found else 0) and done.out.endswith(f"{report[-1]}\nmount ok\n".encode())
+            verdict(f"check: {about}", is_right and not done.err, done)
+            extends(about, [*words, "--blocks", "256", "any.img"], ["create 0600 /zz"], accepted(1, 2, 124)._replace(err=note))
+            made = lines + "- 0600 0 0 0 0 257 /zz\n"
+            does(f"{about}, more", ["ls", *words, "out.img"], Done(0, made.encode(), note))
+
+
+def in_every_order():
+    """The nodes of a file in every order: the same tree and content."""
+    for order, make, _ in makers():
+        write("any.img", make.laid(rows.orders(make), marked=False))
+        does("six nodes in every order", ["ls", *order, "any.img"], Done(0, rows.ORDERS_LINES.encode(), b""))
+        done = run(["check", *order, "any.img"])
+        verdict("check: six nodes in every order", done.status == 0 and done.out.endswith(b" findings 0\nmount ok\n"), done)
+        for number in range(720):
+            does(f"order {number}, {order[1]}", ["cat", *order, "any.img", f"/{number:03}"], Done(0, rows.ORDERS_LEFT, b""))
+
+
+def on_rows():
+    """Worked images: the report, the tree, why one does not mount, and what is noted."""
+    for order, make, other in makers():
+        words = [*order, "--block", "4096", "any.img"]
+        for image, lines in rows.reports(make, other):
+            write("any.img", image)
+            status = 0 if " findings 0\n" in lines else 3
+            does(f"a worked report, {order[1]}", ["check", "--scan", *words], Done(status, lines.encode(), b""))
+        for nodes, lines in rows.trees(make):
+            write("any.img", rows.joined(nodes))
+            does(f"a worked tree, {order[1]}", ["ls", *order, "any.img"], Done(0, lines.encode(), b""))
+        for image, why in rows.unmounted(make):
+            write("any.img", image)
+            for command in (["ls", *words], ["cat", *words, "/a"]):
+                does(f"{why}, {order[1]}", command, fault(why))
+            done = run(["check", *words])
+            is_right = done.status == 3 and done.out.endswith(f" findings 0\nmount refused {why}\n".encode())
+            verdict(f"check: {why}, {order[1]}", is_right and not done.err, done)
+        for front, count in rows.with_findings(make, other):
+            write("any.img", front + rows.joined([rows.node(make, 2, packed.FILE), rows.entry(make, 1, 2, b"a")]))
+            lines, note = rows.ROOT + "- 0644 0 0 0 0 2 /a\n", findings_note(count)
+            does(f"{count} findings, {order[1]}", ["ls", *words], Done(0, lines.encode(), note))
+            does(f"{count} findings, {order[1]}", ["cat", *words, "/a"], Done(0, b"", note))
 
 
 # ---- Compressed images
@@ -581,8 +741,11 @@ def converted_goes_on(about, words, listed, converted):
 
 
 def from_the_longest_file():
-    """A file of 4 GiB comes out whole in little memory, and `cat` ends where its reader does."""
+    """A file of 4 GiB comes out whole in little memory, and `cat` ends where its reader does; it is cut only to a size that is
+    written."""
     write("longest.img", images.longest())
+    extends("the longest file", ["--blocks", "2", "longest.img"], ["truncate /a 2147483648"], refused("O9 TooLarge"))
+    extends("the longest file", ["--blocks", "2", "longest.img"], ["truncate /a 2147483647", "truncate /a 0"], accepted(2, 2, 148))
     words = [PROGRAM, "cat", "longest.img", "/a"]
     with subprocess.Popen(words, stdout=subprocess.PIPE, stderr=subprocess.PIPE, preexec_fn=limits(1 << 24, (), None)) as child:
         first, count, zeros = child.stdout.read(1), 1, bytes(1 << 20)
@@ -606,6 +769,11 @@ GROUPS = (
     on_devices,
     one_file_twice,
     on_images,
+    in_circles,
+    on_lengths,
+    with_each_byte_changed,
+    in_every_order,
+    on_rows,
     on_compressed,
     from_the_longest_file,
 )

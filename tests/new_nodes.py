@@ -1,9 +1,10 @@
 #!/usr/bin/env python3
-"""The images that new objects make of an empty flash, by the tables of docs/FORMAT.md and no code of the crates.
+"""The image that a new object makes of an empty flash, by the tables of docs/FORMAT.md and no code of the crates.
 
-crates/jlog_tests/src/made_tests.rt has these bytes. Run it, and compare.
+Usage: tests/new_nodes.py fifo|socket little|big. Its bytes go to standard output; tests/listings.py compares them.
 """
 import struct
+import sys
 import zlib
 
 
@@ -45,14 +46,13 @@ def image(order, mode, name, isize=0, data=b""):
     return padded(out)
 
 
-ROWS = (("fifo", 0o010622, b"p"), ("socket", 0o140755, b"s"))
+KINDS = {"fifo": (0o010622, b"p"), "socket": (0o140755, b"s")}
+ORDERS = {"little": "<", "big": ">"}
 
 
-def main():
+def main(kind, order):
     assert crc(b"123456789") == 0x2DFD2D88
-    for word, mode, name in ROWS:
-        for order in "<>":
-            print(word, "little" if order == "<" else "big", image(order, mode, name).hex())
+    sys.stdout.buffer.write(image(ORDERS[order], *KINDS[kind]))
 
 
-main()
+main(*sys.argv[1:])

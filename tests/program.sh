@@ -91,14 +91,15 @@ for words in --help "check --help"; do
 done
 
 line="the lines of help, 80 columns wide at most"
-for words in --help "check --help" "ls --help" "cat --help" "build --help" "append --help" "decompress --help" "extract --help" "listing --help"; do
+for words in --help "check --help" "ls --help" "cat --help" "build --help" "append --help" "decompress --help" "extract --help" "listing --help" "info --help"; do
     "$program" $words > out
     awk 'length > 80 { print; wide = 1 } END { exit wide }' out
     count $?
 done
 
 # The size of a block comes before the image is read, and after it is opened.
-for value in 0 4095 4097 4098 4194308 4294967295; do
+for value in 0 4092 4095 4097 4098 4194305 4194308 4294967295; do
+    run check --block $value block; want 1 "" "jffs2_image: C1 BlockSize"
     run check --scan --block $value block; want 1 "" "jffs2_image: C1 BlockSize"
     run check --scan --block $value folder; want 1 "" "jffs2_image: C1 BlockSize"
     run check --scan --block $value none; want 1 "" "jffs2_image: P1 File none"
@@ -167,6 +168,10 @@ for path in '/\' '/\x1' '/\X11' '/\xg1' '/\\'; do
     run cat none "$path"; want 1 "" "jffs2_image: P3 Path BadPath"
 done
 run cat block '/\x61'; want 1 "" "jffs2_image: P3 Path NotFound"
+run cat file '\x2f\x61'; want 0 "" ""
+for path in '' '\x61' '/\x00\xfF'; do
+    run cat block "$path"; want 1 "" "jffs2_image: P3 Path BadPath"
+done
 for words in "cat --help" "cat -h" "help cat"; do
     run $words; want 0 "*Usage: jffs2_image cat *<IMAGE> <PATH>*--block <N>*65536*Exit status:*" ""
 done
@@ -223,8 +228,9 @@ count $bad
 run check --block 4096 "$tree"; want 0 "*total blocks 2 entries 12 inodes 11 findings 0*mount ok" ""
 run cat file /a; want 0 "" ""
 run check file; want 0 "*total blocks 1 entries 1 inodes 1 findings 0*mount ok" ""
-for value in 0 4095 4097 4194308; do
+for value in 0 4092 4095 4097 4194308 4294967295; do
     run ls --block $value block; want 1 "" "jffs2_image: M1 BlockSize"
+    run cat --block $value block /a; want 1 "" "jffs2_image: M1 BlockSize"
 done
 run ls none; want 1 "" "jffs2_image: P1 File none"
 run ls folder; want 1 "" "jffs2_image: L1 Device"
@@ -234,6 +240,56 @@ line="the tree of an image of 256 MiB in 64 MiB of memory"
 for words in "ls --help" "ls -h" "help ls"; do
     run $words; want 0 "*Usage: jffs2_image ls *<IMAGE>*--block <N>*65536*KIND MODE UID GID SIZE MTIME INO PATH*Exit status:*" ""
 done
+
+# ---- What a dump is
+
+run info; want 2 "" "error: *<IMAGE>*Usage: *"
+run info block block; want 2 "" "$wrong"
+run info --block 8192 block; want 2 "" "error: unexpected argument '--block' found*Usage: *"
+run info --endian big block; want 2 "" "error: unexpected argument '--endian' found*Usage: *"
+run info none; want 1 "" "jffs2_image: P1 File none"
+run info folder; want 1 "" "jffs2_image: L1 Device"
+for image in larger /dev/zero; do
+    run info $image; want 1 "" "jffs2_image: L2 TooLarge"
+done
+line="what an image of 256 MiB is in 64 MiB of memory"
+(ulimit -v 65536; "$program" info greatest > out 2> err); got=$?; want 1 "" "jffs2_image: L3 OutOfMemory"
+for words in "info --help" "info -h" "help info"; do
+    run $words; want 0 "*Usage: jffs2_image info <IMAGE>*order little nodes N other N*Exit status:*" ""
+done
+# Two blocks of 8 KiB; a node over the end of the first 4096 bytes, and the marker of the third such block.
+{ marker; entry; hello_flash 68; erased 7984; marker; } > two_blocks
+run info two_blocks
+want 0 $'bytes 8204\norder little nodes 5 other 0\nblock from 4096 to 8192 markers 2\nnodes entries 1 inodes 2 obsolete 0 damaged 0 other 2\ndata none 2 zero 0 rtime 0 zlib 0 lzo 0 other 0\nhighest inode 2 version 2' ""
+{ cat crossing; erased 3984; marker; } > one_block
+run info one_block
+want 0 $'bytes 8204\norder little nodes 4 other 0\nblock from 8192 to 8192 markers 1\n*' ""
+run info flipped
+want 0 $'bytes 196\norder little nodes 3 other 0\nblock unknown\nnodes entries 1 inodes 1 obsolete 0 damaged 1 other 0\ndata none 1 *\nhighest inode 2 version 2' ""
+
+# informs STATUS FILE: `info` says what tests/info_model.py says, and a note on standard error where it does
+informs() {
+    run info "$2"
+    "$top/tests/info_model.py" "$2" > model
+    [[ $got == "$1" ]] && sed '/^note: /d' model | cmp -s - out &&
+        sed -n 's/^note: /jffs2_image: note: /p' model | cmp -s - err
+    local differs=$?
+    count $differs
+    [[ $differs == 0 ]] || echo "FAILED: $line, status $got"
+}
+gzip -c "$tree" > packed
+{ bytes fd 37 7a 58 5a 00; cat block; } > xz
+{ bytes 27 05 19 56; cat "$tree"; } > uimage
+printf 'UBI#' > ubi
+printf 'hsqs and more' > squashfs
+printf 'HDR0 and more' > trx
+printf 'two words' > text
+for image in packed xz ubi squashfs trx; do informs 3 $image; done
+informs 0 uimage
+for image in empty block other text "$manual"; do informs 3 $image; done
+for image in "$tree" "$sample" sound flipped crossing two_blocks one_block "$top"/tests/data/*.img; do informs 0 "$image"; done
+run info packed; want 3 $'bytes *\norder none\nblock unknown\n*' "jffs2_image: note: the file begins as gzip does"
+run info uimage; want 0 $'bytes 8196\norder little nodes 24 *' "jffs2_image: note: the file begins as a uImage header does"
 
 # ---- Building and extending images
 
@@ -364,6 +420,25 @@ run build --blocks 1 listing built; want 1 "" "jffs2_image: L1 Device"; unmade b
 lines listing 'part /a 0 larger'
 run build --blocks 1 listing built; want 1 "" "jffs2_image: L2 TooLarge"; unmade built
 
+# A new file with the bytes of a file of the host, whose name may hold any character
+lines listing 'file 0644 /a ones'
+run build "${small[@]}" --blocks 2 listing built; want 0 "accepted 1 nodes 3 bytes 12412" ""
+run cat "${small[@]}" built /a; whole ones
+cp content 'two words'
+lines listing 'time 7' 'owner 1 2' 'file 0600 /a two\x20words' 'file 0644 /b \x63ontent'
+run build --blocks 1 listing built; want 0 "accepted 2 nodes 4 bytes 260" ""
+run ls built; want 0 "$root"$'\n- 0600 1 2 11 7 2 /a\n- 0644 1 2 11 7 3 /b' ""
+run cat built /a; whole content
+lines listing 'file 0644 /a empty'
+run build "${small[@]}" --blocks 1 listing built; want 0 "accepted 1 nodes 2 bytes 124" ""; same built made_little
+rm built
+lines listing 'create 0644 /a' 'file 0644 /b no\x20such'
+run build --blocks 1 listing built; want 1 "" "jffs2_image: P1 File no such"; unmade built
+lines listing 'file 0644 /a folder'
+run build --blocks 1 listing built; want 1 "" "jffs2_image: L1 Device"; unmade built
+lines listing 'file 0644 /a larger'
+run build --blocks 1 listing built; want 1 "" "jffs2_image: L2 TooLarge"; unmade built
+
 # A tree: names with escapes, owners, times, links
 lines listing 'time 1000000000' 'mkdir 0755 /etc' 'create 0644 /etc/hostname' 'write /etc/hostname 0 626F780a' \
     'symlink /name etc/hostname' 'owner 1000 100' 'mkdir 0750 /home' 'create 0755 /home/start\x20here' \
@@ -414,19 +489,24 @@ head -c 124 built > piece; same built piece
 run ls "${small[@]}" built; want 0 "$root"$'\nd 0755 0 0 0 0 2 /d' ""
 refuse() {
     lines listing 'mkdir 0755 /d' '' 'create 0644 /f' "$2"
-    run build "${small[@]}" --blocks 1 listing built; want 1 "" "jffs2_image: S1 Refused $1 line 4"
-    run ls "${small[@]}" built; want 0 "$root"$'\nd 0755 0 0 0 0 2 /d\n- 0644 0 0 0 0 3 /f' ""
+    for order in little big; do
+        run build --endian $order "${small[@]}" --blocks 1 listing built; want 1 "" "jffs2_image: S1 Refused $1 line 4"
+        run ls --endian $order "${small[@]}" built; want 0 "$root"$'\nd 0755 0 0 0 0 2 /d\n- 0644 0 0 0 0 3 /f' ""
+    done
 }
 name=$(head -c 254 /dev/zero | tr '\0' n)
 for path in / a a/b /a/ //a /. /.. /d/../e '/\x00' '/d\x2f'; do
     refuse "O1 BadPath" "create 0644 $path"
 done
 refuse "O1 BadPath" 'remove /'
+refuse "O1 BadPath" 'file 0644 / empty'
 refuse "O2 NameTooLong" "create 0644 /${name}n"
 refuse "O3 NotFound" 'create 0644 /none/a'
+refuse "O3 NotFound" 'file 0644 /none/a content'
 refuse "O3 NotFound" 'write /none 0 00'
 refuse "O3 NotFound" 'remove /none'
 refuse "O4 NotDirectory" 'create 0644 /f/a'
+refuse "O5 Exists" 'file 0644 /f content'
 refuse "O5 Exists" 'rename /f /d'
 refuse "O5 Exists" 'symlink /\x66 a'
 refuse "O6 WrongKind" 'write /d 0 00'
@@ -435,6 +515,7 @@ refuse "O8 IntoItself" 'rename /d /d/e'
 refuse "O9 TooLarge" 'write /f 2147483647 00'
 refuse "O9 TooLarge" 'truncate /f 2147483648'
 refuse "O10 BadMode" 'create 10000 /x'
+refuse "O10 BadMode" 'file 10000 /x content'
 refuse "O11 BadTarget" 'symlink /x a\x00'
 refuse "O1 BadPath" 'attr 0600 0 0 0 0 f'
 refuse "O3 NotFound" 'attr 0600 0 0 0 0 /none'
@@ -458,7 +539,8 @@ for text in 'paint /a' 'Create 0644 /a' 'create /a' 'create 0644' 'create 0644 /
     'create 0644 /a ' ' ' '\r' 'create 8 /a' 'create 0000644 /a' 'create -1 /a' 'create 0644\t/a' 'write /a 0 0' 'write /a 0 0g' \
     'write /a 0 ' 'write /a 0' 'write /a -1 00' 'write /a 4294967296 00' 'write /a 00000000001 00' 'write /a 0 00 00' \
     'owner 65536 0' 'owner 0' 'time x' 'time 4294967296' 'time 5\r' 'remove /\\' 'remove /\\x6' 'remove /\\X61' \
-    'symlink /b \\\\' 'rename /a' 'link /a' 'truncate /a x' 'part /a 0 \0377' 'attr 0600 0 0 0 /a' 'attr 0600 0 0 0 0 0 /a' \
+    'symlink /b \\\\' 'rename /a' 'link /a' 'truncate /a x' 'part /a 0 \0377' 'file 0644 /a' 'file /a 0644 f' 'file 0644 /a \\xff' \
+    'file 8 /a f' 'file 0644 /a a b' 'attr 0600 0 0 0 /a' 'attr 0600 0 0 0 0 0 /a' \
     'attr 0600 65536 0 0 0 /a' 'attr 0600 0 0 0 4294967296 /a' 'attr 8 0 0 0 0 /a'; do
     wrong_line "$text"
 done
@@ -507,7 +589,7 @@ head -c 1024 image > piece; same built piece
 rm built
 
 # Flash that is not written: the sizes come behind the listing, and before OUT is made
-for words in "--blocks 0" "--block 4096 --blocks 2" "--block 8188 --blocks 2" "--blocks 4097" "--blocks 4294967295" \
+for words in "--blocks 0" "--block 4096 --blocks 2" "--block 8188 --blocks 2" "--block 8192 --blocks 32769" "--blocks 4097" "--blocks 4294967295" \
     "--block 4194304 --blocks 65" "--block 4194304 --blocks 4294967295"; do
     run build $words create_a built; want 1 "" "jffs2_image: S7 Geometry"; unmade built
     run build $words none built; want 1 "" "jffs2_image: P1 File none"; unmade built
@@ -743,7 +825,7 @@ run cat built /a/file; whole content
 
 # The manual pages have the commands and options of the help, the faults that the sources spell but
 # for those that no command tells, and the lines of a listing.
-for words in --help "check --help" "ls --help" "cat --help" "build --help" "append --help" "decompress --help"; do
+for words in --help "check --help" "ls --help" "cat --help" "build --help" "append --help" "decompress --help" "info --help"; do
     run $words
     for word in $(sed -n '/^Commands:/,/^$/s/^  \([a-z]*\) .*/\1/p' out); do
         told "$word" "^\.It Cm $word$"
@@ -763,18 +845,19 @@ done < <(grep -oE '^  [a-z]+( [A-Z]+)+  ' out)
 
 # Standard output that fails
 line="standard output is /dev/full"
-for words in "--help" "check --help" "ls --help" "check --scan empty" "check empty" "ls empty" "build --blocks 1 create_a built"; do
+for words in "--help" "check --help" "ls --help" "check --scan empty" "check empty" "ls empty" "build --blocks 1 create_a built" "info empty"; do
     "$program" $words > /dev/full 2> err; got=$?; : > out; want 1 "" "jffs2_image: P5 Output"
 done
 same built made_little
 line="standard output is closed"
-for words in "--help" "check --scan empty" "ls empty"; do
+for words in "--help" "check --scan empty" "ls empty" "info empty" "info packed"; do
     "$program" $words >&- 2> err; got=$?; : > out; want 1 "" "jffs2_image: P5 Output"
 done
 line="standard error is closed"
 "$program" check --scan none > out 2>&-; got=$?; : > err; want 1 "" ""
 "$program" > out 2>&-; got=$?; : > err; want 2 "" ""
 "$program" ls --endian big file > out 2>&-; got=$?; : > err; want 0 "$root" ""
+"$program" info packed > out 2>&-; got=$?; : > err; want 3 $'bytes *\norder none\n*' ""
 line="standard error is /dev/full"
 "$program" check --scan none > out 2> /dev/full; got=$?; : > err; want 1 "" ""
 

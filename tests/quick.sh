@@ -260,6 +260,7 @@ block "time 1000000000" > tree.txt
 gives 0 "accepted 5 nodes 8 bytes 504" build --blocks 1 tree.txt flash.img
 gives 0 "$(block 'block 0')" check flash.img
 gives 0 "$(block 'd 0755 0 0 0 0 1 /')" ls flash.img
+gives 0 "$(block 'bytes 504')" info flash.img
 mkdir -p folder/tree/etc
 printf 'box\n' > folder/tree/etc/hostname
 printf 'box\n' > "folder/tree/two words"
@@ -300,7 +301,7 @@ gives 1 "jffs2_image: P2 Listing line 2" build --blocks 1 tree.txt none.img
 
 # ---- Help
 
-for command in check ls cat build append decompress extract listing; do
+for command in check ls cat build append decompress extract listing info; do
     found=$(jffs2_image help "$command")
     same "usage of $command" "$(grep -c "^Usage: [^ ]* $command" <<< "$found")" 1
     same "help in two ways" "$(jffs2_image "$command" --help)" "$found"

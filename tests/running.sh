@@ -61,7 +61,7 @@ marker() {
 noted() {
     local word=findings
     [[ $1 == 1 ]] && word=finding
-    echo "jffs2_image: note: $1 $word, see check --scan; a wrong --block or --endian shows as findings too"
+    echo "jffs2_image: note: $1 $word, see check --scan; a wrong --block or --endian shows as findings too, see info"
 }
 
 # whole FILE: the bytes of the last run's output

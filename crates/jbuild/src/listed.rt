@@ -10,7 +10,7 @@ use jsteps::Op;
 use std::alloc::{AllocError, Global};
 
 /// The operation of a line.
-fn operation<'b, 'a: 'b>(line: Line<'a>, parts: &'b Parts<'_>) -> Op<'b>
+fn operation<'b, 'a: 'b>(line: Line<'a>, parts: &'b Parts) -> Op<'b>
     ensures { result ≡ op_in (part_contents parts.now) line.entry }
 {
     let bytes: &[u8] = match line.action.file() {
@@ -25,7 +25,7 @@ fn operation<'b, 'a: 'b>(line: Line<'a>, parts: &'b Parts<'_>) -> Op<'b>
 pub fn operations<'b, 'a: 'b>(
     alloc: Global,
     lines: Vec<Line<'a>>,
-    parts: &'b Parts<'_>,
+    parts: &'b Parts,
 ) -> Result<Vec<Op<'b>>, AllocError>
     ensures { IfOk result (λ ops. ops.items ≡ ops_in (part_contents parts.now) lines.entry.items) }
 {

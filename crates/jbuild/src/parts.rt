@@ -1,6 +1,6 @@
 //! Files of the host that a listing names.
 
-ghost use Rattle.std.specs.Prelude.{◌≡◌, ℕ, List, bytes_eq, is_some, OnOk, OnErr, Some, None, if◌then◌else◌};
+ghost use Rattle.std.specs.Prelude.{◌≡◌, ℕ, List, bytes_eq, is_some, OnOk, OnErr, Some, None, if◌then◌else◌, string_bytes};
 ghost use Rattle.jbuild.specs.Parts.{part_contents, read_of};
 
 use std::alloc::{AllocError, Global};
@@ -8,13 +8,13 @@ use std::collections::BTreeMap;
 
 /// Files of the host that were read: their bytes, by their names.
 #[derive(Drop)]
-pub struct Parts<'a> {
-    files: BTreeMap<&'a str, Vec<u8>>,
+pub struct Parts {
+    files: BTreeMap<String, Vec<u8>>,
 }
 
-impl<'a> Parts<'a> {
+impl Parts {
     /// None yet.
-    pub fn new(alloc: Global) -> Parts<'a>
+    pub fn new(alloc: Global) -> Parts
         ensures { (name : List ℕ) → read_of result name ≡ None }
     {
         Parts {
@@ -33,8 +33,8 @@ impl<'a> Parts<'a> {
     ///
     /// # Errors
     /// Out of memory: nothing changes.
-    pub fn insert(&mut self, name: &'a str, bytes: Vec<u8>) -> Result<(), AllocError>
-        ensures ok { OnOk result ((n : List ℕ) → read_of self.new n ≡ (if bytes_eq name.now n then Some bytes.items else read_of self.old n)) }
+    pub fn insert(&mut self, name: String, bytes: Vec<u8>) -> Result<(), AllocError>
+        ensures ok { OnOk result ((n : List ℕ) → read_of self.new n ≡ (if bytes_eq (string_bytes name) n then Some bytes.items else read_of self.old n)) }
         ensures err { OnErr result ((n : List ℕ) → read_of self.new n ≡ read_of self.old n) }
     {
         self.files.insert(name, bytes)?;

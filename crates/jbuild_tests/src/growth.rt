@@ -24,9 +24,9 @@ struct Row<'r> {
 }
 
 /// The files that the listings name.
-fn read_two(alloc: Global) -> Result<Parts<'static>, AllocError> {
+fn read_two(alloc: Global) -> Result<Parts, AllocError> {
     let mut parts = Parts::new(alloc);
-    parts.insert("two", file_of(alloc, 1, 8192)?)?;
+    parts.insert("two".to_string(alloc)?, file_of(alloc, 1, 8192)?)?;
     Ok(parts)
 }
 
@@ -137,21 +137,26 @@ fn refused_growth_is_want_of_memory(rt: HostRuntime) {
     expect(&rt, holds(rt.alloc(), &cut));
 }
 
+/// A file's name and its bytes.
+fn named(alloc: Global, name: &str) -> Option<(String, Vec<u8>)> {
+    Some((name.to_string(alloc).ok()?, b"abc".to_vec(alloc).ok()?))
+}
+
 /// A file whose growth is refused is not there, and can be put there then.
 #[test]
 fn a_refused_file_is_not_there(rt: HostRuntime) {
     let mut parts = Parts::new(rt.alloc());
     for name in ["f", "g", "f"] {
         let is_there = parts.has(name);
-        let Ok(bytes) = b"abc".to_vec(rt.alloc()) else {
+        let Some((key, bytes)) = named(rt.alloc(), name) else {
             return;
         };
-        if parts.insert(name, bytes).is_err() {
+        if parts.insert(key, bytes).is_err() {
             equal(&rt, parts.has(name), is_there);
-            let Ok(bytes) = b"abc".to_vec(rt.alloc()) else {
+            let Some((key, bytes)) = named(rt.alloc(), name) else {
                 return;
             };
-            expect(&rt, parts.insert(name, bytes).is_ok());
+            expect(&rt, parts.insert(key, bytes).is_ok());
         }
         expect(&rt, parts.has(name));
     }

@@ -10,19 +10,20 @@ use std::test::Fail;
 fn files_that_were_read(rt: HostRuntime) -> Result<(), Fail> {
     let mut parts = Parts::new(rt.alloc());
     expect(&rt, !parts.has("f") && !parts.has(""));
-    parts.insert("f", b"old".to_vec(rt.alloc())?)?;
+    parts.insert("f".to_string(rt.alloc())?, b"old".to_vec(rt.alloc())?)?;
     expect(
         &rt,
         parts.has("f") && !parts.has("") && !parts.has("fg") && !parts.has("g"),
     );
-    parts.insert("g", b"".to_vec(rt.alloc())?)?;
-    parts.insert("f", b"new".to_vec(rt.alloc())?)?;
+    parts.insert("g".to_string(rt.alloc())?, b"".to_vec(rt.alloc())?)?;
+    parts.insert("f".to_string(rt.alloc())?, b"new".to_vec(rt.alloc())?)?;
     expect(&rt, parts.has("f") && parts.has("g") && !parts.has("F"));
     Ok(())
 }
 
-/// The listing names one file twice, one that is empty, and one that was not read.
-const TEXT: &[u8] = b"time 7\npart /a 0 f\n# f\npart /b 9 f\npart /a 1 g\npart /a 2 h\nremove /a\n";
+/// The listing names one file three times, one that is empty, and one that was not read.
+const TEXT: &[u8] =
+    b"time 7\npart /a 0 f\n# f\npart /b 9 f\npart /a 1 g\npart /a 2 h\nremove /a\nfile 600 /c \\x66\n";
 
 const WRITTEN: [(u32, &[u8]); 4] = [(0, b"new"), (9, b"new"), (1, b""), (2, b"")];
 
@@ -42,14 +43,18 @@ fn written<'a>(op: &'a Op<'_>) -> Option<(u32, u32, &'a [u8])> {
 #[test]
 fn operations_have_the_bytes_of_their_files(rt: HostRuntime) -> Result<(), Fail> {
     let mut parts = Parts::new(rt.alloc());
-    parts.insert("f", b"old".to_vec(rt.alloc())?)?;
-    parts.insert("f", b"new".to_vec(rt.alloc())?)?;
-    parts.insert("g", b"".to_vec(rt.alloc())?)?;
+    parts.insert("f".to_string(rt.alloc())?, b"old".to_vec(rt.alloc())?)?;
+    parts.insert("f".to_string(rt.alloc())?, b"new".to_vec(rt.alloc())?)?;
+    parts.insert("g".to_string(rt.alloc())?, b"".to_vec(rt.alloc())?)?;
     let ops = operations(rt.alloc(), listing(rt.alloc(), TEXT)?, &parts)?;
-    equal(&rt, ops.len(), 5);
+    equal(&rt, ops.len(), 6);
     for (op, (at, wanted)) in ops.iter().zip(WRITTEN) {
         equal(&rt, written(op), Some((7, at, wanted)));
     }
-    expect(&rt, matches!(ops.last(), Some(Op::Remove { time: 7, .. })));
+    expect(&rt, matches!(ops.get(4), Some(Op::Remove { time: 7, .. })));
+    expect(
+        &rt,
+        matches!(ops.last(), Some(Op::File { bytes, .. }) if bytes.as_slice() == b"new".as_slice()),
+    );
     Ok(())
 }

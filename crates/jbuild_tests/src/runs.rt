@@ -37,10 +37,10 @@ pub fn file_of(alloc: Global, byte: u8, len: usize) -> Result<Vec<u8>, AllocErro
 }
 
 /// The files, read.
-pub fn read_files(alloc: Global) -> Result<Parts<'static>, Fail> {
+pub fn read_files(alloc: Global) -> Result<Parts, Fail> {
     let mut parts = Parts::new(alloc);
     for (name, byte, len) in FILES {
-        parts.insert(name, file_of(alloc, byte, len)?)?;
+        parts.insert(name.to_string(alloc)?, file_of(alloc, byte, len)?)?;
     }
     Ok(parts)
 }

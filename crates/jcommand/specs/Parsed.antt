@@ -75,16 +75,19 @@ view (request.Build target listing) = BuildParsed target.options target.blocks t
 view (request.Append target decompress image listing) = AppendParsed target.options target.blocks target.page decompress image.now listing.now target.output.now
 view (request.Decompress options image output) = DecompressParsed options image.now output.now
 
--- the same of a task: a request of an image, or one that works with a folder of the host
+-- the same of a task: a request of an image, one that works with a folder of the host, or what an
+-- image tells of itself
 pub data TaskParsed : Type 0 where
   ImageParsed : Parsed → TaskParsed
   ExtractParsed : Options → Bool → Bool → Bool → Text → Text → TaskParsed
   ListingParsed : Option Owner → Option ℕ → Bool → Text → TaskParsed
+  InfoParsed : Text → TaskParsed
 
 abbrev pub task_view : Task → TaskParsed
 task_view (task.Image r) = ImageParsed (view r)
 task_view (task.Extract x) = ExtractParsed x.options x.decompress x.owners x.quiet x.image.now x.folder.now
 task_view (task.Listing l) = ListingParsed l.owner l.time l.quiet l.folder.now
+task_view (task.Info image) = InfoParsed image.now
 
 abbrev pub options_of : Request → Options
 options_of (request.Scan options image) = options
@@ -148,6 +151,10 @@ abbrev pub listing_in : List Row → Option TaskParsed
 listing_in rows = if_given (all_of (codes "owner") rows) owner_of >>= λ owner. if_given (first_of (codes "time") rows) decimal_number >>= λ time.
     first_of (codes "DIR") rows >>= λ folder. Some (ListingParsed owner time (is_given (first_of (codes "quiet") rows)) folder)
 
+-- neither a block size nor a byte order is given
+abbrev pub info_in : List Row → Option TaskParsed
+info_in rows = first_of (codes "IMAGE") rows >>= λ image. Some (InfoParsed image)
+
 -- what the subcommand of this name asks for, with these rows; None where it is no subcommand or a value can't be read
 unfoldable pub parsed : Text → List Row → Option TaskParsed
 parsed name rows =
@@ -159,6 +166,7 @@ parsed name rows =
     else if bytes_eq name (codes "decompress") then option_map ImageParsed (decompress_in rows)
     else if bytes_eq name (codes "extract") then extract_in rows
     else if bytes_eq name (codes "listing") then listing_in rows
+    else if bytes_eq name (codes "info") then info_in rows
     else None
 
 abbrev pub parsed_by : Option (Text × List Row) → Option TaskParsed
@@ -195,15 +203,16 @@ IsRefusedByClap args = (kind : ErrorKind) × (kind ≢ DisplayHelp) × (kind ≢
 unfoldable pub IsUnreadable : List Text → Type 0
 IsUnreadable args = (fault_of program args ≡ []) × (parsed_from args ≡ None)
 
--- ---- words that ask for an image, or for a folder
+-- ---- words that make a request, or ask for something else
 
 -- the words ask for something of an image
 abbrev pub IsOfImage : Option TaskParsed → Type 0
 IsOfImage (Some (ImageParsed p)) = Unit {0}
 IsOfImage _ = ⊥
 
--- they ask to fill or to read a folder
-abbrev pub IsOfFolder : Option TaskParsed → Type 0
-IsOfFolder (Some (ExtractParsed options decompress owners quiet image folder)) = Unit {0}
-IsOfFolder (Some (ListingParsed owner time quiet folder)) = Unit {0}
-IsOfFolder _ = ⊥
+-- they ask to fill or to read a folder, or for what an image tells of itself
+abbrev pub IsNoRequest : Option TaskParsed → Type 0
+IsNoRequest (Some (ExtractParsed options decompress owners quiet image folder)) = Unit {0}
+IsNoRequest (Some (ListingParsed owner time quiet folder)) = Unit {0}
+IsNoRequest (Some (InfoParsed image)) = Unit {0}
+IsNoRequest _ = ⊥

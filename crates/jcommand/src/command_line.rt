@@ -2,7 +2,7 @@
 ghost use Rattle.std.specs.Prelude.{◌≡◌, ◌≢◌, ◌⊎◌, [], true, map, IfOk, IfErr, IsSome, OnOk, Some, option_map};
 ghost use Rattle.clap.specs.Words.{HasKind, fault_of, kind_of, subcommand_of, subcommand_rows_of, takes};
 ghost use Rattle.jcommand.specs.Commands.{program};
-ghost use Rattle.jcommand.specs.Parsed.{ImageParsed, IsOfFolder, IsOfImage, task_view, view, parsed_by, parsed_from, are_words_taken, IsFaultless, IsHelpRequested, IsHelpKind, IsRefusedByClap, IsUnreadable};
+ghost use Rattle.jcommand.specs.Parsed.{ImageParsed, IsNoRequest, IsOfImage, task_view, view, parsed_by, parsed_from, are_words_taken, IsFaultless, IsHelpRequested, IsHelpKind, IsRefusedByClap, IsUnreadable};
 ghost use Rattle.jcommand.specs.Refused.{IsHelp, IsUsage};
 ghost use Rattle.jcommand.specs.declared.command_line.RequestFault.TheVariants.{OutOfMemory};
 
@@ -159,8 +159,8 @@ pub fn task<'a>(alloc: Global, args: &'a [&'a str]) -> Result<Task<'a>, RequestF
     }
 }
 
-/// The request that the words of a command line make of an image: what `task` answers, but for a command on a folder, which is
-/// refused.
+/// The request that the words of a command line make of an image: what `task` answers, but for a command on a folder and for
+/// `info`, which are refused.
 pub fn request<'a>(alloc: Global, args: &'a [&'a str]) -> Result<Request<'a>, RequestFault>
     // The subcommand and its values are clap's own function of the words.
     ensures ok { IfOk result (λ r. parsed_from (map (λ w. w.now) args.entry.now) ≡ Some (ImageParsed (view r))) }
@@ -175,15 +175,17 @@ pub fn request<'a>(alloc: Global, args: &'a [&'a str]) -> Result<Request<'a>, Re
     // Help comes only where clap answers the words by help, or by the version.
     ensures help { IfErr result (λ e. IsHelp e → IsHelpRequested (map (λ w. w.now) args.entry.now)) }
 
-    // A command line is wrong only where clap refuses the words, or takes them and a value can't be read, or they ask for a folder.
+    // A command line is wrong only where clap refuses the words, or takes them and a value can't be
+    // read, or they make no request.
     ensures usage { IfErr result (λ e. IsUsage e → IsRefusedByClap (map (λ w. w.now) args.entry.now)
-        ⊎ (IsUnreadable (map (λ w. w.now) args.entry.now) ⊎ IsOfFolder (parsed_from (map (λ w. w.now) args.entry.now)))) }
+        ⊎ (IsUnreadable (map (λ w. w.now) args.entry.now)
+        ⊎ IsNoRequest (parsed_from (map (λ w. w.now) args.entry.now)))) }
 {
     match task(alloc, args) {
         Ok(Task::Image(request)) => Ok(request),
-        Ok(Task::Extract(_) | Task::Listing(_)) => Err(usage(String::from_str(
+        Ok(Task::Extract(_) | Task::Listing(_) | Task::Info { .. }) => Err(usage(String::from_str(
             alloc,
-            "error: the command works with a folder, and asks for no image\n",
+            "error: the command makes no request of an image\n",
         ))),
         Err(fault) => Err(fault),
     }

@@ -1,7 +1,7 @@
 //! The command line, built with clap: the program, its subcommands, and the words that each one takes.
 ghost use Rattle.std.specs.Prelude.{◌≡◌, Ok};
 ghost use Rattle.clap.specs.Words.{App, Rule, new_app, with_rule, with_subcommand};
-ghost use Rattle.jcommand.specs.Commands.{IsApp, IsRule, MakesApp, word, option_or, required_option, option_of, option_of_two, flag, plain_command, writer, check_app, ls_app, cat_app, build_app, append_app, decompress_app, extract_app, listing_app, bare, program};
+ghost use Rattle.jcommand.specs.Commands.{IsApp, IsRule, MakesApp, word, option_or, required_option, option_of, option_of_two, flag, plain_command, writer, check_app, ls_app, cat_app, build_app, append_app, decompress_app, extract_app, listing_app, info_app, bare, program};
 
 use crate::help;
 use clap::{Arg, ArgAction, Command};
@@ -211,6 +211,14 @@ fn make_listing<'a>(alloc: Global) -> Made<'a>
     )
 }
 
+fn make_info<'a>(alloc: Global) -> Made<'a>
+    ensures { MakesApp result info_app }
+{
+    let image = make_word(alloc, "IMAGE", help::IMAGE);
+    let command = make_named(alloc, "info", help::INFO, help::INFO_EPILOGUE);
+    add_arg(Ok(command), image)
+}
+
 /// The program without its subcommands.
 fn make_bare<'a>(alloc: Global) -> Command<'a>
     ensures { IsApp result bare }
@@ -231,5 +239,6 @@ pub(crate) fn make_program<'a>(alloc: Global) -> Made<'a>
     let command = add_subcommand(command, make_append(alloc));
     let command = add_subcommand(command, make_decompress(alloc));
     let command = add_subcommand(command, make_extract(alloc));
-    add_subcommand(command, make_listing(alloc))
+    let command = add_subcommand(command, make_listing(alloc));
+    add_subcommand(command, make_info(alloc))
 }

@@ -21,6 +21,8 @@ pub(crate) const EXTRACT: &str = "Write the tree of an image into a new folder o
 
 pub(crate) const LISTING_OF: &str = "Print the listing that builds a folder of this host";
 
+pub(crate) const INFO: &str = "Print what an image shows of its byte order, blocks and nodes";
+
 pub(crate) const BLOCK: &str = "Erase block size: 4096 to 4194304 bytes";
 
 pub(crate) const ENDIAN: &str = "Byte order of the image: little or big";
@@ -57,16 +59,17 @@ pub(crate) const OUT: &str = "File that is made, or written over, with the bytes
 
 /// What is at the end of the program's help.
 pub(crate) const EPILOGUE: &str = "\
-Each command but listing takes --block, the size of an erase block, which is a
-multiple of 4, and --endian, the byte order. build and append need --blocks too,
-the number of blocks. 'jffs2_image help build' tells what a listing is,
-'jffs2_image help check' what check prints, and so for the others.
+Each command but listing and info takes --block, the size of an erase block,
+which is a multiple of 4, and --endian, the byte order. build and append need
+--blocks too, the number of blocks. 'jffs2_image help build' tells what a
+listing is, 'jffs2_image help check' what check prints, and so for the others.
 
 The data of an image that Linux or mkfs.jffs2 wrote are often compressed. ls,
 cat, append and extract take them with --decompress, and decompress makes an
 image without them.
 
 Examples:
+  jffs2_image info flash.img
   jffs2_image check flash.img
   jffs2_image ls --block 131072 flash.img
   jffs2_image cat --endian big flash.img /etc/passwd
@@ -80,17 +83,19 @@ Exit status:
   0  done, and nothing was found
   1  a fault, which standard error names
   2  the command line is wrong
-  3  check found something, or extract or listing left something out
+  3  check found something, info no node, or extract or listing left something
+     out
 
 A fault is one line, as 'jffs2_image: M6 RootKind'. Its letter says what gave
 up: C the report, L reading a file, M the mount, Z compressed data, S the
 session that writes, P the program. P2 is a wrong line of a listing.
 The manual page jffs2_image.1 tells what each fault may mean and what to do.
 
-The image does not tell its block size or byte order. With a wrong --block, a
-wrong --endian or a damaged image, ls and cat may show less than the flash
-holds, or zeros, and append and decompress go on from that. A note on standard
-error then counts what check --scan finds.";
+The image does not tell its block size or byte order; info prints what its
+nodes show of them. With a wrong --block, a wrong --endian or a damaged image,
+ls and cat may show less than the flash holds, or zeros, and append and
+decompress go on from that. A note on standard error then counts what
+check --scan finds.";
 
 pub(crate) const CHECK_EPILOGUE: &str = "\
 For each block it prints 'block' and its number, and then a line for each node
@@ -163,6 +168,7 @@ and those that begin with # are skipped.
   owner UID GID          owner of what is made from here on; 0 0 at first
   mkdir MODE PATH        makes a directory
   create MODE PATH       makes an empty regular file
+  file MODE PATH FILE    makes a file with the bytes of FILE of this host
   fifo MODE PATH         makes a FIFO
   socket MODE PATH       makes a socket
   symlink PATH TARGET    makes a symlink
@@ -309,3 +315,34 @@ Exit status:
   1  a fault, which standard error names
   2  the command line is wrong
   3  something was left out";
+
+pub(crate) const INFO_EPILOGUE: &str = "\
+It takes neither --block nor --endian: nodes are sought in both byte orders, as
+if the file were one block, and the order with more of them is the image's. It
+prints, also where the numbers are 0,
+
+  bytes N
+  order little nodes N other N     or big; 'order none' where no node is found
+  block from MIN to MAX markers N  or 'block unknown'
+  nodes entries N inodes N obsolete N damaged N other N
+  data none N zero N rtime N zlib N lzo N other N
+  highest inode N version N
+
+The second line counts the nodes in the image's order, and in the other one.
+MIN and MAX are powers of two from 4096 to 4194304. MAX is the greatest of which
+each clean marker's address is a multiple, MIN the least of whose blocks no node
+passes the end. They are unknown where no marker stands past address 0, or where
+MIN is above MAX. 'data' counts sound inode nodes by how their data are stored;
+rtime, zlib and lzo want --decompress.
+
+A note on standard error tells where the file begins as gzip, xz, UBI, squashfs,
+TRX or uImage do: then an image may be in it, or it is none.
+
+Example:
+  jffs2_image info dump.img
+
+Exit status:
+  0  done
+  1  a fault, which standard error names
+  2  the command line is wrong
+  3  no node was found";

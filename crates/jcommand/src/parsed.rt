@@ -1,7 +1,7 @@
 //! What the matches of the program's command line ask for.
 ghost use Rattle.std.specs.Prelude.{◌≡◌, IfSome, codes, map, option_map};
 ghost use Rattle.clap.specs.Words.{found_of, rows_of, all_of, first_of};
-ghost use Rattle.jcommand.specs.Parsed.{decimal_number, endian_of, page_of, number_option, options_in, image_in, is_given, check_in, is_decompressed, ls_in, cat_in, writing_in, build_in, append_in, decompress_in, extract_in, listing_in, owner_number, owner_of, if_given, parsed, options_of, task_view, view};
+ghost use Rattle.jcommand.specs.Parsed.{decimal_number, endian_of, page_of, number_option, options_in, image_in, is_given, check_in, is_decompressed, ls_in, cat_in, writing_in, build_in, append_in, decompress_in, extract_in, listing_in, info_in, owner_number, owner_of, if_given, parsed, options_of, task_view, view};
 
 use clap::ArgMatches;
 use jnode::Endian;
@@ -124,6 +124,8 @@ pub enum Task<'a> {
     Extract(Extraction<'a>),
     /// `listing`.
     Listing(FolderListing<'a>),
+    /// `info`: what an image tells of itself, whose block size and byte order nobody says.
+    Info { image: &'a str },
 }
 
 /// A number below 2^32 in decimal digits.
@@ -386,6 +388,13 @@ fn listing_at<'a>(found: &ArgMatches<'a>) -> Option<Task<'a>>
     }))
 }
 
+fn info_at<'a>(found: &ArgMatches<'a>) -> Option<Task<'a>>
+    ensures { option_map task_view result ≡ info_in (rows_of (found_of found.now)) }
+{
+    let image = text_at(found, "IMAGE")?;
+    Some(Task::Info { image })
+}
+
 /// What the subcommand asks for, or nothing where a value can't be read.
 #[tactic(auto, unfolding(crate::specs::Parsed::parsed))]
 pub(crate) fn parsed_of<'a>(name: &str, found: &ArgMatches<'a>) -> Option<Task<'a>>
@@ -400,6 +409,7 @@ pub(crate) fn parsed_of<'a>(name: &str, found: &ArgMatches<'a>) -> Option<Task<'
         "decompress" => Some(Task::Image(decompress_at(found)?)),
         "extract" => extract_at(found),
         "listing" => listing_at(found),
+        "info" => info_at(found),
         _ => None,
     }
 }

@@ -107,6 +107,7 @@ fn shown_task(alloc: Global, task: Task<'_>) -> Result<String, AllocError> {
             let time = time.unwrap_or(1);
             format!(in alloc; "listing {uid} {gid} {time} {quiet} {folder}")
         }
+        Task::Info { image } => format!(in alloc; "info {image}"),
     }
 }
 
@@ -140,7 +141,7 @@ pub(crate) fn is_wrong(text: &str, part: &str) -> bool {
 }
 
 /// Lines that ask to read, and what they ask for.
-const READING: [(&str, &str); 15] = [
+const READING: [(&str, &str); 17] = [
     ("t check --scan a.img", "scan 65536 little a.img"),
     ("t check a.img", "check 65536 little a.img"),
     ("t check --shape a.img", "check 65536 little a.img shape"),
@@ -168,6 +169,8 @@ const READING: [(&str, &str); 15] = [
         "t cat --endian big --block=4096 a.img /b",
         "cat 4096 big a.img /b",
     ),
+    ("t info a.img", "info a.img"),
+    ("t info -- --block", "info --block"),
 ];
 
 #[test]
@@ -241,7 +244,7 @@ fn args_that_ask_to_write(rt: HostRuntime) -> Result<(), Fail> {
 }
 
 /// Lines that ask for nothing, and a part of the text that says why.
-const WRONG: [(&str, &str); 29] = [
+const WRONG: [(&str, &str); 32] = [
     ("", "requires a subcommand"),
     ("t", "requires a subcommand"),
     ("t paint", "unrecognized subcommand 'paint'"),
@@ -252,6 +255,9 @@ const WRONG: [(&str, &str); 29] = [
     ("t ls --block=many a.img", "'many' for '--block <N>'"),
     ("t ls a.img --endian=", "'' for '--endian <ORDER>'"),
     ("t check", "<IMAGE>"),
+    ("t info", "<IMAGE>"),
+    ("t info --endian big a.img", "--endian"),
+    ("t info a.img b.img", "'b.img'"),
     ("t cat", "<IMAGE>"),
     ("t cat a.img", "<PATH>"),
     ("t cat --scan a.img /a", "--scan"),
@@ -384,7 +390,7 @@ fn args_that_are_wrong_to_write(rt: HostRuntime) -> Result<(), Fail> {
 }
 
 /// Lines that ask for help, and a part of it.
-const HELP: [(&str, &str); 19] = [
+const HELP: [(&str, &str); 20] = [
     ("t --help", "Usage: t <COMMAND>"),
     ("t -h", "Usage: t <COMMAND>"),
     ("t help", "Usage: t <COMMAND>"),
@@ -395,6 +401,7 @@ const HELP: [(&str, &str); 19] = [
     ("t help check", "Usage: t check [OPTIONS] <IMAGE>"),
     ("t ls --help", "Usage: t ls [OPTIONS] <IMAGE>"),
     ("t help ls", "KIND MODE UID GID SIZE MTIME INO PATH"),
+    ("t info --help", "Usage: t info <IMAGE>"),
     ("t cat --help", "Usage: t cat [OPTIONS] <IMAGE> <PATH>"),
     (
         "t build --help",

@@ -5,7 +5,7 @@ use jcommand::{Request, RequestFault, Task, task};
 use std::alloc::Global;
 
 /// Words, and what they ask for.
-const LINES: [(&[&str], &str); 10] = [
+const LINES: [(&[&str], &str); 11] = [
     (&["t", "check", "--scan", "--block=4096", "a.img"], "scan"),
     (&["t", "check", "--endian", "big", "a.img"], "check"),
     (&["t", "ls", "a.img"], "ls"),
@@ -20,6 +20,7 @@ const LINES: [(&[&str], &str); 10] = [
         &["t", "listing", "--owner", "1", "2", "--time=3", "a"],
         "listing",
     ),
+    (&["t", "info", "a.img"], "info"),
     (&["t", "check", "--help"], "help"),
     (&["t", "check", "--block", "x", "a.img"], "wrong"),
 ];
@@ -36,6 +37,7 @@ fn asked(alloc: Global, words: &[&str]) -> &'static str {
         Ok(Task::Image(Request::Decompress { .. })) => "decompress",
         Ok(Task::Extract(_)) => "extract",
         Ok(Task::Listing(_)) => "listing",
+        Ok(Task::Info { .. }) => "info",
         Err(RequestFault::Help { .. }) => "help",
         Err(RequestFault::Usage { .. }) => "wrong",
         Err(RequestFault::OutOfMemory) => "no memory",

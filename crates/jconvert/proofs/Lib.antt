@@ -5,3 +5,4 @@ pub mod PlaceLemmas
 pub mod CallLemmas
 pub mod LawLemmas
 pub mod TileLemmas
+pub mod HoldingLemmas

@@ -1,4 +1,5 @@
 pub mod Converting
 pub mod Tallying
+pub mod Holding
 pub mod Putting
 pub mod Laws

@@ -1,16 +1,19 @@
 //! Whether an image is refused.
 
-ghost use Rattle.std.specs.Prelude.{◌≡◌, ◌≢◌, ◌≤◌, ◌+◌, None, Some, IfSome, IfOk, IfErr, OnOk, IsTrue, Contains};
+ghost use Rattle.std.specs.Prelude.{◌≡◌, ◌≢◌, ◌≤◌, ◌+◌, None, Some, IfSome, IfOk, IfErr, OnOk, IsTrue, Contains, vec_len};
 ghost use Rattle.jnode.specs.Writing.{totlen_most};
 ghost use Rattle.jscan.specs.Image.{is_block_size, sightings};
 ghost use Rattle.jscan.specs.Scans.{IsScannable, forbids_writing};
+ghost use Rattle.jconvert.specs.Holding.{IsHeldOf};
+ghost use Rattle.jexpand.specs.Expanded.{tile_content};
 ghost use Rattle.jconvert.specs.Converting.{convert_fault, converted_of, is_changed, greatest_blocks};
 ghost use Rattle.jexpand.specs.Answers.{IsTileFault};
 ghost use Rattle.jexpand.specs.Refused.{node_fault};
 ghost use Rattle.jconvert.specs.Tallying.{IsCursor, IsRoomAfter, IsOneMore, CountsTile, IsTallyOf};
 ghost use Rattle.jexpand.specs.declared.fault.ConvertFault.TheVariants.{Sink, OutOfMemory};
 
-use crate::converted::Converted;
+use crate::converted::{Converted, Judged};
+use crate::holding::Held;
 use flashbase::pad4;
 use jexpand::{ConvertFault, expanded_len};
 use jlog::place_of;
@@ -20,6 +23,9 @@ use std::alloc::Global;
 
 /// The least size of a block that is written, in bytes.
 const LEAST_WRITTEN: u32 = 8192;
+
+/// How much of what is decompressed to judge an image `decompress` holds, in bytes.
+pub const HELD_MOST: usize = 28 << 20;
 
 /// The bytes of a clean marker.
 const MARKER_LEN: u64 = 12;
@@ -113,7 +119,7 @@ fn with_tile(
     }
 }
 
-/// What is counted with a sighted tile more, or why that is refused.
+/// What is counted with a sighted tile more, or why that is refused. What its data stand for is left in the buffer.
 fn count_tile<E: Order>(
     alloc: Global,
     image: &[u8],
@@ -127,6 +133,8 @@ fn count_tile<E: Order>(
     requires sighted { Contains (sightings E.order geometry.block image.now) (addr, seen.now) }
     requires room { IfSome tally.room (IsCursor geometry.block) }
     ensures ok { IfOk result (CountsTile E.order geometry.block image.now tally addr seen.now) }
+    ensures content { OnOk result (content.new.items
+        ≡ tile_content E.order geometry.block image.now (addr, seen.now)) }
     ensures refused { IfErr result
         (IsTileFault (node_fault E.order geometry.block image.now (addr, seen.now))) }
 {
@@ -134,13 +142,17 @@ fn count_tile<E: Order>(
     with_tile(tally, geometry, seen, len)
 }
 
-/// Counts the nodes of an image, or answers why its sizes or a node of it are refused.
+/// Counts the nodes of an image, and holds at most so many bytes of what their data stand for; or answers why its sizes or a
+/// node of it are refused.
 fn count_nodes<E: Order>(
     alloc: Global,
     image: &[u8],
     geometry: Geometry,
-) -> Result<Tally, ConvertFault>
-    ensures ok { IfOk result (IsTallyOf E.order geometry.block image.now) }
+    most: usize,
+) -> Result<(Tally, Vec<u8>), ConvertFault>
+    ensures ok { IfOk result (λ done. IsTallyOf E.order geometry.block image.now done.0) }
+    ensures held { IfOk result (λ done. IsHeldOf E.order geometry.block image.now done.1.items) }
+    ensures few { IfOk result (λ done. vec_len done.1 ≤ most) }
     ensures refused { IfErr result (λ fault. fault ≢ OutOfMemory
         → convert_fault E.order geometry.block image.now ≡ Some fault) }
     ensures no_sink { IfErr result (λ fault. fault ≢ Sink) }
@@ -159,14 +171,20 @@ fn count_nodes<E: Order>(
         read_only: false,
     };
     let mut content = Vec::new(alloc);
+    let mut held = Held {
+        bytes: Vec::new(alloc),
+        is_whole: true,
+    };
     for (addr, seen) in sightings {
         tally = count_tile::<E>(alloc, image, geometry, tally, addr, &seen, &mut content)?;
+        held.hold(&content, most);
     }
-    Ok(tally)
+    Ok((tally, held.bytes))
 }
 
 /// What would be told of an image if it were decompressed, or why it is refused. No byte is put. It takes the memory of one
-/// node's data.
+/// node's data, and of at most `most` bytes beside, which hold what the data of the first compressed nodes stand for; where
+/// memory is wanting for these, fewer are held.
 ///
 /// # Errors
 /// All but `Sink`, in the order of [`ConvertFault`]. Out of memory at any time.
@@ -174,15 +192,18 @@ pub fn judge<E: Order>(
     alloc: Global,
     image: &[u8],
     geometry: Geometry,
-) -> Result<Converted, ConvertFault>
+    most: usize,
+) -> Result<Judged, ConvertFault>
     ensures accepted { OnOk result (convert_fault E.order geometry.block image.now ≡ None) }
     ensures scannable { OnOk result (IsScannable geometry.block image.now) }
-    ensures told { IfOk result (λ told. told ≡ converted_of E.order geometry.block image.now) }
+    ensures told { IfOk result (λ judged. judged.told ≡ converted_of E.order geometry.block image.now) }
+    ensures held { IfOk result (λ judged. IsHeldOf E.order geometry.block image.now judged.held.items) }
+    ensures few { IfOk result (λ judged. vec_len judged.held ≤ most) }
     ensures refused { IfErr result (λ fault. fault ≢ OutOfMemory
         → convert_fault E.order geometry.block image.now ≡ Some fault) }
     ensures no_sink { IfErr result (λ fault. fault ≢ Sink) }
 {
-    let tally = count_nodes::<E>(alloc, image, geometry)?;
+    let (tally, held) = count_nodes::<E>(alloc, image, geometry, most)?;
     if tally.read_only {
         return Err(ConvertFault::ReadOnly);
     }
@@ -190,11 +211,14 @@ pub fn judge<E: Order>(
         return Err(ConvertFault::Geometry);
     }
     match tally.room {
-        Some(end) => Ok(Converted {
-            changed: tally.changed,
-            nodes: tally.nodes,
-            bytes: u64::from(end),
-        }),
+        Some(end) => {
+            let told = Converted {
+                changed: tally.changed,
+                nodes: tally.nodes,
+                bytes: u64::from(end),
+            };
+            Ok(Judged { told, held })
+        }
         None => {
             let blocks = u64::from(greatest_blocks(geometry));
             Err(ConvertFault::Full {

@@ -6,13 +6,17 @@ ghost use Rattle.jscan.specs.Image.{is_block_size, sightings};
 ghost use Rattle.jscan.specs.Scans.{IsScannable};
 ghost use Rattle.jexpand.specs.Refused.{node_fault};
 ghost use Rattle.jconvert.specs.Tallying.{IsCursor};
+ghost use Rattle.jconvert.specs.Holding.{BeginsAs, held_after, IsHeldOf};
 ghost use Rattle.jconvert.specs.Putting.{PutsForm, PutsTile};
+ghost use Rattle.jexpand.specs.Answers.{IsFormOf};
+ghost use Rattle.jexpand.specs.Expanded.{expanded_node, tile_content};
+ghost use Rattle.jexpand.specs.declared.fault.ConvertFault.TheVariants.{OutOfMemory};
 ghost use Rattle.jconvert.specs.Converting.{least_written, convert_fault, Converts, WritesConverted, Decompresses};
 
 use crate::converted::Converted;
-use crate::judging::{greatest_blocks, judge};
+use crate::judging::{HELD_MOST, greatest_blocks, judge};
 use flashbase::{FromWriter, Sink, pad4};
-use jexpand::{ConvertFault, write_expanded};
+use jexpand::{ConvertFault, content_len, write_expanded, write_with_content};
 use jlog::{place_of, put_node};
 use jnode::{Order, Seen};
 use jscan::{Geometry, Sightings};
@@ -42,7 +46,57 @@ fn put_form<E: Order, S: Sink>(
     }
 }
 
-/// Puts what goes out for a sighted tile, and answers where the next node may begin. The buffers are used for the node's bytes.
+/// Where nodes are made.
+#[derive(Drop)]
+struct Making<'a> {
+    /// What is held of the contents of the tiles from the next one on, one after another.
+    held: &'a [u8],
+    content: Vec<u8>,
+    /// The written form of the node.
+    form: Vec<u8>,
+}
+
+/// Makes the written form of the node that a sighted tile gives, and answers whether it gives one. What the data stand for is
+/// taken of what is held, if it is.
+fn make_form<E: Order>(
+    alloc: Global,
+    image: &[u8],
+    geometry: Geometry,
+    addr: u32,
+    seen: &Seen<'_>,
+    making: &mut Making<'_>,
+) -> Result<bool, ConvertFault>
+    requires readable { IsTrue (is_block_size geometry.block) }
+    requires sighted { Contains (sightings E.order geometry.block image.now) (addr, seen.now) }
+    requires accepted { node_fault E.order geometry.block image.now (addr, seen.now) ≡ None }
+    requires held { BeginsAs (tile_content E.order geometry.block image.now (addr, seen.now)) making.old.held.now }
+    ensures ok { IfOk result (λ is_one. IsFormOf E.order
+        (expanded_node E.order geometry.block image.now (addr, seen.now)) making.new.form.items is_one) }
+    ensures memory { IfErr result (λ fault. fault ≡ OutOfMemory) }
+    ensures held { making.new.held.now
+        ≡ held_after (tile_content E.order geometry.block image.now (addr, seen.now)) making.old.held.now }
+{
+    let len = content_len::<E>(image, geometry, addr, seen);
+    let form = &mut making.form;
+    if len <= making.held.len() {
+        let (content, rest) = making.held.split_at(len);
+        making.held = rest;
+        write_with_content::<E>(image, geometry, addr, seen, content, form)
+    } else {
+        making.held = &[];
+        write_expanded::<E>(
+            alloc,
+            image,
+            geometry,
+            addr,
+            seen,
+            &mut making.content,
+            form,
+        )
+    }
+}
+
+/// Puts what goes out for a sighted tile, and answers where the next node may begin.
 fn put_tile<E: Order, S: Sink>(
     alloc: Global,
     image: &[u8],
@@ -51,25 +105,28 @@ fn put_tile<E: Order, S: Sink>(
     from: u32,
     addr: u32,
     seen: &Seen<'_>,
-    content: &mut Vec<u8>,
-    form: &mut Vec<u8>,
+    making: &mut Making<'_>,
 ) -> Result<u32, ConvertFault>
     requires readable { IsTrue (is_block_size geometry.block) }
     requires written { least_written ≤ geometry.block }
     requires sighted { Contains (sightings E.order geometry.block image.now) (addr, seen.now) }
     requires accepted { node_fault E.order geometry.block image.now (addr, seen.now) ≡ None }
     requires cursor { IsCursor geometry.block from }
-    ensures { PutsTile E.order geometry.block image.now (addr, seen.now) from (S.taken sink.old) (S.taken sink.new)
+    requires held { BeginsAs (tile_content E.order geometry.block image.now (addr, seen.now)) making.old.held.now }
+    ensures put { PutsTile E.order geometry.block image.now (addr, seen.now) from (S.taken sink.old) (S.taken sink.new)
         (S.failures sink.old) (S.failures sink.new) result }
+    ensures held { making.new.held.now
+        ≡ held_after (tile_content E.order geometry.block image.now (addr, seen.now)) making.old.held.now }
 {
-    match write_expanded::<E>(alloc, image, geometry, addr, seen, content, form) {
-        Ok(true) => put_form::<E, S>(sink, geometry, from, form),
+    match make_form::<E>(alloc, image, geometry, addr, seen, making) {
+        Ok(true) => put_form::<E, S>(sink, geometry, from, &making.form),
         Ok(false) => Ok(from),
         Err(_) => Err(ConvertFault::OutOfMemory),
     }
 }
 
-/// Puts the image of the expanded nodes of one that `judge` did not refuse.
+/// Puts the image of the expanded nodes of one that `judge` did not refuse. `held` is what it left, or a beginning of that, also
+/// an empty one: what is not held is decompressed.
 ///
 /// # Errors
 /// `Sink`: it failed after a beginning. `OutOfMemory`: after a beginning too, or before a byte.
@@ -77,9 +134,11 @@ pub fn write_converted<E: Order, S: Sink>(
     alloc: Global,
     image: &[u8],
     geometry: Geometry,
+    held: &[u8],
     sink: &mut S,
 ) -> Result<(), ConvertFault>
-    requires { convert_fault E.order geometry.block image.now ≡ None }
+    requires accepted { convert_fault E.order geometry.block image.now ≡ None }
+    requires held { IsHeldOf E.order geometry.block image.now held.now }
     ensures { WritesConverted E.order geometry.block image.now (S.taken sink.old) (S.taken sink.new)
         (S.failures sink.old) (S.failures sink.new) result }
 {
@@ -87,21 +146,14 @@ pub fn write_converted<E: Order, S: Sink>(
         Ok(sightings) => sightings,
         Err(_) => return Err(ConvertFault::OutOfMemory),
     };
-    let mut content = Vec::new(alloc);
-    let mut form = Vec::new(alloc);
+    let mut making = Making {
+        held,
+        content: Vec::new(alloc),
+        form: Vec::new(alloc),
+    };
     let mut from = 0;
     for (addr, seen) in sightings {
-        match put_tile::<E, S>(
-            alloc,
-            image,
-            geometry,
-            sink,
-            from,
-            addr,
-            &seen,
-            &mut content,
-            &mut form,
-        ) {
+        match put_tile::<E, S>(alloc, image, geometry, sink, from, addr, &seen, &mut making) {
             Ok(next) => from = next,
             Err(fault) => return Err(fault),
         }
@@ -126,12 +178,12 @@ pub fn decompress<E: Order, S: Sink>(
         × Decompresses E.order geometry.block image.now (S.taken sink) (S.taken back)
         (S.failures sink) (S.failures back) (Err refused.0)) }
 {
-    let told = match judge::<E>(alloc, image, geometry) {
-        Ok(told) => told,
+    let judged = match judge::<E>(alloc, image, geometry, HELD_MOST) {
+        Ok(judged) => judged,
         Err(fault) => return Err((fault, Some(sink))),
     };
-    match write_converted::<E, S>(alloc, image, geometry, &mut sink) {
-        Ok(()) => Ok((sink, told)),
+    match write_converted::<E, S>(alloc, image, geometry, &judged.held, &mut sink) {
+        Ok(()) => Ok((sink, judged.told)),
         Err(fault) => Err((fault, Some(sink))),
     }
 }
@@ -149,13 +201,19 @@ pub fn decompressed<E: Order>(
     ensures ok { IfOk result (λ bytes. Converts E.order geometry.block image.now (Ok bytes.items)) }
     ensures err { IfErr result (λ fault. Converts E.order geometry.block image.now (Err fault)) }
 {
-    let told = judge::<E>(alloc, image, geometry)?;
-    let bytes = match Vec::with_capacity(alloc, told.bytes as usize) {
+    let judged = judge::<E>(alloc, image, geometry, HELD_MOST)?;
+    let bytes = match Vec::with_capacity(alloc, judged.told.bytes as usize) {
         Ok(bytes) => bytes,
         Err(_) => return Err(ConvertFault::OutOfMemory),
     };
     let mut sink = FromWriter::new(bytes);
-    match write_converted::<E, FromWriter<Vec<u8>>>(alloc, image, geometry, &mut sink) {
+    match write_converted::<E, FromWriter<Vec<u8>>>(
+        alloc,
+        image,
+        geometry,
+        &judged.held,
+        &mut sink,
+    ) {
         Ok(()) => Ok(sink.into_writer()),
         // A `Vec` fails to take bytes only where memory is wanting.
         Err(_) => Err(ConvertFault::OutOfMemory),

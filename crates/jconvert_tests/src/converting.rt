@@ -3,7 +3,7 @@
 use crate::checks::{equal, expect};
 use crate::vectors::*;
 use byteorder::{BigEndian, LittleEndian};
-use jconvert::{ConvertFault, Converted, decompress, decompressed};
+use jconvert::{ConvertFault, Converted, decompress, decompressed, judge, write_converted};
 use jnode::Order;
 use jscan::Geometry;
 use std::alloc::Global;
@@ -75,5 +75,41 @@ fn sinks_that_fail(rt: HostRuntime) {
             }
             _ => panic!(rt; "no failure at {limit}"),
         }
+    }
+}
+
+fn is_put_again(rt: &impl Abort, alloc: Global, most: usize, held: usize) {
+    let image = little_image();
+    let Ok(judged) = judge::<LittleEndian>(alloc, image, BLOCKS_OF_8_KIB, most) else {
+        panic!(rt; "refused");
+    };
+    equal(rt, judged.told, TOLD);
+    equal(rt, judged.held.len(), held);
+    let mut sink = Taker::new(alloc);
+    let held = judged.held.as_slice();
+    let put = write_converted::<LittleEndian, Taker>(
+        alloc,
+        image,
+        BLOCKS_OF_8_KIB,
+        held,
+        &mut sink,
+    );
+    expect(rt, put.is_ok());
+    expect(rt, sink.took(0, little_expanded()));
+}
+
+/// The same goes out, however much is held of what the data stand for: 60, 20, 20, 0, 20 and 1 bytes.
+#[test]
+fn contents_that_are_held(rt: HostRuntime) {
+    for (most, held) in [
+        (0, 0),
+        (59, 0),
+        (60, 60),
+        (99, 80),
+        (100, 100),
+        (120, 120),
+        (1000, 121),
+    ] {
+        is_put_again(&rt, rt.alloc(), most, held);
     }
 }

@@ -3,7 +3,7 @@
 use crate::checks::{equal, expect};
 use crate::vectors::*;
 use byteorder::LittleEndian;
-use jconvert::{decompress, judge};
+use jconvert::{HELD_MOST, decompress, judge};
 use jscan::Geometry;
 use std::alloc::Global;
 use std::process::Abort;
@@ -18,7 +18,7 @@ fn is_refused(
     text: &str,
 ) -> Result<(), Fail> {
     let geometry = Geometry { block };
-    let Err(fault) = judge::<LittleEndian>(alloc, image, geometry) else {
+    let Err(fault) = judge::<LittleEndian>(alloc, image, geometry, HELD_MOST) else {
         panic!(rt; "not refused");
     };
     equal(rt, format!(in alloc; "{fault}")?.as_str(), text);

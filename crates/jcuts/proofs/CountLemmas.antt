@@ -1,17 +1,16 @@
 -- How many nodes stand from an address: as many as a stop leaves whole.
-use Rattle.std.proofs.Common.{◌≡◌, ◌≢◌, ℕ, zero, suc, ◌+◌, ◌-◌, ◌%◌, ◌<◌, ◌≤◌, leb, cond, Bool, true, false, List, [], ◌∷◌, ◌++◌, length, take, slice_index, refl, sym, ap, ap₂, subst, ◌∙◌, arith, inl, inr}
+use Rattle.std.proofs.Common.{◌≡◌, ◌≢◌, ℕ, zero, suc, ◌+◌, ◌-◌, ◌%◌, ◌<◌, ◌≤◌, Bool, true, false, List, [], ◌∷◌, length, slice_index, refl, sym, ap, subst, ◌∙◌, arith, inl, inr}
 use Rattle.std.specs.Prelude.{bytes_eq, nat_le, filter}
 use Rattle.std.specs.List.{AllByRecursion, count_by}
 use Rattle.std.proofs.lemmas.Bool.{cases_lt, cond-true, cond-false, le-leb, lt-leb, false_from_ne_true}
 use Rattle.std.proofs.lemmas.List.Sums.{length-filter}
 use Rattle.std.proofs.lemmas.Slice.Eq.{bytes_eq-Decides}
-use Rattle.flashbase.specs.Bytes.{pad4_of, erased}
+use Rattle.flashbase.specs.Bytes.{erased}
 use Rattle.flashbase.proofs.BytesLemmas.{le_pad4}
 use Rattle.jnode.specs.Weak.{torn}
 use Rattle.jnode.specs.declared.order.Endian.{Endian}
-use Rattle.jlog.specs.Places.{place_after, end_after, places}
-use Rattle.jlog.specs.Output.{output}
-use Rattle.jlog.specs.Left.{intact, count_whole}
+use Rattle.jlog.specs.Places.{place_after, end_after}
+use Rattle.jlog.specs.Left.{intact}
 use Rattle.jlog.specs.Laws.{FitsBlock}
 use Rattle.jlog.proofs.PlaceLemmas.{place_is_least}
 use Rattle.jlog.proofs.IntactLemmas.{intact_is_counted}

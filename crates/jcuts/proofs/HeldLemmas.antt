@@ -1,7 +1,7 @@
 -- Nodes in the bytes that go out for them.
-use Rattle.std.proofs.Common.{◌≡◌, ℕ, ◌+◌, ◌-◌, ◌%◌, ◌<◌, ◌≤◌, List, [], ◌∷◌, ◌++◌, length, take, drop, map, refl, sym, ap, ap₂, subst, ◌∙◌, arith, append_assoc, length-append}
+use Rattle.std.proofs.Common.{◌≡◌, ℕ, ◌+◌, ◌-◌, ◌%◌, ◌<◌, ◌≤◌, List, [], ◌∷◌, ◌++◌, length, take, map, refl, sym, ap, ap₂, subst, ◌∙◌, arith, append_assoc, length-append}
 use Rattle.std.specs.List.{AllByRecursion}
-use Rattle.std.proofs.lemmas.List.{take_at, drop_at, length-replicate}
+use Rattle.std.proofs.lemmas.List.{take_at, drop_at}
 use Rattle.flashbase.specs.Bytes.{pad4_of, erased}
 use Rattle.jnode.specs.Weak.{IsWrittenNode}
 use Rattle.jnode.specs.Writing.{filled}
@@ -15,7 +15,6 @@ use Rattle.jlog.proofs.PlaceLemmas.{place_is_least}
 use Rattle.jlog.proofs.IntactLemmas.{first_gap, first_out}
 use Rattle.jcuts.specs.Standing.{standings, standing_at, standing_in, IsNodeIn}
 use Rattle.jcuts.specs.declared.standing.Standing.{Standing}
-use Rattle.jlog.specs.declared.report.Place.{Place}
 
 -- a node behind what went out before it
 node_is : (start at : ℕ) (before node more : List ℕ) → start + length before ≡ at

@@ -1,24 +1,27 @@
 -- What is told of operations that follow one another.
 use Rattle.std.proofs.Common.{◌≡◌, ℕ, zero, suc, ◌+◌, ◌<◌, ◌≤◌, Bool, List, [], ◌∷◌, ◌++◌, length, map, take, get_or, refl, sym, ap, ap₂, subst, ◌∙◌, arith, append_assoc, length-append, Result, Ok, Err}
-use Rattle.std.specs.Prelude.{IsTrue, flat_map, filter, is_some}
+use Rattle.std.specs.Prelude.{IsTrue, flat_map, filter}
 use Rattle.std.specs.List.{count_by}
 use Rattle.std.proofs.lemmas.List.{append-nil, length-take-le, map-append}
 use Rattle.std.proofs.lemmas.List.Elements.{filter-append}
 use Rattle.std.proofs.lemmas.List.Sums.{length-filter}
 use Rattle.jnode.specs.declared.order.Endian.{Endian}
 use Rattle.jsteps.specs.Nodes.{Indexed, advanced_all}
+use Rattle.jsteps.specs.Planning.{page_size}
 use Rattle.jsteps.specs.Refusals.{planned_by, plans_of, steps_of_first}
 use Rattle.jsteps.specs.declared.fault.OpFault.{OpFault}
 use Rattle.jsteps.specs.declared.op.Op.{Op}
 use Rattle.jsteps.specs.declared.step.Step.{Step}
 use Rattle.jsteps.proofs.TakenLemmas.{advanced_all-append}
-use Rattle.jlog.specs.Places.{places, place_after, end_after, end_of_all, fit}
+use Rattle.jlog.specs.Places.{place_after, end_after, end_of_all, fit}
 use Rattle.jlog.specs.Running.{written}
 use Rattle.jlog.specs.Session.{IsAccepted}
 use Rattle.jlog.proofs.RunLemmas.{fit_both, plans_next}
 use Rattle.jlog.proofs.RunningLemmas.{written_on, StepsGoOn, steps_go_on}
 use Rattle.jcuts.specs.Standing.{standings, standing_at}
-use Rattle.jcuts.specs.Lines.{step_nodes, nodes_told, weak_count}
+use Rattle.jcuts.specs.Lines.{step_nodes, nodes_told}
+use Rattle.jcuts.specs.Cuts.{Point, first_standings, AdvancesTo}
+use Rattle.jcuts.specs.declared.cuts.Flash.{Flash}
 use Rattle.jcuts.specs.Laws.{StandingsHavePlaces}
 use Rattle.jcuts.specs.declared.lines.StepNode.{StepNode}
 use Rattle.jcuts.specs.declared.standing.Standing.{Standing}
@@ -124,55 +127,58 @@ plan_more page x (o ∷ ops) (suc i) d steps below planned is = by (λ y p q. pl
 
 -- ---- operations one after another
 
--- So many operations are accepted, and lead to an address and an index.
-pub record LeadsTo (page : ℕ) (e : Endian) (size blocks from : ℕ) (x : Indexed) (ops : List Op) (n mid : ℕ) (z : Indexed) : Type 0 where
-  pub planned : n ≤ length (plans_of page x ops)
-  pub fits : IsTrue (fit size blocks from (written e x (steps_of_first page x ops n)))
-  pub cursor : mid ≡ end_of_all size from (written e x (steps_of_first page x ops n))
-  pub index : z ≡ advanced_all x (steps_of_first page x ops n)
+pub leads_nowhere : (e : Endian) (flash : Flash) (from : Point) (ops : List Op) → AdvancesTo e flash from ops 0 from
+leads_nowhere e flash from ops = record { planned = omega arith; fits = refl; address = refl; index = refl }
 
-pub leads_nowhere : (page : ℕ) (e : Endian) (size blocks from : ℕ) (x : Indexed) (ops : List Op) → LeadsTo page e size blocks from x ops 0 from x
-leads_nowhere page e size blocks from x ops = record { planned = omega arith; fits = refl; cursor = refl; index = refl }
+-- the nodes of one more
+abbrev pub next_standings : Endian → Flash → Point → List Step → List Standing
+next_standings e flash at steps = standings e flash.geometry.block at.address (written e at.index steps)
 
 -- one more is accepted
-pub record OneMore (page : ℕ) (e : Endian) (size blocks from : ℕ) (x : Indexed) (ops : List Op) (n mid : ℕ) (z : Indexed) (steps : List Step) (end : ℕ) (y : Indexed) (lines : List ℕ) : Type 0 where
-  pub leads : LeadsTo page e size blocks from x ops (suc n) end y
-  pub standings_are : standings e size from (written e x (steps_of_first page x ops (suc n))) ≡ standings e size from (written e x (steps_of_first page x ops n)) ++ standings e size mid (written e z steps)
-  pub told : nodes_told e size from x (take (suc n) (plans_of page x ops)) lines
-      ≡ nodes_told e size from x (take n (plans_of page x ops)) lines ++ step_nodes (get_or lines n 0) (length (written e z steps)) 1 (standings e size mid (written e z steps))
+pub record OneMore (e : Endian) (flash : Flash) (from : Point) (ops : List Op) (lines : List ℕ) (n : ℕ) (at : Point) (steps : List Step) (to : Point) : Type 0 where
+  pub leads : AdvancesTo e flash from ops (suc n) to
+  pub standings_are : first_standings e flash from ops (suc n) ≡ first_standings e flash from ops n ++ next_standings e flash at steps
+  pub told : nodes_told e flash.geometry.block from.address from.index (take (suc n) (plans_of (page_size flash.page) from.index ops)) lines
+      ≡ nodes_told e flash.geometry.block from.address from.index (take n (plans_of (page_size flash.page) from.index ops)) lines
+      ++ step_nodes (get_or lines n 0) (length (written e at.index steps)) 1 (next_standings e flash at steps)
 
-pub one_more : (page : ℕ) (e : Endian) (size blocks from : ℕ) (x : Indexed) (ops : List Op) (n : ℕ) (d o : Op) (mid : ℕ) (z : Indexed) (steps : List Step) (end : ℕ) (y : Indexed) (lines : List ℕ)
-    → n < length ops → length lines ≡ length ops → o ≡ get_or ops n d → LeadsTo page e size blocks from x ops n mid z
-    → IsAccepted page e size blocks mid z o steps → end ≡ end_of_all size mid (written e z steps) → y ≡ advanced_all z steps
-    → OneMore page e size blocks from x ops n mid z steps end y lines
-one_more page e size blocks from x ops n d o mid z steps end y lines below same_long o_is first acc end_is y_is =
+pub one_more : (e : Endian) (flash : Flash) (from : Point) (ops : List Op) (lines : List ℕ) (n : ℕ) (d o : Op) (at : Point) (steps : List Step) (to : Point)
+    → n < length ops → length lines ≡ length ops → o ≡ get_or ops n d → AdvancesTo e flash from ops n at
+    → IsAccepted (page_size flash.page) e flash.geometry.block flash.blocks at.address at.index o steps
+    → to.address ≡ end_of_all flash.geometry.block at.address (written e at.index steps) → to.index ≡ advanced_all at.index steps
+    → OneMore e flash from ops lines n at steps to
+one_more e flash from ops lines n d o at steps to below same_long o_is first acc end_is y_is =
+    let page : ℕ = page_size flash.page in
+    let size : ℕ = flash.geometry.block in
+    let x : Indexed = from.index in
+    let start : ℕ = from.address in
     let earlier : List Step = steps_of_first page x ops n in
-    let m : ℕ = end_of_all size from (written e x earlier) in
+    let m : ℕ = end_of_all size start (written e x earlier) in
     let w : Indexed = advanced_all x earlier in
     let plans : List (List Step) = take n (plans_of page x ops) in
     let planned : planned_by page w (get_or ops n d) ≡ Ok steps =
-    subst (λ (v : Indexed). planned_by page v (get_or ops n d) ≡ Ok steps) first.index (subst (λ (p : Op). planned_by page z p ≡ Ok steps) o_is acc.planned) in
+    subst (λ (v : Indexed). planned_by page v (get_or ops n d) ≡ Ok steps) first.index (subst (λ (p : Op). planned_by page at.index p ≡ Ok steps) o_is acc.planned) in
     let next = plans_next page x ops n d steps below first.planned planned in
     let all_plans = plan_more page x ops n d steps below first.planned planned in
-    let on : StepsGoOn e size from x earlier steps = steps_go_on e size from x earlier steps in
+    let on : StepsGoOn e size start x earlier steps = steps_go_on e size start x earlier steps in
     let long : length plans ≡ n = length-take-le n (plans_of page x ops) first.planned in
     record {
       leads = record {
         planned = next.1;
-        fits = subst (λ (l : List Step). IsTrue (fit size blocks from (written e x l))) (sym next.0)
-            (fit_both e size blocks from x earlier steps first.fits
-            (subst (λ (v : Indexed). IsTrue (fit size blocks m (written e v steps))) first.index (subst (λ (c : ℕ). IsTrue (fit size blocks c (written e z steps))) first.cursor acc.fits)));
-        cursor = end_is
-            ∙ (ap₂ (λ (c : ℕ) (v : Indexed). end_of_all size c (written e v steps)) first.cursor first.index
-            ∙ (sym on.end_is ∙ ap (λ (l : List Step). end_of_all size from (written e x l)) (sym next.0)));
+        fits = subst (λ (l : List Step). IsTrue (fit size flash.blocks start (written e x l))) (sym next.0)
+            (fit_both e size flash.blocks start x earlier steps first.fits
+            (subst (λ (v : Indexed). IsTrue (fit size flash.blocks m (written e v steps))) first.index (subst (λ (c : ℕ). IsTrue (fit size flash.blocks c (written e at.index steps))) first.address acc.fits)));
+        address = end_is
+            ∙ (ap₂ (λ (c : ℕ) (v : Indexed). end_of_all size c (written e v steps)) first.address first.index
+            ∙ (sym on.end_is ∙ ap (λ (l : List Step). end_of_all size start (written e x l)) (sym next.0)));
         index = y_is ∙ (ap (λ (v : Indexed). advanced_all v steps) first.index ∙ (sym (advanced_all-append x earlier steps) ∙ ap (advanced_all x) (sym next.0)));
       };
-      standings_are = ap (λ (l : List Step). standings e size from (written e x l)) next.0
-          ∙ (ap (standings e size from) (written_on e x earlier steps)
-          ∙ (standings_on e size from (written e x earlier) (written e w steps)
-          ∙ ap₂ (λ (c : ℕ) (v : Indexed). standings e size from (written e x earlier) ++ standings e size c (written e v steps)) (sym first.cursor) (sym first.index)));
-      told = ap (λ (l : List (List Step)). nodes_told e size from x l lines) all_plans
-          ∙ (told_more e size from x plans steps lines (omega (arith, long, same_long, below))
-          ∙ (ap (λ (i : ℕ). nodes_told e size from x plans lines ++ step_nodes (get_or lines i 0) (length (written e w steps)) 1 (standings e size m (written e w steps))) long
-          ∙ ap₂ (λ (c : ℕ) (v : Indexed). nodes_told e size from x plans lines ++ step_nodes (get_or lines n 0) (length (written e v steps)) 1 (standings e size c (written e v steps))) (sym first.cursor) (sym first.index)));
+      standings_are = ap (λ (l : List Step). standings e size start (written e x l)) next.0
+          ∙ (ap (standings e size start) (written_on e x earlier steps)
+          ∙ (standings_on e size start (written e x earlier) (written e w steps)
+          ∙ ap₂ (λ (c : ℕ) (v : Indexed). standings e size start (written e x earlier) ++ standings e size c (written e v steps)) (sym first.address) (sym first.index)));
+      told = ap (λ (l : List (List Step)). nodes_told e size start x l lines) all_plans
+          ∙ (told_more e size start x plans steps lines (omega (arith, long, same_long, below))
+          ∙ (ap (λ (i : ℕ). nodes_told e size start x plans lines ++ step_nodes (get_or lines i 0) (length (written e w steps)) 1 (standings e size m (written e w steps))) long
+          ∙ ap₂ (λ (c : ℕ) (v : Indexed). nodes_told e size start x plans lines ++ step_nodes (get_or lines n 0) (length (written e v steps)) 1 (standings e size c (written e v steps))) (sym first.address) (sym first.index)));
     }

@@ -1,5 +1,5 @@
 -- The least cut that goes unseen.
-use Rattle.std.proofs.Common.{◌≡◌, ℕ, zero, suc, ◌+◌, ◌-◌, ◌≤◌, ◌<◌, Bool, true, false, cond, List, ◌++◌, length, refl, sym, ap, ap₂, subst, ◌∙◌, arith, inl, inr, Option, Some, None, take_all}
+use Rattle.std.proofs.Common.{◌≡◌, ℕ, zero, suc, ◌+◌, ◌-◌, ◌≤◌, ◌<◌, Bool, true, false, List, ◌++◌, length, refl, sym, ap, ap₂, ◌∙◌, arith, inl, inr, Option, Some, None, take_all}
 use Rattle.std.specs.Prelude.{IsTrue, find, bytes_eq}
 use Rattle.std.specs.List.{range_with_len}
 use Rattle.std.proofs.lemmas.Bool.{cases_Bool, cond-true, cond-false, cases_lt, both_ways}

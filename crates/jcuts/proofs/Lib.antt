@@ -6,3 +6,4 @@ pub mod StepLemmas
 pub mod JoinLemmas
 pub mod PlanLemmas
 pub mod ToldLemmas
+pub mod CutsLemmas

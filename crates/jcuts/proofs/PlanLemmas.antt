@@ -1,5 +1,5 @@
 -- Planning an operation.
-use Rattle.std.proofs.Common.{◌≡◌, ℕ, zero, suc, ◌+◌, ◌*◌, ◌%◌, ◌<◌, ◌≤◌, Bool, true, false, List, [], ◌∷◌, ◌++◌, length, map, refl, sym, ap, subst, ◌∙◌, arith, Option, Some, None, Result, Ok, Err}
+use Rattle.std.proofs.Common.{◌≡◌, ℕ, ◌+◌, ◌*◌, ◌%◌, ◌<◌, ◌≤◌, Bool, List, [], ◌∷◌, ◌++◌, length, map, refl, sym, ap, subst, ◌∙◌, arith, Option, Some, Ok, Err}
 use Rattle.std.specs.Prelude.{IsTrue, IsFalse, nat_le, nat_lt, ◌&&◌, ◌==◌}
 use Rattle.std.specs.List.{AllByRecursion, list_all}
 use Rattle.std.specs.Io.KnownBytes.{Appends}
@@ -15,10 +15,10 @@ use Rattle.jsteps.specs.Laws.{OpFits}
 use Rattle.jsteps.specs.declared.op.Op.{Op}
 use Rattle.jsteps.specs.declared.page.Page.{Page}
 use Rattle.jsteps.specs.declared.step.Step.{Step}
-use Rattle.jlog.specs.Places.{place_after, end_after, places, end_of_all, fit, is_writable_flash}
+use Rattle.jlog.specs.Places.{place_after, end_after, places, end_of_all, is_writable_flash}
 use Rattle.jlog.specs.Output.{output}
 use Rattle.jlog.specs.Laws.{FitsBlock}
-use Rattle.jlog.specs.Running.{written, shown_place, places_of, IsWritten, CanWriteAll}
+use Rattle.jlog.specs.Running.{written, places_of, IsWritten, CanWriteAll}
 use Rattle.jlog.specs.Session.{IsAccepted, Applies, Declines}
 use Rattle.jlog.specs.declared.report.Place.{Place}
 use Rattle.jlog.specs.declared.fault.SessionFault.{SessionFault}

@@ -1,5 +1,5 @@
 -- The nodes of an operation, step by step.
-use Rattle.std.proofs.Common.{◌≡◌, ℕ, zero, suc, ◌+◌, ◌<◌, List, [], ◌∷◌, length, map, get_or, refl, sym, ap, ◌∙◌, arith}
+use Rattle.std.proofs.Common.{◌≡◌, ℕ, zero, suc, ◌+◌, ◌<◌, List, [], ◌∷◌, length, map, get_or, refl, ap, ◌∙◌, arith}
 use Rattle.jcuts.specs.Lines.{step_nodes}
 use Rattle.jcuts.specs.declared.standing.Standing.{Standing}
 use Rattle.jcuts.specs.declared.lines.StepNode.{StepNode}

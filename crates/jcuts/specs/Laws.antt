@@ -1,12 +1,12 @@
 -- Laws of what is told. Each is a statement: it holds since a public function's contract names it.
-use Rattle.std.specs.Prelude.{◌≡◌, ℕ, ◌+◌, ◌%◌, ◌≤◌, nat_le, List, [], length, map, take, count_by}
+use Rattle.std.specs.Prelude.{◌≡◌, ℕ, ◌+◌, ◌%◌, ◌≤◌, nat_le, List, length, map, take, count_by}
 use Rattle.std.specs.List.{AllByRecursion}
 use Rattle.flashbase.specs.Ranges.{AreBytes}
 use Rattle.jnode.specs.Weak.{IsLeastWeak}
 use Rattle.jnode.specs.declared.order.Endian.{Endian}
 use Rattle.jmount.specs.Mounts.{state, MountsAs}
 use Rattle.jsteps.specs.Steps.{bytes, after}
-use Rattle.jsteps.specs.Planning.{IsPage, page_size}
+use Rattle.jsteps.specs.Planning.{page_size}
 use Rattle.jsteps.specs.Laws.{OpFits}
 use Rattle.jsteps.specs.declared.op.Op.{Op}
 use Rattle.jsteps.specs.declared.page.Page.{Page}

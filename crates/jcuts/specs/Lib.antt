@@ -2,5 +2,6 @@ pub mod Standing
 pub mod Lines
 pub mod Planning
 pub mod Telling
+pub mod Cuts
 pub mod Laws
 pub mod Examples

@@ -1,5 +1,5 @@
 -- The lines that tell which step stands from which byte on.
-use Rattle.std.specs.Prelude.{ℕ, suc, ◌+◌, ◌==◌, is_some, List, [], ◌∷◌, ◌++◌, length, count_by, flat_map, codes, decimal, if◌then◌else◌}
+use Rattle.std.specs.Prelude.{ℕ, ◌+◌, is_some, List, [], ◌∷◌, ◌++◌, length, count_by, flat_map, codes, decimal}
 use Rattle.std.specs.Option.{option_map_or}
 use Rattle.jnode.specs.declared.order.Endian.{Endian}
 use Rattle.jsteps.specs.Nodes.{Indexed, advanced_all}

@@ -10,6 +10,7 @@
 //! what follows, and `examples` has worked nodes.
 #![tactic(auto)]
 
+mod cuts;
 pub mod examples;
 mod held;
 pub mod laws;
@@ -17,6 +18,7 @@ mod lines;
 mod planning;
 mod standing;
 
+pub use crate::cuts::{CutsFault, Flash, put_cuts};
 pub use crate::held::Held;
 pub use crate::lines::{StepNode, Telling, put_end, put_nodes};
 pub use crate::planning::{Plan, plan_op};

@@ -7,7 +7,7 @@ use std::test::Fail;
 use test_support::Taker;
 
 /// The two nodes of an empty file.
-const MADE_NODES: [Standing; 2] = [
+pub(crate) const MADE_NODES: [Standing; 2] = [
     Standing {
         addr: 0x0C,
         totlen: 68,

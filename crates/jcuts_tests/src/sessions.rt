@@ -10,10 +10,10 @@ use std::alloc::Global;
 use std::test::Fail;
 use test_support::{MADE, Taker};
 
-const GEOMETRY: Geometry = Geometry { block: 8192 };
+pub(crate) const GEOMETRY: Geometry = Geometry { block: 8192 };
 
 /// A file is made.
-fn create() -> Op<'static> {
+pub(crate) fn create() -> Op<'static> {
     Op::Create {
         time: 0,
         path: Text::lent(b"/a"),
@@ -23,17 +23,17 @@ fn create() -> Op<'static> {
     }
 }
 
-/// Three bytes are written to it, whose node ends in 0xFF.
-fn write() -> Op<'static> {
+/// Bytes are written to it.
+pub(crate) fn write(bytes: &[u8]) -> Op<'_> {
     Op::Write {
         time: 0,
         path: Text::lent(b"/a"),
         offset: 0,
-        bytes: Text::lent(b"\xFF\xFF\xFF"),
+        bytes: Text::lent(bytes),
     }
 }
 
-/// The node of these bytes alone, up to a multiple of 4.
+/// The node of three bytes 0xFF alone, up to a multiple of 4.
 fn is_written(sink: &Taker) -> bool {
     sink.bytes.len() == 72 && sink.bytes.ends_with(b"\xFF\xFF\xFF\xFF")
 }
@@ -46,7 +46,7 @@ fn is_apart(alloc: Global) -> Result<bool, Fail> {
     session.apply(alloc, &create())?;
     let made = session.cursor();
     let first = session.replace_sink(Taker::new(alloc));
-    session.apply(alloc, &write())?;
+    session.apply(alloc, &write(b"\xFF\xFF\xFF"))?;
     let written = session.cursor();
     let second = session.finish();
     Ok(made == 124 && written == 196 && first.took(0, &MADE) && is_written(&second))

@@ -1,5 +1,5 @@
 -- What a compressed node answers, and how long the written form of an expanded node is.
-use Rattle.std.proofs.Common.{◌≡◌, ℕ, ◌+◌, ◌<◌, ◌≤◌, ◌==◌, subst, Bool, true, false, cond, List, [], length, refl, sym, ap, ◌∙◌, arith, Option, None, Some, Ok, option_map, option_and_then, nat_le}
+use Rattle.std.proofs.Common.{◌≡◌, ℕ, ◌+◌, ◌<◌, ◌≤◌, ◌==◌, subst, Bool, true, false, cond, List, [], length, refl, sym, ap, ◌∙◌, arith, Option, None, Some, Ok, option_map, option_and_then, unwrap_or, nat_le}
 use Rattle.std.specs.Option.{is_none, option_or}
 use Rattle.std.proofs.lemmas.Bool.{leb-true, eqb-true, cases_Bool, cond-true, cond-false}
 use Rattle.std.proofs.Common.{⊎_elim}
@@ -98,6 +98,23 @@ first_none (Some f) p h = absurd (cc)
 
 accepted_compressed : (size addr : ℕ) (node : CompressedNode) → compressed_fault size addr node ≡ None → too_long size addr (inode_len + node.dsize) ≡ None
 accepted_compressed size addr node h = first_none (too_long size addr (inode_len + node.dsize)) _ (read_none _ _ _ h)
+
+second_none : (o p : Option ConvertFault) → option_or o p ≡ None → p ≡ None
+second_none None p h = h
+second_none (Some f) p h = absurd (cc)
+
+some_content : (o : Option (List ℕ)) (f : ConvertFault) → cond (is_none o) (Some f) None ≡ None → o ≡ Some (unwrap_or o [])
+some_content None f h = absurd (cc)
+some_content (Some bytes) f h = refl
+
+-- the data of a node that is not refused have content
+pub accepted_content : (size addr : ℕ) (node : CompressedNode) → compressed_fault size addr node ≡ None → node_content node ≡ Some (unwrap_or (node_content node) [])
+accepted_content size addr node h =
+    some_content (node_content node) (fault.Data addr) (second_none (too_long size addr (inode_len + node.dsize)) _ (read_none _ _ _ h))
+
+-- which is as long as its range
+pub accepted_size : (size addr : ℕ) (node : CompressedNode) → compressed_fault size addr node ≡ None → length (unwrap_or (node_content node) []) ≡ node.dsize
+accepted_size size addr node h = content_long node (unwrap_or (node_content node) []) (accepted_content size addr node h)
 
 mapped_some : {A B : Type 0} (f : A → B) (o : Option A) (y : B) → option_map f o ≡ Some y → (x : A) × (o ≡ Some x) × (f x ≡ y)
 mapped_some f None y h = absurd (cc)

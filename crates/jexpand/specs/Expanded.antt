@@ -1,5 +1,6 @@
 -- The nodes of an image with their data decompressed.
-use Rattle.std.specs.Prelude.{ℕ, ◌+◌, ◌/◌, ◌%◌, ◌==◌, List, [], drop, length, filter_map, Option, Some, None, option_map, option_and_then, if◌then◌else◌}
+use Rattle.std.specs.Prelude.{ℕ, ◌+◌, ◌/◌, ◌%◌, ◌==◌, List, [], drop, length, filter_map, Option, Some, None, option_map, option_and_then, unwrap_or, if◌then◌else◌}
+use Rattle.std.specs.List.{flat_map}
 use Rattle.jnode.specs.Compressed.{compressed_of, inode_with}
 use Rattle.jnode.specs.Reading.{tile_of, entry_len, inode_len}
 use Rattle.jnode.specs.Writing.{stored_bytes}
@@ -43,6 +44,21 @@ expanded_node e size image (addr, seen.Inode inode) = Some (node.Inode inode)
 expanded_node e size image (addr, seen.Compressed compr) =
     let packed = compressed_node_at e size image addr in option_map (with_content packed) (node_content packed)
 expanded_node e size image _ = None
+
+-- the bytes that the data of a sighted tile stand for, where they are compressed; else none
+abbrev pub tile_content : Endian → ℕ → List ℕ → ℕ × Seen → List ℕ
+tile_content e size image (addr, seen.Compressed compr) =
+    unwrap_or (node_content (compressed_node_at e size image addr)) []
+tile_content e size image _ = []
+
+-- those of these tiles, one after another
+abbrev pub contents_of_tiles : Endian → ℕ → List ℕ → List (ℕ × Seen) → List ℕ
+contents_of_tiles e size image tiles = flat_map (tile_content e size image) tiles
+
+-- The contents of the compressed nodes of an image, one after another in the order of their
+-- addresses.
+abbrev pub unpacked_bytes : Endian → ℕ → List ℕ → List ℕ
+unpacked_bytes e size image = contents_of_tiles e size image (sightings e size image)
 
 -- The expanded nodes of an image, in the order of their addresses.
 abbrev pub expanded_nodes : Endian → ℕ → List ℕ → List NodeRef

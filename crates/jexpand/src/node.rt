@@ -1,10 +1,11 @@
 //! The node that a sighted tile gives.
 
-ghost use Rattle.std.specs.Prelude.{◌≡◌, ◌≤◌, ◌+◌, ℕ, None, Some, IfOk, IfErr, OnOk, IsTrue, Contains, length, option_map};
+ghost use Rattle.std.specs.Prelude.{◌≡◌, ◌≤◌, ◌+◌, ℕ, [], None, Some, IfOk, IfErr, OnOk, IsTrue, Contains, length, option_map, unwrap_or};
 ghost use Rattle.jnode.specs.Writing.{stored_bytes};
 ghost use Rattle.jnode.specs.declared.node.NodeRef.TheVariants as node;
 ghost use Rattle.jscan.specs.Image.{is_block_size, sightings};
 ghost use Rattle.jexpand.specs.Expanded.{compressed_node_at, node_content, with_content, expanded_node};
+ghost use Rattle.jexpand.specs.Expanded.{tile_content};
 ghost use Rattle.jexpand.specs.Refused.{too_long, compressed_fault, node_fault};
 ghost use Rattle.jexpand.specs.Answers.{AnswersLength, IsFormOf};
 ghost use Rattle.jexpand.specs.declared.fault.ConvertFault.TheVariants.{OutOfMemory};
@@ -83,8 +84,9 @@ fn compressed_len(
     content: &mut Vec<u8>,
 ) -> Result<Option<u32>, ConvertFault>
     requires { IsTrue (is_block_size geometry.block) }
-    ensures { AnswersLength (compressed_fault geometry.block addr node.now)
+    ensures len { AnswersLength (compressed_fault geometry.block addr node.now)
         (option_map (with_content node.now) (node_content node.now)) result }
+    ensures content { OnOk result (content.new.items ≡ unwrap_or (node_content node.now) []) }
 {
     if Method::of(node.compr).is_none() {
         return Err(ConvertFault::Compressed {
@@ -101,7 +103,7 @@ fn compressed_len(
 }
 
 /// The length of the written form of the node that a sighted tile gives, if it gives one. A compressed node's data are
-/// decompressed, into the buffer, to see that they have content.
+/// decompressed, to see that they have content, which is then in the buffer; for another tile the buffer is empty.
 ///
 /// # Errors
 /// `Incompatible`, `Compressed`, `Data` and `TooLong`, at the tile's address; else out of memory.
@@ -115,9 +117,12 @@ pub fn expanded_len<E: Order>(
 ) -> Result<Option<u32>, ConvertFault>
     requires readable { IsTrue (is_block_size geometry.block) }
     requires sighted { Contains (sightings E.order geometry.block image.now) (addr, seen.now) }
-    ensures { AnswersLength (node_fault E.order geometry.block image.now (addr, seen.now))
+    ensures len { AnswersLength (node_fault E.order geometry.block image.now (addr, seen.now))
         (expanded_node E.order geometry.block image.now (addr, seen.now)) result }
+    ensures content { OnOk result (content.new.items
+        ≡ tile_content E.order geometry.block image.now (addr, seen.now)) }
 {
+    content.clear();
     match seen {
         Seen::Entry(entry) => placed_len(geometry, addr, ENTRY_LEN, entry.name.len()),
         Seen::Inode(inode) => placed_len(geometry, addr, INODE_LEN, stored_len(&inode.fill)),
@@ -209,6 +214,50 @@ pub fn write_expanded<E: Order>(
         Seen::Compressed { .. } => {
             let packed = compressed_node::<E>(image, geometry, addr);
             put_compressed::<E>(alloc, &packed, content, out)
+        }
+        _ => Ok(false),
+    }
+}
+
+/// How many bytes the data of a sighted tile stand for, where they are compressed; else none.
+pub fn content_len<E: Order>(image: &[u8], geometry: Geometry, addr: u32, seen: &Seen<'_>) -> usize
+    requires readable { IsTrue (is_block_size geometry.block) }
+    requires sighted { Contains (sightings E.order geometry.block image.now) (addr, seen.now) }
+    requires accepted { node_fault E.order geometry.block image.now (addr, seen.now) ≡ None }
+    ensures { result ≡ length (tile_content E.order geometry.block image.now (addr, seen.now)) }
+{
+    match seen {
+        Seen::Compressed { .. } => compressed_node::<E>(image, geometry, addr).dsize as usize,
+        _ => 0,
+    }
+}
+
+/// The same as `write_expanded`, with the bytes that the data of the tile stand for, which are not decompressed again.
+///
+/// # Errors
+/// Only memory can be wanting.
+pub fn write_with_content<E: Order>(
+    image: &[u8],
+    geometry: Geometry,
+    addr: u32,
+    seen: &Seen<'_>,
+    content: &[u8],
+    out: &mut Vec<u8>,
+) -> Result<bool, ConvertFault>
+    requires readable { IsTrue (is_block_size geometry.block) }
+    requires sighted { Contains (sightings E.order geometry.block image.now) (addr, seen.now) }
+    requires accepted { node_fault E.order geometry.block image.now (addr, seen.now) ≡ None }
+    requires content { content.now ≡ tile_content E.order geometry.block image.now (addr, seen.now) }
+    ensures ok { IfOk result (λ is_one. IsFormOf E.order
+        (expanded_node E.order geometry.block image.now (addr, seen.now)) out.new.items is_one) }
+    ensures memory { IfErr result (λ fault. fault ≡ OutOfMemory) }
+{
+    match seen {
+        Seen::Entry(entry) => put_entry::<E>(out, entry),
+        Seen::Inode(node) => put_inode::<E>(out, node),
+        Seen::Compressed { .. } => {
+            let packed = compressed_node::<E>(image, geometry, addr);
+            put_with_content::<E>(&packed, content, out)
         }
         _ => Ok(false),
     }

@@ -1,7 +1,7 @@
-//! Files that are holes, whole or in part.
+//! Files that are holes, whole or in part. Images that claim great files are in tests/folders.py.
 
-use crate::checks::{equal, expect};
-use crate::images::{HUGE, LARGE, image_of};
+use crate::checks::expect;
+use crate::images::{LARGE, image_of};
 use crate::recorder::Recorder;
 use byteorder::LittleEndian;
 use flashbase::FromWriter;
@@ -26,46 +26,6 @@ fn made(
         |_| "not extracted",
     )?;
     Ok((folder.lines, totals))
-}
-
-/// An image of 124 bytes with a file of 16 MiB writes nothing: the file is one hole.
-#[test]
-fn a_bomb(rt: HostRuntime) -> Result<(), Fail> {
-    let nodes = [Node::Hole(2, 0x100_0001), Node::Entry(1, 2, b"h")];
-    let (lines, _) = made(rt.alloc(), &nodes, LARGE)?;
-    equal(
-        &rt,
-        lines.as_str(),
-        "directory \nfile h\ncontent h [(16777217)] 644 7 5\nattributes  755 0 0\n",
-    );
-    Ok(())
-}
-
-/// So are a thousand of them.
-#[test]
-fn a_thousand_bombs(rt: HostRuntime) -> Result<(), Fail> {
-    let mut names = Vec::new(rt.alloc());
-    for ino in 2..1002u32 {
-        names
-            .push(format!(in rt.alloc(); "{ino}").map_err(|_| "no memory")?)
-            .map_err(|_| "no memory")?;
-    }
-    let mut nodes = Vec::new(rt.alloc());
-    for ino in 2..1002u32 {
-        nodes.push(Node::Hole(ino, 8191)).map_err(|_| "no memory")?;
-    }
-    for (ino, name) in (2..1002u32).zip(&names) {
-        nodes
-            .push(Node::Entry(1, ino, name.as_bytes()))
-            .map_err(|_| "no memory")?;
-    }
-    let (lines, _) = made(rt.alloc(), &nodes, HUGE)?;
-    let holes = lines
-        .split('\n')
-        .filter(|line| line.ends_with(" [(8191)] 644 7 5"))
-        .count();
-    equal(&rt, holes, 1000);
-    Ok(())
 }
 
 /// A block of 4,096 zeros is a hole, also at the end, where it is as short as the file; a zero beside another byte is written.

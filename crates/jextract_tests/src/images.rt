@@ -7,9 +7,6 @@ use test_support::{Attributes, Node, SYMLINK, image_of_nodes};
 
 pub(crate) const LARGE: Geometry = Geometry { block: 16384 };
 
-/// A block with room for thousands of nodes.
-pub(crate) const HUGE: Geometry = Geometry { block: 262144 };
-
 const ATTRIBUTES: Attributes = Attributes {
     uid: 1000,
     gid: 1001,

@@ -1,7 +1,7 @@
-//! Worked trees: what is made of them, and what is told.
+//! Worked trees: what is made of them, and what is told. Many levels are in tests/folders.py.
 
 use crate::checks::{equal, expect};
-use crate::images::{HUGE, LARGE, PLAIN, image_of};
+use crate::images::{LARGE, PLAIN, image_of};
 use crate::recorder::{Recorder, is_made_once};
 use byteorder::LittleEndian;
 use flashbase::FromWriter;
@@ -214,50 +214,5 @@ content e [x] 0 7 5\ndirectory f\nattributes f 1775 7 5\nfile g\ncontent g [x] 1
     expect(&rt, lines.contains("content a [x] 4755 7 5 1000:1001\n"));
     expect(&rt, lines.contains("attributes f 3775 7 5 1000:1001\n"));
     equal(&rt, totals, (0, 0));
-    Ok(())
-}
-
-/// An image of so many directories, each in the one before, with names of this many bytes.
-fn deep(alloc: Global, levels: u32, name: &[u8]) -> Result<Vec<u8>, &'static str> {
-    let mut nodes = Vec::new(alloc);
-    for level in 0..levels {
-        let ino = level.wrapping_add(2);
-        nodes
-            .push(Node::Inode(ino, DIRECTORY, b""))
-            .map_err(|_| "no memory")?;
-        nodes
-            .push(Node::Entry(ino.wrapping_sub(1), ino, name))
-            .map_err(|_| "no memory")?;
-    }
-    image_of(alloc, &nodes)
-}
-
-/// How many directories are made of so many levels, how many objects are left out, and how many bytes are told.
-fn depth(alloc: Global, levels: u32, name: &[u8]) -> Result<(usize, u64, usize), &'static str> {
-    let image = deep(alloc, levels, name)?;
-    let mounted = mount::<LittleEndian>(alloc, &image, HUGE).map_err(|_| "no mount")?;
-    let mut folder = Recorder::new(alloc, u64::MAX, u64::MAX);
-    let mut notes = FromWriter::new(Vec::new(alloc));
-    let totals = extract(alloc, &mounted, false, &mut folder, &mut notes).map_err(
-        |_| "not extracted",
-    )?;
-    let made = folder
-        .lines
-        .split('\n')
-        .filter(|line| line.starts_with("directory "))
-        .count();
-    Ok((made, totals.left_out, notes.into_writer().len()))
-}
-
-#[test]
-fn many_levels(rt: HostRuntime) -> Result<(), Fail> {
-    equal(&rt, depth(rt.alloc(), 1000, b"dir")?, (1001, 0, 0));
-    // 16 names of 254 bytes with the slashes between them have 4,079 bytes.
-    let name = [b'n'; 254];
-    equal(
-        &rt,
-        depth(rt.alloc(), 20, &name)?,
-        (17, 1, 9 + 17 * 255 + 16),
-    );
     Ok(())
 }

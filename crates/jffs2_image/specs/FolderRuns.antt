@@ -19,9 +19,13 @@ use Rattle.jffs2_image.specs.Folders.{FillsFolder, ListsFolder, settings}
 use Rattle.jffs2_image.specs.Runs.{Finishes, IsCommand, Says, answer_finished}
 use Rattle.jffs2_image.specs.declared.folders.Extracted.{Extracted}
 
--- The command line asks for no folder, or for an extraction, or for a listing, and that is done.
-abbrev pub RunsTask : List (List ℕ) → (Result Request RequestFault → Type 0) → Type 0 → Type 0 → Type 0
-RunsTask args runs extracts lists = ((command : Result Request RequestFault) × IsCommand args command × runs command) ⊎ (extracts ⊎ lists)
+-- The command line makes a request, or asks for an extraction, a listing, or what an image tells of
+-- itself, and that is done.
+abbrev pub RunsTask : List (List ℕ) → (Result Request RequestFault → Type 0)
+    → Type 0 → Type 0 → Type 0 → Type 0
+RunsTask args runs extracts lists informs =
+    ((command : Result Request RequestFault) × IsCommand args command × runs command)
+    ⊎ (extracts ⊎ (lists ⊎ informs))
 
 -- the notes on what an extraction came to, if there are any
 abbrev pub notes_after_extraction : Extracted → Option (List ℕ)

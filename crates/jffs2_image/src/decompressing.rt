@@ -2,6 +2,7 @@
 ghost use Rattle.std.specs.Prelude.{◌≡◌, ◌⊎◌, ℕ, List, None, IfOk, IfErr, OnOk};
 ghost use Rattle.std.specs.Io.KnownBytes.{Appends};
 ghost use Rattle.jconvert.specs.Converting.{convert_fault, converted_image};
+ghost use Rattle.jconvert.specs.Holding.{IsHeldOf};
 ghost use Rattle.jffs2_image.specs.Decompressing.{DecompressesFile, HoldsMade, IsNotConverted, IsNotWritten, IsTaken, fault_of_conversion};
 ghost use Rattle.jffs2_image.specs.Host.{AreLoaded, BlamesDecompress, HasFailed, MakesFile, ReadsFile};
 ghost use Rattle.jffs2_image.specs.Writes.{GivesText, IsFaultOfMaking, IsUnreadFile};
@@ -10,7 +11,7 @@ use crate::host::{Loader, MakeFault, Maker};
 use crate::output::Output;
 use crate::writing::load_file;
 use flashbase::{DeviceFault, Sink};
-use jconvert::{ConvertFault, decompressed, judge, write_converted};
+use jconvert::{ConvertFault, HELD_MOST, decompressed, judge, write_converted};
 use jlog::SessionFault;
 use jmount::MountFault;
 use jnode::Order;
@@ -99,16 +100,18 @@ fn put_converted<E: Order, S: Output>(
     alloc: Global,
     image: &[u8],
     geometry: Geometry,
+    held: &[u8],
     output: &mut S,
 ) -> Result<(), SessionFault>
-    requires { convert_fault E.order geometry.block image.now ≡ None }
+    requires accepted { convert_fault E.order geometry.block image.now ≡ None }
+    requires held { IsHeldOf E.order geometry.block image.now held.now }
     ensures given { OnOk result (Appends (S.taken output.old) (S.given output.new) (converted_image E.order geometry.block image.now)) }
     ensures count { OnOk result (S.failures output.new ≡ S.failures output.old) }
     ensures part { IfErr result (λ _. GivesText (S.taken output.old) (S.given output.new) (converted_image E.order geometry.block image.now)) }
     ensures fault { IfErr result IsFaultOfMaking }
     ensures failed { IfErr result (λ fault. fault ≡ SessionFault.Sink → HasFailed (S.failures output.old) (S.failures output.new)) }
 {
-    let put = write_converted::<E, S>(alloc, image, geometry, output);
+    let put = write_converted::<E, S>(alloc, image, geometry, held, output);
     let finished = output.finish();
     match (put, finished) {
         (Ok(()), Ok(())) => Ok(()),
@@ -123,9 +126,11 @@ fn make_converted<'a, E: Order, M: Maker>(
     maker: &mut M,
     image: &[u8],
     geometry: Geometry,
+    held: &[u8],
     name: &'a str,
 ) -> Result<(), ProgramFault<'a>>
-    requires { convert_fault E.order geometry.block image.now ≡ None }
+    requires accepted { convert_fault E.order geometry.block image.now ≡ None }
+    requires held { IsHeldOf E.order geometry.block image.now held.now }
     ensures made { OnOk result (HoldsMade (M.held maker.old, M.held maker.new) (converted_image E.order geometry.block image.now)) }
     ensures fault { IfErr result (λ fault. IsNotWritten (M.held maker.old, M.held maker.new) name.entry.now (converted_image E.order geometry.block image.now) fault) }
     ensures host { (read : ℕ) → BlamesDecompress (maker.new ≡ maker.old) (MakesFile name.entry.now (M.names maker.old) (M.names maker.new))
@@ -136,7 +141,7 @@ fn make_converted<'a, E: Order, M: Maker>(
         Err(MakeFault::NotMade) => return Err(ProgramFault::File(name)),
         Err(MakeFault::OutOfMemory) => return Err(ProgramFault::OutOfMemory),
     };
-    let answer = put_converted::<E, M::Made>(alloc, image, geometry, &mut output);
+    let answer = put_converted::<E, M::Made>(alloc, image, geometry, held, &mut output);
     maker.take_back(output);
     match answer {
         Ok(()) => Ok(()),
@@ -159,15 +164,16 @@ pub fn decompress_into<'a, E: Order, M: Maker, T: Sink>(
     ensures host { (read : ℕ) → BlamesDecompress (maker.new ≡ maker.old) (MakesFile name.entry.now (M.names maker.old) (M.names maker.new))
         read read (M.failures maker.old) (M.failures maker.new) result }
 {
-    let counts = match judge::<E>(alloc, image, geometry) {
-        Ok(counts) => counts,
+    let judged = match judge::<E>(alloc, image, geometry, HELD_MOST) {
+        Ok(judged) => judged,
         Err(fault) => return Err(conversion_fault(fault)),
     };
-    match make_converted::<E, M>(alloc, maker, image, geometry, name) {
+    match make_converted::<E, M>(alloc, maker, image, geometry, &judged.held, name) {
         Ok(()) => {}
         Err(fault) => return Err(fault),
     }
-    match put_decompressed(counts.changed, counts.nodes, counts.bytes, sink) {
+    let told = judged.told;
+    match put_decompressed(told.changed, told.nodes, told.bytes, sink) {
         Ok(()) => Ok(found_in::<E>(image, geometry).noted),
         Err(DeviceFault) => Err(ProgramFault::Output),
     }

@@ -10,6 +10,7 @@ ghost use Rattle.std.specs.Vec.Iter.{into_iter_items};
 pub mod decompressing;
 mod folders;
 pub mod host;
+pub mod info;
 pub mod output;
 pub mod program;
 pub mod system;

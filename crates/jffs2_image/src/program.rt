@@ -6,14 +6,16 @@ ghost use Rattle.jreport.specs.Advice.{fault_lines_of};
 ghost use Rattle.flashbase.specs.Device.{CountsErr};
 ghost use Rattle.jffs2_image.specs.Host.{Blames, BlamesCommand, BlamesDecompress, BlamesFor, GivesFile, HasFailed, MakesFile, ReadsFile};
 ghost use Rattle.jffs2_image.specs.FolderRuns.{RunsExtract, RunsListing, RunsTask};
+ghost use Rattle.jffs2_image.specs.InfoRuns.{RunsInfo};
 ghost use Rattle.jffs2_image.specs.Writes.{GivesText};
 ghost use Rattle.jffs2_image.specs.Runs.{IsCommand, IsSaid, Meets, MeetsCommand, MeetsWhole, RunsCommand, Says, note_after, success_of};
 
 use crate::decompressing::{decompress_into, take_file};
 use crate::folders::{Folders, run_extract, run_listing};
 use crate::host::{Loader, Maker};
+use crate::info::run_info;
 use crate::output::Output;
-use crate::writing::{load_file, write_image};
+use crate::writing::{Texts, load_file, write_image};
 use byteorder::{BigEndian, LittleEndian};
 use flashbase::{Sink, put_all};
 use jcommand::{Options, Outcome, Request, RequestFault, Target, Task, task};
@@ -187,14 +189,23 @@ fn build<'a, E: Order, L: Loader, M: Maker, T: Sink>(
     maker: &mut M,
     target: Target<'a>,
     listing: &'a str,
-    text: &'a mut Vec<u8>,
+    texts: &'a mut Texts,
     sink: &mut T,
 ) -> Result<u64, ProgramFault<'a>>
     ensures meets { Meets (L.told loader.old) (M.held maker.old, M.held maker.new) E.order (BuildParsed target.entry.options target.entry.blocks target.entry.page listing.entry.now target.entry.output.now) (T.taken sink.old) (T.taken sink.new) (T.failures sink.old) (T.failures sink.new) result }
     ensures host { Blames (maker.new ≡ maker.old) (MakesFile target.entry.output.now (M.names maker.old) (M.names maker.new)) (L.failures loader.old) (L.failures loader.new) (M.failures maker.old) (M.failures maker.new) result }
 {
-    *text = load_file(loader, listing)?;
-    write_image::<E, _, _, _>(alloc, loader, maker, target, &[], text.as_slice(), sink)?;
+    texts.listing = load_file(loader, listing)?;
+    write_image::<E, _, _, _>(
+        alloc,
+        loader,
+        maker,
+        target,
+        &[],
+        texts.listing.as_slice(),
+        &mut texts.unread,
+        sink,
+    )?;
     Ok(0)
 }
 
@@ -207,7 +218,7 @@ fn append_decompressed<'a, E: Order, L: Loader, M: Maker, T: Sink>(
     target: Target<'a>,
     image: &'a str,
     listing: &'a str,
-    text: &'a mut Vec<u8>,
+    texts: &'a mut Texts,
     sink: &mut T,
 ) -> Result<u64, ProgramFault<'a>>
     ensures meets { Meets (L.told loader.old) (M.held maker.old, M.held maker.new) E.order (AppendParsed target.entry.options target.entry.blocks target.entry.page true image.entry.now listing.entry.now target.entry.output.now) (T.taken sink.old) (T.taken sink.new) (T.failures sink.old) (T.failures sink.new) result }
@@ -217,12 +228,21 @@ fn append_decompressed<'a, E: Order, L: Loader, M: Maker, T: Sink>(
         Ok(taken) => taken,
         Err(fault) => return Err(fault),
     };
-    *text = match load_file(loader, listing) {
+    texts.listing = match load_file(loader, listing) {
         Ok(text) => text,
         Err(fault) => return Err(fault),
     };
     let base = taken.image.as_slice();
-    match write_image::<E, _, _, _>(alloc, loader, maker, target, base, text.as_slice(), sink) {
+    match write_image::<E, _, _, _>(
+        alloc,
+        loader,
+        maker,
+        target,
+        base,
+        texts.listing.as_slice(),
+        &mut texts.unread,
+        sink,
+    ) {
         Ok(_) => Ok(taken.found.noted),
         Err(fault) => Err(fault),
     }
@@ -267,7 +287,7 @@ fn append<'a, E: Order, L: Loader, M: Maker, T: Sink>(
     decompress: bool,
     image: &'a str,
     listing: &'a str,
-    text: &'a mut Vec<u8>,
+    texts: &'a mut Texts,
     sink: &mut T,
 ) -> Result<u64, ProgramFault<'a>>
     ensures meets { Meets (L.told loader.old) (M.held maker.old, M.held maker.new) E.order (AppendParsed target.entry.options target.entry.blocks target.entry.page decompress image.entry.now listing.entry.now target.entry.output.now) (T.taken sink.old) (T.taken sink.new) (T.failures sink.old) (T.failures sink.new) result }
@@ -275,12 +295,21 @@ fn append<'a, E: Order, L: Loader, M: Maker, T: Sink>(
 {
     if decompress {
         return append_decompressed::<E, L, M, T>(
-            alloc, loader, maker, target, image, listing, text, sink,
+            alloc, loader, maker, target, image, listing, texts, sink,
         );
     }
     let base = load_file(loader, image)?;
-    *text = load_file(loader, listing)?;
-    write_image::<E, _, _, _>(alloc, loader, maker, target, &base, text.as_slice(), sink)
+    texts.listing = load_file(loader, listing)?;
+    write_image::<E, _, _, _>(
+        alloc,
+        loader,
+        maker,
+        target,
+        &base,
+        texts.listing.as_slice(),
+        &mut texts.unread,
+        sink,
+    )
 }
 
 /// Runs the request in the byte order `E`, and answers how much was found.
@@ -289,7 +318,7 @@ fn run_in_order<'a, E: Order, L: Loader, M: Maker, T: Sink>(
     loader: &mut L,
     maker: &mut M,
     request: Request<'a>,
-    text: &'a mut Vec<u8>,
+    texts: &'a mut Texts,
     sink: &mut T,
 ) -> Result<u64, ProgramFault<'a>>
     ensures meets { Meets (L.told loader.old) (M.held maker.old, M.held maker.new) E.order (view request.entry) (T.taken sink.old) (T.taken sink.new) (T.failures sink.old) (T.failures sink.new) result }
@@ -315,7 +344,7 @@ fn run_in_order<'a, E: Order, L: Loader, M: Maker, T: Sink>(
             path,
         } => cat::<E, _, _>(alloc, loader, options, decompress, image, path, sink),
         Request::Build { target, listing } => {
-            build::<E, _, _, _>(alloc, loader, maker, target, listing, text, sink)
+            build::<E, _, _, _>(alloc, loader, maker, target, listing, texts, sink)
         }
         Request::Append {
             target,
@@ -323,7 +352,7 @@ fn run_in_order<'a, E: Order, L: Loader, M: Maker, T: Sink>(
             image,
             listing,
         } => append::<E, _, _, _>(
-            alloc, loader, maker, target, decompress, image, listing, text, sink,
+            alloc, loader, maker, target, decompress, image, listing, texts, sink,
         ),
         Request::Decompress {
             options,
@@ -339,7 +368,7 @@ fn run_request<'a, L: Loader, M: Maker, T: Sink>(
     loader: &mut L,
     maker: &mut M,
     request: Request<'a>,
-    text: &'a mut Vec<u8>,
+    texts: &'a mut Texts,
     sink: &mut T,
 ) -> Result<u64, ProgramFault<'a>>
     ensures meets { Meets (L.told loader.old) (M.held maker.old, M.held maker.new) (options_of request.entry).endian (view request.entry) (T.taken sink.old) (T.taken sink.new) (T.failures sink.old) (T.failures sink.new) result }
@@ -348,10 +377,10 @@ fn run_request<'a, L: Loader, M: Maker, T: Sink>(
 {
     match request.options().endian {
         Endian::Little => {
-            run_in_order::<LittleEndian, _, _, _>(alloc, loader, maker, request, text, sink)
+            run_in_order::<LittleEndian, _, _, _>(alloc, loader, maker, request, texts, sink)
         }
         Endian::Big => {
-            run_in_order::<BigEndian, _, _, _>(alloc, loader, maker, request, text, sink)
+            run_in_order::<BigEndian, _, _, _>(alloc, loader, maker, request, texts, sink)
         }
     }
 }
@@ -362,14 +391,14 @@ fn run_whole<'a, L: Loader, M: Maker, T: Output>(
     loader: &mut L,
     maker: &mut M,
     request: Request<'a>,
-    text: &'a mut Vec<u8>,
+    texts: &'a mut Texts,
     output: &mut T,
 ) -> Result<u64, ProgramFault<'a>>
     ensures meets { MeetsWhole (L.told loader.old) (M.held maker.old, M.held maker.new) (view request.entry) (T.taken output.old) (T.given output.new) (T.failures output.old) (T.failures output.new) result }
     ensures host { BlamesFor (L.told loader.old) (options_of request.entry).endian (view request.entry) (maker.new ≡ maker.old) (M.names maker.old) (M.names maker.new) (L.failures loader.old) (L.failures loader.new)
         (M.failures maker.old) (M.failures maker.new) result }
 {
-    let answer = run_request(alloc, loader, maker, request, text, output);
+    let answer = run_request(alloc, loader, maker, request, texts, output);
     let finished = output.finish();
     let findings = answer?;
     match finished {
@@ -412,7 +441,7 @@ fn run_command<'a, L: Loader, M: Maker, T: Output>(
     loader: &mut L,
     maker: &mut M,
     command: Result<Request<'a>, RequestFault>,
-    text: &'a mut Vec<u8>,
+    texts: &'a mut Texts,
     output: &mut T,
 ) -> Result<Success, Stop<'a>>
     ensures meets { MeetsCommand (output.new ≡ output.old) (L.told loader.old) (M.held maker.old, M.held maker.new) command.entry (T.taken output.old) (T.given output.new) (T.failures output.old) (T.failures output.new) result }
@@ -420,7 +449,7 @@ fn run_command<'a, L: Loader, M: Maker, T: Output>(
         (M.failures maker.old) (M.failures maker.new) result }
 {
     match command {
-        Ok(request) => match run_whole(alloc, loader, maker, request, text, output) {
+        Ok(request) => match run_whole(alloc, loader, maker, request, texts, output) {
             Ok(findings) => Ok(as_success(&request, findings)),
             Err(fault) => Err(Stop::Fault(fault)),
         },
@@ -478,8 +507,8 @@ fn run_image<L: Loader, M: Maker, T: Output, E: Sink>(
         × BlamesCommand (L.told loader.old) command.entry (loader.new ≡ loader.old) (maker.new ≡ maker.old) (M.names maker.old) (M.names maker.new) (L.failures loader.old) (L.failures loader.new)
         (M.failures maker.old) (M.failures maker.new) ran.answer }
 {
-    let mut text = Vec::new(alloc);
-    match run_command(alloc, loader, maker, command, &mut text, output) {
+    let mut texts = Texts::new(alloc);
+    match run_command(alloc, loader, maker, command, &mut texts, output) {
         Ok(Success::Found(findings)) => Outcome::of(findings),
         Ok(Success::Shown(findings)) => note(findings, errors),
         Err(Stop::Usage { text }) => report_usage(text.as_str(), errors),
@@ -497,7 +526,8 @@ pub fn run<L: Loader, M: Maker, D: Folders, T: Output, E: Sink>(
     output: &mut T,
     errors: &mut E,
 ) -> Outcome
-    // The words make a request, whose answer goes out, or are answered by a text; or they ask to fill or to read a folder.
+    // The words make a request, whose answer goes out, or are answered by a text; or they ask to fill or to read a folder,
+    // or for what an image tells of itself.
     ensures { RunsTask (map (λ w. w.now) args.now)
         (λ command. (ran : RunsCommand (output.new ≡ output.old) (L.told loader.old) (M.held maker.old, M.held maker.new) command (T.taken output.old) (T.given output.new) (T.failures output.old) (T.failures output.new)
         (Says (errors.new ≡ errors.old) (E.taken errors.old) (E.taken errors.new) (E.failures errors.old) (E.failures errors.new)) result)
@@ -506,12 +536,32 @@ pub fn run<L: Loader, M: Maker, D: Folders, T: Output, E: Sink>(
         ((output.new ≡ output.old) × (maker.new ≡ maker.old) × RunsExtract (map (λ w. w.now) args.now) (L.told loader.old) (L.failures loader.old) (L.failures loader.new) (D.made folders.old) (D.made folders.new)
         (E.taken errors.old) (E.taken errors.new) (E.failures errors.old) (E.failures errors.new) result)
         ((loader.new ≡ loader.old) × (maker.new ≡ maker.old) × (D.made folders.new ≡ D.made folders.old) × RunsListing (map (λ w. w.now) args.now) (output.new ≡ output.old) (D.reads folders.old) (T.taken output.old) (T.given output.new) (T.failures output.old) (T.failures output.new)
-        (E.taken errors.old) (E.taken errors.new) (E.failures errors.old) (E.failures errors.new) result) }
+        (E.taken errors.old) (E.taken errors.new) (E.failures errors.old) (E.failures errors.new) result)
+        ((maker.new ≡ maker.old) × (folders.new ≡ folders.old)
+        × RunsInfo (map (λ w. w.now) args.now)
+        (record {
+          told = L.told loader.old;
+          before = L.failures loader.old;
+          now = L.failures loader.new;
+        }) (output.new ≡ output.old)
+        (record {
+          old = T.taken output.old;
+          new = T.given output.new;
+          before = T.failures output.old;
+          now = T.failures output.new;
+        })
+        (record {
+          old = E.taken errors.old;
+          new = E.taken errors.new;
+          before = E.failures errors.old;
+          now = E.failures errors.new;
+        }) result) }
 {
     match task(alloc, args) {
         Ok(Task::Image(request)) => run_image(alloc, loader, maker, Ok(request), output, errors),
         Ok(Task::Extract(asked)) => run_extract(alloc, loader, folders, asked, errors),
         Ok(Task::Listing(asked)) => run_listing(alloc, folders, asked, output, errors),
+        Ok(Task::Info { image }) => run_info(loader, image, output, errors),
         Err(fault) => run_image(alloc, loader, maker, Err(fault), output, errors),
     }
 }

@@ -21,6 +21,23 @@ use jscan::GREATEST_IMAGE;
 use jsteps::Op;
 use std::alloc::{AllocError, Global};
 
+/// What a fault may name a part of: the text of a listing, and the name of a file that a line of it names.
+#[derive(Drop)]
+pub struct Texts {
+    pub listing: Vec<u8>,
+    pub unread: String,
+}
+
+impl Texts {
+    /// None yet.
+    pub fn new(alloc: Global) -> Texts {
+        Texts {
+            listing: Vec::new(alloc),
+            unread: String::new(alloc),
+        }
+    }
+}
+
 /// The bytes of a file.
 pub fn load_file<'a, L: Loader>(loader: &mut L, name: &'a str) -> Result<Vec<u8>, ProgramFault<'a>>
     ensures unread { IfErr result (λ fault. IsUnreadFile name.entry.now (L.told loader.old name.entry.now) fault) }
@@ -38,12 +55,13 @@ pub fn load_file<'a, L: Loader>(loader: &mut L, name: &'a str) -> Result<Vec<u8>
     }
 }
 
-/// The files that a listing names, each of which is read once.
+/// The files that a listing names, each of which is read once. The name of one that can't be opened is kept in `unread`.
 fn load_parts<'a, L: Loader>(
     alloc: Global,
     loader: &mut L,
-    lines: &[Line<'a>],
-) -> Result<Parts<'a>, ProgramFault<'a>>
+    lines: &[Line<'_>],
+    unread: &'a mut String,
+) -> Result<Parts, ProgramFault<'a>>
     ensures unread { IfErr result (λ fault. IsPartUnread (L.told loader.old) lines.now fault) }
     ensures parts { IfOk result (λ parts. AreRead (L.told loader.old) lines.now parts) }
     ensures read { OnOk result (L.failures loader.new ≡ L.failures loader.old) }
@@ -53,7 +71,15 @@ fn load_parts<'a, L: Loader>(
     for line in lines {
         if let Some(name) = line.action.file() {
             if !parts.has(name) {
-                parts.insert(name, load_file(loader, name)?)?;
+                let key = name.to_string(alloc)?;
+                match loader.load(name, GREATEST_IMAGE) {
+                    Ok(bytes) => parts.insert(key, bytes)?,
+                    Err(FileFault::NotOpened) => {
+                        *unread = key;
+                        return Err(ProgramFault::File(unread.as_str()));
+                    }
+                    Err(FileFault::Load(fault)) => return Err(ProgramFault::Load(fault)),
+                }
             }
         }
     }
@@ -184,7 +210,7 @@ fn write_lines<'a, 'p, 'b: 'p, E: Order, M: Maker, T: Sink>(
     target: Target<'a>,
     base: &[u8],
     lines: Vec<Line<'b>>,
-    parts: &'p Parts<'_>,
+    parts: &'p Parts,
     sink: &mut T,
 ) -> Result<u64, ProgramFault<'a>>
     ensures writes { (text : List ℕ) → lines_of text ≡ Ok lines.entry.items
@@ -210,7 +236,7 @@ fn write_lines<'a, 'p, 'b: 'p, E: Order, M: Maker, T: Sink>(
 
 /// Writes an image: the operations of a listing's text, on a base. What they did is told in a line. The file is made only
 /// after all was judged that can be before a byte is written. Answers how many findings of the base
-/// to note.
+/// to note. The name of a file that a line names, and that can't be opened, is kept in `unread`.
 pub fn write_image<'a, E: Order, L: Loader, M: Maker, T: Sink>(
     alloc: Global,
     loader: &mut L,
@@ -218,6 +244,7 @@ pub fn write_image<'a, E: Order, L: Loader, M: Maker, T: Sink>(
     target: Target<'a>,
     base: &[u8],
     text: &'a [u8],
+    unread: &'a mut String,
     sink: &mut T,
 ) -> Result<u64, ProgramFault<'a>>
     ensures writes { WritesImage (M.held maker.old, M.held maker.new) target.entry.page E.order target.entry.options.geometry.block target.entry.blocks target.entry.output.now base.now text.now
@@ -229,6 +256,6 @@ pub fn write_image<'a, E: Order, L: Loader, M: Maker, T: Sink>(
     ensures noted { IfOk result (IsNotedIn E.order target.entry.options.geometry.block base.now) }
 {
     let lines = listing(alloc, text)?;
-    let parts = load_parts(alloc, loader, &lines)?;
+    let parts = load_parts(alloc, loader, &lines, unread)?;
     write_lines::<E, M, T>(alloc, maker, target, base, lines, &parts, sink)
 }

@@ -5,7 +5,7 @@ use Rattle.std.specs.Str.{bytes_eq}
 use Rattle.jword.specs.Words.{◌>>=◌}
 use Rattle.jsteps.specs.declared.op.Op.{Op}
 use Rattle.jsteps.specs.declared.op.Op.TheVariants as op
-use Rattle.jlisting.specs.Words.{decimal_of, mode_of, text_of, hex_data_of, file_name_of}
+use Rattle.jlisting.specs.Words.{decimal_of, mode_of, text_of, hex_data_of, file_name_of, escaped_name_of}
 use Rattle.jlisting.specs.declared.fault.ListingFault.{ListingFault}
 use Rattle.jlisting.specs.declared.fault.ListingFault.TheVariants as fault
 use Rattle.jlisting.specs.declared.line.Action.{Action}
@@ -38,6 +38,9 @@ mkdir_line s a b = mode_of a >>= λ mode. text_of b >>= λ path. operation (op.M
 
 abbrev pub create_line : Settings → List ℕ → List ℕ → Option Statement
 create_line s a b = mode_of a >>= λ mode. text_of b >>= λ path. operation (op.Create s.time path mode s.uid s.gid)
+
+abbrev pub file_line : Settings → List ℕ → List ℕ → List ℕ → Option Statement
+file_line s a b c = mode_of a >>= λ mode. text_of b >>= λ path. escaped_name_of c >>= λ file. Some (kind.Action (action.File s.time path mode s.uid s.gid file))
 
 abbrev pub fifo_line : Settings → List ℕ → List ℕ → Option Statement
 fifo_line s a b = mode_of a >>= λ mode. text_of b >>= λ path. operation (op.Fifo s.time path mode s.uid s.gid)
@@ -99,7 +102,8 @@ two_operands s name a b =
 
 unfoldable pub three_operands : Settings → List ℕ → List ℕ → List ℕ → List ℕ → Option Statement
 three_operands s name a b c =
-    if bytes_eq name (codes "write") then write_line s a b c
+    if bytes_eq name (codes "file") then file_line s a b c
+    else if bytes_eq name (codes "write") then write_line s a b c
     else if bytes_eq name (codes "part") then part_line s a b c
     else None
 
@@ -161,14 +165,16 @@ abbrev pub IsListingFault : Result (List Line) ℕ → ListingFault → Type 0
 IsListingFault lines (fault.Line n) = lines ≡ Err n
 IsListingFault lines fault.OutOfMemory = Unit {0}
 
--- ---- a part
+-- ---- a file of the host
 
--- the file of the host whose bytes are written
+-- the one whose bytes are written
 abbrev pub file_of : Action → Option (List ℕ)
 file_of (action.Op o) = None
+file_of (action.File time path mode uid gid file) = Some file
 file_of (action.Part time path offset file) = Some file
 
 -- the operation, where that file has these bytes
 abbrev pub op_of : Action → List ℕ → Op
 op_of (action.Op o) bytes = o
+op_of (action.File time path mode uid gid file) bytes = op.File time path mode uid gid bytes
 op_of (action.Part time path offset file) bytes = op.Write time path offset bytes

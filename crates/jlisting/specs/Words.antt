@@ -1,7 +1,7 @@
 -- What the words of a listing stand for. No word is empty: an empty one stands for nothing.
 use Rattle.std.specs.Prelude.{ℕ, ◌+◌, ◌-◌, ◌*◌, ◌==◌, ◌&&◌, Bool, nat_le, nat_lt, List, [], ◌∷◌, length, codes, Option, Some, None, if◌then◌else◌}
 use Rattle.std.specs.Str.{bytes_eq, is_utf8}
-use Rattle.jword.specs.Words.{pairs_of, unescaped}
+use Rattle.jword.specs.Words.{◌>>=◌, pairs_of, unescaped}
 
 -- ---- numbers
 
@@ -38,6 +38,14 @@ text_of word = of_word word (unescaped word)
 abbrev pub hex_data_of : List ℕ → Option (List ℕ)
 hex_data_of word = of_word word (if bytes_eq word (codes "-") then Some [] else pairs_of word)
 
+-- bytes that are text
+abbrev pub as_name : List ℕ → Option (List ℕ)
+as_name bytes = if is_utf8 bytes then Some bytes else None
+
 -- the name of a file of the host: text, which stands as it is
 abbrev pub file_name_of : List ℕ → Option (List ℕ)
-file_name_of word = of_word word (if is_utf8 word then Some word else None)
+file_name_of word = of_word word (as_name word)
+
+-- and one that is read as a path is, so that it may hold any character
+abbrev pub escaped_name_of : List ℕ → Option (List ℕ)
+escaped_name_of word = text_of word >>= as_name

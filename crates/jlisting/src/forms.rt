@@ -1,11 +1,13 @@
 //! The forms of a line, each by the words after its first.
 
 ghost use Rattle.jword.specs.Words.{IsRead};
-ghost use Rattle.jlisting.specs.Listing.{time_line, owner_line, mkdir_line, create_line, fifo_line, socket_line, symlink_line, write_line, part_line, truncate_line, link_line, rename_line, replace_line, remove_line, attr_line};
+ghost use Rattle.jlisting.specs.Listing.{time_line, owner_line, mkdir_line, create_line, file_line, fifo_line, socket_line, symlink_line, write_line, part_line, truncate_line, link_line, rename_line, replace_line, remove_line, attr_line};
 
 use crate::line::Action;
 use crate::statement::{Settings, Statement};
-use crate::words::{data_word, decimal_word, file_word, mode_word, owner_word, text_word};
+use crate::words::{
+    data_word, decimal_word, escaped_file_word, file_word, mode_word, owner_word, text_word,
+};
 use jsteps::{Attributes, Op};
 use jword::WordFault;
 use std::alloc::Global;
@@ -73,6 +75,29 @@ pub fn read_create<'a>(
         uid: settings.uid,
         gid: settings.gid,
     })))
+}
+
+/// `file MODE PATH FILE`
+pub fn read_file<'a>(
+    alloc: Global,
+    settings: Settings,
+    mode: &'a [u8],
+    path: &'a [u8],
+    file: &'a [u8],
+) -> Result<Statement<'a>, WordFault>
+    ensures { IsRead (file_line settings mode.entry.now path.entry.now file.entry.now) result }
+{
+    let mode = mode_word(mode)?;
+    let path = text_word(alloc, path)?;
+    let file = escaped_file_word(alloc, file)?;
+    Ok(Statement::Action(Action::File {
+        time: settings.time,
+        path,
+        mode,
+        uid: settings.uid,
+        gid: settings.gid,
+        file,
+    }))
 }
 
 /// `fifo MODE PATH`

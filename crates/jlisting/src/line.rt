@@ -1,37 +1,59 @@
 //! The lines of a listing that have an action.
 
-ghost use Rattle.std.specs.Prelude.{◌≡◌, option_map};
+ghost use Rattle.std.specs.Prelude.{◌≡◌, option_map, string_bytes};
 
 use jsteps::{Op, Text};
 use std::marker::Model;
 
-/// The name of a file of the host as it is in the listing, seen as its bytes.
+/// Where a name lies.
+#[derive(Drop)]
+enum Name<'a> {
+    Lent(&'a str),
+    Own(String),
+}
+
+/// The name of a file of the host, as it is in the listing or of its own, seen as its bytes.
 #[derive(Drop)]
 pub struct FileName<'a> {
-    name: &'a str,
+    name: Name<'a>,
 }
 
 impl<'a> Model for FileName<'a> {
     ghost use Rattle.std.specs.Prelude.{List, ℕ};
+    ghost use Rattle.jlisting.specs.FileName.{name_bytes};
 
     ghost Value = { List ℕ };
 
-    ghost view = { λ f. f.name.now };
+    ghost view = { λ f. name_bytes f.name };
 }
 
 impl<'a> FileName<'a> {
-    /// A name.
-    pub(crate) fn new(name: &'a str) -> FileName<'a>
+    /// A name that is in the listing.
+    pub(crate) fn lent(name: &'a str) -> FileName<'a>
         ensures { result ≡ name.now }
     {
-        FileName { name }
+        FileName {
+            name: Name::Lent(name),
+        }
     }
 
-    /// The name, which lies in the listing.
-    pub fn as_str(&self) -> &'a str
+    /// A name of its own.
+    pub(crate) fn new(name: String) -> FileName<'a>
+        ensures { result ≡ string_bytes name }
+    {
+        FileName {
+            name: Name::Own(name),
+        }
+    }
+
+    /// The name.
+    pub fn as_str(&self) -> &str
         ensures { result.now ≡ self.now }
     {
-        self.name
+        match &self.name {
+            Name::Lent(name) => name,
+            Name::Own(name) => name.as_str(),
+        }
     }
 }
 
@@ -39,6 +61,15 @@ impl<'a> FileName<'a> {
 #[derive(Drop)]
 pub enum Action<'a> {
     Op(Op<'a>),
+    /// A new file with the bytes of a file of the host, which are not read yet.
+    File {
+        time: u32,
+        path: Text<'a>,
+        mode: u32,
+        uid: u16,
+        gid: u16,
+        file: FileName<'a>,
+    },
     /// A write from `offset` on of the bytes of a file of the host, which are not read yet.
     Part {
         time: u32,
@@ -52,11 +83,12 @@ impl<'a> Action<'a> {
     ghost use Rattle.jlisting.specs.Listing.{file_of, op_of};
 
     /// The file of the host whose bytes are written, if there is one.
-    pub fn file(&self) -> Option<&'a str>
+    pub fn file(&self) -> Option<&str>
         ensures { option_map (λ name. name.now) result ≡ file_of self.now }
     {
         match self {
             Action::Op(_) => None,
+            Action::File { file, .. } => Some(file.as_str()),
             Action::Part { file, .. } => Some(file.as_str()),
         }
     }
@@ -67,6 +99,21 @@ impl<'a> Action<'a> {
     {
         match self {
             Action::Op(op) => op,
+            Action::File {
+                time,
+                path,
+                mode,
+                uid,
+                gid,
+                ..
+            } => Op::File {
+                time,
+                path,
+                mode,
+                uid,
+                gid,
+                bytes: Text::lent(bytes),
+            },
             Action::Part {
                 time,
                 path,

@@ -6,8 +6,9 @@ ghost use Rattle.jword.specs.Words.{IsRead};
 ghost use Rattle.jlisting.specs.Listing.{one_operand, two_operands, three_operands, six_operands, statement_of, statement_of_words};
 
 use crate::forms::{
-    read_attr, read_create, read_fifo, read_link, read_mkdir, read_owner, read_part, read_remove,
-    read_rename, read_replace, read_socket, read_symlink, read_time, read_truncate, read_write,
+    read_attr, read_create, read_fifo, read_file, read_link, read_mkdir, read_owner, read_part,
+    read_remove, read_rename, read_replace, read_socket, read_symlink, read_time, read_truncate,
+    read_write,
 };
 use crate::split::split_once;
 use crate::statement::{Settings, Statement};
@@ -82,7 +83,9 @@ fn read_three<'a>(
 ) -> Result<Statement<'a>, WordFault>
     ensures { IsRead (three_operands settings name.now a.entry.now b.entry.now c.entry.now) result }
 {
-    if is_word(name, b"write") {
+    if is_word(name, b"file") {
+        read_file(alloc, settings, a, b, c)
+    } else if is_word(name, b"write") {
         read_write(alloc, settings, a, b, c)
     } else if is_word(name, b"part") {
         read_part(alloc, settings, a, b, c)

@@ -3,7 +3,7 @@
 ghost use Rattle.std.specs.Prelude.{◌≡◌, ◌<◌, ◌≤◌, ◌^◌, ◌∷◌, Some, None, Err, IfOk, IfErr, IfSome, length, option_map};
 ghost use Rattle.std.specs.Str.{bytes_eq};
 ghost use Rattle.jword.specs.Words.{IsRead};
-ghost use Rattle.jlisting.specs.Words.{digits_from, number_of, decimal_of, mode_of, text_of, hex_data_of, file_name_of};
+ghost use Rattle.jlisting.specs.Words.{digits_from, number_of, decimal_of, mode_of, text_of, hex_data_of, file_name_of, escaped_name_of};
 
 use crate::line::FileName;
 use jsteps::Text;
@@ -113,6 +113,23 @@ pub fn file_word<'a>(word: &'a [u8]) -> Result<FileName<'a>, WordFault>
         return Err(WordFault::Invalid);
     }
     match str::from_utf8(word) {
+        Ok(name) => Ok(FileName::lent(name)),
+        Err(_) => Err(WordFault::Invalid),
+    }
+}
+
+/// The same of a word that is read as a path is: lent where no byte of it is escaped.
+pub fn escaped_file_word<'a>(alloc: Global, word: &'a [u8]) -> Result<FileName<'a>, WordFault>
+    ensures { IsRead (escaped_name_of word.entry.now) result }
+{
+    if word.is_empty() {
+        return Err(WordFault::Invalid);
+    }
+    if word.iter().all(|byte| *byte != b'\\') {
+        return file_word(word);
+    }
+    let name = unescape(alloc, word)?;
+    match String::from_utf8(name) {
         Ok(name) => Ok(FileName::new(name)),
         Err(_) => Err(WordFault::Invalid),
     }

@@ -6,7 +6,7 @@ use jlisting::{Action, Line, listing};
 use std::test::Fail;
 
 /// Whole listings, each with the lines that are read of it.
-const LISTINGS: [(&[u8], &str); 12] = [
+const LISTINGS: [(&[u8], &str); 13] = [
     (
         b"create 0644 /a\nwrite /a 0 0102030405060708090a\ntruncate /a 4\nwrite /a 8 ff\n",
         "1: 0 create 644 0 0 /a\n2: 0 write 0 /a \\x01\\x02\\x03\\x04\\x05\\x06\\x07\\x08\\x09\\x0a\n\
@@ -46,6 +46,10 @@ const LISTINGS: [(&[u8], &str); 12] = [
         b"time 7\nowner 1 65535\nfifo 0622 /\\x61\nsocket 777777 /b\n",
         "3: 7 fifo 622 1 65535 /a\n4: 7 socket 777777 1 65535 /b\n",
     ),
+    (
+        b"time 7\nowner 1 65535\nfile 0622 /\\x61\\x20 host\\x20a\\x5c\\xc3\xa4\nfile 0 /b -\n",
+        "3: 7 file 622 1 65535 /a\\x20 host a\\\u{e4}\n4: 7 file 0 1 65535 /b -\n",
+    ),
 ];
 
 /// Listings of no action.
@@ -61,7 +65,7 @@ const EMPTY: [&[u8]; 8] = [
 ];
 
 /// Words, each in a line of its own, at the limits of what is read.
-const WORDS: [(&[u8], &str); 28] = [
+const WORDS: [(&[u8], &str); 33] = [
     (b"truncate /a 0000000000", "1: 0 truncate 0 /a\n"),
     (b"truncate /a 4294967295", "1: 0 truncate 4294967295 /a\n"),
     (b"truncate /a 0000000042", "1: 0 truncate 42 /a\n"),
@@ -88,6 +92,11 @@ const WORDS: [(&[u8], &str); 28] = [
     (b"part /a 0 \\", "1: 0 part 0 /a \\\n"),
     (b"part /\\x61 0 a\tb", "1: 0 part 0 /a a\tb\n"),
     (b"part /a 0 \xc3\xa4", "1: 0 part 0 /a \u{e4}\n"),
+    (b"file 644 /a \xc3\xa4", "1: 0 file 644 0 0 /a \u{e4}\n"),
+    (b"file 644 /a \\xc3\\xA4", "1: 0 file 644 0 0 /a \u{e4}\n"),
+    (b"file 644 /a a\tb", "1: 0 file 644 0 0 /a a\tb\n"),
+    (b"file 644 /a \\x0a\\x00", "1: 0 file 644 0 0 /a \n\0\n"),
+    (b"file 777777 /\\x61 file", "1: 0 file 777777 0 0 /a file\n"),
     (b"link a b", "1: 0 link a b\n"),
     (b"attr 0 0 0 0 0 /a", "1: 0 attr 0 0 0 0 0 /a\n"),
     (
@@ -111,20 +120,30 @@ fn listings_that_are_read(rt: HostRuntime) {
     }
 }
 
-/// The bytes of a part's file join its line, also where they are younger than the listing.
+/// The bytes of a line's file join it, also where they are younger than the listing.
 #[test]
-fn parts_become_writes(rt: HostRuntime) -> Result<(), Fail> {
+fn lines_with_files_become_operations(rt: HostRuntime) -> Result<(), Fail> {
     let mut out = String::new(rt.alloc());
-    let text = b"time 3\npart /a 4 f\nremove /a\n".to_vec(rt.alloc())?;
+    let text = b"time 3\npart /a 4 f\nremove /a\nowner 5 6\nfile 600 /b \\x67\n".to_vec(
+        rt.alloc(),
+    )?;
     let lines = listing(rt.alloc(), &text)?;
     let bytes = b"xyz".to_vec(rt.alloc())?;
     for line in lines {
-        let wanted = if line.number == 2 { Some("f") } else { None };
+        let wanted = match line.number {
+            2 => Some("f"),
+            5 => Some("g"),
+            _ => None,
+        };
         equal(&rt, line.action.file(), wanted);
         let number = line.number;
         let action = Action::Op(line.action.op(&bytes));
         show_line(&mut out, &Line { number, action })?;
     }
-    equal(&rt, out.as_str(), "2: 3 write 4 /a xyz\n3: 3 remove /a\n");
+    equal(
+        &rt,
+        out.as_str(),
+        "2: 3 write 4 /a xyz\n3: 3 remove /a\n5: 3 file 600 5 6 /b xyz\n",
+    );
     Ok(())
 }

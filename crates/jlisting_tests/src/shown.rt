@@ -78,6 +78,17 @@ fn show_op(out: &mut String, op: &Op<'_>) -> Result<(), AllocError> {
             uid,
             gid,
         } => show_object(out, "create", (*time, *mode, *uid, *gid), path),
+        Op::File {
+            time,
+            path,
+            mode,
+            uid,
+            gid,
+            bytes,
+        } => {
+            show_object(out, "file", (*time, *mode, *uid, *gid), path)?;
+            show_bytes(out, bytes)
+        }
         Op::Fifo {
             time,
             path,
@@ -146,6 +157,18 @@ pub fn show_line(out: &mut String, line: &Line<'_>) -> Result<(), AllocError> {
     write!(out, "{number}: ")?;
     match &line.action {
         Action::Op(op) => show_op(out, op)?,
+        Action::File {
+            time,
+            path,
+            mode,
+            uid,
+            gid,
+            file,
+        } => {
+            let name = file.as_str();
+            show_object(out, "file", (*time, *mode, *uid, *gid), path)?;
+            write!(out, " {name}")?;
+        }
         Action::Part {
             time,
             path,

@@ -31,7 +31,7 @@ const NUMBERS: [(&[u8], usize); 14] = [
 ];
 
 /// Lines that mean nothing, each a listing of its own.
-const NOTHING: [&[u8]; 137] = [
+const NOTHING: [&[u8]; 150] = [
     b"truncate /a 00000000000",
     b"truncate /a 4294967296",
     b"truncate /a 9999999999",
@@ -112,6 +112,19 @@ const NOTHING: [&[u8]; 137] = [
     b"replace /a /\\",
     b"Replace /a /b",
     b"replaces /a /b",
+    b"file",
+    b"file 644 /a",
+    b"file 644 /a ",
+    b"file 644  f",
+    b"file 8 /a f",
+    b"file 0000644 /a f",
+    b"file /a 644 f",
+    b"file 644 /a a b",
+    b"file 644 /a \xff",
+    b"file 644 /a \\xff",
+    b"file 644 /a \\",
+    b"file 644 /a a\\X61",
+    b"files 644 /a f",
     b"fifo",
     b"fifo 644",
     b"fifo /a",

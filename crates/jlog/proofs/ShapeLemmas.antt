@@ -12,7 +12,8 @@ use Rattle.jsteps.specs.Laws.{IsConsistent, OpFits}
 use Rattle.jsteps.specs.declared.op.Op.{Op}
 use Rattle.jsteps.specs.declared.step.Step.{Step}
 use Rattle.jsteps.proofs.ShapePlanLemmas.{shape_is_kept}
-use Rattle.jsteps.proofs.ShapeStateLemmas.{shape_stays, tree_advanced}
+use Rattle.jsteps.proofs.ShapeStateLemmas.{shape_stays}
+use Rattle.jsteps.proofs.ShapeStepLemmas.{tree_advanced}
 use Rattle.jlog.specs.Session.{Applies, Runs}
 use Rattle.jlog.specs.declared.report.Place.{Place}
 use Rattle.jlog.specs.declared.fault.SessionFault.{SessionFault}

@@ -56,9 +56,26 @@ fn truncate(time: u32, path: &'static [u8], size: u32) -> Op<'static> {
     }
 }
 
+fn file(time: u32, path: &'static [u8], bytes: &'static [u8]) -> Op<'static> {
+    Op::File {
+        time,
+        path: Text::lent(path),
+        mode: 0o644,
+        uid: 0,
+        gid: 0,
+        bytes: Text::lent(bytes),
+    }
+}
+
 const fn made(time: u32) -> Change {
+    made_with(time, b"")
+}
+
+/// A file that is made with these bytes.
+const fn made_with(time: u32, bytes: &'static [u8]) -> Change {
     Change::Make {
         mode: 0o100644,
+        bytes,
         time,
     }
 }
@@ -66,6 +83,7 @@ const fn made(time: u32) -> Change {
 const fn made_directory(time: u32) -> Change {
     Change::Make {
         mode: 0o040755,
+        bytes: b"",
         time,
     }
 }
@@ -312,6 +330,43 @@ fn a_file_that_is_replaced(rt: HostRuntime) -> Result<(), Fail> {
     Ok(())
 }
 
+/// A new file with bytes that takes the place of another: no name stands for a part of them. And one without bytes.
+#[test]
+fn a_file_that_is_there_whole_or_not_at_all(rt: HostRuntime) -> Result<(), Fail> {
+    let ops = [
+        create(1, b"/a"),
+        file(2, b"/b", &ONES[..4100]),
+        Op::Replace {
+            time: 3,
+            old: Text::lent(b"/b"),
+            new: Text::lent(b"/a"),
+        },
+        file(4, b"/e", b""),
+    ];
+    let case = Case {
+        base: &[],
+        before: &[],
+        flash: small(1),
+        from: 0,
+        ops: &ops,
+        steps: &[
+            made(1),
+            named(b"a", 2),
+            made_with(2, &ONES[..4096]),
+            put(1, 4096, &ONES[..4], 2),
+            named(b"b", 3),
+            named(b"a", 3),
+            Change::Clear { name: b"b" },
+            made(4),
+            named(b"e", 4),
+        ],
+        whole: &[80, 121, 4288, 4360, 4401, 4445, 4489, 4560, 4601],
+    };
+    expect(&rt, survives::<LittleEndian>(rt.alloc(), &case, 4604)?);
+    expect(&rt, survives::<BigEndian>(rt.alloc(), &case, 4604)?);
+    Ok(())
+}
+
 /// The root's first inode node.
 #[test]
 fn a_root_that_gets_attributes(rt: HostRuntime) -> Result<(), Fail> {
@@ -486,7 +541,8 @@ fn a_file_over_two_blocks(rt: HostRuntime) -> Result<(), Fail> {
 
 const SEVENS: [u8; 16_384] = [7; 16_384];
 
-/// The first piece is two nodes, since its length would spell the magic; the second write lies in two pages.
+/// The first piece is two nodes, since its length would spell the magic; the second write lies in two pages. A new file has
+/// the same pieces.
 #[test]
 fn a_file_by_pages_of_8192(rt: HostRuntime) -> Result<(), Fail> {
     let case = Case {
@@ -498,6 +554,7 @@ fn a_file_by_pages_of_8192(rt: HostRuntime) -> Result<(), Fail> {
             create(1, b"/a"),
             write(2, b"/a", 0, &SEVENS[..6465]),
             write(3, b"/a", 8000, &SEVENS[..500]),
+            file(4, b"/b", &SEVENS[..6465]),
         ],
         steps: &[
             made(1),
@@ -507,11 +564,16 @@ fn a_file_by_pages_of_8192(rt: HostRuntime) -> Result<(), Fail> {
             zero(0, 8000, 3),
             put(0, 8000, &SEVENS[..192], 3),
             put(0, 8192, &SEVENS[..308], 3),
+            made_with(4, &SEVENS[..4096]),
+            put(1, 4096, &SEVENS[..2369], 4),
+            named(b"b", 3),
         ],
-        whole: &[80, 121, 4288, 6725, 6796, 7056, 7432],
+        whole: &[
+            80, 121, 4288, 6725, 6796, 7056, 7432, 11_596, 14_033, 14_077,
+        ],
     };
-    expect(&rt, survives::<LittleEndian>(rt.alloc(), &case, 7432)?);
-    expect(&rt, survives::<BigEndian>(rt.alloc(), &case, 7432)?);
+    expect(&rt, survives::<LittleEndian>(rt.alloc(), &case, 14_080)?);
+    expect(&rt, survives::<BigEndian>(rt.alloc(), &case, 14_080)?);
     Ok(())
 }
 

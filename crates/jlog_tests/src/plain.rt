@@ -10,6 +10,7 @@ use std::test::Fail;
 pub enum Change {
     Make {
         mode: u32,
+        bytes: &'static [u8],
         time: u32,
     },
     Name {
@@ -141,9 +142,9 @@ impl Plain {
     /// Takes a step.
     pub fn take(&mut self, alloc: Global, change: &Change) -> Result<(), Fail> {
         match *change {
-            Change::Make { mode, time } => self.files.push(File {
+            Change::Make { mode, bytes, time } => self.files.push(File {
                 object: new_object(mode, time),
-                bytes: Vec::new(alloc),
+                bytes: bytes.to_vec(alloc)?,
             })?,
             Change::Name { name, ino } => self.set_name(name, Some(ino)),
             Change::Clear { name } => self.set_name(name, None),

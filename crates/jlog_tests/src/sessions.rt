@@ -8,7 +8,7 @@ use jscan::Geometry;
 use jsteps::{Op, Page};
 use std::alloc::Global;
 use std::test::Fail;
-use test_operations::{By, ops_of};
+use test_operations::By;
 
 /// What a run put, and what it reported.
 #[derive(Drop)]
@@ -136,15 +136,4 @@ pub fn run_in_turn<E: Order>(
         output: session.finish().into_writer(),
         report,
     })
-}
-
-/// Runs the operations of lines onto an image.
-pub fn run_lines<E: Order>(
-    alloc: Global,
-    image: &[u8],
-    geometry: Geometry,
-    blocks: u32,
-    lines: &[&str],
-) -> Result<Outcome, Fail> {
-    run_ops::<E>(alloc, image, geometry, blocks, &ops_of(alloc, lines, BY)?)
 }

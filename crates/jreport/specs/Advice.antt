@@ -6,7 +6,8 @@ use Rattle.jreport.specs.Faults.{fault_line_of}
 use Rattle.jreport.specs.declared.faults.ProgramFault.{ProgramFault}
 use Rattle.jreport.specs.declared.faults.ProgramFault.TheVariants as program
 
--- a method of compression that `decompress` reads: RTIME, ZLIB, LZO (Linux, include/uapi/linux/jffs2.h)
+-- a method of compression that `decompress` reads: RTIME, ZLIB, LZO (Linux,
+-- include/uapi/linux/jffs2.h)
 abbrev pub is_read_method : ℕ → Bool
 is_read_method compr = (compr == 2) || (compr == 6) || (compr == 7)
 

@@ -19,8 +19,8 @@ noted m = count_by (λ f. is_noted f.kind) m.findings
 -- what is said of n of them
 unfoldable pub findings_text : ℕ → List ℕ
 findings_text n = if n == 1
-    then codes " finding, see check --scan; a wrong --block or --endian shows as findings too\n"
-    else codes " findings, see check --scan; a wrong --block or --endian shows as findings too\n"
+    then codes " finding, see check --scan; a wrong --block or --endian shows as findings too, see info\n"
+    else codes " findings, see check --scan; a wrong --block or --endian shows as findings too, see info\n"
 
 -- the line on standard error that tells of n of them
 unfoldable pub note_line_of : ℕ → List ℕ

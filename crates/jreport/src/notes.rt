@@ -39,8 +39,10 @@ fn findings_text(findings: u64) -> &'static [u8]
     ensures short { length result.now ≤ 100 }
 {
     match findings {
-        1 => b" finding, see check --scan; a wrong --block or --endian shows as findings too\n",
-        _ => b" findings, see check --scan; a wrong --block or --endian shows as findings too\n",
+        1 =>
+            b" finding, see check --scan; a wrong --block or --endian shows as findings too, see info\n",
+        _ =>
+            b" findings, see check --scan; a wrong --block or --endian shows as findings too, see info\n",
     }
 }
 

@@ -1,7 +1,7 @@
 //! What no clause says of the texts of faults.
 
 use crate::checks::{expect, expect_at};
-use flashbase::{FromWriter, LoadFault, PutFault};
+use flashbase::{FromWriter, LoadFault};
 use jlisting::ListingFault;
 use jlog::SessionFault;
 use jmount::{FindFault, MountFault};
@@ -10,7 +10,6 @@ use jscan::ScanFault;
 use jsteps::OpFault;
 use std::alloc::Global;
 use std::test::Fail;
-use test_support::{Long, Taker};
 
 const FAULTS: [(ProgramFault<'static>, &str); 25] = [
     (ProgramFault::Load(LoadFault::Device), "L1 Device"),
@@ -256,22 +255,4 @@ fn notes_after_faults(rt: HostRuntime) -> Result<(), Fail> {
         expect(&rt, note_after(rt.alloc(), &fault)?.is_empty());
     }
     Ok(())
-}
-
-/// Whether a sink that fails once after so many bytes takes exactly them.
-fn is_cut(alloc: Global, fault: &ProgramFault<'_>, text: &[u8], is_silent: bool) -> bool {
-    let taken = text.len();
-    let mut sink = Taker::failing(alloc, 1, taken, is_silent);
-    fault_text(fault, &mut sink) == Err(PutFault { taken }) && sink.took(1, text)
-}
-
-#[test]
-fn texts_that_do_not_fit(rt: HostRuntime) {
-    for (fault, text) in FAULTS {
-        for limit in 0..text.len() {
-            let text = &text.as_bytes()[..limit];
-            expect(&rt, is_cut(rt.alloc(), &fault, text, false));
-            expect(&rt, is_cut(rt.alloc(), &fault, text, true));
-        }
-    }
 }

@@ -1,4 +1,5 @@
-//! Tests of `jreport`: worked images with what is printed of them, and sources and sinks that fail.
+//! Tests of `jreport`: worked images with what is printed of them, and sources and sinks that fail. More images are in
+//! tests/hostile.py.
 #![tactic(auto)]
 
 #[cfg(test)]
@@ -15,8 +16,6 @@ mod images;
 mod listings;
 #[cfg(test)]
 mod reads;
-#[cfg(test)]
-mod reports;
 #[cfg(test)]
 mod sinks;
 #[cfg(test)]

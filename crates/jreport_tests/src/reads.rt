@@ -6,20 +6,17 @@ use crate::images::{
     TREE, image_of, raw_image,
 };
 use byteorder::LittleEndian;
-use flashbase::{FromReader, FromWriter, LoadFault, Sink, Source};
+use flashbase::{FromReader, FromWriter, Sink, Source};
 use jline::put_escaped;
 use jmount::{FindFault, MountFault, mount};
 use jreport::{
     Found, ProgramFault, check_lines, content, file_bytes, found_in, image_file, image_tree,
-    list_lines, note_line, path_word,
+    list_lines, note_line,
 };
-use jscan::{GREATEST_IMAGE, Geometry, ScanFault};
+use jscan::{GREATEST_IMAGE, Geometry};
 use std::alloc::Global;
 use std::test::Fail;
-use test_support::{
-    ATTRIBUTE, ENTRY_A, FILE, Giver, INODE_2, LITTLE_MARKER, NO_LENGTH, Node, READ_ONLY, SYMLINK,
-    Taker,
-};
+use test_support::{ATTRIBUTE, FILE, NO_LENGTH, Node, SYMLINK};
 
 /// What `cat` writes of a path in a mounted image, or its fault.
 fn read(alloc: Global, image: &[u8], path: &[u8]) -> Result<Vec<u8>, ProgramFault<'static>> {
@@ -70,34 +67,6 @@ fn contents(rt: HostRuntime) -> Result<(), Fail> {
         expect(&rt, is_read(rt.alloc(), &image, path, want));
     }
     Ok(())
-}
-
-/// Words of paths, and the bytes that they stand for.
-const WORDS: [(&[u8], Option<&[u8]>); 9] = [
-    (b"/a", Some(b"/a")),
-    (b"", Some(b"")),
-    (b"/\\x00\\xfF", Some(b"/\x00\xff")),
-    (b"\\x2fa", Some(b"/a")),
-    (b"/\\", None),
-    (b"/\\x1", None),
-    (b"/\\X11", None),
-    (b"/\\xg1", None),
-    (b"/\\\\", None),
-];
-
-/// Whether a word stands for these bytes, or for none.
-fn is_word_of(alloc: Global, word: &[u8], path: Option<&[u8]>) -> bool {
-    match path_word(alloc, word) {
-        Ok(bytes) => Some(bytes.as_slice()) == path,
-        Err(fault) => fault == ProgramFault::Path(FindFault::BadPath) && path.is_none(),
-    }
-}
-
-#[test]
-fn words_of_paths(rt: HostRuntime) {
-    for (word, path) in WORDS {
-        expect(&rt, is_word_of(rt.alloc(), word, path));
-    }
 }
 
 #[test]
@@ -191,9 +160,6 @@ d 1700 0 0 0 0 2 /d\n\
 - 0644 0 0 2 0 3 /d/f\n\
 l 0777 0 0 4 0 4 /s -> \\x2fd\\x2ff\n";
 
-/// A file with its name.
-const SOUND: &[Node<'static>] = &[Node::Inode(2, FILE, b"hi"), Node::Entry(1, 2, b"a")];
-
 /// An image, a call, its answer, and how what it puts ends.
 type Row = (
     &'static [Node<'static>],
@@ -245,113 +211,12 @@ fn worked_calls(rt: HostRuntime) -> Result<(), Fail> {
     Ok(())
 }
 
-const ENDS: [Row; 4] = [
-    (SOUND, Call::Check, Ok(0), b"findings 0\nmount ok\n"),
-    (SOUND, Call::Listing, Ok(0), b"\n- 0644 0 0 2 0 2 /a\n"),
-    (
-        CLASH,
-        Call::Check,
-        Ok(1),
-        b"findings 0\nmount refused M5 Clash at 00000044\n",
-    ),
-    (
-        FILE_AS_ROOT,
-        Call::Check,
-        Ok(1),
-        b"findings 0\nmount refused M6 RootKind\n",
-    ),
-];
-
-#[test]
-fn worked_ends(rt: HostRuntime) -> Result<(), Fail> {
-    for (nodes, call, want, end) in ENDS {
-        let image = image_of(rt.alloc(), nodes)?;
-        let (answer, put) = answer_and_text(rt.alloc(), call, &image, GEOMETRY);
-        equal(&rt, answer, want);
-        expect(&rt, put.ends_with(end));
-    }
-    Ok(())
-}
-
-/// The fault of each of `CALLS` at a block size that is none.
-const REFUSALS: [(Call, ProgramFault<'static>); 3] = [
-    (Call::Check, ProgramFault::Scan(ScanFault::BlockSize)),
-    (
-        Call::Content(b"/d/f"),
-        ProgramFault::Mount(MountFault::BlockSize),
-    ),
-    (Call::Listing, ProgramFault::Mount(MountFault::BlockSize)),
-];
-
-#[test]
-fn block_sizes_that_are_refused(rt: HostRuntime) -> Result<(), Fail> {
-    let image = image_of(rt.alloc(), TREE)?;
-    for block in [0, 4092, 4097, u32::MAX] {
-        for (call, fault) in REFUSALS {
-            let (answer, put) = answer_and_text(rt.alloc(), call, &image, Geometry { block });
-            equal(&rt, answer, Err(fault));
-            expect(&rt, put.is_empty());
-        }
-    }
-    Ok(())
-}
-
-/// Whether a source that fails after so many bytes is reported as such, and nothing is put.
-fn is_unread(alloc: Global, call: Call, image: &[u8], limit: usize) -> bool {
-    let mut source = Giver::limited(image, 40, limit);
-    let mut sink = FromWriter::new(Vec::new(alloc));
-    let answer = ask(alloc, call, &mut source, GEOMETRY, &mut sink);
-    answer == Err(ProgramFault::Load(LoadFault::Device))
-        && source.failures == 1
-        && sink.into_writer().is_empty()
-}
-
-/// Blocks with an empty file of the name `a`, and how many of its findings are told of.
-const FOUND: [(&[&[u8]], u64); 5] = [
-    (
-        &[&LITTLE_MARKER, &ATTRIBUTE, &READ_ONLY, &INODE_2, &ENTRY_A],
-        0,
-    ),
-    (&[&LITTLE_MARKER, &NO_LENGTH, &INODE_2, &ENTRY_A], 1),
-    (&[OTHER_ORDER, &INODE_2, &ENTRY_A], 1),
-    (&[DAMAGED_INODE_2, &INODE_2, &ENTRY_A], 1),
-    (
-        &[
-            DAMAGED_INODE_2,
-            &ATTRIBUTE,
-            OTHER_ORDER,
-            &LITTLE_MARKER,
-            &NO_LENGTH,
-            &INODE_2,
-            &ENTRY_A,
-        ],
-        3,
-    ),
-];
-
 /// What is found in an image, where it is no larger than any that is read.
 fn findings_of(image: &[u8]) -> Option<Found> {
     if image.len() > GREATEST_IMAGE {
         return None;
     }
     Some(found_in::<LittleEndian>(image, GEOMETRY))
-}
-
-#[test]
-fn findings_of_mounted_images(rt: HostRuntime) -> Result<(), Fail> {
-    for (nodes, count) in FOUND {
-        let image = raw_image(rt.alloc(), Raw { nodes, ..ONE_BLOCK })?;
-        for call in [Call::Listing, Call::Content(b"/a")] {
-            let (answer, _) = answer_and_text(rt.alloc(), call, &image, GEOMETRY);
-            equal(&rt, answer, Ok(count));
-        }
-        equal(
-            &rt,
-            findings_of(&image).map(|found| found.noted),
-            Some(count),
-        );
-    }
-    Ok(())
 }
 
 /// Blocks that do not mount, one after the other: how many findings are noted, and how many are
@@ -390,46 +255,12 @@ fn findings_of_compressed_images(rt: HostRuntime) -> Result<(), Fail> {
 #[test]
 fn notes(rt: HostRuntime) {
     let one =
-        b"jffs2_image: note: 1 finding, see check --scan; a wrong --block or --endian shows as findings too\n";
+        b"jffs2_image: note: 1 finding, see check --scan; a wrong --block or --endian shows as findings too, see info\n";
     let many =
-        b"jffs2_image: note: 17 findings, see check --scan; a wrong --block or --endian shows as findings too\n";
+        b"jffs2_image: note: 17 findings, see check --scan; a wrong --block or --endian shows as findings too, see info\n";
     for (findings, wanted) in [(1, one.as_slice()), (17, many.as_slice())] {
         let mut sink = FromWriter::new(Vec::new(rt.alloc()));
         equal(&rt, note_line(findings, &mut sink), Ok(()));
         equal(&rt, sink.into_writer().as_slice(), wanted);
     }
-}
-
-#[test]
-fn a_source_that_fails(rt: HostRuntime) -> Result<(), Fail> {
-    let image = image_of(rt.alloc(), TREE)?;
-    for call in CALLS {
-        for limit in [0, 1, 40, 455] {
-            expect(&rt, is_unread(rt.alloc(), call, &image, limit));
-        }
-    }
-    Ok(())
-}
-
-/// Whether a sink that fails after so many bytes takes exactly them.
-fn is_cut(alloc: Global, call: Call, image: &[u8], text: &[u8], limit: usize) -> bool {
-    let mut source = FromReader::new(image);
-    let mut sink = Taker::limited(alloc, 1, limit);
-    let answer = ask(alloc, call, &mut source, GEOMETRY, &mut sink);
-    answer == Err(ProgramFault::Output) && sink.took(1, text)
-}
-
-#[test]
-fn a_sink_that_fails_at_each_byte(rt: HostRuntime) -> Result<(), Fail> {
-    let image = image_of(rt.alloc(), TREE)?;
-    for call in CALLS {
-        let (_, whole) = answer_and_text(rt.alloc(), call, &image, GEOMETRY);
-        for limit in 0..whole.len() {
-            expect(
-                &rt,
-                is_cut(rt.alloc(), call, &image, &whole[..limit], limit),
-            );
-        }
-    }
-    Ok(())
 }

@@ -1,15 +1,15 @@
 //! Reports of sources that give their bytes in pieces, and of sources that fail.
 
-use crate::checks::{equal, expect};
+use crate::checks::equal;
 use crate::images::{GEOMETRY, TWO_BLOCKS, raw_image};
-use byteorder::{BigEndian, LittleEndian};
+use byteorder::LittleEndian;
 use flashbase::{FromWriter, LoadFault, Source};
 use jnode::Order;
 use jreport::{ProgramFault, stream_lines};
-use jscan::{GREATEST_BLOCK, GREATEST_IMAGE, Geometry, ScanFault};
+use jscan::Geometry;
 use std::alloc::Global;
 use std::test::Fail;
-use test_support::{Giver, Long};
+use test_support::Giver;
 
 /// What is answered of a source, and what goes out.
 type Answer = (Result<u64, ProgramFault<'static>>, Vec<u8>);
@@ -54,43 +54,4 @@ fn a_source_that_fails(rt: HostRuntime) -> Result<(), Fail> {
         }
     }
     Ok(())
-}
-
-#[test]
-fn block_sizes_that_are_refused_unread(rt: HostRuntime) {
-    for block in [0, 4092, 4095, 4097, 4098, 4194305, 4194308, u32::MAX] {
-        let broken = Giver::limited(&[], 1, 0);
-        let mut sink = FromWriter::new(Vec::new(rt.alloc()));
-        let (answer, left) = stream_lines::<BigEndian, _, _>(
-            rt.alloc(),
-            broken,
-            Geometry { block },
-            &mut sink,
-        );
-        equal(&rt, answer, Err(ProgramFault::Scan(ScanFault::BlockSize)));
-        expect(&rt, left.is_none() && sink.into_writer().is_empty());
-    }
-}
-
-/// What is answered of so many bytes in the greatest blocks.
-fn long(alloc: Global, len: usize) -> Answer {
-    let geometry = Geometry {
-        block: GREATEST_BLOCK,
-    };
-    answer_and_text::<LittleEndian, _>(alloc, Long { left: len }, geometry)
-}
-
-#[test]
-fn the_greatest_image(rt: HostRuntime) {
-    let (answer, whole) = long(rt.alloc(), GREATEST_IMAGE);
-    equal(&rt, answer, Ok(0));
-    let (answer, text) = long(rt.alloc(), GREATEST_IMAGE + 1);
-    equal(&rt, answer, Err(ProgramFault::Load(LoadFault::TooLarge)));
-    expect(&rt, text.ends_with(b"block 63\n0fc00000 erased 4194304\n"));
-    let total = b"total blocks 64 entries 0 inodes 0 findings 0\n";
-    equal(
-        &rt,
-        whole.strip_suffix(total.as_slice()),
-        Some(text.as_slice()),
-    );
 }

@@ -5,11 +5,11 @@ use Rattle.std.specs.List.{list_any, AllByRecursion}
 use Rattle.std.specs.Ordering.{eq_by_cmp, nat_cmp}
 use Rattle.std.specs.Cmp.{nat_cmp_total, unsigned_tied}
 use Rattle.std.specs.FinMap.{get, get-insert}
-use Rattle.std.proofs.lemmas.Bool.{cond-true, eq-eqb, lt-ltb, ltb-true, ltb-false}
+use Rattle.std.proofs.lemmas.Bool.{cond-true, cond-false, eq-eqb, lt-ltb, ltb-true, ltb-false}
 use Rattle.jmount.specs.Shown.{top_at}
 use Rattle.jmount.specs.Tree.{ObjectOf, object}
 use Rattle.jmount.specs.StateOf.{version_of, owner}
-use Rattle.jsteps.specs.Nodes.{Indexed, node_of, nodes_of, advanced}
+use Rattle.jsteps.specs.Nodes.{Indexed, node_of, nodes_of, advanced, advanced_all}
 use Rattle.jsteps.specs.Planning.{plain_page, spelling_len, piece_puts, page_puts, puts, zeros_to, write_steps, resize_steps}
 use Rattle.jmount.specs.Tree.{Outline}
 use Rattle.jsteps.specs.Planning.{steps_of}
@@ -29,13 +29,33 @@ use Rattle.jsteps.proofs.PlannedLemmas.{not_past, or_none, plan_same, IsFrom}
 pub IsNext : ℕ → Step → Type 0
 IsNext ino s = (y : Indexed) → (owner (node_of y s) ≡ ino) × (version_of (node_of y s) ≡ top_at y.tops ino + 1)
 
-top_after : (x : Indexed) (s : Step) (ino v : ℕ) → owner (node_of x s) ≡ ino → version_of (node_of x s) ≡ v → top_at (advanced x s).tops ino ≡ v
+pub top_after : (x : Indexed) (s : Step) (ino v : ℕ) → owner (node_of x s) ≡ ino → version_of (node_of x s) ≡ v → top_at (advanced x s).tops ino ≡ v
 top_after x s ino v e f =
     let i = owner (node_of x s) in
     ap (λ (o : Option ℕ). unwrap_or o 0)
     (get-insert nat_cmp_total x.tops i (version_of (node_of x s)) ino
     ∙ cond-true (eq_by_cmp nat_cmp ino i) (Some (version_of (node_of x s))) (get x.tops ino) (unsigned_tied ino i ∙ eq-eqb ino i (sym e)))
     ∙ f
+
+-- the greatest versions after such steps
+pub own_top : (x : Indexed) (ino : ℕ) (steps : List Step) → AllByRecursion (IsNext ino) steps → top_at (advanced_all x steps).tops ino ≡ top_at x.tops ino + length steps
+unfolding IsNext
+own_top x ino [] all = omega arith
+own_top x ino (s ∷ steps) all =
+    let facts = all.0 x in
+    let sum : top_at x.tops ino + 1 + length steps ≡ top_at x.tops ino + length (s ∷ steps) = omega arith in
+    own_top (advanced x s) ino steps all.1 ∙ ap (λ t. t + length steps) (top_after x s ino (top_at x.tops ino + 1) facts.0 facts.1) ∙ sum
+
+pub other_top : (x : Indexed) (ino j : ℕ) (steps : List Step) → (j == ino) ≡ false → AllByRecursion (IsNext ino) steps → top_at (advanced_all x steps).tops j ≡ top_at x.tops j
+unfolding IsNext
+other_top x ino j [] other all = refl
+other_top x ino j (s ∷ steps) other all =
+    let i = owner (node_of x s) in
+    let v = version_of (node_of x s) in
+    other_top (advanced x s) ino j steps other all.1
+    ∙ ap (λ (o : Option ℕ). unwrap_or o 0)
+    (get-insert nat_cmp_total x.tops i v j
+    ∙ cond-false (eq_by_cmp nat_cmp j i) (Some v) (get x.tops j) (unsigned_tied j i ∙ ap (λ i. j == i) (all.0 x).0 ∙ other))
 
 one_more : (b rest : Bool) (v p n : ℕ) → p ≤ 0xFFFFFFFF → b ≡ nat_lt 0xFFFFFFFF v → v ≤ n → (v ≤ 0xFFFFFFFF → rest ≡ nat_lt 0xFFFFFFFF n) → ((b || nat_lt 0xFFFFFFFF p) || rest) ≡ nat_lt 0xFFFFFFFF n
 one_more true rest v p n le e more h = let past : 0xFFFFFFFF < v = ltb-true 0xFFFFFFFF v (sym e) in sym (lt-ltb 0xFFFFFFFF n (omega arith))

@@ -20,6 +20,7 @@ pub mod SiteLemmas
 pub mod ChoiceLemmas
 pub mod PlannedLemmas
 pub mod FileLemmas
+pub mod NewFileLemmas
 pub mod FewLemmas
 pub mod AttributesLemmas
 pub mod ReplaceLemmas

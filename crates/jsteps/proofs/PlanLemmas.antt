@@ -1,15 +1,15 @@
 -- The steps of a plan are ready one after the other, and their nodes can be written.
-use Rattle.std.proofs.Common.{◌≡◌, ℕ, ◌+◌, ◌<◌, ◌≤◌, Bool, true, false, cond, List, [], ◌∷◌, length, Option, Some, Result, Ok, Err, refl, ap, ◌∙◌, subst, arith}
-use Rattle.std.specs.Prelude.{◌&&◌, ◌||◌, is_some, is_ok, unwrap_or, option_map, nat_lt, ◌==◌}
+use Rattle.std.proofs.Common.{◌≡◌, ℕ, ◌+◌, ◌-◌, ◌<◌, ◌≤◌, Bool, true, false, cond, List, [], ◌∷◌, length, take, drop, length-take, length-drop, Option, Some, Result, Ok, Err, refl, ap, sym, ◌∙◌, subst, arith}
+use Rattle.std.specs.Prelude.{◌&&◌, ◌||◌, is_some, is_ok, unwrap_or, option_map, min, nat_lt, ◌==◌}
 use Rattle.std.specs.List.{list_any, AllByRecursion}
 use Rattle.std.specs.Ordering.{eq_by_cmp, nat_cmp}
 use Rattle.std.specs.Cmp.{nat_cmp_total}
 use Rattle.std.specs.FinMap.{get, get-insert}
-use Rattle.std.proofs.lemmas.Bool.{cond_both, or_parts, ltb-false, lt-ltb, true≢false, false≢true}
+use Rattle.std.proofs.lemmas.Bool.{cond-true, cond_both, eqb-true, eqb-false, or_parts, ltb-false, lt-ltb, true≢false, false≢true}
 use Rattle.flashbase.specs.Ranges.{IsHalf, IsWord}
-use Rattle.jmount.specs.Tree.{ObjectOf, object, directory_bits}
-use Rattle.jsteps.specs.Nodes.{Indexed, object_at, advanced}
-use Rattle.jsteps.specs.Planning.{IsPage, size_named, make_steps, move_steps, steps_of}
+use Rattle.jmount.specs.Tree.{ObjectOf, Outline, object, directory_bits}
+use Rattle.jsteps.specs.Nodes.{Indexed, object_at, advanced, advanced_all}
+use Rattle.jsteps.specs.Planning.{IsPage, plain_page, spelling_len, first_len, size_named, write_steps, make_steps, bytes_steps, file_steps, move_steps, steps_of}
 use Rattle.jsteps.specs.Refusals.{paths, has_bad_path, is_bad_path, is_long, is_not_found, meets_nothing, meets_other, is_wrong_kind, is_into_itself, is_too_large, is_bad_mode, is_bad_target, greatest_size, is_exhausted, refusals, unless_refused, planned_by}
 use Rattle.jsteps.specs.Where.{last_name, above, parent, ends_in_directory, number_or_zero, object_named, is_missing, is_unnamed, number_reached, is_unreached, is_one_entry}
 use Rattle.jsteps.specs.Laws as law
@@ -23,8 +23,10 @@ use Rattle.jsteps.specs.declared.step.Step.TheVariants as step
 use Rattle.jsteps.proofs.IndexLemmas.{with_some}
 use Rattle.jsteps.proofs.ConsistentLemmas.{StepFits, root_below}
 use Rattle.jsteps.proofs.WhereLemmas.{HasLength, IsParent, IsTarget, last_name_length, bits_there, parent_is, target_is, not_missing, reached_is}
-use Rattle.jsteps.proofs.TakenLemmas.{IsFine, Shaped, AllFine, AllTaken, AllFine-none, AllFine-one, AllFine-two, all_taken, taken_ready, taken_room, taken_written, taken_keeps_all, object_fits}
-use Rattle.jsteps.proofs.PutsLemmas.{HasSize, resize_fine, write_fine}
+use Rattle.jsteps.proofs.WrittenLemmas.{IsPiece}
+use Rattle.jsteps.proofs.ShapeStepLemmas.{still_some, objects_left, write_on_object, tree_advanced}
+use Rattle.jsteps.proofs.TakenLemmas.{IsFine, Shaped, AllFine, AllTaken, AllFine-none, AllFine-one, AllFine-two, AllFine-more, AllFine-append, all_taken, taken_ready, taken_room, taken_written, taken_keeps_all, object_fits}
+use Rattle.jsteps.proofs.PutsLemmas.{HasSize, itself, resize_fine, write_fine}
 
 -- ---- what is not refused
 
@@ -140,7 +142,7 @@ size_is_word x path same is =
     let word : IsWord h.o.body = (same.fits (number_or_zero x.tree path) h.o h.is).size in
     omega arith
 
--- ---- the steps of each operation
+-- ---- steps of names and attributes
 
 set_fine : (page : ℕ) (x : Indexed) (time directory : ℕ) (name : List ℕ) (ino : ℕ) → IsWord time → 0 < directory → HasLength name → is_some (object x.tree directory) ≡ true → 0 < ino → ino < x.tree.next
     → IsFine page x (step.SetName time directory name ino)
@@ -160,27 +162,108 @@ attributes_fine page x time ino attributes same now given positive there =
     let size : IsWord (object_at x ino).body = (object_fits x ino same there).size in
     record { ready = record { defined = there; number = tt }; fits = (now, given); shaped = positive; size = omega arith }
 
-still_some : {X : Type 0} (b : Bool) (v : X) (o : Option X) → is_some o ≡ true → is_some (cond b (Some v) o) ≡ true
-still_some true v o h = refl
-still_some false v o h = h
-
-make_fine : (page : ℕ) (x : Indexed) (time : ℕ) (path : List ℕ) (mode uid gid : ℕ) (bytes : List ℕ) → IsConsistent x → IsLed x path → IsWord time → IsWord mode → IsHalf uid → IsHalf gid → length bytes ≤ 4095
-    → AllFine page x (make_steps x.tree time path mode uid gid bytes)
-unfolding Shaped StepFits
-make_fine page x time path mode uid gid bytes same is_led now mode_fits uid_fits gid_fits short =
-    let make = step.MakeObject time mode uid gid bytes in
-    let o : ObjectOf ℕ = record { mode = mode; uid = uid; gid = gid; atime = time; mtime = time; ctime = time; body = length bytes } in
-    let root : 1 < x.tree.next = root_below x same in
-    let there : is_some (object x.tree (parent x.tree path)) ≡ true = bits_there directory_bits (object x.tree (parent x.tree path)) is_led.parent_there.there in
-    AllFine-two page x make (step.SetName time (parent x.tree path) (last_name path) x.tree.next)
-    (record { ready = record { defined = tt; number = tt }; fits = (now, mode_fits, uid_fits, gid_fits); shaped = short; size = omega arith })
-    (set_fine page (advanced x make) time (parent x.tree path) (last_name path) x.tree.next now is_led.parent_there.positive is_led.name
-    (ap is_some (get-insert nat_cmp_total x.tree.objects x.tree.next o (parent x.tree path))
-    ∙ still_some (eq_by_cmp nat_cmp (parent x.tree path) x.tree.next) o (get x.tree.objects (parent x.tree path)) there)
-    (omega arith) (omega arith))
-
 parent_some : (x : Indexed) (path : List ℕ) → IsLed x path → is_some (object x.tree (parent x.tree path)) ≡ true
 parent_some x path is_led = bits_there directory_bits (object x.tree (parent x.tree path)) is_led.parent_there.there
+
+-- ---- a new object
+
+-- the object that a step makes
+made : ℕ → ℕ → ℕ → ℕ → List ℕ → ObjectOf ℕ
+made time mode uid gid bytes = record { mode = mode; uid = uid; gid = gid; atime = time; mtime = time; ctime = time; body = length bytes }
+
+make_fine : (page : ℕ) (x : Indexed) (time mode uid gid : ℕ) (bytes : List ℕ) → IsPage page → IsWord time → IsWord mode → IsHalf uid → IsHalf gid → IsPiece page (length bytes)
+    → IsFine page x (step.MakeObject time mode uid gid bytes)
+unfolding Shaped StepFits
+make_fine page x time mode uid gid bytes is_page now mode_fits uid_fits gid_fits piece =
+    let within : length bytes ≤ page = piece.within in
+    let most : page ≤ 16384 = is_page.most in
+    record { ready = record { defined = tt; number = tt }; fits = (now, mode_fits, uid_fits, gid_fits); shaped = piece; size = omega arith }
+
+-- its directory is there after it is made
+parent_stays : (x : Indexed) (time mode uid gid : ℕ) (bytes path : List ℕ) → IsLed x path → is_some (object (advanced x (step.MakeObject time mode uid gid bytes)).tree (parent x.tree path)) ≡ true
+unfolding made
+parent_stays x time mode uid gid bytes path is_led =
+    ap is_some (get-insert nat_cmp_total x.tree.objects x.tree.next (made time mode uid gid bytes) (parent x.tree path))
+    ∙ still_some (eq_by_cmp nat_cmp (parent x.tree path) x.tree.next) (made time mode uid gid bytes) (get x.tree.objects (parent x.tree path)) (parent_some x path is_led)
+
+-- it is named where its directory is there, and its number is below the next
+name_fine : (page : ℕ) (x y : Indexed) (time : ℕ) (path : List ℕ) → IsConsistent x → IsLed x path → IsWord time → is_some (object y.tree (parent x.tree path)) ≡ true → y.tree.next ≡ x.tree.next + 1
+    → IsFine page y (step.SetName time (parent x.tree path) (last_name path) x.tree.next)
+name_fine page x y time path same is_led now there next =
+    let root : 1 < x.tree.next = root_below x same in
+    set_fine page y time (parent x.tree path) (last_name path) x.tree.next now is_led.parent_there.positive is_led.name there (omega arith) (omega arith)
+
+new_fine : (page : ℕ) (x : Indexed) (time : ℕ) (path : List ℕ) (mode uid gid : ℕ) (bytes : List ℕ) → IsPage page → IsConsistent x → IsLed x path → IsWord time → IsWord mode → IsHalf uid → IsHalf gid → length bytes ≤ 4095
+    → AllFine page x (make_steps x.tree time path mode uid gid bytes)
+new_fine page x time path mode uid gid bytes is_page same is_led now mode_fits uid_fits gid_fits short =
+    let make = step.MakeObject time mode uid gid bytes in
+    let least : 4096 ≤ page = is_page.least in
+    AllFine-two page x make (step.SetName time (parent x.tree path) (last_name path) x.tree.next)
+    (make_fine page x time mode uid gid bytes is_page now mode_fits uid_fits gid_fits (record { within = omega arith; plain = λ e. omega arith }))
+    (name_fine page x (advanced x make) time path same is_led now (parent_stays x time mode uid gid bytes path is_led) refl)
+
+-- ---- a new file
+
+pub record IsFirst (page len first : ℕ) : Type 0 where
+  pub within : first ≤ len
+  pub piece : IsPiece page first
+
+pub first_is : (page len : ℕ) → IsPage page → IsFirst page len (first_len page len)
+first_is page len is_page =
+    let least : 4096 ≤ page = is_page.least in
+    cond_both (min page len == spelling_len) plain_page (min page len) (IsFirst page len)
+    (λ yes.
+    let is : min page len ≡ 6465 = eqb-true (min page len) spelling_len yes in
+    record { within = omega arith; piece = record { within = omega arith; plain = λ e. omega arith } })
+    (λ no. record { within = omega arith; piece = record { within = omega arith; plain = eqb-false (min page len) spelling_len no } })
+
+pub first_taken_len : (page : ℕ) (bytes : List ℕ) → IsPage page → length (take (first_len page (length bytes)) bytes) ≡ first_len page (length bytes)
+first_taken_len page bytes is_page =
+    let within : first_len page (length bytes) ≤ length bytes = (first_is page (length bytes) is_page).within in
+    length-take (first_len page (length bytes)) bytes ∙ omega arith
+
+-- the size of the object that a step makes
+made_size : (x : Indexed) (time mode uid gid : ℕ) (bytes : List ℕ) (size : ℕ) → length bytes ≡ size → HasSize (advanced x (step.MakeObject time mode uid gid bytes)) x.tree.next size size
+unfolding made
+made_size x time mode uid gid bytes size e = record {
+  o = made time mode uid gid bytes;
+  is = get-insert nat_cmp_total x.tree.objects x.tree.next (made time mode uid gid bytes) x.tree.next
+      ∙ cond-true (eq_by_cmp nat_cmp x.tree.next x.tree.next) (Some (made time mode uid gid bytes)) (get x.tree.objects x.tree.next) (itself x.tree.next);
+  least = omega arith;
+  most = omega arith;
+}
+
+bytes_fine : (page : ℕ) (x : Indexed) (time mode uid gid : ℕ) (bytes : List ℕ) → IsPage page → IsConsistent x → IsWord time → IsWord mode → IsHalf uid → IsHalf gid → length bytes ≤ 2147483647
+    → AllFine page x (bytes_steps page x.tree.next time mode uid gid bytes)
+bytes_fine page x time mode uid gid bytes is_page same now mode_fits uid_fits gid_fits ends =
+    let first = first_len page (length bytes) in
+    let is = first_is page (length bytes) is_page in
+    let within : first ≤ length bytes = is.within in
+    let len : length (take first bytes) ≡ first = first_taken_len page bytes is_page in
+    let rest : length (drop first bytes) ≡ length bytes - first = length-drop first bytes in
+    let make = step.MakeObject time mode uid gid (take first bytes) in
+    let root : 1 < x.tree.next = root_below x same in
+    AllFine-more page x make (write_steps page time x.tree.next first first (drop first bytes))
+    (make_fine page x time mode uid gid (take first bytes) is_page now mode_fits uid_fits gid_fits (subst (IsPiece page) (sym len) is.piece))
+    (write_fine page (advanced x make) time x.tree.next first first (drop first bytes) is_page now (omega arith) (made_size x time mode uid gid (take first bytes) first len) (omega arith) (λ some. omega arith))
+
+file_fine : (page : ℕ) (x : Indexed) (time : ℕ) (path : List ℕ) (mode uid gid : ℕ) (bytes : List ℕ) → IsPage page → IsConsistent x → IsLed x path → IsWord time → IsWord mode → IsHalf uid → IsHalf gid
+    → length bytes ≤ 2147483647 → AllFine page x (file_steps page x.tree time path mode uid gid bytes)
+file_fine page x time path mode uid gid bytes is_page same is_led now mode_fits uid_fits gid_fits ends =
+    let first = first_len page (length bytes) in
+    let make = step.MakeObject time mode uid gid (take first bytes) in
+    let puts = write_steps page time x.tree.next first first (drop first bytes) in
+    let set = step.SetName time (parent x.tree path) (last_name path) x.tree.next in
+    let left = objects_left (advanced x make).tree puts (write_on_object page time x.tree.next first first (drop first bytes)) in
+    let tree = tree_advanced (advanced x make) puts in
+    AllFine-append page x (make ∷ puts) (set ∷ [])
+    (bytes_fine page x time mode uid gid bytes is_page same now mode_fits uid_fits gid_fits ends)
+    (AllFine-one page (advanced_all (advanced x make) puts) set
+    (name_fine page x (advanced_all (advanced x make) puts) time path same is_led now
+    (ap (λ (t : Outline). is_some (object t (parent x.tree path))) tree ∙ left.there (parent x.tree path) (parent_stays x time mode uid gid (take first bytes) path is_led))
+    (ap (λ (t : Outline). t.next) tree ∙ left.next)))
+
+-- ---- the steps of each operation
 
 move_fine : (page : ℕ) (x : Indexed) (time : ℕ) (old new : List ℕ) → IsWord time → IsLed x old → IsLed x new → IsTarget x old → AllFine page x (move_steps x.tree time old new)
 move_fine page x time old new now led_old led_new target =
@@ -193,24 +276,29 @@ all_fine : (page : ℕ) (x : Indexed) (o : Op) (steps : List Step) → IsPage pa
 all_fine page x (op.Mkdir time path mode uid gid) steps is_page same fits is =
     let is_led = (led_alone x path false false same is.bad is.long is.found is.directory).0 in
     let bits : mode ≤ 0o7777 = ltb-false 0o7777 mode is.mode in
-    make_fine page x time path (0o040000 + mode) uid gid [] same is_led fits.0 (omega arith) fits.1 fits.2 (omega arith)
+    new_fine page x time path (0o040000 + mode) uid gid [] is_page same is_led fits.0 (omega arith) fits.1 fits.2 (omega arith)
 all_fine page x (op.Create time path mode uid gid) steps is_page same fits is =
     let is_led = (led_alone x path false false same is.bad is.long is.found is.directory).0 in
     let bits : mode ≤ 0o7777 = ltb-false 0o7777 mode is.mode in
-    make_fine page x time path (0o100000 + mode) uid gid [] same is_led fits.0 (omega arith) fits.1 fits.2 (omega arith)
+    new_fine page x time path (0o100000 + mode) uid gid [] is_page same is_led fits.0 (omega arith) fits.1 fits.2 (omega arith)
+all_fine page x (op.File time path mode uid gid bytes) steps is_page same fits is =
+    let is_led = (led_alone x path false false same is.bad is.long is.found is.directory).0 in
+    let bits : mode ≤ 0o7777 = ltb-false 0o7777 mode is.mode in
+    let ends : length bytes ≤ 2147483647 = ltb-false greatest_size (length bytes) is.large in
+    file_fine page x time path (0o100000 + mode) uid gid bytes is_page same is_led fits.0 (omega arith) fits.1 fits.2 ends
 all_fine page x (op.Fifo time path mode uid gid) steps is_page same fits is =
     let is_led = (led_alone x path false false same is.bad is.long is.found is.directory).0 in
     let bits : mode ≤ 0o7777 = ltb-false 0o7777 mode is.mode in
-    make_fine page x time path (0o010000 + mode) uid gid [] same is_led fits.0 (omega arith) fits.1 fits.2 (omega arith)
+    new_fine page x time path (0o010000 + mode) uid gid [] is_page same is_led fits.0 (omega arith) fits.1 fits.2 (omega arith)
 all_fine page x (op.Socket time path mode uid gid) steps is_page same fits is =
     let is_led = (led_alone x path false false same is.bad is.long is.found is.directory).0 in
     let bits : mode ≤ 0o7777 = ltb-false 0o7777 mode is.mode in
-    make_fine page x time path (0o140000 + mode) uid gid [] same is_led fits.0 (omega arith) fits.1 fits.2 (omega arith)
+    new_fine page x time path (0o140000 + mode) uid gid [] is_page same is_led fits.0 (omega arith) fits.1 fits.2 (omega arith)
 all_fine page x (op.Symlink time path link uid gid) steps is_page same fits is =
     let is_led = (led_alone x path false false same is.bad is.long is.found is.directory).0 in
     let parts = three_false (length link == 0) (nat_lt 4095 (length link)) (list_any (λ b. b == 0) link) is.link in
     let short : length link ≤ 4095 = ltb-false 4095 (length link) parts.1 in
-    make_fine page x time path 0o120777 uid gid link same is_led fits.0 (omega arith) fits.1 fits.2 short
+    new_fine page x time path 0o120777 uid gid link is_page same is_led fits.0 (omega arith) fits.1 fits.2 short
 all_fine page x (op.Write time path offset bytes) steps is_page same fits is =
     let leads = led_alone x path (is_missing x.tree path || false) false same is.bad is.long is.found is.directory in
     let is_target = targeted x path same leads.0 (one_false (is_missing x.tree path) leads.1) in

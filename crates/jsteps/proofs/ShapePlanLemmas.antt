@@ -1,14 +1,15 @@
 -- A plan keeps the shape of the tree.
-use Rattle.std.proofs.Common.{◌≡◌, ℕ, ◌+◌, ◌<◌, Bool, true, false, List, [], ◌∷◌, ◌++◌, length, Option, Some, None, Result, Ok, Err, refl, ap, sym, ◌∙◌, subst, arith}
+use Rattle.std.proofs.Common.{◌≡◌, ℕ, ◌+◌, ◌<◌, Bool, true, false, List, [], ◌∷◌, ◌++◌, length, take, drop, Option, Some, None, Result, Ok, Err, refl, ap, sym, ◌∙◌, subst, arith}
 use Rattle.std.specs.Prelude.{is_some, unwrap_or, option_and_then, ◌&&◌, ◌==◌}
-use Rattle.std.specs.List.{list_any}
-use Rattle.std.specs.FinMap.{insert}
+use Rattle.std.specs.List.{list_any, AllByRecursion}
+use Rattle.std.specs.FinMap.{FinMap, get, insert}
+use Rattle.jname.specs.Live.{key_cmp}
 use Rattle.std.proofs.lemmas.Bool.{cond_both, eqb-false, or_parts, false≢true}
 use Rattle.jmount.specs.Tree.{ObjectOf, Outline, object, named, is_directory, has_bits, directory_bits}
 use Rattle.jmount.specs.declared.fault.FindFault.{FindFault}
 use Rattle.jsteps.specs.Steps.{bytes, sizes, do_step, after, renamed}
 use Rattle.jsteps.specs.Nodes.{Indexed}
-use Rattle.jsteps.specs.Planning.{size_named, make_steps, move_steps, steps_of}
+use Rattle.jsteps.specs.Planning.{size_named, first_len, write_steps, make_steps, move_steps, steps_of}
 use Rattle.jsteps.specs.Where.{names_above, last_name, above, number_or_none, parent, ends_in_directory, named_there, number_there, number_or_zero, number_reached, object_named, is_one_entry, met}
 use Rattle.jsteps.specs.Laws.{IsConsistent}
 use Rattle.jmount.specs.Shape.{HasShape}
@@ -22,7 +23,7 @@ use Rattle.jsteps.proofs.WhereLemmas.{bits_there}
 use Rattle.jsteps.proofs.PlanLemmas.{IsAccepted, accepted, led_alone, led_both}
 use Rattle.jmount.proofs.ShapeLemmas.{Leads, IsShaped, leads_none, leads_more, leads_on, leads_to_itself, walk_leads, shaped, has_shape, follows_keeps}
 use Rattle.jsteps.proofs.ShapeMetLemmas.{back_to}
-use Rattle.jsteps.proofs.ShapeStepLemmas.{insert_follows, object_keeps, write_on_object, resize_on_object, attributes_on_object, clear_follows, set_keeps, move_keeps}
+use Rattle.jsteps.proofs.ShapeStepLemmas.{OnObject, insert_follows, object_keeps, objects_left, after-append, write_on_object, resize_on_object, attributes_on_object, clear_follows, set_keeps, move_keeps}
 
 -- ---- where a path leads
 
@@ -49,9 +50,11 @@ entry_is t path is there =
 
 -- ---- a new object and its name
 
-make_keeps : (x : Indexed) (time : ℕ) (path : List ℕ) (mode uid gid : ℕ) (target : List ℕ) → IsConsistent x → is_directory x.tree (parent x.tree path) ≡ true → IsShaped x.tree
-    → IsShaped (after sizes x.tree (make_steps x.tree time path mode uid gid target))
-make_keeps x time path mode uid gid target same there shape =
+-- with steps between that change objects alone
+make_keeps_by : (x : Indexed) (time : ℕ) (path : List ℕ) (mode uid gid : ℕ) (target : List ℕ) (puts : List Step) → AllByRecursion OnObject puts → IsConsistent x
+    → is_directory x.tree (parent x.tree path) ≡ true → IsShaped x.tree
+    → IsShaped (after sizes x.tree (step.MakeObject time mode uid gid target ∷ (puts ++ step.SetName time (parent x.tree path) (last_name path) x.tree.next ∷ [])))
+make_keeps_by x time path mode uid gid target puts all same there shape =
     let t = x.tree in
     let v : ObjectOf ℕ = record { mode = mode; uid = uid; gid = gid; atime = time; mtime = time; ctime = time; body = length target } in
     let u : Outline = do_step sizes t (step.MakeObject time mode uid gid target) in
@@ -60,12 +63,20 @@ make_keeps x time path mode uid gid target same there shape =
     follows_keeps t u
     (insert_follows t t.next v (t.next + 1) (λ d n i e is. let h : i < t.next = (same.linked d n i e).1 in absurd (omega arith)))
     shape in
-    set_keeps u (parent t path) (last_name path) t.next
-    (λ directory d n e. let h : t.next < t.next = (same.linked d n t.next e).1 in omega arith)
+    let w : Outline = after sizes u puts in
+    let left = objects_left u puts all in
+    let old : (d : ℕ) (n : List ℕ) (i : ℕ) → named w d n ≡ Some i → named t d n ≡ Some i = λ d n i e. sym (ap (λ (names : FinMap key_cmp ℕ). get names (d, n)) left.names) ∙ e in
+    subst IsShaped (sym (after-append u puts (step.SetName time (parent t path) (last_name path) t.next ∷ [])))
+    (set_keeps w (parent t path) (last_name path) t.next
+    (λ directory d n e. let h : t.next < t.next = (same.linked d n t.next (old d n t.next e)).1 in omega arith)
     (λ directory ns h.
-    let is : t.next ≡ parent t path = leads_to_itself u t.next (parent t path) ns (λ n i e. let h : t.next < t.next = same.directories t.next n i e in omega arith) h in
+    let is : t.next ≡ parent t path = leads_to_itself w t.next (parent t path) ns (λ n i e. let h : t.next < t.next = same.directories t.next n i (old t.next n i e) in omega arith) h in
     omega arith)
-    kept
+    (object_keeps u puts all kept))
+
+make_keeps : (x : Indexed) (time : ℕ) (path : List ℕ) (mode uid gid : ℕ) (target : List ℕ) → IsConsistent x → is_directory x.tree (parent x.tree path) ≡ true → IsShaped x.tree
+    → IsShaped (after sizes x.tree (make_steps x.tree time path mode uid gid target))
+make_keeps x time path mode uid gid target same there shape = make_keeps_by x time path mode uid gid target [] tt same there shape
 
 -- ---- a name is moved
 
@@ -96,6 +107,11 @@ plan_keeps page x (op.Mkdir time path mode uid gid) steps same is shape =
 plan_keeps page x (op.Create time path mode uid gid) steps same is shape =
     let is_led = (led_alone x path false false same is.bad is.long is.found is.directory).0 in
     make_keeps x time path (0o100000 + mode) uid gid [] same is_led.parent_there.there shape
+plan_keeps page x (op.File time path mode uid gid bytes) steps same is shape =
+    let is_led = (led_alone x path false false same is.bad is.long is.found is.directory).0 in
+    let first = first_len page (length bytes) in
+    make_keeps_by x time path (0o100000 + mode) uid gid (take first bytes) (write_steps page time x.tree.next first first (drop first bytes))
+    (write_on_object page time x.tree.next first first (drop first bytes)) same is_led.parent_there.there shape
 plan_keeps page x (op.Fifo time path mode uid gid) steps same is shape =
     let is_led = (led_alone x path false false same is.bad is.long is.found is.directory).0 in
     make_keeps x time path (0o010000 + mode) uid gid [] same is_led.parent_there.there shape

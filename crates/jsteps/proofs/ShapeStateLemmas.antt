@@ -1,10 +1,10 @@
 -- The plans of operations that follow one another keep the shape, of an outline and of a file system.
 use Rattle.std.proofs.Common.{◌≡◌, ℕ, suc, zero, List, [], ◌∷◌, ◌++◌, take, Result, Ok, Err, refl, ap, sym, ◌∙◌, subst}
 use Rattle.std.specs.Prelude.{flat_map}
-use Rattle.jmount.specs.Tree.{Outline, outline}
+use Rattle.jmount.specs.Tree.{outline}
 use Rattle.jmount.specs.StateOf.{state_of}
 use Rattle.jmount.proofs.ShapePathLemmas.{shape_is_of_outline}
-use Rattle.jsteps.specs.Steps.{sizes, do_step, after}
+use Rattle.jsteps.specs.Steps.{sizes, after}
 use Rattle.jsteps.specs.Nodes.{Indexed, index_of, nodes_of, advanced, advanced_all}
 use Rattle.jsteps.specs.Planning.{IsPage}
 use Rattle.jsteps.specs.Refusals.{planned_by, plans_of, steps_of_first}
@@ -19,17 +19,10 @@ use Rattle.jsteps.proofs.SeveralLemmas.{nodes_are_steps}
 use Rattle.jsteps.proofs.TakenLemmas.{taken_ready}
 use Rattle.jsteps.proofs.PlanLemmas.{planned_is_ready}
 use Rattle.jsteps.proofs.GoesOnLemmas.{first_taken}
+use Rattle.jsteps.proofs.ShapeStepLemmas.{after-append, tree_advanced}
 use Rattle.jsteps.proofs.ShapePlanLemmas.{shape_is_kept}
 
 -- ---- several plans
-
-after-append : (t : Outline) (xs ys : List Step) → after sizes t (xs ++ ys) ≡ after sizes (after sizes t xs) ys
-after-append t [] ys = refl
-after-append t (s ∷ xs) ys = after-append (do_step sizes t s) xs ys
-
-pub tree_advanced : (x : Indexed) (steps : List Step) → (advanced_all x steps).tree ≡ after sizes x.tree steps
-tree_advanced x [] = refl
-tree_advanced x (s ∷ steps) = tree_advanced (advanced x s) steps
 
 -- what follows from one result of a plan
 abbrev plans_behind : ℕ → Indexed → List Op → Result (List Step) OpFault → List (List Step)

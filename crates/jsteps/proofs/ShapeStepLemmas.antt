@@ -11,6 +11,7 @@ use Rattle.jname.specs.Live.{Key, key_cmp}
 use Rattle.jname.proofs.NamingLemmas.{key_cmp_total, key_cmp-IsAntisymmetric}
 use Rattle.jmount.specs.Tree.{ObjectOf, Outline, object, named, is_directory, has_bits, directory_bits}
 use Rattle.jsteps.specs.Steps.{sizes, do_step, after, renamed, rewritten, with_body, with_attributes, reattributed}
+use Rattle.jsteps.specs.Nodes.{Indexed, advanced, advanced_all}
 use Rattle.jsteps.specs.Planning.{piece_puts, page_puts, puts, spelling_len, zeros_to, write_steps, resize_steps}
 use Rattle.jsteps.specs.declared.op.Attributes.{Attributes}
 use Rattle.jsteps.specs.declared.step.Step.{Step}
@@ -103,6 +104,61 @@ resize_on_object time ino old new = cond_both (nat_lt new old) _ _ (AllByRecursi
 pub attributes_on_object : (time ino : ℕ) (attributes : Attributes) → AllByRecursion OnObject (step.SetAttributes time ino attributes ∷ [])
 unfolding OnObject
 attributes_on_object time ino attributes = (tt, tt)
+
+-- what such steps leave of a tree: its names, its next number, and which numbers have objects
+pub record IsLeft (t u : Outline) : Type 0 where
+  pub names : u.names ≡ t.names
+  pub next : u.next ≡ t.next
+  pub there : (d : ℕ) → is_some (object t d) ≡ true → is_some (object u d) ≡ true
+
+pub still_some : {X : Type 0} (b : Bool) (v : X) (o : Option X) → is_some o ≡ true → is_some (cond b (Some v) o) ≡ true
+still_some true v o h = refl
+still_some false v o h = h
+
+insert_left : (t : Outline) (ino : ℕ) (v : ObjectOf ℕ) → IsLeft t (record { objects = insert t.objects ino v; names = t.names; next = t.next })
+insert_left t ino v = record {
+  names = refl;
+  next = refl;
+  there = λ d h. ap is_some (get-insert nat_cmp_total t.objects ino v d) ∙ still_some (eq_by_cmp nat_cmp d ino) v (object t d) h;
+}
+
+none_left : (t : Outline) → IsLeft t t
+none_left t = record { names = refl; next = refl; there = λ d h. h }
+
+rewritten_left : (t : Outline) (ino time : ℕ) (change : ℕ → ℕ) (o : Option (ObjectOf ℕ)) → IsLeft t (rewritten t ino time change o)
+rewritten_left t ino time change None = none_left t
+rewritten_left t ino time change (Some o) = insert_left t ino (with_body o time (change o.body))
+
+reattributed_left : (t : Outline) (ino time : ℕ) (attributes : Attributes) (o : Option (ObjectOf ℕ)) → IsLeft t (reattributed t ino time attributes o)
+reattributed_left t ino time attributes None = none_left t
+reattributed_left t ino time attributes (Some o) = insert_left t ino (with_attributes o time attributes)
+
+object_left : (t : Outline) (s : Step) → OnObject s → IsLeft t (do_step sizes t s)
+unfolding OnObject
+object_left t (step.MakeObject time mode uid gid target) is = absurd is
+object_left t (step.SetName time directory name ino) is = absurd is
+object_left t (step.ClearName time directory name) is = absurd is
+object_left t (step.Put time ino offset new) is = rewritten_left t ino time (λ old. max old (offset + length new)) (object t ino)
+object_left t (step.Zero time ino count) is = rewritten_left t ino time (λ old. old + count) (object t ino)
+object_left t (step.Cut time ino size) is = rewritten_left t ino time (λ old. min size old) (object t ino)
+object_left t (step.SetAttributes time ino attributes) is = reattributed_left t ino time attributes (object t ino)
+
+pub objects_left : (t : Outline) (steps : List Step) → AllByRecursion OnObject steps → IsLeft t (after sizes t steps)
+objects_left t [] all = none_left t
+objects_left t (s ∷ steps) all =
+    let one = object_left t s all.0 in
+    let rest = objects_left (do_step sizes t s) steps all.1 in
+    record { names = rest.names ∙ one.names; next = rest.next ∙ one.next; there = λ d h. rest.there d (one.there d h) }
+
+-- ---- several steps
+
+pub after-append : (t : Outline) (xs ys : List Step) → after sizes t (xs ++ ys) ≡ after sizes (after sizes t xs) ys
+after-append t [] ys = refl
+after-append t (s ∷ xs) ys = after-append (do_step sizes t s) xs ys
+
+pub tree_advanced : (x : Indexed) (steps : List Step) → (advanced_all x steps).tree ≡ after sizes x.tree steps
+tree_advanced x [] = refl
+tree_advanced x (s ∷ steps) = tree_advanced (advanced x s) steps
 
 -- ---- names
 

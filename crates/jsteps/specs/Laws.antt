@@ -108,6 +108,7 @@ GivenFit attributes = IsHalf attributes.uid × IsHalf attributes.gid × IsWord a
 abbrev pub OpFits : Op → Type 0
 OpFits (op.Mkdir time path mode uid gid) = IsWord time × IsHalf uid × IsHalf gid
 OpFits (op.Create time path mode uid gid) = IsWord time × IsHalf uid × IsHalf gid
+OpFits (op.File time path mode uid gid new) = IsWord time × IsHalf uid × IsHalf gid
 OpFits (op.Fifo time path mode uid gid) = IsWord time × IsHalf uid × IsHalf gid
 OpFits (op.Socket time path mode uid gid) = IsWord time × IsHalf uid × IsHalf gid
 OpFits (op.Symlink time path link uid gid) = IsWord time × IsHalf uid × IsHalf gid

@@ -56,6 +56,10 @@ abbrev pub write_steps : ℕ → ℕ → ℕ → ℕ → ℕ → List ℕ → Li
 write_steps page time ino size offset [] = []
 write_steps page time ino size offset (b ∷ bytes) = zeros_to time ino size offset ++ puts page time ino offset (b ∷ bytes)
 
+-- the length of the first piece of so many bytes
+abbrev pub first_len : ℕ → ℕ → ℕ
+first_len page len = if min page len == spelling_len then plain_page else min page len
+
 -- another size of a file of this size
 abbrev pub resize_steps : ℕ → ℕ → ℕ → ℕ → List Step
 resize_steps time ino old new = if nat_lt new old then step.Cut time ino new ∷ [] else zeros_to time ino old new
@@ -69,6 +73,16 @@ abbrev pub make_steps : Outline → ℕ → List ℕ → ℕ → ℕ → ℕ →
 make_steps t time path mode uid gid bytes =
     step.MakeObject time mode uid gid bytes ∷ step.SetName time (parent t path) (last_name path) t.next ∷ []
 
+-- a new object of this number with bytes: it is made with the first piece of them, and the others are written after it
+abbrev pub bytes_steps : ℕ → ℕ → ℕ → ℕ → ℕ → ℕ → List ℕ → List Step
+bytes_steps page ino time mode uid gid bytes =
+    let first = first_len page (length bytes) in step.MakeObject time mode uid gid (take first bytes) ∷ write_steps page time ino first first (drop first bytes)
+
+-- and its name, which comes last
+abbrev pub file_steps : ℕ → Outline → ℕ → List ℕ → ℕ → ℕ → ℕ → List ℕ → List Step
+file_steps page t time path mode uid gid bytes =
+    bytes_steps page t.next time mode uid gid bytes ++ step.SetName time (parent t path) (last_name path) t.next ∷ []
+
 -- another name for an object: the new one is set, and then the old one cleared
 abbrev pub move_steps : Outline → ℕ → List ℕ → List ℕ → List Step
 move_steps t time old new =
@@ -78,6 +92,7 @@ move_steps t time old new =
 abbrev pub steps_of : ℕ → Outline → Op → List Step
 steps_of page t (op.Mkdir time path mode uid gid) = make_steps t time path (0o040000 + mode) uid gid []
 steps_of page t (op.Create time path mode uid gid) = make_steps t time path (0o100000 + mode) uid gid []
+steps_of page t (op.File time path mode uid gid bytes) = file_steps page t time path (0o100000 + mode) uid gid bytes
 steps_of page t (op.Fifo time path mode uid gid) = make_steps t time path (0o010000 + mode) uid gid []
 steps_of page t (op.Socket time path mode uid gid) = make_steps t time path (0o140000 + mode) uid gid []
 steps_of page t (op.Symlink time path link uid gid) = make_steps t time path 0o120777 uid gid link
@@ -89,6 +104,6 @@ steps_of page t (op.Rename time old new) = move_steps t time old new
 steps_of page t (op.Replace time old new) = if is_one_entry t old new then [] else move_steps t time old new
 steps_of page t (op.SetAttributes time path attributes) = step.SetAttributes time (unwrap_or (number_reached t path) 0) attributes ∷ []
 
--- No plan has more: two for each 4,096 bytes up to the greatest size of a file, and zeros.
+-- No plan has more: two for each 4,096 bytes up to the greatest size of a file, and zeros or a name.
 abbrev pub most_steps : ℕ
 most_steps = 1048577

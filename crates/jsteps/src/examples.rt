@@ -5,7 +5,7 @@ ghost use Rattle.jnode.specs.declared.node.Fill.TheVariants.{Zero, Data};
 ghost use Rattle.jnode.specs.declared.node.NodeRef.TheVariants.{Entry, Inode};
 ghost use Rattle.jnode.specs.Vectors.{new_file, named_a};
 ghost use Rattle.jsteps.specs.Nodes.{no_object, index_of, nodes_of};
-ghost use Rattle.jsteps.specs.Planning.{plain_page, write_steps, resize_steps, piece_puts};
+ghost use Rattle.jsteps.specs.Planning.{plain_page, write_steps, resize_steps, piece_puts, bytes_steps};
 ghost use Rattle.jsteps.specs.Refusals.{planned, is_bad_path, is_long, is_bad_mode, is_bad_target, is_too_large, takes_attributes};
 ghost use Rattle.jsteps.specs.Examples.{small, nested, spent, used_up, given};
 ghost use Rattle.jsteps.specs.declared.fault.OpFault.TheVariants as refused;
@@ -80,6 +80,22 @@ pub fn small_plans()
     ensures write { planned small (op.Write 7 (codes "/a") 6 (9 ∷ [])) ≡ Ok (step.Zero 7 2 2 ∷ step.Put 7 2 6 (9 ∷ []) ∷ []) }
     ensures cut { planned small (op.Truncate 7 (codes "/a") 3) ≡ Ok (step.Cut 7 2 3 ∷ []) }
     ensures same { planned small (op.Truncate 7 (codes "/a") 4) ≡ Ok [] }
+{}
+
+/// The pieces of a new file's bytes, by pages of two sizes: those that a write of them at the beginning has.
+pub fn file_pieces()
+    ensures none { bytes_steps plain_page 58 7 0o100644 5 6 [] ≡ step.MakeObject 7 0o100644 5 6 [] ∷ [] }
+    ensures page { bytes_steps plain_page 58 7 0o100644 5 6 (replicate 4096 1) ≡ step.MakeObject 7 0o100644 5 6 (replicate 4096 1) ∷ [] }
+    ensures longer { bytes_steps plain_page 58 7 0o100644 5 6 (replicate 4097 1) ≡ step.MakeObject 7 0o100644 5 6 (replicate 4096 1) ∷ step.Put 7 58 4096 (1 ∷ []) ∷ [] }
+    ensures spelling { bytes_steps 8192 58 7 0o100644 5 6 (replicate 6465 1) ≡ step.MakeObject 7 0o100644 5 6 (replicate 4096 1) ∷ step.Put 7 58 4096 (replicate 2369 1) ∷ [] }
+{}
+
+/// A new file with bytes, which is named last, of the tree with "/a" and "/q"; and where it is refused.
+pub fn file_plans()
+    ensures bytes { planned small (op.File 7 (codes "/r") 0o644 5 6 (8 ∷ 9 ∷ [])) ≡ Ok (step.MakeObject 7 0o100644 5 6 (8 ∷ 9 ∷ []) ∷ step.SetName 7 1 (codes "r") 58 ∷ []) }
+    ensures none { planned small (op.File 7 (codes "/r") 0o644 5 6 []) ≡ planned small (op.Create 7 (codes "/r") 0o644 5 6) }
+    ensures taken { planned small (op.File 7 (codes "/a") 0o644 5 6 (8 ∷ [])) ≡ Err refused.Exists }
+    ensures mode { planned small (op.File 7 (codes "/r") 0o10000 5 6 []) ≡ Err refused.BadMode }
 {}
 
 /// A name in the place of another, of a tree that has the file "/a" and the name "/q" of an object that is missing, and of

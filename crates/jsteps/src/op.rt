@@ -51,6 +51,15 @@ pub enum Op<'a> {
         uid: u16,
         gid: u16,
     },
+    /// A new regular file with bytes, at most 2,147,483,647 of them. It is named last, so the name stands for all of them.
+    File {
+        time: u32,
+        path: Text<'a>,
+        mode: u32,
+        uid: u16,
+        gid: u16,
+        bytes: Text<'a>,
+    },
     /// A new FIFO.
     Fifo {
         time: u32,
@@ -131,6 +140,9 @@ impl Op<'_> {
                 let _known = (*time, *uid, *gid);
             }
             Op::Create { time, uid, gid, .. } => {
+                let _known = (*time, *uid, *gid);
+            }
+            Op::File { time, uid, gid, .. } => {
                 let _known = (*time, *uid, *gid);
             }
             Op::Fifo { time, uid, gid, .. } => {

@@ -1,9 +1,9 @@
 //! The steps of an operation.
 
-ghost use Rattle.std.specs.Prelude.{◌≡◌, ◌==◌, ◌||◌, ◌&&◌, ◌≤◌, ◌+◌, ℕ, nat_lt, length, [], ◌∷◌, IfOk, IfErr, Ok, Err, ◌≢◌};
+ghost use Rattle.std.specs.Prelude.{◌≡◌, ◌==◌, ◌||◌, ◌&&◌, ◌≤◌, ◌+◌, ◌++◌, ℕ, nat_lt, length, [], ◌∷◌, IfOk, IfErr, Ok, Err, ◌≢◌};
 ghost use Rattle.std.specs.List.{list_any};
 ghost use Rattle.jmount.specs.Shown.{top_at};
-ghost use Rattle.jsteps.specs.Planning.{IsPage, page_size, most_steps};
+ghost use Rattle.jsteps.specs.Planning.{IsPage, page_size, most_steps, bytes_steps};
 ghost use Rattle.jsteps.specs.Refusals.{planned, planned_by, greatest_size};
 ghost use Rattle.jsteps.specs.Tests.{GivesPlan, made_plan, full_by, spent_by, into_itself_at};
 ghost use Rattle.jsteps.specs.declared.fault.OpFault.TheVariants as refused;
@@ -14,10 +14,10 @@ use crate::fault::OpFault;
 use crate::index::Index;
 use crate::op::{Attributes, Op};
 use crate::page::Page;
-use crate::puts::{push_resize, push_write};
+use crate::puts::{first_len, push_resize, push_write};
 use crate::refusal::{
-    tests_of_attributes, tests_of_file, tests_of_name, tests_of_new, tests_of_removed,
-    tests_of_replaced,
+    tests_of_attributes, tests_of_file, tests_of_name, tests_of_new, tests_of_new_file,
+    tests_of_removed, tests_of_replaced,
 };
 use crate::site::{end_of, is_one_entry, look_up, look_up_both, meets_above, reach};
 use crate::step::Step;
@@ -366,6 +366,69 @@ fn create<'a>(
     )
 }
 
+/// What a new file has besides its path and its bytes: the permission bits of its mode, and its owners.
+#[derive(Clone, Copy)]
+struct NewFile {
+    time: u32,
+    mode: u32,
+    uid: u16,
+    gid: u16,
+}
+
+/// A new file with bytes.
+fn file<'a>(
+    alloc: Global,
+    page: u32,
+    index: &Index,
+    path: &'a Text<'_>,
+    new: NewFile,
+    bytes: &'a Text<'_>,
+) -> Result<Vec<Step<'a>>, OpFault>
+    requires { IsPage page }
+    ensures { GivesPlan result (planned_by page index.now (op.File new.time path.now new.mode new.uid new.gid bytes.now)) }
+{
+    let bytes = bytes.as_slice();
+    let Some(site) = look_up(alloc, index, path.as_slice())? else {
+        return Err(OpFault::BadPath);
+    };
+    let directory = end_of(site.above);
+    let is_too_large = bytes.len() > GREATEST as usize;
+    let is_bad_mode = new.mode > PERMISSIONS;
+    if let Some(fault) = tests_of_new_file(index, &site, is_too_large, is_bad_mode).first() {
+        return Err(fault);
+    }
+    if is_full(index, directory) {
+        return Err(OpFault::Exhausted);
+    }
+    let next = index.next() as u32;
+    let set = set_name(new.time, directory, site.last, next);
+    Ok(make_named(alloc, page, next, new, bytes, set)?)
+}
+
+/// A new file with bytes, which is named last, by this step.
+fn make_named<'a>(
+    alloc: Global,
+    page: u32,
+    ino: u32,
+    new: NewFile,
+    bytes: &'a [u8],
+    set: Step<'a>,
+) -> Result<Vec<Step<'a>>, AllocError>
+    requires page { IsPage page }
+    requires mode { new.mode ≤ 0o7777 }
+    requires end { length bytes.now ≤ 2147483647 }
+    ensures { IfOk result (λ steps. steps.items ≡ bytes_steps page ino new.time (0o100000 + new.mode) new.uid new.gid bytes.now ++ set.entry ∷ []) }
+{
+    let len = first_len(page, bytes.len());
+    let (first, rest) = bytes.split_at(len);
+    let made = make_object(new.time, 0o100000 + new.mode, new.uid, new.gid, first);
+    let mut steps = one(alloc, made)?;
+    let end = len as u32;
+    push_write(&mut steps, page, new.time, ino, end, end, rest)?;
+    steps.push(set)?;
+    Ok(steps)
+}
+
 /// A new FIFO.
 fn fifo<'a>(
     alloc: Global,
@@ -487,6 +550,22 @@ pub fn plan_paged<'a>(
             uid,
             gid,
         } => create(alloc, index, *time, path.as_slice(), *mode, *uid, *gid),
+        Op::File {
+            time,
+            path,
+            mode,
+            uid,
+            gid,
+            bytes,
+        } => {
+            let new = NewFile {
+                time: *time,
+                mode: *mode,
+                uid: *uid,
+                gid: *gid,
+            };
+            file(alloc, page.size(), index, path, new, bytes)
+        }
         Op::Fifo {
             time,
             path,

@@ -17,6 +17,16 @@ fn text_of<'a>(part: &Part<'a>) -> &'a str {
     str::from_utf8(part.present()).unwrap_or("?")
 }
 
+/// Appends the bytes that an object is made with, or their number where a page holds no more.
+fn put_bytes(text: &mut String, part: &Part<'_>) -> Result<(), Fail> {
+    if part.len() >= 4096 {
+        write!(text, " [{}]", part.len())?;
+    } else {
+        write!(text, " [{}]", text_of(part))?;
+    }
+    Ok(())
+}
+
 /// Appends what a step says of a name.
 fn put_naming(text: &mut String, step: &Step<'_>) -> Result<(), Fail> {
     match step {
@@ -66,7 +76,10 @@ fn put_step(text: &mut String, step: &Step<'_>) -> Result<(), Fail> {
             gid,
             target,
             ..
-        } => write!(text, "make {mode:o} {uid} {gid} [{}]", text_of(target))?,
+        } => {
+            write!(text, "make {mode:o} {uid} {gid}")?;
+            put_bytes(text, target)?;
+        }
         Step::SetName { .. } | Step::ClearName { .. } => put_naming(text, step)?,
         Step::Put {
             ino,

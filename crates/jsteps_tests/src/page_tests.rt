@@ -1,4 +1,4 @@
-//! Writes by larger pages.
+//! Writes and files by larger pages.
 
 use crate::checks::{equal, equal_at};
 use crate::lines::answer_by;
@@ -6,7 +6,7 @@ use crate::trees::{SMALL, index_of};
 use jsteps::Page;
 use std::test::Fail;
 
-const ROWS: [(Page, &str, &str); 12] = [
+const ROWS: [(Page, &str, &str); 17] = [
     (Page::P8192, "write /a 0 8192", "put 2 0 8192"),
     (Page::P8192, "write /a 0 8193", "put 2 0 8192, put 2 8192 1"),
     (
@@ -36,6 +36,31 @@ const ROWS: [(Page, &str, &str); 12] = [
         Page::P4096,
         "write /a 0 6465",
         "put 2 0 4096, put 2 4096 2369",
+    ),
+    (
+        Page::P8192,
+        "file /x 644 8193",
+        "make 100644 5 6 [8192], put 58 8192 1, set 1 x 58",
+    ),
+    (
+        Page::P8192,
+        "file /x 644 6464",
+        "make 100644 5 6 [6464], set 1 x 58",
+    ),
+    (
+        Page::P8192,
+        "file /x 644 6465",
+        "make 100644 5 6 [4096], put 58 4096 2369, set 1 x 58",
+    ),
+    (
+        Page::P8192,
+        "file /x 644 14657",
+        "make 100644 5 6 [8192], put 58 8192 4096, put 58 12288 2369, set 1 x 58",
+    ),
+    (
+        Page::P16384,
+        "file /x 644 16384",
+        "make 100644 5 6 [16384], set 1 x 58",
     ),
     (Page::P16384, "truncate /a 20000", "zero 2 19990"),
     (Page::P16384, "write / 0 1", "O1 BadPath"),

@@ -207,6 +207,35 @@ const MISSING: [(&str, &str); 20] = [
     ("rename /h/x /y", "O3 NotFound"),
 ];
 
+/// Files with bytes: a first piece, those of further pages, and the name.
+const FILES: [(&str, &str); 19] = [
+    ("file /x 644 0", "make 100644 5 6 [], set 1 x 58"),
+    ("file /d/x 7777 3", "make 107777 5 6 [ZZZ], set 3 x 58"),
+    ("file /x 644 4096", "make 100644 5 6 [4096], set 1 x 58"),
+    (
+        "file /x 644 4097",
+        "make 100644 5 6 [4096], put 58 4096 1, set 1 x 58",
+    ),
+    (
+        "file /n/x 0 12288",
+        "make 100000 5 6 [4096], put 58 4096 4096, put 58 8192 4096, set 10 x 58",
+    ),
+    ("file / 644 1", "O1 BadPath"),
+    ("file x 10000 1", "O1 BadPath"),
+    ("file /none/x 644 1", "O3 NotFound"),
+    ("file /q/x 10000 1", "O3 NotFound"),
+    ("file /a/b 644 1", "O4 NotDirectory"),
+    ("file /s/x 10000 0", "O4 NotDirectory"),
+    ("file /a 644 1", "O5 Exists"),
+    ("file /a 10000 0", "O5 Exists"),
+    ("file /d 644 1", "O5 Exists"),
+    ("file /q 644 1", "O5 Exists"),
+    ("file /h/x 644 1", "O5 Exists"),
+    ("file /x 10000 1", "O10 BadMode"),
+    ("file /x 100644 0", "O10 BadMode"),
+    ("file /x 77777 9000", "O10 BadMode"),
+];
+
 /// A name in the place of another, which may be none, or stand for nothing; and nothing where both are one.
 const REPLACED: [(&str, &str); 26] = [
     ("replace /a /b", "set 1 b 2, clear 1 a"),
@@ -272,7 +301,7 @@ const OTHER_KINDS: [(&str, &str); 6] = [
 ];
 
 /// No version is left for names of the root and for its file, and no number for a new object.
-const NONE_LEFT: [(&str, &str); 28] = [
+const NONE_LEFT: [(&str, &str); 31] = [
     ("create x 644", "O1 BadPath"),
     ("create /none/x 644", "O3 NotFound"),
     ("create /a/b 644", "O4 NotDirectory"),
@@ -286,6 +315,9 @@ const NONE_LEFT: [(&str, &str); 28] = [
     ("mkdir /d/y 755", "O12 Exhausted"),
     ("create /d/y 644", "O12 Exhausted"),
     ("symlink /d/y t", "O12 Exhausted"),
+    ("file /d/y 644 9000", "O12 Exhausted"),
+    ("file /d/y 10000 1", "O10 BadMode"),
+    ("file /a/b 644 1", "O4 NotDirectory"),
     ("fifo /d/y 644", "O12 Exhausted"),
     ("socket /d/y 644", "O12 Exhausted"),
     ("write /a 10 1", "O12 Exhausted"),
@@ -304,7 +336,7 @@ const NONE_LEFT: [(&str, &str); 28] = [
 ];
 
 /// One version is left for names of the root and for `/a`, two for `/b` and for names of `/e`.
-const FEW_LEFT: [(&str, &str); 20] = [
+const FEW_LEFT: [(&str, &str); 21] = [
     ("write /a 9 1", "put 2 9 1"),
     ("write /a 10 1", "put 2 10 1"),
     ("write /a 11 1", "O12 Exhausted"),
@@ -318,6 +350,10 @@ const FEW_LEFT: [(&str, &str); 20] = [
     ("attr /a 600", "attr 2 600 5 6 1 2 7"),
     ("remove /a", "clear 1 a"),
     ("create /y 644", "make 100644 5 6 [], set 1 y 6"),
+    (
+        "file /y 644 8193",
+        "make 100644 5 6 [4096], put 6 4096 4096, put 6 8192 1, set 1 y 6",
+    ),
     ("link /a /y", "set 1 y 2"),
     ("rename /a /y", "O12 Exhausted"),
     ("rename /a /d/y", "set 4 y 2, clear 1 a"),
@@ -336,6 +372,7 @@ fn plans(rt: HostRuntime) -> Result<(), Fail> {
     agree(&rt, alloc, SMALL, &ROOT)?;
     agree(&rt, alloc, SMALL, &PAIRS)?;
     agree(&rt, alloc, SMALL, &MISSING)?;
+    agree(&rt, alloc, SMALL, &FILES)?;
     agree(&rt, alloc, SMALL, &REPLACED)?;
     agree(&rt, alloc, SMALL, &ATTRIBUTES)?;
     agree(&rt, alloc, KINDS, &OTHER_KINDS)
@@ -344,7 +381,13 @@ fn plans(rt: HostRuntime) -> Result<(), Fail> {
 #[test]
 fn versions_and_numbers_run_out(rt: HostRuntime) -> Result<(), Fail> {
     let alloc = rt.alloc();
-    let last = [("create /y 644", "make 100644 5 6 [], set 1 y 4294967295")];
+    let last = [
+        ("create /y 644", "make 100644 5 6 [], set 1 y 4294967295"),
+        (
+            "file /y 644 4097",
+            "make 100644 5 6 [4096], put 4294967295 4096 1, set 1 y 4294967295",
+        ),
+    ];
     agree(&rt, alloc, SPENT, &NONE_LEFT)?;
     agree(&rt, alloc, ALMOST_SPENT, &FEW_LEFT)?;
     agree(&rt, alloc, ONE_NUMBER_LEFT, &last)
@@ -394,10 +437,12 @@ fn lengthened(alloc: Global, line: &str, count: usize) -> Result<String, Fail> {
     Ok(text)
 }
 
-const LONG: [(&str, usize, &str); 22] = [
+const LONG: [(&str, usize, &str); 24] = [
     ("create /* 644", 254, "make 100644 5 6 [], set 1 * 58"),
     ("create /* 644", 255, "O2 NameTooLong"),
     ("create /d/* 644", 255, "O2 NameTooLong"),
+    ("file /* 644 2", 254, "make 100644 5 6 [ZZ], set 1 * 58"),
+    ("file /* 10000 2", 255, "O2 NameTooLong"),
     ("link /a /*", 255, "O2 NameTooLong"),
     ("rename /a /*", 254, "set 1 * 2, clear 1 a"),
     ("rename x /*", 255, "O1 BadPath"),

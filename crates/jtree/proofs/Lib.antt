@@ -16,3 +16,5 @@ pub mod WholeLemmas
 pub mod TreeLemmas
 pub mod ExampleLemmas
 pub mod EmptyLemmas
+pub mod UpdateLemmas
+pub mod WholeFilesLemmas

@@ -20,7 +20,7 @@ use Rattle.jsteps.specs.declared.op.Op.{Op}
 use Rattle.jsteps.specs.declared.step.Step.{Step}
 use Rattle.jsteps.proofs.PlanLemmas.{planned_is_ready}
 use Rattle.jsteps.proofs.ShapePlanLemmas.{shape_is_kept}
-use Rattle.jsteps.proofs.ShapeStateLemmas.{tree_advanced}
+use Rattle.jsteps.proofs.ShapeStepLemmas.{tree_advanced}
 use Rattle.jsteps.proofs.StepsLemmas.{outline_of_step}
 use Rattle.jsteps.proofs.TakenLemmas.{advanced_all-append}
 use Rattle.jtree.proofs.AppendLemmas.{after-append}
@@ -35,7 +35,7 @@ pub record IsAt (n : ℕ) (x : Indexed) (s : State) : Type 0 where
   pub counted : IsCounted n x
   pub shape : HasShape s
 
-tree_after : (x : Indexed) (s : State) (steps : List Step) → x.tree ≡ outline s → AllReady x steps → (advanced_all x steps).tree ≡ outline (after bytes s steps)
+pub tree_after : (x : Indexed) (s : State) (steps : List Step) → x.tree ≡ outline s → AllReady x steps → (advanced_all x steps).tree ≡ outline (after bytes s steps)
 tree_after x s [] tree ready = tree
 tree_after x s (a ∷ steps) tree ready =
     let one : (advanced x a).tree ≡ outline (do_step bytes s a) =

@@ -3,3 +3,4 @@ pub mod Holding
 pub mod Laws
 pub mod Examples
 pub mod Image
+pub mod Updates

@@ -2,6 +2,7 @@
 
 ghost use Rattle.jtree.specs.Image as image;
 ghost use Rattle.jtree.specs.Laws as law;
+ghost use Rattle.jtree.specs.Updates as update;
 
 /// The operations of a tree are all accepted on the empty file system, and make the tree and nothing else. So are those that
 /// the tree's text is read as.
@@ -15,4 +16,12 @@ pub fn listing_makes_tree()
 pub fn image_holds_tree()
     ensures image { image.ImageHoldsTree }
     ensures empty { image.EmptyIsBare }
+{}
+
+/// Where no operation makes a regular file without its bytes, or writes or cuts one, each path that leads to a regular file
+/// leads to one with all bytes of a file that the base had, or of one that an operation makes: after any number of steps, and so
+/// in what mounts after a stop at any byte.
+pub fn updates_are_whole()
+    ensures steps { update.StepsKeepFilesWhole }
+    ensures stopped { update.UpdatesAreWhole }
 {}

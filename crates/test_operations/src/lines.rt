@@ -25,14 +25,15 @@ fn words(line: &str) -> (&str, &str, &str, &str) {
     (verb, path, second, third)
 }
 
-/// The operation of a line. A write has an offset and a count of bytes, which are 0x5A, and 0xFF under the verb `erase`.
-/// Attributes have owners 5 and 6 and the times 1 and 2.
+/// The operation of a line. A write has an offset and a count of bytes, which are 0x5A, and 0xFF under the verb `erase`; a
+/// file has a mode and such a count. Attributes have owners 5 and 6 and the times 1 and 2.
 pub fn op_of<'a>(line: &'a str, by: By) -> Option<Op<'a>> {
     let (verb, path, second, third) = words(line);
     match verb {
         "mkdir" | "create" | "fifo" | "socket" | "symlink" => Some(new_object(
             verb, path, second, by,
         )),
+        "file" => Some(new_file(path, second, third, by)),
         "write" | "erase" | "truncate" => Some(other_bytes(verb, path, second, third, by.time)),
         "attr" => Some(other_attributes(path, second, by.time)),
         _ => other_name(verb, path, second, by.time),
@@ -94,13 +95,30 @@ fn new_object<'a>(verb: &str, path: &'a str, second: &'a str, by: By) -> Op<'a> 
     }
 }
 
+/// As many bytes as a word says.
+fn bytes_of(count: &str) -> &'static [u8] {
+    &BYTES[..count.parse::<usize>().unwrap_or(0).min(BYTES.len())]
+}
+
+fn new_file<'a>(path: &'a str, second: &str, third: &str, by: By) -> Op<'a> {
+    let By { time, uid, gid } = by;
+    Op::File {
+        time,
+        path: Text::lent(path.as_bytes()),
+        mode: u32::from_str_radix(second, 8).unwrap_or(0),
+        uid,
+        gid,
+        bytes: Text::lent(bytes_of(third)),
+    }
+}
+
 fn other_bytes<'a>(verb: &str, path: &'a str, second: &str, third: &str, time: u32) -> Op<'a> {
     let path = Text::lent(path.as_bytes());
     let number = second.parse::<u32>().unwrap_or(0);
-    let count = third.parse::<usize>().unwrap_or(0).min(BYTES.len());
+    let bytes = bytes_of(third);
     let bytes = match verb {
-        "write" => &BYTES[..count],
-        "erase" => &ERASED[..count.min(ERASED.len())],
+        "write" => bytes,
+        "erase" => &ERASED[..bytes.len().min(ERASED.len())],
         _ => {
             return Op::Truncate {
                 time,

@@ -11,4 +11,5 @@ returns c =
     let append = c.add_subcommand-command-5.ensures _ _ build c.make_append.ensures in
     let decompress = c.add_subcommand-command-6.ensures _ _ append c.make_decompress.ensures in
     let extract = c.add_subcommand-command-7.ensures _ _ decompress c.make_extract.ensures in
-    c.add_subcommand.ensures _ _ extract c.make_listing.ensures
+    let listing = c.add_subcommand-command-8.ensures _ _ extract c.make_listing.ensures in
+    c.add_subcommand.ensures _ _ listing c.make_info.ensures

@@ -63,3 +63,7 @@ returns-clause-not_of_check c = refl
 pub returns-clause-not_decompressed : goal.returns-clause-not_decompressed
 unfolding clap_on_literals program parsed parsed_from
 returns-clause-not_decompressed c = refl
+
+pub returns-clause-not_of_info : goal.returns-clause-not_of_info
+unfolding clap_on_literals program parsed parsed_from
+returns-clause-not_of_info c = refl

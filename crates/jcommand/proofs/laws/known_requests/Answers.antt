@@ -51,3 +51,7 @@ returns-clause-decompressed_tree c = refl
 pub returns-clause-decompressed : goal.returns-clause-decompressed
 unfolding clap_on_literals program parsed parsed_from
 returns-clause-decompressed c = refl
+
+pub returns-clause-told : goal.returns-clause-told
+unfolding clap_on_literals program parsed parsed_from
+returns-clause-told c = refl

@@ -1,4 +1,4 @@
-use Rattle.std.proofs.Common.{◌≡◌, List, ℕ, ◌∙◌, sym, ap, subst}
+use Rattle.std.proofs.Common.{List, ℕ, ◌∙◌, sym, ap, subst}
 use Rattle.flashbase.specs.Device.{Puts}
 use Rattle.jcuts.specs.Lines.{end_text}
 use Rattle.jcuts.proofs.lines.put_end.Goals as goal

@@ -1,6 +1,6 @@
 use Rattle.std.proofs.Common.{◌≡◌, ◌≤◌, ◌+◌, ◌-◌, sym, ℕ, List, Option, length, take, drop, ap, ap₂, ◌∙◌, arith, length-drop}
 use Rattle.std.proofs.lemmas.List.{length-take-le}
-use Rattle.jcuts.specs.Standing.{whole_len, least_weak, standing_at}
+use Rattle.jcuts.specs.Standing.{whole_len, least_weak}
 use Rattle.jcuts.specs.declared.standing.Standing.{Standing}
 use Rattle.jcuts.proofs.LeastLemmas.{least_weak_is}
 use Rattle.jcuts.proofs.standing.standing_in.Goals as goal

@@ -1,4 +1,4 @@
-use Rattle.std.proofs.Common.{◌≡◌, ◌≤◌, ◌-◌, map, take, length, vec_len}
+use Rattle.std.proofs.Common.{◌≡◌, ◌≤◌, ◌-◌, map, take, length}
 use Rattle.jcuts.specs.Standing.{standing_in}
 use Rattle.jcuts.proofs.standing.standings_in.Given as goal
 

@@ -1,4 +1,4 @@
-use Rattle.std.proofs.Common.{arith, ◌∙◌, sym, rules}
+use Rattle.std.proofs.Common.{arith, ◌∙◌, sym}
 use Rattle.jcuts.proofs.WholeLemmas.{whole_len_less, whole_len_all}
 use Rattle.jcuts.proofs.standing.whole_len.Goals as goal
 

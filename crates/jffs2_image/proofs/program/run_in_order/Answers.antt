@@ -1,8 +1,15 @@
 use Rattle.std.proofs.Common.{rules, ◌≡◌, None, subst, sym}
-use Rattle.jcommand.specs.Parsed.{Parsed, CheckParsed, ListParsed, CatParsed, view}
+use Rattle.jcommand.specs.Parsed.{Parsed, ScanParsed, CheckParsed, ListParsed, CatParsed, view}
 use Rattle.jffs2_image.specs.Runs.{Meets}
 use Rattle.jffs2_image.proofs.WritingLemmas.{met_by_any}
 use Rattle.jffs2_image.proofs.program.run_in_order.Goals as goal
+
+pub returns-in-Scan-clause-meets : goal.returns-in-Scan-clause-meets
+returns-in-Scan-clause-meets g c =
+    let is : view c.args.request ≡ ScanParsed c.in-Scan.options c.in-Scan.image.now = search rules in
+    subst (λ (p : Parsed). Meets (g.L.Loader.told c.args.loader.now) (g.M.Maker.held c.args.maker.now, g.M.Maker.held c.args.maker.now) g.E.Order.order p (g.T.Sink.taken c.args.sink.now) (g.T.Sink.taken c.scan.new.sink)
+    (g.T.Sink.failures c.args.sink.now) (g.T.Sink.failures c.scan.new.sink) c.scan.result) (sym is)
+    (met_by_any _ (None, None) _ g.E.Order.order (ScanParsed c.in-Scan.options c.in-Scan.image.now) _ _ _ _ c.scan.result tt c.scan.ensures.meets)
 
 pub returns-in-Check-clause-meets : goal.returns-in-Check-clause-meets
 returns-in-Check-clause-meets g c =

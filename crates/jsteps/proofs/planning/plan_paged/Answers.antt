@@ -38,3 +38,6 @@ returns-in-Fifo-clause-few c = few_of (page_size c.args.page) c.args.index.now c
 
 pub returns-in-Socket-clause-few : goal.returns-in-Socket-clause-few
 returns-in-Socket-clause-few c = few_of (page_size c.args.page) c.args.index.now c.args.op.now _ (sizes_are_pages c.args.page) (search rules)
+
+pub returns-in-File-clause-few : goal.returns-in-File-clause-few
+returns-in-File-clause-few c = few_of (page_size c.args.page) c.args.index.now c.args.op.now _ (sizes_are_pages c.args.page) (search rules)

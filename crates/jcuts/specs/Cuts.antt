@@ -1,0 +1,245 @@
+-- What is told of operations that follow one another.
+use Rattle.std.specs.Prelude.{◌≡◌, ◌⊎◌, ℕ, ◌≤◌, IsTrue, IsFalse, List, [], ◌++◌, length, take, slice_get, Option, Some, None, Result, Ok, Err, IsOk}
+use Rattle.std.specs.Io.KnownBytes.{Appends}
+use Rattle.byteorder.specs.declared.ByteOrder.{Ghosts as OfByteOrder}
+use Rattle.flashbase.specs.Device.{PutsPart, next_count}
+use Rattle.flashbase.specs.declared.sink.Sink.{Ghosts as OfSink}
+use Rattle.jnode.specs.declared.order.Endian.{Endian}
+use Rattle.jnode.specs.declared.order.Order.{Ghosts as OfOrder}
+use Rattle.jmount.specs.Mount.{Mount}
+use Rattle.jsteps.specs.Nodes.{Indexed, advanced_all}
+use Rattle.jsteps.specs.Planning.{page_size}
+use Rattle.jsteps.specs.Refusals.{plans_of, steps_of_first}
+use Rattle.jsteps.specs.declared.op.Op.{Op}
+use Rattle.jsteps.specs.declared.step.Step.{Step}
+use Rattle.jlog.specs.Headline.{index_of_image, resume_address}
+use Rattle.jlog.specs.Places.{end_of_all, fit}
+use Rattle.jlog.specs.Resuming.{resumes_by}
+use Rattle.jlog.specs.Running.{written}
+use Rattle.jlog.specs.Session.{Declines}
+use Rattle.jlog.specs.View.{block_size_of, blocks_of, page_of, cursor_of, index_of_log, is_broken, sink_of}
+use Rattle.jlog.specs.declared.fault.SessionFault.{SessionFault}
+use Rattle.jlog.specs.declared.fault.SessionFault.TheVariants as session
+use Rattle.jlog.specs.declared.session.Session.{Session}
+use Rattle.jcuts.specs.Standing.{standings}
+use Rattle.jcuts.specs.Lines.{step_nodes, nodes_told, text_of_nodes, weak_count, end_text}
+use Rattle.jcuts.specs.Planning.{CanPlan, IsPlannedOp}
+use Rattle.jcuts.specs.declared.cuts.Counts.{Counts}
+use Rattle.jcuts.specs.declared.cuts.CutsFault.{CutsFault}
+use Rattle.jcuts.specs.declared.cuts.CutsFault.TheVariants as told
+use Rattle.jcuts.specs.declared.cuts.Flash.{Flash}
+use Rattle.jcuts.specs.declared.held.Held.{Held}
+use Rattle.jcuts.specs.declared.lines.Telling.{Telling}
+use Rattle.jcuts.specs.declared.standing.Standing.{Standing}
+
+-- ---- what it is told of, and where
+
+-- where a log goes on: an address, and what operations are planned on
+pub record Point : Type 0 where
+  pub address : ℕ
+  pub index : Indexed
+
+-- on a base
+abbrev pub base_point : Endian → Flash → List ℕ → Point
+base_point e flash base =
+    record {
+      address = resume_address e flash.geometry.block flash.blocks base;
+      index = index_of_image e flash.geometry.block base;
+    }
+
+-- the operations, the numbers of their lines, and what is told of their nodes
+pub record Asked : Type 0 where
+  pub telling : Telling
+  pub ops : List Op
+  pub lines : List ℕ
+
+-- a sink before and after: what is known of its bytes, and how often it failed
+pub record SinkChange : Type 0 where
+  pub old : Option (List ℕ)
+  pub new : Option (List ℕ)
+  pub before : ℕ
+  pub now : ℕ
+
+-- ---- a log that is planned
+
+module _ {E : Type 0} {order : OfOrder E} {numbers : OfByteOrder E} {sink : OfSink Held} where
+  abbrev pub flash_of : Session E Held order numbers sink → Flash
+  flash_of plan = record {
+    geometry = record { block = block_size_of plan };
+    blocks = blocks_of plan;
+    page = page_of plan;
+  }
+
+  abbrev pub point_of : Session E Held order numbers sink → Point
+  point_of plan = record { address = cursor_of plan; index = index_of_log plan }
+
+  -- another operation can be planned
+  pub record IsReady (plan : Session E Held order numbers sink) : Type 0 where
+    pub whole : IsFalse (is_broken plan)
+    pub can : CanPlan (page_size (page_of plan)) (block_size_of plan) (blocks_of plan)
+        (cursor_of plan) (index_of_log plan)
+    pub none : (sink_of plan).bytes.items ≡ []
+
+-- where writing goes on in a mounted image
+abbrev pub resumes : Endian → Flash → Mount → Result ℕ SessionFault
+resumes e flash m = resumes_by flash.page e flash.geometry.block flash.blocks m
+
+-- it does not; or it does, and memory ran out
+abbrev pub IsNotResumed : Endian → Flash → Mount → SessionFault → Type 0
+IsNotResumed e flash m fault =
+    (resumes e flash m ≡ Err fault)
+    ⊎ (IsOk (resumes e flash m) × (fault ≡ session.OutOfMemory))
+
+-- ---- one operation
+
+-- The operation is accepted: these are the nodes of its steps, and writing goes on after them.
+abbrev pub IsPlannedAt : Endian → Flash → Point → Op → Point → List Standing → Type 0
+IsPlannedAt e flash from o to nodes =
+    IsPlannedOp (page_size flash.page) e flash.geometry.block flash.blocks
+    from.address from.index o to.address to.index nodes
+
+-- it is not
+abbrev pub IsDeclined : Endian → Flash → Point → Op → SessionFault → Type 0
+IsDeclined e flash from o fault =
+    Declines (page_size flash.page) e flash.geometry.block flash.blocks
+    from.address from.index o fault
+
+-- so many nodes, and so many of them are weak
+pub record IsCounted (list : List Standing) (counts : Counts) : Type 0 where
+  pub nodes : counts.nodes ≡ length list
+  pub weak : counts.weak ≡ weak_count list
+
+-- what is told of its nodes, by the number of its line
+abbrev pub told_of_op : Telling → ℕ → List Standing → List ℕ
+told_of_op telling line nodes = text_of_nodes telling (step_nodes line (length nodes) 1 nodes)
+
+-- It is accepted, its nodes are told, and writing goes on after them; it is declined, and nothing is
+-- told; or the sink failed, and a beginning of it went out.
+abbrev pub TellsOp : Endian → Flash → Telling → ℕ → Op → Point → Point → SinkChange
+    → Result Counts CutsFault → Type 0
+TellsOp e flash telling line o from to sink (Ok counts) =
+    (nodes : List Standing) × IsPlannedAt e flash from o to nodes × IsCounted nodes counts
+    × Appends sink.old sink.new (told_of_op telling line nodes) × (sink.now ≡ sink.before)
+TellsOp e flash telling line o from to sink (Err (told.Session fault None)) = ⊥
+TellsOp e flash telling line o from to sink (Err (told.Session fault (Some n))) =
+    (n ≡ line) × IsDeclined e flash from o fault × (sink.new ≡ sink.old) × (sink.now ≡ sink.before)
+TellsOp e flash telling line o from to sink (Err told.Output) =
+    (nodes : List Standing) × IsPlannedAt e flash from o to nodes
+    × PutsPart sink.old sink.new (told_of_op telling line nodes) × (sink.now ≡ next_count sink.before)
+
+-- ---- the first of several
+
+abbrev pub first_steps : Flash → Point → List Op → ℕ → List Step
+first_steps flash from ops n = steps_of_first (page_size flash.page) from.index ops n
+
+-- their nodes' bytes
+abbrev pub first_nodes : Endian → Flash → Point → List Op → ℕ → List (List ℕ)
+first_nodes e flash from ops n = written e from.index (first_steps flash from ops n)
+
+-- from where on each of them stands
+abbrev pub first_standings : Endian → Flash → Point → List Op → ℕ → List Standing
+first_standings e flash from ops n =
+    standings e flash.geometry.block from.address (first_nodes e flash from ops n)
+
+-- So many operations are accepted, and lead from one point to another.
+pub record AdvancesTo (e : Endian) (flash : Flash) (from : Point) (ops : List Op) (n : ℕ)
+    (to : Point) : Type 0 where
+  pub planned : n ≤ length (plans_of (page_size flash.page) from.index ops)
+  pub fits : IsTrue (fit flash.geometry.block flash.blocks from.address
+      (first_nodes e flash from ops n))
+  pub address : to.address
+      ≡ end_of_all flash.geometry.block from.address (first_nodes e flash from ops n)
+  pub index : to.index ≡ advanced_all from.index (first_steps flash from ops n)
+
+-- what is told of their nodes
+abbrev pub first_text : Endian → Flash → Asked → Point → ℕ → List ℕ
+first_text e flash asked from n = text_of_nodes asked.telling
+    (nodes_told e flash.geometry.block from.address from.index
+    (take n (plans_of (page_size flash.page) from.index asked.ops)) asked.lines)
+
+-- what is told last, of all
+abbrev pub last_text : Endian → Flash → Asked → Point → List ℕ
+last_text e flash asked from =
+    let n = length asked.ops in
+    let nodes = first_standings e flash from asked.ops n in
+    end_text asked.telling n (length nodes) from.address
+    (end_of_all flash.geometry.block from.address (first_nodes e flash from asked.ops n))
+    (weak_count nodes)
+
+-- ---- all of them
+
+-- The first n are accepted, and lead to where the next one, whose line has this number, is
+-- declined.
+pub record DeclinesNext (e : Endian) (flash : Flash) (asked : Asked) (from : Point) (n line : ℕ)
+    (fault : SessionFault) : Type 0 where
+  pub at : Point
+  pub next : Op
+  pub leads : AdvancesTo e flash from asked.ops n at
+  pub is_next : slice_get asked.ops n ≡ Some next
+  pub line_is : slice_get asked.lines n ≡ Some line
+  pub declines : IsDeclined e flash at next fault
+
+-- All operations are accepted, and told in order.
+pub record AreAllTold (e : Endian) (flash : Flash) (asked : Asked) (from to : Point)
+    (sink : SinkChange) (counts : Counts) : Type 0 where
+  pub leads : AdvancesTo e flash from asked.ops (length asked.ops) to
+  pub counted : IsCounted (first_standings e flash from asked.ops (length asked.ops)) counts
+  pub put : Appends sink.old sink.new (first_text e flash asked from (length asked.ops))
+  pub failed : sink.now ≡ sink.before
+
+-- One is declined, and those before it are told.
+abbrev pub TellsUpTo : Endian → Flash → Asked → Point → SinkChange → SessionFault → ℕ → Type 0
+TellsUpTo e flash asked from sink fault line =
+    (n : ℕ) × DeclinesNext e flash asked from n line fault
+    × Appends sink.old sink.new (first_text e flash asked from n) × (sink.now ≡ sink.before)
+
+-- The sink failed at one that is accepted: a beginning of what is told of the nodes up to its own
+-- went out.
+abbrev pub TellsPart : Endian → Flash → Asked → Point → SinkChange → Type 0
+TellsPart e flash asked from sink =
+    (n : ℕ) × ((to : Point) × AdvancesTo e flash from asked.ops n to)
+    × PutsPart sink.old sink.new (first_text e flash asked from n)
+    × (sink.now ≡ next_count sink.before)
+
+-- the one or the other
+abbrev pub TellsOps : Endian → Flash → Asked → Point → Point → SinkChange
+    → Result Counts CutsFault → Type 0
+TellsOps e flash asked from to sink (Ok counts) = AreAllTold e flash asked from to sink counts
+TellsOps e flash asked from to sink (Err (told.Session fault None)) = ⊥
+TellsOps e flash asked from to sink (Err (told.Session fault (Some line))) =
+    TellsUpTo e flash asked from sink fault line
+TellsOps e flash asked from to sink (Err told.Output) = TellsPart e flash asked from sink
+
+-- All are accepted, they are told in order, and then the last line; so many of their nodes are
+-- weak.
+pub record AreCutsTold (e : Endian) (flash : Flash) (asked : Asked) (from : Point)
+    (sink : SinkChange) (weak : ℕ) : Type 0 where
+  pub to : Point
+  pub leads : AdvancesTo e flash from asked.ops (length asked.ops) to
+  pub counted : weak ≡ weak_count (first_standings e flash from asked.ops (length asked.ops))
+  pub put : Appends sink.old sink.new
+      (first_text e flash asked from (length asked.ops) ++ last_text e flash asked from)
+  pub failed : sink.now ≡ sink.before
+
+-- All are accepted, and the sink failed at the last line.
+abbrev pub TellsAllButEnd : Endian → Flash → Asked → Point → SinkChange → Type 0
+TellsAllButEnd e flash asked from sink =
+    ((to : Point) × AdvancesTo e flash from asked.ops (length asked.ops) to)
+    × PutsPart sink.old sink.new
+    (first_text e flash asked from (length asked.ops) ++ last_text e flash asked from)
+    × (sink.now ≡ next_count sink.before)
+
+-- Operations on a mounted image: writing does not go on there, and nothing is told; or it does, and
+-- they are told, or those up to one that is declined; or the sink failed, and a beginning went out.
+-- The answer is how many nodes are weak.
+abbrev pub PutsCuts : Endian → Flash → Mount → Asked → SinkChange → Result ℕ CutsFault → Type 0
+PutsCuts e flash m asked sink (Ok weak) =
+    IsOk (resumes e flash m) × AreCutsTold e flash asked (base_point e flash m.image) sink weak
+PutsCuts e flash m asked sink (Err (told.Session fault None)) =
+    IsNotResumed e flash m fault × (sink.new ≡ sink.old) × (sink.now ≡ sink.before)
+PutsCuts e flash m asked sink (Err (told.Session fault (Some line))) =
+    IsOk (resumes e flash m) × TellsUpTo e flash asked (base_point e flash m.image) sink fault line
+PutsCuts e flash m asked sink (Err told.Output) =
+    IsOk (resumes e flash m)
+    × (TellsPart e flash asked (base_point e flash m.image) sink
+    ⊎ TellsAllButEnd e flash asked (base_point e flash m.image) sink)

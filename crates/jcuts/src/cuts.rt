@@ -1,0 +1,213 @@
+//! What stands after a stop, told for operations that follow one another.
+
+ghost use Rattle.std.specs.Prelude.{◌≡◌, IfOk, IfErr, OnOk, Ok, length};
+ghost use Rattle.jmount.specs.Mounts.{IsMountOf};
+ghost use Rattle.jcuts.specs.Lines.{weak_count};
+ghost use Rattle.jcuts.specs.Cuts.{base_point, flash_of, point_of, resumes, IsReady, IsNotResumed, TellsOp, TellsOps, PutsCuts};
+
+use crate::held::Held;
+use crate::lines::{Telling, put_end, put_nodes};
+use crate::planning::{Plan, plan_op};
+use crate::standing::Standing;
+use flashbase::Sink;
+use jlog::{Session, SessionFault};
+use jmount::Mounted;
+use jnode::Order;
+use jscan::Geometry;
+use jsteps::{Op, Page};
+use std::alloc::Global;
+
+/// The flash that is written, and the page by which files are cut.
+#[derive(Clone, Copy, Debug, PartialEq, Eq)]
+pub struct Flash {
+    pub geometry: Geometry,
+    pub blocks: u32,
+    pub page: Page,
+}
+
+/// How many nodes are told, and how many of them are weak.
+#[derive(Clone, Copy, Debug, PartialEq, Eq)]
+pub(crate) struct Counts {
+    pub(crate) nodes: usize,
+    pub(crate) weak: usize,
+}
+
+/// Why not all is told.
+#[derive(Clone, Copy, Debug, PartialEq, Eq)]
+pub enum CutsFault {
+    /// The fault of a session: before any operation, or at the one whose line has this number.
+    Session {
+        fault: SessionFault,
+        line: Option<usize>,
+    },
+    /// The sink failed.
+    Output,
+}
+
+/// How many of these nodes are weak.
+fn count_weak(nodes: &[Standing]) -> usize
+    ensures { result ≡ weak_count nodes.now }
+{
+    nodes
+        .iter()
+        .filter(|standing| standing.weak.is_some())
+        .count()
+}
+
+/// A log that goes on from a mounted image, and is not written.
+#[tactic(none)]
+fn resume_plan<'a, E: Order>(
+    alloc: Global,
+    mounted: &Mounted<'a>,
+    flash: Flash,
+) -> Result<Plan<'a, E>, SessionFault>
+    requires { IsMountOf E.order flash.geometry.block mounted.now }
+    ensures ready { IfOk result IsReady }
+    ensures flash { IfOk result (λ plan. flash_of plan ≡ flash) }
+    ensures resumes { IfOk result (λ plan.
+        resumes E.order flash mounted.now ≡ Ok (point_of plan).address) }
+    ensures point { IfOk result (λ plan.
+        point_of plan ≡ base_point E.order flash mounted.now.image) }
+    ensures fault { IfErr result (IsNotResumed E.order flash mounted.now) }
+{
+    let held = Held::new(alloc);
+    match Session::<E, Held>::resume_paged(
+        alloc,
+        mounted,
+        flash.geometry,
+        flash.blocks,
+        flash.page,
+        held,
+    ) {
+        Ok(plan) => Ok(plan),
+        Err(fault) => Err(fault),
+    }
+}
+
+/// Plans one operation, and tells its nodes.
+#[tactic(none)]
+fn tell_op<E: Order, T: Sink>(
+    alloc: Global,
+    plan: &mut Plan<'_, E>,
+    telling: Telling,
+    line: usize,
+    op: &Op<'_>,
+    sink: &mut T,
+) -> Result<Counts, CutsFault>
+    requires { IsReady plan.old }
+    ensures flash { flash_of plan.new ≡ flash_of plan.old }
+    ensures ready { OnOk result (IsReady plan.new) }
+    ensures tells { TellsOp E.order (flash_of plan.old) telling line op.now (point_of plan.old)
+        (point_of plan.new) (record {
+          old = T.taken sink.old;
+          new = T.taken sink.new;
+          before = T.failures sink.old;
+          now = T.failures sink.new;
+        }) result }
+{
+    let nodes = match plan_op(alloc, plan, op) {
+        Ok(nodes) => nodes,
+        Err(fault) => {
+            return Err(CutsFault::Session {
+                fault,
+                line: Some(line),
+            });
+        }
+    };
+    match put_nodes(sink, telling, line, &nodes) {
+        Ok(()) => Ok(Counts {
+            nodes: nodes.len(),
+            weak: count_weak(&nodes),
+        }),
+        Err(_) => Err(CutsFault::Output),
+    }
+}
+
+/// Plans operations one after the other, and tells the nodes of each. It stops at the first fault.
+fn tell_ops<E: Order, T: Sink>(
+    alloc: Global,
+    plan: &mut Plan<'_, E>,
+    telling: Telling,
+    ops: &[Op<'_>],
+    lines: &[usize],
+    sink: &mut T,
+) -> Result<Counts, CutsFault>
+    requires ready { IsReady plan.old }
+    requires numbered { length lines.now ≡ length ops.now }
+    ensures { TellsOps E.order (flash_of plan.old)
+        (record { telling = telling; ops = ops.now; lines = lines.now }) (point_of plan.old)
+        (point_of plan.new) (record {
+          old = T.taken sink.old;
+          new = T.taken sink.new;
+          before = T.failures sink.old;
+          now = T.failures sink.new;
+        }) result }
+{
+    let mut nodes = 0;
+    let mut weak = 0;
+    let mut accepted = 0;
+    while accepted < ops.len() {
+        match tell_op::<E, T>(alloc, plan, telling, lines[accepted], &ops[accepted], sink) {
+            Ok(more) => {
+                nodes += more.nodes;
+                weak += more.weak;
+                accepted += 1;
+            }
+            Err(fault) => return Err(fault),
+        }
+    }
+    Ok(Counts { nodes, weak })
+}
+
+/// Plans operations on a mounted image as [`jlog::Session::run`] would write them, and writes nothing of it: what is told of
+/// each one's nodes goes out, and after the last of them the line on all. Answers how many nodes are weak. Operations have the
+/// numbers of their lines. The image was mounted in `E`'s order, and with the flash's geometry. At one time the nodes of one
+/// operation are held.
+///
+/// # Errors
+/// `Session` without a line as [`jlog::Session::resume_paged`] answers it, and nothing is told; with one as a session answers
+/// that operation, and those before it are told. `Output`: the sink failed, and took a beginning.
+#[tactic(none)]
+pub fn put_cuts<E: Order, T: Sink>(
+    alloc: Global,
+    mounted: &Mounted<'_>,
+    flash: Flash,
+    telling: Telling,
+    ops: &[Op<'_>],
+    lines: &[usize],
+    sink: &mut T,
+) -> Result<usize, CutsFault>
+    requires mount { IsMountOf E.order flash.geometry.block mounted.now }
+    requires numbered { length lines.now ≡ length ops.now }
+    ensures { PutsCuts E.order flash mounted.now
+        (record { telling = telling; ops = ops.now; lines = lines.now })
+        (record {
+          old = T.taken sink.old;
+          new = T.taken sink.new;
+          before = T.failures sink.old;
+          now = T.failures sink.new;
+        }) result }
+{
+    let mut plan = match resume_plan::<E>(alloc, mounted, flash) {
+        Ok(plan) => plan,
+        Err(fault) => return Err(CutsFault::Session { fault, line: None }),
+    };
+    let from = plan.cursor();
+    let counts = match tell_ops::<E, T>(alloc, &mut plan, telling, ops, lines, sink) {
+        Ok(counts) => counts,
+        Err(stopped) => return Err(stopped),
+    };
+    let end = plan.cursor();
+    match put_end(
+        sink,
+        telling,
+        ops.len(),
+        counts.nodes,
+        from,
+        end,
+        counts.weak,
+    ) {
+        Ok(()) => Ok(counts.weak),
+        Err(_) => Err(CutsFault::Output),
+    }
+}

@@ -1,0 +1,126 @@
+//! Operations that are planned, and told with the numbers of their lines.
+
+use crate::checks::{expect, expect_at};
+use crate::rows::MADE_NODES;
+use crate::sessions::{GEOMETRY, create, write};
+use byteorder::LittleEndian;
+use flashbase::Sink;
+use jcuts::{CutsFault, Flash, Held, Plan, Telling, plan_op, put_cuts};
+use jlog::{Session, SessionFault};
+use jmount::mount;
+use jsteps::{Op, OpFault, Page};
+use std::alloc::Global;
+use std::test::Fail;
+use test_support::Taker;
+
+const FLASH: Flash = Flash {
+    geometry: GEOMETRY,
+    blocks: 1,
+    page: Page::P4096,
+};
+
+/// The numbers of the operations' lines.
+const LINES: [usize; 4] = [3, 5, 6, 8];
+
+const TOLD: &str = "0000000c 68 line 3 step 1 of 2 stands from 00000050\n\
+    00000050 41 line 3 step 2 of 2 stands from 00000079\n\
+    0000007c 71 line 5 step 1 of 1 stands from 000000c0\n\
+    000000c4 73 line 6 step 1 of 1 stands from 0000010d\n\
+    weak 000000c4 at 68\n\
+    total operations 3 steps 4 from 00000000 to 00000110 weak 1\n";
+
+const NOTES: &str = "jffs2_image: note: weak 000000c4 at 68\n";
+
+/// Five bytes of which a cut goes unseen.
+const WEAK_BYTES: &[u8] = b"\xBE\xF9\x8E\x24\xFE";
+
+/// Tells operations on an empty base.
+fn tell<T: Sink>(
+    alloc: Global,
+    flash: Flash,
+    telling: Telling,
+    ops: &[Op<'_>],
+    sink: &mut T,
+) -> Result<Result<usize, CutsFault>, Fail> {
+    let mounted = mount::<LittleEndian>(alloc, &[], flash.geometry)?;
+    let lines = LINES.get(..ops.len()).ok_or("too many")?;
+    Ok(put_cuts::<LittleEndian, T>(alloc, &mounted, flash, telling, ops, lines, sink))
+}
+
+#[test]
+fn operations_are_told(rt: HostRuntime) -> Result<(), Fail> {
+    let ops = [create(), write(b"\xFF\xFF\xFF"), write(WEAK_BYTES)];
+    for (telling, wanted) in [(Telling::Nodes, TOLD), (Telling::WeakNotes, NOTES)] {
+        let mut sink = Taker::new(rt.alloc());
+        let told = tell(rt.alloc(), FLASH, telling, &ops, &mut sink)?;
+        expect_at(
+            &rt,
+            told == Ok(1) && sink.took(0, wanted.as_bytes()),
+            wanted,
+        );
+    }
+    Ok(())
+}
+
+/// The lines of the operations before a refused one stand.
+#[test]
+fn a_refused_operation_ends_it(rt: HostRuntime) -> Result<(), Fail> {
+    let ops = [create(), create(), write(WEAK_BYTES)];
+    let mut sink = Taker::new(rt.alloc());
+    let told = tell(rt.alloc(), FLASH, Telling::Nodes, &ops, &mut sink)?;
+    let wanted = CutsFault::Session {
+        fault: SessionFault::Refused(OpFault::Exists),
+        line: Some(5),
+    };
+    expect(
+        &rt,
+        told == Err(wanted) && sink.took(0, &TOLD.as_bytes()[..104]),
+    );
+    Ok(())
+}
+
+#[test]
+fn a_flash_without_blocks(rt: HostRuntime) -> Result<(), Fail> {
+    let flash = Flash { blocks: 0, ..FLASH };
+    let mut sink = Taker::new(rt.alloc());
+    let told = tell(rt.alloc(), flash, Telling::Nodes, &[create()], &mut sink)?;
+    let wanted = CutsFault::Session {
+        fault: SessionFault::Geometry,
+        line: None,
+    };
+    expect(&rt, told == Err(wanted) && sink.took(0, b""));
+    Ok(())
+}
+
+/// Each has taken a beginning of the text.
+#[test]
+fn sinks_that_fail_within(rt: HostRuntime) -> Result<(), Fail> {
+    let ops = [create(), write(b"\xFF\xFF\xFF"), write(WEAK_BYTES)];
+    for limit in [0, 103, 104, 208, 287] {
+        let mut sink = Taker::limited(rt.alloc(), 7, limit);
+        let told = tell(rt.alloc(), FLASH, Telling::Nodes, &ops, &mut sink)?;
+        let wanted = TOLD.as_bytes().get(..limit).ok_or("short")?;
+        expect_at(
+            &rt,
+            told == Err(CutsFault::Output) && sink.took(1, wanted),
+            limit,
+        );
+    }
+    Ok(())
+}
+
+/// Whether the nodes of an operation that is planned are these.
+fn are_made(alloc: Global) -> Result<bool, Fail> {
+    let mounted = mount::<LittleEndian>(alloc, &[], GEOMETRY)?;
+    let held = Held::new(alloc);
+    let mut plan: Plan<'_, LittleEndian> = Session::resume(alloc, &mounted, GEOMETRY, 1, held)?;
+    let planned = plan_op(alloc, &mut plan, &create())?;
+    Ok(planned.as_slice() == MADE_NODES.as_slice())
+}
+
+#[test]
+fn nodes_are_planned(rt: HostRuntime) -> Result<(), Fail> {
+    let is_so = are_made(rt.alloc())?;
+    expect(&rt, is_so);
+    Ok(())
+}

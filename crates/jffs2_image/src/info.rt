@@ -1,0 +1,159 @@
+//! `info`: what an image tells of itself, of which nobody says the byte order or the block size.
+ghost use Rattle.std.specs.Prelude.{◌≡◌, ◌≤◌, IfErr, IfOk, is_some, if◌then◌else◌, length, option_map};
+ghost use Rattle.std.specs.Io.KnownBytes.{Appends};
+ghost use Rattle.flashbase.specs.Device.{Puts};
+ghost use Rattle.jscan.specs.Image.{greatest_image};
+ghost use Rattle.jinfo.specs.Containers.{container_line};
+ghost use Rattle.jinfo.specs.Infos.{order_of};
+ghost use Rattle.jinfo.specs.InfoText.{info_text};
+ghost use Rattle.jffs2_image.specs.Host.{HasFailed, ReadsFile};
+ghost use Rattle.jffs2_image.specs.InfoRuns.{EndsInfo, InformsOf, InformsOfFile};
+ghost use Rattle.jffs2_image.specs.Runs.{Says};
+ghost use Rattle.jffs2_image.specs.Writes.{GivesText};
+
+use crate::host::Loader;
+use crate::output::Output;
+use crate::program::report_fault;
+use crate::writing::load_file;
+use flashbase::{DeviceFault, Sink};
+use jcommand::Outcome;
+use jinfo::{Container, InfoFault, container_of, put_container_note, put_info};
+use jnode::Endian;
+use jreport::ProgramFault;
+
+/// What an image was found to be.
+#[derive(Clone, Copy)]
+pub struct Informed {
+    /// Its byte order; none where no header is good.
+    pub order: Option<Endian>,
+    /// What the file begins as, where that is no image.
+    pub container: Option<Container>,
+}
+
+/// Puts all lines of an image, and answers its byte order.
+fn put_lines<T: Output>(image: &[u8], output: &mut T) -> Result<Option<Endian>, DeviceFault>
+    requires { length image.now ≤ greatest_image }
+    ensures order { IfOk result (λ order. order ≡ order_of image.now) }
+    ensures puts { Puts (T.taken output.old) (T.taken output.new) (T.failures output.old)
+        (T.failures output.new) (info_text image.now) result }
+{
+    match put_info(image, output) {
+        Ok(order) => Ok(order),
+        Err(InfoFault::Output | InfoFault::TooLarge) => Err(DeviceFault),
+    }
+}
+
+/// The same to the last byte.
+fn put_whole<T: Output>(image: &[u8], output: &mut T) -> Result<Option<Endian>, DeviceFault>
+    requires { length image.now ≤ greatest_image }
+    ensures order { IfOk result (λ order. order ≡ order_of image.now) }
+    ensures whole { IfOk result (λ _. Appends (T.taken output.old) (T.given output.new)
+        (info_text image.now) × (T.failures output.new ≡ T.failures output.old)) }
+    ensures part { IfErr result (λ _. GivesText (T.taken output.old) (T.given output.new)
+        (info_text image.now)) }
+    ensures failed { IfErr result (λ _. HasFailed (T.failures output.old)
+        (T.failures output.new)) }
+{
+    let put = put_lines(image, output);
+    let finished = output.finish();
+    match (put, finished) {
+        (Ok(order), Ok(())) => Ok(order),
+        _ => Err(DeviceFault),
+    }
+}
+
+/// The same, with what the file begins as.
+fn inform<T: Output>(image: &[u8], output: &mut T) -> Result<Informed, ProgramFault<'static>>
+    requires { length image.now ≤ greatest_image }
+    ensures { InformsOf image.now (record {
+      old = T.taken output.old;
+      new = T.given output.new;
+      before = T.failures output.old;
+      now = T.failures output.new;
+    }) result }
+{
+    match put_whole(image, output) {
+        Ok(order) => Ok(Informed {
+            order,
+            container: container_of(image),
+        }),
+        Err(DeviceFault) => Err(ProgramFault::Output),
+    }
+}
+
+/// The same of the file of a name.
+pub fn inform_of_file<'a, L: Loader, T: Output>(
+    loader: &mut L,
+    name: &'a str,
+    output: &mut T,
+) -> Result<Informed, ProgramFault<'a>>
+    ensures informs { InformsOfFile name.entry.now (L.told loader.old name.entry.now)
+        (output.new ≡ output.old) (record {
+          old = T.taken output.old;
+          new = T.given output.new;
+          before = T.failures output.old;
+          now = T.failures output.new;
+        }) result }
+    ensures reads { ReadsFile (L.told loader.old name.entry.now) (L.failures loader.old)
+        (L.failures loader.new) result }
+{
+    let image = match load_file(loader, name) {
+        Ok(image) => image,
+        Err(fault) => return Err(fault),
+    };
+    inform(image.as_slice(), output)
+}
+
+/// Says what the file begins as, where it begins as something else.
+fn note_container<E: Sink>(container: Option<Container>, errors: &mut E)
+    ensures { Says ((E.taken errors.new ≡ E.taken errors.old)
+        × (E.failures errors.new ≡ E.failures errors.old)) (E.taken errors.old) (E.taken errors.new)
+        (E.failures errors.old) (E.failures errors.new) (option_map container_line container) }
+{
+    if let Some(container) = container {
+        let _ = put_container_note(Some(container), errors);
+    }
+}
+
+/// How it ends: an image with no byte order is none, which is found.
+fn outcome_of_order(order: Option<Endian>) -> Outcome
+    ensures { result ≡ (if is_some order then Outcome.Done else Outcome.Found) }
+{
+    match order {
+        Some(_) => Outcome::Done,
+        None => Outcome::Found,
+    }
+}
+
+/// `info` as a command: that of the file of a name.
+pub fn run_info<L: Loader, T: Output, E: Sink>(
+    loader: &mut L,
+    name: &str,
+    output: &mut T,
+    errors: &mut E,
+) -> Outcome
+    ensures { EndsInfo name.now (record {
+      told = L.told loader.old;
+      before = L.failures loader.old;
+      now = L.failures loader.new;
+    }) (output.new ≡ output.old) (record {
+      old = T.taken output.old;
+      new = T.given output.new;
+      before = T.failures output.old;
+      now = T.failures output.new;
+    })
+        (record {
+          old = E.taken errors.old;
+          new = E.taken errors.new;
+          before = E.failures errors.old;
+          now = E.failures errors.new;
+        }) result }
+{
+    match inform_of_file(loader, name, output) {
+        Ok(found) => {
+            note_container(found.container, errors);
+            outcome_of_order(found.order)
+        }
+        Err(fault) => report_fault(&fault, errors),
+    }
+}

@@ -1,0 +1,5 @@
+use Rattle.jtree.proofs.WholeFilesLemmas.{steps_keep_files_whole, updates_are_whole}
+use Rattle.jtree.proofs.laws.updates_are_whole.Goals as goal
+
+pub returns : goal.returns
+returns c = record { steps = steps_keep_files_whole; stopped = updates_are_whole }
