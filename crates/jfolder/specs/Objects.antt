@@ -31,8 +31,8 @@ IsOfKind told (what.Symlink target) = kind_bits told.mode ≡ 10
 IsOfKind told (what.Link first) = kind_bits told.mode ≡ 8
 
 -- the name of the file that the host tells at a path, and opens
-abbrev pub NamesFile : Known → List ℕ → List ℕ → Type 0
-NamesFile known path file =
+abbrev pub HasHostFile : Known → List ℕ → List ℕ → Type 0
+HasHostFile known path file =
     IfSome (known.host_path path) (λ told. file ≡ told) × MayAnswer (known.is_opened path) true
 
 -- names of one object
@@ -46,7 +46,7 @@ LinkLeadsTo known path first = IfSome (known.looked path)
     × MayAnswer (known.is_told (inside first)) true
 
 abbrev pub HasObject : Known → List ℕ → What → Type 0
-HasObject known path (what.Regular file) = NamesFile known path (string_bytes file)
+HasObject known path (what.Regular file) = HasHostFile known path (string_bytes file)
 HasObject known path (what.Symlink target) =
     IfSome (known.target path) (λ told. string_bytes target ≡ told)
 HasObject known path (what.Link first) = LinkLeadsTo known path (string_bytes first)

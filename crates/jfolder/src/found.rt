@@ -5,7 +5,7 @@ ghost use Rattle.std.specs.String.{string_bytes};
 ghost use Rattle.jfolder.specs.Actions.{AttributesFit, WhatFits};
 ghost use Rattle.jfolder.specs.Complete.{NamesFit};
 ghost use Rattle.jfolder.specs.Links.{IsIdentity};
-ghost use Rattle.jfolder.specs.Objects.{HasObject, IsOfKind, NamesFile, kind_bits, kind_number};
+ghost use Rattle.jfolder.specs.Objects.{HasObject, IsOfKind, HasHostFile, kind_bits, kind_number};
 ghost use Rattle.jfolder.specs.Reasons.{IsAttributesWhy, IsFileWhy, IsKindWhy, IsNoDirectory, IsObjectWhy, IsTargetWhy, IsWhy, SkipsFor};
 ghost use Rattle.jfolder.specs.Trees.{HasTarget, LinksBack};
 ghost use Rattle.jfolder.specs.Walking.{FoundFits, HasOptions, IsTold};
@@ -184,7 +184,7 @@ pub fn file_of<F: HostFolder>(folder: &mut F, path: &str, size: u64) -> Result<S
     ensures some { IfOk result (λ file. 0 < length (string_bytes file)) }
     ensures size { IfOk result (λ _. size ≤ 268435456) }
     ensures told { IfOk result
-        (λ file. NamesFile (F.known folder.old) path.now (string_bytes file)) }
+        (λ file. HasHostFile (F.known folder.old) path.now (string_bytes file)) }
     ensures why { IfErr result (SkipsFor (IsFileWhy (F.known folder.old) path.now size)) }
     ensures kept { F.known folder.new ≡ F.known folder.old }
 {
