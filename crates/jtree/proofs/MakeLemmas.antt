@@ -1,5 +1,6 @@
 -- The operation of a new object, and what it reaches.
-use Rattle.std.proofs.Common.{◌≡◌, ℕ, suc, ◌+◌, ◌*◌, ◌/◌, ◌<◌, ◌≤◌, true, false, List, [], ◌∷◌, ◌++◌, length, take, drop, Some, None, Result, Ok, refl, ap, sym, ◌∙◌, subst, length-append, length-drop, arith}
+use Rattle.std.proofs.Common.{◌≡◌, ℕ, suc, ◌+◌, ◌-◌, ◌*◌, ◌/◌, ◌<◌, ◌≤◌, Bool, true, false, cond, List, [], ◌∷◌, ◌++◌, length, take, drop, Some, None, Result, Ok, refl, ap, sym, ◌∙◌, subst, length-append, length-drop, arith}
+use Rattle.std.specs.Prelude.{◌==◌, flat_map, nat_lt}
 use Rattle.std.specs.List.{list_any, AllByRecursion}
 use Rattle.std.specs.Ordering.{eq_by_cmp, nat_cmp}
 use Rattle.std.specs.Cmp.{nat_cmp_total}
@@ -11,7 +12,7 @@ use Rattle.jmount.specs.Find.{walk}
 use Rattle.jmount.specs.declared.fault.FindFault.{FindFault}
 use Rattle.jmount.proofs.ShapeLemmas.{there_of_directory}
 use Rattle.jsteps.specs.Nodes.{Indexed, nodes_of}
-use Rattle.jsteps.specs.Planning.{IsPage, bytes_steps, first_len, steps_of, write_steps}
+use Rattle.jsteps.specs.Planning.{IsPage, bytes_steps, first_len, page_puts, piece_puts, plain_page, puts, spelling_len, steps_of, write_steps, zeros_to}
 use Rattle.jsteps.specs.Refusals.{is_past}
 use Rattle.jsteps.specs.Laws.{OpFits}
 use Rattle.jsteps.specs.Steps.{bytes, do_step, after}
@@ -21,7 +22,6 @@ use Rattle.jsteps.specs.declared.op.Op.TheVariants as op
 use Rattle.jsteps.specs.declared.step.Step.{Step}
 use Rattle.jsteps.specs.declared.step.Step.TheVariants as step
 use Rattle.jsteps.proofs.ConsistentLemmas.{root_below}
-use Rattle.jsteps.proofs.FileLemmas.{IsNext, write_next}
 use Rattle.jsteps.proofs.PlanLemmas.{first_taken_len}
 use Rattle.jtree.proofs.AcceptLemmas.{IsFree, accept}
 use Rattle.jtree.proofs.AppendLemmas.{after-append, write_appends, write_few}
@@ -118,22 +118,31 @@ file_makes page s time mode uid gid all dir name is_page =
           ∙ insert_other (eq_by_cmp nat_cmp k s.next) o (get s.objects k) (untied k s.next other);
     })
 
--- steps whose nodes are of one number work on that number
-has_owner : (x : Indexed) (ino : ℕ) (s : Step) → ino ≤ 0xFFFFFFFF → IsNext ino s → HasOwner s
-unfolding IsNext
-has_owner x ino (step.MakeObject time mode uid gid target) le is = tt
-has_owner x ino (step.SetName time directory name i) le is = subst (λ k. k ≤ 0xFFFFFFFF) (sym (is x).0) le
-has_owner x ino (step.ClearName time directory name) le is = subst (λ k. k ≤ 0xFFFFFFFF) (sym (is x).0) le
-has_owner x ino (step.Put time i offset new) le is = subst (λ k. k ≤ 0xFFFFFFFF) (sym (is x).0) le
-has_owner x ino (step.Zero time i count) le is = subst (λ k. k ≤ 0xFFFFFFFF) (sym (is x).0) le
-has_owner x ino (step.Cut time i size) le is = subst (λ k. k ≤ 0xFFFFFFFF) (sym (is x).0) le
-has_owner x ino (step.SetAttributes time i attributes) le is = subst (λ k. k ≤ 0xFFFFFFFF) (sym (is x).0) le
+-- ---- the numbers that a write works on
 
--- and a last one that works on another
-have_owners : (x : Indexed) (ino : ℕ) (steps : List Step) (last : Step) → ino ≤ 0xFFFFFFFF → AllByRecursion (IsNext ino) steps → HasOwner last
-    → AllByRecursion HasOwner (steps ++ last ∷ [])
-have_owners x ino [] last le all has = (has, tt)
-have_owners x ino (s ∷ steps) last le all has = (has_owner x ino s le all.0, have_owners x ino steps last le all.1 has)
+owners_cond : (b : Bool) (xs ys : List Step) → AllByRecursion HasOwner xs → AllByRecursion HasOwner ys → AllByRecursion HasOwner (cond b xs ys)
+owners_cond true xs ys h k = h
+owners_cond false xs ys h k = k
+
+owners_append : (xs ys : List Step) → AllByRecursion HasOwner xs → AllByRecursion HasOwner ys → AllByRecursion HasOwner (xs ++ ys)
+owners_append [] ys h k = k
+owners_append (x ∷ xs) ys h k = (h.0, owners_append xs ys h.1 k)
+
+owners_flat : (f : ℕ → List Step) → ((n : ℕ) → AllByRecursion HasOwner (f n)) → (ns : List ℕ) → AllByRecursion HasOwner (flat_map f ns)
+owners_flat f h [] = tt
+owners_flat f h (n ∷ ns) = owners_append (f n) (flat_map f ns) (h n) (owners_flat f h ns)
+
+piece_owners : (time ino start : ℕ) (piece : List ℕ) → ino ≤ 0xFFFFFFFF → AllByRecursion HasOwner (piece_puts time ino start piece)
+piece_owners time ino start piece le =
+    owners_cond (length piece == spelling_len) (step.Put time ino start (take plain_page piece) ∷ step.Put time ino (start + plain_page) (drop plain_page piece) ∷ [])
+    (step.Put time ino start piece ∷ []) (le, (le, tt)) (le, tt)
+
+write_owners : (page time ino size offset : ℕ) (new : List ℕ) → ino ≤ 0xFFFFFFFF → AllByRecursion HasOwner (write_steps page time ino size offset new)
+write_owners page time ino size offset [] le = tt
+write_owners page time ino size offset (b ∷ new) le =
+    owners_append (zeros_to time ino size offset) (puts page time ino offset (b ∷ new))
+    (owners_cond (nat_lt size offset) (step.Zero time ino (offset - size) ∷ []) [] (le, tt) tt)
+    (owners_flat (λ n. page_puts page time ino offset (b ∷ new) (offset / page + n)) (λ n. piece_owners time ino _ _ le) _)
 
 file_few : (page ino time mode uid gid : ℕ) (all : List ℕ) (last : Step) → IsPage page
     → length (bytes_steps page ino time mode uid gid all ++ last ∷ []) ≤ 8 + length all / 512
@@ -170,6 +179,6 @@ file_reaches page n x s time path mode uid gid all way name dir root made is_pag
     let next : x.tree.next ≡ s.next = at_next n x s at in
     let first = first_len page (length all) in
     let owners : AllByRecursion HasOwner steps =
-    (tt, have_owners x s.next (write_steps page time s.next first first (drop first all)) set (omega arith) (write_next page time s.next first first (drop first all)) owner) in
+    (tt, owners_append (write_steps page time s.next first first (drop first all)) (set ∷ []) (write_owners page time s.next first first (drop first all) (omega arith)) (owner, tt)) in
     made_reaches page n x s o steps (new_object time whole uid gid all) way name dir root made (8 + length all / 512) is_page at stands fits is_free are owners
     (file_makes page s time whole uid gid all dir name is_page) (file_few page s.next time whole uid gid all set is_page) leads there free short (omega arith)

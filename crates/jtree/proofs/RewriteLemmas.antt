@@ -1,18 +1,13 @@
 -- An object that gets other bytes.
-use Rattle.std.proofs.Common.{◌≡◌, ◌≢◌, ℕ, ◌+◌, ◌<◌, Bool, true, false, cond, List, [], ◌∷◌, ◌++◌, length, take, drop, Option, Some, Ok, refl, inl, inr, ap, sym, ◌∙◌, subst, ⊎_elim, arith}
-use Rattle.std.specs.Prelude.{Contains, is_some}
+use Rattle.std.proofs.Common.{◌≡◌, ◌≢◌, ℕ, ◌+◌, Bool, true, false, cond, List, ◌++◌, length, take, drop, Option, Some, refl, ap, sym, ◌∙◌, subst, arith}
 use Rattle.std.specs.Ordering.{eq_by_cmp, nat_cmp}
 use Rattle.std.specs.Cmp.{nat_cmp_total, unsigned_tied}
 use Rattle.std.specs.FinMap.{get, insert, get-insert}
-use Rattle.std.proofs.lemmas.Bool.{cases_eq, cond-true, eq-eqb, ne_eqb}
+use Rattle.std.proofs.lemmas.Bool.{cond-true, eq-eqb, ne_eqb}
 use Rattle.std.proofs.lemmas.List.{append-nil, take_all, drop_all}
-use Rattle.std.proofs.lemmas.List.Elements.{Contains-append_left, Contains-push, Contains-push_cases}
-use Rattle.jmount.specs.Tree.{ObjectOf, State, object, has_bits, directory_bits}
-use Rattle.jmount.specs.Find.{walk}
+use Rattle.jmount.specs.Tree.{ObjectOf, State, object}
 use Rattle.jsteps.specs.Steps.{bytes, do_step, with_body, rewritten}
 use Rattle.jsteps.specs.declared.step.Step.TheVariants as step
-use Rattle.jtree.proofs.WayLemmas.{Extends, walk_extends}
-use Rattle.jtree.proofs.StandLemmas.{Made, IsHeld, Stands, one_number}
 
 pub record Rewrites (s t : State) (ino : ℕ) (old new : ObjectOf (List ℕ)) : Type 0 where
   pub names : t.names ≡ s.names
