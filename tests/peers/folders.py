@@ -79,9 +79,10 @@ def differences(got, wanted):
 
 
 def told(status, errors, lost):
-    """A line for each object that is left out, and the status 3 where there is one."""
+    """A line for each object that is left out, one for all names in a directory that are no text, and the status 3 where there is one."""
     lines = errors.splitlines()
-    fine = status == (3 if lost else 0) and len(lines) == lost and all(line.startswith("left out ") for line in lines)
+    count = sum(int(line.rpartition(" ")[2]) if ": names that are no text: " in line else 1 for line in lines)
+    fine = status == (3 if lost else 0) and count == lost and all(line.startswith("left out ") for line in lines)
     return [] if fine else [f"status {status}, {lost} are lost: {errors}"]
 
 

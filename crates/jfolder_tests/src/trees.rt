@@ -283,4 +283,3 @@ fn a_sink_that_fails(rt: HostRuntime) {
         }
     }
 }
-
