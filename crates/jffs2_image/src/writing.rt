@@ -87,7 +87,7 @@ fn load_parts<'a, L: Loader>(
 }
 
 /// The numbers of lines.
-fn numbers_of(alloc: Global, lines: &[Line<'_>]) -> Result<Vec<usize>, AllocError>
+pub fn numbers_of(alloc: Global, lines: &[Line<'_>]) -> Result<Vec<usize>, AllocError>
     ensures { IfOk result (λ numbers. numbers.items ≡ map (λ line. line.number) lines.now) }
 {
     lines.iter().map(|line| line.number).collect(alloc)
