@@ -41,7 +41,8 @@ answer_of_cuts (Err (cuts.Session fault line)) = Err (program.Session fault line
 answer_of_cuts (Err cuts.Output) = Err program.Output
 
 -- The listing's operations on a base that mounts are told, with the bytes of the host's files.
-pub record TellsLines (told : List ℕ → Option (List ℕ)) (e : Endian) (flash : Flash) (base text : List ℕ) (sink : Passage) (answer : Result ℕ ProgramFault) : Type 0 where
+pub record TellsLines (told : List ℕ → Option (List ℕ)) (e : Endian) (flash : Flash)
+    (base text : List ℕ) (sink : Passage) (answer : Result ℕ ProgramFault) : Type 0 where
   pub lines : List Line
   pub files : List ℕ → List ℕ
   pub mount : Mount
@@ -53,7 +54,8 @@ pub record TellsLines (told : List ℕ → Option (List ℕ)) (e : Endian) (flas
   pub comes_to : answer ≡ answer_of_cuts cuts
 
 -- why nothing is told of them
-abbrev pub IsLinesFault : (List ℕ → Option (List ℕ)) → Endian → ℕ → List ℕ → List ℕ → ProgramFault → Type 0
+abbrev pub IsLinesFault : (List ℕ → Option (List ℕ)) → Endian → ℕ → List ℕ → List ℕ → ProgramFault
+    → Type 0
 IsLinesFault told e size base text (program.Listing n) = lines_of text ≡ Err n
 IsLinesFault told e size base text (program.File name) =
     (lines : List Line) × (lines_of text ≡ Ok lines) × IsNamedByLine lines name.now
@@ -65,7 +67,8 @@ IsLinesFault told e size base text program.OutOfMemory = Unit {0}
 IsLinesFault told e size base text _ = ⊥
 
 -- the one or the other
-abbrev pub TellsText : (List ℕ → Option (List ℕ)) → Endian → Flash → List ℕ → List ℕ → Passage → Result ℕ ProgramFault → Type 0
+abbrev pub TellsText : (List ℕ → Option (List ℕ)) → Endian → Flash → List ℕ → List ℕ → Passage
+    → Result ℕ ProgramFault → Type 0
 TellsText told e flash base text sink answer =
     TellsLines told e flash base text sink answer
     ⊎ ((fault : ProgramFault) × (answer ≡ Err fault)
@@ -84,8 +87,10 @@ abbrev pub IsBaseUnread : (List ℕ → Option (List ℕ)) → Option (List ℕ)
 IsBaseUnread told None fault = ⊥
 IsBaseUnread told (Some name) fault = IsUnreadFile name (told name) fault
 
--- Both files are read, and the listing's operations are told; or one of them can't be, and nothing is.
-abbrev pub TellsFiles : (List ℕ → Option (List ℕ)) → Endian → Flash → Option (List ℕ) → List ℕ → Passage → Result ℕ ProgramFault → Type 0
+-- Both files are read, and the listing's operations are told; or one of them can't be, and nothing
+-- is.
+abbrev pub TellsFiles : (List ℕ → Option (List ℕ)) → Endian → Flash → Option (List ℕ) → List ℕ
+    → Passage → Result ℕ ProgramFault → Type 0
 TellsFiles told e flash on listing sink answer =
     ((base : List ℕ) × (text : List ℕ) × IsBaseOf told on base × AreLoaded (told listing) text
     × TellsText told e flash base text sink answer)
@@ -93,8 +98,8 @@ TellsFiles told e flash on listing sink answer =
     × (IsBaseUnread told on fault ⊎ IsUnreadFile listing (told listing) fault)
     × (sink.new ≡ sink.old) × (sink.now ≡ sink.before))
 
--- Files are only read. One that can't be opened, or fails while it is read, counts once; at what comes after all reading none
--- has.
+-- Files are only read. One that can't be opened, or fails while it is read, counts once; at what
+-- comes after all reading none has.
 abbrev pub BlamesReading : ℕ → ℕ → Result ℕ ProgramFault → Type 0
 BlamesReading before now (Err (program.File name)) = now ≡ next_count before
 BlamesReading before now (Err (program.Load load.Device)) = now ≡ next_count before
@@ -117,12 +122,14 @@ flash_asked asked =
     record { geometry = asked.options.geometry; blocks = asked.blocks; page = asked.page }
 
 -- It is told, and all that was put is given on.
-pub record FinishesCuts (told : List ℕ → Option (List ℕ)) (asked : CutsAsked) (output : Passage) (result : Result ℕ ProgramFault) : Type 0 where
+pub record FinishesCuts (told : List ℕ → Option (List ℕ)) (asked : CutsAsked) (output : Passage)
+    (result : Result ℕ ProgramFault) : Type 0 where
   pub taken : Option (List ℕ)
   pub count : ℕ
   pub answer : Result ℕ ProgramFault
   pub finished : Bool
-  pub tells : TellsFiles told asked.options.endian (flash_asked asked) asked.on asked.listing (record { old = output.old; new = taken; before = output.before; now = count }) answer
+  pub tells : TellsFiles told asked.options.endian (flash_asked asked) asked.on asked.listing
+      (record { old = output.old; new = taken; before = output.before; now = count }) answer
   pub finishes : Finishes taken output.new count output.now finished
   pub comes_to : result ≡ answer_finished answer finished
 
@@ -136,16 +143,20 @@ abbrev pub outcome_of_cuts : Result ℕ ProgramFault → Outcome
 outcome_of_cuts (Ok weak) = outcome_of weak
 outcome_of_cuts (Err fault) = outcome.Fault
 
-pub record EndsCuts (asked : CutsAsked) (reading : FileReads) (output errors : Passage) (result : Outcome) : Type 0 where
+pub record EndsCuts (asked : CutsAsked) (reading : FileReads) (output errors : Passage)
+    (result : Outcome) : Type 0 where
   pub answer : Result ℕ ProgramFault
   pub tells : FinishesCuts reading.told asked output answer
   pub blames : BlamesReading reading.before reading.now answer
-  pub said : Says ((errors.new ≡ errors.old) × (errors.now ≡ errors.before)) errors.old errors.new errors.before errors.now (said_after_cuts answer)
+  pub said : Says ((errors.new ≡ errors.old) × (errors.now ≡ errors.before)) errors.old errors.new
+      errors.before errors.now (said_after_cuts answer)
   pub ends : result ≡ outcome_of_cuts answer
 
 -- `cuts`, of what is given
-pub record RunsCuts (args : List (List ℕ)) (reading : FileReads) (output errors : Passage) (result : Outcome) : Type 0 where
+pub record RunsCuts (args : List (List ℕ)) (reading : FileReads) (output errors : Passage)
+    (result : Outcome) : Type 0 where
   pub asked : CutsAsked
-  pub parsed : parsed_from args ≡ Some (CutsParsed asked.options asked.blocks asked.page asked.on asked.listing)
+  pub parsed : parsed_from args
+      ≡ Some (CutsParsed asked.options asked.blocks asked.page asked.on asked.listing)
   pub faultless : IsFaultless args
   pub ends : EndsCuts asked reading output errors result
