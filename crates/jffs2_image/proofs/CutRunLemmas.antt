@@ -13,7 +13,7 @@ use Rattle.jlisting.specs.declared.line.Line.{Line}
 use Rattle.jbuild.specs.Operations.{ops_in}
 use Rattle.jbuild.specs.Parts.{part_contents}
 use Rattle.jbuild.specs.declared.parts.Parts.{Parts}
-use Rattle.jcuts.specs.Cuts.{Asked, Passage, PutsCuts}
+use Rattle.jcuts.specs.Cuts.{Asked, SinkChange, PutsCuts}
 use Rattle.jcuts.specs.declared.cuts.CutsFault.{CutsFault}
 use Rattle.jcuts.specs.declared.cuts.Flash.{Flash}
 use Rattle.jcuts.specs.declared.lines.Telling.TheVariants.{Nodes}
@@ -28,7 +28,7 @@ pub have_bytes : (told : List ℕ → Option (List ℕ)) (lines : List Line) (pa
 have_bytes told lines parts read name named = (read name named).1
 
 -- nothing is told of the lines
-pub told_fault : (told : List ℕ → Option (List ℕ)) (e : Endian) (flash : Flash) (base text : List ℕ) (sink : Passage) (r : Result ℕ ProgramFault) (f : ProgramFault)
+pub told_fault : (told : List ℕ → Option (List ℕ)) (e : Endian) (flash : Flash) (base text : List ℕ) (sink : SinkChange) (r : Result ℕ ProgramFault) (f : ProgramFault)
     → IsErrAnd r (λ is. is ≡ f) → IsLinesFault told e flash.geometry.block base text f → sink.new ≡ sink.old → sink.now ≡ sink.before → TellsText told e flash base text sink r
 told_fault told e flash base text sink (Ok x) f is due new now = absurd is
 told_fault told e flash base text sink (Err other) f is due new now = inr (f, ap Err is, due, new, now)
@@ -94,7 +94,7 @@ pub blames_from : (before mid now : ℕ) (r : Result ℕ ProgramFault) → mid �
 blames_from before mid now r same blames = subst (λ (i : ℕ). BlamesReading i now r) same blames
 
 -- the operations were told
-pub told_lines : (told : List ℕ → Option (List ℕ)) (e : Endian) (flash : Flash) (base text : List ℕ) (sink : Passage) (lines : List Line) (files : List ℕ → List ℕ) (m : Mount) (ops : List Op) (numbers : List ℕ)
+pub told_lines : (told : List ℕ → Option (List ℕ)) (e : Endian) (flash : Flash) (base text : List ℕ) (sink : SinkChange) (lines : List Line) (files : List ℕ → List ℕ) (m : Mount) (ops : List Op) (numbers : List ℕ)
     (cuts : Result ℕ CutsFault) (r : Result ℕ ProgramFault)
     → lines_of text ≡ Ok lines → HaveBytes told lines files → Answers e flash.geometry.block base (Ok m) → ops ≡ ops_in files lines → numbers ≡ map (λ line. line.number) lines
     → PutsCuts e flash m (record { telling = Nodes; ops = ops; lines = numbers }) sink cuts → r ≡ answer_of_cuts cuts → TellsText told e flash base text sink r

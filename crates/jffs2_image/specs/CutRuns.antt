@@ -9,7 +9,7 @@ use Rattle.jsteps.specs.declared.page.Page.{Page}
 use Rattle.jlisting.specs.Listing.{lines_of}
 use Rattle.jlisting.specs.declared.line.Line.{Line}
 use Rattle.jbuild.specs.Operations.{ops_in}
-use Rattle.jcuts.specs.Cuts.{Asked, Passage, PutsCuts}
+use Rattle.jcuts.specs.Cuts.{Asked, SinkChange, PutsCuts}
 use Rattle.jcuts.specs.declared.cuts.CutsFault.{CutsFault}
 use Rattle.jcuts.specs.declared.cuts.CutsFault.TheVariants as cuts
 use Rattle.jcuts.specs.declared.cuts.Flash.{Flash}
@@ -42,7 +42,7 @@ answer_of_cuts (Err cuts.Output) = Err program.Output
 
 -- The listing's operations on a base that mounts are told, with the bytes of the host's files.
 pub record TellsLines (told : List ℕ → Option (List ℕ)) (e : Endian) (flash : Flash)
-    (base text : List ℕ) (sink : Passage) (answer : Result ℕ ProgramFault) : Type 0 where
+    (base text : List ℕ) (sink : SinkChange) (answer : Result ℕ ProgramFault) : Type 0 where
   pub lines : List Line
   pub files : List ℕ → List ℕ
   pub mount : Mount
@@ -67,7 +67,7 @@ IsLinesFault told e size base text program.OutOfMemory = Unit {0}
 IsLinesFault told e size base text _ = ⊥
 
 -- the one or the other
-abbrev pub TellsText : (List ℕ → Option (List ℕ)) → Endian → Flash → List ℕ → List ℕ → Passage
+abbrev pub TellsText : (List ℕ → Option (List ℕ)) → Endian → Flash → List ℕ → List ℕ → SinkChange
     → Result ℕ ProgramFault → Type 0
 TellsText told e flash base text sink answer =
     TellsLines told e flash base text sink answer
@@ -90,7 +90,7 @@ IsBaseUnread told (Some name) fault = IsUnreadFile name (told name) fault
 -- Both files are read, and the listing's operations are told; or one of them can't be, and nothing
 -- is.
 abbrev pub TellsFiles : (List ℕ → Option (List ℕ)) → Endian → Flash → Option (List ℕ) → List ℕ
-    → Passage → Result ℕ ProgramFault → Type 0
+    → SinkChange → Result ℕ ProgramFault → Type 0
 TellsFiles told e flash on listing sink answer =
     ((base : List ℕ) × (text : List ℕ) × IsBaseOf told on base × AreLoaded (told listing) text
     × TellsText told e flash base text sink answer)
@@ -122,7 +122,7 @@ flash_asked asked =
     record { geometry = asked.options.geometry; blocks = asked.blocks; page = asked.page }
 
 -- It is told, and all that was put is given on.
-pub record FinishesCuts (told : List ℕ → Option (List ℕ)) (asked : CutsAsked) (output : Passage)
+pub record FinishesCuts (told : List ℕ → Option (List ℕ)) (asked : CutsAsked) (output : SinkChange)
     (result : Result ℕ ProgramFault) : Type 0 where
   pub taken : Option (List ℕ)
   pub count : ℕ
@@ -143,7 +143,7 @@ abbrev pub outcome_of_cuts : Result ℕ ProgramFault → Outcome
 outcome_of_cuts (Ok weak) = outcome_of weak
 outcome_of_cuts (Err fault) = outcome.Fault
 
-pub record EndsCuts (asked : CutsAsked) (reading : FileReads) (output errors : Passage)
+pub record EndsCuts (asked : CutsAsked) (reading : FileReads) (output errors : SinkChange)
     (result : Outcome) : Type 0 where
   pub answer : Result ℕ ProgramFault
   pub tells : FinishesCuts reading.told asked output answer
@@ -153,7 +153,7 @@ pub record EndsCuts (asked : CutsAsked) (reading : FileReads) (output errors : P
   pub ends : result ≡ outcome_of_cuts answer
 
 -- `cuts`, of what is given
-pub record RunsCuts (args : List (List ℕ)) (reading : FileReads) (output errors : Passage)
+pub record RunsCuts (args : List (List ℕ)) (reading : FileReads) (output errors : SinkChange)
     (result : Outcome) : Type 0 where
   pub asked : CutsAsked
   pub parsed : parsed_from args

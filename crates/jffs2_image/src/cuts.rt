@@ -12,7 +12,7 @@ ghost use Rattle.jffs2_image.specs.CutRuns.{answer_of_cuts, BlamesReading, EndsC
 use crate::host::Loader;
 use crate::output::Output;
 use crate::program::report_fault;
-use crate::writing::{load_file, load_parts, numbers_of};
+use crate::writing::{Texts, load_file, load_parts, numbers_of};
 use byteorder::{BigEndian, LittleEndian};
 use flashbase::Sink;
 use jbuild::{Parts, operations};
@@ -61,7 +61,7 @@ fn tell_lines<'p, 'b: 'p, E: Order, T: Sink>(
     flash: Flash,
     base: &[u8],
     lines: Vec<Line<'b>>,
-    parts: &'p Parts<'_>,
+    parts: &'p Parts,
     sink: &mut T,
 ) -> Result<u64, ProgramFault<'static>>
     ensures tells { (told : List ℕ → Option (List ℕ)) → (text : List ℕ)
@@ -87,6 +87,7 @@ fn tell_text<'a, E: Order, L: Loader, T: Sink>(
     flash: Flash,
     base: &[u8],
     text: &'a [u8],
+    unread: &'a mut String,
     sink: &mut T,
 ) -> Result<u64, ProgramFault<'a>>
     ensures tells { TellsText (L.told loader.old) E.order flash base.now text.now
@@ -99,7 +100,7 @@ fn tell_text<'a, E: Order, L: Loader, T: Sink>(
     ensures blames { BlamesReading (L.failures loader.old) (L.failures loader.new) result }
 {
     let lines = listing(alloc, text)?;
-    let parts = load_parts(alloc, loader, &lines)?;
+    let parts = load_parts(alloc, loader, &lines, unread)?;
     tell_lines::<E, T>(alloc, flash, base, lines, &parts, sink)
 }
 
@@ -133,7 +134,7 @@ fn tell_files<'a, E: Order, L: Loader, T: Sink>(
     alloc: Global,
     loader: &mut L,
     asked: Cuts<'a>,
-    text: &'a mut Vec<u8>,
+    texts: &'a mut Texts,
     sink: &mut T,
 ) -> Result<u64, ProgramFault<'a>>
     ensures tells { TellsFiles (L.told loader.old) E.order
@@ -159,11 +160,19 @@ fn tell_files<'a, E: Order, L: Loader, T: Sink>(
         Ok(base) => base,
         Err(fault) => return Err(fault),
     };
-    *text = match load_file(loader, asked.listing) {
+    texts.listing = match load_file(loader, asked.listing) {
         Ok(text) => text,
         Err(fault) => return Err(fault),
     };
-    tell_text::<E, L, T>(alloc, loader, flash, &base, text.as_slice(), sink)
+    tell_text::<E, L, T>(
+        alloc,
+        loader,
+        flash,
+        &base,
+        texts.listing.as_slice(),
+        &mut texts.unread,
+        sink,
+    )
 }
 
 /// The same in the byte order that is asked for.
@@ -171,7 +180,7 @@ fn tell_in_order<'a, L: Loader, T: Sink>(
     alloc: Global,
     loader: &mut L,
     asked: Cuts<'a>,
-    text: &'a mut Vec<u8>,
+    texts: &'a mut Texts,
     sink: &mut T,
 ) -> Result<u64, ProgramFault<'a>>
     ensures tells { TellsFiles (L.told loader.old) asked.entry.options.endian
@@ -189,8 +198,8 @@ fn tell_in_order<'a, L: Loader, T: Sink>(
     ensures blames { BlamesReading (L.failures loader.old) (L.failures loader.new) result }
 {
     match asked.options.endian {
-        Endian::Little => tell_files::<LittleEndian, L, T>(alloc, loader, asked, text, sink),
-        Endian::Big => tell_files::<BigEndian, L, T>(alloc, loader, asked, text, sink),
+        Endian::Little => tell_files::<LittleEndian, L, T>(alloc, loader, asked, texts, sink),
+        Endian::Big => tell_files::<BigEndian, L, T>(alloc, loader, asked, texts, sink),
     }
 }
 
@@ -199,7 +208,7 @@ fn tell_whole<'a, L: Loader, T: Output>(
     alloc: Global,
     loader: &mut L,
     asked: Cuts<'a>,
-    text: &'a mut Vec<u8>,
+    texts: &'a mut Texts,
     output: &mut T,
 ) -> Result<u64, ProgramFault<'a>>
     ensures tells { FinishesCuts (L.told loader.old) (record {
@@ -217,7 +226,7 @@ fn tell_whole<'a, L: Loader, T: Output>(
         }) result }
     ensures blames { BlamesReading (L.failures loader.old) (L.failures loader.new) result }
 {
-    let answer = tell_in_order::<L, T>(alloc, loader, asked, text, output);
+    let answer = tell_in_order::<L, T>(alloc, loader, asked, texts, output);
     let finished = output.finish();
     match answer {
         Ok(weak) => match finished {
@@ -260,8 +269,8 @@ pub fn run_cuts<L: Loader, T: Output, E: Sink>(
           now = E.failures errors.new;
         }) result }
 {
-    let mut text = Vec::new(alloc);
-    match tell_whole(alloc, loader, asked, &mut text, output) {
+    let mut texts = Texts::new(alloc);
+    match tell_whole(alloc, loader, asked, &mut texts, output) {
         Ok(weak) => Outcome::of(weak),
         Err(fault) => report_fault(&fault, errors),
     }
