@@ -900,5 +900,19 @@ run cuts --blocks 1 --on folder listing; want 1 "" "jffs2_image: L1 Device"
 run cuts listing; want 2 "" "error: *--blocks*"
 run cuts --blocks 1 listing out; want 2 "" "error: unexpected argument 'out' found*"
 run cuts --blocks 1 --page 512 listing; want 2 "" "error: invalid value '512' for '--page <N>': *"
+# The commands of docs/POWER-CUTS.md: each block of its section on `cuts`, and what the next one says that it prints
+block_of() {
+    awk -v open="\`\`\`$1" -v want="$2" '/^## / { here = /^## See it on your own image/ } /^```$/ { inside = 0 }
+        inside { print } here && $0 == open { inside = ++n == want }' "$top/docs/POWER-CUTS.md"
+}
+jffs2_image() { "$program" "$@"; }
+mkdir power_cuts
+for block in 1 2 3 4 5; do
+    line="docs/POWER-CUTS.md, commands $block"
+    (cd power_cuts && set -e && eval "$(block_of sh $block)") > out 2> err; got=$?
+    want 0 "$(block_of text $block)" "*"
+done
+line="docs/POWER-CUTS.md has five blocks of commands on cuts, the last of five lines"
+got="$(block_of sh 5 | wc -l) $(block_of sh 6 | wc -l)"; want "5 0" "*" "*"
 
 finish

@@ -417,13 +417,12 @@ fn cuts_at<'a>(found: &ArgMatches<'a>) -> Option<Task<'a>>
     let options = options_at(found)?;
     let blocks = number_at(found, "blocks")?;
     let page = page(text_at(found, "page")?)?;
-    let listing = text_at(found, "LISTING")?;
     Some(Task::Cuts(Cuts {
         options,
         blocks,
         page,
         on: text_at(found, "on"),
-        listing,
+        listing: text_at(found, "LISTING")?,
     }))
 }
 

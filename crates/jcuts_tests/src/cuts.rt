@@ -5,13 +5,13 @@ use crate::rows::MADE_NODES;
 use crate::sessions::{GEOMETRY, create, write};
 use byteorder::LittleEndian;
 use flashbase::Sink;
-use jcuts::{CutsFault, Flash, Held, Plan, Telling, plan_op, put_cuts, standings_in};
-use jlog::{Place, Session, SessionFault};
+use jcuts::{CutsFault, Flash, Held, Plan, Telling, plan_op, put_cuts};
+use jlog::{Session, SessionFault};
 use jmount::mount;
 use jsteps::{Op, OpFault, Page};
 use std::alloc::Global;
 use std::test::Fail;
-use test_support::{MADE, Taker};
+use test_support::Taker;
 
 const FLASH: Flash = Flash {
     geometry: GEOMETRY,
@@ -109,22 +109,17 @@ fn sinks_that_fail_within(rt: HostRuntime) -> Result<(), Fail> {
     Ok(())
 }
 
-/// Whether the nodes of an operation that is planned, and those in the bytes that a session puts for it, are these.
+/// Whether the nodes of an operation that is planned are these.
 fn are_made(alloc: Global) -> Result<bool, Fail> {
     let mounted = mount::<LittleEndian>(alloc, &[], GEOMETRY)?;
     let held = Held::new(alloc);
     let mut plan: Plan<'_, LittleEndian> = Session::resume(alloc, &mounted, GEOMETRY, 1, held)?;
     let planned = plan_op(alloc, &mut plan, &create())?;
-    let places = MADE_NODES.map(|node| Place {
-        addr: node.addr,
-        totlen: node.totlen,
-    });
-    let found = standings_in::<LittleEndian>(alloc, &MADE, 0, &places)?;
-    Ok(planned.as_slice() == MADE_NODES.as_slice() && found.as_slice() == MADE_NODES.as_slice())
+    Ok(planned.as_slice() == MADE_NODES.as_slice())
 }
 
 #[test]
-fn nodes_are_found(rt: HostRuntime) -> Result<(), Fail> {
+fn nodes_are_planned(rt: HostRuntime) -> Result<(), Fail> {
     let is_so = are_made(rt.alloc())?;
     expect(&rt, is_so);
     Ok(())

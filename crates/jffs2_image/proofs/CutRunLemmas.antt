@@ -1,8 +1,10 @@
 -- A listing's operations that are told.
 use Rattle.std.proofs.Common.{◌≡◌, ℕ, List, Option, Some, None, Result, Ok, Err, Bool, true, false, ap, inl, inr, refl, sym, subst, ◌∙◌}
-use Rattle.std.specs.Prelude.{map}
+use Rattle.std.specs.Prelude.{OnOk, map}
+use Rattle.std.specs.Io.KnownBytes.{Keeps}
+use Rattle.std.proofs.Math.Path.{fun_ext}
 use Rattle.std.specs.Result.{IsErrAnd}
-use Rattle.flashbase.specs.Device.{next_count}
+use Rattle.flashbase.specs.Device.{CountsErr, next_count}
 use Rattle.flashbase.specs.declared.source.LoadFault.TheVariants as load
 use Rattle.jnode.specs.declared.order.Endian.{Endian}
 use Rattle.jmount.specs.Mount.{Mount}
@@ -19,9 +21,9 @@ use Rattle.jcuts.specs.declared.cuts.Flash.{Flash}
 use Rattle.jcuts.specs.declared.lines.Telling.TheVariants.{Nodes}
 use Rattle.jreport.specs.declared.faults.ProgramFault.{ProgramFault}
 use Rattle.jreport.specs.declared.faults.ProgramFault.TheVariants as program
-use Rattle.jffs2_image.specs.CutRuns.{BlamesReading, IsLinesFault, TellsLines, TellsText, answer_of_cuts}
-use Rattle.jffs2_image.specs.Host.{AreAllRead, AreRead, HaveBytes, IsReadFault}
-use Rattle.jffs2_image.specs.Writes.{IsPartUnread, IsUnreadFile}
+use Rattle.jffs2_image.specs.CutRuns.{BlamesReading, CutsAsked, FinishesCuts, IsBaseOf, IsLinesFault, TellsFiles, TellsLines, TellsText, answer_of_cuts, flash_asked}
+use Rattle.jffs2_image.specs.Host.{AreAllRead, AreLoaded, AreRead, HaveBytes, IsReadFault}
+use Rattle.jffs2_image.specs.Writes.{IsBehind, IsPartUnread, IsUnreadFile}
 
 -- the parts that were read have the bytes of the host's files
 pub have_bytes : (told : List ℕ → Option (List ℕ)) (lines : List Line) (parts : Parts) → AreRead told lines parts → HaveBytes told lines (part_contents parts)
@@ -110,3 +112,32 @@ told_lines told e flash base text sink lines files m ops numbers cuts r read byt
       (subst (λ (o : List Op). PutsCuts e flash m (record { telling = Nodes; ops = o; lines = numbers }) sink cuts) ops_are puts);
   comes_to = comes;
 })
+
+-- both files were read
+pub told_files : (told later : List ℕ → Option (List ℕ)) (e : Endian) (flash : Flash) (on : Option (List ℕ)) (listing base text : List ℕ) (sink : SinkChange) (r : Result ℕ ProgramFault)
+    → ((name : List ℕ) → later name ≡ told name) → IsBaseOf told on base → AreLoaded (told listing) text → TellsText later e flash base text sink r → TellsFiles told e flash on listing sink r
+told_files told later e flash on listing base text sink r same is loaded tells =
+    inl (base, text, is, loaded, subst (λ (t : List ℕ → Option (List ℕ)). TellsText t e flash base text sink r) (fun_ext same) tells)
+
+-- a fault stays what it is
+pub still_failed : (A E : Type 0) (told : List ℕ → Option (List ℕ)) (asked : CutsAsked) (output : SinkChange) (taken : Option (List ℕ)) (count : ℕ) (fault : ProgramFault) (finished : Result A E)
+    → TellsFiles told asked.options.endian (flash_asked asked) asked.on asked.listing (record { old = output.old; new = taken; before = output.before; now = count }) (Err fault)
+    → OnOk finished (Keeps taken output.new) → IsBehind output.new taken → CountsErr count output.now finished → FinishesCuts told asked output (Err fault)
+still_failed A E told asked output taken count fault (Ok x) tells kept behind counts = record {
+  taken = taken;
+  count = count;
+  answer = Err fault;
+  finished = true;
+  tells = tells;
+  finishes = (kept, counts);
+  comes_to = refl;
+}
+still_failed A E told asked output taken count fault (Err x) tells kept behind counts = record {
+  taken = taken;
+  count = count;
+  answer = Err fault;
+  finished = false;
+  tells = tells;
+  finishes = (behind, counts);
+  comes_to = refl;
+}
