@@ -37,8 +37,9 @@ pub tell_ops-requires-clause-numbered : goal.tell_ops-requires-clause-numbered
 tell_ops-requires-clause-numbered g c =
     let lines : List Line = c.args.lines.items in
     let ops : c.deref-2.result.now ≡ ops_in (part_contents c.args.parts.now) lines = search rules in
-    let numbers : c.deref-3.result.now ≡ map (λ (l : Line). l.number) lines = search rules in
-    ap length numbers ∙ (length-map (λ (l : Line). l.number) lines ∙ sym (ap length ops ∙ length-map (op_in (part_contents c.args.parts.now)) lines))
+    let items : c.in_ok-numbers.numbers.items ≡ map (λ (l : Line). l.number) lines = c.in_ok-numbers.ensures ∙ ap (map (λ (l : Line). l.number)) c.deref.ensures.value in
+    let numbers : c.deref-3.result.now ≡ map (λ (l : Line). l.number) lines = c.deref-3.ensures.value ∙ items in
+    ap length numbers ∙ (length-map lines (λ (l : Line). l.number) ∙ sym (ap length ops ∙ length-map lines (op_in (part_contents c.args.parts.now))))
 
 pub returns-clause-tells : goal.returns-clause-tells
 returns-clause-tells g c = λ told text read parts.
@@ -46,7 +47,8 @@ returns-clause-tells g c = λ told text read parts.
     let m = c.in_ok-mounted.mounted in
     let mounts : Answers g.E.Order.order c.args.flash.geometry.block c.args.base.now (Ok m) = search rules in
     let ops : c.deref-2.result.now ≡ ops_in (part_contents c.args.parts.now) lines = search rules in
-    let numbers : c.deref-3.result.now ≡ map (λ (l : Line). l.number) lines = search rules in
+    let items : c.in_ok-numbers.numbers.items ≡ map (λ (l : Line). l.number) lines = c.in_ok-numbers.ensures ∙ ap (map (λ (l : Line). l.number)) c.deref.ensures.value in
+    let numbers : c.deref-3.result.now ≡ map (λ (l : Line). l.number) lines = c.deref-3.ensures.value ∙ items in
     let did = c.tell_ops.ensures.tells in
     told_lines told g.E.Order.order c.args.flash c.args.base.now text _ lines (part_contents c.args.parts.now) m c.deref-2.result.now c.deref-3.result.now did.0 c.tell_ops.result
     read (have_bytes told lines c.args.parts.now parts) mounts ops numbers did.1 did.2
