@@ -6,3 +6,4 @@ pub mod CallLemmas
 pub mod LawLemmas
 pub mod TileLemmas
 pub mod HoldingLemmas
+pub mod PackLemmas

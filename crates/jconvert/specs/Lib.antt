@@ -3,3 +3,5 @@ pub mod Tallying
 pub mod Holding
 pub mod Putting
 pub mod Laws
+pub mod Compressing
+pub mod PuttingPacked

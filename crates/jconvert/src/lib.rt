@@ -8,12 +8,15 @@
 //! `specs/Converting.antt` says which image goes out, and why none does.
 #![tactic(auto)]
 
+mod compressing;
 mod converted;
 mod holding;
 mod judging;
 pub mod laws;
+mod packing;
 mod writing;
 
+pub use crate::compressing::compress;
 pub use crate::converted::{Converted, Judged};
 pub use crate::judging::{HELD_MOST, judge};
 pub use crate::writing::{decompress, decompressed, write_converted};
