@@ -311,8 +311,13 @@ pub packed_begun : (e : Endian) (size : ℕ) (image : List ℕ) (left : List (�
 packed_begun e size image left from changed old now at =
     let rest : List (List ℕ) = map (canonical e) (nodes_of_tiles e size image left) in (
       at.forms ++ rest,
-      (changed + 0, (at.fills rest 0 (own_forms e (nodes_of_tiles e size image left)),
-      beginning old now at.done (output e size from rest) (output e size 0 (at.forms ++ rest)) (at.whole rest) at.appended)),
+      (
+        changed + 0,
+        (
+          at.fills rest 0 (own_forms e (nodes_of_tiles e size image left)),
+          beginning old now at.done (output e size from rest) (output e size 0 (at.forms ++ rest)) (at.whole rest) at.appended,
+        ),
+      ),
     )
 
 pub packed_end : (e : Endian) (size : ℕ) (image : List ℕ) (left : List (ℕ × Seen)) (from changed : ℕ) (old now : Option (List ℕ)) (before after : ℕ)
@@ -324,10 +329,14 @@ packed_end e size image left from changed old now before after at is same =
     let count : changed + 0 ≡ changed = omega arith in
     let out : output e size 0 at.forms ≡ at.done =
     ap (output e size 0) (sym forms_is) ∙ (at.whole [] ∙ append-nil at.done) in (
-      (at.forms,
-      (subst (AreFormsFor e (expanded_nodes e size image) at.forms) count
-      (subst (λ (fs : List (List ℕ)). AreFormsFor e (expanded_nodes e size image) fs (changed + 0)) forms_is all),
-      (subst (Appends old now) (sym out) at.appended, at.long ∙ ap (λ (xs : List ℕ). length xs) (sym out)))),
+      (
+        at.forms,
+        (
+          subst (AreFormsFor e (expanded_nodes e size image) at.forms) count
+              (subst (λ (fs : List (List ℕ)). AreFormsFor e (expanded_nodes e size image) fs (changed + 0)) forms_is all),
+          (subst (Appends old now) (sym out) at.appended, at.long ∙ ap (λ (xs : List ℕ). length xs) (sym out)),
+        ),
+      ),
       same,
     )
 
@@ -344,10 +353,15 @@ sunk e size image left rest s from changed old mid now n form is_packed at is gi
     let out : output e size 0 (at.forms ++ form ∷ own) ≡ (at.done ++ piece) ++ behind =
     at.whole (form ∷ own) ∙ sym (append_assoc at.done piece behind) in (
       at.forms ++ form ∷ own,
-      (changed + k, (at.fills (form ∷ own) k (subst (λ (ns : List NodeRef). AreFormsFor e ns (form ∷ own) k) (sym same)
-      (one_more e n (nodes_of_tiles e size image rest) form own is_packed 0 made (own_forms e (nodes_of_tiles e size image rest)))),
-      part_of_more old now (at.done ++ piece) behind (output e size 0 (at.forms ++ form ∷ own)) out
-      (part_behind old mid now at.done piece at.appended part))),
+      (
+        changed + k,
+        (
+          at.fills (form ∷ own) k (subst (λ (ns : List NodeRef). AreFormsFor e ns (form ∷ own) k) (sym same)
+              (one_more e n (nodes_of_tiles e size image rest) form own is_packed 0 made (own_forms e (nodes_of_tiles e size image rest)))),
+          part_of_more old now (at.done ++ piece) behind (output e size 0 (at.forms ++ form ∷ own)) out
+              (part_behind old mid now at.done piece at.appended part),
+        ),
+      ),
     )
 
 pub packed_failed : (e : Endian) (size : ℕ) (image : List ℕ) (left rest : List (ℕ × Seen)) (s : ℕ × Seen) (from changed : ℕ) (old mid now : Option (List ℕ)) (start before after : ℕ) (f : ConvertFault)

@@ -47,8 +47,8 @@ packed_as inode stream = record {
   «data» = stream;
 }
 
--- A compressed node that stands for a node of a regular file: its data give just the bytes of that node, whose other fields
--- it has, and it takes fewer words.
+-- A compressed node that stands for a node of a regular file: its data give just the bytes of that
+-- node, whose other fields it has, and it takes fewer words.
 pub record StandsFor (packed : CompressedNode) (node : NodeRef) : Type 0 where
   pub bytes : List ℕ
   pub content : node_content packed ≡ Some bytes
@@ -61,17 +61,19 @@ pub record StandsFor (packed : CompressedNode) (node : NodeRef) : Type 0 where
 
 -- the written form of a compressed node that stands for a node
 abbrev pub IsPackedForm : Endian → NodeRef → List ℕ → Type 0
-IsPackedForm e node form = (packed : CompressedNode) × StandsFor packed node × (form ≡ canonical_compressed e packed)
+IsPackedForm e node form =
+    (packed : CompressedNode) × StandsFor packed node × (form ≡ canonical_compressed e packed)
 
--- The written forms that go out for nodes, one for each and in their order: the node's own, or that of a compressed node that
--- stands for it, of which there are so many.
+-- The written forms that go out for nodes, one for each and in their order: the node's own, or that
+-- of a compressed node that stands for it, of which there are so many.
 abbrev pub AreFormsFor : Endian → List NodeRef → List (List ℕ) → ℕ → Type 0
 AreFormsFor e [] [] changed = changed ≡ 0
 AreFormsFor e [] (form ∷ forms) changed = ⊥
 AreFormsFor e (node ∷ nodes) [] changed = ⊥
 AreFormsFor e (node ∷ nodes) (form ∷ forms) changed =
     ((form ≡ canonical e node) × AreFormsFor e nodes forms changed)
-    ⊎ (IsPackedForm e node form × ((fewer : ℕ) × (changed ≡ suc fewer) × AreFormsFor e nodes forms fewer))
+    ⊎ (IsPackedForm e node form
+    × ((fewer : ℕ) × (changed ≡ suc fewer) × AreFormsFor e nodes forms fewer))
 
 -- ---- why none goes out
 
@@ -87,22 +89,25 @@ pack_fault e size image s = node_fault e size image s
 
 abbrev pub pack_fault_among : Endian → ℕ → List ℕ → List (ℕ × Seen) → Option ConvertFault
 pack_fault_among e size image [] = None
-pack_fault_among e size image (s ∷ ss) = option_or (pack_fault e size image s) (pack_fault_among e size image ss)
+pack_fault_among e size image (s ∷ ss) =
+    option_or (pack_fault e size image s) (pack_fault_among e size image ss)
 
--- Why an image is not compressed: its sizes come first, then the node of least address that is refused, then the flash, of
--- which the nodes as they are must have room.
+-- Why an image is not compressed: its sizes come first, then the node of least address that is
+-- refused, then the flash, of which the nodes as they are must have room.
 abbrev pub compress_fault : Endian → ℕ → List ℕ → Option ConvertFault
 compress_fault e size image =
     if not (is_block_size size) then Some fault.BlockSize
     else if nat_lt greatest_image (length image) then Some fault.TooLarge
-    else option_or (pack_fault_among e size image (sightings e size image)) (flash_fault e size image)
+    else option_or (pack_fault_among e size image (sightings e size image))
+    (flash_fault e size image)
 
 -- ---- what goes out
 
--- What compressing into a sink answers: forms for all the nodes go out, with what is told of them; or the image is refused
--- before a byte is put; or a beginning of such forms went out. (None of the nodes is compressed, so the expanded ones are
--- they themselves.)
-abbrev pub Compresses : Endian → ℕ → List ℕ → Option (List ℕ) → Option (List ℕ) → ℕ → ℕ → Result Converted ConvertFault → Type 0
+-- What compressing into a sink answers: forms for all the nodes go out, with what is told of them;
+-- or the image is refused before a byte is put; or a beginning of such forms went out. (None of the
+-- nodes is compressed, so the expanded ones are they themselves.)
+abbrev pub Compresses : Endian → ℕ → List ℕ → Option (List ℕ) → Option (List ℕ) → ℕ → ℕ
+    → Result Converted ConvertFault → Type 0
 Compresses e size image old new before now (Ok told) =
     (compress_fault e size image ≡ None)
     × ((forms : List (List ℕ)) × AreFormsFor e (expanded_nodes e size image) forms told.changed
@@ -110,9 +115,12 @@ Compresses e size image old new before now (Ok told) =
     × (told.bytes ≡ length (output e size 0 forms))) × (now ≡ before)
 Compresses e size image old new before now (Err fault.Sink) =
     (compress_fault e size image ≡ None)
-    × ((forms : List (List ℕ)) × (changed : ℕ) × AreFormsFor e (expanded_nodes e size image) forms changed
+    × ((forms : List (List ℕ)) × (changed : ℕ)
+    × AreFormsFor e (expanded_nodes e size image) forms changed
     × PutsPart old new (output e size 0 forms)) × (now ≡ next_count before)
 Compresses e size image old new before now (Err fault.OutOfMemory) =
-    ((forms : List (List ℕ)) × (changed : ℕ) × AreFormsFor e (expanded_nodes e size image) forms changed
+    ((forms : List (List ℕ)) × (changed : ℕ)
+    × AreFormsFor e (expanded_nodes e size image) forms changed
     × PutsPart old new (output e size 0 forms)) × (now ≡ before)
-Compresses e size image old new before now (Err f) = (compress_fault e size image ≡ Some f) × (new ≡ old) × (now ≡ before)
+Compresses e size image old new before now (Err f) =
+    (compress_fault e size image ≡ Some f) × (new ≡ old) × (now ≡ before)

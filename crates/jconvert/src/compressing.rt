@@ -45,8 +45,10 @@ fn accept_tile<E: Order>(
 ) -> Result<(), ConvertFault>
     requires readable { IsTrue (is_block_size geometry.block) }
     requires sighted { Contains (sightings E.order geometry.block image.now) (addr, seen.now) }
-    ensures plain { OnOk result (pack_fault E.order geometry.block image.now (addr, seen.now) ≡ None) }
-    ensures none { OnOk result (node_fault E.order geometry.block image.now (addr, seen.now) ≡ None) }
+    ensures plain { OnOk result
+        (pack_fault E.order geometry.block image.now (addr, seen.now) ≡ None) }
+    ensures none { OnOk result
+        (node_fault E.order geometry.block image.now (addr, seen.now) ≡ None) }
     ensures refused { IfErr result
         (IsTileFault (pack_fault E.order geometry.block image.now (addr, seen.now))) }
 {
@@ -66,7 +68,8 @@ fn accept_nodes<E: Order>(
     geometry: Geometry,
 ) -> Result<(), ConvertFault>
     ensures plain { OnOk result
-        (pack_fault_among E.order geometry.block image.now (sightings E.order geometry.block image.now) ≡ None) }
+        (pack_fault_among E.order geometry.block image.now
+        (sightings E.order geometry.block image.now) ≡ None) }
     ensures none { OnOk result (nodes_fault E.order geometry.block image.now ≡ None) }
     ensures refused { IfErr result (λ fault. fault ≢ OutOfMemory
         → compress_fault E.order geometry.block image.now ≡ Some fault) }
@@ -97,7 +100,8 @@ fn judge_plain<E: Order>(
     ensures accepted { OnOk result (compress_fault E.order geometry.block image.now ≡ None) }
     ensures expands { OnOk result (convert_fault E.order geometry.block image.now ≡ None) }
     ensures scannable { OnOk result (IsScannable geometry.block image.now) }
-    ensures nodes { IfOk result (λ count. count ≡ length (expanded_nodes E.order geometry.block image.now)) }
+    ensures nodes { IfOk result
+        (λ count. count ≡ length (expanded_nodes E.order geometry.block image.now)) }
     ensures refused { IfErr result (λ fault. fault ≢ OutOfMemory
         → compress_fault E.order geometry.block image.now ≡ Some fault) }
     ensures no_sink { IfErr result (λ fault. fault ≢ Sink) }
@@ -119,7 +123,8 @@ fn pack_tile<E: Order>(
     packing: &mut Packing,
 ) -> Result<bool, ConvertFault>
     ensures packed { IfOk result (λ is_packed. IsTrue is_packed
-        → (inode : InodeNode) × (seen.now ≡ Seen.Inode inode) × IsPackedForm E.order (node.Inode inode) packing.new.form.items) }
+        → (inode : InodeNode) × (seen.now ≡ Seen.Inode inode)
+        × IsPackedForm E.order (node.Inode inode) packing.new.form.items) }
     ensures memory { IfErr result (λ fault. fault ≡ OutOfMemory) }
 {
     match seen {
@@ -140,7 +145,8 @@ fn make_packed<E: Order>(
     requires readable { IsTrue (is_block_size geometry.block) }
     requires sighted { Contains (sightings E.order geometry.block image.now) (addr, seen.now) }
     requires accepted { node_fault E.order geometry.block image.now (addr, seen.now) ≡ None }
-    ensures ok { IfOk result (λ made. IsMadeFor E.order (expanded_node E.order geometry.block image.now (addr, seen.now))
+    ensures ok { IfOk result
+        (λ made. IsMadeFor E.order (expanded_node E.order geometry.block image.now (addr, seen.now))
         packing.new.form.items made.0 made.1) }
     ensures memory { IfErr result (λ fault. fault ≡ OutOfMemory) }
 {
@@ -168,7 +174,8 @@ fn put_packed<E: Order, S: Sink>(
     requires sighted { Contains (sightings E.order geometry.block image.now) (addr, seen.now) }
     requires accepted { node_fault E.order geometry.block image.now (addr, seen.now) ≡ None }
     requires cursor { IsCursor geometry.block from }
-    ensures { PutsPacked E.order geometry.block image.now (addr, seen.now) from (S.taken sink.old) (S.taken sink.new)
+    ensures { PutsPacked E.order geometry.block image.now (addr, seen.now) from (S.taken sink.old)
+        (S.taken sink.new)
         (S.failures sink.old) (S.failures sink.new) result }
 {
     let is_packed = match make_packed::<E>(alloc, image, geometry, addr, seen, packing) {
@@ -201,7 +208,16 @@ fn write_packed<E: Order, S: Sink>(
     let mut from = 0;
     let mut changed = 0;
     for (addr, seen) in sightings {
-        match put_packed::<E, S>(alloc, image, geometry, sink, from, addr, &seen, &mut packing) {
+        match put_packed::<E, S>(
+            alloc,
+            image,
+            geometry,
+            sink,
+            from,
+            addr,
+            &seen,
+            &mut packing,
+        ) {
             Ok((next, is_packed)) => {
                 from = next;
                 changed = more(changed, u64::from(is_packed))?;

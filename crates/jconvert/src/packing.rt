@@ -139,12 +139,24 @@ pub(crate) fn pack_inode<E: Order>(
     }
     let present = data.present();
     if present.len() == data.len() {
-        return pack_bytes::<E>(alloc, inode, present, &mut packing.packer, &mut packing.form);
+        return pack_bytes::<E>(
+            alloc,
+            inode,
+            present,
+            &mut packing.packer,
+            &mut packing.form,
+        );
     }
     packing.whole.clear();
     if packing.whole.reserve(data.len()).is_err() {
         return Err(ConvertFault::OutOfMemory);
     }
     data.put_onto(&mut packing.whole);
-    pack_bytes::<E>(alloc, inode, &packing.whole, &mut packing.packer, &mut packing.form)
+    pack_bytes::<E>(
+        alloc,
+        inode,
+        &packing.whole,
+        &mut packing.packer,
+        &mut packing.form,
+    )
 }

@@ -13,8 +13,7 @@ use test_support::Taker;
 fn images_are_compressed(rt: HostRuntime) {
     let image = little_expanded();
     let sink = Taker::new(rt.alloc());
-    let Ok((sink, told)) =
-        compress::<LittleEndian, Taker>(rt.alloc(), image, BLOCKS_OF_8_KIB, sink)
+    let Ok((sink, told)) = compress::<LittleEndian, Taker>(rt.alloc(), image, BLOCKS_OF_8_KIB, sink)
     else {
         panic!(rt; "refused");
     };
