@@ -1,21 +1,22 @@
 -- What stands for a node, and the forms that go out for all of them.
 use Rattle.std.proofs.Common.{◌≡◌, ℕ, zero, suc, ◌+◌, ◌*◌, ◌%◌, ◌<◌, ◌≤◌, ◌==◌, ◌≢◌, Bool, true, false, cond, List, [], ◌∷◌, ◌++◌, length, map, take, length-append, slice_index, refl, sym, ap, subst, ◌∙◌, arith, Option, None, Some, Ok, Err, Contains, inl, inr, ◌⊎◌, ⊎_elim, append_assoc, IsTrue}
-use Rattle.std.specs.Prelude.{Result, IsFalse, option_and_then}
+use Rattle.std.specs.Prelude.{Result, IsErrAnd, IsFalse, option_and_then, not, nat_lt}
 use Rattle.std.specs.List.{cons_option, AllByRecursion}
 use Rattle.std.specs.Option.{option_or}
 use Rattle.std.specs.Io.KnownBytes.{Appends}
 use Rattle.std.proofs.KnownBytes.{Appends-nil, Appends-trans}
 use Rattle.std.proofs.Math.Seq.{take-append_seam}
-use Rattle.std.proofs.lemmas.Bool.{eqb-true, eq-eqb, cases_Bool, cond-true, cond-false}
+use Rattle.std.proofs.lemmas.Bool.{eqb-true, eq-eqb, cases_Bool, cases_lt, cond-true, cond-false}
 use Rattle.std.proofs.lemmas.List.{append-nil}
 use Rattle.flashbase.specs.Bytes.{pad4_of}
 use Rattle.flashbase.specs.Device.{PutsPart, next_count}
+use Rattle.flashbase.proofs.BytesLemmas.{le_pad4, pad4_words, pad4_least}
 use Rattle.flashbase.proofs.MemberLemmas.{Contains-here, Contains-there}
 use Rattle.flashbase.proofs.DeviceLemmas.{part_before, part_behind}
 use Rattle.jnode.specs.Compressed.{canonical_compressed, FitsCompressed, IsWritableCompressed}
 use Rattle.jnode.specs.Header.{header_len}
 use Rattle.jnode.specs.Reading.{inode_len}
-use Rattle.jnode.specs.Writing.{canonical, filled}
+use Rattle.jnode.specs.Writing.{canonical, filled, totlen_most}
 use Rattle.jnode.specs.declared.node.CompressedNode.{CompressedNode}
 use Rattle.jnode.specs.declared.node.Fill.{Fill}
 use Rattle.jnode.specs.declared.node.Fill.TheVariants.{Data}
@@ -31,7 +32,8 @@ use Rattle.jcompr.specs.Zlib.{zlib_of}
 use Rattle.jcompr.specs.declared.method.Method.TheVariants.{Zlib}
 use Rattle.jmount.specs.Tree.{type_bits, regular_bits}
 use Rattle.jexpand.specs.Expanded.{unpacked, node_content, with_content, expanded_node, expanded_nodes}
-use Rattle.jexpand.specs.Refused.{node_fault, fault_among}
+use Rattle.jexpand.specs.Answers.{IsTileFault}
+use Rattle.jexpand.specs.Refused.{node_fault, nodes_fault, fault_among}
 use Rattle.jexpand.specs.declared.fault.ConvertFault.{ConvertFault}
 use Rattle.jexpand.specs.declared.fault.ConvertFault.TheVariants as fault
 use Rattle.jnode.specs.Compressed.{compressed_front}
@@ -40,19 +42,22 @@ use Rattle.jnode.specs.Writing.{header_bytes}
 use Rattle.jnode.specs.declared.order.Endian.TheVariants.{Little, Big}
 use Rattle.jnode.proofs.CompressedLemmas.{length-canonical_compressed}
 use Rattle.jnode.proofs.WritingLemmas.{canonical_long, canonical_is_not_erased}
-use Rattle.jscan.specs.Image.{sightings}
+use Rattle.jscan.specs.Image.{is_block_size, greatest_image, sightings}
+use Rattle.jscan.specs.Scans.{IsScannable}
 use Rattle.jlog.specs.Places.{end_after}
 use Rattle.jlog.specs.Output.{output}
 use Rattle.jlog.specs.Laws.{FitsBlock}
 use Rattle.jlog.proofs.IntactLemmas.{output_is_long}
 use Rattle.jexpand.specs.Expanded.{node_length}
 use Rattle.jexpand.proofs.NodeLemmas.{accepted_long}
-use Rattle.jconvert.specs.Putting.{form_piece}
-use Rattle.jconvert.specs.PuttingPacked.{IsFormFor, PutsMade, PutsPacked, PutsFormsPart, WritesPacked}
+use Rattle.jconvert.specs.Converting.{convert_fault, flash_fault}
+use Rattle.jconvert.specs.Putting.{PutsForm, form_piece}
+use Rattle.jconvert.specs.PuttingPacked.{IsFormFor, IsMadeFor, PutsMade, PutsPacked, WritesPacked}
 use Rattle.jconvert.specs.Tallying.{IsCursor}
-use Rattle.jconvert.proofs.JudgeLemmas.{both_none}
+use Rattle.jconvert.proofs.CallLemmas.{size_most, tile_fault}
+use Rattle.jconvert.proofs.JudgeLemmas.{both_none, flash_decides, if_false, no_less}
 use Rattle.jconvert.proofs.TallyLemmas.{nodes_of_tiles, length_form}
-use Rattle.jconvert.specs.Compressing.{packed_as, StandsFor, IsPackedForm, AreFormsFor, packed_number, pack_fault, pack_fault_among}
+use Rattle.jconvert.specs.Compressing.{packed_as, StandsFor, IsPackedForm, AreFormsFor, PutsPackedPart, packed_number, pack_fault, pack_fault_among, compress_fault, Compresses}
 
 -- ---- one node
 
@@ -174,17 +179,26 @@ unfolding canonical_compressed compressed_front header_bytes bytes_in
 packed_not_erased Little packed same = omega arith
 packed_not_erased Big packed same = omega arith
 
+-- fewer words are fewer bytes
+pub fewer_words : (a b : ℕ) → pad4_of a < pad4_of b → a ≤ b
+fewer_words a b less = elim (cases_lt b a) [
+  | inl over ↦
+      let up : pad4_of b ≤ pad4_of a = pad4_least b (pad4_of a) (omega (arith, over, le_pad4 a)) (pad4_words a) in
+      absurd (omega (arith, up, less))
+  | inr not ↦ omega (arith, not)
+]
+
 pub packed_fits : (e : Endian) (size : ℕ) (n : NodeRef) (form : List ℕ) → header_len + node_length n ≤ size → IsPackedForm e n form → FitsBlock size form
 packed_fits e size n form within is =
     let packed : CompressedNode = is.0 in
     let stands : StandsFor packed n = is.1 in
     let long : length form ≡ inode_len + length packed.data = ap (λ (xs : List ℕ). length xs) is.2 ∙ length-canonical_compressed e packed in
     let plain : node_length n ≡ inode_len + length stands.bytes = sym (ap node_length stands.expanded) in
-    let shorter = stands.shorter in
+    let fewer : inode_len + length packed.data ≤ inode_len + length stands.bytes = fewer_words (inode_len + length packed.data) (inode_len + length stands.bytes) stands.shorter in
     record {
       some = omega (arith, long);
       written = subst (λ (xs : List ℕ). slice_index xs 0 ≢ 0xFF) (sym is.2) (packed_not_erased e packed);
-      within = omega (arith, long, plain, shorter, within);
+      within = omega (arith, long, plain, fewer, within);
     }
 
 own_fits : (e : Endian) (size : ℕ) (n : NodeRef) (form : List ℕ) → header_len + node_length n ≤ size → form ≡ canonical e n → FitsBlock size form
@@ -292,10 +306,20 @@ made_next e size image left rest s from changed old mid now (Some n) done words 
     packed_more e size image left rest s from changed done.0 old mid now n put.0 done.1 words at is gives put.1 put.2 put.3 put.4
 
 pub packed_next : (e : Endian) (size : ℕ) (image : List ℕ) (left rest : List (ℕ × Seen)) (s : ℕ × Seen) (from changed : ℕ) (old mid now : Option (List ℕ)) (before after : ℕ) (done : ℕ × Bool)
-    → size % 4 ≡ 0 → Packed e size image left from changed old mid → left ≡ s ∷ rest → PutsPacked e size image s from mid now before after (Ok done)
+    → size % 4 ≡ 0 → Packed e size image left from changed old mid → left ≡ s ∷ rest → PutsPacked e size (expanded_node e size image s) from mid now (before, after) (Ok done)
     → Packed e size image rest done.0 (changed + cond done.1 1 0) old now
 packed_next e size image left rest s from changed old mid now before after done words at is put =
     made_next e size image left rest s from changed old mid now (expanded_node e size image s) done words at is refl put.0
+
+-- the tile at hand is one of the image, of which no fault is known
+pub packed_head : (e : Endian) (size : ℕ) (image : List ℕ) (left rest : List (ℕ × Seen)) (s : ℕ × Seen) (from changed : ℕ) (old now : Option (List ℕ))
+    → Packed e size image left from changed old now → left ≡ s ∷ rest → Contains (sightings e size image) s
+packed_head e size image left rest s from changed old now at is =
+    at.among s (subst (λ (l : List (ℕ × Seen)). Contains l s) (sym is) (Contains-here s rest))
+
+pub packed_sound : (e : Endian) (size : ℕ) (image : List ℕ) (left rest : List (ℕ × Seen)) (s : ℕ × Seen) (from changed : ℕ) (old now : Option (List ℕ))
+    → Packed e size image left from changed old now → left ≡ s ∷ rest → node_fault e size image s ≡ None
+packed_sound e size image left rest s from changed old now at is = (rest_of e size image left rest s is at.none).0
 
 -- ---- at the end
 
@@ -307,22 +331,18 @@ part_of_more : (a b : Option (List ℕ)) (xs rest whole : List ℕ) → whole �
 part_of_more a b xs rest whole is part = subst (PutsPart a b) (sym is) (part_before a b xs rest part)
 
 pub packed_begun : (e : Endian) (size : ℕ) (image : List ℕ) (left : List (ℕ × Seen)) (from changed : ℕ) (old now : Option (List ℕ))
-    → Packed e size image left from changed old now → PutsFormsPart e size image old now
+    → Packed e size image left from changed old now → PutsPackedPart e size image old now
 packed_begun e size image left from changed old now at =
     let rest : List (List ℕ) = map (canonical e) (nodes_of_tiles e size image left) in (
-      at.forms ++ rest,
-      (
-        changed + 0,
-        (
-          at.fills rest 0 (own_forms e (nodes_of_tiles e size image left)),
-          beginning old now at.done (output e size from rest) (output e size 0 (at.forms ++ rest)) (at.whole rest) at.appended,
-        ),
-      ),
+      output e size 0 (at.forms ++ rest),
+      changed + 0,
+      (at.forms ++ rest, at.fills rest 0 (own_forms e (nodes_of_tiles e size image left)), refl),
+      beginning old now at.done (output e size from rest) (output e size 0 (at.forms ++ rest)) (at.whole rest) at.appended,
     )
 
 pub packed_end : (e : Endian) (size : ℕ) (image : List ℕ) (left : List (ℕ × Seen)) (from changed : ℕ) (old now : Option (List ℕ)) (before after : ℕ)
-    → Packed e size image left from changed old now → left ≡ [] → after ≡ before → WritesPacked e size image old now before after (Ok (changed, from))
-packed_end e size image left from changed old now before after at is same =
+    → (bytes : ℕ) → Packed e size image left from changed old now → left ≡ [] → after ≡ before → bytes ≡ from → WritesPacked e size image old now before after (Ok (changed, bytes))
+packed_end e size image left from changed old now before after bytes at is same all_out =
     let nothing : nodes_of_tiles e size image left ≡ [] = ap (nodes_of_tiles e size image) is in
     let all = at.fills [] 0 (subst (λ (ns : List NodeRef). AreFormsFor e ns [] 0) (sym nothing) refl) in
     let forms_is : at.forms ++ [] ≡ at.forms = append-nil at.forms in
@@ -330,12 +350,15 @@ packed_end e size image left from changed old now before after at is same =
     let out : output e size 0 at.forms ≡ at.done =
     ap (output e size 0) (sym forms_is) ∙ (at.whole [] ∙ append-nil at.done) in (
       (
-        at.forms,
+        output e size 0 at.forms,
         (
+          at.forms,
           subst (AreFormsFor e (expanded_nodes e size image) at.forms) count
               (subst (λ (fs : List (List ℕ)). AreFormsFor e (expanded_nodes e size image) fs (changed + 0)) forms_is all),
-          (subst (Appends old now) (sym out) at.appended, at.long ∙ ap (λ (xs : List ℕ). length xs) (sym out)),
+          refl,
         ),
+        subst (Appends old now) (sym out) at.appended,
+        all_out ∙ (at.long ∙ ap (λ (xs : List ℕ). length xs) (sym out)),
       ),
       same,
     )
@@ -343,7 +366,7 @@ packed_end e size image left from changed old now before after at is same =
 -- a fault at a tile leaves a beginning
 sunk : (e : Endian) (size : ℕ) (image : List ℕ) (left rest : List (ℕ × Seen)) (s : ℕ × Seen) (from changed : ℕ) (old mid now : Option (List ℕ)) (n : NodeRef) (form : List ℕ) (is_packed : Bool)
     → Packed e size image left from changed old mid → left ≡ s ∷ rest → expanded_node e size image s ≡ Some n → IsFormFor e n form is_packed
-    → PutsPart mid now (form_piece e size from form) → PutsFormsPart e size image old now
+    → PutsPart mid now (form_piece e size from form) → PutsPackedPart e size image old now
 sunk e size image left rest s from changed old mid now n form is_packed at is gives made part =
     let own : List (List ℕ) = map (canonical e) (nodes_of_tiles e size image rest) in
     let same : nodes_of_tiles e size image left ≡ n ∷ nodes_of_tiles e size image rest = nodes_next e size image left rest s (Some n) is gives in
@@ -352,20 +375,20 @@ sunk e size image left rest s from changed old mid now n form is_packed at is gi
     let behind : List ℕ = output e size (end_after size from (length form)) own in
     let out : output e size 0 (at.forms ++ form ∷ own) ≡ (at.done ++ piece) ++ behind =
     at.whole (form ∷ own) ∙ sym (append_assoc at.done piece behind) in (
-      at.forms ++ form ∷ own,
+      output e size 0 (at.forms ++ form ∷ own),
+      changed + k,
       (
-        changed + k,
-        (
-          at.fills (form ∷ own) k (subst (λ (ns : List NodeRef). AreFormsFor e ns (form ∷ own) k) (sym same)
-              (one_more e n (nodes_of_tiles e size image rest) form own is_packed 0 made (own_forms e (nodes_of_tiles e size image rest)))),
-          part_of_more old now (at.done ++ piece) behind (output e size 0 (at.forms ++ form ∷ own)) out
-              (part_behind old mid now at.done piece at.appended part),
-        ),
+        at.forms ++ form ∷ own,
+        at.fills (form ∷ own) k (subst (λ (ns : List NodeRef). AreFormsFor e ns (form ∷ own) k) (sym same)
+            (one_more e n (nodes_of_tiles e size image rest) form own is_packed 0 made (own_forms e (nodes_of_tiles e size image rest)))),
+        refl,
       ),
+      part_of_more old now (at.done ++ piece) behind (output e size 0 (at.forms ++ form ∷ own)) out
+          (part_behind old mid now at.done piece at.appended part),
     )
 
 pub packed_failed : (e : Endian) (size : ℕ) (image : List ℕ) (left rest : List (ℕ × Seen)) (s : ℕ × Seen) (from changed : ℕ) (old mid now : Option (List ℕ)) (start before after : ℕ) (f : ConvertFault)
-    → Packed e size image left from changed old mid → left ≡ s ∷ rest → before ≡ start → PutsPacked e size image s from mid now before after (Err f)
+    → Packed e size image left from changed old mid → left ≡ s ∷ rest → before ≡ start → PutsPacked e size (expanded_node e size image s) from mid now (before, after) (Err f)
     → WritesPacked e size image old now start after (Err f)
 packed_failed e size image left rest s from changed old mid now start before after fault.Sink at is same put = (
   sunk e size image left rest s from changed old mid now put.0.0 put.0.2.0 put.0.2.1 at is put.0.1 put.0.2.2 put.0.2.3,
@@ -384,3 +407,154 @@ packed_failed e size image left rest s from changed old mid now start before aft
 packed_failed e size image left rest s from changed old mid now start before after fault.ReadOnly at is same put = put
 packed_failed e size image left rest s from changed old mid now start before after fault.Geometry at is same put = put
 packed_failed e size image left rest s from changed old mid now start before after (fault.Full a b) at is same put = put
+
+-- ---- while tiles are accepted
+
+-- the tiles that are left, whose fault is that of all of them
+pub record Accepting (e : Endian) (size : ℕ) (image : List ℕ) (left : List (ℕ × Seen)) : Type 0 where
+  pub scannable : IsScannable size image
+  pub among : (s : ℕ × Seen) → Contains left s → Contains (sightings e size image) s
+  pub plain : pack_fault_among e size image (sightings e size image) ≡ pack_fault_among e size image left
+  pub none : fault_among e size image (sightings e size image) ≡ fault_among e size image left
+
+pub accepting_start : (e : Endian) (size : ℕ) (image : List ℕ) (left : List (ℕ × Seen)) → IsScannable size image → left ≡ sightings e size image → Accepting e size image left
+accepting_start e size image left is all = record {
+  scannable = is;
+  among = λ s has. subst (λ (l : List (ℕ × Seen)). Contains l s) all has;
+  plain = ap (pack_fault_among e size image) (sym all);
+  none = ap (fault_among e size image) (sym all);
+}
+
+pub accepting_head : (e : Endian) (size : ℕ) (image : List ℕ) (left rest : List (ℕ × Seen)) (addr : ℕ) (seen : Seen) → Accepting e size image left → left ≡ (addr, seen) ∷ rest
+    → Contains (sightings e size image) (addr, seen)
+accepting_head e size image left rest addr seen at is =
+    at.among (addr, seen) (subst (λ (l : List (ℕ × Seen)). Contains l (addr, seen)) (sym is) (Contains-here (addr, seen) rest))
+
+pub accepting_next : (e : Endian) (size : ℕ) (image : List ℕ) (left rest : List (ℕ × Seen)) (s : ℕ × Seen) → Accepting e size image left → left ≡ s ∷ rest
+    → pack_fault e size image s ≡ None → node_fault e size image s ≡ None → Accepting e size image rest
+accepting_next e size image left rest s at is plain none = record {
+  scannable = at.scannable;
+  among = among_rest e size image left rest s is at.among;
+  plain = at.plain ∙ (ap (pack_fault_among e size image) is ∙ ap (λ (o : Option ConvertFault). option_or o (pack_fault_among e size image rest)) plain);
+  none = at.none ∙ (ap (fault_among e size image) is ∙ ap (λ (o : Option ConvertFault). option_or o (fault_among e size image rest)) none);
+}
+
+-- of an image that can be scanned its nodes decide, and then the flash
+scanned_pack : (e : Endian) (size : ℕ) (image : List ℕ) → IsScannable size image
+    → compress_fault e size image ≡ option_or (pack_fault_among e size image (sightings e size image)) (flash_fault e size image)
+scanned_pack e size image is =
+    if_false (not (is_block_size size)) (Some fault.BlockSize) _ (ap not is.0)
+    ∙ if_false (nat_lt greatest_image (length image)) (Some fault.TooLarge) _ (no_less greatest_image (length image) is.1)
+
+-- the first of the tiles that are left refuses the image
+pub accepting_refused : (e : Endian) (size : ℕ) (image : List ℕ) (left rest : List (ℕ × Seen)) (s : ℕ × Seen) (f : ConvertFault) → Accepting e size image left → left ≡ s ∷ rest
+    → IsTileFault (pack_fault e size image s) f → f ≢ fault.OutOfMemory → compress_fault e size image ≡ Some f
+accepting_refused e size image left rest s f at is has other =
+    let first : pack_fault e size image s ≡ Some f = tile_fault (pack_fault e size image s) f has other in
+    scanned_pack e size image at.scannable
+    ∙ ap (λ (o : Option ConvertFault). option_or o (flash_fault e size image))
+    (at.plain ∙ (ap (pack_fault_among e size image) is ∙ ap (λ (o : Option ConvertFault). option_or o (pack_fault_among e size image rest)) first))
+
+pub accepting_end : (e : Endian) (size : ℕ) (image : List ℕ) (left : List (ℕ × Seen)) → Accepting e size image left → left ≡ []
+    → (pack_fault_among e size image (sightings e size image) ≡ None) × (fault_among e size image (sightings e size image) ≡ None)
+accepting_end e size image left at is = (at.plain ∙ ap (pack_fault_among e size image) is, at.none ∙ ap (fault_among e size image) is)
+
+-- where its nodes do not refuse an image, the same does that refuses to decompress it
+pub refused_as : (e : Endian) (size : ℕ) (image : List ℕ) (o : Option ConvertFault) → IsScannable size image → pack_fault_among e size image (sightings e size image) ≡ None
+    → nodes_fault e size image ≡ None → convert_fault e size image ≡ o → compress_fault e size image ≡ o
+refused_as e size image o is plain none h =
+    scanned_pack e size image is
+    ∙ (ap (λ (p : Option ConvertFault). option_or p (flash_fault e size image)) plain
+    ∙ (sym (flash_decides e size image is none) ∙ h))
+
+-- ---- putting one tile
+
+pub made_form : (e : Endian) (o : Option NodeRef) (form : List ℕ) (is_one is_packed : Bool) → IsMadeFor e o form is_one is_packed → IsTrue is_one
+    → (n : NodeRef) × (o ≡ Some n) × IsFormFor e n form is_packed
+made_form e (Some n) form is_one is_packed is one = (n, refl, is.1)
+made_form e None form is_one is_packed is one = let clash : true ≡ false = sym one ∙ is in absurd (cc)
+
+pub made_small : (e : Endian) (size : ℕ) (image : List ℕ) (s : ℕ × Seen) (form : List ℕ) (is_one is_packed : Bool) → IsTrue (is_block_size size) → node_fault e size image s ≡ None
+    → IsMadeFor e (expanded_node e size image s) form is_one is_packed → IsTrue is_one → length form ≤ totlen_most
+made_small e size image s form is_one is_packed size_is none made one =
+    let it = made_form e (expanded_node e size image s) form is_one is_packed made one in
+    let within = accepted_long e size image s.0 s.1 it.0 none it.1 in
+    let fits : FitsBlock size form = form_fits e size it.0 form is_packed within it.2 in
+    let most = size_most size size_is in
+    omega (arith, fits.within, most)
+
+-- a fault of putting the form is one of the tile
+pub made_failed : (e : Endian) (size : ℕ) (image : List ℕ) (s : ℕ × Seen) (from : ℕ) (old new : Option (List ℕ)) (before now : ℕ) (f : ConvertFault) (form : List ℕ) (is_one is_packed : Bool)
+    → IsMadeFor e (expanded_node e size image s) form is_one is_packed → IsTrue is_one → PutsForm e size from form old new before now (Err f)
+    → PutsPacked e size (expanded_node e size image s) from old new (before, now) (Err f)
+made_failed e size image s from old new before now fault.Sink form is_one is_packed made one put =
+    let it = made_form e (expanded_node e size image s) form is_one is_packed made one in
+    ((it.0, it.1, (form, is_packed, it.2, put.0)), put.1)
+made_failed e size image s from old new before now fault.OutOfMemory form is_one is_packed made one put = put
+made_failed e size image s from old new before now fault.BlockSize form is_one is_packed made one put = put
+made_failed e size image s from old new before now fault.TooLarge form is_one is_packed made one put = put
+made_failed e size image s from old new before now (fault.Incompatible a t) form is_one is_packed made one put = put
+made_failed e size image s from old new before now (fault.Compressed a t) form is_one is_packed made one put = put
+made_failed e size image s from old new before now (fault.Data a) form is_one is_packed made one put = put
+made_failed e size image s from old new before now (fault.TooLong a) form is_one is_packed made one put = put
+made_failed e size image s from old new before now fault.ReadOnly form is_one is_packed made one put = put
+made_failed e size image s from old new before now fault.Geometry form is_one is_packed made one put = put
+made_failed e size image s from old new before now (fault.Full a b) form is_one is_packed made one put = put
+
+-- a call that put nothing for want of memory
+pub nothing_written : (e : Endian) (size : ℕ) (image : List ℕ) (old : Option (List ℕ)) (n : ℕ) (r : Result (ℕ × ℕ) ConvertFault) (f : ConvertFault) → nodes_fault e size image ≡ None
+    → IsErrAnd r (λ (given : ConvertFault). given ≡ f) → f ≡ fault.OutOfMemory → WritesPacked e size image old old n n r
+nothing_written e size image old n (Ok done) f none is out = absurd is
+nothing_written e size image old n (Err given) f none is out =
+    let same : given ≡ fault.OutOfMemory = is ∙ out in
+    subst (λ (g : ConvertFault). WritesPacked e size image old old n n (Err g)) (sym same)
+    (packed_begun e size image (sightings e size image) 0 0 old old (packed_start e size image (sightings e size image) old refl none), refl)
+
+-- a count that is too great is blamed on memory, after its node went out
+pub count_failed : (e : Endian) (size : ℕ) (image : List ℕ) (left rest : List (ℕ × Seen)) (s : ℕ × Seen) (from changed : ℕ) (old mid now : Option (List ℕ)) (start before after : ℕ) (done : ℕ × Bool)
+    (r : Result (ℕ × ℕ) ConvertFault) (f : ConvertFault) → size % 4 ≡ 0 → Packed e size image left from changed old mid → left ≡ s ∷ rest → before ≡ start
+    → PutsPacked e size (expanded_node e size image s) from mid now (before, after) (Ok done) → IsErrAnd r (λ (given : ConvertFault). given ≡ f) → f ≡ fault.OutOfMemory → WritesPacked e size image old now start after r
+count_failed e size image left rest s from changed old mid now start before after done (Ok x) f words at is same put fails out = absurd fails
+count_failed e size image left rest s from changed old mid now start before after done (Err given) f words at is same put fails out =
+    let memory : given ≡ fault.OutOfMemory = fails ∙ out in
+    subst (λ (g : ConvertFault). WritesPacked e size image old now start after (Err g)) (sym memory) (
+      packed_begun e size image rest done.0 (changed + cond done.1 1 0) old now (packed_next e size image left rest s from changed old mid now before after done words at is put),
+      put.1 ∙ same,
+    )
+
+-- ---- the call
+
+pub nothing_put : (e : Endian) (size : ℕ) (image : List ℕ) (old : Option (List ℕ)) → PutsPackedPart e size image old old
+nothing_put e size image old =
+    let own : List (List ℕ) = map (canonical e) (expanded_nodes e size image) in
+    (output e size 0 own, 0, (own, own_forms e (expanded_nodes e size image), refl), (0, Appends-nil old))
+
+-- an image that is refused
+pub not_compressed : (e : Endian) (size : ℕ) (image : List ℕ) (old : Option (List ℕ)) (n : ℕ) (f : ConvertFault) → (f ≢ fault.OutOfMemory → compress_fault e size image ≡ Some f)
+    → f ≢ fault.Sink → Compresses e size image old old n n (Err f)
+not_compressed e size image old n fault.Sink is other = absurd (other refl)
+not_compressed e size image old n fault.OutOfMemory is other = (nothing_put e size image old, refl)
+not_compressed e size image old n fault.BlockSize is other = (is (λ h. cc), refl, refl)
+not_compressed e size image old n fault.TooLarge is other = (is (λ h. cc), refl, refl)
+not_compressed e size image old n (fault.Incompatible a t) is other = (is (λ h. cc), refl, refl)
+not_compressed e size image old n (fault.Compressed a t) is other = (is (λ h. cc), refl, refl)
+not_compressed e size image old n (fault.Data a) is other = (is (λ h. cc), refl, refl)
+not_compressed e size image old n (fault.TooLong a) is other = (is (λ h. cc), refl, refl)
+not_compressed e size image old n fault.ReadOnly is other = (is (λ h. cc), refl, refl)
+not_compressed e size image old n fault.Geometry is other = (is (λ h. cc), refl, refl)
+not_compressed e size image old n (fault.Full a b) is other = (is (λ h. cc), refl, refl)
+
+-- one of which a beginning went out
+pub compressed_in_part : (e : Endian) (size : ℕ) (image : List ℕ) (old new : Option (List ℕ)) (before now : ℕ) (f : ConvertFault) → compress_fault e size image ≡ None
+    → WritesPacked e size image old new before now (Err f) → Compresses e size image old new before now (Err f)
+compressed_in_part e size image old new before now fault.Sink none put = (none, put.0, put.1)
+compressed_in_part e size image old new before now fault.OutOfMemory none put = put
+compressed_in_part e size image old new before now fault.BlockSize none put = absurd put
+compressed_in_part e size image old new before now fault.TooLarge none put = absurd put
+compressed_in_part e size image old new before now (fault.Incompatible a t) none put = absurd put
+compressed_in_part e size image old new before now (fault.Compressed a t) none put = absurd put
+compressed_in_part e size image old new before now (fault.Data a) none put = absurd put
+compressed_in_part e size image old new before now (fault.TooLong a) none put = absurd put
+compressed_in_part e size image old new before now fault.ReadOnly none put = absurd put
+compressed_in_part e size image old new before now fault.Geometry none put = absurd put
+compressed_in_part e size image old new before now (fault.Full a b) none put = absurd put

@@ -75,6 +75,18 @@ AreFormsFor e (node ∷ nodes) (form ∷ forms) changed =
     ⊎ (IsPackedForm e node form
     × ((fewer : ℕ) × (changed ≡ suc fewer) × AreFormsFor e nodes forms fewer))
 
+-- An image that goes out for another: forms of all its nodes, from the start of an erased flash on,
+-- so many of them packed. (Where none of the nodes is compressed the expanded ones are they.)
+abbrev pub IsPackedImage : Endian → ℕ → List ℕ → List ℕ → ℕ → Type 0
+IsPackedImage e size image out changed =
+    (forms : List (List ℕ)) × AreFormsFor e (expanded_nodes e size image) forms changed
+    × (out ≡ output e size 0 forms)
+
+-- a beginning of one went out
+abbrev pub PutsPackedPart : Endian → ℕ → List ℕ → Option (List ℕ) → Option (List ℕ) → Type 0
+PutsPackedPart e size image old new =
+    (out : List ℕ) × (changed : ℕ) × IsPackedImage e size image out changed × PutsPart old new out
+
 -- ---- why none goes out
 
 -- the number of the method of a compressed node
@@ -103,24 +115,19 @@ compress_fault e size image =
 
 -- ---- what goes out
 
--- What compressing into a sink answers: forms for all the nodes go out, with what is told of them;
--- or the image is refused before a byte is put; or a beginning of such forms went out. (None of the
--- nodes is compressed, so the expanded ones are they themselves.)
+-- What compressing into a sink answers: an image goes out for the one that is given, with what is
+-- told of it; or that one is refused before a byte is put; or a beginning went out.
 abbrev pub Compresses : Endian → ℕ → List ℕ → Option (List ℕ) → Option (List ℕ) → ℕ → ℕ
     → Result Converted ConvertFault → Type 0
 Compresses e size image old new before now (Ok told) =
     (compress_fault e size image ≡ None)
-    × ((forms : List (List ℕ)) × AreFormsFor e (expanded_nodes e size image) forms told.changed
-    × Appends old new (output e size 0 forms) × (told.nodes ≡ length (expanded_nodes e size image))
-    × (told.bytes ≡ length (output e size 0 forms))) × (now ≡ before)
+    × ((out : List ℕ) × IsPackedImage e size image out told.changed × Appends old new out
+    × (told.bytes ≡ length out))
+    × (told.nodes ≡ length (expanded_nodes e size image)) × (now ≡ before)
 Compresses e size image old new before now (Err fault.Sink) =
-    (compress_fault e size image ≡ None)
-    × ((forms : List (List ℕ)) × (changed : ℕ)
-    × AreFormsFor e (expanded_nodes e size image) forms changed
-    × PutsPart old new (output e size 0 forms)) × (now ≡ next_count before)
+    (compress_fault e size image ≡ None) × PutsPackedPart e size image old new
+    × (now ≡ next_count before)
 Compresses e size image old new before now (Err fault.OutOfMemory) =
-    ((forms : List (List ℕ)) × (changed : ℕ)
-    × AreFormsFor e (expanded_nodes e size image) forms changed
-    × PutsPart old new (output e size 0 forms)) × (now ≡ before)
+    PutsPackedPart e size image old new × (now ≡ before)
 Compresses e size image old new before now (Err f) =
     (compress_fault e size image ≡ Some f) × (new ≡ old) × (now ≡ before)

@@ -5,3 +5,4 @@ pub mod Putting
 pub mod Laws
 pub mod Compressing
 pub mod PuttingPacked
+pub mod CompressingLaws

@@ -91,8 +91,11 @@ fn accept_nodes<E: Order>(
     Ok(())
 }
 
-/// How many nodes an image has that is compressed, or why it is refused. No byte is put.
-fn judge_plain<E: Order>(
+/// How many nodes an image has that is to be compressed, or why it is refused. No byte is put.
+///
+/// # Errors
+/// All but `Sink`, in the order of [`ConvertFault`]; `Compressed` of any node that is compressed. Out of memory at any time.
+pub fn judge_plain<E: Order>(
     alloc: Global,
     image: &[u8],
     geometry: Geometry,
@@ -174,9 +177,9 @@ fn put_packed<E: Order, S: Sink>(
     requires sighted { Contains (sightings E.order geometry.block image.now) (addr, seen.now) }
     requires accepted { node_fault E.order geometry.block image.now (addr, seen.now) ≡ None }
     requires cursor { IsCursor geometry.block from }
-    ensures { PutsPacked E.order geometry.block image.now (addr, seen.now) from (S.taken sink.old)
-        (S.taken sink.new)
-        (S.failures sink.old) (S.failures sink.new) result }
+    ensures { PutsPacked E.order geometry.block
+        (expanded_node E.order geometry.block image.now (addr, seen.now)) from (S.taken sink.old)
+        (S.taken sink.new) (S.failures sink.old, S.failures sink.new) result }
 {
     let is_packed = match make_packed::<E>(alloc, image, geometry, addr, seen, packing) {
         Ok((true, is_packed)) => is_packed,
@@ -189,8 +192,12 @@ fn put_packed<E: Order, S: Sink>(
     }
 }
 
-/// Puts the image of the nodes of one that `judge_plain` did not refuse, and answers how many were packed, and its length.
-fn write_packed<E: Order, S: Sink>(
+/// Puts an image of the nodes of one that `judge_plain` did not refuse, and answers how many of them are compressed, and its
+/// length.
+///
+/// # Errors
+/// `Sink`: it failed after a beginning. `OutOfMemory`: after a beginning too, or before a byte.
+pub fn write_packed<E: Order, S: Sink>(
     alloc: Global,
     image: &[u8],
     geometry: Geometry,
