@@ -115,6 +115,10 @@ fn images_are_not_compressed(rt: HostRuntime) -> Result<(), Fail> {
 #[test]
 fn sinks_that_fail_at_compressed(rt: HostRuntime) {
     let image = little_expanded();
+    let Ok(nodes) = judge_plain::<LittleEndian>(rt.alloc(), image, BLOCKS_OF_8_KIB) else {
+        panic!(rt; "refused");
+    };
+    equal(&rt, nodes, 9);
     let mut whole = Taker::new(rt.alloc());
     let put = write_packed::<LittleEndian, Taker>(rt.alloc(), image, BLOCKS_OF_8_KIB, &mut whole);
     equal(&rt, put, Ok((4, whole.bytes.len() as u64)));
