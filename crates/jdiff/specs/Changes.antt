@@ -9,9 +9,11 @@ use Rattle.jdiff.specs.Entries.{Entry}
 
 -- ---- what is compared
 
--- kind and permissions, the low 16 bits of a mode; owner, group and size; and the time of change, where times are compared
+-- kind and permissions, the low 16 bits of a mode; owner, group and size; and the time of change,
+-- where times are compared
 abbrev pub is_same_object : Bool → Object → Object → Bool
-is_same_object times x y = (x.mode % 65536 == y.mode % 65536) && (x.uid == y.uid) && (x.gid == y.gid) && (x.size == y.size)
+is_same_object times x y =
+    (x.mode % 65536 == y.mode % 65536) && (x.uid == y.uid) && (x.gid == y.gid) && (x.size == y.size)
     && (not times || (x.mtime == y.mtime))
 
 -- the first place at which one list of bytes has another byte than the other, or none
@@ -19,20 +21,24 @@ abbrev pub first_difference : List ℕ → List ℕ → Option ℕ
 first_difference [] [] = None
 first_difference [] (y ∷ ys) = Some 0
 first_difference (x ∷ xs) [] = Some 0
-first_difference (x ∷ xs) (y ∷ ys) = if x == y then option_map suc (first_difference xs ys) else Some 0
+first_difference (x ∷ xs) (y ∷ ys) =
+    if x == y then option_map suc (first_difference xs ys) else Some 0
 
 -- ---- lines
 
 abbrev pub time_shown : Bool → ℕ → List ℕ
 time_shown times mtime = if times then codes " " ++ decimal mtime else []
 
--- what is before the path: as in `ls`, without the number, and without the time of change unless times are compared
+-- what is before the path: as in `ls`, without the number, and without the time of change unless
+-- times are compared
 unfoldable pub entry_start : Bool → Object → List ℕ
-entry_start times o = kind_letter o.kind ++ codes " " ++ permissions o.mode ++ codes " " ++ decimal o.uid ++ codes " " ++ decimal o.gid
+entry_start times o = kind_letter o.kind ++ codes " " ++ permissions o.mode ++ codes " "
+    ++ decimal o.uid ++ codes " " ++ decimal o.gid
     ++ codes " " ++ decimal o.size ++ time_shown times o.mtime ++ codes " "
 
 abbrev pub changed_line : Bool → Entry → List ℕ
-changed_line times x = entry_start times x.object ++ (path_shown x.path ++ (tail_shown x.bytes x.object.kind x.again ++ 10 ∷ []))
+changed_line times x = entry_start times x.object
+    ++ (path_shown x.path ++ (tail_shown x.bytes x.object.kind x.again ++ 10 ∷ []))
 
 -- the first tree alone has it, or the second
 abbrev pub removed_line : Bool → Entry → List ℕ
@@ -60,11 +66,13 @@ is_symlink _ = false
 -- objects that are the same, by where their bytes differ: of a symlink that is where it leads
 abbrev pub bytes_changes : Bool → Entry → Entry → Option ℕ → List (List ℕ)
 bytes_changes times x y None = []
-bytes_changes times x y (Some place) = if is_symlink x.object.kind then both_lines times x y else bytes_differ_line x.path place ∷ []
+bytes_changes times x y (Some place) =
+    if is_symlink x.object.kind then both_lines times x y else bytes_differ_line x.path place ∷ []
 
 abbrev pub changes : Bool → Option Entry → Option Entry → List (List ℕ)
 changes times None None = []
 changes times (Some x) None = removed_line times x ∷ []
 changes times None (Some y) = added_line times y ∷ []
 changes times (Some x) (Some y) =
-    if is_same_object times x.object y.object then bytes_changes times x y (first_difference x.bytes y.bytes) else both_lines times x y
+    if is_same_object times x.object y.object then bytes_changes times x y
+    (first_difference x.bytes y.bytes) else both_lines times x y

@@ -22,14 +22,19 @@ pub record AreDifferences (times : Bool) (s t : State) (lines : List (List ℕ))
 -- a beginning of them went out
 abbrev pub PutsPartOfDifferences : Bool → State → State → Option (List ℕ) → Option (List ℕ) → Type 0
 PutsPartOfDifferences times s t old new =
-    (lines : List (List ℕ)) × AreDifferences times s t lines × PutsPart old new (flat_map (λ line. line) lines)
+    (lines : List (List ℕ)) × AreDifferences times s t lines
+    × PutsPart old new (flat_map (λ line. line) lines)
 
--- A call puts the lines, and answers how many there are, or the greatest u64. Where the sink fails or memory runs out, a
--- beginning of them went out.
-abbrev pub PutsDifferences : Bool → State → State → Option (List ℕ) → Option (List ℕ) → ℕ → ℕ → Result ℕ ProgramFault → Type 0
+-- A call puts the lines, and answers how many there are, or the greatest u64. Where the sink fails
+-- or memory runs out, a beginning of them went out.
+abbrev pub PutsDifferences : Bool → State → State → Option (List ℕ) → Option (List ℕ) → ℕ → ℕ
+    → Result ℕ ProgramFault → Type 0
 PutsDifferences times s t old new before now (Ok count) =
-    (lines : List (List ℕ)) × AreDifferences times s t lines × (count ≡ min (length lines) (2 ^ 64 - 1))
+    (lines : List (List ℕ)) × AreDifferences times s t lines
+    × (count ≡ min (length lines) (2 ^ 64 - 1))
     × Appends old new (flat_map (λ line. line) lines) × (now ≡ before)
-PutsDifferences times s t old new before now (Err Output) = PutsPartOfDifferences times s t old new × (now ≡ next_count before)
-PutsDifferences times s t old new before now (Err OutOfMemory) = PutsPartOfDifferences times s t old new × (now ≡ before)
+PutsDifferences times s t old new before now (Err Output) =
+    PutsPartOfDifferences times s t old new × (now ≡ next_count before)
+PutsDifferences times s t old new before now (Err OutOfMemory) =
+    PutsPartOfDifferences times s t old new × (now ≡ before)
 PutsDifferences times s t old new before now (Err _) = ⊥

@@ -14,7 +14,8 @@ names_there s (Some i) = filter (λ e. is_there s e.1) (entries_in s i)
 abbrev pub SharedName : Type 0
 SharedName = List ℕ × Option ℕ × Option ℕ
 
-abbrev pub join_first : List ℕ × ℕ → (List (List ℕ × ℕ) → List SharedName) → List (List ℕ × ℕ) → List SharedName
+abbrev pub join_first : List ℕ
+    × ℕ → (List (List ℕ × ℕ) → List SharedName) → List (List ℕ × ℕ) → List SharedName
 join_first x rest [] = (x.0, Some x.1, None) ∷ rest []
 join_first x rest (y ∷ ys) = elim (slice_cmp nat_cmp x.0 y.0) [
   | Less ↦ (x.0, Some x.1, None) ∷ rest (y ∷ ys)

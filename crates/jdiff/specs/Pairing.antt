@@ -20,16 +20,19 @@ path_cmp = slice_cmp (slice_cmp nat_cmp)
 
 abbrev pub AreInOrder : List Place → Type 0
 AreInOrder [] = ⊤
-AreInOrder (place ∷ places) = AllByRecursion (λ later. path_cmp place.path later.path ≡ Less) places × AreInOrder places
+AreInOrder (place ∷ places) =
+    AllByRecursion (λ later. path_cmp place.path later.path ≡ Less) places × AreInOrder places
 
 abbrev pub IsAtPath : List (List ℕ) → Option Entry → Type 0
 IsAtPath path entry = IfSome entry (λ x. x.path ≡ path)
 
--- the left entries are these, and the right ones those; both of a place have its path, and no two places have one path
+-- the left entries are these, and the right ones those; both of a place have its path, and no two
+-- places have one path
 pub record ArePaired (left right : List Entry) (places : List Place) : Type 0 where
   pub lefts : filter_map (λ place. place.left) places ≡ left
   pub rights : filter_map (λ place. place.right) places ≡ right
-  pub paths : AllByRecursion (λ place. IsAtPath place.path place.left × IsAtPath place.path place.right) places
+  pub paths : AllByRecursion
+      (λ place. IsAtPath place.path place.left × IsAtPath place.path place.right) places
   pub order : AreInOrder places
 
 -- the lines on these places

@@ -7,6 +7,7 @@ abbrev pub names_behind : State → Option (List (List ℕ × ℕ)) → List (Li
 names_behind s None = []
 names_behind s (Some names) = filter (λ e. is_there s e.1) names
 
-abbrev pub names_ahead : State → Option (Bor (List ℕ) × ℕ) → Option (List (List ℕ × ℕ)) → List (List ℕ × ℕ)
+abbrev pub names_ahead : State → Option (Bor (List ℕ) × ℕ) → Option (List (List ℕ × ℕ))
+    → List (List ℕ × ℕ)
 names_ahead s None left = []
 names_ahead s (Some next) left = (next.0.now, next.1) ∷ names_behind s left

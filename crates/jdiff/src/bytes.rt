@@ -38,7 +38,8 @@ pub(crate) fn first_difference(
 ) -> Option<u64>
     requires left { length (readable left.now.state left_ino) ≤ size }
     requires right { length (readable right.now.state right_ino) ≤ size }
-    ensures { result ≡ first_difference (readable left.now.state left_ino) (readable right.now.state right_ino) }
+    ensures { result
+        ≡ first_difference (readable left.now.state left_ino) (readable right.now.state right_ino) }
 {
     let mut ours = [0u8; PIECE];
     let mut theirs = [0u8; PIECE];

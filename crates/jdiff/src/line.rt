@@ -114,7 +114,8 @@ fn put_target<T: Sink>(
 fn put_tail<T: Sink>(mounted: &Mounted<'_>, found: &Found, sink: &mut T) -> Result<(), DeviceFault>
     requires { IsFoundIn mounted.now.state found.now }
     ensures { Puts (T.taken sink.old) (T.taken sink.new) (T.failures sink.old) (T.failures sink.new)
-        (tail_shown (readable mounted.now.state found.now.ino) found.now.object.kind found.now.again) result }
+        (tail_shown (readable mounted.now.state found.now.ino) found.now.object.kind
+        found.now.again) result }
 {
     match found.object.kind {
         Kind::Symlink => put_target(mounted, found.ino, found.object.size, sink),
@@ -134,7 +135,8 @@ pub(crate) fn put_entry<T: Sink>(
 ) -> Result<(), DeviceFault>
     requires { IsFoundIn mounted.now.state found.now }
     ensures { Puts (T.taken sink.old) (T.taken sink.new) (T.failures sink.old) (T.failures sink.new)
-        (sign.now ++ changed_line times (entry_found mounted.now.state (map (λ name. name.now) path.now) found.now)) result }
+        (sign.now ++ changed_line times (entry_found mounted.now.state
+        (map (λ name. name.now) path.now) found.now)) result }
 {
     let mut line = LineBuffer::new();
     write_start(&mut line, times, &found.object);

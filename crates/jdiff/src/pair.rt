@@ -13,7 +13,8 @@ use std::marker::Model;
 /// The next name that leads to an object.
 fn next_there<'m, 'a>(mounted: &Mounted<'a>, names: &mut Of<'m, 'a>) -> Option<(&'m [u8], u32)>
     ensures { MatchOption result (filter (λ e. is_there mounted.now.state e.1) names.old ≡ [])
-        (λ n. filter (λ e. is_there mounted.now.state e.1) names.old ≡ (n.0.now, n.1) ∷ filter (λ e. is_there mounted.now.state e.1) names.new) }
+        (λ n. filter (λ e. is_there mounted.now.state e.1) names.old
+        ≡ (n.0.now, n.1) ∷ filter (λ e. is_there mounted.now.state e.1) names.new) }
 {
     while let Some((name, ino)) = names.next() {
         if mounted.object(ino).is_some() {
@@ -29,7 +30,8 @@ fn next_behind<'m, 'a>(
     names: &mut Option<Of<'m, 'a>>,
 ) -> Option<(&'m [u8], u32)>
     ensures { MatchOption result (names_behind mounted.now.state names.old ≡ [])
-        (λ n. names_behind mounted.now.state names.old ≡ (n.0.now, n.1) ∷ names_behind mounted.now.state names.new) }
+        (λ n. names_behind mounted.now.state names.old
+        ≡ (n.0.now, n.1) ∷ names_behind mounted.now.state names.new) }
 {
     match names {
         Some(names) => next_there(mounted, names),
@@ -77,7 +79,8 @@ impl<'m, 'a> Side<'m, 'a> {
 
     /// The next name.
     fn peek(&self) -> Option<(&'m [u8], u32)>
-        ensures { MatchOption result (self.now ≡ []) (λ n. self.now ≡ (n.0.now, n.1) ∷ drop 1 self.now) }
+        ensures { MatchOption result (self.now ≡ [])
+            (λ n. self.now ≡ (n.0.now, n.1) ∷ drop 1 self.now) }
     {
         self.next
     }
@@ -117,7 +120,8 @@ impl<'m, 'a> Pair<'m, 'a> {
         right: &'m Mounted<'a>,
         right_directory: Option<u32>,
     ) -> Self
-        ensures { result ≡ joined (names_there left.now.state left_directory) (names_there right.now.state right_directory) }
+        ensures { result ≡ joined (names_there left.now.state left_directory)
+            (names_there right.now.state right_directory) }
     {
         Pair {
             left: Side::new(left, left_directory),
@@ -127,7 +131,8 @@ impl<'m, 'a> Pair<'m, 'a> {
 
     /// The next name, and what it stands for in each.
     pub(crate) fn next(&mut self) -> Option<(&'m [u8], Option<u32>, Option<u32>)>
-        ensures { MatchOption result (self.old ≡ []) (λ n. self.old ≡ (n.0.now, n.1, n.2) ∷ self.new) }
+        ensures { MatchOption result (self.old ≡ [])
+            (λ n. self.old ≡ (n.0.now, n.1, n.2) ∷ self.new) }
     {
         match (self.left.peek(), self.right.peek()) {
             (None, None) => None,

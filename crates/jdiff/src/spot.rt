@@ -50,7 +50,9 @@ fn put_both<T: Sink>(
     requires right { IsFoundIn trees.now.right.now.state right.now }
     ensures puts { let way = map (λ name. name.now) path.now in
         Puts (T.taken sink.old) (T.taken sink.new) (T.failures sink.old) (T.failures sink.new)
-        (flat_map (λ line. line) (both_lines trees.now.times (entry_found trees.now.left.now.state way left.now) (entry_found trees.now.right.now.state way right.now))) result }
+        (flat_map (λ line. line) (both_lines trees.now.times
+        (entry_found trees.now.left.now.state way left.now)
+        (entry_found trees.now.right.now.state way right.now))) result }
     ensures count { IfOk result (λ n. n ≡ 2) }
 {
     put_entry(trees.left, trees.times, b"- ", path, left, sink)?;
@@ -73,11 +75,13 @@ fn put_bytes<T: Sink>(
         let x = entry_found trees.now.left.now.state way left.now in
         let y = entry_found trees.now.right.now.state way right.now in
         Puts (T.taken sink.old) (T.taken sink.new) (T.failures sink.old) (T.failures sink.new)
-        (flat_map (λ line. line) (bytes_changes trees.now.times x y (first_difference x.bytes y.bytes))) result }
+        (flat_map (λ line. line)
+        (bytes_changes trees.now.times x y (first_difference x.bytes y.bytes))) result }
     ensures count { let way = map (λ name. name.now) path.now in
         let x = entry_found trees.now.left.now.state way left.now in
         let y = entry_found trees.now.right.now.state way right.now in
-        IfOk result (λ n. n ≡ length (bytes_changes trees.now.times x y (first_difference x.bytes y.bytes))) }
+        IfOk result
+        (λ n. n ≡ length (bytes_changes trees.now.times x y (first_difference x.bytes y.bytes))) }
 {
     let size = left.object.size;
     match first_difference(trees.left, left.ino, trees.right, right.ino, size) {
@@ -104,9 +108,13 @@ pub(crate) fn put_changes<T: Sink>(
     requires right { IfSome right (λ f. IsFoundIn trees.now.right.now.state f) }
     ensures puts { let way = map (λ name. name.now) path.now in
         Puts (T.taken sink.old) (T.taken sink.new) (T.failures sink.old) (T.failures sink.new)
-        (flat_map (λ line. line) (changes trees.now.times (entries_here trees.now.left.now.state way left) (entries_here trees.now.right.now.state way right))) result }
+        (flat_map (λ line. line) (changes trees.now.times
+        (entries_here trees.now.left.now.state way left)
+        (entries_here trees.now.right.now.state way right))) result }
     ensures count { let way = map (λ name. name.now) path.now in
-        IfOk result (λ n. n ≡ length (changes trees.now.times (entries_here trees.now.left.now.state way left) (entries_here trees.now.right.now.state way right))) }
+        IfOk result
+        (λ n. n ≡ length (changes trees.now.times (entries_here trees.now.left.now.state way left)
+        (entries_here trees.now.right.now.state way right))) }
 {
     match (left, right) {
         (None, None) => Ok(0),

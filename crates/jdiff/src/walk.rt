@@ -33,7 +33,8 @@ fn visit<T: Sink>(
     met_right: &mut BTreeSet<u32>,
     sink: &mut T,
 ) -> Result<Visited, ProgramFault<'static>>
-    ensures { PutsSpot trees.now.times trees.now.left.now.state trees.now.right.now.state met_left.old met_right.old met_left.new met_right.new
+    ensures { PutsSpot trees.now.times trees.now.left.now.state trees.now.right.now.state
+        met_left.old met_right.old met_left.new met_right.new
         (map (λ name. name.now) path.now, inos.0, inos.1)
         (T.taken sink.old) (T.taken sink.new) (T.failures sink.old) (T.failures sink.new) result }
 {
@@ -69,8 +70,10 @@ impl<'m, 'a> Walk<'m, 'a> {
         trees: &Trees<'m, 'a>,
         sink: &mut T,
     ) -> Result<Option<u64>, ProgramFault<'static>>
-        ensures { PutsPairStep trees.now.times trees.now.left.now.state trees.now.right.now.state self.old self.new
-            (T.taken sink.old) (T.taken sink.new) (T.failures sink.old) (T.failures sink.new) result }
+        ensures { PutsPairStep trees.now.times trees.now.left.now.state trees.now.right.now.state
+            self.old self.new
+            (T.taken sink.old) (T.taken sink.new) (T.failures sink.old) (T.failures sink.new)
+            result }
     {
         let Some((name, left, right)) = self.left.next() else {
             return Ok(self.go_up());
@@ -112,7 +115,8 @@ pub fn put_differences<'m, 'a, T: Sink>(
     times: bool,
     sink: &mut T,
 ) -> Result<u64, ProgramFault<'static>>
-    ensures { PutsDifferences times left.now.state right.now.state (T.taken sink.old) (T.taken sink.new) (T.failures sink.old) (T.failures sink.new) result }
+    ensures { PutsDifferences times left.now.state right.now.state (T.taken sink.old)
+        (T.taken sink.new) (T.failures sink.old) (T.failures sink.new) result }
 {
     let trees = Trees { left, right, times };
     let mut met_left = BTreeSet::new(alloc);
