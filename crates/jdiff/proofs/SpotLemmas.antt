@@ -12,10 +12,15 @@ use Rattle.jreport.specs.Walking.{met_of}
 use Rattle.jreport.specs.declared.faults.ProgramFault.{ProgramFault}
 use Rattle.jreport.specs.declared.faults.ProgramFault.TheVariants.{Output, OutOfMemory}
 use Rattle.jdiff.specs.Changes.{changes}
-use Rattle.jdiff.specs.Walking.{spot_entry, met_by, entered_at, found_at, directory_found, entries_here, IsFoundIn, spot_lines, spot_text, PutsSpot}
+use Rattle.jdiff.specs.Walking.{spot_entry, met_by, entered_at, found_at, directory_found, entries_here, IsFoundIn, spot_lines, spot_text, Spot, PutsSpot}
 use Rattle.jdiff.specs.declared.found.Found.{Found}
 use Rattle.jdiff.specs.declared.walk.Visited.{Visited}
 use Rattle.jdiff.proofs.FoundLemmas.{found_entry, found_directory, found_there}
+
+-- the same, of each part by itself
+abbrev pub PutsSpotOn : Bool → State → State → BTreeSet ℕ → BTreeSet ℕ → BTreeSet ℕ → BTreeSet ℕ → Spot → Option (List ℕ) → Option (List ℕ) → ℕ → ℕ → Result Visited ProgramFault → Type 0
+PutsSpotOn times s t a b c d spot old new before now r =
+    PutsSpot times s t (record { left = a; right = b }) (record { left = c; right = d }) spot (record { old = old; new = new; before = before; now = now }) r
 
 pub found_is_there : (s : State) (met : Met) (i : Option ℕ) (x : Option Found) → x ≡ found_at s met i → IfSome x (IsFoundIn s)
 found_is_there s met i x is = subst (λ (o : Option Found). IfSome o (IsFoundIn s)) (sym is) (found_there s met i)
@@ -33,7 +38,7 @@ pub spot_visited : (times : Bool) (s t : State) (a b c d : BTreeSet ℕ) (path :
     → x ≡ found_at s (met_of a) i → y ≡ found_at t (met_of b) j → met_of c ≡ met_by s (met_of a) i → met_of d ≡ met_by t (met_of b) j
     → v.lines ≡ length (changes times (entries_here s path x) (entries_here t path y)) → v.left ≡ directory_found x → v.right ≡ directory_found y
     → Appends old new (flat_map (λ line. line) (changes times (entries_here s path x) (entries_here t path y))) → now ≡ before
-    → PutsSpot times s t a b c d (path, i, j) old new before now (Ok v)
+    → PutsSpotOn times s t a b c d (path, i, j) old new before now (Ok v)
 spot_visited times s t a b c d path i j x y v old new before now is other ours theirs count left right put same =
     let lines = changes_here times s t a b path i j x y is other in (
       count ∙ ap length lines,
@@ -46,16 +51,16 @@ spot_visited times s t a b c d path i j x y v old new before now is other ours t
     )
 
 pub spot_memory : (times : Bool) (s t : State) (a b c d : BTreeSet ℕ) (path : List (List ℕ)) (i j : Option ℕ) (old : Option (List ℕ)) (before : ℕ) (r : Result Visited ProgramFault) (fault : ProgramFault)
-    → IsErrAnd r (λ e. e ≡ fault) → fault ≡ OutOfMemory → PutsSpot times s t a b c d (path, i, j) old old before before r
+    → IsErrAnd r (λ e. e ≡ fault) → fault ≡ OutOfMemory → PutsSpotOn times s t a b c d (path, i, j) old old before before r
 spot_memory times s t a b c d path i j old before (Ok v) fault is memory = absurd is
 spot_memory times s t a b c d path i j old before (Err e) fault is memory =
-    subst (λ (f : ProgramFault). PutsSpot times s t a b c d (path, i, j) old old before before (Err f)) (sym (is ∙ memory)) (Appends-nil old, refl)
+    subst (λ (f : ProgramFault). PutsSpotOn times s t a b c d (path, i, j) old old before before (Err f)) (sym (is ∙ memory)) (Appends-nil old, refl)
 
 pub spot_output : (times : Bool) (s t : State) (a b c d : BTreeSet ℕ) (path : List (List ℕ)) (i j : Option ℕ) (x y : Option Found) (old new : Option (List ℕ)) (before now : ℕ) (r : Result Visited ProgramFault)
     → x ≡ found_at s (met_of a) i → y ≡ found_at t (met_of b) j → IsErrAnd r (λ e. e ≡ Output)
     → PutsPart old new (flat_map (λ line. line) (changes times (entries_here s path x) (entries_here t path y))) → now ≡ next_count before
-    → PutsSpot times s t a b c d (path, i, j) old new before now r
+    → PutsSpotOn times s t a b c d (path, i, j) old new before now r
 spot_output times s t a b c d path i j x y old new before now (Ok v) is other err part failed = absurd err
 spot_output times s t a b c d path i j x y old new before now (Err e) is other err part failed =
-    subst (λ (f : ProgramFault). PutsSpot times s t a b c d (path, i, j) old new before now (Err f)) (sym err)
+    subst (λ (f : ProgramFault). PutsSpotOn times s t a b c d (path, i, j) old new before now (Err f)) (sym err)
     (subst (λ (l : List (List ℕ)). PutsPart old new (flat_map (λ line. line) l)) (changes_here times s t a b path i j x y is other) part, failed)

@@ -22,12 +22,17 @@ use Rattle.jdiff.specs.Changes.{changes}
 use Rattle.jdiff.specs.Differing.{AreDifferences, PutsPartOfDifferences, PutsDifferences}
 use Rattle.jdiff.specs.Names.{SharedName, names_there, joined}
 use Rattle.jdiff.specs.Pairing.{Place, lines_on, text_on, count_on}
-use Rattle.jdiff.specs.Walking.{Spot, spot_entry, met_by, entered_at, spots_of, spot_place, spots_after, AreSpotPlaces, root_spot, spot_lines, spot_text, PutsSpot, spots_up, way_of_pair, spots_left, AreLeft, names_to_go, steps_to_go, LeavesPlaces, PairGoesUp, PutsPartOfLeft, PutsPairStep}
+use Rattle.jdiff.specs.Walking.{Spot, spot_entry, met_by, entered_at, spots_of, spot_place, spots_after, AreSpotPlaces, root_spot, spot_lines, spot_text, spots_up, way_of_pair, spots_left, AreLeft, names_to_go, steps_to_go, LeavesPlaces, PairGoesUp, PutsPartOfLeft, PutsPairStep}
 use Rattle.jdiff.specs.declared.walk.Walk.{Walk}
 use Rattle.jdiff.specs.declared.walk.Visited.{Visited}
 use Rattle.jdiff.proofs.LineLemmas.{changes_few}
 use Rattle.jdiff.proofs.PairedLemmas.{differences_of}
 use Rattle.jdiff.proofs.PlaceLemmas.{joined_long, side_falls, has_places}
+use Rattle.jdiff.proofs.SpotLemmas.{PutsSpotOn}
+
+-- a step, of each part by itself
+abbrev pub PutsPairStepOn : Bool → State → State → Walk → Walk → Option (List ℕ) → Option (List ℕ) → ℕ → ℕ → Result (Option ℕ) ProgramFault → Type 0
+PutsPairStepOn times s t w n old new before now r = PutsPairStep times s t w n (record { old = old; new = new; before = before; now = now }) r
 
 -- ---- the text of places
 
@@ -73,7 +78,7 @@ up_rest s t w n k places none up are =
     (subst (λ (todo : List Spot). AreSpotPlaces s t (met_of n.met_left) (met_of n.met_right) todo places) (up_spots w n k none up) are))
 
 pub pair_goes_up : (times : Bool) (s t : State) (w n : Walk) (left : List SharedName) (up : Option ℕ) (old : Option (List ℕ)) (before : ℕ) → w.left ≡ []
-    → PairGoesUp (record w { left = left }) n up → PutsPairStep times s t w n old old before before (Ok up)
+    → PairGoesUp (record w { left = left }) n up → PutsPairStepOn times s t w n old old before before (Ok up)
 pair_goes_up times s t w n left (Some k) old before none up = (
   record { done = []; put = Appends-nil old; counted = up.0; rest = λ places are. up_rest s t w n k places none up are },
   up_nearer s t w n k none up,
@@ -148,8 +153,8 @@ enter_nearer s t w n name i j names is =
 pub enters_pair : (times : Bool) (s t : State) (w n : Walk) (name : List ℕ) (i j : Option ℕ) (names : List SharedName) (v : Visited) (old new : Option (List ℕ)) (before now : ℕ)
     → w.left ≡ (name, i, j) ∷ names → n.left ≡ joined (names_there s v.left) (names_there t v.right)
     → n.above.items ≡ w.above.items ++ names ∷ [] → way_of_pair n ≡ way_of_pair w ++ name ∷ []
-    → PutsSpot times s t w.met_left w.met_right n.met_left n.met_right (spot_in w name i j) old new before now (Ok v)
-    → PutsPairStep times s t w n old new before now (Ok (Some v.lines))
+    → PutsSpotOn times s t w.met_left w.met_right n.met_left n.met_right (spot_in w name i j) old new before now (Ok v)
+    → PutsPairStepOn times s t w n old new before now (Ok (Some v.lines))
 enters_pair times s t w n name i j names v old new before now read left above way put =
     let is : EntersPair s t w n name i j names = record {
       read = read;
@@ -173,7 +178,7 @@ enters_pair times s t w n name i j names v old new before now read left above wa
 
 -- ---- where memory runs out, or the sink fails
 
-pub none_put : (times : Bool) (s t : State) (w n : Walk) (old : Option (List ℕ)) (before : ℕ) → PutsPairStep times s t w n old old before before (Err OutOfMemory)
+pub none_put : (times : Bool) (s t : State) (w n : Walk) (old : Option (List ℕ)) (before : ℕ) → PutsPairStepOn times s t w n old old before before (Err OutOfMemory)
 none_put times s t w n old before =
     let whole = has_places s t (met_of w.met_left) (met_of w.met_right) (spots_left w) in ((whole.0, whole.1, (0, Appends-nil old)), refl)
 
@@ -196,14 +201,14 @@ whole_part old new line put = (length line, subst (Appends old new) (sym (take_a
     take_all xs = ap (take (length xs)) (sym (append-nil xs)) ∙ take-append_seam xs []
 
 pub spot_put : (times : Bool) (s t : State) (w n : Walk) (name : List ℕ) (i j : Option ℕ) (names : List SharedName) (left right : BTreeSet ℕ) (v : Visited) (old new : Option (List ℕ)) (before now : ℕ)
-    → w.left ≡ (name, i, j) ∷ names → PutsSpot times s t w.met_left w.met_right left right (spot_in w name i j) old new before now (Ok v)
-    → PutsPairStep times s t w n old new before now (Err OutOfMemory)
+    → w.left ≡ (name, i, j) ∷ names → PutsSpotOn times s t w.met_left w.met_right left right (spot_in w name i j) old new before now (Ok v)
+    → PutsPairStepOn times s t w n old new before now (Err OutOfMemory)
 spot_put times s t w n name i j names left right v old new before now read put =
     (spot_part times s t w name i j names old new read (whole_part old new (spot_text times s t w.met_left w.met_right (spot_in w name i j)) put.5), put.6)
 
 pub spot_failed : (times : Bool) (s t : State) (w n : Walk) (name : List ℕ) (i j : Option ℕ) (names : List SharedName) (left right : BTreeSet ℕ) (fault : ProgramFault) (old new : Option (List ℕ)) (before now : ℕ)
-    → w.left ≡ (name, i, j) ∷ names → PutsSpot times s t w.met_left w.met_right left right (spot_in w name i j) old new before now (Err fault)
-    → PutsPairStep times s t w n old new before now (Err fault)
+    → w.left ≡ (name, i, j) ∷ names → PutsSpotOn times s t w.met_left w.met_right left right (spot_in w name i j) old new before now (Err fault)
+    → PutsPairStepOn times s t w n old new before now (Err fault)
 spot_failed times s t w n name i j names left right Output old new before now read put = (spot_part times s t w name i j names old new read put.0, put.1)
 spot_failed times s t w n name i j names left right OutOfMemory old new before now read put =
     (spot_part times s t w name i j names old new read (0, put.0), put.1)
@@ -220,10 +225,10 @@ spot_failed times s t w n name i j names left right (program.Data addr) old new 
 spot_failed times s t w n name i j names left right (program.TooLong addr) old new before now read put = absurd put
 
 pub pair_step_failed : (times : Bool) (s t : State) (w n : Walk) (old new : Option (List ℕ)) (before now : ℕ) (r : Result (Option ℕ) ProgramFault) (fault : ProgramFault)
-    → IsErrAnd r (λ e. e ≡ fault) → PutsPairStep times s t w n old new before now (Err fault) → PutsPairStep times s t w n old new before now r
+    → IsErrAnd r (λ e. e ≡ fault) → PutsPairStepOn times s t w n old new before now (Err fault) → PutsPairStepOn times s t w n old new before now r
 pair_step_failed times s t w n old new before now (Ok x) fault is put = absurd is
 pair_step_failed times s t w n old new before now (Err e) fault is put =
-    subst (λ (y : ProgramFault). PutsPairStep times s t w n old new before now (Err y)) (sym is) put
+    subst (λ (y : ProgramFault). PutsPairStepOn times s t w n old new before now (Err y)) (sym is) put
 
 -- ---- the way to a spot
 
@@ -232,9 +237,9 @@ pub pair_way_on : (w : Walk) (name : Bor (List ℕ)) (path pushed : List (Bor (L
 pair_way_on w name path pushed same is = ap (map (λ n. n.now)) (same ∙ is) ∙ map-append (λ n. n.now) w.path.items (name ∷ [])
 
 pub spot_at : (times : Bool) (s t : State) (a b c d : BTreeSet ℕ) (path way : List (List ℕ)) (i j : Option ℕ) (old new : Option (List ℕ)) (before now : ℕ) (r : Result Visited ProgramFault)
-    → path ≡ way → PutsSpot times s t a b c d (path, i, j) old new before now r → PutsSpot times s t a b c d (way, i, j) old new before now r
+    → path ≡ way → PutsSpotOn times s t a b c d (path, i, j) old new before now r → PutsSpotOn times s t a b c d (way, i, j) old new before now r
 spot_at times s t a b c d path way i j old new before now r is put =
-    subst (λ (p : List (List ℕ)). PutsSpot times s t a b c d (p, i, j) old new before now r) is put
+    subst (λ (p : List (List ℕ)). PutsSpotOn times s t a b c d (p, i, j) old new before now r) is put
 
 -- ---- from the roots on
 
@@ -260,7 +265,7 @@ root_places s t a b places none nothing are =
 
 pub roots_entered : (times : Bool) (s t : State) (w : Walk) (a b : BTreeSet ℕ) (v : Visited) (old new : Option (List ℕ)) (before now : ℕ) → a.keys ≡ [] → b.keys ≡ []
     → w.path.items ≡ [] → w.left ≡ joined (names_there s v.left) (names_there t v.right) → w.above.items ≡ []
-    → PutsSpot times s t a b w.met_left w.met_right root_spot old new before now (Ok v) → ReachesPlaces times s t w old new v.lines
+    → PutsSpotOn times s t a b w.met_left w.met_right root_spot old new before now (Ok v) → ReachesPlaces times s t w old new v.lines
 roots_entered times s t w a b v old new before now none nothing path left above put =
     let lines = spot_lines times s t a b root_spot in
     let count : v.lines ≡ length (lines ++ []) = put.0 ∙ ap length (sym (append-nil lines)) in
@@ -299,7 +304,7 @@ roots_part times s t a b old new none nothing part =
     )
 
 pub roots_failed : (times : Bool) (s t : State) (a b c d : BTreeSet ℕ) (fault : ProgramFault) (old new : Option (List ℕ)) (before now : ℕ) → a.keys ≡ [] → b.keys ≡ []
-    → PutsSpot times s t a b c d root_spot old new before now (Err fault) → PutsDifferences times s t old new before now (Err fault)
+    → PutsSpotOn times s t a b c d root_spot old new before now (Err fault) → PutsDifferences times s t old new before now (Err fault)
 roots_failed times s t a b c d Output old new before now none nothing put = (roots_part times s t a b old new none nothing put.0, put.1)
 roots_failed times s t a b c d OutOfMemory old new before now none nothing put = (roots_part times s t a b old new none nothing (0, put.0), put.1)
 roots_failed times s t a b c d (program.Load f) old new before now none nothing put = absurd put
@@ -315,7 +320,7 @@ roots_failed times s t a b c d (program.Data addr) old new before now none nothi
 roots_failed times s t a b c d (program.TooLong addr) old new before now none nothing put = absurd put
 
 pub places_on : (times : Bool) (s t : State) (w n : Walk) (a b c : Option (List ℕ)) (count more next before now : ℕ) → ReachesPlaces times s t w a b count
-    → PutsPairStep times s t w n b c before now (Ok (Some more)) → next ≡ min (count + more) (2 ^ 64 - 1) → ReachesPlaces times s t n a c next
+    → PutsPairStepOn times s t w n b c before now (Ok (Some more)) → next ≡ min (count + more) (2 ^ 64 - 1) → ReachesPlaces times s t n a c next
 places_on times s t w n a b c count more next before now far put sum = record {
   done = far.done ++ put.0.done;
   put = subst (Appends a c) (sym (text_join times far.done put.0.done)) (Appends-trans a b c (text_on times far.done) (text_on times put.0.done) far.put put.0.put);
@@ -328,7 +333,7 @@ places_on times s t w n a b c count more next before now far put sum = record {
     added x y z is own both = omega arith
 
 pub places_end : (times : Bool) (s t : State) (w n : Walk) (a b c : Option (List ℕ)) (count first before now : ℕ) → ReachesPlaces times s t w a b count → before ≡ first
-    → PutsPairStep times s t w n b c before now (Ok None) → PutsDifferences times s t a c first now (Ok count)
+    → PutsPairStepOn times s t w n b c before now (Ok None) → PutsDifferences times s t a c first now (Ok count)
 places_end times s t w n a b c count first before now far same put = (
   lines_on times far.done,
   differences_of times s t far.done
@@ -348,7 +353,7 @@ part_of_all times s t w a b c count far part = (
 )
 
 pub pair_stopped : (times : Bool) (s t : State) (w n : Walk) (fault : ProgramFault) (a b c : Option (List ℕ)) (count first before now : ℕ) → ReachesPlaces times s t w a b count → before ≡ first
-    → PutsPairStep times s t w n b c before now (Err fault) → PutsDifferences times s t a c first now (Err fault)
+    → PutsPairStepOn times s t w n b c before now (Err fault) → PutsDifferences times s t a c first now (Err fault)
 pair_stopped times s t w n Output a b c count first before now far same put = (part_of_all times s t w a b c count far put.0, put.1 ∙ ap next_count same)
 pair_stopped times s t w n OutOfMemory a b c count first before now far same put = (part_of_all times s t w a b c count far put.0, put.1 ∙ same)
 pair_stopped times s t w n (program.Load f) a b c count first before now far same put = absurd put

@@ -103,6 +103,18 @@ IsFoundIn s f = option_map shown (object s f.ino) ≡ Some f.object
 
 -- ---- a spot that is visited
 
+-- the directories of each tree that were met
+pub record BothMet : Type 0 where
+  pub left : BTreeSet ℕ
+  pub right : BTreeSet ℕ
+
+-- a sink before and after: what is known of its bytes, and how often it failed
+pub record SinkStep : Type 0 where
+  pub old : Option (List ℕ)
+  pub new : Option (List ℕ)
+  pub before : ℕ
+  pub now : ℕ
+
 -- the lines on it
 abbrev pub spot_lines : Bool → State → State → BTreeSet ℕ → BTreeSet ℕ → Spot → List (List ℕ)
 spot_lines times s t left right spot = changes times (spot_entry s (met_of left) spot.0 spot.1)
@@ -112,20 +124,22 @@ abbrev pub spot_text : Bool → State → State → BTreeSet ℕ → BTreeSet �
 spot_text times s t left right spot = flat_map (λ line. line) (spot_lines times s t left right spot)
 
 -- Its lines are put. The answer is how many, and which directories are entered.
-abbrev pub PutsSpot : Bool → State → State → BTreeSet ℕ → BTreeSet ℕ → BTreeSet ℕ → BTreeSet ℕ
-    → Spot
-    → Option (List ℕ) → Option (List ℕ) → ℕ → ℕ → Result Visited ProgramFault → Type 0
-PutsSpot times s t left right left_after right_after spot old new before now (Ok v) =
-    (v.lines ≡ length (spot_lines times s t left right spot))
-    × (v.left ≡ entered_at s (met_of left) spot.1) × (v.right ≡ entered_at t (met_of right) spot.2)
-    × (met_of left_after ≡ met_by s (met_of left) spot.1)
-    × (met_of right_after ≡ met_by t (met_of right) spot.2)
-    × Appends old new (spot_text times s t left right spot) × (now ≡ before)
-PutsSpot times s t left right left_after right_after spot old new before now (Err Output) =
-    PutsPart old new (spot_text times s t left right spot) × (now ≡ next_count before)
-PutsSpot times s t left right left_after right_after spot old new before now (Err OutOfMemory) =
-    Appends old new [] × (now ≡ before)
-PutsSpot times s t left right left_after right_after spot old new before now (Err _) = ⊥
+abbrev pub PutsSpot : Bool → State → State → BothMet → BothMet → Spot → SinkStep
+    → Result Visited ProgramFault → Type 0
+PutsSpot times s t met after spot sink (Ok v) =
+    (v.lines ≡ length (spot_lines times s t met.left met.right spot))
+    × (v.left ≡ entered_at s (met_of met.left) spot.1)
+    × (v.right ≡ entered_at t (met_of met.right) spot.2)
+    × (met_of after.left ≡ met_by s (met_of met.left) spot.1)
+    × (met_of after.right ≡ met_by t (met_of met.right) spot.2)
+    × Appends sink.old sink.new (spot_text times s t met.left met.right spot)
+    × (sink.now ≡ sink.before)
+PutsSpot times s t met after spot sink (Err Output) =
+    PutsPart sink.old sink.new (spot_text times s t met.left met.right spot)
+    × (sink.now ≡ next_count sink.before)
+PutsSpot times s t met after spot sink (Err OutOfMemory) =
+    Appends sink.old sink.new [] × (sink.now ≡ sink.before)
+PutsSpot times s t met after spot sink (Err _) = ⊥
 
 -- ---- what is still to compare at a point of the walk
 
@@ -177,15 +191,15 @@ PutsPartOfLeft times s t w old new =
     (places : List Place) × AreLeft s t w places × PutsPart old new (text_on times places)
 
 -- `None`: nothing is still to compare. At a fault a beginning of what was to put went out.
-abbrev pub PutsPairStep : Bool → State → State → Walk → Walk → Option (List ℕ) → Option (List ℕ) → ℕ
-    → ℕ → Result (Option ℕ) ProgramFault → Type 0
-PutsPairStep times s t w w_after old new before now (Ok (Some n)) =
-    LeavesPlaces times s t w w_after old new n × (steps_to_go s t w_after < steps_to_go s t w)
-    × (now ≡ before)
-PutsPairStep times s t w w_after old new before now (Ok None) =
-    (spots_left w ≡ []) × Appends old new [] × (now ≡ before)
-PutsPairStep times s t w w_after old new before now (Err Output) =
-    PutsPartOfLeft times s t w old new × (now ≡ next_count before)
-PutsPairStep times s t w w_after old new before now (Err OutOfMemory) =
-    PutsPartOfLeft times s t w old new × (now ≡ before)
-PutsPairStep times s t w w_after old new before now (Err _) = ⊥
+abbrev pub PutsPairStep : Bool → State → State → Walk → Walk → SinkStep
+    → Result (Option ℕ) ProgramFault → Type 0
+PutsPairStep times s t w w_after sink (Ok (Some n)) =
+    LeavesPlaces times s t w w_after sink.old sink.new n
+    × (steps_to_go s t w_after < steps_to_go s t w) × (sink.now ≡ sink.before)
+PutsPairStep times s t w w_after sink (Ok None) =
+    (spots_left w ≡ []) × Appends sink.old sink.new [] × (sink.now ≡ sink.before)
+PutsPairStep times s t w w_after sink (Err Output) =
+    PutsPartOfLeft times s t w sink.old sink.new × (sink.now ≡ next_count sink.before)
+PutsPairStep times s t w w_after sink (Err OutOfMemory) =
+    PutsPartOfLeft times s t w sink.old sink.new × (sink.now ≡ sink.before)
+PutsPairStep times s t w w_after sink (Err _) = ⊥

@@ -34,9 +34,14 @@ fn visit<T: Sink>(
     sink: &mut T,
 ) -> Result<Visited, ProgramFault<'static>>
     ensures { PutsSpot trees.now.times trees.now.left.now.state trees.now.right.now.state
-        met_left.old met_right.old met_left.new met_right.new
-        (map (λ name. name.now) path.now, inos.0, inos.1)
-        (T.taken sink.old) (T.taken sink.new) (T.failures sink.old) (T.failures sink.new) result }
+        (record { left = met_left.old; right = met_right.old })
+        (record { left = met_left.new; right = met_right.new })
+        (map (λ name. name.now) path.now, inos.0, inos.1) (record {
+          old = T.taken sink.old;
+          new = T.taken sink.new;
+          before = T.failures sink.old;
+          now = T.failures sink.new;
+        }) result }
 {
     let left = look(trees.left, inos.0, met_left)?;
     let right = look(trees.right, inos.1, met_right)?;
@@ -71,9 +76,12 @@ impl<'m, 'a> Walk<'m, 'a> {
         sink: &mut T,
     ) -> Result<Option<u64>, ProgramFault<'static>>
         ensures { PutsPairStep trees.now.times trees.now.left.now.state trees.now.right.now.state
-            self.old self.new
-            (T.taken sink.old) (T.taken sink.new) (T.failures sink.old) (T.failures sink.new)
-            result }
+            self.old self.new (record {
+              old = T.taken sink.old;
+              new = T.taken sink.new;
+              before = T.failures sink.old;
+              now = T.failures sink.new;
+            }) result }
     {
         let Some((name, left, right)) = self.left.next() else {
             return Ok(self.go_up());

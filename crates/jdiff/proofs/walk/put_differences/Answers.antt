@@ -1,7 +1,6 @@
 use Rattle.std.proofs.Common.{◌∙◌, ℕ, subst, Ok, Some, None, Option}
-use Rattle.jdiff.specs.Walking.{PutsPairStep}
 use Rattle.jdiff.specs.declared.walk.Walk.{Walk}
-use Rattle.jdiff.proofs.StepLemmas.{roots_entered, roots_failed, places_on, places_end, pair_stopped, differences_failed}
+use Rattle.jdiff.proofs.StepLemmas.{PutsPairStepOn, roots_entered, roots_failed, places_on, places_end, pair_stopped, differences_failed}
 use Rattle.jdiff.proofs.walk.put_differences.Goals as goal
 
 pub returns-in_err-seen : goal.returns-in_err-seen
@@ -45,7 +44,7 @@ loop-more-preserved g c =
     let before = g.T.Sink.failures c.loop-more.sink in
     let now = g.T.Sink.failures c.step.new.sink in
     let far = c.loop-more.invariant in
-    let put = subst (λ (o : Option ℕ). PutsPairStep c.args.times s t w n b d before now (Ok o)) c.in-Some.is c.in_ok-step.ensures in
+    let put = subst (λ (o : Option ℕ). PutsPairStepOn c.args.times s t w n b d before now (Ok o)) c.in-Some.is c.in_ok-step.ensures in
     record {
       so_far = places_on c.args.times s t w n a b d c.loop-more.lines c.in-Some.more c.saturating_add.result before now far.so_far put c.saturating_add.ensures;
       failed = put.2 ∙ far.failed;
@@ -53,7 +52,7 @@ loop-more-preserved g c =
 
 pub loop-more-smaller : goal.loop-more-smaller
 loop-more-smaller g c =
-    let put = subst (λ (o : Option ℕ). PutsPairStep c.args.times c.args.left.now.state c.args.right.now.state c.loop-more.walk c.step.new.self (g.T.Sink.taken c.loop-more.sink) (g.T.Sink.taken c.step.new.sink)
+    let put = subst (λ (o : Option ℕ). PutsPairStepOn c.args.times c.args.left.now.state c.args.right.now.state c.loop-more.walk c.step.new.self (g.T.Sink.taken c.loop-more.sink) (g.T.Sink.taken c.step.new.sink)
     (g.T.Sink.failures c.loop-more.sink) (g.T.Sink.failures c.step.new.sink) (Ok o)) c.in-Some.is c.in_ok-step.ensures in
     put.1
 
@@ -69,5 +68,5 @@ returns g c =
     let before = g.T.Sink.failures c.loop-more.sink in
     let now = g.T.Sink.failures c.step.new.sink in
     let far = c.loop-more.invariant in
-    let put = subst (λ (o : Option ℕ). PutsPairStep c.args.times s t w n b d before now (Ok o)) c.in_default.is c.in_ok-step.ensures in
+    let put = subst (λ (o : Option ℕ). PutsPairStepOn c.args.times s t w n b d before now (Ok o)) c.in_default.is c.in_ok-step.ensures in
     places_end c.args.times s t w n a b d c.loop-more.lines (g.T.Sink.failures c.args.sink.now) before now far.so_far far.failed put
