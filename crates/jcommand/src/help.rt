@@ -23,7 +23,7 @@ pub(crate) const LISTING_OF: &str = "Print the listing that builds a folder of t
 
 pub(crate) const INFO: &str = "Print what an image shows of its byte order, blocks and nodes";
 
-pub(crate) const CUTS: &str = "Print from which byte on each step of a listing stands after a stop";
+pub(crate) const CUTS: &str = "Print from which byte on each step of a listing survives a stop";
 
 pub(crate) const ON: &str = "Image that is gone on from, as by append";
 
