@@ -34,9 +34,9 @@ pub fn known_requests()
     ensures shape { parsed_from (codes "jffs2_image" ∷ codes "check" ∷ codes "--shape" ∷ codes "a" ∷ [])
         ≡ Some (ImageParsed (CheckParsed (record { geometry = record { block = 65536 }; endian = Little }) true (codes "a"))) }
     ensures tree { parsed_from (codes "jffs2_image" ∷ codes "ls" ∷ codes "a" ∷ codes "--block=8192" ∷ [])
-        ≡ Some (ImageParsed (ListParsed (record { geometry = record { block = 8192 }; endian = Little }) false (codes "a"))) }
-    ensures decompressed_tree { parsed_from (codes "jffs2_image" ∷ codes "ls" ∷ codes "--decompress" ∷ codes "a" ∷ [])
-        ≡ Some (ImageParsed (ListParsed (record { geometry = record { block = 65536 }; endian = Little }) true (codes "a"))) }
+        ≡ Some (ImageParsed (ListParsed (record { geometry = record { block = 8192 }; endian = Little }) false (codes "a") None)) }
+    ensures decompressed_tree { parsed_from (codes "jffs2_image" ∷ codes "ls" ∷ codes "--decompress" ∷ codes "a" ∷ codes "/b" ∷ [])
+        ≡ Some (ImageParsed (ListParsed (record { geometry = record { block = 65536 }; endian = Little }) true (codes "a") (Some (codes "/b")))) }
     ensures content { parsed_from (codes "jffs2_image" ∷ codes "cat" ∷ codes "a" ∷ codes "/b" ∷ [])
         ≡ Some (ImageParsed (CatParsed (record { geometry = record { block = 65536 }; endian = Little }) false (codes "a") (codes "/b"))) }
     ensures made { parsed_from (codes "jffs2_image" ∷ codes "build" ∷ codes "--blocks" ∷ codes "2" ∷ codes "a" ∷ codes "b" ∷ [])

@@ -123,7 +123,7 @@ one_fault {f} is = ap (fault_or f) is
 
 -- `ls`: its file is not read, or nothing is made of it, or the tree of what is made goes out
 pub list_unread : (told : List ℕ → Option (List ℕ)) (held : Held) (e : Endian) (options : Options) (name : List ℕ) (old : Option (List ℕ)) (n : ℕ) (f : ProgramFault)
-    → IsUnreadFile name (told name) f → Meets told held e (ListParsed options true name) old old n n (Err f)
+    → IsUnreadFile name (told name) f → Meets told held e (ListParsed options true name None) old old n n (Err f)
 list_unread told held e options name old n f not = record {
   block_size = λ is. absurd (subst (IsUnreadFile name (told name)) (one_fault is) not);
   told_of = λ wrong. tt;
@@ -131,7 +131,7 @@ list_unread told held e options name old n f not = record {
 }
 
 pub list_refused : (told : List ℕ → Option (List ℕ)) (held : Held) (e : Endian) (options : Options) (name image : List ℕ) (old : Option (List ℕ)) (n : ℕ) (f : ProgramFault)
-    → AreLoaded (told name) image → IsNotConverted e options.geometry.block image f → Meets told held e (ListParsed options true name) old old n n (Err f)
+    → AreLoaded (told name) image → IsNotConverted e options.geometry.block image f → Meets told held e (ListParsed options true name None) old old n n (Err f)
 list_refused told held e options name image old n f of not = record {
   block_size = λ is. absurd (no_scan not.0 (sym not.1 ∙ one_fault is));
   told_of = λ wrong. tt;
@@ -139,12 +139,50 @@ list_refused told held e options name image old n f of not = record {
 }
 
 pub list_done : (told : List ℕ → Option (List ℕ)) (held : Held) (e : Endian) (options : Options) (name image made : List ℕ) (old new : Option (List ℕ)) (before now : ℕ) (done : Result ℕ ProgramFault)
-    → AreLoaded (told name) image → Converts e options.geometry.block image (Ok made) → PutsListing e options.geometry.block made old new before now done
-    → Meets told held e (ListParsed options true name) old new before now (with_findings (found_in e options.geometry.block image).noted done)
+    → AreLoaded (told name) image → Converts e options.geometry.block image (Ok made) → PutsListing e options.geometry.block None made old new before now done
+    → Meets told held e (ListParsed options true name None) old new before now (with_findings (found_in e options.geometry.block image).noted done)
 list_done told held e options name image made old new before now done of is puts = record {
-  block_size = λ wrong. absurd ((subst (PutsListing e options.geometry.block made old new before now) (same_fault _ done _ wrong) puts).2.0);
+  block_size = λ wrong. absurd ((subst (PutsListing e options.geometry.block None made old new before now) (same_fault _ done _ wrong) puts).2.0);
   told_of = λ wrong. tt;
   put = inl (image, of.0, inl (made, done, is, puts, refl));
+}
+
+-- `ls` of a path
+pub part_unread : (told : List ℕ → Option (List ℕ)) (held : Held) (e : Endian) (options : Options) (name word path : List ℕ) (old : Option (List ℕ)) (n : ℕ) (f : ProgramFault)
+    → path_of word ≡ Some path → IsUnreadFile name (told name) f → Meets told held e (ListParsed options true name (Some word)) old old n n (Err f)
+part_unread told held e options name word path old n f is not = by f not
+  where
+    by : (f : ProgramFault) → IsUnreadFile name (told name) f → Meets told held e (ListParsed options true name (Some word)) old old n n (Err f)
+    by (program.Load f) not = record { block_size = λ wrong. cc; told_of = λ wrong. tt; put = inr (program.Load f, refl, (not, rw is refl), refl, refl) }
+    by (program.File file) not = record { block_size = λ wrong. cc; told_of = λ wrong. tt; put = inr (program.File file, refl, (not, rw is refl), refl, refl) }
+    by (program.Scan f) not = absurd not
+    by (program.Mount f) not = absurd not
+    by (program.Listing k) not = absurd not
+    by (program.Session f line) not = absurd not
+    by (program.Path f) not = absurd not
+    by program.NotRegular not = absurd not
+    by program.Output not = absurd not
+    by program.OutOfMemory not = absurd not
+    by (program.NoSpace folder) not = absurd not
+    by (program.Data addr) not = absurd not
+    by (program.TooLong addr) not = absurd not
+
+pub part_refused : (told : List ℕ → Option (List ℕ)) (held : Held) (e : Endian) (options : Options) (name word path image : List ℕ) (old : Option (List ℕ)) (n : ℕ) (f : ProgramFault)
+    → path_of word ≡ Some path → AreLoaded (told name) image → IsNotConverted e options.geometry.block image f
+    → Meets told held e (ListParsed options true name (Some word)) old old n n (Err f)
+part_refused told held e options name word path image old n f path_is of not = record {
+  block_size = λ is. absurd (no_scan not.0 (sym not.1 ∙ one_fault is));
+  told_of = λ wrong. tt;
+  put = inl (image, of.0, (path, path_is, inr (f, refl, not, refl, refl)));
+}
+
+pub part_done : (told : List ℕ → Option (List ℕ)) (held : Held) (e : Endian) (options : Options) (name word path image made : List ℕ) (old new : Option (List ℕ)) (before now : ℕ) (done : Result ℕ ProgramFault)
+    → path_of word ≡ Some path → AreLoaded (told name) image → Converts e options.geometry.block image (Ok made) → PutsListing e options.geometry.block (Some path) made old new before now done
+    → Meets told held e (ListParsed options true name (Some word)) old new before now (with_findings (found_in e options.geometry.block image).noted done)
+part_done told held e options name word path image made old new before now done path_is of is puts = record {
+  block_size = λ wrong. absurd ((subst (PutsListing e options.geometry.block (Some path) made old new before now) (same_fault _ done _ wrong) puts).2.0.2);
+  told_of = λ wrong. tt;
+  put = inl (image, of.0, (path, path_is, inl (made, done, is, puts, refl)));
 }
 
 -- `cat`, of a path

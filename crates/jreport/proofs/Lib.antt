@@ -4,6 +4,7 @@ pub mod FaultLemmas
 pub mod GrowingLemmas
 pub mod ListedOnceLemmas
 pub mod ListingLemmas
+pub mod PartLemmas
 pub mod WholeImageLemmas
 pub mod PathTextLemmas
 pub mod PutLemmas

@@ -86,6 +86,8 @@ pub(crate) enum Call {
     Check,
     Content(&'static [u8]),
     Listing,
+    /// The part of the tree that a path names.
+    Part(&'static [u8]),
 }
 
 /// A call of each kind, the second of the file in `TREE`.
@@ -107,7 +109,10 @@ pub(crate) fn ask<S: Source, T: Sink>(
         Call::Content(path) => {
             file_bytes::<LittleEndian, S, T>(alloc, source, geometry, path, sink)
         }
-        Call::Listing => list_lines::<LittleEndian, S, T>(alloc, source, geometry, sink),
+        Call::Listing => list_lines::<LittleEndian, S, T>(alloc, source, geometry, None, sink),
+        Call::Part(path) => {
+            list_lines::<LittleEndian, S, T>(alloc, source, geometry, Some(path), sink)
+        }
     }
 }
 
@@ -136,7 +141,10 @@ fn image_answer_and_text(
         Call::Content(path) => {
             image_file::<LittleEndian, _>(alloc, image, GEOMETRY, path, &mut sink)
         }
-        Call::Listing => image_tree::<LittleEndian, _>(alloc, image, GEOMETRY, &mut sink),
+        Call::Listing => image_tree::<LittleEndian, _>(alloc, image, GEOMETRY, None, &mut sink),
+        Call::Part(path) => {
+            image_tree::<LittleEndian, _>(alloc, image, GEOMETRY, Some(path), &mut sink)
+        }
     };
     (answer, sink.into_writer())
 }
@@ -175,7 +183,7 @@ const CLASHES: Result<u64, ProgramFault<'static>> = Err(ProgramFault::Mount(Moun
 const NO_ROOT: Result<u64, ProgramFault<'static>> = Err(ProgramFault::Mount(MountFault::RootKind));
 
 /// What is put whole.
-const WHOLE: [Row; 9] = [
+const WHOLE: [Row; 14] = [
     (TREE, Call::Check, Ok(1), TREE_CHECKED),
     (TREE, Call::Content(b"/d/f"), Ok(0), b"hi"),
     (
@@ -191,6 +199,26 @@ const WHOLE: [Row; 9] = [
         b"",
     ),
     (TREE, Call::Listing, Ok(0), TREE_LISTED),
+    (TREE, Call::Part(b"/"), Ok(0), TREE_LISTED),
+    (
+        TREE,
+        Call::Part(b"/d"),
+        Ok(0),
+        b"d 1700 0 0 0 0 2 /d\n- 0644 0 0 2 0 3 /d/f\n",
+    ),
+    (TREE, Call::Part(b"/d/f"), Ok(0), b"- 0644 0 0 2 0 3 /d/f\n"),
+    (
+        TREE,
+        Call::Part(b"/x"),
+        Err(ProgramFault::Path(FindFault::NotFound)),
+        b"",
+    ),
+    (
+        TREE,
+        Call::Part(b"d"),
+        Err(ProgramFault::Path(FindFault::BadPath)),
+        b"",
+    ),
     (CLASH, Call::Content(b"/d/f"), CLASHES, b""),
     (CLASH, Call::Listing, CLASHES, b""),
     (FILE_AS_ROOT, Call::Content(b"/d/f"), NO_ROOT, b""),
