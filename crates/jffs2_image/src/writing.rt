@@ -69,10 +69,10 @@ fn load_parts<'a, L: Loader>(
 {
     let mut parts = Parts::new(alloc);
     for line in lines {
-        if let Some(name) = line.action.file() {
-            if !parts.has(name) {
-                let key = name.to_string(alloc)?;
-                match loader.load(name, GREATEST_IMAGE) {
+        if let Some(file) = line.action.file() {
+            if !parts.has(file) {
+                let key = file.to_string(alloc)?;
+                match loader.load(file, GREATEST_IMAGE) {
                     Ok(bytes) => parts.insert(key, bytes)?,
                     Err(FileFault::NotOpened) => {
                         *unread = key;
