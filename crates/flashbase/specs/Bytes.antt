@@ -1,4 +1,5 @@
--- Padding to words of 4 bytes, where each node begins (Woodhouse 2001), and erased flash, all of whose bits are 1.
+-- Padding to words of 4 bytes, where each node begins (Woodhouse 2001), and erased flash, all of
+-- whose bits are 1.
 use Rattle.std.specs.Prelude.{◌≡◌, ◌≢◌, ◌==◌, ℕ, ◌+◌, ◌*◌, ◌/◌, ◌<◌, ◌≤◌, List, length, replicate, slice_index}
 use Rattle.std.specs.List.{prefix_len}
 

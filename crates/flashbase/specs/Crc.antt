@@ -1,13 +1,15 @@
--- The checksum of JFFS2 (`crc32(0, ..)` in the Linux kernel, which include/uapi/linux/jffs2.h names): the
--- remainder of the message, the lowest bit of each byte first, by the polynomial 0xEDB88320, whose highest
--- power is in the lowest bit. It starts at 0, and nothing is done at the end.
+-- The checksum of JFFS2 (`crc32(0, ..)` in the Linux kernel, which include/uapi/linux/jffs2.h
+-- names): the remainder of the message, the lowest bit of each byte first, by the polynomial
+-- 0xEDB88320, whose highest power is in the lowest bit. It starts at 0, and nothing is done at the
+-- end.
 use Rattle.std.specs.Prelude.{ℕ, zero, suc, ◌/◌, ◌%◌, ◌==◌, List, if◌then◌else◌, bit_xor}
 use Rattle.std.specs.List.{fold}
 
--- One bit of the message more: the remainder moves on by one place, and where the bit that leaves it is
--- not the message's bit, the polynomial is taken off.
+-- One bit of the message more: the remainder moves on by one place, and where the bit that leaves
+-- it is not the message's bit, the polynomial is taken off.
 unfoldable pub push_bit : ℕ → ℕ → ℕ
-push_bit remainder bit = if remainder % 2 == bit then remainder / 2 else bit_xor (remainder / 2) 0xEDB88320
+push_bit remainder bit =
+    if remainder % 2 == bit then remainder / 2 else bit_xor (remainder / 2) 0xEDB88320
 
 -- the n lowest bits of a number, the lowest first
 unfoldable pub push_bits : ℕ → ℕ → ℕ → ℕ

@@ -35,11 +35,13 @@ BelowIsBelow = (n : ℕ) → (length (below n) ≡ n) × ((i : ℕ) → i < n �
 
 -- as many values as asked for, and the i-th is the function's at i
 abbrev pub EachBelowIsEach : Type 0 → Type 0
-EachBelowIsEach X = (n : ℕ) (f : ℕ → X) → (length (each_below n f) ≡ n) × ((i : ℕ) → i < n → slice_get (each_below n f) i ≡ Some (f i))
+EachBelowIsEach X = (n : ℕ) (f : ℕ → X) → (length (each_below n f) ≡ n)
+    × ((i : ℕ) → i < n → slice_get (each_below n f) i ≡ Some (f i))
 
 -- what `newest` finds is one of the list that no other passes
 abbrev pub NewestIsNewest : Type 0 → Type 0
-NewestIsNewest X = (xs : List X) (version : X → ℕ) (x : X) → newest version xs ≡ Some x → IsNewest version xs x
+NewestIsNewest X =
+    (xs : List X) (version : X → ℕ) (x : X) → newest version xs ≡ Some x → IsNewest version xs x
 
 -- it finds one where there is one
 abbrev pub NewestOfNone : Type 0 → Type 0
@@ -50,12 +52,13 @@ abbrev pub NewestOfOneMore : Type 0 → Type 0
 NewestOfOneMore X = (xs : List X) (version : X → ℕ) (x y : X) → newest version xs ≡ Some y
     → newest version (xs ++ x ∷ []) ≡ Some (higher_of version y (Some x))
 
--- At a key the map of keys by a function has what the function gives there, if the key is one of them, as often
--- as it may be there.
+-- At a key the map of keys by a function has what the function gives there, if the key is one of
+-- them, as often as it may be there.
 abbrev pub GetOfTabled : Type 0 → Type 0
 GetOfTabled X = (keys : List ℕ) (f : ℕ → Option X) (q : ℕ)
     → get (tabled nat_cmp keys f) q ≡ (if list_any (λ k. q == k) keys then f q else None)
 
 -- none is greater, and it is one of them, if there are any
 abbrev pub GreatestIsGreatest : Type 0
-GreatestIsGreatest = (ns : List ℕ) → ((n : ℕ) → Contains ns n → n ≤ greatest ns) × (0 < length ns → Contains ns (greatest ns))
+GreatestIsGreatest = (ns : List ℕ) → ((n : ℕ) → Contains ns n → n ≤ greatest ns)
+    × (0 < length ns → Contains ns (greatest ns))

@@ -16,9 +16,11 @@ pub trait Sink: Drop {
     /// How often it failed, modulo 2^64.
     ghost failures: { Self → ℕ };
 
-    /// Takes a beginning of the slice and answers its length. For a nonempty slice 0 is a failure, as an Err is.
+    /// Takes a beginning of the slice and answers its length. For a nonempty slice 0 is a failure,
+    /// as an Err is.
     fn put(&mut self, bytes: &[u8]) -> Result<usize, DeviceFault>
-        ensures { PutsOnce (taken self.old) (taken self.new) (failures self.old) (failures self.new) bytes.now result };
+        ensures { PutsOnce (taken self.old) (taken self.new) (failures self.old) (failures self.new)
+            bytes.now result };
 }
 
 /// Writes bytes by one call, and counts a failure: an error, also one that only interrupts, or nothing taken of a nonempty slice.
@@ -27,7 +29,8 @@ pub fn write_once<W: Write>(
     failures: &mut u64,
     bytes: &[u8],
 ) -> Result<usize, DeviceFault>
-    ensures { PutsOnce (W.contents writer.old) (W.contents writer.new) failures.old failures.new bytes.now result }
+    ensures { PutsOnce (W.contents writer.old) (W.contents writer.new) failures.old failures.new
+        bytes.now result }
 {
     match writer.write(bytes) {
         Ok(n) => {
@@ -88,7 +91,8 @@ pub struct PutFault {
 
 /// Puts the whole slice. An empty slice is put without a call of the sink.
 pub fn put_all<S: Sink>(sink: &mut S, bytes: &[u8]) -> Result<(), PutFault>
-    ensures puts { Puts (S.taken sink.old) (S.taken sink.new) (S.failures sink.old) (S.failures sink.new) bytes.now result }
+    ensures puts { Puts (S.taken sink.old) (S.taken sink.new) (S.failures sink.old)
+        (S.failures sink.new) bytes.now result }
     ensures part { IfErr result (λ fault. (fault.taken < length bytes.now)
         × Appends (S.taken sink.old) (S.taken sink.new) (take fault.taken bytes.now)) }
 {

@@ -120,7 +120,8 @@ pub fn load<S: Source>(alloc: Global, source: &mut S, limit: usize) -> Result<Ve
     ensures within { IfOk result (λ v. vec_len v ≤ limit) }
 
     // It is refused as too large only where it is.
-    ensures too_large { result ≡ Err LoadFault.TooLarge → IfSome (S.rest source.old) (λ bytes. limit < length bytes) }
+    ensures too_large { result ≡ Err LoadFault.TooLarge
+        → IfSome (S.rest source.old) (λ bytes. limit < length bytes) }
 
     // The device is blamed exactly where it failed in this call.
     ensures count { CountsLoad (S.failures source.old) (S.failures source.new) result }

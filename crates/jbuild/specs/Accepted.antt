@@ -6,9 +6,12 @@ use Rattle.jlog.specs.declared.report.Place.{Place}
 
 -- where what was written from an address on ends: after the last node, and its padding
 abbrev pub end_of_places : ℕ → List Place → ℕ
-end_of_places from places = option_map_or (λ place. pad4_of (place.addr + place.totlen)) (slice_get places (length places - 1)) from
+end_of_places from places = option_map_or (λ place. pad4_of (place.addr + place.totlen))
+    (slice_get places (length places - 1)) from
 
--- so many operations were accepted, their nodes have these places, and so many bytes went out for them
+-- so many operations were accepted, their nodes have these places, and so many bytes went out for
+-- them
 abbrev pub accepted_line : ℕ → ℕ → List Place → List ℕ
 accepted_line from ops places =
-    codes "accepted " ++ decimal ops ++ codes " nodes " ++ decimal (length places) ++ codes " bytes " ++ decimal (end_of_places from places - from) ++ 10 ∷ []
+    codes "accepted " ++ decimal ops ++ codes " nodes " ++ decimal (length places)
+    ++ codes " bytes " ++ decimal (end_of_places from places - from) ++ 10 ∷ []

@@ -17,20 +17,25 @@ use Rattle.jbuild.specs.Emitting.{IsEmitted}
 abbrev pub output_of_first : Page → Endian → ℕ → ℕ → List ℕ → List Op → ℕ → List ℕ
 output_of_first page e size blocks base ops accepted =
     let index = index_of_image e size base in
-    output e size (resume_address e size blocks base) (written e index (steps_of_first (page_size page) index ops accepted))
+    output e size (resume_address e size blocks base)
+    (written e index (steps_of_first (page_size page) index ops accepted))
 
 -- the number of bytes that the line tells is its length
 abbrev pub TellsLength : Page → Endian → ℕ → ℕ → List ℕ → List Op → ℕ → List Place → Type 0
 TellsLength page e size blocks base ops accepted places =
-    end_of_places (resume_address e size blocks base) places - resume_address e size blocks base ≡ length (output_of_first page e size blocks base ops accepted)
+    end_of_places (resume_address e size blocks base) places - resume_address e size blocks base
+    ≡ length (output_of_first page e size blocks base ops accepted)
 
 -- The places of nodes end where what goes out for them ends,
 abbrev pub PlacesTellLength : Type 0
 PlacesTellLength = (e : Endian) (size from : ℕ) (nodes : List (List ℕ)) → size % 4 ≡ 0 → 12 < size
-    → end_of_places from (map shown_place (places size from nodes)) - from ≡ length (output e size from nodes)
+    → end_of_places from (map shown_place (places size from nodes)) - from
+    ≡ length (output e size from nodes)
 
 -- so the line tells how long what went out for operations is that were all accepted.
 abbrev pub LineTellsLength : Type 0
-LineTellsLength = (page : Page) (e : Endian) (size blocks : ℕ) (base : List ℕ) (ops : List Op) (accepted : ℕ) (places : List Place) (old new : Option (List ℕ)) (before now : ℕ)
-    → IsTrue (is_flash_of size blocks base) → IsEmitted page e size blocks base ops accepted places None old new before now
+LineTellsLength = (page : Page) (e : Endian) (size blocks : ℕ) (base : List ℕ) (ops : List Op)
+    (accepted : ℕ) (places : List Place) (old new : Option (List ℕ)) (before now : ℕ)
+    → IsTrue (is_flash_of size blocks base)
+    → IsEmitted page e size blocks base ops accepted places None old new before now
     → TellsLength page e size blocks base ops accepted places

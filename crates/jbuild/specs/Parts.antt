@@ -8,7 +8,8 @@ use Rattle.jbuild.specs.declared.parts.Parts.{Parts}
 
 -- the bytes of the file of a name, if it was read
 abbrev pub read_of : Parts → List ℕ → Option (List ℕ)
-read_of parts name = option_map (λ bytes. bytes.items) (get_by (λ key. slice_cmp nat_cmp name (string_bytes key)) parts.files)
+read_of parts name = option_map (λ bytes. bytes.items)
+    (get_by (λ key. slice_cmp nat_cmp name (string_bytes key)) parts.files)
 
 -- the same, where one that was not read has no bytes
 abbrev pub part_contents : Parts → List ℕ → List ℕ

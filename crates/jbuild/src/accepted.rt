@@ -35,7 +35,8 @@ pub fn put_accepted<T: Sink>(
     places: &[Place],
     sink: &mut T,
 ) -> Result<(), DeviceFault>
-    ensures { Puts (T.taken sink.old) (T.taken sink.new) (T.failures sink.old) (T.failures sink.new) (accepted_line from ops places.now) result }
+    ensures { Puts (T.taken sink.old) (T.taken sink.new) (T.failures sink.old) (T.failures sink.new)
+        (accepted_line from ops places.now) result }
 {
     let mut line = LineBuffer::new();
     line.push_text(b"accepted ");

@@ -18,7 +18,8 @@ use std::alloc::Global;
 
 /// Puts a base's bytes up to an address, and erased flash for those that it lacks.
 fn put_front<S: Sink>(sink: &mut S, base: &[u8], from: usize) -> Result<(), PutFault>
-    ensures { Puts (S.taken sink.old) (S.taken sink.new) (S.failures sink.old) (S.failures sink.new) (front_of base.now from) result }
+    ensures { Puts (S.taken sink.old) (S.taken sink.new) (S.failures sink.old) (S.failures sink.new)
+        (front_of base.now from) result }
 {
     if from <= base.len() {
         return put_all(sink, &base[..from]);
@@ -44,17 +45,22 @@ pub fn emit<E: Order, S: Sink>(
     mut sink: S,
 ) -> Result<(S, RunReport), (SessionFault, S)>
     requires { IsMountOf E.order geometry.block mounted.now }
-    ensures resumes { OnOk result (IsOk (resumes_by page E.order geometry.block blocks mounted.now)) }
-    ensures emitted { IfOk result (λ done. IsEmitted page E.order geometry.block blocks mounted.now.image ops.now done.1.accepted done.1.places.items done.1.stopped
+    ensures resumes { OnOk result
+        (IsOk (resumes_by page E.order geometry.block blocks mounted.now)) }
+    ensures emitted { IfOk result (λ done. IsEmitted page E.order geometry.block blocks
+        mounted.now.image ops.now done.1.accepted done.1.places.items done.1.stopped
         (S.taken sink) (S.taken done.0) (S.failures sink) (S.failures done.0)) }
     // The places end where what went out for all operations does.
     ensures long { IfOk result (λ done. done.1.stopped ≡ None
-        → TellsLength page E.order geometry.block blocks mounted.now.image ops.now done.1.accepted done.1.places.items) }
+        → TellsLength page E.order geometry.block blocks mounted.now.image ops.now done.1.accepted
+        done.1.places.items) }
     ensures refused { IfErr result (λ refused. IsNotEmitted page E.order geometry.block blocks
-        mounted.now (S.taken sink) (S.taken refused.1) (S.failures sink) (S.failures refused.1) refused.0) }
+        mounted.now (S.taken sink) (S.taken refused.1) (S.failures sink) (S.failures refused.1)
+        refused.0) }
     // An image that is not gone on from is refused before a byte is put.
     ensures untouched { IfErr result (λ refused.
-        resumes_by page E.order geometry.block blocks mounted.now ≡ Err refused.0 → refused.1 ≡ sink) }
+        resumes_by page E.order geometry.block blocks mounted.now ≡ Err refused.0
+        → refused.1 ≡ sink) }
 {
     let from = match resume_at::<E>(mounted, geometry, blocks) {
         Ok(from) => from,

@@ -34,7 +34,9 @@ impl Parts {
     /// # Errors
     /// Out of memory: nothing changes.
     pub fn insert(&mut self, name: String, bytes: Vec<u8>) -> Result<(), AllocError>
-        ensures ok { OnOk result ((n : List ℕ) → read_of self.new n ≡ (if bytes_eq (string_bytes name) n then Some bytes.items else read_of self.old n)) }
+        ensures ok { OnOk result ((n : List ℕ) → read_of self.new n
+            ≡ (if bytes_eq (string_bytes name) n then Some bytes.items else read_of self.old
+            n)) }
         ensures err { OnErr result ((n : List ℕ) → read_of self.new n ≡ read_of self.old n) }
     {
         self.files.insert(name, bytes)?;

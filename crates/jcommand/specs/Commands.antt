@@ -1,4 +1,5 @@
--- The command line, as clap sees it: the program, its subcommands, and the words that each one takes.
+-- The command line, as clap sees it: the program, its subcommands, and the words that each one
+-- takes.
 use Rattle.std.specs.Prelude.{◌≡◌, true, false, [], ◌∷◌, Some, Result, IfOk, codes}
 use Rattle.clap.specs.Words.{App, Rule, Text, app_of, new_app, new_rule, rule_of, with_rule, with_subcommand}
 use Rattle.clap.specs.declared.builder.Arg.{Arg}
@@ -16,7 +17,8 @@ optional_word id = new_rule id
 
 -- an option with a value, and the value that stands for it where it is not given
 abbrev pub option_or : Text → Text → Rule
-option_or id default = record (new_rule id) { long = Some id; value_names = 1; defaults = default ∷ [] }
+option_or id default =
+    record (new_rule id) { long = Some id; value_names = 1; defaults = default ∷ [] }
 
 -- an option with a value that has to be there
 abbrev pub required_option : Text → Rule
@@ -35,12 +37,14 @@ flag id = record (new_rule id) { long = Some id; action = Some SetTrue }
 
 -- a subcommand with the options that each one has
 abbrev pub plain_command : Text → App
-plain_command name = with_rule (with_rule (new_app name) (option_or (codes "block") (codes "65536")))
+plain_command name =
+    with_rule (with_rule (new_app name) (option_or (codes "block") (codes "65536")))
     (option_or (codes "endian") (codes "little"))
 
 -- `check [--scan] [--shape] [--block N] [--endian ORDER] IMAGE`
 abbrev pub check_app : App
-check_app = with_rule (with_rule (with_rule (plain_command (codes "check")) (flag (codes "scan"))) (flag (codes "shape"))) (word (codes "IMAGE"))
+check_app = with_rule (with_rule (with_rule (plain_command (codes "check")) (flag (codes "scan")))
+    (flag (codes "shape"))) (word (codes "IMAGE"))
 
 -- a subcommand that decompresses the image that it reads, where that is asked for
 abbrev pub decompressing : App → App
@@ -53,32 +57,44 @@ ls_app = with_rule (with_rule (decompressing (plain_command (codes "ls"))) (word
 
 -- `cat [--decompress] [--block N] [--endian ORDER] IMAGE PATH`
 abbrev pub cat_app : App
-cat_app = with_rule (with_rule (decompressing (plain_command (codes "cat"))) (word (codes "IMAGE"))) (word (codes "PATH"))
+cat_app = with_rule (with_rule (decompressing (plain_command (codes "cat"))) (word (codes "IMAGE")))
+    (word (codes "PATH"))
 
 -- a subcommand that writes to flash of so many blocks, by pages
 abbrev pub writer : Text → App
-writer name = with_rule (with_rule (plain_command name) (required_option (codes "blocks"))) (option_or (codes "page") (codes "4096"))
+writer name = with_rule (with_rule (plain_command name) (required_option (codes "blocks")))
+    (option_or (codes "page") (codes "4096"))
 
 -- `build --blocks N [--page N] [--block N] [--endian ORDER] LISTING OUT`
 abbrev pub build_app : App
-build_app = with_rule (with_rule (writer (codes "build")) (word (codes "LISTING"))) (word (codes "OUT"))
+build_app =
+    with_rule (with_rule (writer (codes "build")) (word (codes "LISTING"))) (word (codes "OUT"))
 
 -- `append --blocks N [--page N] [--decompress] [--block N] [--endian ORDER] IMAGE LISTING OUT`
 abbrev pub append_app : App
-append_app = with_rule (with_rule (with_rule (decompressing (writer (codes "append"))) (word (codes "IMAGE"))) (word (codes "LISTING")))
+append_app = with_rule
+    (with_rule (with_rule (decompressing (writer (codes "append"))) (word (codes "IMAGE")))
+    (word (codes "LISTING")))
     (word (codes "OUT"))
 
 -- `decompress [--block N] [--endian ORDER] IMAGE OUT`
 abbrev pub decompress_app : App
-decompress_app = with_rule (with_rule (plain_command (codes "decompress")) (word (codes "IMAGE"))) (word (codes "OUT"))
+decompress_app = with_rule (with_rule (plain_command (codes "decompress")) (word (codes "IMAGE")))
+    (word (codes "OUT"))
 
 -- `extract [--decompress] [--block N] [--endian ORDER] [--owners] [--quiet] IMAGE DIR`
 abbrev pub extract_app : App
-extract_app = with_rule (with_rule (with_rule (with_rule (decompressing (plain_command (codes "extract"))) (flag (codes "owners"))) (flag (codes "quiet"))) (word (codes "IMAGE"))) (word (codes "DIR"))
+extract_app = with_rule
+    (with_rule
+    (with_rule (with_rule (decompressing (plain_command (codes "extract")))
+    (flag (codes "owners"))) (flag (codes "quiet"))) (word (codes "IMAGE")))
+    (word (codes "DIR"))
 
 -- `listing [--owner UID GID] [--time T] [--quiet] DIR`
 abbrev pub listing_app : App
-listing_app = with_rule (with_rule (with_rule (with_rule (new_app (codes "listing")) (option_of_two (codes "owner"))) (option_of (codes "time"))) (flag (codes "quiet"))) (word (codes "DIR"))
+listing_app = with_rule
+    (with_rule (with_rule (with_rule (new_app (codes "listing")) (option_of_two (codes "owner")))
+    (option_of (codes "time"))) (flag (codes "quiet"))) (word (codes "DIR"))
 
 -- `info IMAGE`
 abbrev pub info_app : App
@@ -86,11 +102,18 @@ info_app = with_rule (new_app (codes "info")) (word (codes "IMAGE"))
 
 -- the program without its subcommands, of which one has to be named; it tells its version
 abbrev pub bare : App
-bare = let app = new_app (codes "jffs2_image") in record app { top = record app.top { has_version = true; subcommand_required = true } }
+bare = let app = new_app (codes "jffs2_image") in record app
+    { top = record app.top { has_version = true; subcommand_required = true } }
 
 unfoldable pub program : App
-program = with_subcommand (with_subcommand (with_subcommand (with_subcommand (with_subcommand (with_subcommand (with_subcommand (with_subcommand (with_subcommand bare
-    check_app.top) ls_app.top) cat_app.top) build_app.top) append_app.top) decompress_app.top) extract_app.top) listing_app.top) info_app.top
+program = with_subcommand
+    (with_subcommand
+    (with_subcommand
+    (with_subcommand
+    (with_subcommand
+    (with_subcommand (with_subcommand (with_subcommand (with_subcommand bare
+    check_app.top) ls_app.top) cat_app.top) build_app.top) append_app.top) decompress_app.top)
+    extract_app.top) listing_app.top) info_app.top
 
 -- ---- what is made
 

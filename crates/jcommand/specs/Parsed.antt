@@ -23,14 +23,16 @@ use Rattle.jcommand.specs.declared.parsed.Task.TheVariants as task
 -- a number below 2 ^ 32 in decimal digits, of which n stands for those before
 abbrev pub decimal_from : ℕ → Text → Option ℕ
 decimal_from n [] = Some n
-decimal_from n (b ∷ bs) = if is_ascii_digit b && nat_lt (10 * n + (b - 48)) (2 ^ 32) then decimal_from (10 * n + (b - 48)) bs else None
+decimal_from n (b ∷ bs) = if is_ascii_digit b
+    && nat_lt (10 * n + (b - 48)) (2 ^ 32) then decimal_from (10 * n + (b - 48)) bs else None
 
 abbrev pub decimal_number : Text → Option ℕ
 decimal_number [] = None
 decimal_number (b ∷ bs) = decimal_from 0 (b ∷ bs)
 
 abbrev pub endian_of : Text → Option Endian
-endian_of text = if bytes_eq text (codes "little") then Some Little else (if bytes_eq text (codes "big") then Some Big else None)
+endian_of text = if bytes_eq text (codes "little") then Some Little else
+    (if bytes_eq text (codes "big") then Some Big else None)
 
 abbrev pub page_of : Text → Option Page
 page_of text =
@@ -41,10 +43,12 @@ page_of text =
 
 -- the number of a user or a group, which has 16 bits
 abbrev pub owner_number : Text → Option ℕ
-owner_number text = option_and_then (λ n. if nat_lt 65535 n then None else Some n) (decimal_number text)
+owner_number text =
+    option_and_then (λ n. if nat_lt 65535 n then None else Some n) (decimal_number text)
 
 abbrev pub owner_of : List Text → Option Owner
-owner_of (uid ∷ gid ∷ []) = option_and_then (λ u. option_and_then (λ g. Some (record { uid = u; gid = g })) (owner_number gid)) (owner_number uid)
+owner_of (uid ∷ gid ∷ []) = option_and_then (λ u. option_and_then
+    (λ g. Some (record { uid = u; gid = g })) (owner_number gid)) (owner_number uid)
 owner_of _ = None
 
 -- what is read of what may be left out, where it is given
@@ -69,10 +73,13 @@ pub data Parsed : Type 0 where
 abbrev pub view : Request → Parsed
 view (request.Scan options image) = ScanParsed options image.now
 view (request.Check options shape image) = CheckParsed options shape image.now
-view (request.List options decompress image path) = ListParsed options decompress image.now (option_map (λ p. p.now) path)
+view (request.List options decompress image path) =
+    ListParsed options decompress image.now (option_map (λ p. p.now) path)
 view (request.Cat options decompress image path) = CatParsed options decompress image.now path.now
-view (request.Build target listing) = BuildParsed target.options target.blocks target.page listing.now target.output.now
-view (request.Append target decompress image listing) = AppendParsed target.options target.blocks target.page decompress image.now listing.now target.output.now
+view (request.Build target listing) =
+    BuildParsed target.options target.blocks target.page listing.now target.output.now
+view (request.Append target decompress image listing) = AppendParsed target.options target.blocks
+    target.page decompress image.now listing.now target.output.now
 view (request.Decompress options image output) = DecompressParsed options image.now output.now
 
 -- the same of a task: a request of an image, one that works with a folder of the host, or what an
@@ -85,7 +92,8 @@ pub data TaskParsed : Type 0 where
 
 abbrev pub task_view : Task → TaskParsed
 task_view (task.Image r) = ImageParsed (view r)
-task_view (task.Extract x) = ExtractParsed x.options x.decompress x.owners x.quiet x.image.now x.folder.now
+task_view (task.Extract x) =
+    ExtractParsed x.options x.decompress x.owners x.quiet x.image.now x.folder.now
 task_view (task.Listing l) = ListingParsed l.owner l.time l.quiet l.folder.now
 task_view (task.Info image) = InfoParsed image.now
 
@@ -107,7 +115,8 @@ options_in rows = number_option (codes "block") rows >>= λ block.
 
 -- the options and the image that a subcommand reads
 abbrev pub image_in : List Row → Option (Options × Text)
-image_in rows = options_in rows >>= λ options. first_of (codes "IMAGE") rows >>= λ image. Some (options, image)
+image_in rows =
+    options_in rows >>= λ options. first_of (codes "IMAGE") rows >>= λ image. Some (options, image)
 
 -- a flag that is given
 abbrev pub is_given : Option Text → Bool
@@ -117,45 +126,57 @@ is_given None = false
 -- `--shape` says nothing beside `--scan`, which mounts nothing
 abbrev pub check_in : List Row → Option Parsed
 check_in rows = image_in rows >>= λ p.
-    Some (if is_given (first_of (codes "scan") rows) then ScanParsed p.0 p.1 else CheckParsed p.0 (is_given (first_of (codes "shape") rows)) p.1)
+    Some (if is_given (first_of (codes "scan") rows) then ScanParsed p.0 p.1 else CheckParsed p.0
+    (is_given (first_of (codes "shape") rows)) p.1)
 
 -- whether what is read is decompressed
 abbrev pub is_decompressed : List Row → Bool
 is_decompressed rows = is_given (first_of (codes "decompress") rows)
 
 abbrev pub ls_in : List Row → Option Parsed
-ls_in rows = image_in rows >>= λ p. Some (ListParsed p.0 (is_decompressed rows) p.1 (first_of (codes "PATH") rows))
+ls_in rows = image_in rows >>= λ p.
+    Some (ListParsed p.0 (is_decompressed rows) p.1 (first_of (codes "PATH") rows))
 
 abbrev pub cat_in : List Row → Option Parsed
-cat_in rows = image_in rows >>= λ p. first_of (codes "PATH") rows >>= λ path. Some (CatParsed p.0 (is_decompressed rows) p.1 path)
+cat_in rows = image_in rows >>= λ p. first_of (codes "PATH") rows >>= λ path.
+    Some (CatParsed p.0 (is_decompressed rows) p.1 path)
 
 -- the number of blocks, the page, the listing and the output of a subcommand that writes
 abbrev pub writing_in : List Row → Option (ℕ × Page × Text × Text)
-writing_in rows = number_option (codes "blocks") rows >>= λ blocks. (first_of (codes "page") rows >>= page_of) >>= λ page.
-    first_of (codes "LISTING") rows >>= λ listing. first_of (codes "OUT") rows >>= λ output. Some (blocks, page, listing, output)
+writing_in rows = number_option (codes "blocks") rows >>= λ blocks.
+    (first_of (codes "page") rows >>= page_of) >>= λ page.
+    first_of (codes "LISTING") rows >>= λ listing. first_of (codes "OUT") rows >>= λ output.
+    Some (blocks, page, listing, output)
 
 abbrev pub build_in : List Row → Option Parsed
-build_in rows = options_in rows >>= λ options. writing_in rows >>= λ w. Some (BuildParsed options w.0 w.1 w.2 w.3)
+build_in rows = options_in rows >>= λ options. writing_in rows >>= λ w.
+    Some (BuildParsed options w.0 w.1 w.2 w.3)
 
 abbrev pub append_in : List Row → Option Parsed
-append_in rows = image_in rows >>= λ p. writing_in rows >>= λ w. Some (AppendParsed p.0 w.0 w.1 (is_decompressed rows) p.1 w.2 w.3)
+append_in rows = image_in rows >>= λ p. writing_in rows >>= λ w.
+    Some (AppendParsed p.0 w.0 w.1 (is_decompressed rows) p.1 w.2 w.3)
 
 abbrev pub decompress_in : List Row → Option Parsed
-decompress_in rows = image_in rows >>= λ p. first_of (codes "OUT") rows >>= λ output. Some (DecompressParsed p.0 p.1 output)
+decompress_in rows = image_in rows >>= λ p. first_of (codes "OUT") rows >>= λ output.
+    Some (DecompressParsed p.0 p.1 output)
 
 abbrev pub extract_in : List Row → Option TaskParsed
 extract_in rows = image_in rows >>= λ p. first_of (codes "DIR") rows >>= λ folder.
-    Some (ExtractParsed p.0 (is_decompressed rows) (is_given (first_of (codes "owners") rows)) (is_given (first_of (codes "quiet") rows)) p.1 folder)
+    Some (ExtractParsed p.0 (is_decompressed rows) (is_given (first_of (codes "owners") rows))
+    (is_given (first_of (codes "quiet") rows)) p.1 folder)
 
 abbrev pub listing_in : List Row → Option TaskParsed
-listing_in rows = if_given (all_of (codes "owner") rows) owner_of >>= λ owner. if_given (first_of (codes "time") rows) decimal_number >>= λ time.
-    first_of (codes "DIR") rows >>= λ folder. Some (ListingParsed owner time (is_given (first_of (codes "quiet") rows)) folder)
+listing_in rows = if_given (all_of (codes "owner") rows) owner_of >>= λ owner.
+    if_given (first_of (codes "time") rows) decimal_number >>= λ time.
+    first_of (codes "DIR") rows >>= λ folder.
+    Some (ListingParsed owner time (is_given (first_of (codes "quiet") rows)) folder)
 
 -- neither a block size nor a byte order is given
 abbrev pub info_in : List Row → Option TaskParsed
 info_in rows = first_of (codes "IMAGE") rows >>= λ image. Some (InfoParsed image)
 
--- what the subcommand of this name asks for, with these rows; None where it is no subcommand or a value can't be read
+-- what the subcommand of this name asks for, with these rows; None where it is no subcommand or a
+-- value can't be read
 unfoldable pub parsed : Text → List Row → Option TaskParsed
 parsed name rows =
     if bytes_eq name (codes "check") then option_map ImageParsed (check_in rows)
@@ -197,7 +218,8 @@ IsHelpRequested args = (kind : ErrorKind) × IsHelpKind kind × IsAmong kind (fa
 
 -- clap refuses the words for another reason
 unfoldable pub IsRefusedByClap : List Text → Type 0
-IsRefusedByClap args = (kind : ErrorKind) × (kind ≢ DisplayHelp) × (kind ≢ DisplayVersion) × IsAmong kind (fault_of program args)
+IsRefusedByClap args = (kind : ErrorKind) × (kind ≢ DisplayHelp) × (kind ≢ DisplayVersion)
+    × IsAmong kind (fault_of program args)
 
 -- clap has nothing against the words, but a value can't be read
 unfoldable pub IsUnreadable : List Text → Type 0

@@ -46,7 +46,8 @@ fn usage(text: Result<String, AllocError>) -> RequestFault
 fn fault_of_error(alloc: Global, error: &Error) -> RequestFault
     ensures memory { kind_of error.now ≡ ErrorKind.OutOfMemory → result ≡ RequestFault.OutOfMemory }
     ensures help { IsHelp result → IsHelpKind (kind_of error.now) }
-    ensures usage { IsUsage result → (kind_of error.now ≢ ErrorKind.DisplayHelp) × (kind_of error.now ≢ ErrorKind.DisplayVersion)
+    ensures usage { IsUsage result → (kind_of error.now ≢ ErrorKind.DisplayHelp)
+        × (kind_of error.now ≢ ErrorKind.DisplayVersion)
         × (kind_of error.now ≢ ErrorKind.OutOfMemory) }
 {
     let text = match error.kind() {
@@ -64,11 +65,16 @@ fn fault_of_error(alloc: Global, error: &Error) -> RequestFault
 
 /// Clap's matches of the words.
 fn matched<'a>(alloc: Global, args: &'a [&'a str]) -> Result<ArgMatches<'a>, RequestFault>
-    ensures ok { IfOk result (λ m. subcommand_rows_of m ≡ subcommand_of program (map (λ w. w.now) args.entry.now)) }
+    ensures ok { IfOk result
+        (λ m. subcommand_rows_of m ≡ subcommand_of program (map (λ w. w.now) args.entry.now)) }
     ensures not_refused { OnOk result (fault_of program (map (λ w. w.now) args.entry.now) ≡ []) }
-    ensures taken { IfErr result (λ e. takes program (map (λ w. w.now) args.entry.now) ≡ true → e ≡ RequestFault.OutOfMemory) }
-    ensures help { IfErr result (λ e. IsHelp e → IsHelpRequested (map (λ w. w.now) args.entry.now)) }
-    ensures usage { IfErr result (λ e. IsUsage e → IsRefusedByClap (map (λ w. w.now) args.entry.now)) }
+    ensures taken { IfErr result
+        (λ e. takes program (map (λ w. w.now) args.entry.now) ≡ true
+        → e ≡ RequestFault.OutOfMemory) }
+    ensures help { IfErr result
+        (λ e. IsHelp e → IsHelpRequested (map (λ w. w.now) args.entry.now)) }
+    ensures usage { IfErr result
+        (λ e. IsUsage e → IsRefusedByClap (map (λ w. w.now) args.entry.now)) }
 {
     let command = make_program(alloc)?;
     match command.try_get_matches_from(args) {
@@ -136,19 +142,23 @@ fn unreadable(alloc: Global, matches: &ArgMatches<'_>) -> Result<String, AllocEr
 #[tactic(auto, unfolding(crate::specs::Parsed::parsed_from, crate::specs::Parsed::are_words_taken, crate::specs::Parsed::IsFaultless, crate::specs::Parsed::IsUnreadable))]
 pub fn task<'a>(alloc: Global, args: &'a [&'a str]) -> Result<Task<'a>, RequestFault>
     // The subcommand and its values are clap's own function of the words.
-    ensures ok { IfOk result (λ r. parsed_from (map (λ w. w.now) args.entry.now) ≡ Some (task_view r)) }
+    ensures ok { IfOk result
+        (λ r. parsed_from (map (λ w. w.now) args.entry.now) ≡ Some (task_view r)) }
 
     // Words that clap refuses, or answers by help, ask for nothing.
     ensures faultless { OnOk result (IsFaultless (map (λ w. w.now) args.entry.now)) }
 
     // Where clap takes the words and every value can be read, it can only run out of memory.
-    ensures only { are_words_taken (map (λ w. w.now) args.entry.now) ≡ true → IsSome (parsed_from (map (λ w. w.now) args.entry.now))
+    ensures only { are_words_taken (map (λ w. w.now) args.entry.now) ≡ true
+        → IsSome (parsed_from (map (λ w. w.now) args.entry.now))
         → IfErr result (λ e. e ≡ RequestFault.OutOfMemory) }
 
     // Help comes only where clap answers the words by help, or by the version.
-    ensures help { IfErr result (λ e. IsHelp e → IsHelpRequested (map (λ w. w.now) args.entry.now)) }
+    ensures help { IfErr result
+        (λ e. IsHelp e → IsHelpRequested (map (λ w. w.now) args.entry.now)) }
 
-    // A command line is wrong only where clap refuses the words, or takes them and a value can't be read.
+    // A command line is wrong only where clap refuses the words, or takes them and a value can't be
+    // read.
     ensures usage { IfErr result (λ e. IsUsage e → IsRefusedByClap (map (λ w. w.now) args.entry.now)
         ⊎ IsUnreadable (map (λ w. w.now) args.entry.now)) }
 {
@@ -163,17 +173,21 @@ pub fn task<'a>(alloc: Global, args: &'a [&'a str]) -> Result<Task<'a>, RequestF
 /// `info`, which are refused.
 pub fn request<'a>(alloc: Global, args: &'a [&'a str]) -> Result<Request<'a>, RequestFault>
     // The subcommand and its values are clap's own function of the words.
-    ensures ok { IfOk result (λ r. parsed_from (map (λ w. w.now) args.entry.now) ≡ Some (ImageParsed (view r))) }
+    ensures ok { IfOk result
+        (λ r. parsed_from (map (λ w. w.now) args.entry.now) ≡ Some (ImageParsed (view r))) }
 
     // Words that clap refuses, or answers by help, ask for nothing.
     ensures faultless { OnOk result (IsFaultless (map (λ w. w.now) args.entry.now)) }
 
-    // Where clap takes the words and they ask for something of an image, it can only run out of memory.
-    ensures only { are_words_taken (map (λ w. w.now) args.entry.now) ≡ true → IsOfImage (parsed_from (map (λ w. w.now) args.entry.now))
+    // Where clap takes the words and they ask for something of an image, it can only run out of
+    // memory.
+    ensures only { are_words_taken (map (λ w. w.now) args.entry.now) ≡ true
+        → IsOfImage (parsed_from (map (λ w. w.now) args.entry.now))
         → IfErr result (λ e. e ≡ RequestFault.OutOfMemory) }
 
     // Help comes only where clap answers the words by help, or by the version.
-    ensures help { IfErr result (λ e. IsHelp e → IsHelpRequested (map (λ w. w.now) args.entry.now)) }
+    ensures help { IfErr result
+        (λ e. IsHelp e → IsHelpRequested (map (λ w. w.now) args.entry.now)) }
 
     // A command line is wrong only where clap refuses the words, or takes them and a value can't be
     // read, or they make no request.

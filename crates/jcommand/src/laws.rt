@@ -20,37 +20,70 @@ pub fn known_values()
     ensures page { page_of (codes "8192") ≡ Some P8192 }
     ensures padded_page { page_of (codes "08192") ≡ None }
     ensures other_page { page_of (codes "32768") ≡ None }
-    ensures owner { owner_of (codes "1000" ∷ codes "65535" ∷ []) ≡ Some (record { uid = 1000; gid = 65535 }) }
+    ensures owner { owner_of (codes "1000" ∷ codes "65535" ∷ [])
+        ≡ Some (record { uid = 1000; gid = 65535 }) }
     ensures past_owner { owner_of (codes "0" ∷ codes "65536" ∷ []) ≡ None }
 {}
 
 /// What words ask for.
 pub fn known_requests()
-    ensures defaults { parsed_from (codes "jffs2_image" ∷ codes "check" ∷ codes "--scan" ∷ codes "a" ∷ [])
-        ≡ Some (ImageParsed (ScanParsed (record { geometry = record { block = 65536 }; endian = Little }) (codes "a"))) }
-    ensures given { parsed_from (codes "jffs2_image" ∷ codes "check" ∷ codes "--block" ∷ codes "4096" ∷ codes "--endian=big"
+    ensures defaults { parsed_from
+        (codes "jffs2_image" ∷ codes "check" ∷ codes "--scan" ∷ codes "a" ∷ [])
+        ≡ Some (ImageParsed
+        (ScanParsed (record { geometry = record { block = 65536 }; endian = Little })
+        (codes "a"))) }
+    ensures given { parsed_from
+        (codes "jffs2_image" ∷ codes "check" ∷ codes "--block" ∷ codes "4096" ∷ codes "--endian=big"
         ∷ codes "a" ∷ [])
-        ≡ Some (ImageParsed (CheckParsed (record { geometry = record { block = 4096 }; endian = Big }) false (codes "a"))) }
-    ensures shape { parsed_from (codes "jffs2_image" ∷ codes "check" ∷ codes "--shape" ∷ codes "a" ∷ [])
-        ≡ Some (ImageParsed (CheckParsed (record { geometry = record { block = 65536 }; endian = Little }) true (codes "a"))) }
-    ensures tree { parsed_from (codes "jffs2_image" ∷ codes "ls" ∷ codes "a" ∷ codes "--block=8192" ∷ [])
-        ≡ Some (ImageParsed (ListParsed (record { geometry = record { block = 8192 }; endian = Little }) false (codes "a") None)) }
-    ensures decompressed_tree { parsed_from (codes "jffs2_image" ∷ codes "ls" ∷ codes "--decompress" ∷ codes "a" ∷ codes "/b" ∷ [])
-        ≡ Some (ImageParsed (ListParsed (record { geometry = record { block = 65536 }; endian = Little }) true (codes "a") (Some (codes "/b")))) }
+        ≡ Some (ImageParsed
+        (CheckParsed (record { geometry = record { block = 4096 }; endian = Big }) false
+        (codes "a"))) }
+    ensures shape { parsed_from
+        (codes "jffs2_image" ∷ codes "check" ∷ codes "--shape" ∷ codes "a" ∷ [])
+        ≡ Some (ImageParsed
+        (CheckParsed (record { geometry = record { block = 65536 }; endian = Little }) true
+        (codes "a"))) }
+    ensures tree { parsed_from
+        (codes "jffs2_image" ∷ codes "ls" ∷ codes "a" ∷ codes "--block=8192" ∷ [])
+        ≡ Some (ImageParsed
+        (ListParsed (record { geometry = record { block = 8192 }; endian = Little }) false
+        (codes "a") None)) }
+    ensures decompressed_tree { parsed_from
+        (codes "jffs2_image" ∷ codes "ls" ∷ codes "--decompress" ∷ codes "a" ∷ codes "/b" ∷ [])
+        ≡ Some (ImageParsed
+        (ListParsed (record { geometry = record { block = 65536 }; endian = Little }) true
+        (codes "a") (Some (codes "/b")))) }
     ensures content { parsed_from (codes "jffs2_image" ∷ codes "cat" ∷ codes "a" ∷ codes "/b" ∷ [])
-        ≡ Some (ImageParsed (CatParsed (record { geometry = record { block = 65536 }; endian = Little }) false (codes "a") (codes "/b"))) }
-    ensures made { parsed_from (codes "jffs2_image" ∷ codes "build" ∷ codes "--blocks" ∷ codes "2" ∷ codes "a" ∷ codes "b" ∷ [])
-        ≡ Some (ImageParsed (BuildParsed (record { geometry = record { block = 65536 }; endian = Little }) 2 P4096 (codes "a") (codes "b"))) }
-    ensures extended { parsed_from (codes "jffs2_image" ∷ codes "append" ∷ codes "a" ∷ codes "--block" ∷ codes "8192" ∷ codes "b"
+        ≡ Some (ImageParsed
+        (CatParsed (record { geometry = record { block = 65536 }; endian = Little }) false
+        (codes "a") (codes "/b"))) }
+    ensures made { parsed_from (codes "jffs2_image" ∷ codes "build" ∷ codes "--blocks" ∷ codes "2"
+        ∷ codes "a" ∷ codes "b" ∷ [])
+        ≡ Some (ImageParsed
+        (BuildParsed (record { geometry = record { block = 65536 }; endian = Little }) 2
+        P4096 (codes "a") (codes "b"))) }
+    ensures extended { parsed_from
+        (codes "jffs2_image" ∷ codes "append" ∷ codes "a" ∷ codes "--block" ∷ codes "8192"
+        ∷ codes "b"
         ∷ codes "--endian=big" ∷ codes "--page=16384" ∷ codes "c" ∷ codes "--blocks=3" ∷ [])
-        ≡ Some (ImageParsed (AppendParsed (record { geometry = record { block = 8192 }; endian = Big }) 3 P16384 false (codes "a") (codes "b") (codes "c"))) }
-    ensures decompressed { parsed_from (codes "jffs2_image" ∷ codes "decompress" ∷ codes "--block=8192" ∷ codes "a" ∷ codes "b" ∷ [])
-        ≡ Some (ImageParsed (DecompressParsed (record { geometry = record { block = 8192 }; endian = Little }) (codes "a") (codes "b"))) }
-    ensures extracted { parsed_from (codes "jffs2_image" ∷ codes "extract" ∷ codes "--owners" ∷ codes "a" ∷ codes "b" ∷ [])
-        ≡ Some (ExtractParsed (record { geometry = record { block = 65536 }; endian = Little }) false true false (codes "a") (codes "b")) }
-    ensures listed { parsed_from (codes "jffs2_image" ∷ codes "listing" ∷ codes "--quiet" ∷ codes "a" ∷ [])
+        ≡ Some (ImageParsed
+        (AppendParsed (record { geometry = record { block = 8192 }; endian = Big }) 3 P16384
+        false (codes "a") (codes "b") (codes "c"))) }
+    ensures decompressed { parsed_from
+        (codes "jffs2_image" ∷ codes "decompress" ∷ codes "--block=8192" ∷ codes "a" ∷ codes "b"
+        ∷ [])
+        ≡ Some (ImageParsed
+        (DecompressParsed (record { geometry = record { block = 8192 }; endian = Little })
+        (codes "a") (codes "b"))) }
+    ensures extracted { parsed_from
+        (codes "jffs2_image" ∷ codes "extract" ∷ codes "--owners" ∷ codes "a" ∷ codes "b" ∷ [])
+        ≡ Some (ExtractParsed (record { geometry = record { block = 65536 }; endian = Little })
+        false true false (codes "a") (codes "b")) }
+    ensures listed { parsed_from
+        (codes "jffs2_image" ∷ codes "listing" ∷ codes "--quiet" ∷ codes "a" ∷ [])
         ≡ Some (ListingParsed None None true (codes "a")) }
-    ensures listed_for { parsed_from (codes "jffs2_image" ∷ codes "listing" ∷ codes "--owner" ∷ codes "0" ∷ codes "7" ∷ codes "--time=9" ∷ codes "a" ∷ [])
+    ensures listed_for { parsed_from (codes "jffs2_image" ∷ codes "listing" ∷ codes "--owner"
+        ∷ codes "0" ∷ codes "7" ∷ codes "--time=9" ∷ codes "a" ∷ [])
         ≡ Some (ListingParsed (Some (record { uid = 0; gid = 7 })) (Some 9) false (codes "a")) }
     ensures told { parsed_from (codes "jffs2_image" ∷ codes "info" ∷ codes "a" ∷ [])
         ≡ Some (InfoParsed (codes "a")) }
@@ -58,23 +91,38 @@ pub fn known_requests()
 
 /// Words that ask for nothing.
 pub fn known_refusals()
-    ensures help { fault_of program (codes "jffs2_image" ∷ codes "check" ∷ codes "--help" ∷ []) ≡ DisplayHelp ∷ [] }
-    ensures version { fault_of program (codes "jffs2_image" ∷ codes "--version" ∷ []) ≡ DisplayVersion ∷ [] }
+    ensures help { fault_of program (codes "jffs2_image" ∷ codes "check" ∷ codes "--help" ∷ [])
+        ≡ DisplayHelp ∷ [] }
+    ensures version { fault_of program (codes "jffs2_image" ∷ codes "--version" ∷ [])
+        ≡ DisplayVersion ∷ [] }
     ensures no_args { fault_of program [] ≡ MissingSubcommand ∷ [] }
-    ensures no_image { fault_of program (codes "jffs2_image" ∷ codes "ls" ∷ []) ≡ MissingRequiredArgument ∷ [] }
-    ensures not_of_ls { fault_of program (codes "jffs2_image" ∷ codes "ls" ∷ codes "--scan" ∷ codes "a" ∷ []) ≡ UnknownArgument ∷ [] }
-    ensures no_path { fault_of program (codes "jffs2_image" ∷ codes "cat" ∷ codes "a" ∷ []) ≡ MissingRequiredArgument ∷ [] }
-    ensures no_blocks { fault_of program (codes "jffs2_image" ∷ codes "build" ∷ codes "a" ∷ codes "b" ∷ []) ≡ MissingRequiredArgument ∷ [] }
-    ensures no_output { fault_of program (codes "jffs2_image" ∷ codes "append" ∷ codes "--blocks" ∷ codes "2" ∷ codes "a" ∷ codes "b" ∷ [])
+    ensures no_image { fault_of program (codes "jffs2_image" ∷ codes "ls" ∷ [])
         ≡ MissingRequiredArgument ∷ [] }
-    ensures not_of_cat { fault_of program (codes "jffs2_image" ∷ codes "cat" ∷ codes "--blocks=2" ∷ codes "a" ∷ codes "/b" ∷ [])
+    ensures not_of_ls { fault_of program
+        (codes "jffs2_image" ∷ codes "ls" ∷ codes "--scan" ∷ codes "a" ∷ [])
         ≡ UnknownArgument ∷ [] }
-    ensures one_owner { fault_of program (codes "jffs2_image" ∷ codes "listing" ∷ codes "a" ∷ codes "--owner" ∷ codes "1" ∷ []) ≡ WrongNumberOfValues ∷ [] }
-    ensures not_of_check { fault_of program (codes "jffs2_image" ∷ codes "check" ∷ codes "--decompress" ∷ codes "a" ∷ []) ≡ UnknownArgument ∷ [] }
-    ensures not_decompressed { fault_of program (codes "jffs2_image" ∷ codes "decompress" ∷ codes "a" ∷ []) ≡ MissingRequiredArgument ∷ [] }
+    ensures no_path { fault_of program (codes "jffs2_image" ∷ codes "cat" ∷ codes "a" ∷ [])
+        ≡ MissingRequiredArgument ∷ [] }
+    ensures no_blocks { fault_of program (codes "jffs2_image" ∷ codes "build" ∷ codes "a"
+        ∷ codes "b" ∷ []) ≡ MissingRequiredArgument ∷ [] }
+    ensures no_output { fault_of program (codes "jffs2_image" ∷ codes "append" ∷ codes "--blocks"
+        ∷ codes "2" ∷ codes "a" ∷ codes "b" ∷ [])
+        ≡ MissingRequiredArgument ∷ [] }
+    ensures not_of_cat { fault_of program
+        (codes "jffs2_image" ∷ codes "cat" ∷ codes "--blocks=2" ∷ codes "a" ∷ codes "/b" ∷ [])
+        ≡ UnknownArgument ∷ [] }
+    ensures one_owner { fault_of program (codes "jffs2_image" ∷ codes "listing" ∷ codes "a"
+        ∷ codes "--owner" ∷ codes "1" ∷ []) ≡ WrongNumberOfValues ∷ [] }
+    ensures not_of_check { fault_of program (codes "jffs2_image" ∷ codes "check"
+        ∷ codes "--decompress" ∷ codes "a" ∷ []) ≡ UnknownArgument ∷ [] }
+    ensures not_decompressed { fault_of program
+        (codes "jffs2_image" ∷ codes "decompress" ∷ codes "a" ∷ []) ≡ MissingRequiredArgument ∷ [] }
     ensures not_of_info { fault_of program (codes "jffs2_image" ∷ codes "info"
         ∷ codes "--block=4096" ∷ codes "a" ∷ []) ≡ UnknownArgument ∷ [] }
-    ensures no_folder { fault_of program (codes "jffs2_image" ∷ codes "extract" ∷ codes "a" ∷ []) ≡ MissingRequiredArgument ∷ [] }
-    ensures unreadable_blocks { parsed_from (codes "jffs2_image" ∷ codes "build" ∷ codes "--blocks=x" ∷ codes "a" ∷ codes "b" ∷ []) ≡ None }
-    ensures unreadable { parsed_from (codes "jffs2_image" ∷ codes "check" ∷ codes "--block=x" ∷ codes "--scan" ∷ codes "a" ∷ []) ≡ None }
+    ensures no_folder { fault_of program (codes "jffs2_image" ∷ codes "extract" ∷ codes "a" ∷ [])
+        ≡ MissingRequiredArgument ∷ [] }
+    ensures unreadable_blocks { parsed_from (codes "jffs2_image" ∷ codes "build"
+        ∷ codes "--blocks=x" ∷ codes "a" ∷ codes "b" ∷ []) ≡ None }
+    ensures unreadable { parsed_from (codes "jffs2_image" ∷ codes "check" ∷ codes "--block=x"
+        ∷ codes "--scan" ∷ codes "a" ∷ []) ≡ None }
 {}

@@ -274,7 +274,8 @@ fn cat_at<'a>(found: &ArgMatches<'a>) -> Option<Request<'a>>
 
 /// What a subcommand with these options writes, and the listing that it reads.
 fn writing_at<'a>(found: &ArgMatches<'a>, options: Options) -> Option<(Target<'a>, &'a str)>
-    ensures values { option_map (λ w. (w.0.blocks, w.0.page, w.1.now, w.0.output.now)) result ≡ writing_in (rows_of (found_of found.now)) }
+    ensures values { option_map (λ w. (w.0.blocks, w.0.page, w.1.now, w.0.output.now)) result
+        ≡ writing_in (rows_of (found_of found.now)) }
     ensures options { IfSome result (λ w. w.0.options ≡ options) }
 {
     let blocks = number_at(found, "blocks")?;
@@ -339,7 +340,8 @@ fn extract_at<'a>(found: &ArgMatches<'a>) -> Option<Task<'a>>
 
 /// The values of an option, if it is given.
 pub(crate) fn texts_at<'f, 'a>(found: &'f ArgMatches<'a>, id: &str) -> Option<&'f [&'a str]>
-    ensures { option_map (λ s. map (λ v. v.now) s.now) result ≡ all_of id.now (rows_of (found_of found.now)) }
+    ensures { option_map (λ s. map (λ v. v.now) s.now) result
+        ≡ all_of id.now (rows_of (found_of found.now)) }
 {
     found.get_strs(id)
 }
@@ -369,7 +371,8 @@ fn owner_at(found: &ArgMatches<'_>) -> Option<Option<Owner>>
 
 /// The time, where one is given.
 fn time_at(found: &ArgMatches<'_>) -> Option<Option<u32>>
-    ensures { result ≡ if_given (first_of (codes "time") (rows_of (found_of found.now))) decimal_number }
+    ensures { result
+        ≡ if_given (first_of (codes "time") (rows_of (found_of found.now))) decimal_number }
 {
     match text_at(found, "time") {
         None => Some(None),

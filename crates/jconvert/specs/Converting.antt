@@ -59,8 +59,8 @@ flash_fault e size image =
     else if fit size (greatest_blocks size) 0 forms then None
     else Some (fault.Full (needed forms) (free size (greatest_blocks size) 0))
 
--- Why an image is not decompressed: its sizes come first, then the node of least address that is not expanded, then the
--- flash that is to be written.
+-- Why an image is not decompressed: its sizes come first, then the node of least address that is
+-- not expanded, then the flash that is to be written.
 abbrev pub convert_fault : Endian → ℕ → List ℕ → Option ConvertFault
 convert_fault e size image =
     if not (is_block_size size) then Some fault.BlockSize
@@ -69,28 +69,35 @@ convert_fault e size image =
 
 -- The answer: the image that goes out, or why none does. Only memory may be wanting at any time.
 abbrev pub Converts : Endian → ℕ → List ℕ → Result (List ℕ) ConvertFault → Type 0
-Converts e size image (Ok bytes) = (convert_fault e size image ≡ None) × (bytes ≡ converted_image e size image)
+Converts e size image (Ok bytes) =
+    (convert_fault e size image ≡ None) × (bytes ≡ converted_image e size image)
 Converts e size image (Err fault.Sink) = ⊥
 Converts e size image (Err fault.OutOfMemory) = Unit {0}
 Converts e size image (Err f) = convert_fault e size image ≡ Some f
 
--- What a call that writes the image does to a sink: all of it goes out, or a beginning, where the sink failed once or
--- memory ran out. Nothing else is refused.
-abbrev pub WritesConverted : {T : Type 0} → Endian → ℕ → List ℕ → Option (List ℕ) → Option (List ℕ) → ℕ → ℕ
+-- What a call that writes the image does to a sink: all of it goes out, or a beginning, where the
+-- sink failed once or memory ran out. Nothing else is refused.
+abbrev pub WritesConverted : {T : Type 0} → Endian → ℕ → List ℕ → Option (List ℕ) → Option (List ℕ)
+    → ℕ → ℕ
     → Result T ConvertFault → Type 0
-WritesConverted e size image old new before now (Ok _) = Appends old new (converted_image e size image) × (now ≡ before)
-WritesConverted e size image old new before now (Err fault.Sink) = PutsPart old new (converted_image e size image) × (now ≡ next_count before)
-WritesConverted e size image old new before now (Err fault.OutOfMemory) = PutsPart old new (converted_image e size image) × (now ≡ before)
+WritesConverted e size image old new before now (Ok _) =
+    Appends old new (converted_image e size image) × (now ≡ before)
+WritesConverted e size image old new before now (Err fault.Sink) =
+    PutsPart old new (converted_image e size image) × (now ≡ next_count before)
+WritesConverted e size image old new before now (Err fault.OutOfMemory) =
+    PutsPart old new (converted_image e size image) × (now ≡ before)
 WritesConverted e size image old new before now (Err _) = ⊥
 
--- What decompressing into a sink answers: the image goes out, with what is told of it; or it is refused before a byte is
--- put; or a beginning went out. The sink comes back in any case.
-abbrev pub Decompresses : Endian → ℕ → List ℕ → Option (List ℕ) → Option (List ℕ) → ℕ → ℕ → Result Converted ConvertFault → Type 0
+-- What decompressing into a sink answers: the image goes out, with what is told of it; or it is
+-- refused before a byte is put; or a beginning went out. The sink comes back in any case.
+abbrev pub Decompresses : Endian → ℕ → List ℕ → Option (List ℕ) → Option (List ℕ) → ℕ → ℕ
+    → Result Converted ConvertFault → Type 0
 Decompresses e size image old new before now (Ok told) =
     (convert_fault e size image ≡ None) × (told ≡ converted_of e size image)
     × Appends old new (converted_image e size image) × (now ≡ before)
 Decompresses e size image old new before now (Err fault.Sink) =
-    (convert_fault e size image ≡ None) × PutsPart old new (converted_image e size image) × (now ≡ next_count before)
+    (convert_fault e size image ≡ None) × PutsPart old new (converted_image e size image)
+    × (now ≡ next_count before)
 Decompresses e size image old new before now (Err fault.OutOfMemory) =
     PutsPart old new (converted_image e size image) × (now ≡ before)
 Decompresses e size image old new before now (Err f) =

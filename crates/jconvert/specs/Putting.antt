@@ -17,22 +17,29 @@ use Rattle.jconvert.specs.Tallying.{IsCursor}
 abbrev pub form_piece : Endian → ℕ → ℕ → List ℕ → List ℕ
 form_piece e size from form = gap e size from (place_after size from (length form)) ++ filled form
 
--- It goes out, and the next one may begin behind it; or a beginning does, where the sink failed; or nothing, where there is
--- no room for it.
-abbrev pub PutsForm : Endian → ℕ → ℕ → List ℕ → Option (List ℕ) → Option (List ℕ) → ℕ → ℕ → Result ℕ ConvertFault → Type 0
+-- It goes out, and the next one may begin behind it; or a beginning does, where the sink failed; or
+-- nothing, where there is no room for it.
+abbrev pub PutsForm : Endian → ℕ → ℕ → List ℕ → Option (List ℕ) → Option (List ℕ) → ℕ → ℕ
+    → Result ℕ ConvertFault → Type 0
 PutsForm e size from form old new before now (Ok next) =
-    Appends old new (form_piece e size from form) × (now ≡ before) × (next ≡ end_after size from (length form)) × IsCursor size next
-PutsForm e size from form old new before now (Err fault.Sink) = PutsPart old new (form_piece e size from form) × (now ≡ next_count before)
+    Appends old new (form_piece e size from form) × (now ≡ before)
+    × (next ≡ end_after size from (length form)) × IsCursor size next
+PutsForm e size from form old new before now (Err fault.Sink) =
+    PutsPart old new (form_piece e size from form) × (now ≡ next_count before)
 PutsForm e size from form old new before now (Err fault.OutOfMemory) = (new ≡ old) × (now ≡ before)
 PutsForm e size from form old new before now (Err _) = ⊥
 
 -- What goes out for a sighted tile: its node, if it gives one.
-abbrev pub PutsTile : Endian → ℕ → List ℕ → ℕ × Seen → ℕ → Option (List ℕ) → Option (List ℕ) → ℕ → ℕ → Result ℕ ConvertFault → Type 0
+abbrev pub PutsTile : Endian → ℕ → List ℕ → ℕ
+    × Seen → ℕ → Option (List ℕ) → Option (List ℕ) → ℕ → ℕ → Result ℕ ConvertFault → Type 0
 PutsTile e size image s from old new before now (Ok next) =
     MatchOption (expanded_node e size image s) ((new ≡ old) × (next ≡ from))
-    (λ n. Appends old new (form_piece e size from (canonical e n)) × (next ≡ end_after size from (length (canonical e n))) × IsCursor size next)
+    (λ n. Appends old new (form_piece e size from (canonical e n))
+    × (next ≡ end_after size from (length (canonical e n))) × IsCursor size next)
     × (now ≡ before)
 PutsTile e size image s from old new before now (Err fault.Sink) =
-    ((n : NodeRef) × (expanded_node e size image s ≡ Some n) × PutsPart old new (form_piece e size from (canonical e n))) × (now ≡ next_count before)
-PutsTile e size image s from old new before now (Err fault.OutOfMemory) = (new ≡ old) × (now ≡ before)
+    ((n : NodeRef) × (expanded_node e size image s ≡ Some n)
+    × PutsPart old new (form_piece e size from (canonical e n))) × (now ≡ next_count before)
+PutsTile e size image s from old new before now (Err fault.OutOfMemory) =
+    (new ≡ old) × (now ≡ before)
 PutsTile e size image s from old new before now (Err _) = ⊥

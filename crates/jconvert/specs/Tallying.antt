@@ -19,27 +19,32 @@ IsCursor size from = (from ≤ greatest_blocks size * size) × (from % 4 ≡ 0)
 abbrev pub EndsWithin : ℕ → ℕ → ℕ → Type 0
 EndsWithin size from len = place_after size from len + len ≤ greatest_blocks size * size
 
--- Where the node after one of so many bytes may begin. There is no room where the flash ends before, or was full already;
--- and blocks that are not written have none.
+-- Where the node after one of so many bytes may begin. There is no room where the flash ends
+-- before, or was full already; and blocks that are not written have none.
 abbrev pub IsRoomAfter : ℕ → Option ℕ → ℕ → Option ℕ → Type 0
 IsRoomAfter size None len after = after ≡ None
-IsRoomAfter size (Some from) len (Some after) = EndsWithin size from len × (after ≡ end_after size from len) × IsCursor size after
+IsRoomAfter size (Some from) len (Some after) =
+    EndsWithin size from len × (after ≡ end_after size from len) × IsCursor size after
 IsRoomAfter size (Some from) len None = least_written ≤ size → EndsWithin size from len → ⊥
 
 -- what a length counts for, where there is one
 abbrev pub Lengthens : ℕ → Tally → Option ℕ → Tally → Type 0
-Lengthens size old None new = (new.nodes ≡ old.nodes) × (new.needed ≡ old.needed) × (new.room ≡ old.room)
+Lengthens size old None new =
+    (new.nodes ≡ old.nodes) × (new.needed ≡ old.needed) × (new.room ≡ old.room)
 Lengthens size old (Some len) new =
-    (new.nodes ≡ old.nodes + 1) × (new.needed ≡ old.needed + pad4_of len) × IsRoomAfter size old.room len new.room
+    (new.nodes ≡ old.nodes + 1) × (new.needed ≡ old.needed + pad4_of len)
+    × IsRoomAfter size old.room len new.room
 
 -- what is counted with one tile more, whose node has this length if it gives one
-pub record IsOneMore (size : ℕ) (old : Tally) (seen : Seen) (len : Option ℕ) (new : Tally) : Type 0 where
+pub record IsOneMore (size : ℕ) (old : Tally) (seen : Seen) (len : Option ℕ) (new : Tally) : Type
+    0 where
   pub changed : new.changed ≡ old.changed + cond (is_changed seen) 1 0
   pub read_only : new.read_only ≡ (old.read_only || forbids_writing seen)
   pub longer : Lengthens size old len new
 
 -- what is counted with the tile at an address more, of which no fault is known
-pub record CountsTile (e : Endian) (size : ℕ) (image : List ℕ) (old : Tally) (addr : ℕ) (seen : Seen) (new : Tally) : Type 0 where
+pub record CountsTile (e : Endian) (size : ℕ) (image : List ℕ) (old : Tally) (addr : ℕ)
+    (seen : Seen) (new : Tally) : Type 0 where
   pub none : node_fault e size image (addr, seen) ≡ None
   pub len : Option ℕ
   pub length_is : len ≡ option_map node_length (expanded_node e size image (addr, seen))
@@ -47,7 +52,8 @@ pub record CountsTile (e : Endian) (size : ℕ) (image : List ℕ) (old : Tally)
 
 -- How the room stands when all these nodes are counted.
 abbrev pub IsRoomOf : ℕ → List (List ℕ) → Option ℕ → Type 0
-IsRoomOf size forms (Some end) = IsTrue (fit size (greatest_blocks size) 0 forms) × (end ≡ end_of_all size 0 forms)
+IsRoomOf size forms (Some end) =
+    IsTrue (fit size (greatest_blocks size) 0 forms) × (end ≡ end_of_all size 0 forms)
 IsRoomOf size forms None = least_written ≤ size → fit size (greatest_blocks size) 0 forms ≡ false
 
 -- what is counted of an image of which no node is refused

@@ -196,8 +196,10 @@ pub fn judge<E: Order>(
 ) -> Result<Judged, ConvertFault>
     ensures accepted { OnOk result (convert_fault E.order geometry.block image.now ≡ None) }
     ensures scannable { OnOk result (IsScannable geometry.block image.now) }
-    ensures told { IfOk result (λ judged. judged.told ≡ converted_of E.order geometry.block image.now) }
-    ensures held { IfOk result (λ judged. IsHeldOf E.order geometry.block image.now judged.held.items) }
+    ensures told { IfOk result
+        (λ judged. judged.told ≡ converted_of E.order geometry.block image.now) }
+    ensures held { IfOk result
+        (λ judged. IsHeldOf E.order geometry.block image.now judged.held.items) }
     ensures few { IfOk result (λ judged. vec_len judged.held ≤ most) }
     ensures refused { IfErr result (λ fault. fault ≢ OutOfMemory
         → convert_fault E.order geometry.block image.now ≡ Some fault) }

@@ -69,12 +69,15 @@ fn make_form<E: Order>(
     requires readable { IsTrue (is_block_size geometry.block) }
     requires sighted { Contains (sightings E.order geometry.block image.now) (addr, seen.now) }
     requires accepted { node_fault E.order geometry.block image.now (addr, seen.now) ≡ None }
-    requires held { BeginsAs (tile_content E.order geometry.block image.now (addr, seen.now)) making.old.held.now }
+    requires held { BeginsAs (tile_content E.order geometry.block image.now (addr, seen.now))
+        making.old.held.now }
     ensures ok { IfOk result (λ is_one. IsFormOf E.order
-        (expanded_node E.order geometry.block image.now (addr, seen.now)) making.new.form.items is_one) }
+        (expanded_node E.order geometry.block image.now (addr, seen.now)) making.new.form.items
+        is_one) }
     ensures memory { IfErr result (λ fault. fault ≡ OutOfMemory) }
     ensures held { making.new.held.now
-        ≡ held_after (tile_content E.order geometry.block image.now (addr, seen.now)) making.old.held.now }
+        ≡ held_after (tile_content E.order geometry.block image.now (addr, seen.now))
+        making.old.held.now }
 {
     let len = content_len::<E>(image, geometry, addr, seen);
     let form = &mut making.form;
@@ -112,11 +115,14 @@ fn put_tile<E: Order, S: Sink>(
     requires sighted { Contains (sightings E.order geometry.block image.now) (addr, seen.now) }
     requires accepted { node_fault E.order geometry.block image.now (addr, seen.now) ≡ None }
     requires cursor { IsCursor geometry.block from }
-    requires held { BeginsAs (tile_content E.order geometry.block image.now (addr, seen.now)) making.old.held.now }
-    ensures put { PutsTile E.order geometry.block image.now (addr, seen.now) from (S.taken sink.old) (S.taken sink.new)
+    requires held { BeginsAs (tile_content E.order geometry.block image.now (addr, seen.now))
+        making.old.held.now }
+    ensures put { PutsTile E.order geometry.block image.now (addr, seen.now) from (S.taken sink.old)
+        (S.taken sink.new)
         (S.failures sink.old) (S.failures sink.new) result }
     ensures held { making.new.held.now
-        ≡ held_after (tile_content E.order geometry.block image.now (addr, seen.now)) making.old.held.now }
+        ≡ held_after (tile_content E.order geometry.block image.now (addr, seen.now))
+        making.old.held.now }
 {
     match make_form::<E>(alloc, image, geometry, addr, seen, making) {
         Ok(true) => put_form::<E, S>(sink, geometry, from, &making.form),

@@ -113,8 +113,8 @@ pub record IsCounted (list : List Standing) (counts : Counts) : Type 0 where
 abbrev pub told_of_op : Telling → ℕ → List Standing → List ℕ
 told_of_op telling line nodes = text_of_nodes telling (step_nodes line (length nodes) 1 nodes)
 
--- It is accepted, its nodes are told, and writing goes on after them; it is declined, and nothing is
--- told; or the sink failed, and a beginning of it went out.
+-- It is accepted, its nodes are told, and writing goes on after them; it is declined, and nothing
+-- is told; or the sink failed, and a beginning of it went out.
 abbrev pub TellsOp : Endian → Flash → Telling → ℕ → Op → Point → Point → SinkChange
     → Result Counts CutsFault → Type 0
 TellsOp e flash telling line o from to sink (Ok counts) =
@@ -125,7 +125,8 @@ TellsOp e flash telling line o from to sink (Err (told.Session fault (Some n))) 
     (n ≡ line) × IsDeclined e flash from o fault × (sink.new ≡ sink.old) × (sink.now ≡ sink.before)
 TellsOp e flash telling line o from to sink (Err told.Output) =
     (nodes : List Standing) × IsPlannedAt e flash from o to nodes
-    × PutsPart sink.old sink.new (told_of_op telling line nodes) × (sink.now ≡ next_count sink.before)
+    × PutsPart sink.old sink.new (told_of_op telling line nodes)
+    × (sink.now ≡ next_count sink.before)
 
 -- ---- the first of several
 

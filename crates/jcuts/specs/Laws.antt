@@ -30,30 +30,41 @@ WeakIsLeast = (e : Endian) (node : List ℕ) → IsLeastWeak e node (least_weak 
 
 -- The nodes stand at their places.
 abbrev pub StandingsHavePlaces : Type 0
-StandingsHavePlaces = (e : Endian) (size from : ℕ) (nodes : List (List ℕ)) → map (λ standing. (standing.addr, standing.totlen)) (standings e size from nodes) ≡ places size from nodes
+StandingsHavePlaces = (e : Endian) (size from : ℕ) (nodes : List (List ℕ))
+    → map (λ standing. (standing.addr, standing.totlen)) (standings e size from nodes)
+    ≡ places size from nodes
 
 -- how many nodes stand where the bytes below an address were put
 abbrev pub count_standing : ℕ → List Standing → ℕ
 count_standing address told = count_by (λ standing. nat_le standing.stands_from address) told
 
--- After k bytes of what goes out as many nodes stand whole as stand from the address there or from one below it.
+-- After k bytes of what goes out as many nodes stand whole as stand from the address there or from
+-- one below it.
 abbrev pub StandingIsCounted : Type 0
-StandingIsCounted = (e : Endian) (size from k : ℕ) (nodes : List (List ℕ)) → size % 4 ≡ 0 → AllByRecursion (FitsBlock size) nodes
-    → count_standing (from + k) (standings e size from nodes) ≡ count_whole from (output e size from nodes) k (places size from nodes)
+StandingIsCounted = (e : Endian) (size from k : ℕ) (nodes : List (List ℕ)) → size % 4 ≡ 0
+    → AllByRecursion (FitsBlock size) nodes
+    → count_standing (from + k) (standings e size from nodes)
+    ≡ count_whole from (output e size from nodes) k (places size from nodes)
 
 -- A line for each node, in order: the lines of the first operations are those of their nodes.
 abbrev pub LinesAreNodes : Type 0
-LinesAreNodes = (page : Page) (e : Endian) (size blocks n : ℕ) (base : List ℕ) (ops : List Op) (lines : List ℕ) → length lines ≡ length ops
-    → map (λ told. told.standing) (first_told page e size blocks base ops lines n) ≡ standings_told page e size blocks base ops n
+LinesAreNodes = (page : Page) (e : Endian) (size blocks n : ℕ) (base : List ℕ) (ops : List Op)
+    (lines : List ℕ) → length lines ≡ length ops
+    → map (λ told. told.standing) (first_told page e size blocks base ops lines n)
+    ≡ standings_told page e size blocks base ops n
 
--- Where no node of accepted operations is weak, a stop after any number of bytes leaves an image that mounts as the file
--- system after the steps whose nodes stand where the bytes below that address were put: the first so many.
+-- Where no node of accepted operations is weak, a stop after any number of bytes leaves an image
+-- that mounts as the file system after the steps whose nodes stand where the bytes below that
+-- address were put: the first so many.
 abbrev pub ToldSurvives : Type 0
-ToldSurvives = (page : Page) (e : Endian) (size blocks n : ℕ) (base : List ℕ) (ops : List Op) → page_size page + 80 ≤ size → IsBase e size blocks base
-    → AreBytes base → AllByRecursion OpFits ops → AreAccepted (page_size page) e size blocks base ops n
+ToldSurvives = (page : Page) (e : Endian) (size blocks n : ℕ) (base : List ℕ) (ops : List Op)
+    → page_size page + 80 ≤ size → IsBase e size blocks base
+    → AreBytes base → AllByRecursion OpFits ops
+    → AreAccepted (page_size page) e size blocks base ops n
     → let from = resume_address e size blocks base in
     let out = output e size from (bytes_told page e size base ops n) in
     let told = standings_told page e size blocks base ops n in
     weak_count told ≡ 0
     → (k : ℕ) (image : List ℕ) → k ≤ length out → IsLeft e size blocks base from out k image
-    → MountsAs e size image (after bytes (state e size base) (take (count_standing (from + k) told) (steps_told page e size base ops n)))
+    → MountsAs e size image (after bytes (state e size base)
+    (take (count_standing (from + k) told) (steps_told page e size base ops n)))

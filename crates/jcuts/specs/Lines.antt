@@ -19,9 +19,11 @@ use Rattle.jcuts.specs.declared.lines.Telling.TheVariants.{Nodes, WeakNotes}
 abbrev pub step_nodes : ℕ → ℕ → ℕ → List Standing → List StepNode
 step_nodes line steps step [] = []
 step_nodes line steps step (standing ∷ more) =
-    record { line = line; step = step; steps = steps; standing = standing } ∷ step_nodes line steps (step + 1) more
+    record { line = line; step = step; steps = steps; standing = standing }
+    ∷ step_nodes line steps (step + 1) more
 
--- Those of operations that follow one another, by the steps of each, and the number of each one's line.
+-- Those of operations that follow one another, by the steps of each, and the number of each one's
+-- line.
 abbrev pub nodes_told : Endian → ℕ → ℕ → Indexed → List (List Step) → List ℕ → List StepNode
 nodes_told e size from x [] lines = []
 nodes_told e size from x (steps ∷ plans) [] = []
@@ -34,7 +36,8 @@ nodes_told e size from x (steps ∷ plans) (line ∷ lines) =
 
 -- a node's line
 abbrev pub node_line : StepNode → List ℕ
-node_line n = hex 8 n.standing.addr ++ codes " " ++ decimal n.standing.totlen ++ codes " line " ++ decimal n.line
+node_line n = hex 8 n.standing.addr ++ codes " " ++ decimal n.standing.totlen ++ codes " line "
+    ++ decimal n.line
     ++ codes " step " ++ decimal n.step ++ codes " of " ++ decimal n.steps
     ++ codes " stands from " ++ hex 8 n.standing.stands_from ++ codes "\n"
 
@@ -42,10 +45,13 @@ node_line n = hex 8 n.standing.addr ++ codes " " ++ decimal n.standing.totlen ++
 abbrev pub weak_line : ℕ → ℕ → List ℕ
 weak_line addr cut = codes "weak " ++ hex 8 addr ++ codes " at " ++ decimal cut ++ codes "\n"
 
--- What is told of a node: its line, and below it that of a weak cut, where it has one; or that one alone, as a note.
+-- What is told of a node: its line, and below it that of a weak cut, where it has one; or that one
+-- alone, as a note.
 abbrev pub text_of_node : Telling → StepNode → List ℕ
-text_of_node Nodes n = node_line n ++ option_map_or (λ cut. weak_line n.standing.addr cut) n.standing.weak []
-text_of_node WeakNotes n = option_map_or (λ cut. codes "jffs2_image: note: " ++ weak_line n.standing.addr cut) n.standing.weak []
+text_of_node Nodes n =
+    node_line n ++ option_map_or (λ cut. weak_line n.standing.addr cut) n.standing.weak []
+text_of_node WeakNotes n = option_map_or
+    (λ cut. codes "jffs2_image: note: " ++ weak_line n.standing.addr cut) n.standing.weak []
 
 abbrev pub text_of_nodes : Telling → List StepNode → List ℕ
 text_of_nodes telling nodes = flat_map (text_of_node telling) nodes
@@ -54,10 +60,13 @@ text_of_nodes telling nodes = flat_map (text_of_node telling) nodes
 abbrev pub weak_count : List Standing → ℕ
 weak_count told = count_by (λ standing. is_some standing.weak) told
 
--- the last line: how many operations, how many nodes, from which address to which, and how many of them are weak
+-- the last line: how many operations, how many nodes, from which address to which, and how many of
+-- them are weak
 abbrev pub end_line : ℕ → ℕ → ℕ → ℕ → ℕ → List ℕ
-end_line ops nodes from end weak = codes "total operations " ++ decimal ops ++ codes " steps " ++ decimal nodes
-    ++ codes " from " ++ hex 8 from ++ codes " to " ++ hex 8 end ++ codes " weak " ++ decimal weak ++ codes "\n"
+end_line ops nodes from end weak =
+    codes "total operations " ++ decimal ops ++ codes " steps " ++ decimal nodes
+    ++ codes " from " ++ hex 8 from ++ codes " to " ++ hex 8 end ++ codes " weak " ++ decimal weak
+    ++ codes "\n"
 
 -- it comes where nodes are told
 abbrev pub end_text : Telling → ℕ → ℕ → ℕ → ℕ → ℕ → List ℕ

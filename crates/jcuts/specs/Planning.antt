@@ -13,7 +13,8 @@ use Rattle.jcuts.specs.Standing.{standings}
 use Rattle.jcuts.specs.declared.standing.Standing.{Standing}
 
 -- The operation is accepted: these are the nodes of its steps, and writing goes on after them.
-pub record IsPlannedOp (page : ℕ) (e : Endian) (size blocks from : ℕ) (x : Indexed) (o : Op) (end : ℕ) (y : Indexed) (told : List Standing) : Type 0 where
+pub record IsPlannedOp (page : ℕ) (e : Endian) (size blocks from : ℕ) (x : Indexed) (o : Op)
+    (end : ℕ) (y : Indexed) (told : List Standing) : Type 0 where
   pub steps : List Step
   pub accepted : IsAccepted page e size blocks from x o steps
   pub cursor : end ≡ end_of_all size from (written e x steps)
@@ -21,7 +22,8 @@ pub record IsPlannedOp (page : ℕ) (e : Endian) (size blocks from : ℕ) (x : I
   pub nodes : told ≡ standings e size from (written e x steps)
   pub few : from + length told ≤ end
 
--- Operations can be planned: on a flash that is written, whose blocks hold a page, from where a log goes on.
+-- Operations can be planned: on a flash that is written, whose blocks hold a page, from where a log
+-- goes on.
 pub record CanPlan (page size blocks from : ℕ) (x : Indexed) : Type 0 where
   pub flash : IsTrue (is_writable_flash size blocks)
   pub holds : page + 80 ≤ size

@@ -8,10 +8,12 @@ use Rattle.jlog.specs.Left.{bytes_at}
 use Rattle.jlog.specs.declared.report.Place.{Place}
 use Rattle.jcuts.specs.declared.standing.Standing.{Standing}
 
--- how many of its first bytes make a node whole on erased flash: those up to its last byte that is not 0xFF
+-- how many of its first bytes make a node whole on erased flash: those up to its last byte that is
+-- not 0xFF
 abbrev pub whole_len : List ℕ → ℕ
 whole_len [] = 0
-whole_len (byte ∷ bytes) = elim (whole_len bytes) [ zero ↦ if byte == 0xFF then 0 else 1 | suc n ↦ suc (suc n) ]
+whole_len (byte ∷ bytes) =
+    elim (whole_len bytes) [ zero ↦ if byte == 0xFF then 0 else 1 | suc n ↦ suc (suc n) ]
 
 -- The first n bytes, and erased flash after them, are the node; fewer are not.
 pub record IsWholeLen (node : List ℕ) (n : ℕ) : Type 0 where
@@ -22,16 +24,22 @@ pub record IsWholeLen (node : List ℕ) (n : ℕ) : Type 0 where
 abbrev pub least_weak : Endian → List ℕ → Option ℕ
 least_weak e node = find (is_weak e node) (range_with_len 0 (length node))
 
--- A node at an address stands whole exactly where the bytes below the address after its last byte that is not 0xFF were
--- put.
+-- A node at an address stands whole exactly where the bytes below the address after its last byte
+-- that is not 0xFF were put.
 abbrev pub standing_at : Endian → ℕ → List ℕ → Standing
-standing_at e at node = record { addr = at; totlen = length node; stands_from = at + whole_len node; weak = least_weak e node }
+standing_at e at node = record {
+  addr = at;
+  totlen = length node;
+  stands_from = at + whole_len node;
+  weak = least_weak e node;
+}
 
 -- nodes that go out from an address on, each at its place
 abbrev pub standings : Endian → ℕ → ℕ → List (List ℕ) → List Standing
 standings e size from [] = []
 standings e size from (node ∷ nodes) =
-    standing_at e (place_after size from (length node)) node ∷ standings e size (end_after size from (length node)) nodes
+    standing_at e (place_after size from (length node)) node
+    ∷ standings e size (end_after size from (length node)) nodes
 
 -- ---- the same of the bytes that go out
 
@@ -43,4 +51,5 @@ pub record IsNodeIn (e : Endian) (from : ℕ) (out : List ℕ) (place : Place) :
   pub node : IsWrittenNode e (bytes_at from out (place.addr, place.totlen))
 
 abbrev pub standing_in : Endian → ℕ → List ℕ → Place → Standing
-standing_in e from out place = standing_at e place.addr (bytes_at from out (place.addr, place.totlen))
+standing_in e from out place =
+    standing_at e place.addr (bytes_at from out (place.addr, place.totlen))

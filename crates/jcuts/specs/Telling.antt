@@ -15,18 +15,22 @@ use Rattle.jcuts.specs.declared.standing.Standing.{Standing}
 
 -- their steps
 abbrev pub steps_told : Page → Endian → ℕ → List ℕ → List Op → ℕ → List Step
-steps_told page e size base ops n = steps_of_first (page_size page) (index_of_image e size base) ops n
+steps_told page e size base ops n =
+    steps_of_first (page_size page) (index_of_image e size base) ops n
 
 -- their nodes' bytes
 abbrev pub bytes_told : Page → Endian → ℕ → List ℕ → List Op → ℕ → List (List ℕ)
-bytes_told page e size base ops n = written e (index_of_image e size base) (steps_told page e size base ops n)
+bytes_told page e size base ops n =
+    written e (index_of_image e size base) (steps_told page e size base ops n)
 
 -- from where on each of them stands
 abbrev pub standings_told : Page → Endian → ℕ → ℕ → List ℕ → List Op → ℕ → List Standing
-standings_told page e size blocks base ops n = standings e size (resume_address e size blocks base) (bytes_told page e size base ops n)
+standings_told page e size blocks base ops n =
+    standings e size (resume_address e size blocks base) (bytes_told page e size base ops n)
 
 -- the same, each with its step
 abbrev pub first_told : Page → Endian → ℕ → ℕ → List ℕ → List Op → List ℕ → ℕ → List StepNode
 first_told page e size blocks base ops lines n =
     let index = index_of_image e size base in
-    nodes_told e size (resume_address e size blocks base) index (take n (plans_of (page_size page) index ops)) lines
+    nodes_told e size (resume_address e size blocks base) index
+    (take n (plans_of (page_size page) index ops)) lines

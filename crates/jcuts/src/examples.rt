@@ -22,17 +22,23 @@ pub fn known_whole_lens()
 
 /// A file is made: two nodes.
 pub fn made_is_told()
-    ensures inode { node_line (told_of 1 1 2 12 68 80 None) ≡ codes "0000000c 68 line 1 step 1 of 2 stands from 00000050\n" }
-    ensures entry { node_line (told_of 1 2 2 80 41 121 None) ≡ codes "00000050 41 line 1 step 2 of 2 stands from 00000079\n" }
-    ensures end { end_line 1 2 0 124 0 ≡ codes "total operations 1 steps 2 from 00000000 to 0000007c weak 0\n" }
+    ensures inode { node_line (told_of 1 1 2 12 68 80 None)
+        ≡ codes "0000000c 68 line 1 step 1 of 2 stands from 00000050\n" }
+    ensures entry { node_line (told_of 1 2 2 80 41 121 None)
+        ≡ codes "00000050 41 line 1 step 2 of 2 stands from 00000079\n" }
+    ensures end { end_line 1 2 0 124 0
+        ≡ codes "total operations 1 steps 2 from 00000000 to 0000007c weak 0\n" }
 {}
 
 /// Three bytes of 0xFF are written to it; or five bytes whose node is weak.
 pub fn written_is_told()
-    ensures erased { node_line (told_of 2 1 1 124 71 192 None) ≡ codes "0000007c 71 line 2 step 1 of 1 stands from 000000c0\n" }
+    ensures erased { node_line (told_of 2 1 1 124 71 192 None)
+        ≡ codes "0000007c 71 line 2 step 1 of 1 stands from 000000c0\n" }
     ensures line { weak_line 124 68 ≡ codes "weak 0000007c at 68\n" }
     ensures weak { text_of_node Nodes (told_of 2 1 1 124 73 197 (Some 68))
-        ≡ codes "0000007c 73 line 2 step 1 of 1 stands from 000000c5\n" ++ codes "weak 0000007c at 68\n" }
-    ensures note { text_of_node WeakNotes (told_of 2 1 1 124 73 197 (Some 68)) ≡ codes "jffs2_image: note: weak 0000007c at 68\n" }
+        ≡ codes "0000007c 73 line 2 step 1 of 1 stands from 000000c5\n"
+        ++ codes "weak 0000007c at 68\n" }
+    ensures note { text_of_node WeakNotes (told_of 2 1 1 124 73 197 (Some 68))
+        ≡ codes "jffs2_image: note: weak 0000007c at 68\n" }
     ensures none { text_of_node WeakNotes (told_of 2 1 1 124 71 192 None) ≡ [] }
 {}

@@ -134,7 +134,8 @@ pub fn put_end<T: Sink>(
     end: u32,
     weak: usize,
 ) -> Result<(), DeviceFault>
-    ensures { Puts (T.taken sink.old) (T.taken sink.new) (T.failures sink.old) (T.failures sink.new) (end_text telling ops nodes from end weak) result }
+    ensures { Puts (T.taken sink.old) (T.taken sink.new) (T.failures sink.old) (T.failures sink.new)
+        (end_text telling ops nodes from end weak) result }
 {
     match telling {
         Telling::Nodes => {

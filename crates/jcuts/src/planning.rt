@@ -36,18 +36,23 @@ pub fn plan_op<E: Order>(
     op: &Op<'_>,
 ) -> Result<Vec<Standing>, SessionFault>
     requires whole { IsFalse (is_broken plan.old) }
-    requires can { CanPlan (page_size (page_of plan.old)) (block_size_of plan.old) (blocks_of plan.old) (cursor_of plan.old) (index_of_log plan.old) }
+    requires can { CanPlan (page_size (page_of plan.old)) (block_size_of plan.old)
+        (blocks_of plan.old) (cursor_of plan.old) (index_of_log plan.old) }
     requires none { (sink_of plan.old).bytes.items ≡ [] }
     ensures base { base_of plan.new ≡ base_of plan.old }
     ensures block { block_size_of plan.new ≡ block_size_of plan.old }
     ensures blocks { blocks_of plan.new ≡ blocks_of plan.old }
     ensures page { page_of plan.new ≡ page_of plan.old }
-    ensures planned { IfOk result (λ told. IsPlannedOp (page_size (page_of plan.old)) E.order (block_size_of plan.old) (blocks_of plan.old)
-        (cursor_of plan.old) (index_of_log plan.old) op.now (cursor_of plan.new) (index_of_log plan.new) told.items) }
+    ensures planned { IfOk result (λ told. IsPlannedOp (page_size (page_of plan.old)) E.order
+        (block_size_of plan.old) (blocks_of plan.old)
+        (cursor_of plan.old) (index_of_log plan.old) op.now (cursor_of plan.new)
+        (index_of_log plan.new) told.items) }
     ensures whole { OnOk result (IsFalse (is_broken plan.new)) }
-    ensures can { OnOk result (CanPlan (page_size (page_of plan.new)) (block_size_of plan.new) (blocks_of plan.new) (cursor_of plan.new) (index_of_log plan.new)) }
+    ensures can { OnOk result (CanPlan (page_size (page_of plan.new)) (block_size_of plan.new)
+        (blocks_of plan.new) (cursor_of plan.new) (index_of_log plan.new)) }
     ensures none { OnOk result ((sink_of plan.new).bytes.items ≡ []) }
-    ensures declined { IfErr result (λ fault. Declines (page_size (page_of plan.old)) E.order (block_size_of plan.old) (blocks_of plan.old)
+    ensures declined { IfErr result (λ fault. Declines (page_size (page_of plan.old)) E.order
+        (block_size_of plan.old) (blocks_of plan.old)
         (cursor_of plan.old) (index_of_log plan.old) op.now fault) }
 {
     op.known();

@@ -14,7 +14,8 @@ IsTileFault has fault = has ≡ Some fault
 
 -- the length of the written form of the node that a tile gives, if it gives one, or why it is
 -- refused
-abbrev pub AnswersLength : Option ConvertFault → Option NodeRef → Result (Option ℕ) ConvertFault → Type 0
+abbrev pub AnswersLength : Option ConvertFault → Option NodeRef → Result (Option ℕ) ConvertFault
+    → Type 0
 AnswersLength has gives (Ok len) = (has ≡ None) × (len ≡ option_map node_length gives)
 AnswersLength has gives (Err fault) = IsTileFault has fault
 

@@ -28,21 +28,24 @@ compressed_node_at e size image addr = compressed_of e (tile_of e (rest_at size 
 abbrev pub unpacked : ℕ → List ℕ → Method → Option (List ℕ)
 unpacked size bytes method = option_and_then (of_length size) (decompressed_of method size bytes)
 
--- The bytes that a compressed node gives for its range. A range of none has none, whatever the data; else they are what
--- the data give by their method, as many as the range has.
+-- The bytes that a compressed node gives for its range. A range of none has none, whatever the
+-- data; else they are what the data give by their method, as many as the range has.
 abbrev pub node_content : CompressedNode → Option (List ℕ)
-node_content node = if node.dsize == 0 then Some [] else option_and_then (unpacked node.dsize node.data) (method_of node.compr)
+node_content node = if node.dsize
+    == 0 then Some [] else option_and_then (unpacked node.dsize node.data) (method_of node.compr)
 
 -- the inode node of the same fields that has these bytes as they are
 abbrev pub with_content : CompressedNode → List ℕ → NodeRef
 with_content packed bytes = node.Inode (inode_with packed (Data bytes))
 
--- The node that a sighted tile gives: an entry and an inode node as it is, a compressed one with its bytes.
+-- The node that a sighted tile gives: an entry and an inode node as it is, a compressed one with
+-- its bytes.
 abbrev pub expanded_node : Endian → ℕ → List ℕ → ℕ × Seen → Option NodeRef
 expanded_node e size image (addr, seen.Entry entry) = Some (node.Entry entry)
 expanded_node e size image (addr, seen.Inode inode) = Some (node.Inode inode)
 expanded_node e size image (addr, seen.Compressed compr) =
-    let packed = compressed_node_at e size image addr in option_map (with_content packed) (node_content packed)
+    let packed =
+    compressed_node_at e size image addr in option_map (with_content packed) (node_content packed)
 expanded_node e size image _ = None
 
 -- the bytes that the data of a sighted tile stand for, where they are compressed; else none

@@ -18,8 +18,8 @@ use Rattle.jexpand.specs.declared.fault.ConvertFault.TheVariants.{Incompatible, 
 abbrev pub too_long : ℕ → ℕ → ℕ → Option ConvertFault
 too_long size addr len = if nat_le (header_len + len) size then None else Some (TooLong addr)
 
--- A compressed node of a method that is not read; one that no block holds once it is expanded, which its fields tell; or
--- one whose data have no content.
+-- A compressed node of a method that is not read; one that no block holds once it is expanded,
+-- which its fields tell; or one whose data have no content.
 abbrev pub compressed_fault : ℕ → ℕ → CompressedNode → Option ConvertFault
 compressed_fault size addr node =
     if is_none (method_of node.compr) then Some (Compressed addr node.compr)
@@ -29,15 +29,19 @@ compressed_fault size addr node =
 -- why a sighted tile is not expanded, if that is so
 abbrev pub node_fault : Endian → ℕ → List ℕ → ℕ × Seen → Option ConvertFault
 node_fault e size image (addr, seen.Incompatible nodetype) = Some (Incompatible addr nodetype)
-node_fault e size image (addr, seen.Entry entry) = too_long size addr (entry_len + length entry.name)
-node_fault e size image (addr, seen.Inode inode) = too_long size addr (inode_len + length (stored_bytes inode.fill))
-node_fault e size image (addr, seen.Compressed compr) = compressed_fault size addr (compressed_node_at e size image addr)
+node_fault e size image (addr, seen.Entry entry) =
+    too_long size addr (entry_len + length entry.name)
+node_fault e size image (addr, seen.Inode inode) =
+    too_long size addr (inode_len + length (stored_bytes inode.fill))
+node_fault e size image (addr, seen.Compressed compr) =
+    compressed_fault size addr (compressed_node_at e size image addr)
 node_fault e size image _ = None
 
 -- the fault of the first of these tiles that has one
 abbrev pub fault_among : Endian → ℕ → List ℕ → List (ℕ × Seen) → Option ConvertFault
 fault_among e size image [] = None
-fault_among e size image (s ∷ ss) = option_or (node_fault e size image s) (fault_among e size image ss)
+fault_among e size image (s ∷ ss) =
+    option_or (node_fault e size image s) (fault_among e size image ss)
 
 -- The fault of least address: sightings stand in the order of their addresses.
 abbrev pub nodes_fault : Endian → ℕ → List ℕ → Option ConvertFault

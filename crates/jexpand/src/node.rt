@@ -139,7 +139,8 @@ pub fn expanded_len<E: Order>(
 }
 
 fn put_entry<E: Order>(out: &mut Vec<u8>, entry: &Dirent<'_>) -> Result<bool, ConvertFault>
-    ensures ok { IfOk result (λ is_one. IsFormOf E.order (Some (node.Entry entry.now)) out.new.items is_one) }
+    ensures ok { IfOk result
+        (λ is_one. IsFormOf E.order (Some (node.Entry entry.now)) out.new.items is_one) }
     ensures memory { IfErr result (λ fault. fault ≡ OutOfMemory) }
 {
     out.clear();
@@ -150,7 +151,8 @@ fn put_entry<E: Order>(out: &mut Vec<u8>, entry: &Dirent<'_>) -> Result<bool, Co
 }
 
 fn put_inode<E: Order>(out: &mut Vec<u8>, inode: &InodeNode<'_>) -> Result<bool, ConvertFault>
-    ensures ok { IfOk result (λ is_one. IsFormOf E.order (Some (node.Inode inode.now)) out.new.items is_one) }
+    ensures ok { IfOk result
+        (λ is_one. IsFormOf E.order (Some (node.Inode inode.now)) out.new.items is_one) }
     ensures memory { IfErr result (λ fault. fault ≡ OutOfMemory) }
 {
     out.clear();
@@ -166,7 +168,8 @@ fn put_with_content<E: Order>(
     out: &mut Vec<u8>,
 ) -> Result<bool, ConvertFault>
     requires { node_content packed.now ≡ Some content.now }
-    ensures ok { IfOk result (λ is_one. IsFormOf E.order (option_map (with_content packed.now) (node_content packed.now)) out.new.items is_one) }
+    ensures ok { IfOk result (λ is_one. IsFormOf E.order
+        (option_map (with_content packed.now) (node_content packed.now)) out.new.items is_one) }
     ensures memory { IfErr result (λ fault. fault ≡ OutOfMemory) }
 {
     put_inode::<E>(out, &packed.inode_with(Fill::Data(Part::new(content, 0))))
@@ -178,7 +181,8 @@ fn put_compressed<E: Order>(
     content: &mut Vec<u8>,
     out: &mut Vec<u8>,
 ) -> Result<bool, ConvertFault>
-    ensures ok { IfOk result (λ is_one. IsFormOf E.order (option_map (with_content packed.now) (node_content packed.now)) out.new.items is_one) }
+    ensures ok { IfOk result (λ is_one. IsFormOf E.order
+        (option_map (with_content packed.now) (node_content packed.now)) out.new.items is_one) }
     ensures memory { IfErr result (λ fault. fault ≡ OutOfMemory) }
 {
     match fill_content(alloc, packed, content) {
@@ -247,7 +251,8 @@ pub fn write_with_content<E: Order>(
     requires readable { IsTrue (is_block_size geometry.block) }
     requires sighted { Contains (sightings E.order geometry.block image.now) (addr, seen.now) }
     requires accepted { node_fault E.order geometry.block image.now (addr, seen.now) ≡ None }
-    requires content { content.now ≡ tile_content E.order geometry.block image.now (addr, seen.now) }
+    requires content { content.now
+        ≡ tile_content E.order geometry.block image.now (addr, seen.now) }
     ensures ok { IfOk result (λ is_one. IsFormOf E.order
         (expanded_node E.order geometry.block image.now (addr, seen.now)) out.new.items is_one) }
     ensures memory { IfErr result (λ fault. fault ≡ OutOfMemory) }

@@ -4,7 +4,8 @@ use Rattle.std.specs.List.{list_all}
 use Rattle.flashbase.specs.Lists.{each_below}
 use Rattle.jextract.specs.declared.folder.FolderFault.{FolderFault}
 
--- A place of a file: a byte that was written, or nothing, as in a hole, which takes no room and reads as 0.
+-- A place of a file: a byte that was written, or nothing, as in a hole, which takes no room and
+-- reads as 0.
 abbrev pub Cells : Type 0
 Cells = List (Option ℕ)
 
@@ -25,7 +26,8 @@ block_at bytes k = take hole_block (drop (hole_block * k) bytes)
 
 -- what is to lie at a place: a hole where all bytes of its block are zero, and else its byte
 abbrev pub cell_at : List ℕ → ℕ → Option ℕ
-cell_at bytes place = if is_zero (block_at bytes (place / hole_block)) then None else Some (slice_index bytes place)
+cell_at bytes place =
+    if is_zero (block_at bytes (place / hole_block)) then None else Some (slice_index bytes place)
 
 -- what is to lie at each place of a file of these bytes
 unfoldable pub cells_of : List ℕ → Cells
@@ -44,11 +46,13 @@ Extends (Some cells) None more = ⊥
 Extends (Some cells) (Some after) more = after ≡ cells ++ more
 
 -- what a file failed with last is known after each failure
-abbrev pub Fails : {T : Type 0} → Option FolderFault → Option FolderFault → Result T FolderFault → Type 0
+abbrev pub Fails : {T : Type 0} → Option FolderFault → Option FolderFault → Result T FolderFault
+    → Type 0
 Fails old new (Ok _) = new ≡ old
 Fails old new (Err fault) = new ≡ Some fault
 
 -- a call adds these places to a file
-abbrev pub AddsCells : {T : Type 0} → Option Cells → Option Cells → Cells → Result T FolderFault → Type 0
+abbrev pub AddsCells : {T : Type 0} → Option Cells → Option Cells → Cells → Result T FolderFault
+    → Type 0
 AddsCells old new more (Ok _) = Extends old new more
 AddsCells old new more (Err fault) = Unit

@@ -21,7 +21,8 @@ pub data Deed : Type 0 where
   -- the directory has these attributes
   Attributed : Attributes → Deed
 
--- A path is that of an object below the folder: names with a slash between two. The empty path is the folder itself.
+-- A path is that of an object below the folder: names with a slash between two. The empty path is
+-- the folder itself.
 pub record Made : Type 0 where
   pub path : List ℕ
   pub deed : Deed
@@ -60,7 +61,8 @@ counted_if None n = n
 counted_if (Some fault) n = counted_fault fault n
 
 -- a call does this, or at a fault nothing
-abbrev pub AddsOne : {T : Type 0} → Option (List Made) → Option (List Made) → Made → Result T FolderFault → Type 0
+abbrev pub AddsOne : {T : Type 0} → Option (List Made) → Option (List Made) → Made
+    → Result T FolderFault → Type 0
 AddsOne old new made (Ok _) = ReportsMore old new (made ∷ [])
 AddsOne old new made (Err _) = ReportsMore old new []
 
@@ -71,6 +73,8 @@ IsEmptyIn (Some made) None = ⊥
 IsEmptyIn (Some made) (Some cells) = cells ≡ []
 
 -- a file of these places is made to have them and these attributes, or at a fault nothing is done
-abbrev pub AddsContent : {T : Type 0} → Option (List Made) → Option (List Made) → List ℕ → Option Cells → Attributes → Result T FolderFault → Type 0
+abbrev pub AddsContent : {T : Type 0} → Option (List Made) → Option (List Made) → List ℕ
+    → Option Cells → Attributes → Result T FolderFault → Type 0
 AddsContent old new path known attributes result =
-    (cells : Cells) → known ≡ Some cells → AddsOne old new (record { path = path; deed = Content cells attributes }) result
+    (cells : Cells) → known ≡ Some cells
+    → AddsOne old new (record { path = path; deed = Content cells attributes }) result

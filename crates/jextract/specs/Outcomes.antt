@@ -23,9 +23,9 @@ use Rattle.jextract.specs.declared.reason.Reason.TheVariants as reason
 abbrev pub owner_if : Bool → Object → Option Owner
 owner_if owners o = if owners then Some (record { uid = o.uid; gid = o.gid }) else None
 
--- The permissions that an object is given: the low 12 bits of its mode. Without owners, whoever extracts is to own it, and the
--- two bits are dropped by which a program runs as its file's owner and group (Linux, include/uapi/linux/stat.h: S_ISUID and
--- S_ISGID, octal 4000 and 2000).
+-- The permissions that an object is given: the low 12 bits of its mode. Without owners, whoever
+-- extracts is to own it, and the two bits are dropped by which a program runs as its file's owner
+-- and group (Linux, include/uapi/linux/stat.h: S_ISUID and S_ISGID, octal 4000 and 2000).
 abbrev pub mode_given : Bool → ℕ → ℕ
 mode_given owners mode = if owners then mode % 4096 else mode % 1024
 
@@ -35,7 +35,12 @@ loses_bits owners mode = not owners && not (mode / 1024 % 4 == 0)
 
 -- its permissions, its times, and its owners where they are asked for
 abbrev pub attributes_of : Bool → Object → Attributes
-attributes_of owners o = record { mode = mode_given owners o.mode; mtime = o.mtime; atime = o.atime; owner = owner_if owners o }
+attributes_of owners o = record {
+  mode = mode_given owners o.mode;
+  mtime = o.mtime;
+  atime = o.atime;
+  owner = owner_if owners o;
+}
 
 abbrev pub is_directory_kind : Kind → Bool
 is_directory_kind kind.Directory = true
@@ -48,10 +53,12 @@ pub data Plan : Type 0 where
 
 -- a target that a symlink of the host may have: text of 1 to 4,095 bytes, none of them zero
 abbrev pub is_target : List ℕ → Bool
-is_target target = nat_lt 0 (length target) && nat_le (length target) 4095 && is_utf8 target && list_all (λ b. not (b == 0)) target
+is_target target = nat_lt 0 (length target) && nat_le (length target) 4095 && is_utf8 target
+    && list_all (λ b. not (b == 0)) target
 
 abbrev pub plan_symlink : List ℕ → Attributes → Plan
-plan_symlink target attributes = if is_target target then Do (Symlink target attributes ∷ []) else LeaveOut reason.BadTarget
+plan_symlink target attributes =
+    if is_target target then Do (Symlink target attributes ∷ []) else LeaveOut reason.BadTarget
 
 -- why an object that is no directory, file or symlink is left out
 abbrev pub reason_of : Kind → Reason
@@ -68,7 +75,8 @@ plan_anew kind.Regular bytes attributes = Do (File ∷ Content (cells_of bytes) 
 plan_anew kind.Symlink bytes attributes = plan_symlink bytes attributes
 plan_anew other bytes attributes = LeaveOut (reason_of other)
 
--- what is done with an object that was made at this path before: a file or a symlink gets a further name
+-- what is done with an object that was made at this path before: a file or a symlink gets a further
+-- name
 abbrev pub plan_again : Kind → List ℕ → Plan
 plan_again kind.Directory first = LeaveOut reason.Again
 plan_again kind.Regular first = Do (Link first ∷ [])
@@ -89,7 +97,8 @@ FirstPaths = ℕ → Option (List ℕ)
 abbrev pub root_alone : FirstPaths
 root_alone i = if 1 == i then Some [] else None
 
--- A path leads to an object that is to be made, or to a directory that is complete. A path is given by its names.
+-- A path leads to an object that is to be made, or to a directory that is complete. A path is given
+-- by its names.
 pub data Task : Type 0 where
   Make : List (List ℕ) → ℕ → Task
   Complete : List (List ℕ) → ℕ → Task
@@ -108,7 +117,8 @@ tasks_in s path i = tasks_of path (entries_in s i) ++ Complete path i ∷ []
 
 abbrev pub plan_made : State → Bool → FirstPaths → ℕ → Option Object → Plan
 plan_made s owners firsts i None = LeaveOut reason.Missing
-plan_made s owners firsts i (Some o) = plan_of (firsts i) o.kind (readable s i) (attributes_of owners o)
+plan_made s owners firsts i (Some o) =
+    plan_of (firsts i) o.kind (readable s i) (attributes_of owners o)
 
 abbrev pub plan_completed : Bool → Option Object → Plan
 plan_completed owners None = Do []
@@ -120,7 +130,8 @@ plan_at s owners firsts (Complete path i) = plan_completed owners (option_map sh
 
 -- ---- an outcome
 
--- what was done of a task, why it was left out, if it was, and whether its object lost a bit of its mode
+-- what was done of a task, why it was left out, if it was, and whether its object lost a bit of its
+-- mode
 pub record Outcome : Type 0 where
   pub path : List (List ℕ)
   pub deeds : List Made
@@ -130,8 +141,8 @@ pub record Outcome : Type 0 where
 abbrev pub made_at : List ℕ → List Deed → List Made
 made_at path deeds = map (λ deed. record { path = path; deed = deed }) deeds
 
--- What may come of a task. All of it was done, or the host refused one deed, and that and what follows was not done.
--- Where the plan or the path does not allow it, nothing was done.
+-- What may come of a task. All of it was done, or the host refused one deed, and that and what
+-- follows was not done. Where the plan or the path does not allow it, nothing was done.
 abbrev pub IsDone : List Made → Outcome → Type 0
 IsDone deeds o = ((o.deeds ≡ deeds) × (o.left_out ≡ None))
     ⊎ ((k : ℕ) × (k < length deeds) × (o.deeds ≡ take k deeds) × (o.left_out ≡ Some reason.Refused))
@@ -141,10 +152,12 @@ FollowsPlan (Err why) plan o = (o.deeds ≡ []) × (o.left_out ≡ Some why)
 FollowsPlan (Ok path) (LeaveOut why) o = (o.deeds ≡ []) × (o.left_out ≡ Some why)
 FollowsPlan (Ok path) (Do deeds) o = IsDone (made_at path deeds) o
 
--- A directory loses bits when it is completed, and what has several names when it is made by its first.
+-- A directory loses bits when it is completed, and what has several names when it is made by its
+-- first.
 abbrev pub lost_made : Bool → Option (List ℕ) → Option Object → Bool
 lost_made owners first None = false
-lost_made owners first (Some o) = is_none first && not (is_directory_kind o.kind) && loses_bits owners o.mode
+lost_made owners first (Some o) =
+    is_none first && not (is_directory_kind o.kind) && loses_bits owners o.mode
 
 abbrev pub lost_completed : Bool → Option Object → Bool
 lost_completed owners None = false
@@ -156,7 +169,8 @@ lost_at s owners firsts (Complete path i) = lost_completed owners (option_map sh
 
 abbrev pub IsOutcomeOf : State → Bool → FirstPaths → Task → Outcome → Type 0
 IsOutcomeOf s owners firsts task o =
-    (o.path ≡ path_of_task task) × FollowsPlan (host_path (path_of_task task)) (plan_at s owners firsts task) o
+    (o.path ≡ path_of_task task)
+    × FollowsPlan (host_path (path_of_task task)) (plan_at s owners firsts task) o
     × (o.lost ≡ (is_none o.left_out && lost_at s owners firsts task))
 
 -- ---- what follows from an outcome
@@ -188,14 +202,16 @@ abbrev pub AreOutcomes : State → Bool → FirstPaths → List Task → List Ou
 AreOutcomes s owners firsts [] outcomes = outcomes ≡ []
 AreOutcomes s owners firsts (task ∷ todo) [] = ⊥
 AreOutcomes s owners firsts (task ∷ todo) (o ∷ outcomes) =
-    IsOutcomeOf s owners firsts task o × AreOutcomes s owners (firsts_after firsts task o) (tasks_after s task o todo) outcomes
+    IsOutcomeOf s owners firsts task o
+    × AreOutcomes s owners (firsts_after firsts task o) (tasks_after s task o todo) outcomes
 
 -- the first of them, perhaps not all
 abbrev pub AreFirstOutcomes : State → Bool → FirstPaths → List Task → List Outcome → Type 0
 AreFirstOutcomes s owners firsts todo [] = Unit
 AreFirstOutcomes s owners firsts [] (o ∷ outcomes) = ⊥
 AreFirstOutcomes s owners firsts (task ∷ todo) (o ∷ outcomes) =
-    IsOutcomeOf s owners firsts task o × AreFirstOutcomes s owners (firsts_after firsts task o) (tasks_after s task o todo) outcomes
+    IsOutcomeOf s owners firsts task o
+    × AreFirstOutcomes s owners (firsts_after firsts task o) (tasks_after s task o todo) outcomes
 
 -- the folder itself is made first, and then filled
 abbrev pub root_made : Made
@@ -221,7 +237,8 @@ left_out_reason reason.Missing = codes "no inode"
 left_out_reason reason.Refused = codes "the host refused it"
 
 unfoldable pub line_of_left_out : List (List ℕ) → Reason → List ℕ
-line_of_left_out path why = codes "left out " ++ (path_shown path ++ (codes ": " ++ (left_out_reason why ++ 10 ∷ [])))
+line_of_left_out path why =
+    codes "left out " ++ (path_shown path ++ (codes ": " ++ (left_out_reason why ++ 10 ∷ [])))
 
 abbrev pub line_if_left_out : List (List ℕ) → Option Reason → List ℕ
 line_if_left_out path None = []
@@ -238,7 +255,8 @@ is_refusal (Some _) = false
 -- the count of the folder's failures after these
 abbrev pub failures_after : Failures → List Outcome → Failures
 failures_after n [] = n
-failures_after n (o ∷ outcomes) = failures_after (if is_refusal o.left_out then refused_once n else n) outcomes
+failures_after n (o ∷ outcomes) =
+    failures_after (if is_refusal o.left_out then refused_once n else n) outcomes
 
 -- how many were left out, and how many lost a bit of their modes, each up to the greatest u64
 abbrev pub totals_of : List Outcome → Totals

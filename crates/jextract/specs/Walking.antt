@@ -25,24 +25,35 @@ counted_up n more = if more == 0 then n else min (n + more) (2 ^ 64 - 1)
 abbrev pub no_totals : Totals
 no_totals = record { left_out = 0; lost_bits = 0 }
 
--- these counts after one more task, which was left out or was not, and whose object lost a bit or did not
+-- these counts after one more task, which was left out or was not, and whose object lost a bit or
+-- did not
 abbrev pub totals_up : Totals → ℕ → ℕ → Totals
-totals_up n left_out lost_bits = record { left_out = counted_up n.left_out left_out; lost_bits = counted_up n.lost_bits lost_bits }
+totals_up n left_out lost_bits = record {
+  left_out = counted_up n.left_out left_out;
+  lost_bits = counted_up n.lost_bits lost_bits;
+}
 
--- A call tells of a task what is to be told, and counts it. The answer is whether the task was done.
-abbrev pub Settles : Result Bool MakeFault → List (List ℕ) → Option (List ℕ) → Option (List ℕ) → ℕ → ℕ → Totals → Totals → Result Bool ExtractFault → Type 0
+-- A call tells of a task what is to be told, and counts it. The answer is whether the task was
+-- done.
+abbrev pub Settles : Result Bool MakeFault → List (List ℕ) → Option (List ℕ) → Option (List ℕ) → ℕ
+    → ℕ → Totals → Totals → Result Bool ExtractFault → Type 0
 Settles (Ok lost) path old new before now n after (Ok done) =
-    (done ≡ true) × Appends old new [] × (now ≡ before) × (after ≡ totals_up n 0 (if lost then 1 else 0))
+    (done ≡ true) × Appends old new [] × (now ≡ before)
+    × (after ≡ totals_up n 0 (if lost then 1 else 0))
 Settles (Ok lost) path old new before now n after (Err _) = ⊥
 Settles (Err (make.LeftOut why)) path old new before now n after (Ok done) =
-    (done ≡ false) × Appends old new (line_if_left_out path (Some why)) × (now ≡ before) × (after ≡ totals_up n 1 0)
-Settles (Err (make.LeftOut why)) path old new before now n after (Err Notes) = PutsPart old new (line_if_left_out path (Some why)) × (now ≡ next_count before)
+    (done ≡ false) × Appends old new (line_if_left_out path (Some why)) × (now ≡ before)
+    × (after ≡ totals_up n 1 0)
+Settles (Err (make.LeftOut why)) path old new before now n after (Err Notes) =
+    PutsPart old new (line_if_left_out path (Some why)) × (now ≡ next_count before)
 Settles (Err (make.LeftOut why)) path old new before now n after (Err _) = ⊥
 Settles (Err make.NoSpace) path old new before now n after (Ok done) = ⊥
-Settles (Err make.NoSpace) path old new before now n after (Err NoSpace) = Appends old new [] × (now ≡ before)
+Settles (Err make.NoSpace) path old new before now n after (Err NoSpace) =
+    Appends old new [] × (now ≡ before)
 Settles (Err make.NoSpace) path old new before now n after (Err _) = ⊥
 Settles (Err make.OutOfMemory) path old new before now n after (Ok done) = ⊥
-Settles (Err make.OutOfMemory) path old new before now n after (Err OutOfMemory) = Appends old new [] × (now ≡ before)
+Settles (Err make.OutOfMemory) path old new before now n after (Err OutOfMemory) =
+    Appends old new [] × (now ≡ before)
 Settles (Err make.OutOfMemory) path old new before now n after (Err _) = ⊥
 
 -- ---- what is still to be done at a place of the walk
@@ -50,7 +61,8 @@ Settles (Err make.OutOfMemory) path old new before now n after (Err _) = ⊥
 -- what is left of these directories, where `path` leads to the first and each lies in the next
 abbrev pub tasks_up : State → List (ℕ × List (List ℕ × ℕ)) → List (List ℕ) → List Task
 tasks_up s [] path = []
-tasks_up s (directory ∷ above) path = tasks_of path directory.1 ++ Complete path directory.0 ∷ tasks_up s above (way_up path)
+tasks_up s (directory ∷ above) path =
+    tasks_of path directory.1 ++ Complete path directory.0 ∷ tasks_up s above (way_up path)
 
 abbrev pub extraction_way : Walk → List (List ℕ)
 extraction_way w = map (λ name. name.now) w.path.items
@@ -66,7 +78,8 @@ unmade s firsts = count_by (λ e. is_none (firsts e.0.0)) (entries s.names)
 
 -- the names that the walk has not read, those of directories that it may make among them
 abbrev pub extraction_names_left : State → Walk → ℕ
-extraction_names_left s w = unmade s (firsts_of w.firsts) + length w.left + sum_by (λ directory. length directory.1) w.above.items
+extraction_names_left s w = unmade s (firsts_of w.firsts) + length w.left
+    + sum_by (λ directory. length directory.1) w.above.items
 
 abbrev pub extraction_steps_left : State → Walk → ℕ
 extraction_steps_left s w = 2 * extraction_names_left s w + length w.above.items
@@ -74,12 +87,16 @@ extraction_steps_left s w = 2 * extraction_names_left s w + length w.above.items
 -- ---- a part of the walk
 
 -- from what is still to be done, after these outcomes, to what is to be done then
-abbrev pub Advances : State → Bool → FirstPaths → List Task → FirstPaths → List Task → List Outcome → Type 0
+abbrev pub Advances : State → Bool → FirstPaths → List Task → FirstPaths → List Task → List Outcome
+    → Type 0
 Advances s owners firsts todo firsts_then todo_then outcomes =
-    ((rest : List Outcome) → AreOutcomes s owners firsts_then todo_then rest → AreOutcomes s owners firsts todo (outcomes ++ rest))
-    × ((rest : List Outcome) → AreFirstOutcomes s owners firsts_then todo_then rest → AreFirstOutcomes s owners firsts todo (outcomes ++ rest))
+    ((rest : List Outcome) → AreOutcomes s owners firsts_then todo_then rest
+    → AreOutcomes s owners firsts todo (outcomes ++ rest))
+    × ((rest : List Outcome) → AreFirstOutcomes s owners firsts_then todo_then rest
+    → AreFirstOutcomes s owners firsts todo (outcomes ++ rest))
 
--- what a part of a walk sees: what the folder reports and how often it failed, and the same of the notes, and the counts
+-- what a part of a walk sees: what the folder reports and how often it failed, and the same of the
+-- notes, and the counts
 pub record Sight : Type 0 where
   pub made : Option (List Made)
   pub failures : Failures
@@ -90,64 +107,94 @@ pub record Sight : Type 0 where
 -- these outcomes were had
 abbrev pub Had : Sight → Sight → List Outcome → Type 0
 Had old new outcomes =
-    ReportsMore old.made new.made (flat_map (λ o. o.deeds) outcomes) × (new.failures ≡ failures_after old.failures outcomes)
+    ReportsMore old.made new.made (flat_map (λ o. o.deeds) outcomes)
+    × (new.failures ≡ failures_after old.failures outcomes)
     × Appends old.told new.told (all_lines outcomes) × (new.told_failures ≡ old.told_failures)
-    × (new.totals ≡ totals_up old.totals (count_by (λ o. is_some o.left_out) outcomes) (count_by (λ o. o.lost) outcomes))
+    × (new.totals ≡ totals_up old.totals (count_by (λ o. is_some o.left_out) outcomes)
+    (count_by (λ o. o.lost) outcomes))
 
 -- it stopped in the middle of an outcome, or before one
 abbrev pub Stopped : State → Bool → FirstPaths → List Task → Sight → Sight → Type 0
 Stopped s owners firsts todo old new =
-    (outcomes : List Outcome) × AreFirstOutcomes s owners firsts todo outcomes × ReportsMore old.made new.made (flat_map (λ o. o.deeds) outcomes)
+    (outcomes : List Outcome) × AreFirstOutcomes s owners firsts todo outcomes
+    × ReportsMore old.made new.made (flat_map (λ o. o.deeds) outcomes)
     × PutsPart old.told new.told (all_lines outcomes)
 
 abbrev pub StopsBy : State → Bool → FirstPaths → List Task → Sight → Sight → ExtractFault → Type 0
 StopsBy s owners firsts todo old new Folder = ⊥
 StopsBy s owners firsts todo old new Notes =
-    Stopped s owners firsts todo old new × (new.told_failures ≡ next_count old.told_failures) × (new.failures.full ≡ old.failures.full)
+    Stopped s owners firsts todo old new × (new.told_failures ≡ next_count old.told_failures)
+    × (new.failures.full ≡ old.failures.full)
 StopsBy s owners firsts todo old new NoSpace =
-    Stopped s owners firsts todo old new × (new.told_failures ≡ old.told_failures) × (new.failures.full ≡ next_count old.failures.full)
+    Stopped s owners firsts todo old new × (new.told_failures ≡ old.told_failures)
+    × (new.failures.full ≡ next_count old.failures.full)
 StopsBy s owners firsts todo old new OutOfMemory =
-    Stopped s owners firsts todo old new × (new.told_failures ≡ old.told_failures) × (new.failures.full ≡ old.failures.full)
+    Stopped s owners firsts todo old new × (new.told_failures ≡ old.told_failures)
+    × (new.failures.full ≡ old.failures.full)
 
 abbrev pub todo_then : State → List (List ℕ) → ℕ → Bool → List Task → List Task
 todo_then s path i entered todo = if entered then tasks_in s path i ++ todo else todo
 
--- An object is visited. The answer is whether it is a directory that was made; only then are its names among those to be read.
-abbrev pub Visits : State → Bool → FirstPaths → FirstPaths → List (List ℕ) → ℕ → Sight → Sight → Result Bool ExtractFault → Type 0
+-- An object is visited. The answer is whether it is a directory that was made; only then are its
+-- names among those to be read.
+abbrev pub Visits : State → Bool → FirstPaths → FirstPaths → List (List ℕ) → ℕ → Sight → Sight
+    → Result Bool ExtractFault → Type 0
 Visits s owners firsts firsts_then path i old new (Ok entered) =
     (outcomes : List Outcome) × Had old new outcomes
-    × ((todo : List Task) → Advances s owners firsts (Make path i ∷ todo) firsts_then (todo_then s path i entered todo) outcomes)
+    × ((todo : List Task) → Advances s owners firsts (Make path i ∷ todo) firsts_then
+    (todo_then s path i entered todo) outcomes)
     × (unmade s firsts_then + (if entered then length (entries_in s i) else 0) ≤ unmade s firsts)
-Visits s owners firsts firsts_then path i old new (Err fault) = (todo : List Task) → StopsBy s owners firsts (Make path i ∷ todo) old new fault
+Visits s owners firsts firsts_then path i old new (Err fault) =
+    (todo : List Task) → StopsBy s owners firsts (Make path i ∷ todo) old new fault
 
 -- a directory is completed, whatever was made before
-abbrev pub Completes : State → Bool → List (List ℕ) → ℕ → Sight → Sight → Result Bool ExtractFault → Type 0
+abbrev pub Completes : State → Bool → List (List ℕ) → ℕ → Sight → Sight → Result Bool ExtractFault
+    → Type 0
 Completes s owners path i old new (Ok done) =
-    (outcomes : List Outcome) × Had old new outcomes × ((firsts : FirstPaths) (todo : List Task) → Advances s owners firsts (Complete path i ∷ todo) firsts todo outcomes)
-Completes s owners path i old new (Err fault) = (firsts : FirstPaths) (todo : List Task) → StopsBy s owners firsts (Complete path i ∷ todo) old new fault
+    (outcomes : List Outcome) × Had old new outcomes
+    × ((firsts : FirstPaths) (todo : List Task)
+    → Advances s owners firsts (Complete path i ∷ todo) firsts todo outcomes)
+Completes s owners path i old new (Err fault) = (firsts : FirstPaths) (todo : List Task)
+    → StopsBy s owners firsts (Complete path i ∷ todo) old new fault
 
 -- the walk went back to the directory above, or there is none
 abbrev pub ExtractionGoesUp : Walk → Walk → Bool → Type 0
-ExtractionGoesUp w w_after true = (w.above.items ≡ w_after.above.items ++ (w_after.ino, w_after.left) ∷ []) × (extraction_way w_after ≡ way_up (extraction_way w)) × (w_after.firsts ≡ w.firsts) × (w_after.totals ≡ w.totals)
-ExtractionGoesUp w w_after false = (w.above.items ≡ []) × (w_after.firsts ≡ w.firsts) × (w_after.totals ≡ w.totals)
+ExtractionGoesUp w w_after true = (w.above.items ≡ w_after.above.items
+    ++ (w_after.ino, w_after.left) ∷ []) × (extraction_way w_after ≡ way_up (extraction_way w))
+    × (w_after.firsts ≡ w.firsts) × (w_after.totals ≡ w.totals)
+ExtractionGoesUp w w_after false =
+    (w.above.items ≡ []) × (w_after.firsts ≡ w.firsts) × (w_after.totals ≡ w.totals)
 
 -- the walk went on to the directory of a number, which its path leads to already
 abbrev pub Enters : {T : Type 0} → State → ℕ → Walk → Walk → Result T ExtractFault → Type 0
-Enters s i w w_after (Ok _) = (w_after.left ≡ entries_in s i) × (w_after.ino ≡ i) × (w_after.above.items ≡ w.above.items ++ (w.ino, w.left) ∷ [])
+Enters s i w w_after (Ok _) = (w_after.left ≡ entries_in s i) × (w_after.ino ≡ i)
+    × (w_after.above.items ≡ w.above.items ++ (w.ino, w.left) ∷ [])
     × (w_after.path ≡ w.path) × (w_after.firsts ≡ w.firsts) × (w_after.totals ≡ w.totals)
 Enters s i w w_after (Err fault) = fault ≡ OutOfMemory
 
 -- `false`: nothing is still to be done.
 abbrev pub Steps : State → Bool → Walk → Walk → Sight → Sight → Result Bool ExtractFault → Type 0
 Steps s owners w w_after old new (Ok true) =
-    (outcomes : List Outcome) × Had old new outcomes × Advances s owners (firsts_of w.firsts) (extraction_todo s w) (firsts_of w_after.firsts) (extraction_todo s w_after) outcomes
+    (outcomes : List Outcome) × Had old new outcomes
+    × Advances s owners (firsts_of w.firsts) (extraction_todo s w) (firsts_of w_after.firsts)
+    (extraction_todo s w_after) outcomes
     × (extraction_steps_left s w_after < extraction_steps_left s w)
 Steps s owners w w_after old new (Ok false) =
-    (outcomes : List Outcome) × Had old new outcomes × Advances s owners (firsts_of w.firsts) (extraction_todo s w) (firsts_of w_after.firsts) [] outcomes
-Steps s owners w w_after old new (Err fault) = StopsBy s owners (firsts_of w.firsts) (extraction_todo s w) old new fault
+    (outcomes : List Outcome) × Had old new outcomes
+    × Advances s owners (firsts_of w.firsts) (extraction_todo s w) (firsts_of w_after.firsts)
+    [] outcomes
+Steps s owners w w_after old new (Err fault) =
+    StopsBy s owners (firsts_of w.firsts) (extraction_todo s w) old new fault
 
 -- the tree is made in a folder that was made
 abbrev pub Fills : State → Bool → Sight → Sight → Result Totals ExtractFault → Type 0
 Fills s owners old new (Ok n) = (outcomes : List Outcome) × AreTreeOutcomes s owners outcomes
-    × Had old (record { made = new.made; failures = new.failures; told = new.told; told_failures = new.told_failures; totals = n }) outcomes
+    × Had old
+    (record {
+      made = new.made;
+      failures = new.failures;
+      told = new.told;
+      told_failures = new.told_failures;
+      totals = n;
+    }) outcomes
 Fills s owners old new (Err fault) = StopsBy s owners root_alone (tasks_in s [] 1) old new fault

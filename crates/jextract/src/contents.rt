@@ -65,7 +65,8 @@ pub(crate) fn put_contents<W: FilledFile>(
     file: &mut W,
 ) -> Result<(), FolderFault>
     requires { length (readable mounted.now.state ino) ≡ size }
-    ensures adds { AddsCells (W.cells file.old) (W.cells file.new) (cells_of (readable mounted.now.state ino)) result }
+    ensures adds { AddsCells (W.cells file.old) (W.cells file.new)
+        (cells_of (readable mounted.now.state ino)) result }
     ensures fails { Fails (W.fault file.old) (W.fault file.new) result }
 {
     let mut block = [0u8; BLOCK];

@@ -95,9 +95,22 @@ fn visit<F: Folder, N: Sink>(
     folder: &mut F,
     notes: &mut N,
 ) -> Result<bool, ExtractFault>
-    ensures { Visits mounted.now.state owners (firsts_of firsts.old) (firsts_of firsts.new) (map (λ name. name.now) path.now) ino
-        (record { made = F.made folder.old; failures = F.failures folder.old; told = N.taken notes.old; told_failures = N.failures notes.old; totals = totals.old })
-        (record { made = F.made folder.new; failures = F.failures folder.new; told = N.taken notes.new; told_failures = N.failures notes.new; totals = totals.new }) result }
+    ensures { Visits mounted.now.state owners (firsts_of firsts.old) (firsts_of firsts.new)
+        (map (λ name. name.now) path.now) ino
+        (record {
+          made = F.made folder.old;
+          failures = F.failures folder.old;
+          told = N.taken notes.old;
+          told_failures = N.failures notes.old;
+          totals = totals.old;
+        })
+        (record {
+          made = F.made folder.new;
+          failures = F.failures folder.new;
+          told = N.taken notes.new;
+          told_failures = N.failures notes.new;
+          totals = totals.new;
+        }) result }
 {
     let done = make(alloc, mounted, owners, path, ino, firsts, folder);
     let is_made = settle(done, path, totals, notes)?;
@@ -116,8 +129,20 @@ fn leave<F: Folder, N: Sink>(
     notes: &mut N,
 ) -> Result<bool, ExtractFault>
     ensures { Completes mounted.now.state owners (map (λ name. name.now) path.now) ino
-        (record { made = F.made folder.old; failures = F.failures folder.old; told = N.taken notes.old; told_failures = N.failures notes.old; totals = totals.old })
-        (record { made = F.made folder.new; failures = F.failures folder.new; told = N.taken notes.new; told_failures = N.failures notes.new; totals = totals.new }) result }
+        (record {
+          made = F.made folder.old;
+          failures = F.failures folder.old;
+          told = N.taken notes.old;
+          told_failures = N.failures notes.old;
+          totals = totals.old;
+        })
+        (record {
+          made = F.made folder.new;
+          failures = F.failures folder.new;
+          told = N.taken notes.new;
+          told_failures = N.failures notes.new;
+          totals = totals.new;
+        }) result }
 {
     let done = complete(alloc, mounted, owners, path, ino, folder);
     settle(done, path, totals, notes)
@@ -164,8 +189,20 @@ impl<'m, 'a> Walk<'m, 'a> {
         notes: &mut N,
     ) -> Result<bool, ExtractFault>
         ensures { Steps mounted.now.state owners self.old self.new
-            (record { made = F.made folder.old; failures = F.failures folder.old; told = N.taken notes.old; told_failures = N.failures notes.old; totals = self.old.totals })
-            (record { made = F.made folder.new; failures = F.failures folder.new; told = N.taken notes.new; told_failures = N.failures notes.new; totals = self.new.totals }) result }
+            (record {
+              made = F.made folder.old;
+              failures = F.failures folder.old;
+              told = N.taken notes.old;
+              told_failures = N.failures notes.old;
+              totals = self.old.totals;
+            })
+            (record {
+              made = F.made folder.new;
+              failures = F.failures folder.new;
+              told = N.taken notes.new;
+              told_failures = N.failures notes.new;
+              totals = self.new.totals;
+            }) result }
     {
         let Some((name, ino)) = self.left.next() else {
             leave(
@@ -219,8 +256,20 @@ fn fill<F: Folder, N: Sink>(
     notes: &mut N,
 ) -> Result<Totals, ExtractFault>
     ensures { Fills mounted.now.state owners
-        (record { made = F.made folder.old; failures = F.failures folder.old; told = N.taken notes.old; told_failures = N.failures notes.old; totals = no_totals })
-        (record { made = F.made folder.new; failures = F.failures folder.new; told = N.taken notes.new; told_failures = N.failures notes.new; totals = no_totals }) result }
+        (record {
+          made = F.made folder.old;
+          failures = F.failures folder.old;
+          told = N.taken notes.old;
+          told_failures = N.failures notes.old;
+          totals = no_totals;
+        })
+        (record {
+          made = F.made folder.new;
+          failures = F.failures folder.new;
+          told = N.taken notes.new;
+          told_failures = N.failures notes.new;
+          totals = no_totals;
+        }) result }
 {
     let mut firsts = BTreeMap::new(alloc);
     firsts.insert(ROOT, String::new(alloc))?;
@@ -255,8 +304,10 @@ pub fn extract<F: Folder, N: Sink>(
     folder: &mut F,
     notes: &mut N,
 ) -> Result<Totals, ExtractFault>
-    ensures { Extracts mounted.now.state owners (F.made folder.old) (F.made folder.new) (F.failures folder.old) (F.failures folder.new)
-        (N.taken notes.old) (N.taken notes.new) (N.failures notes.old) (N.failures notes.new) result }
+    ensures { Extracts mounted.now.state owners (F.made folder.old) (F.made folder.new)
+        (F.failures folder.old) (F.failures folder.new)
+        (N.taken notes.old) (N.taken notes.new) (N.failures notes.old) (N.failures notes.new)
+        result }
 {
     match folder.make_directory("") {
         Ok(()) => fill(alloc, mounted, owners, folder, notes),

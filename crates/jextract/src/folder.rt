@@ -55,7 +55,8 @@ pub trait FilledFile: Drop {
 
     /// Writes these bytes at the places that follow.
     fn write(&mut self, bytes: &[u8]) -> Result<(), FolderFault>
-        ensures adds { AddsCells (cells self.old) (cells self.new) (bytes_written bytes.now) result }
+        ensures adds { AddsCells (cells self.old) (cells self.new) (bytes_written bytes.now)
+            result }
         ensures fails { Fails (fault self.old) (fault self.new) result };
 
     /// Leaves a hole of so many places.
@@ -84,14 +85,17 @@ pub trait Folder: Drop {
 
     /// Makes an empty directory, into which whoever extracts may write.
     fn make_directory(&mut self, path: &str) -> Result<(), FolderFault>
-        ensures adds { AddsOne (made self.old) (made self.new) (record { path = path.now; deed = Directory }) result }
+        ensures adds { AddsOne (made self.old) (made self.new)
+            (record { path = path.now; deed = Directory }) result }
         ensures counts { Counts (failures self.old) (failures self.new) result };
 
     /// Makes an empty file.
     fn make_file(&mut self, path: &str) -> Result<Self::File, FolderFault>
-        ensures adds { AddsOne (made self.old) (made self.new) (record { path = path.now; deed = File }) result }
+        ensures adds { AddsOne (made self.old) (made self.new)
+            (record { path = path.now; deed = File }) result }
         ensures counts { Counts (failures self.old) (failures self.new) result }
-        ensures empty { IfOk result (λ file. IsEmptyIn (made self.new) (Self.File.FilledFile.cells file)) };
+        ensures empty { IfOk result
+            (λ file. IsEmptyIn (made self.new) (Self.File.FilledFile.cells file)) };
 
     /// Takes back a file that has all its bytes, and gives it its attributes.
     fn finish_file(
@@ -100,13 +104,15 @@ pub trait Folder: Drop {
         file: Self::File,
         attributes: Attributes,
     ) -> Result<(), FolderFault>
-        ensures adds { AddsContent (made self.old) (made self.new) path.now (Self.File.FilledFile.cells file) attributes result }
+        ensures adds { AddsContent (made self.old) (made self.new) path.now
+            (Self.File.FilledFile.cells file) attributes result }
         ensures counts { Counts (failures self.old) (failures self.new) result };
 
     /// Takes back a file that failed before it had all its bytes, and counts what it failed with.
     fn give_up_file(&mut self, path: &str, file: Self::File)
         ensures made { ReportsMore (made self.old) (made self.new) [] }
-        ensures failures { failures self.new ≡ counted_if (Self.File.FilledFile.fault file) (failures self.old) };
+        ensures failures { failures self.new
+            ≡ counted_if (Self.File.FilledFile.fault file) (failures self.old) };
 
     /// Makes a symlink with these attributes, as far as a symlink of the host has them.
     fn make_symlink(
@@ -115,16 +121,19 @@ pub trait Folder: Drop {
         target: &str,
         attributes: Attributes,
     ) -> Result<(), FolderFault>
-        ensures adds { AddsOne (made self.old) (made self.new) (record { path = path.now; deed = Symlink target.now attributes }) result }
+        ensures adds { AddsOne (made self.old) (made self.new)
+            (record { path = path.now; deed = Symlink target.now attributes }) result }
         ensures counts { Counts (failures self.old) (failures self.new) result };
 
     /// Makes a further name of the file or symlink that was made at `first`.
     fn make_link(&mut self, path: &str, first: &str) -> Result<(), FolderFault>
-        ensures adds { AddsOne (made self.old) (made self.new) (record { path = path.now; deed = Link first.now }) result }
+        ensures adds { AddsOne (made self.old) (made self.new)
+            (record { path = path.now; deed = Link first.now }) result }
         ensures counts { Counts (failures self.old) (failures self.new) result };
 
     /// Gives a directory its attributes, after all that lies in it was made.
     fn finish_directory(&mut self, path: &str, attributes: Attributes) -> Result<(), FolderFault>
-        ensures adds { AddsOne (made self.old) (made self.new) (record { path = path.now; deed = Attributed attributes }) result }
+        ensures adds { AddsOne (made self.old) (made self.new)
+            (record { path = path.now; deed = Attributed attributes }) result }
         ensures counts { Counts (failures self.old) (failures self.new) result };
 }

@@ -78,7 +78,8 @@ fn loses_bits(owners: bool, mode: u32) -> bool
 
 /// Whether an object loses such a bit when it is made. A directory does when it is completed.
 fn loses_when_made(owners: bool, object: &Object) -> bool
-    ensures { result ≡ (not (is_directory_kind object.now.kind) && loses_bits owners object.now.mode) }
+    ensures { result
+        ≡ (not (is_directory_kind object.now.kind) && loses_bits owners object.now.mode) }
 {
     object.kind != Kind::Directory && loses_bits(owners, object.mode)
 }
@@ -109,8 +110,10 @@ fn make_file<F: Folder>(
     folder: &mut F,
 ) -> Result<(), FolderFault>
     requires { length (readable mounted.now.state ino) ≡ size }
-    ensures { Does (F.made folder.old) (F.made folder.new) (F.failures folder.old) (F.failures folder.new)
-        (made_at path.now (File ∷ Content (cells_of (readable mounted.now.state ino)) attributes ∷ [])) result }
+    ensures { Does (F.made folder.old) (F.made folder.new) (F.failures folder.old)
+        (F.failures folder.new)
+        (made_at path.now
+        (File ∷ Content (cells_of (readable mounted.now.state ino)) attributes ∷ [])) result }
 {
     let mut file = folder.make_file(path)?;
     match put_contents(mounted, ino, size, &mut file) {
@@ -130,7 +133,8 @@ fn has_no_zero(bytes: &[u8]) -> bool
 
 /// The target that a symlink of the host may have.
 fn target_of(bytes: &[u8]) -> Option<&str>
-    ensures { MatchOption result (is_target bytes.now ≡ false) (λ target. (target.now ≡ bytes.now) × (is_target bytes.now ≡ true)) }
+    ensures { MatchOption result (is_target bytes.now ≡ false)
+        (λ target. (target.now ≡ bytes.now) × (is_target bytes.now ≡ true)) }
 {
     if bytes.is_empty() || bytes.len() > GREATEST_TARGET || !has_no_zero(bytes) {
         return None;
@@ -151,7 +155,8 @@ fn make_symlink<F: Folder>(
     folder: &mut F,
 ) -> Result<(), MakeFault>
     requires { length (readable mounted.now.state ino) ≡ size }
-    ensures { Follows (F.made folder.old) (F.made folder.new) (F.failures folder.old) (F.failures folder.new)
+    ensures { Follows (F.made folder.old) (F.made folder.new) (F.failures folder.old)
+        (F.failures folder.new)
         path.now (plan_symlink (readable mounted.now.state ino) attributes) result }
 {
     if size as usize > GREATEST_TARGET {
@@ -189,7 +194,8 @@ fn make_anew<F: Folder>(
     folder: &mut F,
 ) -> Result<(), MakeFault>
     requires { option_map shown (tree.object mounted.now.state ino) ≡ Some object.now }
-    ensures { Follows (F.made folder.old) (F.made folder.new) (F.failures folder.old) (F.failures folder.new)
+    ensures { Follows (F.made folder.old) (F.made folder.new) (F.failures folder.old)
+        (F.failures folder.new)
         path.now (plan_anew object.now.kind (readable mounted.now.state ino) attributes) result }
 {
     match object.kind {
@@ -208,7 +214,8 @@ fn make_again<F: Folder>(
     first: &str,
     folder: &mut F,
 ) -> Result<(), MakeFault>
-    ensures { Follows (F.made folder.old) (F.made folder.new) (F.failures folder.old) (F.failures folder.new)
+    ensures { Follows (F.made folder.old) (F.made folder.new) (F.failures folder.old)
+        (F.failures folder.new)
         path.now (plan_again kind first.now) result }
 {
     match kind {
@@ -229,9 +236,12 @@ pub(crate) fn make<F: Folder>(
     firsts: &mut BTreeMap<u32, String>,
     folder: &mut F,
 ) -> Result<bool, MakeFault>
-    ensures works { Works mounted.now.state owners (firsts_of firsts.old) (Make (map (λ name. name.now) names.now) ino)
-        (F.made folder.old) (F.made folder.new) (F.failures folder.old) (F.failures folder.new) result }
-    ensures firsts { FirstsAfter (firsts_of firsts.old) (firsts_of firsts.new) (map (λ name. name.now) names.now) ino result }
+    ensures works { Works mounted.now.state owners (firsts_of firsts.old)
+        (Make (map (λ name. name.now) names.now) ino)
+        (F.made folder.old) (F.made folder.new) (F.failures folder.old) (F.failures folder.new)
+        result }
+    ensures firsts { FirstsAfter (firsts_of firsts.old) (firsts_of firsts.new)
+        (map (λ name. name.now) names.now) ino result }
 {
     let path = host_path(alloc, names)?;
     let Some(object) = mounted.object(ino) else {
@@ -255,9 +265,13 @@ fn complete_at<F: Folder>(
     path: &str,
     folder: &mut F,
 ) -> Result<bool, MakeFault>
-    ensures follows { Follows (F.made folder.old) (F.made folder.new) (F.failures folder.old) (F.failures folder.new)
-        path.now (plan_completed owners (option_map shown (tree.object mounted.now.state ino))) result }
-    ensures lost { IfOk result (λ lost. lost ≡ lost_completed owners (option_map shown (tree.object mounted.now.state ino))) }
+    ensures follows { Follows (F.made folder.old) (F.made folder.new) (F.failures folder.old)
+        (F.failures folder.new)
+        path.now (plan_completed owners (option_map shown (tree.object mounted.now.state ino)))
+        result }
+    ensures lost { IfOk result
+        (λ lost. lost
+        ≡ lost_completed owners (option_map shown (tree.object mounted.now.state ino))) }
 {
     let Some(object) = mounted.object(ino) else {
         return Ok(false);
@@ -275,8 +289,10 @@ pub(crate) fn complete<F: Folder>(
     ino: u32,
     folder: &mut F,
 ) -> Result<bool, MakeFault>
-    ensures { Works mounted.now.state owners (λ i. None) (Complete (map (λ name. name.now) names.now) ino)
-        (F.made folder.old) (F.made folder.new) (F.failures folder.old) (F.failures folder.new) result }
+    ensures { Works mounted.now.state owners (λ i. None)
+        (Complete (map (λ name. name.now) names.now) ino)
+        (F.made folder.old) (F.made folder.new) (F.failures folder.old) (F.failures folder.new)
+        result }
 {
     let path = host_path(alloc, names)?;
     complete_at(mounted, owners, ino, path.as_str(), folder)

@@ -92,7 +92,8 @@ impl Recorder {
     }
 
     fn count(&mut self, fault: FolderFault)
-        ensures { record { refused = self.new.failures; full = self.new.full } ≡ counted_fault fault (record { refused = self.old.failures; full = self.old.full }) }
+        ensures { record { refused = self.new.failures; full = self.new.full }
+            ≡ counted_fault fault (record { refused = self.old.failures; full = self.old.full }) }
     {
         match fault {
             FolderFault::Refused => self.failures = self.failures.wrapping_add(1),
@@ -103,7 +104,8 @@ impl Recorder {
 
     /// Keeps a line, or fails.
     fn keep(&mut self, line: Result<String, AllocError>) -> Result<(), FolderFault>
-        ensures { Counts (record { refused = self.old.failures; full = self.old.full }) (record { refused = self.new.failures; full = self.new.full }) result }
+        ensures { Counts (record { refused = self.old.failures; full = self.old.full })
+            (record { refused = self.new.failures; full = self.new.full }) result }
     {
         if self.calls == 0 {
             self.calls = u64::MAX;

@@ -1,4 +1,5 @@
--- What a command does of an image that it decompresses: `decompress`, and a command with `--decompress`.
+-- What a command does of an image that it decompresses: `decompress`, and a command with
+-- `--decompress`.
 use Rattle.std.specs.Prelude.{◌≡◌, ◌⊎◌, ℕ, Bool, true, false, List, Option, Some, None, Result, Ok, Err}
 use Rattle.std.specs.Io.KnownBytes.{Appends}
 use Rattle.flashbase.specs.Device.{PutsPart, next_count}
@@ -21,7 +22,8 @@ use Rattle.jffs2_image.specs.declared.decompressing.Taken.{Taken}
 abbrev pub fault_of_conversion : ConvertFault → ProgramFault
 fault_of_conversion convert.BlockSize = program.Mount mount.BlockSize
 fault_of_conversion convert.TooLarge = program.Mount mount.TooLarge
-fault_of_conversion (convert.Incompatible addr nodetype) = program.Mount (mount.Incompatible addr nodetype)
+fault_of_conversion (convert.Incompatible addr nodetype) =
+    program.Mount (mount.Incompatible addr nodetype)
 fault_of_conversion (convert.Compressed addr compr) = program.Mount (mount.Compressed addr compr)
 fault_of_conversion (convert.Data addr) = program.Data addr
 fault_of_conversion (convert.TooLong addr) = program.TooLong addr
@@ -33,7 +35,8 @@ fault_of_conversion convert.OutOfMemory = program.Session session.OutOfMemory No
 
 -- why nothing is made of an image
 abbrev pub IsNotConverted : Endian → ℕ → List ℕ → ProgramFault → Type 0
-IsNotConverted e size image fault = (refused : ConvertFault) × (fault ≡ fault_of_conversion refused) × Converts e size image (Err refused)
+IsNotConverted e size image fault = (refused : ConvertFault) × (fault ≡ fault_of_conversion refused)
+    × Converts e size image (Err refused)
 
 -- ---- `--decompress`
 
@@ -47,15 +50,19 @@ abbrev pub with_findings : ℕ → Result ℕ ProgramFault → Result ℕ Progra
 with_findings n (Ok _) = Ok n
 with_findings n (Err fault) = Err fault
 
--- What a command puts that may be asked to decompress its image: then it does the same of what `decompress` makes of it, and
--- answers how many findings the image itself has; or it says why nothing is made of it.
-abbrev pub PutsTaken : Bool → Endian → ℕ → (List ℕ → Option (List ℕ) → Option (List ℕ) → ℕ → ℕ → Result ℕ ProgramFault → Type 0)
+-- What a command puts that may be asked to decompress its image: then it does the same of what
+-- `decompress` makes of it, and answers how many findings the image itself has; or it says why
+-- nothing is made of it.
+abbrev pub PutsTaken : Bool → Endian → ℕ
+    → (List ℕ → Option (List ℕ) → Option (List ℕ) → ℕ → ℕ → Result ℕ ProgramFault → Type 0)
     → List ℕ → Option (List ℕ) → Option (List ℕ) → ℕ → ℕ → Result ℕ ProgramFault → Type 0
 PutsTaken false e size Puts image old new before now answer = Puts image old new before now answer
 PutsTaken true e size Puts image old new before now answer =
-    ((made : List ℕ) × (done : Result ℕ ProgramFault) × Converts e size image (Ok made) × Puts made old new before now done
+    ((made : List ℕ) × (done : Result ℕ ProgramFault) × Converts e size image (Ok made)
+    × Puts made old new before now done
     × (answer ≡ with_findings (found_in e size image).noted done))
-    ⊎ ((fault : ProgramFault) × (answer ≡ Err fault) × IsNotConverted e size image fault × (new ≡ old) × (now ≡ before))
+    ⊎ ((fault : ProgramFault) × (answer ≡ Err fault) × IsNotConverted e size image fault
+    × (new ≡ old) × (now ≡ before))
 
 -- a command goes on with something: with the image, or with what `decompress` makes of it
 abbrev pub IsGoneOnWith : Bool → Endian → ℕ → List ℕ → Type 0
@@ -66,10 +73,12 @@ IsGoneOnWith true e size image = (made : List ℕ) × Converts e size image (Ok 
 
 -- a file was made, and these bytes were given to it, or a beginning of them
 abbrev pub HoldsMade : Held → List ℕ → Type 0
-HoldsMade held bytes = (old : Option (List ℕ)) × (given : Option (List ℕ)) × Appends old given bytes × IsHanded held old given
+HoldsMade held bytes = (old : Option (List ℕ)) × (given : Option (List ℕ)) × Appends old given bytes
+    × IsHanded held old given
 
 abbrev pub HoldsMadeInPart : Held → List ℕ → Type 0
-HoldsMadeInPart held bytes = (old : Option (List ℕ)) × (given : Option (List ℕ)) × GivesText old given bytes × IsHanded held old given
+HoldsMadeInPart held bytes = (old : Option (List ℕ)) × (given : Option (List ℕ))
+    × GivesText old given bytes × IsHanded held old given
 
 -- the line on what was made
 abbrev pub line_of_counts : Converted → List ℕ
@@ -83,12 +92,15 @@ IsNotWritten held output made (program.Session session.OutOfMemory None) = Holds
 IsNotWritten held output made program.OutOfMemory = HoldsNothing held
 IsNotWritten held output made _ = ⊥
 
--- What `decompress` makes of an image is given to a file that it makes, and told in a line; it answers how many findings the
--- image has. Or no file is made, since nothing is made of the image; or one is made, and not written to its end.
-abbrev pub DecompressesFile : Held → Endian → ℕ → List ℕ → List ℕ → Option (List ℕ) → Option (List ℕ) → ℕ → ℕ → Result ℕ ProgramFault → Type 0
+-- What `decompress` makes of an image is given to a file that it makes, and told in a line; it
+-- answers how many findings the image has. Or no file is made, since nothing is made of the image;
+-- or one is made, and not written to its end.
+abbrev pub DecompressesFile : Held → Endian → ℕ → List ℕ → List ℕ → Option (List ℕ)
+    → Option (List ℕ) → ℕ → ℕ → Result ℕ ProgramFault → Type 0
 DecompressesFile held e size output image old new before now (Ok n) =
     (made : List ℕ) × Converts e size image (Ok made) × HoldsMade held made
-    × Appends old new (line_of_counts (converted_of e size image)) × (now ≡ before) × (n ≡ (found_in e size image).noted)
+    × Appends old new (line_of_counts (converted_of e size image)) × (now ≡ before)
+    × (n ≡ (found_in e size image).noted)
 DecompressesFile held e size output image old new before now (Err program.Output) =
     (made : List ℕ) × Converts e size image (Ok made) × HoldsMade held made
     × PutsPart old new (line_of_counts (converted_of e size image)) × (now ≡ next_count before)

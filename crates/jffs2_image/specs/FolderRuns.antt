@@ -46,19 +46,25 @@ abbrev pub outcome_of_extraction : Result Extracted ProgramFault → Outcome
 outcome_of_extraction (Ok done) = outcome_of (found_by_extraction done)
 outcome_of_extraction (Err fault) = outcome.Fault
 
--- The image of a name is extracted into the folder of a name, and what was left out is told before what else is said. `told` are
--- the files of the host, which failed `read_before` and then `read_now` times, and `made` is what is made in the folder of each name.
-pub record EndsExtraction (options : Options) (decompress owners : Bool) (image folder : List ℕ) (told : List ℕ → Option (List ℕ)) (read_before read_now : ℕ) (made_old made_new : List ℕ → Option (List Made))
+-- The image of a name is extracted into the folder of a name, and what was left out is told before
+-- what else is said. `told` are the files of the host, which failed `read_before` and then
+-- `read_now` times, and `made` is what is made in the folder of each name.
+pub record EndsExtraction (options : Options) (decompress owners : Bool) (image folder : List ℕ)
+    (told : List ℕ → Option (List ℕ)) (read_before read_now : ℕ)
+    (made_old made_new : List ℕ → Option (List Made))
     (old new : Option (List ℕ)) (before now : ℕ) (result : Outcome) : Type 0 where
   pub between : Option (List ℕ)
   pub count : ℕ
   pub answer : Result Extracted ProgramFault
-  pub fills : FillsFolder decompress options.endian options.geometry.block owners (told image) read_before read_now image folder made_old made_new old between before count answer
-  pub said : Says ((new ≡ between) × (now ≡ count)) between new count now (said_after_extraction answer)
+  pub fills : FillsFolder decompress options.endian options.geometry.block owners (told image)
+      read_before read_now image folder made_old made_new old between before count answer
+  pub said : Says ((new ≡ between) × (now ≡ count)) between new count now
+      (said_after_extraction answer)
   pub ends : result ≡ outcome_of_extraction answer
 
 -- `extract`, of what is given
-pub record RunsExtract (args : List (List ℕ)) (told : List ℕ → Option (List ℕ)) (read_before read_now : ℕ) (made_old made_new : List ℕ → Option (List Made))
+pub record RunsExtract (args : List (List ℕ)) (told : List ℕ → Option (List ℕ))
+    (read_before read_now : ℕ) (made_old made_new : List ℕ → Option (List Made))
     (old new : Option (List ℕ)) (before now : ℕ) (result : Outcome) : Type 0 where
   pub options : Options
   pub decompress : Bool
@@ -68,7 +74,8 @@ pub record RunsExtract (args : List (List ℕ)) (told : List ℕ → Option (Lis
   pub folder : List ℕ
   pub parsed : parsed_from args ≡ Some (ExtractParsed options decompress owners quiet image folder)
   pub faultless : IsFaultless args
-  pub ends : EndsExtraction options decompress owners image folder told read_before read_now made_old made_new old new before now result
+  pub ends : EndsExtraction options decompress owners image folder told read_before read_now
+      made_old made_new old new before now result
 
 abbrev pub said_after_listing : Result ℕ ProgramFault → Option (List ℕ)
 said_after_listing (Ok n) = None
@@ -78,35 +85,47 @@ abbrev pub outcome_of_listing : Result ℕ ProgramFault → Outcome
 outcome_of_listing (Ok n) = outcome_of n
 outcome_of_listing (Err fault) = outcome.Fault
 
--- The listing of the folder of a name, of which this is known, goes out, and all that was put is given on.
-pub record FinishesListing (known : Known) (options : reading.Options) (name : List ℕ) (output_old output_given : Option (List ℕ)) (output_before output_now : ℕ)
+-- The listing of the folder of a name, of which this is known, goes out, and all that was put is
+-- given on.
+pub record FinishesListing (known : Known) (options : reading.Options) (name : List ℕ)
+    (output_old output_given : Option (List ℕ)) (output_before output_now : ℕ)
     (old new : Option (List ℕ)) (before now : ℕ) (result : Result ℕ ProgramFault) : Type 0 where
   pub taken : Option (List ℕ)
   pub count : ℕ
   pub answer : Result ℕ ProgramFault
   pub finished : Bool
-  pub lists : ListsFolder known options name output_old taken output_before count old new before now answer
+  pub lists : ListsFolder known options name output_old taken output_before count old new before
+      now answer
   pub finishes : Finishes taken output_given count output_now finished
   pub comes_to : result ≡ answer_finished answer finished
 
--- The same by a host that gives the folder and takes it back; or there is no memory for it, and the output and the notes are as they were.
-abbrev pub ListsGiven : Type 0 → Known → reading.Options → List ℕ → Option (List ℕ) → Option (List ℕ) → ℕ → ℕ → Option (List ℕ) → Option (List ℕ) → ℕ → ℕ → Result ℕ ProgramFault → Type 0
-ListsGiven untouched known options name output_old output_given output_before output_now old new before now result =
-    FinishesListing known options name output_old output_given output_before output_now old new before now result
+-- The same by a host that gives the folder and takes it back; or there is no memory for it, and the
+-- output and the notes are as they were.
+abbrev pub ListsGiven : Type 0 → Known → reading.Options → List ℕ → Option (List ℕ)
+    → Option (List ℕ) → ℕ → ℕ → Option (List ℕ) → Option (List ℕ) → ℕ → ℕ → Result ℕ ProgramFault
+    → Type 0
+ListsGiven untouched known options name output_old output_given output_before output_now old new
+    before now result =
+    FinishesListing known options name output_old output_given output_before output_now old new
+    before now result
     ⊎ ((result ≡ Err program.OutOfMemory) × untouched × (new ≡ old) × (now ≡ before))
 
 -- What it leaves out is told, and then a fault. `untouched`: the output is as it was.
-pub record EndsListing (untouched : Type 0) (known : Known) (options : reading.Options) (name : List ℕ) (output_old output_given : Option (List ℕ)) (output_before output_now : ℕ)
+pub record EndsListing (untouched : Type 0) (known : Known) (options : reading.Options)
+    (name : List ℕ) (output_old output_given : Option (List ℕ)) (output_before output_now : ℕ)
     (old new : Option (List ℕ)) (before now : ℕ) (result : Outcome) : Type 0 where
   pub between : Option (List ℕ)
   pub count : ℕ
   pub answer : Result ℕ ProgramFault
-  pub lists : ListsGiven untouched known options name output_old output_given output_before output_now old between before count answer
-  pub said : Says ((new ≡ between) × (now ≡ count)) between new count now (said_after_listing answer)
+  pub lists : ListsGiven untouched known options name output_old output_given output_before
+      output_now old between before count answer
+  pub said : Says ((new ≡ between) × (now ≡ count)) between new count now
+      (said_after_listing answer)
   pub ends : result ≡ outcome_of_listing answer
 
 -- `listing`, of what is given. `reads` is what is known of each folder of the host, by its name.
-pub record RunsListing (args : List (List ℕ)) (untouched : Type 0) (reads : List ℕ → Known) (output_old output_given : Option (List ℕ)) (output_before output_now : ℕ)
+pub record RunsListing (args : List (List ℕ)) (untouched : Type 0) (reads : List ℕ → Known)
+    (output_old output_given : Option (List ℕ)) (output_before output_now : ℕ)
     (old new : Option (List ℕ)) (before now : ℕ) (result : Outcome) : Type 0 where
   pub owner : Option Owner
   pub time : Option ℕ
@@ -114,4 +133,5 @@ pub record RunsListing (args : List (List ℕ)) (untouched : Type 0) (reads : Li
   pub folder : List ℕ
   pub parsed : parsed_from args ≡ Some (ListingParsed owner time quiet folder)
   pub faultless : IsFaultless args
-  pub ends : EndsListing untouched (reads folder) (settings owner time) folder output_old output_given output_before output_now old new before now result
+  pub ends : EndsListing untouched (reads folder) (settings owner time) folder output_old
+      output_given output_before output_now old new before now result

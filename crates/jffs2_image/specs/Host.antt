@@ -1,4 +1,5 @@
--- What a command that writes an image does with the host: the files that it reads, and the one that it makes.
+-- What a command that writes an image does with the host: the files that it reads, and the one that
+-- it makes.
 use Rattle.std.specs.Prelude.{◌≡◌, ◌⊎◌, ◌++◌, ◌≤◌, ℕ, Bool, true, false, IsErrOf, List, [], ◌∷◌, Option, Some, None, Result, Ok, Err, IfSome, IsTrue, is_some, length, option_map, slice_get}
 use Rattle.std.specs.Io.KnownBytes.{Appends}
 use Rattle.flashbase.specs.Device.{PutsPart, next_count}
@@ -62,49 +63,69 @@ AreLoaded told bytes = AreOf told bytes × (length bytes ≤ greatest_image)
 
 -- Each file that a line names was read, and has the bytes that it has on the host.
 abbrev pub AreRead : (List ℕ → Option (List ℕ)) → List Line → Parts → Type 0
-AreRead told lines parts = (name : List ℕ) → IsNamedByLine lines name → IsTrue (is_some (read_of parts name)) × AreLoaded (told name) (part_contents parts name)
+AreRead told lines parts = (name : List ℕ) → IsNamedByLine lines name
+    → IsTrue (is_some (read_of parts name)) × AreLoaded (told name) (part_contents parts name)
 
 -- files have those bytes where lines name them
 abbrev pub HaveBytes : (List ℕ → Option (List ℕ)) → List Line → (List ℕ → List ℕ) → Type 0
-HaveBytes told lines files = (name : List ℕ) → IsNamedByLine lines name → AreLoaded (told name) (files name)
+HaveBytes told lines files =
+    (name : List ℕ) → IsNamedByLine lines name → AreLoaded (told name) (files name)
 
--- The file that was made has a beginning of what goes out for the base and the operations of all lines, with the bytes of the
--- host's files.
-abbrev pub IsCutShort : (List ℕ → Option (List ℕ)) → Held → Page → Endian → ℕ → ℕ → List ℕ → List ℕ → Type 0
+-- The file that was made has a beginning of what goes out for the base and the operations of all
+-- lines, with the bytes of the host's files.
+abbrev pub IsCutShort : (List ℕ → Option (List ℕ)) → Held → Page → Endian → ℕ → ℕ → List ℕ → List ℕ
+    → Type 0
 IsCutShort told held page e size blocks base text =
-    (lines : List Line) × (files : List ℕ → List ℕ) × (lines_of text ≡ Ok lines) × HaveBytes told lines files
+    (lines : List Line) × (files : List ℕ → List ℕ) × (lines_of text ≡ Ok lines)
+    × HaveBytes told lines files
     × HoldsPart held page e size blocks base (ops_in files lines)
 
 -- the lines and the files that they name were read
 abbrev pub AreAllRead : (List ℕ → Option (List ℕ)) → List ℕ → Type 0
 AreAllRead told text =
-    (lines : List Line) × (files : List ℕ → List ℕ) × (lines_of text ≡ Ok lines) × HaveBytes told lines files
+    (lines : List Line) × (files : List ℕ → List ℕ) × (lines_of text ≡ Ok lines)
+    × HaveBytes told lines files
 
--- The operations that were run have the bytes of the host's files: those of all lines, told in a line
--- that has the length of what went out for them, or in a beginning of it; or those up to the one that
--- stopped them. Where no line is told, because the file failed before or after them, a beginning of
--- what goes out for them is in it; where memory ran out before them, a beginning of the base; or it is
--- empty, or there is none. A fault of the base comes after all was read.
-abbrev pub RunsFiles : {T : Type 0} → (List ℕ → Option (List ℕ)) → Held → Page → Endian → ℕ → ℕ → List ℕ → List ℕ → Option (List ℕ) → Option (List ℕ) → Result T ProgramFault → Type 0
+-- The operations that were run have the bytes of the host's files: those of all lines, told in a
+-- line that has the length of what went out for them, or in a beginning of it; or those up to the
+-- one that stopped them. Where no line is told, because the file failed before or after them, a
+-- beginning of what goes out for them is in it; where memory ran out before them, a beginning of
+-- the base; or it is empty, or there is none. A fault of the base comes after all was read.
+abbrev pub RunsFiles : {T : Type 0} → (List ℕ → Option (List ℕ)) → Held → Page → Endian → ℕ → ℕ
+    → List ℕ → List ℕ → Option (List ℕ) → Option (List ℕ) → Result T ProgramFault → Type 0
 RunsFiles told held page e size blocks base text old new (Ok _) =
-    (lines : List Line) × (accepted : ℕ) × (places : List Place) × (run : IsRunOn held page e size blocks base text lines accepted places None)
-    × HaveBytes told lines run.files × Appends old new (accepted_line (resume_address e size blocks base) accepted places)
+    (lines : List Line) × (accepted : ℕ) × (places : List Place)
+    × (run : IsRunOn held page e size blocks base text lines accepted places None)
+    × HaveBytes told lines run.files
+    × Appends old new (accepted_line (resume_address e size blocks base) accepted places)
     × TellsLength page e size blocks base (ops_in run.files lines) accepted places
 RunsFiles told held page e size blocks base text old new (Err program.Output) =
-    (lines : List Line) × (accepted : ℕ) × (places : List Place) × (run : IsRunOn held page e size blocks base text lines accepted places None)
-    × HaveBytes told lines run.files × PutsPart old new (accepted_line (resume_address e size blocks base) accepted places)
-RunsFiles told held page e size blocks base text old new (Err (program.Session fault (Some number))) =
-    (lines : List Line) × (accepted : ℕ) × (places : List Place) × (run : IsRunOn held page e size blocks base text lines accepted places (Some fault))
-    × HaveBytes told lines run.files × (option_map (λ l. l.number) (slice_get lines accepted) ≡ Some number)
+    (lines : List Line) × (accepted : ℕ) × (places : List Place)
+    × (run : IsRunOn held page e size blocks base text lines accepted places None)
+    × HaveBytes told lines run.files
+    × PutsPart old new (accepted_line (resume_address e size blocks base) accepted places)
+RunsFiles told held page e size blocks base text old new
+    (Err (program.Session fault (Some number))) =
+    (lines : List Line) × (accepted : ℕ) × (places : List Place)
+    × (run : IsRunOn held page e size blocks base text lines accepted places (Some fault))
+    × HaveBytes told lines run.files
+    × (option_map (λ l. l.number) (slice_get lines accepted) ≡ Some number)
 RunsFiles told held page e size blocks base text old new (Err (program.Load load.TooLarge)) =
-    (lines : List Line) × (lines_of text ≡ Ok lines) × IsPartUnread told lines (program.Load load.TooLarge)
-RunsFiles told held page e size blocks base text old new (Err (program.Session session.Sink None)) = IsCutShort told held page e size blocks base text
-RunsFiles told held page e size blocks base text old new (Err (program.Session session.OutOfMemory None)) =
+    (lines : List Line) × (lines_of text ≡ Ok lines)
+    × IsPartUnread told lines (program.Load load.TooLarge)
+RunsFiles told held page e size blocks base text old new (Err (program.Session session.Sink None)) =
+    IsCutShort told held page e size blocks base text
+RunsFiles told held page e size blocks base text old new
+    (Err (program.Session session.OutOfMemory None)) =
     AreAllRead told text × HoldsFront held e size blocks base
-RunsFiles told held page e size blocks base text old new (Err (program.Session session.ReadOnly None)) = AreAllRead told text
-RunsFiles told held page e size blocks base text old new (Err (program.Session session.Geometry None)) = AreAllRead told text
-RunsFiles told held page e size blocks base text old new (Err (program.Mount fault)) = AreAllRead told text
-RunsFiles told held page e size blocks base text old new (Err program.OutOfMemory) = (held.1 ≡ held.0) ⊎ HoldsNothing held
+RunsFiles told held page e size blocks base text old new
+    (Err (program.Session session.ReadOnly None)) = AreAllRead told text
+RunsFiles told held page e size blocks base text old new
+    (Err (program.Session session.Geometry None)) = AreAllRead told text
+RunsFiles told held page e size blocks base text old new (Err (program.Mount fault)) =
+    AreAllRead told text
+RunsFiles told held page e size blocks base text old new (Err program.OutOfMemory) =
+    (held.1 ≡ held.0) ⊎ HoldsNothing held
 RunsFiles told held page e size blocks base text old new (Err (program.File name)) = held.1 ≡ held.0
 RunsFiles told held page e size blocks base text old new (Err _) = Unit {0}
 
@@ -115,13 +136,16 @@ abbrev pub MakesFile : List ℕ → Option (List (List ℕ)) → Option (List (L
 MakesFile name old new = new ≡ option_map (λ names. names ++ (name ∷ [])) old
 
 -- it was made also where there is then no memory to write it
-abbrev pub MakesBy : {T : Type 0} → List ℕ → Option (List (List ℕ)) → Option (List (List ℕ)) → Result T MakeFault → Type 0
+abbrev pub MakesBy : {T : Type 0} → List ℕ → Option (List (List ℕ)) → Option (List (List ℕ))
+    → Result T MakeFault → Type 0
 MakesBy name old new (Ok made) = MakesFile name old new
 MakesBy name old new (Err make.OutOfMemory) = MakesFile name old new
 MakesBy name old new (Err make.NotMade) = new ≡ old
 
--- what files hold then: where there is no memory to write the one that was made, nothing was given to it
-abbrev pub HoldsBy : {T : Type 0} → Option (List (List ℕ)) → Option (List (List ℕ)) → Result T MakeFault → Type 0
+-- what files hold then: where there is no memory to write the one that was made, nothing was given
+-- to it
+abbrev pub HoldsBy : {T : Type 0} → Option (List (List ℕ)) → Option (List (List ℕ))
+    → Result T MakeFault → Type 0
 HoldsBy old new (Ok made) = new ≡ old
 HoldsBy old new (Err make.NotMade) = new ≡ old
 HoldsBy old new (Err make.OutOfMemory) = HoldsNothing (old, new)
@@ -137,7 +161,8 @@ Leaves makes same _ = makes
 abbrev pub HasFailed : ℕ → ℕ → Type 0
 HasFailed before now = (now ≡ next_count before) ⊎ (now ≡ next_count (next_count before))
 
--- the output failed, and is handed back with a count that rose; also where memory ran out it is; at any other fault it may be gone
+-- the output failed, and is handed back with a count that rose; also where memory ran out it is; at
+-- any other fault it may be gone
 abbrev pub IsHandedBack : ℕ → SessionFault → Option ℕ → Type 0
 IsHandedBack before session.Sink None = ⊥
 IsHandedBack before session.Sink (Some now) = HasFailed before now
@@ -156,15 +181,16 @@ IsMakeFault before now (program.File name) = now ≡ next_count before
 IsMakeFault before now (program.Session session.Sink line) = HasFailed before now
 IsMakeFault before now _ = Unit {0}
 
--- By the answer: a fault of the file that is made comes only where it failed; what is judged before comes with no file touched;
--- at any other answer but that it can't be opened `makes` holds, the file was made, and where memory ran out before a byte of
--- it, it may have been.
+-- By the answer: a fault of the file that is made comes only where it failed; what is judged before
+-- comes with no file touched; at any other answer but that it can't be opened `makes` holds, the
+-- file was made, and where memory ran out before a byte of it, it may have been.
 abbrev pub BlamesMaker : {T : Type 0} → Type 0 → Type 0 → ℕ → ℕ → Result T ProgramFault → Type 0
 BlamesMaker untouched makes before now (Ok _) = (now ≡ before) × makes
 BlamesMaker untouched makes before now (Err (program.Mount fault)) = untouched
 BlamesMaker untouched makes before now (Err (program.Session session.ReadOnly line)) = untouched
 BlamesMaker untouched makes before now (Err (program.Session session.Geometry line)) = untouched
-BlamesMaker untouched makes before now (Err (program.Session session.Sink line)) = HasFailed before now × makes
+BlamesMaker untouched makes before now (Err (program.Session session.Sink line)) =
+    HasFailed before now × makes
 BlamesMaker untouched makes before now (Err (program.Session fault line)) = makes
 BlamesMaker untouched makes before now (Err (program.File name)) = now ≡ next_count before
 BlamesMaker untouched makes before now (Err (program.Load fault)) = ⊥
@@ -175,76 +201,118 @@ BlamesMaker untouched makes before now (Err program.Output) = makes
 BlamesMaker untouched makes before now (Err program.OutOfMemory) = untouched ⊎ makes
 BlamesMaker untouched makes before now (Err _) = Unit {0}
 
--- By the answer: a fault of a file that is read, or of the one that is made, comes only where it failed, and what is judged
--- before a file is made comes with none touched. `makes`: the file was made.
+-- By the answer: a fault of a file that is read, or of the one that is made, comes only where it
+-- failed, and what is judged before a file is made comes with none touched. `makes`: the file was
+-- made.
 abbrev pub Blames : {T : Type 0} → Type 0 → Type 0 → ℕ → ℕ → ℕ → ℕ → Result T ProgramFault → Type 0
-Blames untouched makes read_before read_now made_before made_now (Ok _) = (read_now ≡ read_before) × (made_now ≡ made_before) × makes
-Blames untouched makes read_before read_now made_before made_now (Err (program.Listing n)) = untouched
-Blames untouched makes read_before read_now made_before made_now (Err (program.Mount fault)) = untouched
-Blames untouched makes read_before read_now made_before made_now (Err (program.Session session.ReadOnly line)) = untouched
-Blames untouched makes read_before read_now made_before made_now (Err (program.Session session.Geometry line)) = untouched
-Blames untouched makes read_before read_now made_before made_now (Err (program.Session session.Sink line)) = HasFailed made_before made_now × makes
-Blames untouched makes read_before read_now made_before made_now (Err (program.Session fault line)) = makes
+Blames untouched makes read_before read_now made_before made_now (Ok _) =
+    (read_now ≡ read_before) × (made_now ≡ made_before) × makes
+Blames untouched makes read_before read_now made_before made_now (Err (program.Listing n)) =
+    untouched
+Blames untouched makes read_before read_now made_before made_now (Err (program.Mount fault)) =
+    untouched
+Blames untouched makes read_before read_now made_before made_now
+    (Err (program.Session session.ReadOnly line)) = untouched
+Blames untouched makes read_before read_now made_before made_now
+    (Err (program.Session session.Geometry line)) = untouched
+Blames untouched makes read_before read_now made_before made_now
+    (Err (program.Session session.Sink line)) = HasFailed made_before made_now × makes
+Blames untouched makes read_before read_now made_before made_now
+    (Err (program.Session fault line)) = makes
 Blames untouched makes read_before read_now made_before made_now (Err (program.File name)) =
     (untouched × (read_now ≡ next_count read_before)) ⊎ (made_now ≡ next_count made_before)
-Blames untouched makes read_before read_now made_before made_now (Err (program.Load load.Device)) = untouched × (read_now ≡ next_count read_before)
-Blames untouched makes read_before read_now made_before made_now (Err (program.Load fault)) = untouched
+Blames untouched makes read_before read_now made_before made_now (Err (program.Load load.Device)) =
+    untouched × (read_now ≡ next_count read_before)
+Blames untouched makes read_before read_now made_before made_now (Err (program.Load fault)) =
+    untouched
 Blames untouched makes read_before read_now made_before made_now (Err (program.Data addr)) = ⊥
 Blames untouched makes read_before read_now made_before made_now (Err (program.TooLong addr)) = ⊥
 Blames untouched makes read_before read_now made_before made_now (Err program.Output) = makes
-Blames untouched makes read_before read_now made_before made_now (Err program.OutOfMemory) = untouched ⊎ makes
+Blames untouched makes read_before read_now made_before made_now (Err program.OutOfMemory) =
+    untouched ⊎ makes
 Blames untouched makes read_before read_now made_before made_now (Err _) = Unit {0}
 
--- A file of which the host tells these bytes is only read. It counts once where it can't be opened, or fails while it is read,
--- and only then; it is too large only where it is.
+-- A file of which the host tells these bytes is only read. It counts once where it can't be opened,
+-- or fails while it is read, and only then; it is too large only where it is.
 abbrev pub ReadsFile : {T : Type 0} → Option (List ℕ) → ℕ → ℕ → Result T ProgramFault → Type 0
 ReadsFile told before now (Err (program.File name)) = now ≡ next_count before
 ReadsFile told before now (Err (program.Load load.Device)) = now ≡ next_count before
 ReadsFile told before now (Err (program.Load load.TooLarge)) = IsTooLong told × (now ≡ before)
 ReadsFile told before now _ = now ≡ before
 
--- With `--decompress`, the image of this file may also be refused for what it holds, and then no file is made and none failed.
-abbrev pub IsRefusedBefore : {T : Type 0} → Bool → Endian → ℕ → Option (List ℕ) → Type 0 → ℕ → ℕ → Result T ProgramFault → Type 0
+-- With `--decompress`, the image of this file may also be refused for what it holds, and then no
+-- file is made and none failed.
+abbrev pub IsRefusedBefore : {T : Type 0} → Bool → Endian → ℕ → Option (List ℕ) → Type 0 → ℕ → ℕ
+    → Result T ProgramFault → Type 0
 IsRefusedBefore false e size told untouched read_before read_now result = ⊥
 IsRefusedBefore true e size told untouched read_before read_now result =
-    (image : List ℕ) × (fault : ProgramFault) × AreLoaded told image × IsNotConverted e size image fault × IsErrOf result fault
+    (image : List ℕ) × (fault : ProgramFault) × AreLoaded told image
+    × IsNotConverted e size image fault × IsErrOf result fault
     × untouched × (read_now ≡ read_before)
 
 -- the same of `decompress`, of a file of which the host tells these bytes
-abbrev pub BlamesDecompress : {T : Type 0} → Type 0 → Type 0 → ℕ → ℕ → ℕ → ℕ → Result T ProgramFault → Type 0
-BlamesDecompress untouched makes read_before read_now made_before made_now (Ok _) = (read_now ≡ read_before) × (made_now ≡ made_before) × makes
-BlamesDecompress untouched makes read_before read_now made_before made_now (Err (program.File name)) =
+abbrev pub BlamesDecompress : {T : Type 0} → Type 0 → Type 0 → ℕ → ℕ → ℕ → ℕ → Result T ProgramFault
+    → Type 0
+BlamesDecompress untouched makes read_before read_now made_before made_now (Ok _) =
+    (read_now ≡ read_before) × (made_now ≡ made_before) × makes
+BlamesDecompress untouched makes read_before read_now made_before made_now
+    (Err (program.File name)) =
     (untouched × (read_now ≡ next_count read_before)) ⊎ (made_now ≡ next_count made_before)
-BlamesDecompress untouched makes read_before read_now made_before made_now (Err (program.Load load.Device)) = untouched × (read_now ≡ next_count read_before)
-BlamesDecompress untouched makes read_before read_now made_before made_now (Err (program.Session session.Sink line)) = HasFailed made_before made_now × makes
-BlamesDecompress untouched makes read_before read_now made_before made_now (Err (program.Session session.OutOfMemory line)) = untouched ⊎ makes
-BlamesDecompress untouched makes read_before read_now made_before made_now (Err program.Output) = makes
-BlamesDecompress untouched makes read_before read_now made_before made_now (Err program.OutOfMemory) = makes
+BlamesDecompress untouched makes read_before read_now made_before made_now
+    (Err (program.Load load.Device)) = untouched × (read_now ≡ next_count read_before)
+BlamesDecompress untouched makes read_before read_now made_before made_now
+    (Err (program.Session session.Sink line)) = HasFailed made_before made_now × makes
+BlamesDecompress untouched makes read_before read_now made_before made_now
+    (Err (program.Session session.OutOfMemory line)) = untouched ⊎ makes
+BlamesDecompress untouched makes read_before read_now made_before made_now (Err program.Output) =
+    makes
+BlamesDecompress untouched makes read_before read_now made_before made_now
+    (Err program.OutOfMemory) = makes
 BlamesDecompress untouched makes read_before read_now made_before made_now (Err _) = untouched
 
--- the same of a request that writes an image, whose file has the name of its output; any other reads the file of its image, and
--- makes none
-abbrev pub BlamesFor : {T : Type 0} → (List ℕ → Option (List ℕ)) → Endian → Parsed → Type 0 → Option (List (List ℕ)) → Option (List (List ℕ)) → ℕ → ℕ → ℕ → ℕ → Result T ProgramFault → Type 0
-BlamesFor told e (ScanParsed options image) untouched names_old names_new read_before read_now made_before made_now result =
+-- the same of a request that writes an image, whose file has the name of its output; any other
+-- reads the file of its image, and makes none
+abbrev pub BlamesFor : {T : Type 0} → (List ℕ → Option (List ℕ)) → Endian → Parsed → Type 0
+    → Option (List (List ℕ)) → Option (List (List ℕ)) → ℕ → ℕ → ℕ → ℕ → Result T ProgramFault
+    → Type 0
+BlamesFor told e (ScanParsed options image) untouched names_old names_new read_before read_now
+    made_before made_now result =
     ReadsFile (told image) read_before read_now result × untouched
-BlamesFor told e (CheckParsed options shape image) untouched names_old names_new read_before read_now made_before made_now result =
+BlamesFor told e (CheckParsed options shape image) untouched names_old names_new read_before
+    read_now made_before made_now result =
     ReadsFile (told image) read_before read_now result × untouched
-BlamesFor told e (ListParsed options decompress image path) untouched names_old names_new read_before read_now made_before made_now result =
+BlamesFor told e (ListParsed options decompress image path) untouched names_old names_new
+    read_before read_now made_before made_now result =
     ReadsFile (told image) read_before read_now result × untouched
-BlamesFor told e (CatParsed options decompress image path) untouched names_old names_new read_before read_now made_before made_now result =
+BlamesFor told e (CatParsed options decompress image path) untouched names_old names_new read_before
+    read_now made_before made_now result =
     ReadsFile (told image) read_before read_now result × untouched
-BlamesFor told e (BuildParsed options blocks page listing output) untouched names_old names_new read_before read_now made_before made_now result =
-    Blames untouched (MakesFile output names_old names_new) read_before read_now made_before made_now result
-BlamesFor told e (AppendParsed options blocks page decompress image listing output) untouched names_old names_new read_before read_now made_before made_now result =
-    Blames untouched (MakesFile output names_old names_new) read_before read_now made_before made_now result
-    ⊎ IsRefusedBefore decompress e options.geometry.block (told image) untouched read_before read_now result
-BlamesFor told e (DecompressParsed options image output) untouched names_old names_new read_before read_now made_before made_now result =
-    BlamesDecompress untouched (MakesFile output names_old names_new) read_before read_now made_before made_now result
+BlamesFor told e (BuildParsed options blocks page listing output) untouched names_old names_new
+    read_before read_now made_before made_now result =
+    Blames untouched (MakesFile output names_old names_new) read_before read_now made_before
+    made_now result
+BlamesFor told e (AppendParsed options blocks page decompress image listing output) untouched
+    names_old names_new read_before read_now made_before made_now result =
+    Blames untouched (MakesFile output names_old names_new) read_before read_now made_before
+    made_now result
+    ⊎ IsRefusedBefore decompress e options.geometry.block (told image) untouched read_before
+    read_now result
+BlamesFor told e (DecompressParsed options image output) untouched names_old names_new read_before
+    read_now made_before made_now result =
+    BlamesDecompress untouched (MakesFile output names_old names_new) read_before read_now
+    made_before made_now result
 
 -- the same of a command line, in the order that it names; one that makes no request touches nothing
-abbrev pub BlamesCommand : (List ℕ → Option (List ℕ)) → Result Request RequestFault → Type 0 → Type 0 → Option (List (List ℕ)) → Option (List (List ℕ)) → ℕ → ℕ → ℕ → ℕ → Result Success Stop → Type 0
-BlamesCommand told (Ok request) unread untouched names_old names_new read_before read_now made_before made_now (Ok ended) =
-    BlamesFor {T = Success} told (options_of request).endian (view request) untouched names_old names_new read_before read_now made_before made_now (Ok ended)
-BlamesCommand told (Ok request) unread untouched names_old names_new read_before read_now made_before made_now (Err (stop.Fault fault)) =
-    BlamesFor {T = Success} told (options_of request).endian (view request) untouched names_old names_new read_before read_now made_before made_now (Err fault)
-BlamesCommand told _ unread untouched names_old names_new read_before read_now made_before made_now _ = unread × untouched
+abbrev pub BlamesCommand : (List ℕ → Option (List ℕ)) → Result Request RequestFault → Type 0
+    → Type 0 → Option (List (List ℕ)) → Option (List (List ℕ)) → ℕ → ℕ → ℕ → ℕ → Result Success Stop
+    → Type 0
+BlamesCommand told (Ok request) unread untouched names_old names_new read_before read_now
+    made_before made_now (Ok ended) =
+    BlamesFor {T = Success} told (options_of request).endian (view request) untouched names_old
+    names_new read_before read_now made_before made_now (Ok ended)
+BlamesCommand told (Ok request) unread untouched names_old names_new read_before read_now
+    made_before made_now (Err (stop.Fault fault)) =
+    BlamesFor {T = Success} told (options_of request).endian (view request) untouched names_old
+    names_new read_before read_now made_before made_now (Err fault)
+BlamesCommand told _ unread untouched names_old names_new read_before read_now made_before made_now
+    _ = unread × untouched

@@ -30,8 +30,8 @@ pub record FileReads : Type 0 where
   pub before : ℕ
   pub now : ℕ
 
--- What is told of the bytes of an image goes out to the last byte; or a beginning of it did, and the
--- output failed. `Ok` has the image's byte order, and what the file begins as.
+-- What is told of the bytes of an image goes out to the last byte; or a beginning of it did, and
+-- the output failed. `Ok` has the image's byte order, and what the file begins as.
 abbrev pub InformsOf : List ℕ → Passage → Result Informed ProgramFault → Type 0
 InformsOf image output (Ok found) =
     (found.order ≡ order_of image) × (found.container ≡ container_of image)
@@ -59,8 +59,8 @@ abbrev pub outcome_of_info : Result Informed ProgramFault → Outcome
 outcome_of_info (Ok found) = if is_some found.order then outcome.Done else outcome.Found
 outcome_of_info (Err fault) = outcome.Fault
 
--- What is told of the file of a name, and how that ends. A file that can't be opened, or failed while
--- it was read, is blamed only where it counts so.
+-- What is told of the file of a name, and how that ends. A file that can't be opened, or failed
+-- while it was read, is blamed only where it counts so.
 pub record EndsInfo (file : List ℕ) (reading : FileReads) (untouched : Type 0)
     (output errors : Passage) (result : Outcome) : Type 0 where
   pub answer : Result Informed ProgramFault

@@ -46,80 +46,107 @@ abbrev pub number_found : Bool → ℕ
 number_found found = if found then 1 else 0
 
 -- `check`, with that number; and whether the shape is asked for
-abbrev pub PutsJudged : Endian → ℕ → Bool → List ℕ → Option (List ℕ) → Option (List ℕ) → ℕ → ℕ → Result ℕ ProgramFault → Type 0
-PutsJudged e size asked image old new before now (Ok n) = (found : Bool) × (n ≡ number_found found) × PutsCheck e size image asked old new before now (Ok found)
-PutsJudged e size asked image old new before now (Err fault) = PutsCheck e size image asked old new before now (Err fault)
+abbrev pub PutsJudged : Endian → ℕ → Bool → List ℕ → Option (List ℕ) → Option (List ℕ) → ℕ → ℕ
+    → Result ℕ ProgramFault → Type 0
+PutsJudged e size asked image old new before now (Ok n) = (found : Bool) × (n ≡ number_found found)
+    × PutsCheck e size image asked old new before now (Ok found)
+PutsJudged e size asked image old new before now (Err fault) =
+    PutsCheck e size image asked old new before now (Err fault)
 
--- the image of a request is the file of the name that it gives, where the host tells its bytes; `build` has none
+-- the image of a request is the file of the name that it gives, where the host tells its bytes;
+-- `build` has none
 abbrev pub IsImageOf : (List ℕ → Option (List ℕ)) → Parsed → List ℕ → Type 0
 IsImageOf told (ScanParsed options name) image = AreOf (told name) image
 IsImageOf told (CheckParsed options shape name) image = AreOf (told name) image
 IsImageOf told (ListParsed options decompress name path) image = AreOf (told name) image
 IsImageOf told (CatParsed options decompress name word) image = AreOf (told name) image
 IsImageOf told (BuildParsed options blocks page listing output) image = image ≡ []
-IsImageOf told (AppendParsed options blocks page decompress name listing output) image = AreLoaded (told name) image
+IsImageOf told (AppendParsed options blocks page decompress name listing output) image =
+    AreLoaded (told name) image
 IsImageOf told (DecompressParsed options name output) image = AreLoaded (told name) image
 
--- the listing of a name is run on an image, with the bytes of the files that its lines name; each where the host tells its bytes
-abbrev pub RunsListed : (List ℕ → Option (List ℕ)) → Held → Page → Endian → ℕ → ℕ → List ℕ → List ℕ → List ℕ → Option (List ℕ) → Option (List ℕ) → ℕ → ℕ → Result ℕ ProgramFault → Type 0
-RunsListed told held page e size blocks listing output image old new before now answer = (text : List ℕ) × AreLoaded (told listing) text
-    × WritesImage held page e size blocks output image text old new before now answer × RunsFiles told held page e size blocks image text old new answer
+-- the listing of a name is run on an image, with the bytes of the files that its lines name; each
+-- where the host tells its bytes
+abbrev pub RunsListed : (List ℕ → Option (List ℕ)) → Held → Page → Endian → ℕ → ℕ → List ℕ → List ℕ
+    → List ℕ → Option (List ℕ) → Option (List ℕ) → ℕ → ℕ → Result ℕ ProgramFault → Type 0
+RunsListed told held page e size blocks listing output image old new before now answer =
+    (text : List ℕ) × AreLoaded (told listing) text
+    × WritesImage held page e size blocks output image text old new before now answer
+    × RunsFiles told held page e size blocks image text old new answer
 
--- What is put of an image, or why no more of it is; with `--decompress`, of what `decompress` makes of it. The answer of
+-- What is put of an image, or why no more of it is; with `--decompress`, of what `decompress` makes
+-- of it. The answer of
 -- `build` is no finding, and that of `append` the number of findings of its base.
-abbrev pub PutsAnswer : (List ℕ → Option (List ℕ)) → Held → Endian → Parsed → List ℕ → Option (List ℕ) → Option (List ℕ) → ℕ → ℕ → Result ℕ ProgramFault → Type 0
+abbrev pub PutsAnswer : (List ℕ → Option (List ℕ)) → Held → Endian → Parsed → List ℕ
+    → Option (List ℕ) → Option (List ℕ) → ℕ → ℕ → Result ℕ ProgramFault → Type 0
 PutsAnswer told held e (ScanParsed options name) = PutsStream e options.geometry.block
 PutsAnswer told held e (CheckParsed options shape name) = PutsJudged e options.geometry.block shape
 PutsAnswer told held e (ListParsed options decompress name None) =
     PutsTaken decompress e options.geometry.block (PutsListing e options.geometry.block None)
-PutsAnswer told held e (ListParsed options decompress name (Some word)) = λ image old new before now answer.
+PutsAnswer told held e (ListParsed options decompress name (Some word)) =
+    λ image old new before now answer.
     (path : List ℕ) × (path_of word ≡ Some path)
-    × PutsTaken decompress e options.geometry.block (PutsListing e options.geometry.block (Some path))
+    × PutsTaken decompress e options.geometry.block
+    (PutsListing e options.geometry.block (Some path))
     image old new before now answer
 PutsAnswer told held e (CatParsed options decompress name word) = λ image old new before now answer.
     (path : List ℕ) × (path_of word ≡ Some path)
-    × PutsTaken decompress e options.geometry.block (λ bytes. PutsFile e options.geometry.block bytes path) image old new before now answer
-PutsAnswer told held e (BuildParsed options blocks page listing output) = λ image old new before now answer.
-    RunsListed told held page e options.geometry.block blocks listing output image old new before now answer
+    × PutsTaken decompress e options.geometry.block
+    (λ bytes. PutsFile e options.geometry.block bytes path) image old new before now answer
+PutsAnswer told held e (BuildParsed options blocks page listing output) =
+    λ image old new before now answer.
+    RunsListed told held page e options.geometry.block blocks listing output image old new before
+    now answer
     × IfOk answer (λ n. n ≡ 0)
 PutsAnswer told held e (AppendParsed options blocks page decompress name listing output) =
     PutsTaken decompress e options.geometry.block
-    (λ base old new before now answer. RunsListed told held page e options.geometry.block blocks listing output base old new before now answer
+    (λ base old new before now answer. RunsListed told held page e options.geometry.block blocks
+    listing output base old new before now answer
     × IfOk answer (IsNotedIn e options.geometry.block base))
-PutsAnswer told held e (DecompressParsed options name output) = DecompressesFile held e options.geometry.block output
+PutsAnswer told held e (DecompressParsed options name output) =
+    DecompressesFile held e options.geometry.block output
 
 -- its file can't be opened
 abbrev pub IsUnopened : List ℕ → ProgramFault → Type 0
 IsUnopened file (program.File name) = name.now ≡ file
 IsUnopened file _ = ⊥
 
--- the same, and one that is decompressed can't be read to its end either, since it is held in memory first
+-- the same, and one that is decompressed can't be read to its end either, since it is held in
+-- memory first
 abbrev pub IsUnreadIf : Bool → List ℕ → Option (List ℕ) → ProgramFault → Type 0
 IsUnreadIf false file told fault = IsUnopened file fault
 IsUnreadIf true file told fault = IsUnreadFile file told fault
 
 -- why no image is read: its file can't be opened, or the word of the path can't be read, which is
--- judged before; where an image is written, it or the listing can't be opened, or not be read to its
--- end, and the listing comes after the image, and after what `decompress` makes of it
+-- judged before; where an image is written, it or the listing can't be opened, or not be read to
+-- its end, and the listing comes after the image, and after what `decompress` makes of it
 abbrev pub IsEarlyFault : (List ℕ → Option (List ℕ)) → Endian → Parsed → ProgramFault → Type 0
 IsEarlyFault told e (ScanParsed options image) fault = IsUnopened image fault
 IsEarlyFault told e (CheckParsed options shape image) fault = IsUnopened image fault
-IsEarlyFault told e (ListParsed options decompress image None) fault = IsUnreadIf decompress image (told image) fault
-IsEarlyFault told e (ListParsed options decompress image (Some word)) (program.Path find.BadPath) = path_of word ≡ None
+IsEarlyFault told e (ListParsed options decompress image None) fault =
+    IsUnreadIf decompress image (told image) fault
+IsEarlyFault told e (ListParsed options decompress image (Some word)) (program.Path find.BadPath) =
+    path_of word ≡ None
 IsEarlyFault told e (ListParsed options decompress image (Some word)) program.OutOfMemory = Unit {0}
 IsEarlyFault told e (ListParsed options decompress image (Some word)) fault =
     IsUnreadIf decompress image (told image) fault × IsTrue (is_some (path_of word))
-IsEarlyFault told e (CatParsed options decompress image word) (program.Path find.BadPath) = path_of word ≡ None
+IsEarlyFault told e (CatParsed options decompress image word) (program.Path find.BadPath) =
+    path_of word ≡ None
 IsEarlyFault told e (CatParsed options decompress image word) program.OutOfMemory = Unit {0}
-IsEarlyFault told e (CatParsed options decompress image word) fault = IsUnreadIf decompress image (told image) fault × IsTrue (is_some (path_of word))
-IsEarlyFault told e (BuildParsed options blocks page listing output) fault = IsUnreadFile listing (told listing) fault
+IsEarlyFault told e (CatParsed options decompress image word) fault =
+    IsUnreadIf decompress image (told image) fault × IsTrue (is_some (path_of word))
+IsEarlyFault told e (BuildParsed options blocks page listing output) fault =
+    IsUnreadFile listing (told listing) fault
 IsEarlyFault told e (AppendParsed options blocks page decompress image listing output) fault =
     IsUnreadFile image (told image) fault
-    ⊎ ((bytes : List ℕ) × AreLoaded (told image) bytes × IsGoneOnWith decompress e options.geometry.block bytes × IsUnreadFile listing (told listing) fault)
-IsEarlyFault told e (DecompressParsed options image output) fault = IsUnreadFile image (told image) fault
+    ⊎ ((bytes : List ℕ) × AreLoaded (told image) bytes
+    × IsGoneOnWith decompress e options.geometry.block bytes
+    × IsUnreadFile listing (told listing) fault)
+IsEarlyFault told e (DecompressParsed options image output) fault =
+    IsUnreadFile image (told image) fault
 
--- of a size that no block has `check` says so where it could open the image, and nothing else; other
--- requests mount it
+-- of a size that no block has `check` says so where it could open the image, and nothing else;
+-- other requests mount it
 abbrev pub TellsBlockSize : Parsed → Result ℕ ProgramFault → Type 0
 TellsBlockSize (ScanParsed options image) answer =
     IsErrAnd answer (λ fault. (fault ≡ program.Scan scan.BlockSize) ⊎ IsUnopened image fault)
@@ -127,13 +154,19 @@ TellsBlockSize (CheckParsed options shape image) answer =
     IsErrAnd answer (λ fault. (fault ≡ program.Scan scan.BlockSize) ⊎ IsUnopened image fault)
 TellsBlockSize _ answer = Unit {0}
 
--- A request is met in the byte order e, where the host tells these bytes of its files: there is an image, that of the name where
--- it is told, of which the answer is put, or a fault comes before any is read.
-pub record Meets (told : List ℕ → Option (List ℕ)) (held : Held) (e : Endian) (parsed : Parsed) (old new : Option (List ℕ)) (before now : ℕ) (answer : Result ℕ ProgramFault) : Type 0 where
-  pub block_size : IsErrOf answer (program.Scan scan.BlockSize) → IsFalse (is_block_size (options_parsed parsed).geometry.block)
-  pub told_of : IsFalse (is_block_size (options_parsed parsed).geometry.block) → TellsBlockSize parsed answer
-  pub put : ((image : List ℕ) × IsImageOf told parsed image × PutsAnswer told held e parsed image old new before now answer)
-      ⊎ ((fault : ProgramFault) × (answer ≡ Err fault) × IsEarlyFault told e parsed fault × (new ≡ old) × (now ≡ before))
+-- A request is met in the byte order e, where the host tells these bytes of its files: there is an
+-- image, that of the name where it is told, of which the answer is put, or a fault comes before any
+-- is read.
+pub record Meets (told : List ℕ → Option (List ℕ)) (held : Held) (e : Endian) (parsed : Parsed)
+    (old new : Option (List ℕ)) (before now : ℕ) (answer : Result ℕ ProgramFault) : Type 0 where
+  pub block_size : IsErrOf answer (program.Scan scan.BlockSize)
+      → IsFalse (is_block_size (options_parsed parsed).geometry.block)
+  pub told_of : IsFalse (is_block_size (options_parsed parsed).geometry.block)
+      → TellsBlockSize parsed answer
+  pub put : ((image : List ℕ) × IsImageOf told parsed image
+      × PutsAnswer told held e parsed image old new before now answer)
+      ⊎ ((fault : ProgramFault) × (answer ≡ Err fault) × IsEarlyFault told e parsed fault
+      × (new ≡ old) × (now ≡ before))
 
 -- the output gave on what it took; or a beginning of it, and failed once more
 abbrev pub Finishes : Option (List ℕ) → Option (List ℕ) → ℕ → ℕ → Bool → Type 0
@@ -147,7 +180,8 @@ answer_finished (Ok n) false = Err program.Output
 answer_finished (Err fault) finished = Err fault
 
 -- A request is met in the order that it names, and all that was put is given on.
-pub record MeetsWhole (told : List ℕ → Option (List ℕ)) (held : Held) (parsed : Parsed) (old given : Option (List ℕ)) (before now : ℕ) (result : Result ℕ ProgramFault) : Type 0 where
+pub record MeetsWhole (told : List ℕ → Option (List ℕ)) (held : Held) (parsed : Parsed)
+    (old given : Option (List ℕ)) (before now : ℕ) (result : Result ℕ ProgramFault) : Type 0 where
   pub taken : Option (List ℕ)
   pub count : ℕ
   pub answer : Result ℕ ProgramFault
@@ -168,23 +202,30 @@ success_of (BuildParsed options blocks page listing output) n = success.Shown n
 success_of (AppendParsed options blocks page decompress image listing output) n = success.Shown n
 success_of (DecompressParsed options image output) n = success.Shown n
 
--- What a command line is answered: the request is met; help goes out; a refusal and out of memory stay what they are, and leave
--- the output as it was.
-abbrev pub MeetsCommand : Type 0 → (List ℕ → Option (List ℕ)) → Held → Result Request RequestFault → Option (List ℕ) → Option (List ℕ) → ℕ → ℕ → Result Success Stop → Type 0
+-- What a command line is answered: the request is met; help goes out; a refusal and out of memory
+-- stay what they are, and leave the output as it was.
+abbrev pub MeetsCommand : Type 0 → (List ℕ → Option (List ℕ)) → Held → Result Request RequestFault
+    → Option (List ℕ) → Option (List ℕ) → ℕ → ℕ → Result Success Stop → Type 0
 MeetsCommand untouched told held (Ok request) old given before now (Ok ended) =
-    (n : ℕ) × (ended ≡ success_of (view request) n) × MeetsWhole told held (view request) old given before now (Ok n)
-MeetsCommand untouched told held (Ok request) old given before now (Err (stop.Fault fault)) = MeetsWhole told held (view request) old given before now (Err fault)
+    (n : ℕ) × (ended ≡ success_of (view request) n)
+    × MeetsWhole told held (view request) old given before now (Ok n)
+MeetsCommand untouched told held (Ok request) old given before now (Err (stop.Fault fault)) =
+    MeetsWhole told held (view request) old given before now (Err fault)
 MeetsCommand untouched told held (Err (refused.Help text)) old given before now (Ok ended) =
     (ended ≡ success.Shown 0) × Appends old given (string_bytes text) × (now ≡ before)
-MeetsCommand untouched told held (Err (refused.Help text)) old given before now (Err (stop.Fault fault)) =
+MeetsCommand untouched told held (Err (refused.Help text)) old given before now
+    (Err (stop.Fault fault)) =
     (fault ≡ program.Output) × GivesText old given (string_bytes text) × HasFailed before now
-MeetsCommand untouched told held (Err (refused.Usage text)) old given before now (Err (stop.Usage said)) = (said ≡ text) × untouched
-MeetsCommand untouched told held (Err refused.OutOfMemory) old given before now (Err (stop.Fault fault)) = (fault ≡ program.OutOfMemory) × untouched
+MeetsCommand untouched told held (Err (refused.Usage text)) old given before now
+    (Err (stop.Usage said)) = (said ≡ text) × untouched
+MeetsCommand untouched told held (Err refused.OutOfMemory) old given before now
+    (Err (stop.Fault fault)) = (fault ≡ program.OutOfMemory) × untouched
 MeetsCommand untouched told held _ old given before now _ = ⊥
 
 -- what the words make of a command line
 abbrev pub IsCommand : List (List ℕ) → Result Request RequestFault → Type 0
-IsCommand args (Ok request) = (parsed_from args ≡ Some (ImageParsed (view request))) × IsFaultless args
+IsCommand args (Ok request) =
+    (parsed_from args ≡ Some (ImageParsed (view request))) × IsFaultless args
 IsCommand args (Err (refused.Help text)) = IsHelpRequested args
 IsCommand args (Err (refused.Usage text)) = IsRefusedByClap args ⊎ IsUnreadable args
 IsCommand args (Err refused.OutOfMemory) = Unit {0}
@@ -208,15 +249,19 @@ said_after (Err (stop.Fault fault)) = Some (fault_lines_of fault)
 
 -- standard error took the text; or it failed, once, and took a beginning of it
 abbrev pub IsSaid : Option (List ℕ) → Option (List ℕ) → ℕ → ℕ → List ℕ → Type 0
-IsSaid old new before now text = (Appends old new text × (now ≡ before)) ⊎ (PutsPart old new text × (now ≡ next_count before))
+IsSaid old new before now text =
+    (Appends old new text × (now ≡ before)) ⊎ (PutsPart old new text × (now ≡ next_count before))
 
 -- it is left alone where nothing is said
 abbrev pub Says : Type 0 → Option (List ℕ) → Option (List ℕ) → ℕ → ℕ → Option (List ℕ) → Type 0
 Says untouched old new before now None = untouched
 Says untouched old new before now (Some text) = IsSaid old new before now text
 
--- A run of a command line that asks for no folder: what it is answered, and how it ends. `untouched`: the output is as it was.
-pub record RunsCommand (untouched : Type 0) (told : List ℕ → Option (List ℕ)) (held : Held) (command : Result Request RequestFault) (old given : Option (List ℕ)) (before now : ℕ) (says : Option (List ℕ) → Type 0) (result : Outcome) : Type 0 where
+-- A run of a command line that asks for no folder: what it is answered, and how it ends.
+-- `untouched`: the output is as it was.
+pub record RunsCommand (untouched : Type 0) (told : List ℕ → Option (List ℕ)) (held : Held)
+    (command : Result Request RequestFault) (old given : Option (List ℕ)) (before now : ℕ)
+    (says : Option (List ℕ) → Type 0) (result : Outcome) : Type 0 where
   pub answer : Result Success Stop
   pub meets : MeetsCommand untouched told held command old given before now answer
   pub ends : result ≡ outcome_after answer

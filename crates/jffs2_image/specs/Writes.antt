@@ -27,7 +27,8 @@ use Rattle.jreport.specs.declared.faults.ProgramFault.TheVariants as program
 abbrev pub IsTooLong : Option (List ℕ) → Type 0
 IsTooLong told = IfSome told (λ bytes. greatest_image < length bytes)
 
--- A file of this name, of which the host tells these bytes, can't be opened, or not be read to its end.
+-- A file of this name, of which the host tells these bytes, can't be opened, or not be read to its
+-- end.
 abbrev pub IsUnreadFile : List ℕ → Option (List ℕ) → ProgramFault → Type 0
 IsUnreadFile file told (program.File name) = name.now ≡ file
 IsUnreadFile file told (program.Load load.Device) = Unit {0}
@@ -43,7 +44,8 @@ IsNamedByLine lines name = Any (λ line. file_of line.action ≡ Some name) line
 abbrev pub IsPartUnread : (List ℕ → Option (List ℕ)) → List Line → ProgramFault → Type 0
 IsPartUnread told lines (program.File name) = IsNamedByLine lines name.now
 IsPartUnread told lines (program.Load load.Device) = Unit {0}
-IsPartUnread told lines (program.Load load.TooLarge) = (name : List ℕ) × IsNamedByLine lines name × IsTooLong (told name)
+IsPartUnread told lines (program.Load load.TooLarge) =
+    (name : List ℕ) × IsNamedByLine lines name × IsTooLong (told name)
 IsPartUnread told lines (program.Load load.OutOfMemory) = Unit {0}
 IsPartUnread told lines program.OutOfMemory = Unit {0}
 IsPartUnread told lines _ = ⊥
@@ -56,10 +58,11 @@ IsBehind given taken = IfSome taken (λ bytes. (n : ℕ) × (given ≡ Some (tak
 
 -- a text was put, or a beginning of it, and of that a beginning was given on
 abbrev pub GivesText : Option (List ℕ) → Option (List ℕ) → List ℕ → Type 0
-GivesText old given text = (taken : Option (List ℕ)) × PutsPart old taken text × IsBehind given taken
+GivesText old given text =
+    (taken : Option (List ℕ)) × PutsPart old taken text × IsBehind given taken
 
--- All that was taken was given on. Where the output stopped a run, it may have failed once more, and
--- given on a beginning.
+-- All that was taken was given on. Where the output stopped a run, it may have failed once more,
+-- and given on a beginning.
 abbrev pub IsGivenOn : Option SessionFault → Option (List ℕ) → Option (List ℕ) → ℕ → ℕ → Type 0
 IsGivenOn (Some session.Sink) taken given before now =
     (Keeps taken given × (now ≡ before)) ⊎ (IsBehind given taken × (now ≡ next_count before))
@@ -67,23 +70,30 @@ IsGivenOn _ taken given before now = Keeps taken given × (now ≡ before)
 
 -- A base and operations on it were put out, and what was taken was given on: so many were accepted,
 -- their nodes have these places, and this stopped them.
-pub record IsPut (page : Page) (e : Endian) (size blocks : ℕ) (m : Mount) (ops : List Op) (accepted : ℕ) (places : List Place) (stopped : Option SessionFault) (old given : Option (List ℕ)) (before now : ℕ) : Type 0 where
+pub record IsPut (page : Page) (e : Endian) (size blocks : ℕ) (m : Mount) (ops : List Op)
+    (accepted : ℕ) (places : List Place) (stopped : Option SessionFault)
+    (old given : Option (List ℕ)) (before now : ℕ) : Type 0 where
   pub taken : Option (List ℕ)
   pub count : ℕ
   pub resumes : IsOk (resumes_by page e size blocks m)
-  pub emitted : IsEmitted page e size blocks m.image ops accepted places stopped old taken before count
+  pub emitted : IsEmitted page e size blocks m.image ops accepted places stopped old taken
+      before count
   pub given_on : IsGivenOn stopped taken given count now
 
--- What was given to the files that were made and are lent out no more, in order, where the host tells it: before and after.
+-- What was given to the files that were made and are lent out no more, in order, where the host
+-- tells it: before and after.
 abbrev pub Held : Type 0
 Held = Option (List (List ℕ)) × Option (List (List ℕ))
 
 -- a file that was empty when it was made was handed back, and this was given to it
 abbrev pub IsHanded : Held → Option (List ℕ) → Option (List ℕ) → Type 0
-IsHanded held old given = IfSome held.0 (λ files. (old ≡ Some []) × IfSome given (λ bytes. held.1 ≡ Some (files ++ bytes ∷ [])))
+IsHanded held old given = IfSome held.0
+    (λ files. (old ≡ Some []) × IfSome given (λ bytes. held.1 ≡ Some (files ++ bytes ∷ [])))
 
 -- there is a file to which they were, and to which nothing else was given
-pub record IsMade (held : Held) (page : Page) (e : Endian) (size blocks : ℕ) (m : Mount) (ops : List Op) (accepted : ℕ) (places : List Place) (stopped : Option SessionFault) : Type 0 where
+pub record IsMade (held : Held) (page : Page) (e : Endian) (size blocks : ℕ) (m : Mount)
+    (ops : List Op) (accepted : ℕ) (places : List Place) (stopped : Option SessionFault) : Type
+    0 where
   pub old : Option (List ℕ)
   pub given : Option (List ℕ)
   pub before : ℕ
@@ -95,29 +105,38 @@ pub record IsMade (held : Held) (page : Page) (e : Endian) (size blocks : ℕ) (
 
 -- A beginning of the base's bytes up to where writing goes on was put out; or all of them, and then
 -- operations were run, and it was not the output that stopped them.
-abbrev pub IsPutInPart : Page → Endian → ℕ → ℕ → List ℕ → List Op → Option (List ℕ) → Option (List ℕ) → Type 0
+abbrev pub IsPutInPart : Page → Endian → ℕ → ℕ → List ℕ → List Op → Option (List ℕ)
+    → Option (List ℕ) → Type 0
 IsPutInPart page e size blocks base ops old taken =
     PutsPart old taken (front_before e size blocks base)
-    ⊎ ((accepted : ℕ) × (places : List Place) × (stopped : Option SessionFault) × (before : ℕ) × (now : ℕ)
-    × (stopped ≢ Some session.Sink) × IsEmitted page e size blocks base ops accepted places stopped old taken before now)
+    ⊎ ((accepted : ℕ) × (places : List Place) × (stopped : Option SessionFault) × (before : ℕ)
+    × (now : ℕ)
+    × (stopped ≢ Some session.Sink)
+    × IsEmitted page e size blocks base ops accepted places stopped old taken before now)
 
 -- of that a beginning was given on
-abbrev pub GivesPart : Page → Endian → ℕ → ℕ → List ℕ → List Op → Option (List ℕ) → Option (List ℕ) → Type 0
-GivesPart page e size blocks base ops old given = (taken : Option (List ℕ)) × IsPutInPart page e size blocks base ops old taken × IsBehind given taken
+abbrev pub GivesPart : Page → Endian → ℕ → ℕ → List ℕ → List Op → Option (List ℕ) → Option (List ℕ)
+    → Type 0
+GivesPart page e size blocks base ops old given = (taken : Option (List ℕ))
+    × IsPutInPart page e size blocks base ops old taken × IsBehind given taken
 
 -- The base's bytes up to there were put out and nothing else, and of that a beginning was given on.
 abbrev pub GivesFront : Endian → ℕ → ℕ → List ℕ → Option (List ℕ) → Option (List ℕ) → Type 0
 GivesFront e size blocks base old given =
-    (taken : Option (List ℕ)) × Appends old taken (front_before e size blocks base) × IsBehind given taken
+    (taken : Option (List ℕ)) × Appends old taken (front_before e size blocks base)
+    × IsBehind given taken
 
 -- the one or the other, by the fault: without memory no operation was run
-abbrev pub GivesCut : SessionFault → Page → Endian → ℕ → ℕ → List ℕ → List Op → Option (List ℕ) → Option (List ℕ) → Type 0
-GivesCut session.OutOfMemory page e size blocks base ops old given = GivesFront e size blocks base old given
+abbrev pub GivesCut : SessionFault → Page → Endian → ℕ → ℕ → List ℕ → List Op → Option (List ℕ)
+    → Option (List ℕ) → Type 0
+GivesCut session.OutOfMemory page e size blocks base ops old given =
+    GivesFront e size blocks base old given
 GivesCut _ page e size blocks base ops old given = GivesPart page e size blocks base ops old given
 
 -- to a file, to which nothing else was given
 abbrev pub HoldsPart : Held → Page → Endian → ℕ → ℕ → List ℕ → List Op → Type 0
-HoldsPart held page e size blocks base ops = (old : Option (List ℕ)) × (given : Option (List ℕ)) × GivesPart page e size blocks base ops old given × IsHanded held old given
+HoldsPart held page e size blocks base ops = (old : Option (List ℕ)) × (given : Option (List ℕ))
+    × GivesPart page e size blocks base ops old given × IsHanded held old given
 
 abbrev pub HoldsFront : Held → Endian → ℕ → ℕ → List ℕ → Type 0
 HoldsFront held e size blocks base =
@@ -128,18 +147,23 @@ HoldsFront held e size blocks base =
 abbrev pub HoldsNothing : Held → Type 0
 HoldsNothing held = IsHanded held (Some []) (Some [])
 
--- What is held by the file that was made where no run is told, by the fault: a beginning of what goes out for the base and the
--- operations, or nothing; or there is no file.
+-- What is held by the file that was made where no run is told, by the fault: a beginning of what
+-- goes out for the base and the operations, or nothing; or there is no file.
 abbrev pub HoldsCut : Held → Page → Endian → ℕ → ℕ → List ℕ → List Op → ProgramFault → Type 0
-HoldsCut held page e size blocks base ops (program.Session session.Sink line) = HoldsPart held page e size blocks base ops
-HoldsCut held page e size blocks base ops (program.Session session.OutOfMemory line) = HoldsFront held e size blocks base
+HoldsCut held page e size blocks base ops (program.Session session.Sink line) =
+    HoldsPart held page e size blocks base ops
+HoldsCut held page e size blocks base ops (program.Session session.OutOfMemory line) =
+    HoldsFront held e size blocks base
 HoldsCut held page e size blocks base ops program.OutOfMemory = HoldsNothing held
 HoldsCut held page e size blocks base ops (program.File name) = held.1 ≡ held.0
 HoldsCut held page e size blocks base ops _ = Unit {0}
 
--- The lines of the listing were run on a base, with some bytes for the files that they name: so many were accepted, their
--- nodes have these places, and this stopped them. What they did survives a stop of writing at any byte.
-pub record IsRunOn (held : Held) (page : Page) (e : Endian) (size blocks : ℕ) (base text : List ℕ) (lines : List Line) (accepted : ℕ) (places : List Place) (stopped : Option SessionFault) : Type 0 where
+-- The lines of the listing were run on a base, with some bytes for the files that they name: so
+-- many were accepted, their nodes have these places, and this stopped them. What they did survives
+-- a stop of writing at any byte.
+pub record IsRunOn (held : Held) (page : Page) (e : Endian) (size blocks : ℕ) (base text : List ℕ)
+    (lines : List Line) (accepted : ℕ) (places : List Place) (stopped : Option SessionFault) : Type
+    0 where
   pub mount : Mount
   pub files : List ℕ → List ℕ
   pub read : lines_of text ≡ Ok lines
@@ -152,45 +176,61 @@ IsFaultOfMaking session.Sink = Unit {0}
 IsFaultOfMaking session.OutOfMemory = Unit {0}
 IsFaultOfMaking _ = ⊥
 
--- Why no operation was run, or not to its end: the image is not gone on from; or it is, and the file that is made failed, or
--- memory ran out.
+-- Why no operation was run, or not to its end: the image is not gone on from; or it is, and the
+-- file that is made failed, or memory ran out.
 abbrev pub IsNotGoneOn : Page → Endian → ℕ → ℕ → Mount → SessionFault → Type 0
-IsNotGoneOn page e size blocks m fault = (resumes_by page e size blocks m ≡ Err fault) ⊎ (IsOk (resumes_by page e size blocks m) × IsFaultOfMaking fault)
+IsNotGoneOn page e size blocks m fault = (resumes_by page e size blocks m ≡ Err fault)
+    ⊎ (IsOk (resumes_by page e size blocks m) × IsFaultOfMaking fault)
 
 -- why no file was made, or not to its end
 abbrev pub IsNotMade : Page → Endian → ℕ → ℕ → Mount → List ℕ → ProgramFault → Type 0
 IsNotMade page e size blocks m output (program.File name) = name.now ≡ output
-IsNotMade page e size blocks m output (program.Session fault None) = IsNotGoneOn page e size blocks m fault
+IsNotMade page e size blocks m output (program.Session fault None) =
+    IsNotGoneOn page e size blocks m fault
 IsNotMade page e size blocks m output program.OutOfMemory = Unit {0}
 IsNotMade page e size blocks m output _ = ⊥
 
 -- the fault of a session, and the line of the listing that it came to
-abbrev pub IsSessionFault : Held → Page → Endian → ℕ → ℕ → List ℕ → List ℕ → SessionFault → Option ℕ → Type 0
+abbrev pub IsSessionFault : Held → Page → Endian → ℕ → ℕ → List ℕ → List ℕ → SessionFault → Option ℕ
+    → Type 0
 IsSessionFault held page e size blocks base text fault line =
-    ((line ≡ None) × ((m : Mount) × Answers e size base (Ok m) × IsNotGoneOn page e size blocks m fault))
-    ⊎ ((lines : List Line) × (accepted : ℕ) × (places : List Place) × IsRunOn held page e size blocks base text lines accepted places (Some fault)
+    ((line ≡ None)
+    × ((m : Mount) × Answers e size base (Ok m) × IsNotGoneOn page e size blocks m fault))
+    ⊎ ((lines : List Line) × (accepted : ℕ) × (places : List Place)
+    × IsRunOn held page e size blocks base text lines accepted places (Some fault)
     × (line ≡ option_map (λ l. l.number) (slice_get lines accepted)))
 
 -- why an image is not written, or not to its end
-abbrev pub IsWriteFault : Held → Page → Endian → ℕ → ℕ → List ℕ → List ℕ → List ℕ → ProgramFault → Type 0
+abbrev pub IsWriteFault : Held → Page → Endian → ℕ → ℕ → List ℕ → List ℕ → List ℕ → ProgramFault
+    → Type 0
 IsWriteFault held page e size blocks output base text (program.Listing n) = lines_of text ≡ Err n
-IsWriteFault held page e size blocks output base text (program.File name) = (name.now ≡ output) ⊎ ((lines : List Line) × (lines_of text ≡ Ok lines) × IsNamedByLine lines name.now)
-IsWriteFault held page e size blocks output base text (program.Load fault) = (lines : List Line) × (lines_of text ≡ Ok lines)
-IsWriteFault held page e size blocks output base text (program.Mount fault) = Answers e size base (Err fault)
-IsWriteFault held page e size blocks output base text (program.Session fault line) = IsSessionFault held page e size blocks base text fault line
+IsWriteFault held page e size blocks output base text (program.File name) = (name.now ≡ output)
+    ⊎ ((lines : List Line) × (lines_of text ≡ Ok lines) × IsNamedByLine lines name.now)
+IsWriteFault held page e size blocks output base text (program.Load fault) =
+    (lines : List Line) × (lines_of text ≡ Ok lines)
+IsWriteFault held page e size blocks output base text (program.Mount fault) =
+    Answers e size base (Err fault)
+IsWriteFault held page e size blocks output base text (program.Session fault line) =
+    IsSessionFault held page e size blocks base text fault line
 IsWriteFault held page e size blocks output base text program.OutOfMemory = Unit {0}
 IsWriteFault held page e size blocks output base text _ = ⊥
 
--- The operations of a listing's text are run on a base, and what they did is told in a line; or a fault is due, and nothing
--- is told.
-abbrev pub WritesImage : {T : Type 0} → Held → Page → Endian → ℕ → ℕ → List ℕ → List ℕ → List ℕ → Option (List ℕ) → Option (List ℕ) → ℕ → ℕ → Result T ProgramFault → Type 0
+-- The operations of a listing's text are run on a base, and what they did is told in a line; or a
+-- fault is due, and nothing is told.
+abbrev pub WritesImage : {T : Type 0} → Held → Page → Endian → ℕ → ℕ → List ℕ → List ℕ → List ℕ
+    → Option (List ℕ) → Option (List ℕ) → ℕ → ℕ → Result T ProgramFault → Type 0
 WritesImage held page e size blocks output base text old new before now (Ok _) =
-    (lines : List Line) × (accepted : ℕ) × (places : List Place) × IsRunOn held page e size blocks base text lines accepted places None
-    × Appends old new (accepted_line (resume_address e size blocks base) accepted places) × (now ≡ before)
+    (lines : List Line) × (accepted : ℕ) × (places : List Place)
+    × IsRunOn held page e size blocks base text lines accepted places None
+    × Appends old new (accepted_line (resume_address e size blocks base) accepted places)
+    × (now ≡ before)
 WritesImage held page e size blocks output base text old new before now (Err program.Output) =
-    (lines : List Line) × (accepted : ℕ) × (places : List Place) × IsRunOn held page e size blocks base text lines accepted places None
-    × PutsPart old new (accepted_line (resume_address e size blocks base) accepted places) × (now ≡ next_count before)
-WritesImage held page e size blocks output base text old new before now (Err fault) = IsWriteFault held page e size blocks output base text fault × (new ≡ old) × (now ≡ before)
+    (lines : List Line) × (accepted : ℕ) × (places : List Place)
+    × IsRunOn held page e size blocks base text lines accepted places None
+    × PutsPart old new (accepted_line (resume_address e size blocks base) accepted places)
+    × (now ≡ next_count before)
+WritesImage held page e size blocks output base text old new before now (Err fault) =
+    IsWriteFault held page e size blocks output base text fault × (new ≡ old) × (now ≡ before)
 
 -- a base has so many findings of which a reader of files is told
 abbrev pub IsNotedIn : Endian → ℕ → List ℕ → ℕ → Type 0

@@ -77,12 +77,16 @@ pub fn take_file<'a, E: Order, L: Loader>(
     geometry: Geometry,
     name: &'a str,
 ) -> Result<Taken, ProgramFault<'a>>
-    ensures taken { IfOk result (λ taken. (image : List ℕ) × AreLoaded (L.told loader.old name.entry.now) image
+    ensures taken { IfOk result
+        (λ taken. (image : List ℕ) × AreLoaded (L.told loader.old name.entry.now) image
         × IsTaken E.order geometry.block image taken) }
-    ensures refused { IfErr result (λ fault. IsUnreadFile name.entry.now (L.told loader.old name.entry.now) fault
-        ⊎ ((image : List ℕ) × AreLoaded (L.told loader.old name.entry.now) image × IsNotConverted E.order geometry.block image fault
+    ensures refused { IfErr result
+        (λ fault. IsUnreadFile name.entry.now (L.told loader.old name.entry.now) fault
+        ⊎ ((image : List ℕ) × AreLoaded (L.told loader.old name.entry.now) image
+        × IsNotConverted E.order geometry.block image fault
         × (L.failures loader.new ≡ L.failures loader.old))) }
-    ensures host { ReadsFile (L.told loader.old name.entry.now) (L.failures loader.old) (L.failures loader.new) result }
+    ensures host { ReadsFile (L.told loader.old name.entry.now) (L.failures loader.old)
+        (L.failures loader.new) result }
     ensures stays { (other : List ℕ) → L.told loader.new other ≡ L.told loader.old other }
 {
     let image = match load_file(loader, name) {
@@ -105,11 +109,14 @@ fn put_converted<E: Order, S: Output>(
 ) -> Result<(), SessionFault>
     requires accepted { convert_fault E.order geometry.block image.now ≡ None }
     requires held { IsHeldOf E.order geometry.block image.now held.now }
-    ensures given { OnOk result (Appends (S.taken output.old) (S.given output.new) (converted_image E.order geometry.block image.now)) }
+    ensures given { OnOk result (Appends (S.taken output.old) (S.given output.new)
+        (converted_image E.order geometry.block image.now)) }
     ensures count { OnOk result (S.failures output.new ≡ S.failures output.old) }
-    ensures part { IfErr result (λ _. GivesText (S.taken output.old) (S.given output.new) (converted_image E.order geometry.block image.now)) }
+    ensures part { IfErr result (λ _. GivesText (S.taken output.old) (S.given output.new)
+        (converted_image E.order geometry.block image.now)) }
     ensures fault { IfErr result IsFaultOfMaking }
-    ensures failed { IfErr result (λ fault. fault ≡ SessionFault.Sink → HasFailed (S.failures output.old) (S.failures output.new)) }
+    ensures failed { IfErr result (λ fault. fault ≡ SessionFault.Sink
+        → HasFailed (S.failures output.old) (S.failures output.new)) }
 {
     let put = write_converted::<E, S>(alloc, image, geometry, held, output);
     let finished = output.finish();
@@ -131,9 +138,12 @@ fn make_converted<'a, E: Order, M: Maker>(
 ) -> Result<(), ProgramFault<'a>>
     requires accepted { convert_fault E.order geometry.block image.now ≡ None }
     requires held { IsHeldOf E.order geometry.block image.now held.now }
-    ensures made { OnOk result (HoldsMade (M.held maker.old, M.held maker.new) (converted_image E.order geometry.block image.now)) }
-    ensures fault { IfErr result (λ fault. IsNotWritten (M.held maker.old, M.held maker.new) name.entry.now (converted_image E.order geometry.block image.now) fault) }
-    ensures host { (read : ℕ) → BlamesDecompress (maker.new ≡ maker.old) (MakesFile name.entry.now (M.names maker.old) (M.names maker.new))
+    ensures made { OnOk result (HoldsMade (M.held maker.old, M.held maker.new)
+        (converted_image E.order geometry.block image.now)) }
+    ensures fault { IfErr result (λ fault. IsNotWritten (M.held maker.old, M.held maker.new)
+        name.entry.now (converted_image E.order geometry.block image.now) fault) }
+    ensures host { (read : ℕ) → BlamesDecompress (maker.new ≡ maker.old)
+        (MakesFile name.entry.now (M.names maker.old) (M.names maker.new))
         read read (M.failures maker.old) (M.failures maker.new) result }
 {
     let mut output = match maker.make(name) {
@@ -159,9 +169,11 @@ pub fn decompress_into<'a, E: Order, M: Maker, T: Sink>(
     name: &'a str,
     sink: &mut T,
 ) -> Result<u64, ProgramFault<'a>>
-    ensures decompresses { DecompressesFile (M.held maker.old, M.held maker.new) E.order geometry.block name.entry.now image.now
+    ensures decompresses { DecompressesFile (M.held maker.old, M.held maker.new) E.order
+        geometry.block name.entry.now image.now
         (T.taken sink.old) (T.taken sink.new) (T.failures sink.old) (T.failures sink.new) result }
-    ensures host { (read : ℕ) → BlamesDecompress (maker.new ≡ maker.old) (MakesFile name.entry.now (M.names maker.old) (M.names maker.new))
+    ensures host { (read : ℕ) → BlamesDecompress (maker.new ≡ maker.old)
+        (MakesFile name.entry.now (M.names maker.old) (M.names maker.new))
         read read (M.failures maker.old) (M.failures maker.new) result }
 {
     let judged = match judge::<E>(alloc, image, geometry, HELD_MOST) {

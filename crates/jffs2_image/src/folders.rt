@@ -46,8 +46,8 @@ pub trait Folders {
     /// What is known of what the host tells of the folder of each name.
     ghost reads: { Self → List ℕ → Known };
 
-    /// The folder of a name, which is to be made and filled. How far that is is told unless it is `quiet`. It goes on with
-    /// what was made.
+    /// The folder of a name, which is to be made and filled. How far that is is told unless it is
+    /// `quiet`. It goes on with what was made.
     fn filled(&mut self, name: &str, quiet: bool) -> Result<Self::Filled, AllocError>
         ensures filled { IfOk result (λ folder. Self.Filled.made folder ≡ made self.old name.now) }
         ensures unchanged { made self.new ≡ made self.old };
@@ -55,7 +55,8 @@ pub trait Folders {
     /// Takes back the folder of a name, which was filled.
     fn take_filled(&mut self, name: &str, folder: Self::Filled)
         ensures filled { made self.new name.now ≡ Self.Filled.made folder }
-        ensures others { (other : List ℕ) → other ≢ name.now → made self.new other ≡ made self.old other };
+        ensures others { (other : List ℕ) → other ≢ name.now
+            → made self.new other ≡ made self.old other };
 
     /// The folder of a name, which is to be read. How far that is is told unless it is `quiet`.
     fn read(&mut self, name: &str, quiet: bool) -> Result<Self::Read, AllocError>
@@ -89,8 +90,10 @@ fn extract_bytes<'a, E: Order, X: Folder, N: Sink>(
     folder: &mut X,
     notes: &mut N,
 ) -> Result<Extracted, ProgramFault<'a>>
-    ensures { ExtractsBytes E.order geometry.block owners image.now name.entry.now (X.made folder.old) (X.made folder.new)
-        (X.failures folder.old) (X.failures folder.new) (N.taken notes.old) (N.taken notes.new) (N.failures notes.old) (N.failures notes.new) result }
+    ensures { ExtractsBytes E.order geometry.block owners image.now name.entry.now
+        (X.made folder.old) (X.made folder.new)
+        (X.failures folder.old) (X.failures folder.new) (N.taken notes.old) (N.taken notes.new)
+        (N.failures notes.old) (N.failures notes.new) result }
 {
     let mounted = match mount::<E>(alloc, image, geometry) {
         Ok(mounted) => mounted,
@@ -116,8 +119,10 @@ fn extract_decompressed<'a, E: Order, X: Folder, N: Sink>(
     folder: &mut X,
     notes: &mut N,
 ) -> Result<Extracted, ProgramFault<'a>>
-    ensures { ExtractsTaken true E.order geometry.block owners image.now name.entry.now (X.made folder.old) (X.made folder.new)
-        (X.failures folder.old) (X.failures folder.new) (N.taken notes.old) (N.taken notes.new) (N.failures notes.old) (N.failures notes.new) result }
+    ensures { ExtractsTaken true E.order geometry.block owners image.now name.entry.now
+        (X.made folder.old) (X.made folder.new)
+        (X.failures folder.old) (X.failures folder.new) (N.taken notes.old) (N.taken notes.new)
+        (N.failures notes.old) (N.failures notes.new) result }
 {
     let Taken { image: made, found } = match take_image::<E>(alloc, image, geometry) {
         Ok(taken) => taken,
@@ -153,9 +158,12 @@ pub fn extract_image<'a, E: Order, L: Loader, X: Folder, N: Sink>(
     folder: &mut X,
     notes: &mut N,
 ) -> Result<Extracted, ProgramFault<'a>>
-    ensures { ExtractsImage decompress E.order geometry.block owners (L.told loader.old image.entry.now) (L.failures loader.old) (L.failures loader.new) image.entry.now name.entry.now
+    ensures { ExtractsImage decompress E.order geometry.block owners
+        (L.told loader.old image.entry.now) (L.failures loader.old) (L.failures loader.new)
+        image.entry.now name.entry.now
         (X.made folder.old) (X.made folder.new) (X.failures folder.old) (X.failures folder.new)
-        (N.taken notes.old) (N.taken notes.new) (N.failures notes.old) (N.failures notes.new) result }
+        (N.taken notes.old) (N.taken notes.new) (N.failures notes.old) (N.failures notes.new)
+        result }
 {
     let bytes = match load_file(loader, image) {
         Ok(bytes) => bytes,
@@ -196,7 +204,8 @@ fn read_fault(fault: ReadFault, name: &str) -> ProgramFault<'_>
 
 /// Puts the listing of a folder that was read.
 fn put_read<T: Sink>(read: &jfolder::Folder, sink: &mut T) -> Result<(), DeviceFault>
-    ensures { Puts (T.taken sink.old) (T.taken sink.new) (T.failures sink.old) (T.failures sink.new) (listing_text read.now.root read.now.items.items) result }
+    ensures { Puts (T.taken sink.old) (T.taken sink.new) (T.failures sink.old) (T.failures sink.new)
+        (listing_text read.now.root read.now.items.items) result }
 {
     put_listing(&read.root, read.items.as_slice(), sink)
 }
@@ -210,8 +219,10 @@ pub fn list_folder<'a, H: HostFolder, T: Sink, N: Sink>(
     sink: &mut T,
     notes: &mut N,
 ) -> Result<u64, ProgramFault<'a>>
-    ensures { ListsFolder (H.known folder.old) options name.entry.now (T.taken sink.old) (T.taken sink.new) (T.failures sink.old) (T.failures sink.new)
-        (N.taken notes.old) (N.taken notes.new) (N.failures notes.old) (N.failures notes.new) result }
+    ensures { ListsFolder (H.known folder.old) options name.entry.now (T.taken sink.old)
+        (T.taken sink.new) (T.failures sink.old) (T.failures sink.new)
+        (N.taken notes.old) (N.taken notes.new) (N.failures notes.old) (N.failures notes.new)
+        result }
 {
     let read = match read_folder(alloc, folder, &options, notes) {
         Ok(read) => read,
@@ -231,10 +242,13 @@ fn extract_in_order<'a, L: Loader, X: Folder, N: Sink>(
     folder: &mut X,
     notes: &mut N,
 ) -> Result<Extracted, ProgramFault<'a>>
-    ensures { ExtractsImage asked.entry.decompress asked.entry.options.endian asked.entry.options.geometry.block asked.entry.owners
-        (L.told loader.old asked.entry.image.now) (L.failures loader.old) (L.failures loader.new) asked.entry.image.now asked.entry.folder.now
+    ensures { ExtractsImage asked.entry.decompress asked.entry.options.endian
+        asked.entry.options.geometry.block asked.entry.owners
+        (L.told loader.old asked.entry.image.now) (L.failures loader.old) (L.failures loader.new)
+        asked.entry.image.now asked.entry.folder.now
         (X.made folder.old) (X.made folder.new) (X.failures folder.old) (X.failures folder.new)
-        (N.taken notes.old) (N.taken notes.new) (N.failures notes.old) (N.failures notes.new) result }
+        (N.taken notes.old) (N.taken notes.new) (N.failures notes.old) (N.failures notes.new)
+        result }
 {
     let Extraction {
         options,
@@ -263,9 +277,12 @@ fn fill<'a, L: Loader, D: Folders, N: Sink>(
     asked: Extraction<'a>,
     notes: &mut N,
 ) -> Result<Extracted, ProgramFault<'a>>
-    ensures { FillsFolder asked.entry.decompress asked.entry.options.endian asked.entry.options.geometry.block asked.entry.owners
-        (L.told loader.old asked.entry.image.now) (L.failures loader.old) (L.failures loader.new) asked.entry.image.now asked.entry.folder.now
-        (D.made folders.old) (D.made folders.new) (N.taken notes.old) (N.taken notes.new) (N.failures notes.old) (N.failures notes.new) result }
+    ensures { FillsFolder asked.entry.decompress asked.entry.options.endian
+        asked.entry.options.geometry.block asked.entry.owners
+        (L.told loader.old asked.entry.image.now) (L.failures loader.old) (L.failures loader.new)
+        asked.entry.image.now asked.entry.folder.now
+        (D.made folders.old) (D.made folders.new) (N.taken notes.old) (N.taken notes.new)
+        (N.failures notes.old) (N.failures notes.new) result }
 {
     let name = asked.folder;
     let Ok(mut folder) = folders.filled(name, asked.quiet) else {
@@ -278,7 +295,8 @@ fn fill<'a, L: Loader, D: Folders, N: Sink>(
 
 /// The notes on what an extraction came to, if there are any.
 fn note_extraction<E: Sink>(done: Extracted, errors: &mut E)
-    ensures { Says (errors.new ≡ errors.old) (E.taken errors.old) (E.taken errors.new) (E.failures errors.old) (E.failures errors.new) (notes_after_extraction done) }
+    ensures { Says (errors.new ≡ errors.old) (E.taken errors.old) (E.taken errors.new)
+        (E.failures errors.old) (E.failures errors.new) (notes_after_extraction done) }
 {
     let Extracted {
         totals,
@@ -309,8 +327,11 @@ pub fn run_extract<L: Loader, D: Folders, E: Sink>(
     asked: Extraction<'_>,
     errors: &mut E,
 ) -> Outcome
-    ensures { EndsExtraction asked.entry.options asked.entry.decompress asked.entry.owners asked.entry.image.now asked.entry.folder.now (L.told loader.old) (L.failures loader.old) (L.failures loader.new)
-        (D.made folders.old) (D.made folders.new) (E.taken errors.old) (E.taken errors.new) (E.failures errors.old) (E.failures errors.new) result }
+    ensures { EndsExtraction asked.entry.options asked.entry.decompress asked.entry.owners
+        asked.entry.image.now asked.entry.folder.now (L.told loader.old) (L.failures loader.old)
+        (L.failures loader.new)
+        (D.made folders.old) (D.made folders.new) (E.taken errors.old) (E.taken errors.new)
+        (E.failures errors.old) (E.failures errors.new) result }
 {
     match fill(alloc, loader, folders, asked, errors) {
         Ok(done) => {
@@ -341,8 +362,10 @@ fn list_whole<'a, H: HostFolder, T: Output, N: Sink>(
     output: &mut T,
     notes: &mut N,
 ) -> Result<u64, ProgramFault<'a>>
-    ensures { FinishesListing (H.known folder.old) options name.entry.now (T.taken output.old) (T.given output.new) (T.failures output.old) (T.failures output.new)
-        (N.taken notes.old) (N.taken notes.new) (N.failures notes.old) (N.failures notes.new) result }
+    ensures { FinishesListing (H.known folder.old) options name.entry.now (T.taken output.old)
+        (T.given output.new) (T.failures output.old) (T.failures output.new)
+        (N.taken notes.old) (N.taken notes.new) (N.failures notes.old) (N.failures notes.new)
+        result }
 {
     let answer = list_folder(alloc, options, name, folder, output, notes);
     let finished = output.finish();
@@ -364,8 +387,11 @@ fn list_given<'a, D: Folders, T: Output, N: Sink>(
     notes: &mut N,
 ) -> Result<u64, ProgramFault<'a>>
     ensures made { D.made folders.new ≡ D.made folders.old }
-    ensures lists { ListsGiven (output.new ≡ output.old) (D.reads folders.old name.entry.now) options name.entry.now (T.taken output.old) (T.given output.new) (T.failures output.old) (T.failures output.new)
-        (N.taken notes.old) (N.taken notes.new) (N.failures notes.old) (N.failures notes.new) result }
+    ensures lists { ListsGiven (output.new ≡ output.old) (D.reads folders.old name.entry.now)
+        options name.entry.now (T.taken output.old) (T.given output.new) (T.failures output.old)
+        (T.failures output.new)
+        (N.taken notes.old) (N.taken notes.new) (N.failures notes.old) (N.failures notes.new)
+        result }
 {
     let Ok(mut folder) = folders.read(name, quiet) else {
         return Err(ProgramFault::OutOfMemory);
@@ -384,8 +410,12 @@ pub fn run_listing<D: Folders, T: Output, E: Sink>(
     errors: &mut E,
 ) -> Outcome
     ensures made { D.made folders.new ≡ D.made folders.old }
-    ensures ends { EndsListing (output.new ≡ output.old) (D.reads folders.old asked.entry.folder.now) (settings asked.entry.owner asked.entry.time) asked.entry.folder.now (T.taken output.old) (T.given output.new) (T.failures output.old) (T.failures output.new)
-        (E.taken errors.old) (E.taken errors.new) (E.failures errors.old) (E.failures errors.new) result }
+    ensures ends { EndsListing (output.new ≡ output.old)
+        (D.reads folders.old asked.entry.folder.now) (settings asked.entry.owner asked.entry.time)
+        asked.entry.folder.now (T.taken output.old) (T.given output.new) (T.failures output.old)
+        (T.failures output.new)
+        (E.taken errors.old) (E.taken errors.new) (E.failures errors.old) (E.failures errors.new)
+        result }
 {
     let options = settings_of(asked.owner, asked.time);
     match list_given(

@@ -32,13 +32,15 @@ pub trait Loader {
     fn load(&mut self, name: &str, limit: usize) -> Result<Vec<u8>, FileFault>
         ensures bytes { IfOk result (λ bytes. AreOf (told self.old name.now) bytes.items) }
         ensures within { IfOk result (λ bytes. length bytes.items ≤ limit) }
-        ensures large { result ≡ Err (FileFault.Load LoadFault.TooLarge) → IfSome (told self.old name.now) (λ bytes. limit < length bytes) }
+        ensures large { result ≡ Err (FileFault.Load LoadFault.TooLarge)
+            → IfSome (told self.old name.now) (λ bytes. limit < length bytes) }
         ensures count { CountsFile (failures self.old) (failures self.new) result }
         ensures stays { (other : List ℕ) → told self.new other ≡ told self.old other };
 
     /// The file of a name, to be read from its start. It goes on with the count of failures.
     fn open(&mut self, name: &str) -> Result<Self::Opened, DeviceFault>
-        ensures opened { IfOk result (λ opened. GivesFile (told self.old name.now) (Self.Opened.rest opened)) }
+        ensures opened { IfOk result
+            (λ opened. GivesFile (told self.old name.now) (Self.Opened.rest opened)) }
         ensures counting { IfOk result (λ opened. Self.Opened.failures opened ≡ failures self.old) }
         ensures count { CountsErr (failures self.old) (failures self.new) result }
         ensures stays { (other : List ℕ) → told self.new other ≡ told self.old other };
@@ -67,22 +69,28 @@ pub trait Maker {
     /// The names of the files that it made, in order, where they are told.
     ghost names: { Self → Option (List (List ℕ)) };
 
-    /// What was given to each file that it made and that is lent out no more, in order, where it is told.
+    /// What was given to each file that it made and that is lent out no more, in order, where it is
+    /// told.
     ghost held: { Self → Option (List (List ℕ)) };
 
-    /// Makes the file of a name, empty, also in place of one that is there. It goes on with the count of failures.
+    /// Makes the file of a name, empty, also in place of one that is there. It goes on with the
+    /// count of failures.
     fn make(&mut self, name: &str) -> Result<Self::Made, MakeFault>
         ensures made { IfOk result (λ made. Self.Made.failures made ≡ failures self.old) }
-        ensures not_made { result ≡ Err MakeFault.NotMade → failures self.new ≡ next_count (failures self.old) }
+        ensures not_made { result ≡ Err MakeFault.NotMade
+            → failures self.new ≡ next_count (failures self.old) }
         ensures names { MakesBy name.now (names self.old) (names self.new) result }
-        ensures empty { IfOk result (λ made. IfSome (held self.old) (λ _. Self.Made.taken made ≡ Some [])) }
+        ensures empty { IfOk result
+            (λ made. IfSome (held self.old) (λ _. Self.Made.taken made ≡ Some [])) }
         ensures held { HoldsBy (held self.old) (held self.new) result };
 
     /// Takes back a file that was made, with its count of failures.
     fn take_back(&mut self, made: Self::Made)
         ensures count { failures self.new ≡ Self.Made.failures made }
         ensures names { names self.new ≡ names self.old }
-        ensures held { IfSome (held self.old) (λ files. IfSome (Self.Made.given made) (λ bytes. held self.new ≡ Some (files ++ bytes ∷ []))) };
+        ensures held { IfSome (held self.old) (λ files.
+            IfSome (Self.Made.given made)
+            (λ bytes. held self.new ≡ Some (files ++ bytes ∷ []))) };
 }
 
 /// How many bytes a file is asked for at once.

@@ -48,7 +48,8 @@ fn collected(alloc: Global, args: Args) -> Result<Vec<String>, AllocError>
 
 /// The texts of all arguments, in their order.
 fn texts_of(alloc: Global, args: &[String]) -> Result<Vec<&str>, AllocError>
-    ensures { IfOk result (λ texts. map (λ text. text.now) texts.items ≡ map string_bytes args.now) }
+    ensures { IfOk result
+        (λ texts. map (λ text. text.now) texts.items ≡ map string_bytes args.now) }
 {
     let mut texts = Vec::new(alloc);
     for word in args {

@@ -37,9 +37,12 @@ pub struct BufferedOutput<W: Write + Drop> {
 impl<W: Write + Drop> BufferedOutput<W> {
     /// An empty buffer before a writer, which is dropped where there is no memory for one.
     pub fn new(alloc: Global, writer: W) -> io::Result<Self>
-        ensures given { IfOk result (λ output. ⟦<BufferedOutput<W> as Output>⟧.given output ≡ W.contents writer) }
-        ensures taken { IfOk result (λ output. Keeps (W.contents writer) (⟦<BufferedOutput<W> as Sink>⟧.taken output)) }
-        ensures failures { IfOk result (λ output. ⟦<BufferedOutput<W> as Sink>⟧.failures output ≡ 0) }
+        ensures given { IfOk result
+            (λ output. ⟦<BufferedOutput<W> as Output>⟧.given output ≡ W.contents writer) }
+        ensures taken { IfOk result
+            (λ output. Keeps (W.contents writer) (⟦<BufferedOutput<W> as Sink>⟧.taken output)) }
+        ensures failures { IfOk result
+            (λ output. ⟦<BufferedOutput<W> as Sink>⟧.failures output ≡ 0) }
         ensures memory { IfErr result (λ error. error_kind error ≡ ErrorKind.OutOfMemory) }
     {
         BufferedOutput::counting_from(alloc, writer, 0)
@@ -47,9 +50,12 @@ impl<W: Write + Drop> BufferedOutput<W> {
 
     /// The same, which goes on with a count of failures.
     pub(crate) fn counting_from(alloc: Global, writer: W, failures: u64) -> io::Result<Self>
-        ensures given { IfOk result (λ output. ⟦<BufferedOutput<W> as Output>⟧.given output ≡ W.contents writer) }
-        ensures taken { IfOk result (λ output. Keeps (W.contents writer) (⟦<BufferedOutput<W> as Sink>⟧.taken output)) }
-        ensures failures { IfOk result (λ output. ⟦<BufferedOutput<W> as Sink>⟧.failures output ≡ failures) }
+        ensures given { IfOk result
+            (λ output. ⟦<BufferedOutput<W> as Output>⟧.given output ≡ W.contents writer) }
+        ensures taken { IfOk result
+            (λ output. Keeps (W.contents writer) (⟦<BufferedOutput<W> as Sink>⟧.taken output)) }
+        ensures failures { IfOk result
+            (λ output. ⟦<BufferedOutput<W> as Sink>⟧.failures output ≡ failures) }
         ensures memory { IfErr result (λ error. error_kind error ≡ ErrorKind.OutOfMemory) }
     {
         let writer = BufWriter::with_capacity(alloc, BUFFER, writer)?;

@@ -45,7 +45,8 @@ pub enum Stop<'a> {
 /// The file of an image.
 fn open<'a, L: Loader>(loader: &mut L, image: &'a str) -> Result<L::Opened, ProgramFault<'a>>
     ensures fault { IfErr result (λ fault. fault ≡ ProgramFault.File image.entry) }
-    ensures opened { IfOk result (λ source. GivesFile (L.told loader.old image.entry.now) (L.Opened.rest source)) }
+    ensures opened { IfOk result
+        (λ source. GivesFile (L.told loader.old image.entry.now) (L.Opened.rest source)) }
     ensures counting { IfOk result (λ source. L.Opened.failures source ≡ L.failures loader.old) }
     ensures count { CountsErr (L.failures loader.old) (L.failures loader.new) result }
 {
@@ -63,8 +64,10 @@ fn scan<'a, E: Order, L: Loader, T: Sink>(
     image: &'a str,
     sink: &mut T,
 ) -> Result<u64, ProgramFault<'a>>
-    ensures meets { Meets (L.told loader.old) (None, None) E.order (ScanParsed options image.now) (T.taken sink.old) (T.taken sink.new) (T.failures sink.old) (T.failures sink.new) result }
-    ensures host { ReadsFile (L.told loader.old image.now) (L.failures loader.old) (L.failures loader.new) result }
+    ensures meets { Meets (L.told loader.old) (None, None) E.order (ScanParsed options image.now)
+        (T.taken sink.old) (T.taken sink.new) (T.failures sink.old) (T.failures sink.new) result }
+    ensures host { ReadsFile (L.told loader.old image.now) (L.failures loader.old)
+        (L.failures loader.new) result }
 {
     let source = open(loader, image)?;
     let (answer, read) = stream_lines::<E, _, _>(alloc, source, options.geometry, sink);
@@ -83,8 +86,11 @@ fn check<'a, E: Order, L: Loader, T: Sink>(
     image: &'a str,
     sink: &mut T,
 ) -> Result<u64, ProgramFault<'a>>
-    ensures meets { Meets (L.told loader.old) (None, None) E.order (CheckParsed options shape image.now) (T.taken sink.old) (T.taken sink.new) (T.failures sink.old) (T.failures sink.new) result }
-    ensures host { ReadsFile (L.told loader.old image.now) (L.failures loader.old) (L.failures loader.new) result }
+    ensures meets { Meets (L.told loader.old) (None, None) E.order
+        (CheckParsed options shape image.now) (T.taken sink.old) (T.taken sink.new)
+        (T.failures sink.old) (T.failures sink.new) result }
+    ensures host { ReadsFile (L.told loader.old image.now) (L.failures loader.old)
+        (L.failures loader.new) result }
 {
     let mut source = open(loader, image)?;
     let answer = check_lines::<E, _, _>(alloc, &mut source, options.geometry, shape, sink);
@@ -100,8 +106,11 @@ fn list_decompressed<'a, E: Order, L: Loader, T: Sink>(
     image: &'a str,
     sink: &mut T,
 ) -> Result<u64, ProgramFault<'a>>
-    ensures meets { Meets (L.told loader.old) (None, None) E.order (ListParsed options true image.now None) (T.taken sink.old) (T.taken sink.new) (T.failures sink.old) (T.failures sink.new) result }
-    ensures host { ReadsFile (L.told loader.old image.now) (L.failures loader.old) (L.failures loader.new) result }
+    ensures meets { Meets (L.told loader.old) (None, None) E.order
+        (ListParsed options true image.now None) (T.taken sink.old) (T.taken sink.new)
+        (T.failures sink.old) (T.failures sink.new) result }
+    ensures host { ReadsFile (L.told loader.old image.now) (L.failures loader.old)
+        (L.failures loader.new) result }
 {
     let taken = match take_file::<E, L>(alloc, loader, options.geometry, image) {
         Ok(taken) => taken,
@@ -122,8 +131,11 @@ fn list_whole<'a, E: Order, L: Loader, T: Sink>(
     image: &'a str,
     sink: &mut T,
 ) -> Result<u64, ProgramFault<'a>>
-    ensures meets { Meets (L.told loader.old) (None, None) E.order (ListParsed options decompress image.now None) (T.taken sink.old) (T.taken sink.new) (T.failures sink.old) (T.failures sink.new) result }
-    ensures host { ReadsFile (L.told loader.old image.now) (L.failures loader.old) (L.failures loader.new) result }
+    ensures meets { Meets (L.told loader.old) (None, None) E.order
+        (ListParsed options decompress image.now None) (T.taken sink.old) (T.taken sink.new)
+        (T.failures sink.old) (T.failures sink.new) result }
+    ensures host { ReadsFile (L.told loader.old image.now) (L.failures loader.old)
+        (L.failures loader.new) result }
 {
     if decompress {
         return list_decompressed::<E, L, T>(alloc, loader, options, image, sink);
@@ -146,7 +158,8 @@ fn part_decompressed<'a, E: Order, L: Loader, T: Sink>(
     ensures meets { Meets (L.told loader.old) (None, None) E.order
         (ListParsed options true image.now (Some path.now)) (T.taken sink.old) (T.taken sink.new)
         (T.failures sink.old) (T.failures sink.new) result }
-    ensures host { ReadsFile (L.told loader.old image.now) (L.failures loader.old) (L.failures loader.new) result }
+    ensures host { ReadsFile (L.told loader.old image.now) (L.failures loader.old)
+        (L.failures loader.new) result }
 {
     let path = path_word(alloc, path.as_bytes())?;
     let taken = match take_file::<E, L>(alloc, loader, options.geometry, image) {
@@ -173,7 +186,8 @@ fn list_part<'a, E: Order, L: Loader, T: Sink>(
     ensures meets { Meets (L.told loader.old) (None, None) E.order
         (ListParsed options decompress image.now (Some path.now)) (T.taken sink.old)
         (T.taken sink.new) (T.failures sink.old) (T.failures sink.new) result }
-    ensures host { ReadsFile (L.told loader.old image.now) (L.failures loader.old) (L.failures loader.new) result }
+    ensures host { ReadsFile (L.told loader.old image.now) (L.failures loader.old)
+        (L.failures loader.new) result }
 {
     if decompress {
         return part_decompressed::<E, L, T>(alloc, loader, options, image, path, sink);
@@ -199,7 +213,8 @@ fn list<'a, E: Order, L: Loader, T: Sink>(
     ensures meets { Meets (L.told loader.old) (None, None) E.order
         (ListParsed options decompress image.now (option_map (λ p. p.now) path.entry))
         (T.taken sink.old) (T.taken sink.new) (T.failures sink.old) (T.failures sink.new) result }
-    ensures host { ReadsFile (L.told loader.old image.now) (L.failures loader.old) (L.failures loader.new) result }
+    ensures host { ReadsFile (L.told loader.old image.now) (L.failures loader.old)
+        (L.failures loader.new) result }
 {
     match path {
         Some(path) => {
@@ -219,8 +234,11 @@ fn cat_decompressed<'a, E: Order, L: Loader, T: Sink>(
     path: &str,
     sink: &mut T,
 ) -> Result<u64, ProgramFault<'a>>
-    ensures meets { Meets (L.told loader.old) (None, None) E.order (CatParsed options true image.now path.now) (T.taken sink.old) (T.taken sink.new) (T.failures sink.old) (T.failures sink.new) result }
-    ensures host { ReadsFile (L.told loader.old image.now) (L.failures loader.old) (L.failures loader.new) result }
+    ensures meets { Meets (L.told loader.old) (None, None) E.order
+        (CatParsed options true image.now path.now) (T.taken sink.old) (T.taken sink.new)
+        (T.failures sink.old) (T.failures sink.new) result }
+    ensures host { ReadsFile (L.told loader.old image.now) (L.failures loader.old)
+        (L.failures loader.new) result }
 {
     let path = path_word(alloc, path.as_bytes())?;
     let taken = match take_file::<E, L>(alloc, loader, options.geometry, image) {
@@ -243,8 +261,11 @@ fn cat<'a, E: Order, L: Loader, T: Sink>(
     path: &str,
     sink: &mut T,
 ) -> Result<u64, ProgramFault<'a>>
-    ensures meets { Meets (L.told loader.old) (None, None) E.order (CatParsed options decompress image.now path.now) (T.taken sink.old) (T.taken sink.new) (T.failures sink.old) (T.failures sink.new) result }
-    ensures host { ReadsFile (L.told loader.old image.now) (L.failures loader.old) (L.failures loader.new) result }
+    ensures meets { Meets (L.told loader.old) (None, None) E.order
+        (CatParsed options decompress image.now path.now) (T.taken sink.old) (T.taken sink.new)
+        (T.failures sink.old) (T.failures sink.new) result }
+    ensures host { ReadsFile (L.told loader.old image.now) (L.failures loader.old)
+        (L.failures loader.new) result }
 {
     if decompress {
         return cat_decompressed::<E, L, T>(alloc, loader, options, image, path, sink);
@@ -267,8 +288,13 @@ fn build<'a, E: Order, L: Loader, M: Maker, T: Sink>(
     texts: &'a mut Texts,
     sink: &mut T,
 ) -> Result<u64, ProgramFault<'a>>
-    ensures meets { Meets (L.told loader.old) (M.held maker.old, M.held maker.new) E.order (BuildParsed target.entry.options target.entry.blocks target.entry.page listing.entry.now target.entry.output.now) (T.taken sink.old) (T.taken sink.new) (T.failures sink.old) (T.failures sink.new) result }
-    ensures host { Blames (maker.new ≡ maker.old) (MakesFile target.entry.output.now (M.names maker.old) (M.names maker.new)) (L.failures loader.old) (L.failures loader.new) (M.failures maker.old) (M.failures maker.new) result }
+    ensures meets { Meets (L.told loader.old) (M.held maker.old, M.held maker.new) E.order
+        (BuildParsed target.entry.options target.entry.blocks target.entry.page listing.entry.now
+        target.entry.output.now) (T.taken sink.old) (T.taken sink.new) (T.failures sink.old)
+        (T.failures sink.new) result }
+    ensures host { Blames (maker.new ≡ maker.old) (MakesFile target.entry.output.now
+        (M.names maker.old) (M.names maker.new)) (L.failures loader.old) (L.failures loader.new)
+        (M.failures maker.old) (M.failures maker.new) result }
 {
     texts.listing = load_file(loader, listing)?;
     write_image::<E, _, _, _>(
@@ -296,8 +322,15 @@ fn append_decompressed<'a, E: Order, L: Loader, M: Maker, T: Sink>(
     texts: &'a mut Texts,
     sink: &mut T,
 ) -> Result<u64, ProgramFault<'a>>
-    ensures meets { Meets (L.told loader.old) (M.held maker.old, M.held maker.new) E.order (AppendParsed target.entry.options target.entry.blocks target.entry.page true image.entry.now listing.entry.now target.entry.output.now) (T.taken sink.old) (T.taken sink.new) (T.failures sink.old) (T.failures sink.new) result }
-    ensures host { BlamesFor (L.told loader.old) E.order (AppendParsed target.entry.options target.entry.blocks target.entry.page true image.entry.now listing.entry.now target.entry.output.now) (maker.new ≡ maker.old) (M.names maker.old) (M.names maker.new) (L.failures loader.old) (L.failures loader.new) (M.failures maker.old) (M.failures maker.new) result }
+    ensures meets { Meets (L.told loader.old) (M.held maker.old, M.held maker.new) E.order
+        (AppendParsed target.entry.options target.entry.blocks target.entry.page true
+        image.entry.now listing.entry.now target.entry.output.now) (T.taken sink.old)
+        (T.taken sink.new) (T.failures sink.old) (T.failures sink.new) result }
+    ensures host { BlamesFor (L.told loader.old) E.order
+        (AppendParsed target.entry.options target.entry.blocks target.entry.page true
+        image.entry.now listing.entry.now target.entry.output.now) (maker.new ≡ maker.old)
+        (M.names maker.old) (M.names maker.new) (L.failures loader.old) (L.failures loader.new)
+        (M.failures maker.old) (M.failures maker.new) result }
 {
     let taken = match take_file::<E, L>(alloc, loader, target.options.geometry, image) {
         Ok(taken) => taken,
@@ -334,8 +367,12 @@ fn decompress<'a, E: Order, L: Loader, M: Maker, T: Sink>(
     output: &'a str,
     sink: &mut T,
 ) -> Result<u64, ProgramFault<'a>>
-    ensures meets { Meets (L.told loader.old) (M.held maker.old, M.held maker.new) E.order (DecompressParsed options image.entry.now output.entry.now) (T.taken sink.old) (T.taken sink.new) (T.failures sink.old) (T.failures sink.new) result }
-    ensures host { BlamesDecompress (maker.new ≡ maker.old) (MakesFile output.entry.now (M.names maker.old) (M.names maker.new)) (L.failures loader.old) (L.failures loader.new) (M.failures maker.old) (M.failures maker.new) result }
+    ensures meets { Meets (L.told loader.old) (M.held maker.old, M.held maker.new) E.order
+        (DecompressParsed options image.entry.now output.entry.now) (T.taken sink.old)
+        (T.taken sink.new) (T.failures sink.old) (T.failures sink.new) result }
+    ensures host { BlamesDecompress (maker.new ≡ maker.old)
+        (MakesFile output.entry.now (M.names maker.old) (M.names maker.new)) (L.failures loader.old)
+        (L.failures loader.new) (M.failures maker.old) (M.failures maker.new) result }
 {
     let bytes = match load_file(loader, image) {
         Ok(bytes) => bytes,
@@ -365,8 +402,15 @@ fn append<'a, E: Order, L: Loader, M: Maker, T: Sink>(
     texts: &'a mut Texts,
     sink: &mut T,
 ) -> Result<u64, ProgramFault<'a>>
-    ensures meets { Meets (L.told loader.old) (M.held maker.old, M.held maker.new) E.order (AppendParsed target.entry.options target.entry.blocks target.entry.page decompress image.entry.now listing.entry.now target.entry.output.now) (T.taken sink.old) (T.taken sink.new) (T.failures sink.old) (T.failures sink.new) result }
-    ensures host { BlamesFor (L.told loader.old) E.order (AppendParsed target.entry.options target.entry.blocks target.entry.page decompress image.entry.now listing.entry.now target.entry.output.now) (maker.new ≡ maker.old) (M.names maker.old) (M.names maker.new) (L.failures loader.old) (L.failures loader.new) (M.failures maker.old) (M.failures maker.new) result }
+    ensures meets { Meets (L.told loader.old) (M.held maker.old, M.held maker.new) E.order
+        (AppendParsed target.entry.options target.entry.blocks target.entry.page decompress
+        image.entry.now listing.entry.now target.entry.output.now) (T.taken sink.old)
+        (T.taken sink.new) (T.failures sink.old) (T.failures sink.new) result }
+    ensures host { BlamesFor (L.told loader.old) E.order
+        (AppendParsed target.entry.options target.entry.blocks target.entry.page decompress
+        image.entry.now listing.entry.now target.entry.output.now) (maker.new ≡ maker.old)
+        (M.names maker.old) (M.names maker.new) (L.failures loader.old) (L.failures loader.new)
+        (M.failures maker.old) (M.failures maker.new) result }
 {
     if decompress {
         return append_decompressed::<E, L, M, T>(
@@ -396,8 +440,12 @@ fn run_in_order<'a, E: Order, L: Loader, M: Maker, T: Sink>(
     texts: &'a mut Texts,
     sink: &mut T,
 ) -> Result<u64, ProgramFault<'a>>
-    ensures meets { Meets (L.told loader.old) (M.held maker.old, M.held maker.new) E.order (view request.entry) (T.taken sink.old) (T.taken sink.new) (T.failures sink.old) (T.failures sink.new) result }
-    ensures host { BlamesFor (L.told loader.old) E.order (view request.entry) (maker.new ≡ maker.old) (M.names maker.old) (M.names maker.new) (L.failures loader.old) (L.failures loader.new)
+    ensures meets { Meets (L.told loader.old) (M.held maker.old, M.held maker.new) E.order
+        (view request.entry) (T.taken sink.old) (T.taken sink.new) (T.failures sink.old)
+        (T.failures sink.new) result }
+    ensures host { BlamesFor (L.told loader.old) E.order (view request.entry)
+        (maker.new ≡ maker.old) (M.names maker.old) (M.names maker.new) (L.failures loader.old)
+        (L.failures loader.new)
         (M.failures maker.old) (M.failures maker.new) result }
 {
     match request {
@@ -447,8 +495,12 @@ fn run_request<'a, L: Loader, M: Maker, T: Sink>(
     texts: &'a mut Texts,
     sink: &mut T,
 ) -> Result<u64, ProgramFault<'a>>
-    ensures meets { Meets (L.told loader.old) (M.held maker.old, M.held maker.new) (options_of request.entry).endian (view request.entry) (T.taken sink.old) (T.taken sink.new) (T.failures sink.old) (T.failures sink.new) result }
-    ensures host { BlamesFor (L.told loader.old) (options_of request.entry).endian (view request.entry) (maker.new ≡ maker.old) (M.names maker.old) (M.names maker.new) (L.failures loader.old) (L.failures loader.new)
+    ensures meets { Meets (L.told loader.old) (M.held maker.old, M.held maker.new)
+        (options_of request.entry).endian (view request.entry) (T.taken sink.old) (T.taken sink.new)
+        (T.failures sink.old) (T.failures sink.new) result }
+    ensures host { BlamesFor (L.told loader.old) (options_of request.entry).endian
+        (view request.entry) (maker.new ≡ maker.old) (M.names maker.old) (M.names maker.new)
+        (L.failures loader.old) (L.failures loader.new)
         (M.failures maker.old) (M.failures maker.new) result }
 {
     match request.options().endian {
@@ -470,8 +522,12 @@ fn run_whole<'a, L: Loader, M: Maker, T: Output>(
     texts: &'a mut Texts,
     output: &mut T,
 ) -> Result<u64, ProgramFault<'a>>
-    ensures meets { MeetsWhole (L.told loader.old) (M.held maker.old, M.held maker.new) (view request.entry) (T.taken output.old) (T.given output.new) (T.failures output.old) (T.failures output.new) result }
-    ensures host { BlamesFor (L.told loader.old) (options_of request.entry).endian (view request.entry) (maker.new ≡ maker.old) (M.names maker.old) (M.names maker.new) (L.failures loader.old) (L.failures loader.new)
+    ensures meets { MeetsWhole (L.told loader.old) (M.held maker.old, M.held maker.new)
+        (view request.entry) (T.taken output.old) (T.given output.new) (T.failures output.old)
+        (T.failures output.new) result }
+    ensures host { BlamesFor (L.told loader.old) (options_of request.entry).endian
+        (view request.entry) (maker.new ≡ maker.old) (M.names maker.old) (M.names maker.new)
+        (L.failures loader.old) (L.failures loader.new)
         (M.failures maker.old) (M.failures maker.new) result }
 {
     let answer = run_request(alloc, loader, maker, request, texts, output);
@@ -485,9 +541,12 @@ fn run_whole<'a, L: Loader, M: Maker, T: Output>(
 
 /// Puts a text that answers the command line.
 fn put_help<T: Output>(text: &str, output: &mut T) -> Result<(), ProgramFault<'static>>
-    ensures ok { OnOk result (Appends (T.taken output.old) (T.given output.new) text.now × (T.failures output.new ≡ T.failures output.old)) }
-    ensures part { IfErr result (λ _. GivesText (T.taken output.old) (T.given output.new) text.now) }
-    ensures failed { IfErr result (λ fault. (fault ≡ ProgramFault.Output) × HasFailed (T.failures output.old) (T.failures output.new)) }
+    ensures ok { OnOk result (Appends (T.taken output.old) (T.given output.new) text.now
+        × (T.failures output.new ≡ T.failures output.old)) }
+    ensures part { IfErr result
+        (λ _. GivesText (T.taken output.old) (T.given output.new) text.now) }
+    ensures failed { IfErr result (λ fault. (fault ≡ ProgramFault.Output)
+        × HasFailed (T.failures output.old) (T.failures output.new)) }
 {
     let put = put_all(output, text.as_bytes());
     let finished = output.finish();
@@ -520,8 +579,12 @@ fn run_command<'a, L: Loader, M: Maker, T: Output>(
     texts: &'a mut Texts,
     output: &mut T,
 ) -> Result<Success, Stop<'a>>
-    ensures meets { MeetsCommand (output.new ≡ output.old) (L.told loader.old) (M.held maker.old, M.held maker.new) command.entry (T.taken output.old) (T.given output.new) (T.failures output.old) (T.failures output.new) result }
-    ensures host { BlamesCommand (L.told loader.old) command.entry (loader.new ≡ loader.old) (maker.new ≡ maker.old) (M.names maker.old) (M.names maker.new) (L.failures loader.old) (L.failures loader.new)
+    ensures meets { MeetsCommand (output.new ≡ output.old) (L.told loader.old)
+        (M.held maker.old, M.held maker.new) command.entry (T.taken output.old) (T.given output.new)
+        (T.failures output.old) (T.failures output.new) result }
+    ensures host { BlamesCommand (L.told loader.old) command.entry (loader.new ≡ loader.old)
+        (maker.new ≡ maker.old) (M.names maker.old) (M.names maker.new) (L.failures loader.old)
+        (L.failures loader.new)
         (M.failures maker.old) (M.failures maker.new) result }
 {
     match command {
@@ -541,7 +604,8 @@ fn run_command<'a, L: Loader, M: Maker, T: Output>(
 /// Reports a fault in one line, and the note after it where there is one.
 pub fn report_fault<E: Sink>(fault: &ProgramFault<'_>, errors: &mut E) -> Outcome
     ensures fault { result ≡ Outcome.Fault }
-    ensures reported { IsSaid (E.taken errors.old) (E.taken errors.new) (E.failures errors.old) (E.failures errors.new) (fault_lines_of fault.now) }
+    ensures reported { IsSaid (E.taken errors.old) (E.taken errors.new) (E.failures errors.old)
+        (E.failures errors.new) (fault_lines_of fault.now) }
 {
     let _ = fault_lines(fault, errors);
     Outcome::Fault
@@ -550,7 +614,8 @@ pub fn report_fault<E: Sink>(fault: &ProgramFault<'_>, errors: &mut E) -> Outcom
 /// Reports what is wrong with the command line.
 pub fn report_usage<E: Sink>(text: &str, errors: &mut E) -> Outcome
     ensures usage { result ≡ Outcome.Usage }
-    ensures reported { IsSaid (E.taken errors.old) (E.taken errors.new) (E.failures errors.old) (E.failures errors.new) text.now }
+    ensures reported { IsSaid (E.taken errors.old) (E.taken errors.new) (E.failures errors.old)
+        (E.failures errors.new) text.now }
 {
     let _ = put_all(errors, text.as_bytes());
     Outcome::Usage
@@ -559,7 +624,8 @@ pub fn report_usage<E: Sink>(text: &str, errors: &mut E) -> Outcome
 /// Notes that an image that was shown has findings.
 pub fn note<E: Sink>(findings: u64, errors: &mut E) -> Outcome
     ensures done { result ≡ Outcome.Done }
-    ensures noted { Says (errors.new ≡ errors.old) (E.taken errors.old) (E.taken errors.new) (E.failures errors.old) (E.failures errors.new) (note_after findings) }
+    ensures noted { Says (errors.new ≡ errors.old) (E.taken errors.old) (E.taken errors.new)
+        (E.failures errors.old) (E.failures errors.new) (note_after findings) }
 {
     if findings > 0 {
         let _ = note_line(findings, errors);
@@ -578,9 +644,14 @@ fn run_image<L: Loader, M: Maker, T: Output, E: Sink>(
 ) -> Outcome
     // A fault is one that is due, and is told in one line, which a note may follow; `ls` and `cat` note what they passed over. What is told of the
     // host's files is so.
-    ensures { (ran : RunsCommand (output.new ≡ output.old) (L.told loader.old) (M.held maker.old, M.held maker.new) command.entry (T.taken output.old) (T.given output.new) (T.failures output.old) (T.failures output.new)
-        (Says (errors.new ≡ errors.old) (E.taken errors.old) (E.taken errors.new) (E.failures errors.old) (E.failures errors.new)) result)
-        × BlamesCommand (L.told loader.old) command.entry (loader.new ≡ loader.old) (maker.new ≡ maker.old) (M.names maker.old) (M.names maker.new) (L.failures loader.old) (L.failures loader.new)
+    ensures { (ran : RunsCommand (output.new ≡ output.old) (L.told loader.old)
+        (M.held maker.old, M.held maker.new) command.entry (T.taken output.old)
+        (T.given output.new) (T.failures output.old) (T.failures output.new)
+        (Says (errors.new ≡ errors.old) (E.taken errors.old) (E.taken errors.new)
+        (E.failures errors.old) (E.failures errors.new)) result)
+        × BlamesCommand (L.told loader.old) command.entry (loader.new ≡ loader.old)
+        (maker.new ≡ maker.old) (M.names maker.old) (M.names maker.new) (L.failures loader.old)
+        (L.failures loader.new)
         (M.failures maker.old) (M.failures maker.new) ran.answer }
 {
     let mut texts = Texts::new(alloc);
@@ -605,14 +676,27 @@ pub fn run<L: Loader, M: Maker, D: Folders, T: Output, E: Sink>(
     // The words make a request, whose answer goes out, or are answered by a text; or they ask to fill or to read a folder,
     // or for what an image tells of itself.
     ensures { RunsTask (map (λ w. w.now) args.now)
-        (λ command. (ran : RunsCommand (output.new ≡ output.old) (L.told loader.old) (M.held maker.old, M.held maker.new) command (T.taken output.old) (T.given output.new) (T.failures output.old) (T.failures output.new)
-        (Says (errors.new ≡ errors.old) (E.taken errors.old) (E.taken errors.new) (E.failures errors.old) (E.failures errors.new)) result)
-        × (folders.new ≡ folders.old) × BlamesCommand (L.told loader.old) command (loader.new ≡ loader.old) (maker.new ≡ maker.old) (M.names maker.old) (M.names maker.new) (L.failures loader.old) (L.failures loader.new)
+        (λ command. (ran : RunsCommand (output.new ≡ output.old) (L.told loader.old)
+        (M.held maker.old, M.held maker.new) command (T.taken output.old)
+        (T.given output.new) (T.failures output.old) (T.failures output.new)
+        (Says (errors.new ≡ errors.old) (E.taken errors.old) (E.taken errors.new)
+        (E.failures errors.old) (E.failures errors.new)) result)
+        × (folders.new ≡ folders.old) × BlamesCommand (L.told loader.old) command
+        (loader.new ≡ loader.old) (maker.new ≡ maker.old) (M.names maker.old)
+        (M.names maker.new) (L.failures loader.old) (L.failures loader.new)
         (M.failures maker.old) (M.failures maker.new) ran.answer)
-        ((output.new ≡ output.old) × (maker.new ≡ maker.old) × RunsExtract (map (λ w. w.now) args.now) (L.told loader.old) (L.failures loader.old) (L.failures loader.new) (D.made folders.old) (D.made folders.new)
-        (E.taken errors.old) (E.taken errors.new) (E.failures errors.old) (E.failures errors.new) result)
-        ((loader.new ≡ loader.old) × (maker.new ≡ maker.old) × (D.made folders.new ≡ D.made folders.old) × RunsListing (map (λ w. w.now) args.now) (output.new ≡ output.old) (D.reads folders.old) (T.taken output.old) (T.given output.new) (T.failures output.old) (T.failures output.new)
-        (E.taken errors.old) (E.taken errors.new) (E.failures errors.old) (E.failures errors.new) result)
+        ((output.new ≡ output.old) × (maker.new ≡ maker.old)
+        × RunsExtract (map (λ w. w.now) args.now) (L.told loader.old) (L.failures loader.old)
+        (L.failures loader.new) (D.made folders.old) (D.made folders.new)
+        (E.taken errors.old) (E.taken errors.new) (E.failures errors.old)
+        (E.failures errors.new) result)
+        ((loader.new ≡ loader.old) × (maker.new ≡ maker.old)
+        × (D.made folders.new ≡ D.made folders.old)
+        × RunsListing (map (λ w. w.now) args.now) (output.new ≡ output.old)
+        (D.reads folders.old) (T.taken output.old) (T.given output.new)
+        (T.failures output.old) (T.failures output.new)
+        (E.taken errors.old) (E.taken errors.new) (E.failures errors.old)
+        (E.failures errors.new) result)
         ((maker.new ≡ maker.old) × (folders.new ≡ folders.old)
         × RunsInfo (map (λ w. w.now) args.now)
         (record {

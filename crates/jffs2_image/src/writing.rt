@@ -40,12 +40,15 @@ impl Texts {
 
 /// The bytes of a file.
 pub fn load_file<'a, L: Loader>(loader: &mut L, name: &'a str) -> Result<Vec<u8>, ProgramFault<'a>>
-    ensures unread { IfErr result (λ fault. IsUnreadFile name.entry.now (L.told loader.old name.entry.now) fault) }
+    ensures unread { IfErr result
+        (λ fault. IsUnreadFile name.entry.now (L.told loader.old name.entry.now) fault) }
     ensures bytes { IfOk result (λ bytes. AreOf (L.told loader.old name.entry.now) bytes.items) }
     ensures within { IfOk result (λ bytes. length bytes.items ≤ greatest_image) }
     ensures read { OnOk result (L.failures loader.new ≡ L.failures loader.old) }
-    ensures fault { IfErr result (λ fault. IsReadFault (L.failures loader.old) (L.failures loader.new) fault) }
-    ensures host { ReadsFile (L.told loader.old name.entry.now) (L.failures loader.old) (L.failures loader.new) result }
+    ensures fault { IfErr result
+        (λ fault. IsReadFault (L.failures loader.old) (L.failures loader.new) fault) }
+    ensures host { ReadsFile (L.told loader.old name.entry.now) (L.failures loader.old)
+        (L.failures loader.new) result }
     ensures stays { (other : List ℕ) → L.told loader.new other ≡ L.told loader.old other }
 {
     match loader.load(name, GREATEST_IMAGE) {
@@ -65,7 +68,8 @@ fn load_parts<'a, L: Loader>(
     ensures unread { IfErr result (λ fault. IsPartUnread (L.told loader.old) lines.now fault) }
     ensures parts { IfOk result (λ parts. AreRead (L.told loader.old) lines.now parts) }
     ensures read { OnOk result (L.failures loader.new ≡ L.failures loader.old) }
-    ensures fault { IfErr result (λ fault. IsReadFault (L.failures loader.old) (L.failures loader.new) fault) }
+    ensures fault { IfErr result
+        (λ fault. IsReadFault (L.failures loader.old) (L.failures loader.new) fault) }
 {
     let mut parts = Parts::new(alloc);
     for line in lines {
@@ -103,7 +107,8 @@ fn number_at(numbers: &[usize], i: usize) -> Option<usize>
 /// Where writing goes on, by the target's page.
 fn resumed_from<E: Order>(mounted: &Mounted<'_>, target: Target<'_>) -> Result<u32, SessionFault>
     requires { IsMountOf E.order target.options.geometry.block mounted.now }
-    ensures { result ≡ resumes_by target.entry.page E.order target.entry.options.geometry.block target.entry.blocks mounted.now }
+    ensures { result ≡ resumes_by target.entry.page E.order target.entry.options.geometry.block
+        target.entry.blocks mounted.now }
 {
     let from = resume_at::<E>(mounted, target.options.geometry, target.blocks)?;
     if !page_fits(target.options.geometry, target.page) {
@@ -133,12 +138,17 @@ fn put_image<E: Order, S: Output>(
     output: S,
 ) -> Result<(S, RunReport), (SessionFault, Option<S>)>
     requires { IsMountOf E.order target.options.geometry.block mounted.now }
-    ensures put { IfOk result (λ done. IsPut target.entry.page E.order target.entry.options.geometry.block target.entry.blocks mounted.now ops.now done.1.accepted done.1.places.items done.1.stopped
+    ensures put { IfOk result (λ done. IsPut target.entry.page E.order
+        target.entry.options.geometry.block target.entry.blocks mounted.now ops.now
+        done.1.accepted done.1.places.items done.1.stopped
         (S.taken output) (S.given done.0) (S.failures output) (S.failures done.0)) }
-    ensures fault { IfErr result (λ refused. IsNotGoneOn target.entry.page E.order target.entry.options.geometry.block target.entry.blocks mounted.now refused.0) }
+    ensures fault { IfErr result (λ refused. IsNotGoneOn target.entry.page E.order
+        target.entry.options.geometry.block target.entry.blocks mounted.now refused.0) }
     ensures part { IfErr result (λ refused. IfSome refused.1
-        (λ back. GivesCut refused.0 target.entry.page E.order target.entry.options.geometry.block target.entry.blocks mounted.now.image ops.now (S.taken output) (S.given back))) }
-    ensures back { IfErr result (λ refused. IsHandedBack (S.failures output) refused.0 (option_map (λ back. S.failures back) refused.1)) }
+        (λ back. GivesCut refused.0 target.entry.page E.order target.entry.options.geometry.block
+        target.entry.blocks mounted.now.image ops.now (S.taken output) (S.given back))) }
+    ensures back { IfErr result (λ refused. IsHandedBack (S.failures output) refused.0
+        (option_map (λ back. S.failures back) refused.1)) }
 {
     match emit::<E, S>(
         alloc,
@@ -175,13 +185,24 @@ fn make_image<'a, E: Order, M: Maker>(
     ops: &[Op<'_>],
 ) -> Result<RunReport, ProgramFault<'a>>
     requires { IsMountOf E.order target.options.geometry.block mounted.now }
-    ensures made { IfOk result (λ report. IsMade (M.held maker.old, M.held maker.new) target.entry.page E.order target.entry.options.geometry.block target.entry.blocks mounted.now ops.now report.accepted report.places.items report.stopped) }
-    ensures fault { IfErr result (λ fault. IsNotMade target.entry.page E.order target.entry.options.geometry.block target.entry.blocks mounted.now target.entry.output.now fault) }
-    ensures cut { IfErr result (λ fault. HoldsCut (M.held maker.old, M.held maker.new) target.entry.page E.order target.entry.options.geometry.block target.entry.blocks mounted.now.image ops.now fault) }
-    ensures stopped { IfOk result (λ report. IsMadeUntil (M.failures maker.old) (M.failures maker.new) report.stopped) }
-    ensures failed { IfErr result (λ fault. IsMakeFault (M.failures maker.old) (M.failures maker.new) fault) }
-    ensures file { OnOk result (MakesFile target.entry.output.now (M.names maker.old) (M.names maker.new)) }
-    ensures left { IfErr result (λ fault. Leaves (MakesFile target.entry.output.now (M.names maker.old) (M.names maker.new)) (M.names maker.new ≡ M.names maker.old) fault) }
+    ensures made { IfOk result (λ report. IsMade (M.held maker.old, M.held maker.new)
+        target.entry.page E.order target.entry.options.geometry.block target.entry.blocks
+        mounted.now ops.now report.accepted report.places.items report.stopped) }
+    ensures fault { IfErr result (λ fault. IsNotMade target.entry.page E.order
+        target.entry.options.geometry.block target.entry.blocks mounted.now
+        target.entry.output.now fault) }
+    ensures cut { IfErr result (λ fault. HoldsCut (M.held maker.old, M.held maker.new)
+        target.entry.page E.order target.entry.options.geometry.block target.entry.blocks
+        mounted.now.image ops.now fault) }
+    ensures stopped { IfOk result
+        (λ report. IsMadeUntil (M.failures maker.old) (M.failures maker.new) report.stopped) }
+    ensures failed { IfErr result
+        (λ fault. IsMakeFault (M.failures maker.old) (M.failures maker.new) fault) }
+    ensures file { OnOk result
+        (MakesFile target.entry.output.now (M.names maker.old) (M.names maker.new)) }
+    ensures left { IfErr result
+        (λ fault. Leaves (MakesFile target.entry.output.now (M.names maker.old) (M.names maker.new))
+        (M.names maker.new ≡ M.names maker.old) fault) }
 {
     let output = match maker.make(target.output) {
         Ok(output) => output,
@@ -214,11 +235,18 @@ fn write_lines<'a, 'p, 'b: 'p, E: Order, M: Maker, T: Sink>(
     sink: &mut T,
 ) -> Result<u64, ProgramFault<'a>>
     ensures writes { (text : List ℕ) → lines_of text ≡ Ok lines.entry.items
-        → WritesImage (M.held maker.old, M.held maker.new) target.entry.page E.order target.entry.options.geometry.block target.entry.blocks target.entry.output.now base.now text
+        → WritesImage (M.held maker.old, M.held maker.new) target.entry.page E.order
+        target.entry.options.geometry.block target.entry.blocks target.entry.output.now
+        base.now text
         (T.taken sink.old) (T.taken sink.new) (T.failures sink.old) (T.failures sink.new) result }
-    ensures files { (told : List ℕ → Option (List ℕ)) → (text : List ℕ) → lines_of text ≡ Ok lines.entry.items → AreRead told lines.entry.items parts.entry.now
-        → RunsFiles told (M.held maker.old, M.held maker.new) target.entry.page E.order target.entry.options.geometry.block target.entry.blocks base.now text (T.taken sink.old) (T.taken sink.new) result }
-    ensures maker { BlamesMaker (maker.new ≡ maker.old) (MakesFile target.entry.output.now (M.names maker.old) (M.names maker.new)) (M.failures maker.old) (M.failures maker.new) result }
+    ensures files { (told : List ℕ → Option (List ℕ)) → (text : List ℕ)
+        → lines_of text ≡ Ok lines.entry.items → AreRead told lines.entry.items parts.entry.now
+        → RunsFiles told (M.held maker.old, M.held maker.new) target.entry.page E.order
+        target.entry.options.geometry.block target.entry.blocks base.now text (T.taken sink.old)
+        (T.taken sink.new) result }
+    ensures maker { BlamesMaker (maker.new ≡ maker.old)
+        (MakesFile target.entry.output.now (M.names maker.old) (M.names maker.new))
+        (M.failures maker.old) (M.failures maker.new) result }
     ensures noted { IfOk result (IsNotedIn E.order target.entry.options.geometry.block base.now) }
 {
     let numbers = numbers_of(alloc, &lines)?;
@@ -247,12 +275,19 @@ pub fn write_image<'a, E: Order, L: Loader, M: Maker, T: Sink>(
     unread: &'a mut String,
     sink: &mut T,
 ) -> Result<u64, ProgramFault<'a>>
-    ensures writes { WritesImage (M.held maker.old, M.held maker.new) target.entry.page E.order target.entry.options.geometry.block target.entry.blocks target.entry.output.now base.now text.now
+    ensures writes { WritesImage (M.held maker.old, M.held maker.new) target.entry.page E.order
+        target.entry.options.geometry.block target.entry.blocks target.entry.output.now
+        base.now text.now
         (T.taken sink.old) (T.taken sink.new) (T.failures sink.old) (T.failures sink.new) result }
     // Each file that a line names was read: its operation has the bytes that it has on the host.
-    ensures files { RunsFiles (L.told loader.old) (M.held maker.old, M.held maker.new) target.entry.page E.order target.entry.options.geometry.block target.entry.blocks base.now text.now (T.taken sink.old) (T.taken sink.new) result }
-    // Files are blamed only where they failed, and the image's is made only after all else was judged.
-    ensures host { Blames (maker.new ≡ maker.old) (MakesFile target.entry.output.now (M.names maker.old) (M.names maker.new)) (L.failures loader.old) (L.failures loader.new) (M.failures maker.old) (M.failures maker.new) result }
+    ensures files { RunsFiles (L.told loader.old) (M.held maker.old, M.held maker.new)
+        target.entry.page E.order target.entry.options.geometry.block target.entry.blocks base.now
+        text.now (T.taken sink.old) (T.taken sink.new) result }
+    // Files are blamed only where they failed, and the image's is made only after all else was
+    // judged.
+    ensures host { Blames (maker.new ≡ maker.old) (MakesFile target.entry.output.now
+        (M.names maker.old) (M.names maker.new)) (L.failures loader.old) (L.failures loader.new)
+        (M.failures maker.old) (M.failures maker.new) result }
     ensures noted { IfOk result (IsNotedIn E.order target.entry.options.geometry.block base.now) }
 {
     let lines = listing(alloc, text)?;

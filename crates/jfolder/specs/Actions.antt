@@ -22,12 +22,15 @@ write_of time path bytes k = action.Op (op.Write time path (4096 * k) (written_p
 abbrev pub content_actions : ℕ → List ℕ → Content → List Action
 content_actions time path content.Empty = []
 content_actions time path (content.File file) = action.Part time path 0 (string_bytes file) ∷ []
-content_actions time path (content.Bytes bytes) = map (write_of time path bytes.items) (below (piece_count bytes.items))
+content_actions time path (content.Bytes bytes) =
+    map (write_of time path bytes.items) (below (piece_count bytes.items))
 
 abbrev pub object_actions : List ℕ → Attributes → What → List Action
 object_actions path a what.Directory = action.Op (op.Mkdir a.time path a.mode a.uid a.gid) ∷ []
-object_actions path a (what.Regular bytes) = action.Op (op.Create a.time path a.mode a.uid a.gid) ∷ content_actions a.time path bytes
-object_actions path a (what.Symlink target) = action.Op (op.Symlink a.time path (string_bytes target) a.uid a.gid) ∷ []
+object_actions path a (what.Regular bytes) =
+    action.Op (op.Create a.time path a.mode a.uid a.gid) ∷ content_actions a.time path bytes
+object_actions path a (what.Symlink target) =
+    action.Op (op.Symlink a.time path (string_bytes target) a.uid a.gid) ∷ []
 object_actions path a (what.Link first) = action.Op (op.Link a.time (string_bytes first) path) ∷ []
 
 abbrev pub item_actions : Item → List Action
@@ -36,7 +39,13 @@ item_actions i = object_actions (string_bytes i.path) i.attributes i.what
 -- the root gets its attributes, and then each item is made
 unfoldable pub actions_of : Attributes → List Item → List Action
 actions_of root items = action.Op (op.SetAttributes root.time (47 ∷ [])
-    (record { mode = root.mode; uid = root.uid; gid = root.gid; atime = root.time; mtime = root.time })) ∷ flat_map item_actions items
+    (record {
+      mode = root.mode;
+      uid = root.uid;
+      gid = root.gid;
+      atime = root.time;
+      mtime = root.time;
+    })) ∷ flat_map item_actions items
 
 -- ---- what fits
 

@@ -25,7 +25,8 @@ item_paths items = map (λ i. string_bytes i.path) items
 abbrev pub child : List ℕ → List ℕ → List ℕ
 child directory name = directory ++ 47 ∷ name
 
--- the path that stands for all names in a directory that are no text, if there are any: that of the empty name
+-- the path that stands for all names in a directory that are no text, if there are any: that of the
+-- empty name
 abbrev pub unnamed_paths : List ℕ → ℕ → List (List ℕ)
 unnamed_paths directory others = if others == 0 then [] else child directory [] ∷ []
 
@@ -53,7 +54,8 @@ IsNamed known opened = IfSome (known.names (inside opened.0)) (λ told. opened.1
 
 -- ---- completeness
 
--- Names were told in each directory of these items, and they give these paths, each as often as it is told.
+-- Names were told in each directory of these items, and they give these paths, each as often as it
+-- is told.
 pub record Covers (known : Known) (items : List Item) (paths : List (List ℕ)) : Type 0 where
   pub opened : List Opened
   pub each : map (λ o. o.0) opened ≡ listed_directories items
@@ -78,6 +80,8 @@ children_of directory None = []
 children_of directory (Some names) = children directory (named_of names)
 
 -- Paths that were still to visit were read or left out, and others came in their place.
-abbrev pub StaysCovered : Known → List Item → List (List ℕ) → List Item → List (List ℕ) → List LeftOut → Type 0
-StaysCovered known items pending new later lefts = (before : List LeftOut) → Covers known items (item_paths items ++ (pending ++ left_paths before))
+abbrev pub StaysCovered : Known → List Item → List (List ℕ) → List Item → List (List ℕ)
+    → List LeftOut → Type 0
+StaysCovered known items pending new later lefts = (before : List LeftOut)
+    → Covers known items (item_paths items ++ (pending ++ left_paths before))
     → Covers known new (item_paths new ++ (later ++ left_paths (before ++ lefts)))

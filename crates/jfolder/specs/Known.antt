@@ -8,7 +8,8 @@ use Rattle.jfolder.specs.declared.host.Names.{Names}
 abbrev pub inside : List ℕ → List ℕ
 inside path = drop 1 path
 
--- the names in a directory: those that are text, in the order in which they are told, and how many others there are
+-- the names in a directory: those that are text, in the order in which they are told, and how many
+-- others there are
 pub record Named : Type 0 where
   pub texts : List (List ℕ)
   pub others : ℕ
@@ -16,8 +17,9 @@ pub record Named : Type 0 where
 abbrev pub named_of : Names → Named
 named_of names = record { texts = map string_bytes names.texts.items; others = names.others }
 
--- what the host tells at each path, where that is known: of the object, of the names in a directory, of the target of a symlink, of the bytes
--- of a regular file, and of the name by which another program opens it; whether it tells of the object at all, and whether it opens the file
+-- what the host tells at each path, where that is known: of the object, of the names in a
+-- directory, of the target of a symlink, of the bytes of a regular file, and of the name by which
+-- another program opens it; whether it tells of the object at all, and whether it opens the file
 pub record Known : Type 0 where
   pub looked : List ℕ → Option Looked
   pub names : List ℕ → Option Named

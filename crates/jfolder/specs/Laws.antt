@@ -10,4 +10,5 @@ use Rattle.jfolder.specs.declared.tree.Item.{Item}
 -- The text of a tree is read as the actions that make it, in their order.
 abbrev pub ListingIsReadBack : Type 0
 ListingIsReadBack = (root : Attributes) (items : List Item) → FitsListing root items
-    → (lines : List Line) × (lines_of (listing_text root items) ≡ Ok lines) × (map (λ line. line.action) lines ≡ actions_of root items)
+    → (lines : List Line) × (lines_of (listing_text root items) ≡ Ok lines)
+    × (map (λ line. line.action) lines ≡ actions_of root items)

@@ -26,15 +26,19 @@ id_of told = (told.device, told.number)
 
 -- this path is known to be a name of this file, a regular one that has other names
 abbrev pub IsNameOf : Known → FileId → List ℕ → Type 0
-IsNameOf known file path = (told : Looked) × (known.looked (inside path) ≡ Some told) × HasOtherNames told × (file ≡ id_of told)
+IsNameOf known file path = (told : Looked) × (known.looked (inside path) ≡ Some told)
+    × HasOtherNames told × (file ≡ id_of told)
 
 abbrev pub IsLinkTo : List ℕ → What → Type 0
 IsLinkTo path (what.Link first) = string_bytes first ≡ path
 IsLinkTo path _ = ⊥
 
--- what lies at a path is a link to an earlier regular file, where both are known to be names of one file
+-- what lies at a path is a link to an earlier regular file, where both are known to be names of one
+-- file
 abbrev pub IsLinked : Known → Item → List ℕ → What → Type 0
-IsLinked known i path w = IsRegular i.what → (file : FileId) → IsNameOf known file (string_bytes i.path) → IsNameOf known file path → IsLinkTo (string_bytes i.path) w
+IsLinked known i path w = IsRegular i.what → (file : FileId)
+    → IsNameOf known file (string_bytes i.path) → IsNameOf known file path
+    → IsLinkTo (string_bytes i.path) w
 
 -- each further name of a regular file is a link to its first
 abbrev pub AreLinked : Known → List Item → Type 0
@@ -51,11 +55,13 @@ file_cmp a b = ordering_then (nat_cmp a.0 b.0) (nat_cmp a.1 b.1)
 
 -- this item is remembered as the first name of a file
 abbrev pub IsFirst : List Item → Firsts → FileId → Item → Type 0
-IsFirst items firsts file i = (k : ℕ) × (k < length items) × (slice_index_or items k i ≡ i) × (get file_cmp firsts file ≡ Some k)
+IsFirst items firsts file i = (k : ℕ) × (k < length items) × (slice_index_or items k i ≡ i)
+    × (get file_cmp firsts file ≡ Some k)
 
 -- each regular file among the items is remembered, if it is known to have other names
 abbrev pub FirstsFit : Known → List Item → Firsts → Type 0
-FirstsFit known items firsts = (k : ℕ) (i : Item) (file : FileId) → k < length items → slice_index_or items k i ≡ i → IsRegular i.what → IsNameOf known file (string_bytes i.path)
+FirstsFit known items firsts = (k : ℕ) (i : Item) (file : FileId) → k < length items
+    → slice_index_or items k i ≡ i → IsRegular i.what → IsNameOf known file (string_bytes i.path)
     → get file_cmp firsts file ≡ Some k
 
 pub record WalkLinks (known : Known) (items : List Item) (firsts : Firsts) : Type 0 where
@@ -69,12 +75,16 @@ pub record IsIdentity (told : Looked) (identity : Option FileId) : Type 0 where
 
 -- a file is among the items
 abbrev pub IsMet : Known → List Item → FileId → Type 0
-IsMet known items file = (i : Item) × Contains items i × IsRegular i.what × IsNameOf known file (string_bytes i.path)
+IsMet known items file =
+    (i : Item) × Contains items i × IsRegular i.what × IsNameOf known file (string_bytes i.path)
 
--- what is found at a path after these items is a link if it is a further name of a file, and has the identity of a file only if it is the first
-pub record LinksFit (known : Known) (items : List Item) (path : List ℕ) (found : Found) : Type 0 where
+-- what is found at a path after these items is a link if it is a further name of a file, and has
+-- the identity of a file only if it is the first
+pub record LinksFit (known : Known) (items : List Item) (path : List ℕ) (found : Found) : Type
+    0 where
   pub linked : (i : Item) → Contains items i → IsLinked known i path found.what
-  pub named : IsRegular found.what → (file : FileId) → IsNameOf known file path → found.identity ≡ Some file
+  pub named : IsRegular found.what → (file : FileId) → IsNameOf known file path
+      → found.identity ≡ Some file
   pub new : IfSome found.identity (λ file. IsMet known items file → ⊥)
 
 -- the item at an index is remembered, if it is the first name of a file

@@ -28,7 +28,8 @@ reason_text reason.CharacterDevice = codes "character device"
 reason_text reason.BlockDevice = codes "block device"
 reason_text reason.UnknownKind = codes "a kind that is not known"
 reason_text reason.Large = codes "more than 268435456 bytes"
-reason_text reason.LargeWritten = codes "more than 67108864 bytes, and a space or a line feed in its path"
+reason_text reason.LargeWritten =
+    codes "more than 67108864 bytes, and a space or a line feed in its path"
 reason_text reason.Owner = codes "an owner above 65535"
 reason_text reason.Time = codes "a time before 1970 or after 2106"
 reason_text reason.Target = codes "a target of no bytes, of more than 4095, or with a zero byte"
@@ -41,7 +42,8 @@ count_text (reason.Unnamed count) = decimal count
 count_text _ = []
 
 unfoldable pub left_out_line : LeftOut → List ℕ
-left_out_line left = codes "left out " ++ word_of left.0 ++ codes ": " ++ reason_text left.1 ++ count_text left.1 ++ codes "\n"
+left_out_line left = codes "left out " ++ word_of left.0 ++ codes ": " ++ reason_text left.1
+    ++ count_text left.1 ++ codes "\n"
 
 -- the line of a folder that is not read at all
 unfoldable pub not_listed_line : Reason → List ℕ
@@ -50,27 +52,43 @@ not_listed_line why = codes "not listed: " ++ reason_text why ++ codes "\n"
 abbrev pub left_out_text : List LeftOut → List ℕ
 left_out_text lefts = flat_map left_out_line lefts
 
--- A part of a reading tells of some paths that are left out, and counts them modulo 2^64. Where the sink failed, a beginning of the lines
--- went out. It finds no fault with the folder itself. `fits` says of the answer which paths these are.
-abbrev pub TellsMore : {X : Type 0} → (X → List LeftOut → Type 0) → Option (List ℕ) → Option (List ℕ) → ℕ → ℕ → ℕ → ℕ → Result X ReadFault → Type 0
-TellsMore fits old new before now count total (Ok x) = (lefts : List LeftOut) × Appends old new (left_out_text lefts) × (now ≡ before)
+-- A part of a reading tells of some paths that are left out, and counts them modulo 2^64. Where the
+-- sink failed, a beginning of the lines went out. It finds no fault with the folder itself. `fits`
+-- says of the answer which paths these are.
+abbrev pub TellsMore : {X : Type 0} → (X → List LeftOut → Type 0) → Option (List ℕ)
+    → Option (List ℕ) → ℕ → ℕ → ℕ → ℕ → Result X ReadFault → Type 0
+TellsMore fits old new before now count total (Ok x) =
+    (lefts : List LeftOut) × Appends old new (left_out_text lefts) × (now ≡ before)
     × (total ≡ (count + length lefts) % 2 ^ 64) × fits x lefts
-TellsMore fits old new before now count total (Err fault.Notes) = ((lefts : List LeftOut) × PutsPart old new (left_out_text lefts)) × (now ≡ next_count before)
-TellsMore fits old new before now count total (Err fault.OutOfMemory) = ((lefts : List LeftOut) × Appends old new (left_out_text lefts)) × (now ≡ before)
+TellsMore fits old new before now count total (Err fault.Notes) =
+    ((lefts : List LeftOut) × PutsPart old new (left_out_text lefts)) × (now ≡ next_count before)
+TellsMore fits old new before now count total (Err fault.OutOfMemory) =
+    ((lefts : List LeftOut) × Appends old new (left_out_text lefts)) × (now ≡ before)
 TellsMore fits old new before now count total (Err (fault.Folder why)) = ⊥
 
--- The folder itself is not read, and a line tells why. Where the sink failed, a beginning of it went out.
+-- The folder itself is not read, and a line tells why. Where the sink failed, a beginning of it
+-- went out.
 abbrev pub TellsWhy : Reason → Option (List ℕ) → Option (List ℕ) → ℕ → ℕ → ReadFault → Type 0
-TellsWhy why old new before now (fault.Folder told) = (told ≡ why) × Appends old new (not_listed_line why) × (now ≡ before)
-TellsWhy why old new before now fault.Notes = PutsPart old new (not_listed_line why) × (now ≡ next_count before)
+TellsWhy why old new before now (fault.Folder told) =
+    (told ≡ why) × Appends old new (not_listed_line why) × (now ≡ before)
+TellsWhy why old new before now fault.Notes =
+    PutsPart old new (not_listed_line why) × (now ≡ next_count before)
 TellsWhy why old new before now fault.OutOfMemory = ⊥
 
--- A reading tells of the paths that it leaves out, each for a reason that is right, and counts them modulo 2^64; each path that the host tells of is
--- read, or is one of them. Where the folder itself is at fault it tells that alone.
-abbrev pub Tells : Known → Options → Option (List ℕ) → Option (List ℕ) → ℕ → ℕ → Result Folder ReadFault → Type 0
-Tells known options old new before now (Ok read) = (lefts : List LeftOut) × Appends old new (left_out_text lefts) × (now ≡ before) × (read.left_out ≡ length lefts % 2 ^ 64)
+-- A reading tells of the paths that it leaves out, each for a reason that is right, and counts them
+-- modulo 2^64; each path that the host tells of is read, or is one of them. Where the folder itself
+-- is at fault it tells that alone.
+abbrev pub Tells : Known → Options → Option (List ℕ) → Option (List ℕ) → ℕ → ℕ
+    → Result Folder ReadFault → Type 0
+Tells known options old new before now (Ok read) = (lefts : List LeftOut)
+    × Appends old new (left_out_text lefts) × (now ≡ before)
+    × (read.left_out ≡ length lefts % 2 ^ 64)
     × IsComplete known read.items.items lefts × All (IsRight known options read.items.items) lefts
-Tells known options old new before now (Err (fault.Folder why)) = Appends old new (not_listed_line why) × (now ≡ before) × IsRootWhy known options why
-Tells known options old new before now (Err fault.Notes) = (((lefts : List LeftOut) × PutsPart old new (left_out_text lefts))
-    ⊎ ((why : Reason) × PutsPart old new (not_listed_line why) × IsRootWhy known options why)) × (now ≡ next_count before)
-Tells known options old new before now (Err fault.OutOfMemory) = ((lefts : List LeftOut) × Appends old new (left_out_text lefts)) × (now ≡ before)
+Tells known options old new before now (Err (fault.Folder why)) =
+    Appends old new (not_listed_line why) × (now ≡ before) × IsRootWhy known options why
+Tells known options old new before now (Err fault.Notes) =
+    (((lefts : List LeftOut) × PutsPart old new (left_out_text lefts))
+    ⊎ ((why : Reason) × PutsPart old new (not_listed_line why) × IsRootWhy known options why))
+    × (now ≡ next_count before)
+Tells known options old new before now (Err fault.OutOfMemory) =
+    ((lefts : List LeftOut) × Appends old new (left_out_text lefts)) × (now ≡ before)

@@ -21,8 +21,8 @@ kind_number kind.Directory = 4
 kind_number kind.Regular = 8
 kind_number kind.Symlink = 10
 
--- A file that has no bytes is one whose size is 0. `build` takes no file of more than 256 MiB, and no longer listing, in which written bytes take
--- twice their room.
+-- A file that has no bytes is one whose size is 0. `build` takes no file of more than 256 MiB, and
+-- no longer listing, in which written bytes take twice their room.
 abbrev pub SizeFits : ℕ → Content → Type 0
 SizeFits size content.Empty = size ≡ 0
 SizeFits size (content.File file) = (0 < size) × (size ≤ 268435456)
@@ -39,11 +39,14 @@ IsOfKind told (what.Link first) = kind_bits told.mode ≡ 8
 abbrev pub HasNoWord : Known → List ℕ → Type 0
 HasNoWord known path = IfSome (known.host_path path) (λ name. IsFileWord name → ⊥)
 
--- the name of a file that the host tells at a path, and opens; or its bytes, only where that name is no word
+-- the name of a file that the host tells at a path, and opens; or its bytes, only where that name
+-- is no word
 abbrev pub HasContent : Known → List ℕ → Content → Type 0
 HasContent known path content.Empty = ⊤
-HasContent known path (content.File file) = IfSome (known.host_path path) (λ told. string_bytes file ≡ told) × MayAnswer (known.is_opened path) true
-HasContent known path (content.Bytes bytes) = IfSome (known.bytes path) (λ told. bytes.items ≡ told) × HasNoWord known path
+HasContent known path (content.File file) = IfSome (known.host_path path)
+    (λ told. string_bytes file ≡ told) × MayAnswer (known.is_opened path) true
+HasContent known path (content.Bytes bytes) =
+    IfSome (known.bytes path) (λ told. bytes.items ≡ told) × HasNoWord known path
 
 -- names of one object
 abbrev pub AreOne : Looked → Looked → Type 0
@@ -51,12 +54,14 @@ AreOne a b = (a.device ≡ b.device) × (a.number ≡ b.number)
 
 -- the host tells one object at both paths
 abbrev pub LinkLeadsTo : Known → List ℕ → List ℕ → Type 0
-LinkLeadsTo known path first = IfSome (known.looked path) (λ told. IfSome (known.looked (inside first)) (λ other. AreOne other told))
+LinkLeadsTo known path first = IfSome (known.looked path)
+    (λ told. IfSome (known.looked (inside first)) (λ other. AreOne other told))
     × MayAnswer (known.is_told (inside first)) true
 
 abbrev pub HasObject : Known → List ℕ → What → Type 0
 HasObject known path (what.Regular bytes) = HasContent known path bytes
-HasObject known path (what.Symlink target) = IfSome (known.target path) (λ told. string_bytes target ≡ told)
+HasObject known path (what.Symlink target) =
+    IfSome (known.target path) (λ told. string_bytes target ≡ told)
 HasObject known path (what.Link first) = LinkLeadsTo known path (string_bytes first)
 HasObject known path what.Directory = ⊤
 

@@ -32,7 +32,8 @@ abbrev pub part_text : List ℕ → List ℕ → List ℕ
 part_text path file = words_line (codes "part" ∷ word_of path ∷ codes "0" ∷ file ∷ [])
 
 abbrev pub write_text : List ℕ → ℕ → List ℕ → List ℕ
-write_text path offset bytes = words_line (codes "write" ∷ word_of path ∷ decimal offset ∷ hex_of bytes ∷ [])
+write_text path offset bytes =
+    words_line (codes "write" ∷ word_of path ∷ decimal offset ∷ hex_of bytes ∷ [])
 
 -- the owner of an item, which a link has already
 abbrev pub own_owner_text : Settings → Item → List ℕ
@@ -42,4 +43,5 @@ abbrev pub bytes_text : List ℕ → List ℕ → List ℕ
 bytes_text path bytes = lines_text (map (write_words path bytes) (below (piece_count bytes)))
 
 abbrev pub regular_text : List ℕ → ℕ → Content → List ℕ
-regular_text path mode content = moded_line (codes "create") mode path ++ lines_text (content_words path content)
+regular_text path mode content =
+    moded_line (codes "create") mode path ++ lines_text (content_words path content)

@@ -27,18 +27,23 @@ IsWrongText name _ = ⊥
 
 -- the path of such a name in the directory of this path
 abbrev pub IsWrongChild : List ℕ → List (List ℕ) → LeftOut → Type 0
-IsWrongChild directory names left = (name : List ℕ) × Contains names name × (left.0 ≡ child directory name) × IsWrongText name left.1
+IsWrongChild directory names left = (name : List ℕ) × Contains names name
+    × (left.0 ≡ child directory name) × IsWrongText name left.1
 
 -- that of the names that are no text, with their number
 abbrev pub IsUnnamed : List ℕ → ℕ → LeftOut → Type 0
-IsUnnamed directory others left = (left.0 ≡ child directory []) × (0 < others) × (left.1 ≡ reason.Unnamed others)
+IsUnnamed directory others left =
+    (left.0 ≡ child directory []) × (0 < others) × (left.1 ≡ reason.Unnamed others)
 
 abbrev pub IsUnlisted : List ℕ → Named → LeftOut → Type 0
-IsUnlisted directory names left = IsWrongChild directory names.texts left ⊎ IsUnnamed directory names.others left
+IsUnlisted directory names left =
+    IsWrongChild directory names.texts left ⊎ IsUnnamed directory names.others left
 
--- names are told in a directory, those that the host tells there where that is known, and the path is that of one that a listing can't have
+-- names are told in a directory, those that the host tells there where that is known, and the path
+-- is that of one that a listing can't have
 abbrev pub HasWrongName : Known → LeftOut → Type 0
-HasWrongName known left = (directory : List ℕ) × (names : Named) × IsNamed known (directory, names) × IsUnlisted directory names left
+HasWrongName known left = (directory : List ℕ) × (names : Named) × IsNamed known (directory, names)
+    × IsUnlisted directory names left
 
 -- an item has this path
 abbrev pub ComesAgain : List Item → LeftOut → Type 0
@@ -86,8 +91,10 @@ HasListedKind told = (kind : HostKind) × (kind_bits told.mode ≡ kind_number k
 
 -- an owner or a time that is told has no place in a listing, and no other is given
 abbrev pub IsAttributesWhy : Options → Looked → Reason → Type 0
-IsAttributesWhy options told reason.Owner = (options.owner ≡ None) × ((65535 < told.uid) ⊎ (65535 < told.gid))
-IsAttributesWhy options told reason.Time = (options.time ≡ None) × ((t : ℕ) → t < 2 ^ 32 → pos t ≢ told.time)
+IsAttributesWhy options told reason.Owner =
+    (options.owner ≡ None) × ((65535 < told.uid) ⊎ (65535 < told.gid))
+IsAttributesWhy options told reason.Time =
+    (options.time ≡ None) × ((t : ℕ) → t < 2 ^ 32 → pos t ≢ told.time)
 IsAttributesWhy options told _ = ⊥
 
 -- the bytes of a file are asked for, since the name of the file is no word
@@ -100,16 +107,21 @@ IsLong known path = IfSome (known.bytes path) (λ told. 67108864 < length told)
 
 -- the name of the file is a word, but the host does not open it
 abbrev pub IsNotOpened : Known → List ℕ → Type 0
-IsNotOpened known path = IfSome (known.host_path path) IsFileWord × MayAnswer (known.is_opened path) false
+IsNotOpened known path =
+    IfSome (known.host_path path) IsFileWord × MayAnswer (known.is_opened path) false
 
 abbrev pub IsContentWhy : Known → List ℕ → ℕ → Reason → Type 0
 IsContentWhy known path size reason.Large = 268435456 < size
-IsContentWhy known path size reason.LargeWritten = HasNoWord known path × ((67108864 < size) ⊎ IsLong known path)
-IsContentWhy known path size why = IsRefusal ((0 < size) × ((known.host_path path ≡ None) ⊎ (IsNotOpened known path ⊎ (AsksBytes known path size × IsLong known path)))) why
+IsContentWhy known path size reason.LargeWritten =
+    HasNoWord known path × ((67108864 < size) ⊎ IsLong known path)
+IsContentWhy known path size why = IsRefusal ((0 < size)
+    × ((known.host_path path ≡ None)
+    ⊎ (IsNotOpened known path ⊎ (AsksBytes known path size × IsLong known path)))) why
 
 -- the target is not known, or none that an image can have
 abbrev pub IsTargetWhy : Known → List ℕ → Reason → Type 0
-IsTargetWhy known path reason.Target = IfSome (known.target path) (λ told. 0 < length told → length told ≤ 4095 → All (λ b. b ≢ 0) told → ⊥)
+IsTargetWhy known path reason.Target = IfSome (known.target path)
+    (λ told. 0 < length told → length told ≤ 4095 → All (λ b. b ≢ 0) told → ⊥)
 IsTargetWhy known path why = IsRefusal (known.target path ≡ None) why
 
 abbrev pub IsObjectWhy : Known → List ℕ → Looked → Reason → Type 0
@@ -120,18 +132,22 @@ IsObjectWhy known path told why =
 
 -- of an object of which this is told
 abbrev pub IsWhy : Known → Options → List ℕ → Looked → Reason → Type 0
-IsWhy known options path told why = IsKindWhy (kind_bits told.mode) why ⊎ ((HasListedKind told × IsAttributesWhy options told why) ⊎ IsObjectWhy known path told why)
+IsWhy known options path told why = IsKindWhy (kind_bits told.mode) why
+    ⊎ ((HasListedKind told × IsAttributesWhy options told why) ⊎ IsObjectWhy known path told why)
 
 -- the host refuses to tell of the object, or tells one that is left out for this
 abbrev pub IsLeftFor : Known → Options → List ℕ → Reason → Type 0
 IsLeftFor known options path why = IsRefusal (known.looked path ≡ None) why
-    ⊎ ((told : Looked) × IfSome (known.looked path) (λ k. told ≡ k) × IsWhy known options path told why)
+    ⊎ ((told : Looked) × IfSome (known.looked path) (λ k. told ≡ k)
+    × IsWhy known options path told why)
 
 -- ---- a path that is left out
 
--- Its name is wrong, or it comes again, or the host refuses to tell of it, or tells what no listing says.
+-- Its name is wrong, or it comes again, or the host refuses to tell of it, or tells what no listing
+-- says.
 abbrev pub IsRight : Known → Options → List Item → LeftOut → Type 0
-IsRight known options items left = HasWrongName known left ⊎ (ComesAgain items left ⊎ IsLeftFor known options (inside left.0) left.1)
+IsRight known options items left = HasWrongName known left
+    ⊎ (ComesAgain items left ⊎ IsLeftFor known options (inside left.0) left.1)
 
 -- ---- the folder itself
 
@@ -140,11 +156,13 @@ IsNoDirectory kind reason.Symlink = kind ≡ 10
 IsNoDirectory kind reason.NotDirectory = (kind ≢ 4) × (kind ≢ 10)
 IsNoDirectory kind _ = ⊥
 
--- The host refuses to tell of the folder, or tells no directory, or an owner or a time that no listing says, or refuses to tell the names in it.
+-- The host refuses to tell of the folder, or tells no directory, or an owner or a time that no
+-- listing says, or refuses to tell the names in it.
 abbrev pub IsRootWhy : Known → Options → Reason → Type 0
 IsRootWhy known options why = IsRefusal (known.looked [] ≡ None) why
     ⊎ ((told : Looked) × IfSome (known.looked []) (λ k. told ≡ k)
-    × (IsNoDirectory (kind_bits told.mode) why ⊎ ((kind_bits told.mode ≡ 4) × (IsAttributesWhy options told why ⊎ IsRefusal (known.names [] ≡ None) why))))
+    × (IsNoDirectory (kind_bits told.mode) why ⊎ ((kind_bits told.mode ≡ 4)
+    × (IsAttributesWhy options told why ⊎ IsRefusal (known.names [] ≡ None) why))))
 
 -- ---- parts of a reading
 

@@ -25,29 +25,36 @@ abbrev pub time_words : ℕ → ℕ → List (List (List ℕ))
 time_words before time = if time == before then [] else (codes "time" ∷ decimal time ∷ []) ∷ []
 
 abbrev pub owner_words : Settings → Attributes → List (List (List ℕ))
-owner_words s a = if (a.uid == s.uid) && (a.gid == s.gid) then [] else (codes "owner" ∷ decimal a.uid ∷ decimal a.gid ∷ []) ∷ []
+owner_words s a = if (a.uid == s.uid)
+    && (a.gid == s.gid) then [] else (codes "owner" ∷ decimal a.uid ∷ decimal a.gid ∷ []) ∷ []
 
 -- Bytes go by pieces of at most 4,096: the k-th, and the pieces of all.
 abbrev pub written_piece : List ℕ → ℕ → List ℕ
 written_piece bytes k = take 4096 (drop (4096 * k) bytes)
 
 abbrev pub write_words : List ℕ → List ℕ → ℕ → List (List ℕ)
-write_words path bytes k = codes "write" ∷ word_of path ∷ decimal (4096 * k) ∷ hex_of (written_piece bytes k) ∷ []
+write_words path bytes k =
+    codes "write" ∷ word_of path ∷ decimal (4096 * k) ∷ hex_of (written_piece bytes k) ∷ []
 
 abbrev pub piece_count : List ℕ → ℕ
 piece_count bytes = (length bytes + 4095) / 4096
 
 abbrev pub content_words : List ℕ → Content → List (List (List ℕ))
 content_words path content.Empty = []
-content_words path (content.File file) = (codes "part" ∷ word_of path ∷ codes "0" ∷ string_bytes file ∷ []) ∷ []
-content_words path (content.Bytes bytes) = map (write_words path bytes.items) (below (piece_count bytes.items))
+content_words path (content.File file) =
+    (codes "part" ∷ word_of path ∷ codes "0" ∷ string_bytes file ∷ []) ∷ []
+content_words path (content.Bytes bytes) =
+    map (write_words path bytes.items) (below (piece_count bytes.items))
 
 -- what makes an object, after its settings
 abbrev pub object_words : List ℕ → Attributes → What → List (List (List ℕ))
 object_words path a what.Directory = (codes "mkdir" ∷ octal a.mode ∷ word_of path ∷ []) ∷ []
-object_words path a (what.Regular bytes) = (codes "create" ∷ octal a.mode ∷ word_of path ∷ []) ∷ content_words path bytes
-object_words path a (what.Symlink target) = (codes "symlink" ∷ word_of path ∷ word_of (string_bytes target) ∷ []) ∷ []
-object_words path a (what.Link first) = (codes "link" ∷ word_of (string_bytes first) ∷ word_of path ∷ []) ∷ []
+object_words path a (what.Regular bytes) =
+    (codes "create" ∷ octal a.mode ∷ word_of path ∷ []) ∷ content_words path bytes
+object_words path a (what.Symlink target) =
+    (codes "symlink" ∷ word_of path ∷ word_of (string_bytes target) ∷ []) ∷ []
+object_words path a (what.Link first) =
+    (codes "link" ∷ word_of (string_bytes first) ∷ word_of path ∷ []) ∷ []
 
 abbrev pub is_link : What → Bool
 is_link (what.Link first) = true
@@ -55,7 +62,8 @@ is_link _ = false
 
 -- A link has the owner of its object, and needs none of its own.
 abbrev pub setting_words : Settings → Item → List (List (List ℕ))
-setting_words s i = time_words s.time i.attributes.time ++ (if is_link i.what then [] else owner_words s i.attributes)
+setting_words s i = time_words s.time i.attributes.time
+    ++ (if is_link i.what then [] else owner_words s i.attributes)
 
 abbrev pub item_words : Settings → Item → List (List (List ℕ))
 item_words s i = setting_words s i ++ object_words (string_bytes i.path) i.attributes i.what
@@ -74,7 +82,8 @@ items_words s (i ∷ is) = item_words s i ++ items_words (settings_with s i) is
 
 -- the root's attributes, under its time
 abbrev pub attr_words : Attributes → List (List (List ℕ))
-attr_words a = (codes "attr" ∷ octal a.mode ∷ decimal a.uid ∷ decimal a.gid ∷ decimal a.time ∷ decimal a.time ∷ codes "/" ∷ []) ∷ []
+attr_words a = (codes "attr" ∷ octal a.mode ∷ decimal a.uid ∷ decimal a.gid ∷ decimal a.time
+    ∷ decimal a.time ∷ codes "/" ∷ []) ∷ []
 
 abbrev pub root_words : Attributes → List (List (List ℕ))
 root_words a = time_words 0 a.time ++ attr_words a

@@ -1,4 +1,5 @@
--- Items that make up a tree: each lies in a directory that was made before it, under a name that is new there.
+-- Items that make up a tree: each lies in a directory that was made before it, under a name that is
+-- new there.
 use Rattle.std.specs.Prelude.{◌≡◌, ◌≢◌, ◌≤◌, ◌<◌, ◌⊎◌, ℕ, List, [], ◌∷◌, ◌++◌, length, All, Contains, ⊤, IsTrue}
 use Rattle.std.specs.String.{string_bytes}
 use Rattle.jmount.specs.Find.{IsPath, path_text}
@@ -9,7 +10,8 @@ use Rattle.jfolder.specs.declared.tree.What.TheVariants as what
 
 -- these names lead to the root, or to an earlier directory
 abbrev pub HasDirectory : List Item → List (List ℕ) → Type 0
-HasDirectory before way = (way ≡ []) ⊎ ((i : Item) × Contains before i × (string_bytes i.path ≡ path_text way) × (i.what ≡ what.Directory))
+HasDirectory before way = (way ≡ []) ⊎ ((i : Item) × Contains before i
+    × (string_bytes i.path ≡ path_text way) × (i.what ≡ what.Directory))
 
 abbrev pub IsRegular : What → Type 0
 IsRegular (what.Regular bytes) = Unit {0}
@@ -17,12 +19,15 @@ IsRegular _ = ⊥
 
 -- a link is a further name of an earlier regular file
 abbrev pub LinksBack : List Item → What → Type 0
-LinksBack before (what.Link first) = (i : Item) × Contains before i × (string_bytes i.path ≡ string_bytes first) × IsRegular i.what
+LinksBack before (what.Link first) =
+    (i : Item) × Contains before i × (string_bytes i.path ≡ string_bytes first) × IsRegular i.what
 LinksBack before _ = Unit {0}
 
--- the target of a symlink is one that an image can have: neither empty nor of more than 4,095 bytes, and without a zero byte
+-- the target of a symlink is one that an image can have: neither empty nor of more than 4,095
+-- bytes, and without a zero byte
 abbrev pub HasTarget : What → Type 0
-HasTarget (what.Symlink target) = (0 < length (string_bytes target)) × (length (string_bytes target) ≤ 4095) × All (λ b. b ≢ 0) (string_bytes target)
+HasTarget (what.Symlink target) = (0 < length (string_bytes target))
+    × (length (string_bytes target) ≤ 4095) × All (λ b. b ≢ 0) (string_bytes target)
 HasTarget _ = Unit {0}
 
 -- an item may follow these
@@ -47,4 +52,5 @@ IsTree items = IsTreeAfter [] items
 abbrev pub Rise : List Item → Type 0
 Rise [] = ⊤
 Rise (i ∷ []) = ⊤
-Rise (i ∷ j ∷ items) = IsTrue (is_before (string_bytes i.path) (string_bytes j.path)) × Rise (j ∷ items)
+Rise (i ∷ j ∷ items) =
+    IsTrue (is_before (string_bytes i.path) (string_bytes j.path)) × Rise (j ∷ items)

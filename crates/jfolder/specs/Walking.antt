@@ -60,7 +60,8 @@ comes_next (i ∷ j ∷ items) text = comes_next (j ∷ items) text
 
 -- the path of an earlier regular file
 abbrev pub IsFileOf : List Item → List ℕ → Type 0
-IsFileOf before text = (i : Item) × Contains before i × (string_bytes i.path ≡ text) × IsRegular i.what
+IsFileOf before text =
+    (i : Item) × Contains before i × (string_bytes i.path ≡ text) × IsRegular i.what
 
 -- ---- what is found at a path, after these items
 
@@ -78,7 +79,8 @@ item_of path found = record { path = path; attributes = found.attributes; what =
 -- ---- the walk so far
 
 -- what was read is a tree in its order, and each path that is still to visit lies in it
-pub record WalkFits (known : Known) (options : Options) (items : List Item) (pending : List (String Global)) : Type 0 where
+pub record WalkFits (known : Known) (options : Options) (items : List Item)
+    (pending : List (String Global)) : Type 0 where
   pub items_fit : All ItemFits items
   pub tree : IsTree items
   pub rise : Rise items

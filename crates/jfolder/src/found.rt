@@ -131,7 +131,8 @@ pub fn not_directory(mode: u32) -> Option<Reason>
 /// The owner and the group that an object gets.
 fn owner_of(looked: &Looked, options: &Options) -> Result<Owner, Reason>
     ensures given { IfOk result (λ owner. IfSome options.now.owner (λ given. owner ≡ given)) }
-    ensures own { IfOk result (λ owner. IfNone options.now.owner ((owner.uid ≡ looked.now.uid) × (owner.gid ≡ looked.now.gid))) }
+    ensures own { IfOk result (λ owner. IfNone options.now.owner
+        ((owner.uid ≡ looked.now.uid) × (owner.gid ≡ looked.now.gid))) }
     ensures why { IfErr result (IsAttributesWhy options.now looked.now) }
 {
     if let Some(owner) = options.owner {
@@ -240,7 +241,8 @@ pub fn content_of<F: HostFolder>(folder: &mut F, path: &str, size: u64) -> Resul
 /// The target of a symlink.
 fn target_of<F: HostFolder>(folder: &mut F, path: &str) -> Result<String, Skip>
     ensures fits { IfOk result (λ target. HasTarget (What.Symlink target)) }
-    ensures told { IfOk result (λ target. HasObject (F.known folder.old) path.now (What.Symlink target)) }
+    ensures told { IfOk result
+        (λ target. HasObject (F.known folder.old) path.now (What.Symlink target)) }
     ensures why { IfErr result (SkipsFor (IsTargetWhy (F.known folder.old) path.now)) }
     ensures kept { F.known folder.new ≡ F.known folder.old }
 {
@@ -284,7 +286,8 @@ fn object_of<F: HostFolder>(
     ensures fits { IfOk result (λ object. WhatFits object.0) }
     ensures target { IfOk result (λ object. HasTarget object.0) }
     ensures link { IfOk result (λ object. LinksBack [] object.0) }
-    ensures names { IfOk result (λ object. NamesFit ((F.known folder.old).names path.now) object.0 object.1) }
+    ensures names { IfOk result
+        (λ object. NamesFit ((F.known folder.old).names path.now) object.0 object.1) }
     ensures kind { IfOk result (λ object. IsOfKind looked.now object.0) }
     ensures object { IfOk result (λ object. HasObject (F.known folder.old) path.now object.0) }
     ensures why { IfErr result (SkipsFor (IsObjectWhy (F.known folder.old) path.now looked.now)) }
@@ -311,11 +314,13 @@ pub fn first_found<F: HostFolder>(
 ) -> Result<Found, Skip>
     ensures found { IfOk result (FoundFits options.now []) }
     ensures told { IfOk result (λ found. IsTold options.now looked.now found.attributes) }
-    ensures names { IfOk result (λ found. NamesFit ((F.known folder.old).names path.now) found.what found.names) }
+    ensures names { IfOk result
+        (λ found. NamesFit ((F.known folder.old).names path.now) found.what found.names) }
     ensures kind { IfOk result (λ found. IsOfKind looked.now found.what) }
     ensures object { IfOk result (λ found. HasObject (F.known folder.old) path.now found.what) }
     ensures identity { IfOk result (λ found. IsIdentity looked.now found.identity) }
-    ensures why { IfErr result (SkipsFor (IsWhy (F.known folder.old) options.now path.now looked.now)) }
+    ensures why { IfErr result
+        (SkipsFor (IsWhy (F.known folder.old) options.now path.now looked.now)) }
     ensures kept { F.known folder.new ≡ F.known folder.old }
 {
     let kind = kind_of(looked.mode)?;

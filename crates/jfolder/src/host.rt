@@ -37,7 +37,8 @@ pub trait HostFolder {
     /// What the host tells of an object.
     fn look(&mut self, path: &str) -> Result<Looked, FolderFault>
         ensures kept { known self.new ≡ known self.old }
-        ensures told { IfOk result (λ it. IfSome ((known self.old).looked path.now) (λ told. it ≡ told)) }
+        ensures told { IfOk result
+            (λ it. IfSome ((known self.old).looked path.now) (λ told. it ≡ told)) }
         ensures untold { IfErr result (IsUntold ((known self.old).looked path.now)) }
         ensures seen { OnOk result (MayAnswer ((known self.old).is_told path.now) true) }
         ensures unseen { IfErr result (IsUnseen ((known self.old).is_told path.now)) };
@@ -45,29 +46,35 @@ pub trait HostFolder {
     /// The names in a directory.
     fn names(&mut self, path: &str) -> Result<Names, FolderFault>
         ensures kept { known self.new ≡ known self.old }
-        ensures told { IfOk result (λ it. IfSome ((known self.old).names path.now) (λ told. named_of it ≡ told)) }
+        ensures told { IfOk result
+            (λ it. IfSome ((known self.old).names path.now) (λ told. named_of it ≡ told)) }
         ensures untold { IfErr result (IsUntold ((known self.old).names path.now)) };
 
     /// The target of a symlink.
     fn target(&mut self, path: &str) -> Result<String, FolderFault>
         ensures kept { known self.new ≡ known self.old }
-        ensures told { IfOk result (λ it. IfSome ((known self.old).target path.now) (λ told. string_bytes it ≡ told)) }
+        ensures told { IfOk result
+            (λ it. IfSome ((known self.old).target path.now) (λ told. string_bytes it ≡ told)) }
         ensures untold { IfErr result (IsUntold ((known self.old).target path.now)) };
 
-    /// The bytes of a regular file. One that has more than `limit` is refused, or gives more than `limit` bytes. It is asked only
-    /// where the name of the file is no word of a listing.
+    /// The bytes of a regular file. One that has more than `limit` is refused, or gives more than
+    /// `limit` bytes. It is asked only where the name of the file is no word of a listing.
     fn bytes(&mut self, path: &str, limit: usize) -> Result<Vec<u8>, FolderFault>
         ensures kept { known self.new ≡ known self.old }
-        ensures told { IfOk result (λ it. IfSome ((known self.old).bytes path.now) (λ told. AreBytesOf told limit it.items)) }
+        ensures told { IfOk result
+            (λ it. IfSome ((known self.old).bytes path.now)
+            (λ told. AreBytesOf told limit it.items)) }
         ensures untold { IfErr result (BytesAreUnread ((known self.old).bytes path.now) limit) };
 
     /// The name by which another program opens the file.
     fn host_path(&mut self, path: &str) -> Result<String, FolderFault>
         ensures kept { known self.new ≡ known self.old }
-        ensures told { IfOk result (λ it. IfSome ((known self.old).host_path path.now) (λ told. string_bytes it ≡ told)) }
+        ensures told { IfOk result
+            (λ it. IfSome ((known self.old).host_path path.now) (λ told. string_bytes it ≡ told)) }
         ensures untold { IfErr result (IsUntold ((known self.old).host_path path.now)) };
 
-    /// Opens a regular file to be read, and closes it. It is asked only where the name of the file is a word of a listing.
+    /// Opens a regular file to be read, and closes it. It is asked only where the name of the file
+    /// is a word of a listing.
     fn open(&mut self, path: &str) -> Result<(), FolderFault>
         ensures kept { known self.new ≡ known self.old }
         ensures opened { OnOk result (MayAnswer ((known self.old).is_opened path.now) true) }

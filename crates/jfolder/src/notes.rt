@@ -23,7 +23,8 @@ fn count_of(reason: Reason) -> Piece<'static>
 /// Puts the line of a path that is left out.
 #[tactic(auto, unfolding(crate::specs::Notes::left_out_line))]
 fn put_left_out<N: Sink>(notes: &mut N, path: &[u8], reason: Reason) -> Result<(), DeviceFault>
-    ensures { Puts (N.taken notes.old) (N.taken notes.new) (N.failures notes.old) (N.failures notes.new) (left_out_line (path.now, reason)) result }
+    ensures { Puts (N.taken notes.old) (N.taken notes.new) (N.failures notes.old)
+        (N.failures notes.new) (left_out_line (path.now, reason)) result }
 {
     put_pieces(
         notes,
@@ -45,7 +46,9 @@ pub fn leave_out<N: Sink>(
     path: &[u8],
     reason: Reason,
 ) -> Result<(), ReadFault>
-    ensures { TellsMore (λ _ lefts. lefts ≡ (path.now, reason) ∷ []) (N.taken notes.old) (N.taken notes.new) (N.failures notes.old) (N.failures notes.new) count.old count.new result }
+    ensures { TellsMore (λ _ lefts. lefts ≡ (path.now, reason) ∷ []) (N.taken notes.old)
+        (N.taken notes.new) (N.failures notes.old) (N.failures notes.new) count.old count.new
+        result }
 {
     match put_left_out(notes, path, reason) {
         Ok(()) => {
@@ -58,7 +61,8 @@ pub fn leave_out<N: Sink>(
 
 /// Puts the line of a folder that is not read.
 fn put_not_listed<N: Sink>(notes: &mut N, reason: Reason) -> Result<(), DeviceFault>
-    ensures { Puts (N.taken notes.old) (N.taken notes.new) (N.failures notes.old) (N.failures notes.new) (not_listed_line reason) result }
+    ensures { Puts (N.taken notes.old) (N.taken notes.new) (N.failures notes.old)
+        (N.failures notes.new) (not_listed_line reason) result }
 {
     put_pieces(
         notes,
@@ -72,7 +76,8 @@ fn put_not_listed<N: Sink>(notes: &mut N, reason: Reason) -> Result<(), DeviceFa
 
 /// Tells why a folder is not read, and answers the fault of that.
 pub fn refuse_folder<N: Sink>(notes: &mut N, reason: Reason) -> ReadFault
-    ensures { TellsWhy reason (N.taken notes.old) (N.taken notes.new) (N.failures notes.old) (N.failures notes.new) result }
+    ensures { TellsWhy reason (N.taken notes.old) (N.taken notes.new) (N.failures notes.old)
+        (N.failures notes.new) result }
 {
     match put_not_listed(notes, reason) {
         Ok(()) => ReadFault::Folder(reason),

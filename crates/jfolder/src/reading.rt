@@ -87,9 +87,13 @@ fn inside(path: &str) -> Option<&str>
 /// Whether the host tells at the first path of an object what it told at another one: names of one object. Where it refuses to
 /// tell, they are not.
 fn is_one<F: HostFolder>(folder: &mut F, first: &str, looked: &Looked) -> Result<bool, Skip>
-    ensures one { IfOk result (λ one. IsTrue one → IfSome ((F.known folder.old).looked (inside first.now)) (λ told. AreOne told looked.now)) }
-    ensures seen { IfOk result (λ one. IsTrue one → MayAnswer ((F.known folder.old).is_told (inside first.now)) true) }
-    ensures every { IfOk result (λ one. IsRooted first.now → IfSome ((F.known folder.old).looked (inside first.now)) (λ told. AreOne told looked.now → IsTrue one)) }
+    ensures one { IfOk result (λ one. IsTrue one → IfSome
+        ((F.known folder.old).looked (inside first.now)) (λ told. AreOne told looked.now)) }
+    ensures seen { IfOk result
+        (λ one. IsTrue one → MayAnswer ((F.known folder.old).is_told (inside first.now)) true) }
+    ensures every { IfOk result (λ one. IsRooted first.now
+        → IfSome ((F.known folder.old).looked (inside first.now))
+        (λ told. AreOne told looked.now → IsTrue one)) }
     ensures memory { IfErr result (SkipsFor (λ _. ⊥)) }
     ensures kept { F.known folder.new ≡ F.known folder.old }
 {
@@ -113,11 +117,16 @@ fn add_child<N: Sink>(
     left_out: &mut u64,
 ) -> Result<(), ReadFault>
     requires { All (λ path. IsChild directory.now (string_bytes path)) paths.old.items }
-    ensures paths { IfOk result (λ _. All (λ path. IsChild directory.now (string_bytes path)) paths.new.items) }
-    ensures added { IfOk result (λ _. IsAdded directory.now name.now (map string_bytes paths.old.items) (map string_bytes paths.new.items)) }
-    ensures told { TellsMore (λ _ lefts. (map string_bytes paths.old.items ++ child directory.now name.now ∷ [] ≡ map string_bytes paths.new.items ++ left_paths lefts)
+    ensures paths { IfOk result
+        (λ _. All (λ path. IsChild directory.now (string_bytes path)) paths.new.items) }
+    ensures added { IfOk result (λ _. IsAdded directory.now name.now
+        (map string_bytes paths.old.items) (map string_bytes paths.new.items)) }
+    ensures told { TellsMore
+        (λ _ lefts. (map string_bytes paths.old.items ++ child directory.now name.now ∷ []
+        ≡ map string_bytes paths.new.items ++ left_paths lefts)
         × All (IsWrongChild directory.now (name.now ∷ [])) lefts)
-        (N.taken notes.old) (N.taken notes.new) (N.failures notes.old) (N.failures notes.new) left_out.old left_out.new result }
+        (N.taken notes.old) (N.taken notes.new) (N.failures notes.old) (N.failures notes.new)
+        left_out.old left_out.new result }
 {
     let _count = *left_out;
     let path = joined(alloc, directory, name)?;
@@ -138,8 +147,10 @@ fn leave_out_others<N: Sink>(
     notes: &mut N,
     left_out: &mut u64,
 ) -> Result<(), ReadFault>
-    ensures { TellsMore (λ _ lefts. (left_paths lefts ≡ unnamed_paths directory.now others) × All (IsUnnamed directory.now others) lefts)
-        (N.taken notes.old) (N.taken notes.new) (N.failures notes.old) (N.failures notes.new) left_out.old left_out.new result }
+    ensures { TellsMore (λ _ lefts. (left_paths lefts ≡ unnamed_paths directory.now others)
+        × All (IsUnnamed directory.now others) lefts)
+        (N.taken notes.old) (N.taken notes.new) (N.failures notes.old) (N.failures notes.new)
+        left_out.old left_out.new result }
 {
     let _count = *left_out;
     if others == 0 {
@@ -158,11 +169,15 @@ fn paths_of<N: Sink>(
     left_out: &mut u64,
 ) -> Result<Vec<String>, ReadFault>
     requires { IsSorted string_cmp names.now }
-    ensures paths { IfOk result (λ paths. All (λ path. IsChild directory.now (string_bytes path)) paths.items) }
+    ensures paths { IfOk result
+        (λ paths. All (λ path. IsChild directory.now (string_bytes path)) paths.items) }
     ensures order { IfOk result (λ paths. Ascend (map string_bytes paths.items)) }
-    ensures told { TellsMore (λ paths lefts. IsPermutation (map (λ name. child directory.now (string_bytes name)) names.now) (map string_bytes paths.items ++ left_paths lefts)
+    ensures told { TellsMore (λ paths lefts. IsPermutation
+        (map (λ name. child directory.now (string_bytes name)) names.now)
+        (map string_bytes paths.items ++ left_paths lefts)
         × All (IsWrongChild directory.now (map string_bytes names.now)) lefts)
-        (N.taken notes.old) (N.taken notes.new) (N.failures notes.old) (N.failures notes.new) left_out.old left_out.new result }
+        (N.taken notes.old) (N.taken notes.new) (N.failures notes.old) (N.failures notes.new)
+        left_out.old left_out.new result }
 {
     let _count = *left_out;
     let mut paths = Vec::new(alloc);
@@ -180,11 +195,14 @@ fn children<N: Sink>(
     notes: &mut N,
     left_out: &mut u64,
 ) -> Result<Vec<String>, ReadFault>
-    ensures paths { IfOk result (λ paths. All (λ path. IsChild directory.now (string_bytes path)) paths.items) }
+    ensures paths { IfOk result
+        (λ paths. All (λ path. IsChild directory.now (string_bytes path)) paths.items) }
     ensures order { IfOk result (λ paths. Ascend (map string_bytes paths.items)) }
-    ensures told { TellsMore (λ paths lefts. IsPermutation (children directory.now (named_of names)) (map string_bytes paths.items ++ left_paths lefts)
+    ensures told { TellsMore (λ paths lefts. IsPermutation (children directory.now (named_of names))
+        (map string_bytes paths.items ++ left_paths lefts)
         × All (IsUnlisted directory.now (named_of names)) lefts)
-        (N.taken notes.old) (N.taken notes.new) (N.failures notes.old) (N.failures notes.new) left_out.old left_out.new result }
+        (N.taken notes.old) (N.taken notes.new) (N.failures notes.old) (N.failures notes.new)
+        left_out.old left_out.new result }
 {
     names.texts.sort()?;
     leave_out_others(alloc, directory, names.others, notes, left_out)?;
@@ -219,7 +237,8 @@ impl Walk {
     fn first_path(&self, looked: &Looked) -> Option<&str>
         ensures file { IfSome result (λ first. IsFileOf self.now.items.items first.now) }
         ensures kind { IfSome result (λ _. kind_bits looked.now.mode ≡ 8) }
-        ensures every { (i : Item) → HasOtherNames looked.now → IsFirst self.now.items.items self.now.firsts (id_of looked.now) i → IsRegular i.what
+        ensures every { (i : Item) → HasOtherNames looked.now
+            → IsFirst self.now.items.items self.now.firsts (id_of looked.now) i → IsRegular i.what
             → IsSomeAnd result (λ first. first.now ≡ string_bytes i.path) }
     {
         let index = self.firsts.get(&identity_of(looked)?)?;
@@ -234,8 +253,11 @@ impl Walk {
     fn look<F: HostFolder>(&self, folder: &mut F, path: &str, rest: &str) -> Result<Looked, Skip>
         requires { IsInTurn self.now.items.items path.now }
         ensures next { IfOk result (λ _. IsTrue (comes_next self.now.items.items path.now)) }
-        ensures told { IfOk result (λ it. IfSome ((F.known folder.old).looked rest.now) (λ told. it ≡ told)) }
-        ensures why { IfErr result (SkipsFor (λ why. ComesAgain self.now.items.items (path.now, why) ⊎ IsRefusal ((F.known folder.old).looked rest.now ≡ None) why)) }
+        ensures told { IfOk result
+            (λ it. IfSome ((F.known folder.old).looked rest.now) (λ told. it ≡ told)) }
+        ensures why { IfErr result
+            (SkipsFor (λ why. ComesAgain self.now.items.items (path.now, why)
+            ⊎ IsRefusal ((F.known folder.old).looked rest.now ≡ None) why)) }
         ensures kept { F.known folder.new ≡ F.known folder.old }
     {
         if !self.is_next(path) {
@@ -259,12 +281,19 @@ impl Walk {
         ensures found { IfOk result (FoundFits options.now self.now.items.items) }
         ensures rooted { IfOk result (λ _. IsRooted path.now) }
         ensures next { IfOk result (λ _. IsTrue (comes_next self.now.items.items path.now)) }
-        ensures told { IfOk result (λ found. IsToldAt (F.known folder.old).looked options.now (inside path.now) found.attributes) }
-        ensures names { IfOk result (λ found. NamesFit ((F.known folder.old).names (inside path.now)) found.what found.names) }
-        ensures kind { IfOk result (λ found. IfSome ((F.known folder.old).looked (inside path.now)) (λ told. IsOfKind told found.what)) }
-        ensures object { IfOk result (λ found. HasObject (F.known folder.old) (inside path.now) found.what) }
+        ensures told { IfOk result (λ found. IsToldAt (F.known folder.old).looked options.now
+            (inside path.now) found.attributes) }
+        ensures names { IfOk result
+            (λ found.
+            NamesFit ((F.known folder.old).names (inside path.now)) found.what found.names) }
+        ensures kind { IfOk result (λ found. IfSome ((F.known folder.old).looked (inside path.now))
+            (λ told. IsOfKind told found.what)) }
+        ensures object { IfOk result
+            (λ found. HasObject (F.known folder.old) (inside path.now) found.what) }
         ensures links { IfOk result (LinksFit (F.known folder.old) self.now.items.items path.now) }
-        ensures why { IfErr result (SkipsFor (λ why. IsRight (F.known folder.old) options.now self.now.items.items (path.now, why))) }
+        ensures why { IfErr result
+            (SkipsFor (λ why. IsRight (F.known folder.old) options.now self.now.items.items
+            (path.now, why))) }
         ensures kept { F.known folder.new ≡ F.known folder.old }
     {
         let Some(rest) = inside(path) else {
@@ -290,11 +319,15 @@ impl Walk {
         ensures items { self.new.items.items ≡ self.old.items.items }
         ensures pending { self.new.pending.items ≡ self.old.pending.items }
         ensures firsts { self.new.firsts ≡ self.old.firsts }
-        ensures paths { IfOk result (λ paths. All (λ child. IsSome names × IsChild path.now (string_bytes child)) paths.items) }
+        ensures paths { IfOk result
+            (λ paths.
+            All (λ child. IsSome names × IsChild path.now (string_bytes child)) paths.items) }
         ensures order { IfOk result (λ paths. Ascend (map string_bytes paths.items)) }
-        ensures told { TellsMore (λ paths lefts. IsPermutation (children_of path.now names) (map string_bytes paths.items ++ left_paths lefts)
+        ensures told { TellsMore (λ paths lefts. IsPermutation (children_of path.now names)
+            (map string_bytes paths.items ++ left_paths lefts)
             × All (IsUnlistedIn path.now names) lefts)
-            (N.taken notes.old) (N.taken notes.new) (N.failures notes.old) (N.failures notes.new) self.old.left_out self.new.left_out result }
+            (N.taken notes.old) (N.taken notes.new) (N.failures notes.old) (N.failures notes.new)
+            self.old.left_out self.new.left_out result }
     {
         let _count = self.left_out;
         match names {
@@ -308,7 +341,9 @@ impl Walk {
         ensures items { self.new.items.items ≡ self.old.items.items }
         ensures pending { self.new.pending.items ≡ self.old.pending.items }
         ensures left_out { self.new.left_out ≡ self.old.left_out }
-        ensures firsts { IfOk result (λ _. Remembers identity (length self.old.items.items) self.old.firsts self.new.firsts) }
+        ensures firsts { IfOk result
+            (λ _. Remembers identity (length self.old.items.items) self.old.firsts
+            self.new.firsts) }
         ensures fault { IfErr result (λ fault. fault ≡ ReadFault.OutOfMemory) }
     {
         if let Some(identity) = identity {
@@ -324,7 +359,9 @@ impl Walk {
         attributes: Attributes,
         what: What,
     ) -> Result<(), ReadFault>
-        ensures items { IfOk result (λ _. self.new.items.items ≡ self.old.items.items ++ record { path = path; attributes = attributes; what = what } ∷ []) }
+        ensures items { IfOk result (λ _. self.new.items.items
+            ≡ self.old.items.items
+            ++ record { path = path; attributes = attributes; what = what } ∷ []) }
         ensures pending { self.new.pending.items ≡ self.old.pending.items }
         ensures left_out { self.new.left_out ≡ self.old.left_out }
         ensures firsts { self.new.firsts ≡ self.old.firsts }
@@ -348,18 +385,28 @@ impl Walk {
     ) -> Result<(), ReadFault>
         requires directory { IsSome found.names → found.what ≡ What.Directory }
         requires path { IsPending self.old.items.items (string_bytes path) }
-        requires pending { All (λ p. IsPending self.old.items.items (string_bytes p)) self.old.pending.items }
+        requires pending { All (λ p. IsPending self.old.items.items (string_bytes p))
+            self.old.pending.items }
         requires rise { Rise self.old.items.items }
         requires next { IsTrue (comes_next self.old.items.items (string_bytes path)) }
-        requires order { InOrder self.old.items.items (map string_bytes self.old.pending.items ++ string_bytes path ∷ []) }
-        ensures items { IfOk result (λ _. self.new.items.items ≡ self.old.items.items ++ item_of path found ∷ []) }
-        ensures pending { IfOk result (λ _. All (λ p. IsPending self.new.items.items (string_bytes p)) self.new.pending.items) }
-        ensures firsts { IfOk result (λ _. Remembers found.identity (length self.old.items.items) self.old.firsts self.new.firsts) }
-        ensures order { IfOk result (λ _. InOrder self.new.items.items (map string_bytes self.new.pending.items)) }
-        ensures told { TellsMore (λ _ lefts. IsPermutation (children_of (string_bytes path) found.names ++ map string_bytes self.old.pending.items)
+        requires order { InOrder self.old.items.items
+            (map string_bytes self.old.pending.items ++ string_bytes path ∷ []) }
+        ensures items { IfOk result
+            (λ _. self.new.items.items ≡ self.old.items.items ++ item_of path found ∷ []) }
+        ensures pending { IfOk result
+            (λ _. All (λ p. IsPending self.new.items.items (string_bytes p))
+            self.new.pending.items) }
+        ensures firsts { IfOk result (λ _. Remembers found.identity (length self.old.items.items)
+            self.old.firsts self.new.firsts) }
+        ensures order { IfOk result
+            (λ _. InOrder self.new.items.items (map string_bytes self.new.pending.items)) }
+        ensures told { TellsMore (λ _ lefts. IsPermutation
+            (children_of (string_bytes path) found.names
+            ++ map string_bytes self.old.pending.items)
             (map string_bytes self.new.pending.items ++ left_paths lefts)
             × All (IsUnlistedIn (string_bytes path) found.names) lefts)
-            (N.taken notes.old) (N.taken notes.new) (N.failures notes.old) (N.failures notes.new) self.old.left_out self.new.left_out result }
+            (N.taken notes.old) (N.taken notes.new) (N.failures notes.old) (N.failures notes.new)
+            self.old.left_out self.new.left_out result }
     {
         let Found {
             attributes,
@@ -377,7 +424,8 @@ impl Walk {
     /// Adds paths to those that are still to visit, the first to be visited next.
     fn put_off(&mut self, mut paths: Vec<String>) -> Result<(), AllocError>
         ensures items { self.new.items.items ≡ self.old.items.items }
-        ensures pending { IfOk result (λ _. self.new.pending.items ≡ self.old.pending.items ++ reverse paths.items) }
+        ensures pending { IfOk result
+            (λ _. self.new.pending.items ≡ self.old.pending.items ++ reverse paths.items) }
         ensures left_out { self.new.left_out ≡ self.old.left_out }
         ensures firsts { self.new.firsts ≡ self.old.firsts }
     {
@@ -396,19 +444,26 @@ impl Walk {
         notes: &mut N,
         path: String,
     ) -> Result<(), ReadFault>
-        requires fits { WalkFits (F.known folder.old) options.now self.old.items.items self.old.pending.items }
+        requires fits { WalkFits (F.known folder.old) options.now self.old.items.items
+            self.old.pending.items }
         requires path { IsPending self.old.items.items (string_bytes path) }
         requires links { WalkLinks (F.known folder.old) self.old.items.items self.old.firsts }
-        requires order { InOrder self.old.items.items (map string_bytes self.old.pending.items ++ string_bytes path ∷ []) }
-        ensures fits { IfOk result (λ _. WalkFits (F.known folder.old) options.now self.new.items.items self.new.pending.items) }
-        ensures links { IfOk result (λ _. WalkLinks (F.known folder.old) self.new.items.items self.new.firsts) }
-        ensures order { IfOk result (λ _. InOrder self.new.items.items (map string_bytes self.new.pending.items)) }
+        requires order { InOrder self.old.items.items
+            (map string_bytes self.old.pending.items ++ string_bytes path ∷ []) }
+        ensures fits { IfOk result (λ _. WalkFits (F.known folder.old) options.now
+            self.new.items.items self.new.pending.items) }
+        ensures links { IfOk result
+            (λ _. WalkLinks (F.known folder.old) self.new.items.items self.new.firsts) }
+        ensures order { IfOk result
+            (λ _. InOrder self.new.items.items (map string_bytes self.new.pending.items)) }
         ensures more { IfOk result (λ _. IsMore self.old.items.items self.new.items.items) }
         ensures kept { F.known folder.new ≡ F.known folder.old }
-        ensures told { TellsMore (λ _ lefts. StaysCovered (F.known folder.old) self.old.items.items (map string_bytes self.old.pending.items ++ string_bytes path ∷ [])
+        ensures told { TellsMore (λ _ lefts. StaysCovered (F.known folder.old) self.old.items.items
+            (map string_bytes self.old.pending.items ++ string_bytes path ∷ [])
             self.new.items.items (map string_bytes self.new.pending.items) lefts
             × All (IsRight (F.known folder.old) options.now self.new.items.items) lefts)
-            (N.taken notes.old) (N.taken notes.new) (N.failures notes.old) (N.failures notes.new) self.old.left_out self.new.left_out result }
+            (N.taken notes.old) (N.taken notes.new) (N.failures notes.old) (N.failures notes.new)
+            self.old.left_out self.new.left_out result }
     {
         match self.find(alloc, folder, options, path.as_str()) {
             Ok(found) => self.add(alloc, notes, path, found),
@@ -427,9 +482,12 @@ impl Walk {
 fn root_of<F: HostFolder>(folder: &mut F, options: &Options) -> Result<(Attributes, Names), Skip>
     ensures fit { IfOk result (λ root. AttributesFit root.0) }
     ensures options { IfOk result (λ root. HasOptions options.now root.0) }
-    ensures told { IfOk result (λ root. IsToldAt (F.known folder.old).looked options.now [] root.0) }
-    ensures kind { IfOk result (λ _. IfSome ((F.known folder.old).looked []) (λ told. kind_bits told.mode ≡ 4)) }
-    ensures names { IfOk result (λ root. IfSome ((F.known folder.old).names []) (λ told. named_of root.1 ≡ told)) }
+    ensures told { IfOk result
+        (λ root. IsToldAt (F.known folder.old).looked options.now [] root.0) }
+    ensures kind { IfOk result
+        (λ _. IfSome ((F.known folder.old).looked []) (λ told. kind_bits told.mode ≡ 4)) }
+    ensures names { IfOk result
+        (λ root. IfSome ((F.known folder.old).names []) (λ told. named_of root.1 ≡ told)) }
     ensures why { IfErr result (SkipsFor (IsRootWhy (F.known folder.old) options.now)) }
     ensures kept { F.known folder.new ≡ F.known folder.old }
 {
@@ -458,12 +516,17 @@ pub fn read_folder<F: HostFolder, N: Sink>(
     ensures fits { IfOk result (λ read. FitsListing read.root read.items.items) }
     ensures tree { IfOk result (λ read. IsTree read.items.items) }
     ensures rises { IfOk result (λ read. Rise read.items.items) }
-    ensures options { IfOk result (λ read. All (HasOptions options.now) (read.root ∷ map (λ item. item.attributes) read.items.items)) }
-    ensures root { IfOk result (λ read. IsToldAt (F.known folder.old).looked options.now [] read.root) }
-    ensures told { IfOk result (λ read. All (IsItemTold (F.known folder.old).looked options.now) read.items.items) }
-    ensures objects { IfOk result (λ read. All (IsObjectTold (F.known folder.old)) read.items.items) }
+    ensures options { IfOk result (λ read. All (HasOptions options.now)
+        (read.root ∷ map (λ item. item.attributes) read.items.items)) }
+    ensures root { IfOk result
+        (λ read. IsToldAt (F.known folder.old).looked options.now [] read.root) }
+    ensures told { IfOk result
+        (λ read. All (IsItemTold (F.known folder.old).looked options.now) read.items.items) }
+    ensures objects { IfOk result
+        (λ read. All (IsObjectTold (F.known folder.old)) read.items.items) }
     ensures links { IfOk result (λ read. AreLinked (F.known folder.old) read.items.items) }
-    ensures notes { Tells (F.known folder.old) options.now (N.taken notes.old) (N.taken notes.new) (N.failures notes.old) (N.failures notes.new) result }
+    ensures notes { Tells (F.known folder.old) options.now (N.taken notes.old) (N.taken notes.new)
+        (N.failures notes.old) (N.failures notes.new) result }
 {
     let (root, names) = match root_of(folder, options) {
         Ok(found) => found,

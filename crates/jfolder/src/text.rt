@@ -16,7 +16,8 @@ const PAGE: usize = 4096;
 
 /// `time T`, where it is another than before.
 fn put_time<T: Sink>(sink: &mut T, before: u32, time: u32) -> Result<(), DeviceFault>
-    ensures { Puts (T.taken sink.old) (T.taken sink.new) (T.failures sink.old) (T.failures sink.new) (lines_text (time_words before time)) result }
+    ensures { Puts (T.taken sink.old) (T.taken sink.new) (T.failures sink.old) (T.failures sink.new)
+        (lines_text (time_words before time)) result }
 {
     if time == before {
         return Ok(());
@@ -37,7 +38,8 @@ fn put_owner<T: Sink>(
     before: Settings,
     attributes: &Attributes,
 ) -> Result<(), DeviceFault>
-    ensures { Puts (T.taken sink.old) (T.taken sink.new) (T.failures sink.old) (T.failures sink.new) (lines_text (owner_words before attributes.now)) result }
+    ensures { Puts (T.taken sink.old) (T.taken sink.new) (T.failures sink.old) (T.failures sink.new)
+        (lines_text (owner_words before attributes.now)) result }
 {
     if attributes.uid == before.uid && attributes.gid == before.gid {
         return Ok(());
@@ -63,7 +65,8 @@ fn is_link(what: &What) -> bool
 
 /// The owner of an item, which a link has already.
 fn put_own_owner<T: Sink>(sink: &mut T, before: Settings, item: &Item) -> Result<(), DeviceFault>
-    ensures { Puts (T.taken sink.old) (T.taken sink.new) (T.failures sink.old) (T.failures sink.new) (own_owner_text before item.now) result }
+    ensures { Puts (T.taken sink.old) (T.taken sink.new) (T.failures sink.old) (T.failures sink.new)
+        (own_owner_text before item.now) result }
 {
     if is_link(&item.what) {
         return Ok(());
@@ -73,7 +76,8 @@ fn put_own_owner<T: Sink>(sink: &mut T, before: Settings, item: &Item) -> Result
 
 /// What is set before an item.
 fn put_settings<T: Sink>(sink: &mut T, before: Settings, item: &Item) -> Result<(), DeviceFault>
-    ensures { Puts (T.taken sink.old) (T.taken sink.new) (T.failures sink.old) (T.failures sink.new) (lines_text (setting_words before item.now)) result }
+    ensures { Puts (T.taken sink.old) (T.taken sink.new) (T.failures sink.old) (T.failures sink.new)
+        (lines_text (setting_words before item.now)) result }
 {
     put_time(sink, before.time, item.attributes.time)?;
     put_own_owner(sink, before, item)
@@ -86,7 +90,8 @@ fn put_moded<'a, T: Sink>(
     mode: u32,
     path: &'a [u8],
 ) -> Result<(), DeviceFault>
-    ensures { Puts (T.taken sink.old) (T.taken sink.new) (T.failures sink.old) (T.failures sink.new) (moded_line verb.now mode path.now) result }
+    ensures { Puts (T.taken sink.old) (T.taken sink.new) (T.failures sink.old) (T.failures sink.new)
+        (moded_line verb.now mode path.now) result }
 {
     put_pieces(
         sink,
@@ -108,7 +113,8 @@ fn put_two<'a, T: Sink>(
     first: &'a [u8],
     second: &'a [u8],
 ) -> Result<(), DeviceFault>
-    ensures { Puts (T.taken sink.old) (T.taken sink.new) (T.failures sink.old) (T.failures sink.new) (paths_line verb.now first.now second.now) result }
+    ensures { Puts (T.taken sink.old) (T.taken sink.new) (T.failures sink.old) (T.failures sink.new)
+        (paths_line verb.now first.now second.now) result }
 {
     put_pieces(
         sink,
@@ -125,7 +131,8 @@ fn put_two<'a, T: Sink>(
 
 /// `part PATH 0 FILE`
 fn put_part<'a, T: Sink>(sink: &mut T, path: &'a [u8], file: &'a [u8]) -> Result<(), DeviceFault>
-    ensures { Puts (T.taken sink.old) (T.taken sink.new) (T.failures sink.old) (T.failures sink.new) (part_text path.now file.now) result }
+    ensures { Puts (T.taken sink.old) (T.taken sink.new) (T.failures sink.old) (T.failures sink.new)
+        (part_text path.now file.now) result }
 {
     put_pieces(
         sink,
@@ -146,7 +153,8 @@ fn put_write<'a, T: Sink>(
     offset: u64,
     bytes: &'a [u8],
 ) -> Result<(), DeviceFault>
-    ensures { Puts (T.taken sink.old) (T.taken sink.new) (T.failures sink.old) (T.failures sink.new) (write_text path.now offset bytes.now) result }
+    ensures { Puts (T.taken sink.old) (T.taken sink.new) (T.failures sink.old) (T.failures sink.new)
+        (write_text path.now offset bytes.now) result }
 {
     put_pieces(
         sink,
@@ -170,7 +178,8 @@ fn put_piece_at<T: Sink>(
     k: usize,
 ) -> Result<(), DeviceFault>
     requires { PAGE * k < length bytes.now }
-    ensures { Puts (T.taken sink.old) (T.taken sink.new) (T.failures sink.old) (T.failures sink.new) (words_line (write_words path.now bytes.now k)) result }
+    ensures { Puts (T.taken sink.old) (T.taken sink.new) (T.failures sink.old) (T.failures sink.new)
+        (words_line (write_words path.now bytes.now k)) result }
 {
     let start = PAGE * k;
     let end = bytes.len().min(start + PAGE);
@@ -179,7 +188,8 @@ fn put_piece_at<T: Sink>(
 
 /// The bytes of a file, by pieces.
 fn put_bytes<T: Sink>(sink: &mut T, path: &[u8], bytes: &[u8]) -> Result<(), DeviceFault>
-    ensures { Puts (T.taken sink.old) (T.taken sink.new) (T.failures sink.old) (T.failures sink.new) (bytes_text path.now bytes.now) result }
+    ensures { Puts (T.taken sink.old) (T.taken sink.new) (T.failures sink.old) (T.failures sink.new)
+        (bytes_text path.now bytes.now) result }
 {
     let count = (bytes.len() + (PAGE - 1)) / PAGE;
     for k in 0..count {
@@ -190,7 +200,8 @@ fn put_bytes<T: Sink>(sink: &mut T, path: &[u8], bytes: &[u8]) -> Result<(), Dev
 
 /// What gives a regular file its bytes.
 fn put_content<T: Sink>(sink: &mut T, path: &[u8], content: &Content) -> Result<(), DeviceFault>
-    ensures { Puts (T.taken sink.old) (T.taken sink.new) (T.failures sink.old) (T.failures sink.new) (lines_text (content_words path.now content.now)) result }
+    ensures { Puts (T.taken sink.old) (T.taken sink.new) (T.failures sink.old) (T.failures sink.new)
+        (lines_text (content_words path.now content.now)) result }
 {
     match content {
         Content::Empty => Ok(()),
@@ -206,7 +217,8 @@ fn put_regular<T: Sink>(
     mode: u32,
     content: &Content,
 ) -> Result<(), DeviceFault>
-    ensures { Puts (T.taken sink.old) (T.taken sink.new) (T.failures sink.old) (T.failures sink.new) (regular_text path.now mode content.now) result }
+    ensures { Puts (T.taken sink.old) (T.taken sink.new) (T.failures sink.old) (T.failures sink.new)
+        (regular_text path.now mode content.now) result }
 {
     put_moded(sink, b"create", mode, path)?;
     put_content(sink, path, content)
@@ -215,7 +227,8 @@ fn put_regular<T: Sink>(
 /// What makes an object.
 fn put_object<T: Sink>(sink: &mut T, item: &Item) -> Result<(), DeviceFault>
     ensures { Puts (T.taken sink.old) (T.taken sink.new) (T.failures sink.old) (T.failures sink.new)
-        (lines_text (object_words (string_bytes item.now.path) item.now.attributes item.now.what)) result }
+        (lines_text (object_words (string_bytes item.now.path) item.now.attributes item.now.what))
+        result }
 {
     let path = item.path.as_bytes();
     match &item.what {
@@ -228,7 +241,8 @@ fn put_object<T: Sink>(sink: &mut T, item: &Item) -> Result<(), DeviceFault>
 
 /// The lines of an item.
 fn put_item<T: Sink>(sink: &mut T, before: Settings, item: &Item) -> Result<(), DeviceFault>
-    ensures { Puts (T.taken sink.old) (T.taken sink.new) (T.failures sink.old) (T.failures sink.new) (lines_text (item_words before item.now)) result }
+    ensures { Puts (T.taken sink.old) (T.taken sink.new) (T.failures sink.old) (T.failures sink.new)
+        (lines_text (item_words before item.now)) result }
 {
     put_settings(sink, before, item)?;
     put_object(sink, item)
@@ -251,7 +265,8 @@ fn settings_after(before: Settings, item: &Item) -> Settings
 
 /// The line of the root.
 fn put_attr<T: Sink>(sink: &mut T, root: &Attributes) -> Result<(), DeviceFault>
-    ensures { Puts (T.taken sink.old) (T.taken sink.new) (T.failures sink.old) (T.failures sink.new) (lines_text (attr_words root.now)) result }
+    ensures { Puts (T.taken sink.old) (T.taken sink.new) (T.failures sink.old) (T.failures sink.new)
+        (lines_text (attr_words root.now)) result }
 {
     put_pieces(
         sink,
@@ -273,7 +288,8 @@ fn put_attr<T: Sink>(sink: &mut T, root: &Attributes) -> Result<(), DeviceFault>
 
 /// The lines of the root.
 fn put_root<T: Sink>(sink: &mut T, root: &Attributes) -> Result<(), DeviceFault>
-    ensures { Puts (T.taken sink.old) (T.taken sink.new) (T.failures sink.old) (T.failures sink.new) (lines_text (root_words root.now)) result }
+    ensures { Puts (T.taken sink.old) (T.taken sink.new) (T.failures sink.old) (T.failures sink.new)
+        (lines_text (root_words root.now)) result }
 {
     put_time(sink, 0, root.time)?;
     put_attr(sink, root)
@@ -285,7 +301,8 @@ pub fn put_listing<T: Sink>(
     items: &[Item],
     sink: &mut T,
 ) -> Result<(), DeviceFault>
-    ensures { Puts (T.taken sink.old) (T.taken sink.new) (T.failures sink.old) (T.failures sink.new) (listing_text root.now items.now) result }
+    ensures { Puts (T.taken sink.old) (T.taken sink.new) (T.failures sink.old) (T.failures sink.new)
+        (listing_text root.now items.now) result }
 {
     put_root(sink, root)?;
     let mut settings = Settings {

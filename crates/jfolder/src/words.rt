@@ -21,7 +21,8 @@ pub enum Piece<'a> {
 
 /// Puts a number.
 fn put_decimal<T: Sink>(sink: &mut T, number: u64) -> Result<(), DeviceFault>
-    ensures { Puts (T.taken sink.old) (T.taken sink.new) (T.failures sink.old) (T.failures sink.new) (piece_text (Piece.Decimal number)) result }
+    ensures { Puts (T.taken sink.old) (T.taken sink.new) (T.failures sink.old) (T.failures sink.new)
+        (piece_text (Piece.Decimal number)) result }
 {
     let mut line = LineBuffer::new();
     line.push_decimal(number);
@@ -30,7 +31,8 @@ fn put_decimal<T: Sink>(sink: &mut T, number: u64) -> Result<(), DeviceFault>
 
 /// Puts permission bits.
 fn put_octal<T: Sink>(sink: &mut T, mode: u32) -> Result<(), DeviceFault>
-    ensures { Puts (T.taken sink.old) (T.taken sink.new) (T.failures sink.old) (T.failures sink.new) (piece_text (Piece.Octal mode)) result }
+    ensures { Puts (T.taken sink.old) (T.taken sink.new) (T.failures sink.old) (T.failures sink.new)
+        (piece_text (Piece.Octal mode)) result }
 {
     let mut line = LineBuffer::new();
     line.push_octal(mode);
@@ -39,7 +41,8 @@ fn put_octal<T: Sink>(sink: &mut T, mode: u32) -> Result<(), DeviceFault>
 
 /// Puts a piece.
 fn put_piece<T: Sink>(sink: &mut T, piece: &Piece<'_>) -> Result<(), DeviceFault>
-    ensures { Puts (T.taken sink.old) (T.taken sink.new) (T.failures sink.old) (T.failures sink.new) (piece_text piece.now) result }
+    ensures { Puts (T.taken sink.old) (T.taken sink.new) (T.failures sink.old) (T.failures sink.new)
+        (piece_text piece.now) result }
 {
     match piece {
         Piece::Plain(text) => put_text(sink, text),
@@ -52,7 +55,8 @@ fn put_piece<T: Sink>(sink: &mut T, piece: &Piece<'_>) -> Result<(), DeviceFault
 
 /// Puts pieces one after the other. Takes no memory.
 pub fn put_pieces<T: Sink>(sink: &mut T, pieces: &[Piece<'_>]) -> Result<(), DeviceFault>
-    ensures { Puts (T.taken sink.old) (T.taken sink.new) (T.failures sink.old) (T.failures sink.new) (pieces_text pieces.now) result }
+    ensures { Puts (T.taken sink.old) (T.taken sink.new) (T.failures sink.old) (T.failures sink.new)
+        (pieces_text pieces.now) result }
 {
     for piece in pieces {
         put_piece(sink, piece)?;

@@ -43,21 +43,25 @@ between k hi i = nat_le k i && nat_lt i hi
 
 -- the piece that is visible at a place covers it, and ends below 2 ^ 32
 abbrev pub IsCovered : List (ℕ × Interval) → Type 0
-IsCovered es = (i : ℕ) (p : Piece) → interval_at es i ≡ Some p → (covers i p ≡ true) × (end_of p < 2 ^ 32)
+IsCovered es =
+    (i : ℕ) (p : Piece) → interval_at es i ≡ Some p → (covers i p ≡ true) × (end_of p < 2 ^ 32)
 
 -- whether the piece wins place i
 abbrev pub won : Piece → List (ℕ × Interval) → ℕ → Bool
 won p es i = covers i p && is_under p.version (interval_at es i)
 
--- a piece that is visible somewhere has won each place that it covers, but for those where another has at least its
--- version
+-- a piece that is visible somewhere has won each place that it covers, but for those where another
+-- has at least its version
 abbrev pub IsSettled : List (ℕ × Interval) → Type 0
-IsSettled es = (i j : ℕ) (p : Piece) → interval_at es i ≡ Some p → covers j p ≡ true → is_under p.version (interval_at es j) ≡ false
+IsSettled es = (i j : ℕ) (p : Piece) → interval_at es i ≡ Some p → covers j p ≡ true
+    → is_under p.version (interval_at es j) ≡ false
 
 -- no key is within one piece's interval
 abbrev pub IsTight : BTreeMap ℕ Interval → Type 0
-IsTight m = (j : ℕ) (p : Piece) → get nat_cmp m (j + 1) ≡ Some (Some p) → interval_at m.entries j ≢ Some p
+IsTight m =
+    (j : ℕ) (p : Piece) → get nat_cmp m (j + 1) ≡ Some (Some p) → interval_at m.entries j ≢ Some p
 
 -- no key is between two places in a row that the piece wins
 abbrev pub IsJoined : Piece → List (ℕ × Interval) → BTreeMap ℕ Interval → Type 0
-IsJoined p es m = (j : ℕ) → won p es j ≡ true → won p es (j + 1) ≡ true → get nat_cmp m (j + 1) ≡ None
+IsJoined p es m =
+    (j : ℕ) → won p es j ≡ true → won p es (j + 1) ≡ true → get nat_cmp m (j + 1) ≡ None

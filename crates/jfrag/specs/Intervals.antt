@@ -9,13 +9,15 @@ use Rattle.jfrag.specs.Layouts.{laid_at, laid_ends}
 abbrev pub piece_at : FragOverlay → ℕ → Option Piece
 piece_at overlay place = laid_at overlay.layout place
 
--- how many ends of intervals are stored: the end of one that is the beginning of the next counts once
+-- how many ends of intervals are stored: the end of one that is the beginning of the next counts
+-- once
 abbrev pub end_count : FragOverlay → ℕ
 end_count overlay = laid_ends overlay.layout
 
 -- an interval begins where a piece is visible that is not visible right before
 abbrev pub Begins : (ℕ → Option Piece) → ℕ → Type 0
-Begins visible_at place = (piece : Piece) × (visible_at place ≡ Some piece) × ((before : ℕ) → before + 1 ≡ place → visible_at before ≢ Some piece)
+Begins visible_at place = (piece : Piece) × (visible_at place ≡ Some piece)
+    × ((before : ℕ) → before + 1 ≡ place → visible_at before ≢ Some piece)
 
 -- so many intervals: their beginnings, each once
 pub record IsIntervalCount (visible_at : ℕ → Option Piece) (count : ℕ) : Type 0 where

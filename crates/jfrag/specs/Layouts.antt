@@ -18,17 +18,20 @@ laid_at Empty place = None
 laid_at (One piece) place = of_one piece place
 laid_at (Map intervals) place = interval_at intervals.entries place
 
--- how many ends of intervals there are: the end of one that is the beginning of the next counts once
+-- how many ends of intervals there are: the end of one that is the beginning of the next counts
+-- once
 abbrev pub laid_ends : Layout → ℕ
 laid_ends Empty = 0
 laid_ends (One piece) = 2
 laid_ends (Map intervals) = btree_map_len intervals
 
--- a piece alone has a byte at least, and ends below 2 ^ 32; of several each has what it wins, in one interval where it can
+-- a piece alone has a byte at least, and ends below 2 ^ 32; of several each has what it wins, in
+-- one interval where it can
 abbrev pub IsSoundLayout : Layout → Type 0
 IsSoundLayout Empty = ⊤
 IsSoundLayout (One piece) = (piece.offset < end_of piece) × (end_of piece < 2 ^ 32)
-IsSoundLayout (Map intervals) = IsCovered intervals.entries × IsSettled intervals.entries × IsTight intervals
+IsSoundLayout (Map intervals) =
+    IsCovered intervals.entries × IsSettled intervals.entries × IsTight intervals
 
 pub IsSoundLayout-prop : (layout : Layout) → IsProp (IsSoundLayout layout)
 IsSoundLayout-prop Empty = Prim.hlevel props

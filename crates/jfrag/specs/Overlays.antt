@@ -18,18 +18,21 @@ byte_at (Some there) = there.1
 
 -- the piece covers the place, with this version and this byte
 abbrev pub GivesAt : ℕ → ℕ × ℕ → Piece → Type 0
-GivesAt place there piece = (covers place piece ≡ true) × (piece.version ≡ there.0) × (byte_of place piece ≡ there.1)
+GivesAt place there piece =
+    (covers place piece ≡ true) × (piece.version ≡ there.0) × (byte_of place piece ≡ there.1)
 
--- nothing is visible where no piece covers the place; else what a piece gives there, of the highest version that covers
--- it
+-- nothing is visible where no piece covers the place; else what a piece gives there, of the highest
+-- version that covers it
 abbrev pub IsHighestAt : List Piece → ℕ → Visible → Type 0
 IsHighestAt pieces place visible = MatchOption visible
     (All (λ piece. covers place piece ≢ true) pieces)
-    (λ there. Any (GivesAt place there) pieces × All (λ piece. covers place piece ≡ true → piece.version ≤ there.0) pieces)
+    (λ there. Any (GivesAt place there) pieces
+    × All (λ piece. covers place piece ≡ true → piece.version ≤ there.0) pieces)
 
 -- the same, computed: of equal versions the first in the list gives the byte
 abbrev pub visible : List Piece → ℕ → Visible
-visible pieces place = option_map (λ piece. (piece.version, byte_of place piece)) (newest (λ piece. piece.version) (filter (covers place) pieces))
+visible pieces place = option_map (λ piece. (piece.version, byte_of place piece))
+    (newest (λ piece. piece.version) (filter (covers place) pieces))
 
 -- the first `size` bytes of a file
 abbrev pub content : List Piece → ℕ → List ℕ
@@ -42,4 +45,5 @@ outranks version (Some there) = nat_lt there.0 version
 
 -- what is visible at a place after one more piece
 abbrev pub overlaid : ℕ → Piece → Visible → Visible
-overlaid place piece there = if covers place piece && outranks piece.version there then Some (piece.version, byte_of place piece) else there
+overlaid place piece there = if covers place piece
+    && outranks piece.version there then Some (piece.version, byte_of place piece) else there

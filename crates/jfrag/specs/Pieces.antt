@@ -1,5 +1,5 @@
--- What a piece of a file says (Linux include/uapi/linux/jffs2.h: an inode node has a version, an offset and dsize bytes
--- of data; with compr ZERO they are zeros).
+-- What a piece of a file says (Linux include/uapi/linux/jffs2.h: an inode node has a version, an
+-- offset and dsize bytes of data; with compr ZERO they are zeros).
 use Rattle.std.specs.Prelude.{ℕ, ◌+◌, ◌-◌, Bool, ◌&&◌, nat_lt, nat_le, length, slice_index}
 use Rattle.jfrag.specs.declared.piece.Body.{Body}
 use Rattle.jfrag.specs.declared.piece.Body.TheVariants.{Zero, Bytes}

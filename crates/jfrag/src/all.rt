@@ -17,7 +17,8 @@ use std::alloc::{AllocError, Global};
 /// Out of memory.
 pub fn overlay<'a, O: Overlay<'a>>(alloc: Global, pieces: &[Piece<'a>]) -> Result<O, AllocError>
     requires { All (λ piece. end_of piece < 2 ^ 32) pieces.now }
-    ensures highest { IfOk result (λ o. (place : ℕ) → IsHighestAt pieces.now place (O.visible_at o place)) }
+    ensures highest { IfOk result
+        (λ o. (place : ℕ) → IsHighestAt pieces.now place (O.visible_at o place)) }
     ensures ends { IfOk result (λ o. O.ends o ≤ 2 * length pieces.now) }
 {
     let mut by_version = copies(alloc, pieces)?;
@@ -40,7 +41,8 @@ fn copies<'a>(alloc: Global, pieces: &[Piece<'a>]) -> Result<Vec<Piece<'a>>, All
 fn overlay_in_turn<'a, O: Overlay<'a>>(alloc: Global, pieces: &[Piece<'a>]) -> Result<O, AllocError>
     requires within { All (λ piece. end_of piece < 2 ^ 32) pieces.now }
     requires by_version { IsNonDecreasingBy (λ piece. piece.version) pieces.now }
-    ensures highest { IfOk result (λ o. (place : ℕ) → IsHighestAt pieces.now place (O.visible_at o place)) }
+    ensures highest { IfOk result
+        (λ o. (place : ℕ) → IsHighestAt pieces.now place (O.visible_at o place)) }
     ensures ends { IfOk result (λ o. O.ends o ≤ 2 * length pieces.now) }
 {
     let mut overlaid = O::new(alloc);

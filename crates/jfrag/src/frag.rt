@@ -39,11 +39,16 @@ impl<'a> Overlay<'a> for FragOverlay<'a> {
     /// intervals in its range takes k steps more: `overlay` sorts first. The first piece takes no memory.
     fn add(&mut self, piece: Piece<'a>) -> Result<(), AllocError>
         requires { end_of piece < 2 ^ 32 }
-        ensures taken { OnOk result ((place : ℕ) → piece_at self.new place ≡ overwritten piece.entry place (piece_at self.old place)) }
-        ensures overlaid { OnOk result ((place : ℕ) → seen (piece_at self.new place) place ≡ overlaid place piece.entry (seen (piece_at self.old place) place)) }
+        ensures taken { OnOk result ((place : ℕ) → piece_at self.new place
+            ≡ overwritten piece.entry place (piece_at self.old place)) }
+        ensures overlaid { OnOk result ((place : ℕ)
+            → seen (piece_at self.new place) place
+            ≡ overlaid place piece.entry (seen (piece_at self.old place) place)) }
         ensures two_ends { OnOk result (end_count self.new ≤ end_count self.old + 2) }
-        ensures unchanged { OnErr result ((place : ℕ) → piece_at self.new place ≡ piece_at self.old place) }
-        ensures same { OnErr result ((place : ℕ) → seen (piece_at self.new place) place ≡ seen (piece_at self.old place) place) }
+        ensures unchanged { OnErr result
+            ((place : ℕ) → piece_at self.new place ≡ piece_at self.old place) }
+        ensures same { OnErr result ((place : ℕ) → seen (piece_at self.new place) place
+            ≡ seen (piece_at self.old place) place) }
         ensures same_ends { OnErr result (end_count self.new ≡ end_count self.old) }
     {
         layout::add(self.alloc, &mut self.layout, piece)

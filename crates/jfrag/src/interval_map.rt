@@ -56,11 +56,14 @@ fn is_under(version: u32, interval: &Option<Piece<'_>>) -> bool
 // Makes `at` a key, where it is wanted and it is none, and answers whether that was so. What is visible stays.
 fn split(intervals: &mut Intervals<'_>, at: u32, wanted: bool) -> Result<bool, AllocError>
     ensures key { OnOk result (wanted ≡ true → ContainsKey nat_cmp intervals.new at) }
-    ensures same { (i : ℕ) → interval_at intervals.new.entries i ≡ interval_at intervals.old.entries i }
+    ensures same { (i : ℕ)
+        → interval_at intervals.new.entries i ≡ interval_at intervals.old.entries i }
     ensures others { (q : ℕ) → q ≢ at → get nat_cmp intervals.new q ≡ get nat_cmp intervals.old q }
-    ensures no_other { (q : ℕ) → (wanted ≡ true → q ≢ at) → get nat_cmp intervals.old q ≡ None → get nat_cmp intervals.new q ≡ None }
+    ensures no_other { (q : ℕ) → (wanted ≡ true → q ≢ at) → get nat_cmp intervals.old q ≡ None
+        → get nat_cmp intervals.new q ≡ None }
     ensures fresh { IfOk result (λ fresh. fresh ≡ true → get nat_cmp intervals.old at ≡ None) }
-    ensures unchanged { IfOk result (λ fresh. fresh ≢ true → IsUnchanged intervals.old intervals.new) }
+    ensures unchanged { IfOk result
+        (λ fresh. fresh ≢ true → IsUnchanged intervals.old intervals.new) }
     ensures err { OnErr result (IsUnchanged intervals.old intervals.new) }
     ensures len { btree_map_len intervals.new ≤ btree_map_len intervals.old + 1 }
 {
@@ -74,7 +77,8 @@ fn split(intervals: &mut Intervals<'_>, at: u32, wanted: bool) -> Result<bool, A
 
 // Takes a key that `split` made out again.
 fn unsplit(intervals: &mut Intervals<'_>, at: u32, fresh: bool)
-    ensures fresh { fresh ≡ true → Updates nat_cmp intervals.old intervals.new at None × IsOrdered nat_cmp intervals.new }
+    ensures fresh { fresh ≡ true → Updates nat_cmp intervals.old intervals.new at None
+        × IsOrdered nat_cmp intervals.new }
     ensures unchanged { fresh ≢ true → IsUnchanged intervals.old intervals.new }
 {
     if fresh {
@@ -107,16 +111,21 @@ fn overwrite_step<'a>(
     joined: bool,
 ) -> (u32, bool)
     requires room { at < end }
-    requires key { is_under piece.now.version (interval_at intervals.old.entries at) ≡ true → ContainsKey nat_cmp intervals.old at }
-    requires stop { is_under piece.now.version (interval_at intervals.old.entries (end - 1)) ≡ true → ContainsKey nat_cmp intervals.old end }
-    requires joined { joined ≡ true → (0 < at) × (interval_at intervals.old.entries (at - 1) ≡ Some piece.now) }
+    requires key { is_under piece.now.version (interval_at intervals.old.entries at) ≡ true
+        → ContainsKey nat_cmp intervals.old at }
+    requires stop { is_under piece.now.version (interval_at intervals.old.entries (end - 1)) ≡ true
+        → ContainsKey nat_cmp intervals.old end }
+    requires joined { joined ≡ true → (0 < at)
+        × (interval_at intervals.old.entries (at - 1) ≡ Some piece.now) }
     ensures was_ordered { IsOrdered nat_cmp intervals.old }
     ensures after { at < result.0 }
     ensures within { result.0 ≤ end }
     ensures won { result.1 ≡ is_under piece.now.version (interval_at intervals.old.entries at) }
     ensures one_interval { NoKeyIn intervals.old (at + 1) result.0 }
     ensures next_key { result.0 < end → ContainsKey nat_cmp intervals.new result.0 }
-    ensures overwritten { (i : ℕ) → interval_at intervals.new.entries i ≡ (if between at result.0 i && result.1 then Some piece.now else interval_at intervals.old.entries i) }
+    ensures overwritten { (i : ℕ) → interval_at intervals.new.entries i
+        ≡ (if between at result.0 i
+        && result.1 then Some piece.now else interval_at intervals.old.entries i) }
     ensures others { (q : ℕ) → q ≢ at → get nat_cmp intervals.new q ≡ get nat_cmp intervals.old q }
     ensures no_new { get nat_cmp intervals.old at ≡ None → get nat_cmp intervals.new at ≡ None }
     ensures ordered { IsOrdered nat_cmp intervals.new }
@@ -139,10 +148,14 @@ fn overwrite_step<'a>(
 fn overwrite<'a>(intervals: &mut Intervals<'a>, piece: &Piece<'a>, end: u32)
     requires end { end ≡ end_of piece.now }
     requires room { piece.now.offset < end }
-    requires start { is_under piece.now.version (interval_at intervals.old.entries piece.now.offset) ≡ true → ContainsKey nat_cmp intervals.old piece.now.offset }
-    requires stop { is_under piece.now.version (interval_at intervals.old.entries (end - 1)) ≡ true → ContainsKey nat_cmp intervals.old end }
-    ensures overwritten { (i : ℕ) → interval_at intervals.new.entries i ≡ overwritten piece.now i (interval_at intervals.old.entries i) }
-    ensures no_new { (q : ℕ) → get nat_cmp intervals.old q ≡ None → get nat_cmp intervals.new q ≡ None }
+    requires start { is_under piece.now.version (interval_at intervals.old.entries piece.now.offset)
+        ≡ true → ContainsKey nat_cmp intervals.old piece.now.offset }
+    requires stop { is_under piece.now.version (interval_at intervals.old.entries (end - 1)) ≡ true
+        → ContainsKey nat_cmp intervals.old end }
+    ensures overwritten { (i : ℕ) → interval_at intervals.new.entries i
+        ≡ overwritten piece.now i (interval_at intervals.old.entries i) }
+    ensures no_new { (q : ℕ) → get nat_cmp intervals.old q ≡ None
+        → get nat_cmp intervals.new q ≡ None }
     ensures joined { IsJoined piece.now intervals.old.entries intervals.new }
     ensures ordered { IsOrdered nat_cmp intervals.new }
     ensures len { btree_map_len intervals.new ≤ btree_map_len intervals.old }
@@ -162,7 +175,8 @@ pub(crate) fn overlay_piece<'a>(
     requires fits { end_of piece.now < 2 ^ 32 }
     requires settled { IsSettled intervals.old.entries }
     requires tight { IsTight intervals.old }
-    ensures overwritten { OnOk result ((i : ℕ) → interval_at intervals.new.entries i ≡ overwritten piece.now i (interval_at intervals.old.entries i)) }
+    ensures overwritten { OnOk result ((i : ℕ) → interval_at intervals.new.entries i
+        ≡ overwritten piece.now i (interval_at intervals.old.entries i)) }
     ensures settled { IsSettled intervals.new.entries }
     ensures tight { IsTight intervals.new }
     ensures len { OnOk result (btree_map_len intervals.new ≤ btree_map_len intervals.old + 2) }
@@ -186,7 +200,8 @@ pub(crate) fn overlay_piece<'a>(
 // Fills the slice with what an interval shows from a place on, and with 0 where it is a gap.
 fn show(interval: &Option<Piece<'_>>, place: u64, out: &mut [u8])
     requires { IfSome interval.now (λ p. (p.offset ≤ place) × (place + length out.old ≤ end_of p)) }
-    ensures { EachIndex out.new (λ k. slice_index out.new k ≡ byte_at (seen interval.now (place + k))) }
+    ensures { EachIndex out.new
+        (λ k. slice_index out.new k ≡ byte_at (seen interval.now (place + k))) }
 {
     match interval {
         None => out.fill(0),
@@ -197,7 +212,8 @@ fn show(interval: &Option<Piece<'_>>, place: u64, out: &mut [u8])
 // Fills the slice with what is visible from a place on. Nothing is visible from 2 ^ 32 - 1 on.
 pub(crate) fn read(intervals: &Intervals<'_>, place: u64, out: &mut [u8])
     requires { IsCovered intervals.now.entries }
-    ensures { EachIndex out.new (λ k. slice_index out.new k ≡ byte_at (seen (interval_at intervals.now.entries (place + k)) (place + k))) }
+    ensures { EachIndex out.new (λ k. slice_index out.new k
+        ≡ byte_at (seen (interval_at intervals.now.entries (place + k)) (place + k))) }
 {
     if place >= u64::from(u32::MAX) {
         show(&None, place, out);
@@ -210,7 +226,8 @@ pub(crate) fn read(intervals: &Intervals<'_>, place: u64, out: &mut [u8])
 fn walk(intervals: &Intervals<'_>, from: u32, out: &mut [u8])
     requires covered { IsCovered intervals.now.entries }
     requires some { 0 < length out.old }
-    ensures { EachIndex out.new (λ k. slice_index out.new k ≡ byte_at (seen (interval_at intervals.now.entries (from + k)) (from + k))) }
+    ensures { EachIndex out.new (λ k. slice_index out.new k
+        ≡ byte_at (seen (interval_at intervals.now.entries (from + k)) (from + k))) }
 {
     let last = last_place(from, out.len());
     let mut interval = interval_at(intervals, from);
@@ -237,7 +254,8 @@ pub(crate) fn show_part(
     requires within { upto ≤ length out.old }
     requires fits { IfSome interval.now (λ p. (p.offset ≤ from + done) × (from + upto ≤ end_of p)) }
     ensures before { (k : ℕ) → k < done → slice_index out.new k ≡ slice_index out.old k }
-    ensures shown { (k : ℕ) → done ≤ k → k < upto → slice_index out.new k ≡ byte_at (seen interval.now (from + k)) }
+    ensures shown { (k : ℕ) → done ≤ k → k < upto
+        → slice_index out.new k ≡ byte_at (seen interval.now (from + k)) }
 {
     show(
         interval,

@@ -27,5 +27,6 @@ pub fn worked_example()
     ensures middle { visible three_pieces 50 ≡ Some (2, 22) }
     ensures after { visible three_pieces 60 ≡ Some (1, 11) }
     ensures past { visible three_pieces 100 ≡ None }
-    ensures all { content three_pieces 101 ≡ replicate 10 33 ++ replicate 40 11 ++ replicate 10 22 ++ replicate 40 11 ++ 0 ∷ [] }
+    ensures all { content three_pieces 101
+        ≡ replicate 10 33 ++ replicate 40 11 ++ replicate 10 22 ++ replicate 40 11 ++ 0 ∷ [] }
 {}

@@ -29,7 +29,8 @@ pub(crate) fn add<'a>(
 ) -> Result<(), AllocError>
     requires fits { end_of piece < 2 ^ 32 }
     requires whole { IsSoundLayout layout.old }
-    ensures overwritten { OnOk result ((i : ℕ) → laid_at layout.new i ≡ overwritten piece.entry i (laid_at layout.old i)) }
+    ensures overwritten { OnOk result
+        ((i : ℕ) → laid_at layout.new i ≡ overwritten piece.entry i (laid_at layout.old i)) }
     ensures whole { IsSoundLayout layout.new }
     ensures ends { OnOk result (laid_ends layout.new ≤ laid_ends layout.old + 2) }
     ensures same { OnErr result ((i : ℕ) → laid_at layout.new i ≡ laid_at layout.old i) }
@@ -59,7 +60,9 @@ fn map_of<'a>(
 ) -> Result<Intervals<'a>, AllocError>
     requires first { end_of first.now < 2 ^ 32 }
     requires second { end_of second.now < 2 ^ 32 }
-    ensures overwritten { IfOk result (λ map. (i : ℕ) → interval_at map.entries i ≡ overwritten second.now i (of_one first.now i)) }
+    ensures overwritten { IfOk result
+        (λ map. (i : ℕ)
+        → interval_at map.entries i ≡ overwritten second.now i (of_one first.now i)) }
     ensures covered { IfOk result (λ map. IsCovered map.entries) }
     ensures settled { IfOk result (λ map. IsSettled map.entries) }
     ensures tight { IfOk result IsTight }
@@ -74,7 +77,8 @@ fn map_of<'a>(
 // Fills the slice with what is visible from a place on. Nothing is visible from 2 ^ 32 - 1 on.
 pub(crate) fn read(layout: &Layout<'_>, place: u64, out: &mut [u8])
     requires { IsSoundLayout layout.now }
-    ensures { EachIndex out.new (λ k. slice_index out.new k ≡ byte_at (seen (laid_at layout.now (place + k)) (place + k))) }
+    ensures { EachIndex out.new
+        (λ k. slice_index out.new k ≡ byte_at (seen (laid_at layout.now (place + k)) (place + k))) }
 {
     match layout {
         Layout::Empty => out.fill(0),
@@ -92,7 +96,8 @@ pub(crate) fn read(layout: &Layout<'_>, place: u64, out: &mut [u8])
 // Fills the slice with a piece's bytes from a place on, and with 0 beside the piece.
 fn read_one(piece: &Piece<'_>, from: u32, out: &mut [u8])
     requires { end_of piece.now < 2 ^ 32 }
-    ensures { EachIndex out.new (λ k. slice_index out.new k ≡ byte_at (seen (of_one piece.now (from + k)) (from + k))) }
+    ensures { EachIndex out.new
+        (λ k. slice_index out.new k ≡ byte_at (seen (of_one piece.now (from + k)) (from + k))) }
 {
     let count = out.len();
     let start = index_of(piece.offset, from, count);

@@ -23,21 +23,27 @@ pub trait Overlay<'a>: Drop {
         ensures nothing { (place : ℕ) → visible_at result place ≡ None }
         ensures no_ends { ends result ≡ 0 };
 
-    /// Overlays one more piece on what is visible: it wins the places that it covers where nothing or a
-    /// lower version is visible, whatever the order of arrival.
+    /// Overlays one more piece on what is visible: it wins the places that it covers where nothing
+    /// or a lower version is visible, whatever the order of arrival.
     ///
     /// # Errors
     /// Out of memory: then nothing changes.
     fn add(&mut self, piece: Piece<'a>) -> Result<(), AllocError>
         requires { end_of piece < 2 ^ 32 }
-        ensures overlaid { OnOk result ((place : ℕ) → visible_at self.new place ≡ overlaid place piece.entry (visible_at self.old place)) }
+        ensures overlaid { OnOk result ((place : ℕ)
+            → visible_at self.new place
+            ≡ overlaid place piece.entry (visible_at self.old place)) }
         ensures two_ends { OnOk result (ends self.new ≤ ends self.old + 2) }
-        ensures same { OnErr result ((place : ℕ) → visible_at self.new place ≡ visible_at self.old place) }
+        ensures same { OnErr result
+            ((place : ℕ) → visible_at self.new place ≡ visible_at self.old place) }
         ensures same_ends { OnErr result (ends self.new ≡ ends self.old) };
 
-    /// Fills the slice with the file's bytes from a place on: those that are visible, and 0 where nothing is.
+    /// Fills the slice with the file's bytes from a place on: those that are visible, and 0 where
+    /// nothing is.
     fn read_at(&self, place: u64, out: &mut [u8])
-        ensures { out.new ≡ each_below (length out.old) (λ index. byte_at (visible_at self.now (place + index))) };
+        ensures { out.new
+            ≡ each_below (length out.old)
+            (λ index. byte_at (visible_at self.now (place + index))) };
 
     /// How many pieces or intervals are stored.
     fn pieces(&self) -> usize

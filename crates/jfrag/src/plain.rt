@@ -33,11 +33,17 @@ impl<'a> Overlay<'a> for PlainOverlay<'a> {
     fn add(&mut self, piece: Piece<'a>) -> Result<(), AllocError>
         requires { end_of piece < 2 ^ 32 }
         ensures added { OnOk result (pieces_of self.new ≡ pieces_of self.old ++ piece.entry ∷ []) }
-        ensures overlaid { OnOk result ((place : ℕ) → visible (pieces_of self.new) place ≡ overlaid place piece.entry (visible (pieces_of self.old) place)) }
-        ensures two_ends { OnOk result (2 * length (pieces_of self.new) ≤ 2 * length (pieces_of self.old) + 2) }
+        ensures overlaid { OnOk result ((place : ℕ)
+            → visible (pieces_of self.new) place
+            ≡ overlaid place piece.entry (visible (pieces_of self.old) place)) }
+        ensures two_ends { OnOk result
+            (2 * length (pieces_of self.new) ≤ 2 * length (pieces_of self.old) + 2) }
         ensures unchanged { OnErr result (pieces_of self.new ≡ pieces_of self.old) }
-        ensures same { OnErr result ((place : ℕ) → visible (pieces_of self.new) place ≡ visible (pieces_of self.old) place) }
-        ensures same_ends { OnErr result (2 * length (pieces_of self.new) ≡ 2 * length (pieces_of self.old)) }
+        ensures same { OnErr result
+            ((place : ℕ)
+            → visible (pieces_of self.new) place ≡ visible (pieces_of self.old) place) }
+        ensures same_ends { OnErr result
+            (2 * length (pieces_of self.new) ≡ 2 * length (pieces_of self.old)) }
     {
         self.pieces.push(piece)?;
         Ok(())
@@ -59,7 +65,8 @@ impl<'a> Overlay<'a> for PlainOverlay<'a> {
 // Fills the slice with the bytes that are visible from a place on. No piece reaches 2 ^ 32.
 fn fill(pieces: &[Piece<'_>], place: u64, out: &mut [u8])
     requires { All (λ piece. end_of piece < 2 ^ 32) pieces.now }
-    ensures { EachIndex out.new (λ k. slice_index out.new k ≡ byte_at (visible pieces.now (place + k))) }
+    ensures { EachIndex out.new
+        (λ k. slice_index out.new k ≡ byte_at (visible pieces.now (place + k))) }
 {
     for k in 0..out.len() {
         let there = visible_in(pieces, place.saturating_add(k as u64));

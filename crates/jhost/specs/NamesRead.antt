@@ -17,7 +17,9 @@ AddsNoText old new _ error (Ok _) = ⊥
 AddsNoText old new _ error (Err handed) = handed ≡ error
 
 -- an entry of a directory adds its name, unless memory ran out
-abbrev pub AddsEntry : {R A F D : Type 0} → Named → Named → Result (DirEntry R A F D) Error → Result (Unit {0}) Error → Type 0
-AddsEntry old new (Ok entry) (Ok _) = new ≡ record { texts = old.texts ++ dir_entry_name entry ∷ []; others = old.others }
+abbrev pub AddsEntry : {R A F D : Type 0} → Named → Named → Result (DirEntry R A F D) Error
+    → Result (Unit {0}) Error → Type 0
+AddsEntry old new (Ok entry) (Ok _) =
+    new ≡ record { texts = old.texts ++ dir_entry_name entry ∷ []; others = old.others }
 AddsEntry old new (Ok entry) (Err _) = ⊤
 AddsEntry old new (Err error) done = AddsNoText old new (error_kind error) error done

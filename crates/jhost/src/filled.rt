@@ -106,7 +106,8 @@ impl<'r, R: Files + AllocGlobal + Clock + Eprint> FilledFolder<'r, R> {
 
     /// Counts a fault, where the host is to blame.
     fn count(&mut self, fault: FolderFault)
-        ensures { ⟦<FilledFolder<'r, R> as Folder>⟧.failures self.new ≡ counted_fault fault (⟦<FilledFolder<'r, R> as Folder>⟧.failures self.old) }
+        ensures { ⟦<FilledFolder<'r, R> as Folder>⟧.failures self.new
+            ≡ counted_fault fault (⟦<FilledFolder<'r, R> as Folder>⟧.failures self.old) }
     {
         match fault {
             FolderFault::Refused => self.failures = self.failures.wrapping_add(1),
@@ -117,7 +118,8 @@ impl<'r, R: Files + AllocGlobal + Clock + Eprint> FilledFolder<'r, R> {
 
     /// What a call comes to, counted where the host is to blame.
     fn counted<T: Drop>(&mut self, done: io::Result<T>) -> Result<T, FolderFault>
-        ensures counts { Counts (⟦<FilledFolder<'r, R> as Folder>⟧.failures self.old) (⟦<FilledFolder<'r, R> as Folder>⟧.failures self.new) result }
+        ensures counts { Counts (⟦<FilledFolder<'r, R> as Folder>⟧.failures self.old)
+            (⟦<FilledFolder<'r, R> as Folder>⟧.failures self.new) result }
         ensures fault { IfErr done (λ error. IsErrOf result (filling_fault (error_kind error))) }
         ensures made { IfOk done (λ made. result ≡ Ok made) }
     {

@@ -104,7 +104,11 @@ fn output_file<R: Files>(rt: &R) -> Option<(u64, u64)> {
 
 /// Adds a name that is text.
 fn push_name<R: AllocGlobal>(rt: &R, names: &mut Names, name: &str) -> Result<(), AllocError>
-    ensures { IfOk result (λ _. named_of names.new ≡ record { texts = (named_of names.old).texts ++ name.now ∷ []; others = names.old.others }) }
+    ensures { IfOk result
+        (λ _. named_of names.new ≡ record {
+          texts = (named_of names.old).texts ++ name.now ∷ [];
+          others = names.old.others;
+        }) }
 {
     let name = String::from_str(rt.alloc(), name)?;
     names.texts.push(name)?;
@@ -161,7 +165,8 @@ impl<'r, R: Files + AllocGlobal + Clock + Eprint> ReadFolder<'r, R> {
     }
 
     fn joined(&self, path: &str) -> Result<String, AllocError>
-        ensures { IfOk result (λ whole. string_bytes whole ≡ joined_path (read_root self.now) path.now) }
+        ensures { IfOk result
+            (λ whole. string_bytes whole ≡ joined_path (read_root self.now) path.now) }
     {
         joined(self.rt, self.root.as_str(), path)
     }

@@ -1,5 +1,5 @@
--- What size the blocks of an image may have: no node passes the end of a block, and a clean marker stands at the front of
--- one (Woodhouse 2001).
+-- What size the blocks of an image may have: no node passes the end of a block, and a clean marker
+-- stands at the front of one (Woodhouse 2001).
 use Rattle.std.specs.Prelude.{ℕ, ◌+◌, ◌*◌, ◌/◌, ◌%◌, ◌==◌, ◌&&◌, ◌||◌, not, Bool, true, false, nat_lt, nat_le, List, [], ◌∷◌, Option, Some, None, if◌then◌else◌, slice_get}
 use Rattle.std.specs.List.{list_all, list_any, position_or_len}
 use Rattle.jnode.specs.declared.node.Seen.TheVariants as seen
@@ -12,12 +12,15 @@ use Rattle.jinfo.specs.declared.sizes.SizeRange.{SizeRange}
 
 -- the powers of two that a block's size may be, and the same from the greatest down
 abbrev pub block_sizes : List ℕ
-block_sizes = 4096 ∷ 8192 ∷ 16384 ∷ 32768 ∷ 65536 ∷ 131072 ∷ 262144 ∷ 524288 ∷ 1048576 ∷ 2097152 ∷ 4194304 ∷ []
+block_sizes = 4096 ∷ 8192 ∷ 16384 ∷ 32768 ∷ 65536 ∷ 131072 ∷ 262144 ∷ 524288 ∷ 1048576 ∷ 2097152
+    ∷ 4194304 ∷ []
 
 abbrev pub sizes_down : List ℕ
-sizes_down = 4194304 ∷ 2097152 ∷ 1048576 ∷ 524288 ∷ 262144 ∷ 131072 ∷ 65536 ∷ 32768 ∷ 16384 ∷ 8192 ∷ 4096 ∷ []
+sizes_down = 4194304 ∷ 2097152 ∷ 1048576 ∷ 524288 ∷ 262144 ∷ 131072 ∷ 65536 ∷ 32768 ∷ 16384 ∷ 8192
+    ∷ 4096 ∷ []
 
--- The bytes from an address on contain no multiple of the size past the first of them: the next one is not before their end.
+-- The bytes from an address on contain no multiple of the size past the first of them: the next one
+-- is not before their end.
 unfoldable pub lies_within : ℕ → ℕ → ℕ → Bool
 lies_within addr len size = nat_le (addr + len) ((addr / size + 1) * size)
 
@@ -54,12 +57,15 @@ abbrev pub is_later_marker : Extent → Bool
 is_later_marker s = is_marker_tile s.kind && nat_lt 0 s.addr
 
 abbrev pub range_between : Option ℕ → Option ℕ → Option SizeRange
-range_between (Some least) (Some greatest) = if nat_le least greatest then Some (record { least = least; greatest = greatest }) else None
+range_between (Some least) (Some greatest) =
+    if nat_le least greatest then Some (record { least = least; greatest = greatest }) else None
 range_between _ _ = None
 
--- MIN is the least of the sizes within whose blocks all nodes lie, MAX the greatest at whose multiples all clean markers
--- stand. They are known where a marker stands past address 0, and MIN is not above MAX.
+-- MIN is the least of the sizes within whose blocks all nodes lie, MAX the greatest at whose
+-- multiples all clean markers stand. They are known where a marker stands past address 0, and MIN
+-- is not above MAX.
 abbrev pub size_range_of : List Extent → Option SizeRange
 size_range_of walk =
-    if list_any is_later_marker walk then range_between (slice_get block_sizes (too_small walk)) (slice_get sizes_down (too_large walk))
+    if list_any is_later_marker walk then range_between (slice_get block_sizes (too_small walk))
+    (slice_get sizes_down (too_large walk))
     else None

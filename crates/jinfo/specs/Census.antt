@@ -16,8 +16,8 @@ use Rattle.jinfo.specs.declared.nodes.NodeCounts.{NodeCounts}
 use Rattle.jinfo.specs.declared.storage.DataCounts.{DataCounts}
 use Rattle.jinfo.specs.declared.highest.Highest.{Highest}
 
--- The image as one block, from address 0 to its end, filled up to whole words as erased flash is: its nodes, and the
--- runs between them.
+-- The image as one block, from address 0 to its end, filled up to whole words as erased flash is:
+-- its nodes, and the runs between them.
 abbrev pub walk_of : Endian → List ℕ → List Extent
 walk_of e image = extents e 0 (filled image)
 
@@ -65,7 +65,8 @@ node_counts_of walk = record {
   other = count_in is_other_tile walk;
 }
 
--- ---- how the data of sound inode nodes are stored (Linux, include/uapi/linux/jffs2.h: JFFS2_COMPR_..)
+-- ---- how the data of sound inode nodes are stored (Linux, include/uapi/linux/jffs2.h:
+-- JFFS2_COMPR_..)
 
 abbrev pub is_zero_fill : Fill → Bool
 is_zero_fill fill.Zero = true
@@ -95,7 +96,8 @@ is_packed_by way _ = false
 
 -- its data are compressed in none of these ways
 abbrev pub is_packed_otherwise : ExtentKind → Bool
-is_packed_otherwise (Tiled (seen.Compressed compr)) = not (compr == rtime) && not (compr == zlib) && not (compr == lzo)
+is_packed_otherwise (Tiled (seen.Compressed compr)) =
+    not (compr == rtime) && not (compr == zlib) && not (compr == lzo)
 is_packed_otherwise _ = false
 
 abbrev pub data_counts_of : List Extent → DataCounts
@@ -112,10 +114,11 @@ data_counts_of walk = record {
 
 -- the 32-bit number at a place of a block
 unfoldable pub word_in_block : Endian → List ℕ → ℕ → ℕ
-word_in_block e block place = number_in e 4 (slice_index block place ∷ slice_index block (place + 1) ∷ slice_index block (place + 2) ∷ slice_index block (place + 3) ∷ [])
+word_in_block e block place = number_in e 4 (slice_index block place ∷ slice_index block (place + 1)
+    ∷ slice_index block (place + 2) ∷ slice_index block (place + 3) ∷ [])
 
--- The greatest inode number that a node names: an entry its directory's and its object's, an inode node its own,
--- which is at byte 12 also where the data are compressed.
+-- The greatest inode number that a node names: an entry its directory's and its object's, an inode
+-- node its own, which is at byte 12 also where the data are compressed.
 abbrev pub ino_named : Endian → List ℕ → ℕ → ExtentKind → ℕ
 ino_named e block addr (Tiled (seen.Entry entry)) = max entry.pino entry.ino
 ino_named e block addr (Tiled (seen.Inode inode)) = inode.ino

@@ -4,9 +4,10 @@ use Rattle.std.specs.List.{find, starts_with}
 use Rattle.jinfo.specs.declared.container.Container.{Container}
 use Rattle.jinfo.specs.declared.container.Container.TheVariants.{Gzip, Xz, Ubi, Squashfs, Trx, UImage}
 
--- The bytes that each begins with: gzip RFC 1952, section 2.3.1; xz `xz-file-format.txt`, section 2.1.1.1; UBI Linux
--- drivers/mtd/ubi/ubi-media.h, UBI_EC_HDR_MAGIC; squashfs Linux include/uapi/linux/magic.h, SQUASHFS_MAGIC; TRX Linux
--- drivers/mtd/parsers/parser_trx.c, TRX_MAGIC; uImage U-Boot include/image.h, IH_MAGIC.
+-- The bytes that each begins with: gzip RFC 1952, section 2.3.1; xz `xz-file-format.txt`, section
+-- 2.1.1.1; UBI Linux drivers/mtd/ubi/ubi-media.h, UBI_EC_HDR_MAGIC; squashfs Linux
+-- include/uapi/linux/magic.h, SQUASHFS_MAGIC; TRX Linux drivers/mtd/parsers/parser_trx.c,
+-- TRX_MAGIC; uImage U-Boot include/image.h, IH_MAGIC.
 abbrev pub container_magic : Container → List ℕ
 container_magic Gzip = 0x1F ∷ 0x8B ∷ []
 container_magic Xz = 0xFD ∷ 0x37 ∷ 0x7A ∷ 0x58 ∷ 0x5A ∷ 0 ∷ []
@@ -33,7 +34,8 @@ container_name UImage = codes "a uImage header"
 
 -- the note that says so, as it is on standard error
 unfoldable pub container_line : Container → List ℕ
-container_line container = codes "jffs2_image: note: the file begins as " ++ (container_name container ++ codes " does\n")
+container_line container =
+    codes "jffs2_image: note: the file begins as " ++ (container_name container ++ codes " does\n")
 
 abbrev pub container_note : Option Container → List ℕ
 container_note None = []

@@ -25,26 +25,32 @@ order_name Big = codes "big"
 unfoldable pub order_line : Option Endian → ℕ → ℕ → List ℕ
 order_line None nodes other = codes "order none\n"
 order_line (Some order) nodes other =
-    codes "order " ++ order_name order ++ codes " nodes " ++ decimal nodes ++ codes " other " ++ decimal other ++ codes "\n"
+    codes "order " ++ order_name order ++ codes " nodes " ++ decimal nodes ++ codes " other "
+    ++ decimal other ++ codes "\n"
 
 unfoldable pub sizes_line : Option SizeRange → ℕ → List ℕ
 sizes_line None markers = codes "block unknown\n"
 sizes_line (Some range) markers =
-    codes "block from " ++ decimal range.least ++ codes " to " ++ decimal range.greatest ++ codes " markers " ++ decimal markers ++ codes "\n"
+    codes "block from " ++ decimal range.least ++ codes " to " ++ decimal range.greatest
+    ++ codes " markers " ++ decimal markers ++ codes "\n"
 
 unfoldable pub nodes_line : NodeCounts → List ℕ
 nodes_line counts =
-    codes "nodes" ++ codes " entries " ++ decimal counts.entries ++ codes " inodes " ++ decimal counts.inodes
+    codes "nodes" ++ codes " entries " ++ decimal counts.entries ++ codes " inodes "
+    ++ decimal counts.inodes
     ++ codes " obsolete " ++ decimal counts.obsolete ++ codes " damaged " ++ decimal counts.damaged
     ++ codes " other " ++ decimal counts.other ++ codes "\n"
 
 unfoldable pub data_line : DataCounts → List ℕ
 data_line counts =
-    codes "data none " ++ decimal counts.none ++ codes " zero " ++ decimal counts.zero ++ codes " rtime " ++ decimal counts.rtime
-    ++ codes " zlib " ++ decimal counts.zlib ++ codes " lzo " ++ decimal counts.lzo ++ codes " other " ++ decimal counts.other ++ codes "\n"
+    codes "data none " ++ decimal counts.none ++ codes " zero " ++ decimal counts.zero
+    ++ codes " rtime " ++ decimal counts.rtime
+    ++ codes " zlib " ++ decimal counts.zlib ++ codes " lzo " ++ decimal counts.lzo
+    ++ codes " other " ++ decimal counts.other ++ codes "\n"
 
 unfoldable pub highest_line : Highest → List ℕ
-highest_line numbers = codes "highest" ++ codes " inode " ++ decimal numbers.ino ++ codes " version " ++ decimal numbers.version ++ codes "\n"
+highest_line numbers = codes "highest" ++ codes " inode " ++ decimal numbers.ino
+    ++ codes " version " ++ decimal numbers.version ++ codes "\n"
 
 -- what is told of an image, a line each
 unfoldable pub info_lines : Info → List ℕ
@@ -58,10 +64,14 @@ info_text image = info_lines (info_of image)
 
 -- ---- what a call puts
 
--- All lines of an image that is not too long; the answer is its byte order. Where the sink fails, a beginning of them went out.
-abbrev pub PutsInfo : List ℕ → Option (List ℕ) → Option (List ℕ) → ℕ → ℕ → Result (Option Endian) InfoFault → Type 0
+-- All lines of an image that is not too long; the answer is its byte order. Where the sink fails, a
+-- beginning of them went out.
+abbrev pub PutsInfo : List ℕ → Option (List ℕ) → Option (List ℕ) → ℕ → ℕ
+    → Result (Option Endian) InfoFault → Type 0
 PutsInfo image old new before now (Ok order) =
-    (length image ≤ greatest_image) × (order ≡ order_of image) × Appends old new (info_text image) × (now ≡ before)
+    (length image ≤ greatest_image) × (order ≡ order_of image) × Appends old new (info_text image)
+    × (now ≡ before)
 PutsInfo image old new before now (Err Output) =
     (length image ≤ greatest_image) × PutsPart old new (info_text image) × (now ≡ next_count before)
-PutsInfo image old new before now (Err TooLarge) = (greatest_image < length image) × (new ≡ old) × (now ≡ before)
+PutsInfo image old new before now (Err TooLarge) =
+    (greatest_image < length image) × (new ≡ old) × (now ≡ before)

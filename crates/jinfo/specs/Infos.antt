@@ -20,8 +20,8 @@ census_of e image =
       highest = highest_of e (filled image) walk;
     }
 
--- The image's order is the one in which more headers are good, the little one where they are as many; it has none where
--- no header is good.
+-- The image's order is the one in which more headers are good, the little one where they are as
+-- many; it has none where no header is good.
 abbrev pub order_by : Census → Census → Option Endian
 order_by little big =
     if nat_lt little.nodes.all big.nodes.all then Some Big
@@ -35,8 +35,18 @@ order_of image = order_by (census_of Little image) (census_of Big image)
 abbrev pub info_by : ℕ → Census → Census → Info
 info_by bytes little big =
     if nat_lt little.nodes.all big.nodes.all
-    then record { bytes = bytes; order = order_by little big; census = big; other = little.nodes.all }
-    else record { bytes = bytes; order = order_by little big; census = little; other = big.nodes.all }
+    then record {
+      bytes = bytes;
+      order = order_by little big;
+      census = big;
+      other = little.nodes.all;
+    }
+    else record {
+      bytes = bytes;
+      order = order_by little big;
+      census = little;
+      other = big.nodes.all;
+    }
 
 unfoldable pub info_of : List ℕ → Info
 info_of image = info_by (length image) (census_of Little image) (census_of Big image)

@@ -21,4 +21,5 @@ marks_with m s = record {
 
 -- the sizes that they leave
 abbrev pub range_of_marks : Marks → Option SizeRange
-range_of_marks m = if m.is_later then range_between (slice_get block_sizes m.too_small) (slice_get sizes_down m.too_large) else None
+range_of_marks m = if m.is_later then range_between (slice_get block_sizes m.too_small)
+    (slice_get sizes_down m.too_large) else None

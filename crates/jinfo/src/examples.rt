@@ -14,7 +14,8 @@ ghost use Rattle.jinfo.specs.declared.container.Container.TheVariants.{Gzip, Xz}
 pub fn known_orders()
     ensures nothing { order_of [] ≡ None }
     ensures marker { order_of little_marker ≡ Some Little }
-    ensures more_in_big_order { order_of (little_marker ++ entry_a_big ++ 255 ∷ 255 ∷ 255 ∷ entry_a_big) ≡ Some Big }
+    ensures more_in_big_order { order_of
+        (little_marker ++ entry_a_big ++ 255 ∷ 255 ∷ 255 ∷ entry_a_big) ≡ Some Big }
 {}
 
 /// Where a node may lie in blocks of 4096 bytes.
@@ -31,11 +32,14 @@ pub fn known_places()
 #[tactic(auto, unfolding(crate::specs::BlockSizes::lies_within, crate::specs::BlockSizes::is_multiple))]
 pub fn known_sizes()
     ensures from_4096 { size_range_of (record { addr = 0; len = 12; kind = Tiled Marker }
-        ∷ record { addr = 24576; len = 12; kind = Tiled Marker } ∷ []) ≡ Some (record { least = 4096; greatest = 8192 }) }
+        ∷ record { addr = 24576; len = 12; kind = Tiled Marker } ∷ [])
+        ≡ Some (record { least = 4096; greatest = 8192 }) }
     ensures from_8192 { size_range_of (record { addr = 12; len = 5000; kind = Tiled Padding }
-        ∷ record { addr = 5012; len = 3180; kind = Erased } ∷ record { addr = 8192; len = 12; kind = Tiled Marker } ∷ [])
+        ∷ record { addr = 5012; len = 3180; kind = Erased }
+        ∷ record { addr = 8192; len = 12; kind = Tiled Marker } ∷ [])
         ≡ Some (record { least = 8192; greatest = 8192 }) }
-    ensures unknown { size_range_of (record { addr = 0; len = 12; kind = Tiled Marker } ∷ []) ≡ None }
+    ensures unknown { size_range_of (record { addr = 0; len = 12; kind = Tiled Marker } ∷ [])
+        ≡ None }
     ensures contradicted { size_range_of (record { addr = 4000; len = 200; kind = Tiled Padding }
         ∷ record { addr = 12288; len = 12; kind = Tiled Marker } ∷ []) ≡ None }
 {}

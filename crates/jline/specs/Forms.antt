@@ -19,7 +19,8 @@ use Rattle.jline.specs.Words.{hex, octal, escaped}
 unfoldable pub block_line : ℕ → List ℕ
 block_line k = codes "block " ++ decimal k ++ codes "\n"
 
--- Each other line begins with an address, what is there, and how many bytes it has. Then come its fields.
+-- Each other line begins with an address, what is there, and how many bytes it has. Then come its
+-- fields.
 abbrev pub line_start : ℕ → List ℕ → ℕ → List ℕ
 line_start addr what n = hex 8 addr ++ codes " " ++ what ++ codes " " ++ decimal n
 
@@ -27,25 +28,31 @@ abbrev pub plain_line : ℕ → List ℕ → ℕ → List ℕ
 plain_line addr what n = line_start addr what n ++ codes "\n"
 
 abbrev pub typed_line : ℕ → List ℕ → ℕ → ℕ → List ℕ
-typed_line addr what n nodetype = line_start addr what n ++ codes " type " ++ hex 4 nodetype ++ codes "\n"
+typed_line addr what n nodetype =
+    line_start addr what n ++ codes " type " ++ hex 4 nodetype ++ codes "\n"
 
 abbrev pub entry_line : ℕ → ℕ → Dirent → List ℕ
 entry_line addr n d = line_start addr (codes "entry") n ++ codes " pino " ++ decimal d.pino
-    ++ codes " version " ++ decimal d.version ++ codes " ino " ++ decimal d.ino ++ codes " type " ++ decimal d.kind
+    ++ codes " version " ++ decimal d.version ++ codes " ino " ++ decimal d.ino ++ codes " type "
+    ++ decimal d.kind
     ++ codes " name " ++ escaped d.name ++ codes "\n"
 
 abbrev pub fill_name : Fill → List ℕ
 fill_name fill.Zero = codes "zero"
 fill_name (fill.Data bytes) = codes "none"
 
--- The mode is the whole one, in octal. What is reported of the data is how many bytes they stand for.
+-- The mode is the whole one, in octal. What is reported of the data is how many bytes they stand
+-- for.
 abbrev pub inode_line : ℕ → ℕ → InodeNode → List ℕ
 inode_line addr n i = line_start addr (codes "inode") n ++ codes " ino " ++ decimal i.ino
-    ++ codes " version " ++ decimal i.version ++ codes " mode " ++ octal i.mode ++ codes " size " ++ decimal i.isize
-    ++ codes " offset " ++ decimal i.offset ++ codes " data " ++ decimal i.dsize ++ codes " " ++ fill_name i.fill ++ codes "\n"
+    ++ codes " version " ++ decimal i.version ++ codes " mode " ++ octal i.mode ++ codes " size "
+    ++ decimal i.isize
+    ++ codes " offset " ++ decimal i.offset ++ codes " data " ++ decimal i.dsize ++ codes " "
+    ++ fill_name i.fill ++ codes "\n"
 
 abbrev pub compressed_line : ℕ → ℕ → ℕ → List ℕ
-compressed_line addr n compr = line_start addr (codes "compressed") n ++ codes " compr " ++ decimal compr ++ codes "\n"
+compressed_line addr n compr =
+    line_start addr (codes "compressed") n ++ codes " compr " ++ decimal compr ++ codes "\n"
 
 abbrev pub damage_name : Damage → List ℕ
 damage_name damage.NodeCrc = codes "node-crc"
@@ -55,11 +62,13 @@ damage_name damage.Length = codes "length"
 damage_name damage.Range = codes "range"
 
 abbrev pub damaged_line : ℕ → ℕ → Damage → List ℕ
-damaged_line addr n which = line_start addr (codes "damaged") n ++ codes " " ++ damage_name which ++ codes "\n"
+damaged_line addr n which =
+    line_start addr (codes "damaged") n ++ codes " " ++ damage_name which ++ codes "\n"
 
 -- the last line
 abbrev pub total_line : ℕ → ℕ → ℕ → ℕ → List ℕ
-total_line blocks entries inodes findings = codes "total blocks " ++ decimal blocks ++ codes " entries " ++ decimal entries
+total_line blocks entries inodes findings =
+    codes "total blocks " ++ decimal blocks ++ codes " entries " ++ decimal entries
     ++ codes " inodes " ++ decimal inodes ++ codes " findings " ++ decimal findings ++ codes "\n"
 
 -- ---- the line of each extent: a node's tile, or a run

@@ -6,7 +6,8 @@ use flashbase::{DeviceFault, PutFault, Sink, put_all};
 
 /// Puts a text.
 pub fn put_text<T: Sink>(sink: &mut T, text: &[u8]) -> Result<(), DeviceFault>
-    ensures puts { Puts (T.taken sink.old) (T.taken sink.new) (T.failures sink.old) (T.failures sink.new) text.now result }
+    ensures puts { Puts (T.taken sink.old) (T.taken sink.new) (T.failures sink.old)
+        (T.failures sink.new) text.now result }
 {
     match put_all(sink, text) {
         Ok(()) => Ok(()),

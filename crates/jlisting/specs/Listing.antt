@@ -28,37 +28,48 @@ abbrev pub operation : Op → Option Statement
 operation o = Some (kind.Action (action.Op o))
 
 abbrev pub time_line : Settings → List ℕ → Option Statement
-time_line s a = number a >>= λ time. Some (kind.Settings (record { time = time; uid = s.uid; gid = s.gid }))
+time_line s a =
+    number a >>= λ time. Some (kind.Settings (record { time = time; uid = s.uid; gid = s.gid }))
 
 abbrev pub owner_line : Settings → List ℕ → List ℕ → Option Statement
-owner_line s a b = owner_word a >>= λ uid. owner_word b >>= λ gid. Some (kind.Settings (record { time = s.time; uid = uid; gid = gid }))
+owner_line s a b = owner_word a >>= λ uid. owner_word b >>= λ gid.
+    Some (kind.Settings (record { time = s.time; uid = uid; gid = gid }))
 
 abbrev pub mkdir_line : Settings → List ℕ → List ℕ → Option Statement
-mkdir_line s a b = mode_of a >>= λ mode. text_of b >>= λ path. operation (op.Mkdir s.time path mode s.uid s.gid)
+mkdir_line s a b =
+    mode_of a >>= λ mode. text_of b >>= λ path. operation (op.Mkdir s.time path mode s.uid s.gid)
 
 abbrev pub create_line : Settings → List ℕ → List ℕ → Option Statement
-create_line s a b = mode_of a >>= λ mode. text_of b >>= λ path. operation (op.Create s.time path mode s.uid s.gid)
+create_line s a b =
+    mode_of a >>= λ mode. text_of b >>= λ path. operation (op.Create s.time path mode s.uid s.gid)
 
 abbrev pub file_line : Settings → List ℕ → List ℕ → List ℕ → Option Statement
-file_line s a b c = mode_of a >>= λ mode. text_of b >>= λ path. escaped_name_of c >>= λ file. Some (kind.Action (action.File s.time path mode s.uid s.gid file))
+file_line s a b c = mode_of a >>= λ mode. text_of b >>= λ path. escaped_name_of c >>= λ file.
+    Some (kind.Action (action.File s.time path mode s.uid s.gid file))
 
 abbrev pub fifo_line : Settings → List ℕ → List ℕ → Option Statement
-fifo_line s a b = mode_of a >>= λ mode. text_of b >>= λ path. operation (op.Fifo s.time path mode s.uid s.gid)
+fifo_line s a b =
+    mode_of a >>= λ mode. text_of b >>= λ path. operation (op.Fifo s.time path mode s.uid s.gid)
 
 abbrev pub socket_line : Settings → List ℕ → List ℕ → Option Statement
-socket_line s a b = mode_of a >>= λ mode. text_of b >>= λ path. operation (op.Socket s.time path mode s.uid s.gid)
+socket_line s a b =
+    mode_of a >>= λ mode. text_of b >>= λ path. operation (op.Socket s.time path mode s.uid s.gid)
 
 abbrev pub symlink_line : Settings → List ℕ → List ℕ → Option Statement
-symlink_line s a b = text_of a >>= λ path. text_of b >>= λ target. operation (op.Symlink s.time path target s.uid s.gid)
+symlink_line s a b = text_of a >>= λ path. text_of b >>= λ target.
+    operation (op.Symlink s.time path target s.uid s.gid)
 
 abbrev pub write_line : Settings → List ℕ → List ℕ → List ℕ → Option Statement
-write_line s a b c = text_of a >>= λ path. number b >>= λ offset. hex_data_of c >>= λ bytes. operation (op.Write s.time path offset bytes)
+write_line s a b c = text_of a >>= λ path. number b >>= λ offset. hex_data_of c >>= λ bytes.
+    operation (op.Write s.time path offset bytes)
 
 abbrev pub part_line : Settings → List ℕ → List ℕ → List ℕ → Option Statement
-part_line s a b c = text_of a >>= λ path. number b >>= λ offset. file_name_of c >>= λ file. Some (kind.Action (action.Part s.time path offset file))
+part_line s a b c = text_of a >>= λ path. number b >>= λ offset. file_name_of c >>= λ file.
+    Some (kind.Action (action.Part s.time path offset file))
 
 abbrev pub truncate_line : Settings → List ℕ → List ℕ → Option Statement
-truncate_line s a b = text_of a >>= λ path. number b >>= λ size. operation (op.Truncate s.time path size)
+truncate_line s a b =
+    text_of a >>= λ path. number b >>= λ size. operation (op.Truncate s.time path size)
 
 abbrev pub link_line : Settings → List ℕ → List ℕ → Option Statement
 link_line s a b = text_of a >>= λ old. text_of b >>= λ new. operation (op.Link s.time old new)
@@ -72,10 +83,14 @@ replace_line s a b = text_of a >>= λ old. text_of b >>= λ new. operation (op.R
 abbrev pub remove_line : Settings → List ℕ → Option Statement
 remove_line s a = text_of a >>= λ path. operation (op.Remove s.time path)
 
-abbrev pub attr_line : Settings → List ℕ → List ℕ → List ℕ → List ℕ → List ℕ → List ℕ → Option Statement
+abbrev pub attr_line : Settings → List ℕ → List ℕ → List ℕ → List ℕ → List ℕ → List ℕ
+    → Option Statement
 attr_line s a b c d e f =
-    mode_of a >>= λ mode. owner_word b >>= λ uid. owner_word c >>= λ gid. number d >>= λ atime. number e >>= λ mtime. text_of f >>= λ path.
-    operation (op.SetAttributes s.time path (record { mode = mode; uid = uid; gid = gid; atime = atime; mtime = mtime }))
+    mode_of a >>= λ mode. owner_word b >>= λ uid. owner_word c >>= λ gid. number d >>= λ atime.
+    number e >>= λ mtime. text_of f >>= λ path.
+    operation
+    (op.SetAttributes s.time path
+    (record { mode = mode; uid = uid; gid = gid; atime = atime; mtime = mtime }))
 
 -- ---- a line
 
@@ -107,8 +122,10 @@ three_operands s name a b c =
     else if bytes_eq name (codes "part") then part_line s a b c
     else None
 
-unfoldable pub six_operands : Settings → List ℕ → List ℕ → List ℕ → List ℕ → List ℕ → List ℕ → List ℕ → Option Statement
-six_operands s name a b c d e f = if bytes_eq name (codes "attr") then attr_line s a b c d e f else None
+unfoldable pub six_operands : Settings → List ℕ → List ℕ → List ℕ → List ℕ → List ℕ → List ℕ
+    → List ℕ → Option Statement
+six_operands s name a b c d e f =
+    if bytes_eq name (codes "attr") then attr_line s a b c d e f else None
 
 abbrev pub statement_of_words : Settings → List (List ℕ) → Option Statement
 statement_of_words s (name ∷ a ∷ []) = one_operand s name a
@@ -121,9 +138,11 @@ statement_of_words s _ = None
 abbrev pub is_skipped : List ℕ → Bool
 is_skipped line = (length line == 0) || (slice_index line 0 == 35)
 
--- Any other line is words between single spaces. A space at an end, or a second one, makes an empty word, which no form takes.
+-- Any other line is words between single spaces. A space at an end, or a second one, makes an empty
+-- word, which no form takes.
 unfoldable pub statement_of : Settings → List ℕ → Option Statement
-statement_of s line = if is_skipped line then Some kind.Blank else statement_of_words s (slice_split (λ b. b == 32) line)
+statement_of s line = if is_skipped line then Some kind.Blank else statement_of_words s
+    (slice_split (λ b. b == 32) line)
 
 -- ---- a listing
 
@@ -148,10 +167,12 @@ abbrev pub or_err : {A B : Type 0} → ℕ → Option A → (A → Result B ℕ)
 or_err n None f = Err n
 or_err n (Some x) f = f x
 
--- the lines with an action, of those from the n-th on, or the number of the first that means nothing
+-- the lines with an action, of those from the n-th on, or the number of the first that means
+-- nothing
 abbrev pub lines_from : ℕ → Settings → List (List ℕ) → Result (List Line) ℕ
 lines_from n s [] = Ok []
-lines_from n s (line ∷ lines) = or_err n (statement_of s line) (λ m. prepend (action_lines n m) (lines_from (n + 1) (settings_after s m) lines))
+lines_from n s (line ∷ lines) = or_err n (statement_of s line)
+    (λ m. prepend (action_lines n m) (lines_from (n + 1) (settings_after s m) lines))
 
 -- Each line feed ends a line. What follows the last one is a line too, which may be empty.
 abbrev pub lines_in : ℕ → Settings → List ℕ → Result (List Line) ℕ

@@ -12,11 +12,13 @@ is_digit base b = nat_le 48 b && nat_lt b (48 + base)
 abbrev pub digits_from : ℕ → ℕ → ℕ → List ℕ → Option ℕ
 digits_from base limit n [] = Some n
 digits_from base limit n (b ∷ bs) =
-    if is_digit base b && nat_le (base * n + (b - 48)) limit then digits_from base limit (base * n + (b - 48)) bs else None
+    if is_digit base b && nat_le (base * n + (b - 48)) limit then digits_from base limit
+    (base * n + (b - 48)) bs else None
 
 -- so many digits at most
 abbrev pub number_of : ℕ → ℕ → ℕ → List ℕ → Option ℕ
-number_of base most limit word = if nat_le 1 (length word) && nat_le (length word) most then digits_from base limit 0 word else None
+number_of base most limit word = if nat_le 1 (length word)
+    && nat_le (length word) most then digits_from base limit 0 word else None
 
 abbrev pub decimal_of : ℕ → List ℕ → Option ℕ
 decimal_of limit word = number_of 10 10 limit word

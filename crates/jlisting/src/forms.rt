@@ -300,7 +300,8 @@ pub fn read_attr<'a>(
     mtime: &'a [u8],
     path: &'a [u8],
 ) -> Result<Statement<'a>, WordFault>
-    ensures { IsRead (attr_line settings mode.entry.now uid.entry.now gid.entry.now atime.entry.now mtime.entry.now path.entry.now) result }
+    ensures { IsRead (attr_line settings mode.entry.now uid.entry.now gid.entry.now atime.entry.now
+        mtime.entry.now path.entry.now) result }
 {
     let attributes = Attributes {
         mode: mode_word(mode)?,

@@ -17,7 +17,8 @@ use std::alloc::{AllocError, Global};
 #[tactic(auto, using(crate::proofs::ListingLemmas::lines_from_end))]
 fn first_line(text: &[u8]) -> (&[u8], &[u8])
     requires { 0 < length text.now }
-    ensures first { (n : ℕ) (s : Settings) → lines_in n s text.now ≡ lines_from n s (result.0.now ∷ slice_split (λ b. b == 10) result.1.now) }
+    ensures first { (n : ℕ) (s : Settings) → lines_in n s text.now
+        ≡ lines_from n s (result.0.now ∷ slice_split (λ b. b == 10) result.1.now) }
     ensures shorter { length result.1.now < length text.now }
 {
     match split_once(text, b'\n') {
@@ -34,7 +35,8 @@ fn apply<'a>(
     lines: &mut Vec<Line<'a>>,
 ) -> Result<Settings, AllocError>
     ensures settings { IfOk result (λ next. next ≡ settings_after settings statement.entry) }
-    ensures lines { OnOk result (lines.new.items ≡ lines.old.items ++ action_lines number statement.entry) }
+    ensures lines { OnOk result
+        (lines.new.items ≡ lines.old.items ++ action_lines number statement.entry) }
 {
     match statement {
         Statement::Blank => Ok(settings),

@@ -107,7 +107,8 @@ fn read_six<'a>(
     e: &'a [u8],
     f: &'a [u8],
 ) -> Result<Statement<'a>, WordFault>
-    ensures { IsRead (six_operands settings name.now a.entry.now b.entry.now c.entry.now d.entry.now e.entry.now f.entry.now) result }
+    ensures { IsRead (six_operands settings name.now a.entry.now b.entry.now c.entry.now d.entry.now
+        e.entry.now f.entry.now) result }
 {
     if is_word(name, b"attr") {
         read_attr(alloc, settings, a, b, c, d, e, f)
@@ -126,7 +127,9 @@ fn read_many<'a>(
     c: &'a [u8],
     line: &'a [u8],
 ) -> Result<Statement<'a>, WordFault>
-    ensures { IsRead (statement_of_words settings (name.now ∷ a.entry.now ∷ b.entry.now ∷ c.entry.now ∷ slice_split (λ b. b == 32) line.entry.now)) result }
+    ensures { IsRead
+        (statement_of_words settings (name.now ∷ a.entry.now ∷ b.entry.now ∷ c.entry.now
+        ∷ slice_split (λ b. b == 32) line.entry.now)) result }
 {
     let Some((d, line)) = split_once(line, b' ') else {
         return Err(WordFault::Invalid);
@@ -146,7 +149,8 @@ fn read_words<'a>(
     settings: Settings,
     line: &'a [u8],
 ) -> Result<Statement<'a>, WordFault>
-    ensures { IsRead (statement_of_words settings (slice_split (λ b. b == 32) line.entry.now)) result }
+    ensures { IsRead (statement_of_words settings (slice_split (λ b. b == 32) line.entry.now))
+        result }
 {
     let Some((name, line)) = split_once(line, b' ') else {
         return Err(WordFault::Invalid);

@@ -13,7 +13,8 @@ fn place_of(bytes: &[u8], at: u8) -> Option<usize>
 /// What is in front of the first such byte, and after it.
 #[tactic(auto, using(crate::proofs::SplitLemmas::split_none, crate::proofs::SplitLemmas::position_some))]
 pub fn split_once(bytes: &[u8], at: u8) -> Option<(&[u8], &[u8])>
-    ensures some { IfSome result (λ r. slice_split (λ b. b == at) bytes.now ≡ r.0.now ∷ slice_split (λ b. b == at) r.1.now) }
+    ensures some { IfSome result
+        (λ r. slice_split (λ b. b == at) bytes.now ≡ r.0.now ∷ slice_split (λ b. b == at) r.1.now) }
     ensures len { IfSome result (λ r. length r.0.now + length r.1.now + 1 ≡ length bytes.now) }
     ensures none { result ≡ None → slice_split (λ b. b == at) bytes.now ≡ bytes.now ∷ [] }
 {

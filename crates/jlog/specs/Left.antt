@@ -13,25 +13,31 @@ flash_byte bytes at = slice_index_or bytes at 0xFF
 
 -- ---- what is left
 
--- From the address `from` on the block holds the first k bytes that went out, and is erased after them.
+-- From the address `from` on the block holds the first k bytes that went out, and is erased after
+-- them.
 abbrev pub HoldsWritten : ℕ → ℕ → List ℕ → ℕ → List ℕ → ℕ → Type 0
 HoldsWritten size from out k image block =
-    (i : ℕ) → i < size → from ≤ block * size + i → flash_byte image (block * size + i) ≡ flash_byte (take k out) (block * size + i - from)
+    (i : ℕ) → i < size → from ≤ block * size + i
+    → flash_byte image (block * size + i) ≡ flash_byte (take k out) (block * size + i - from)
 
--- Or, where no byte past the block's marker went out, it holds the first j bytes of the marker, of which no fewer went
--- out, and is erased after them.
+-- Or, where no byte past the block's marker went out, it holds the first j bytes of the marker, of
+-- which no fewer went out, and is erased after them.
 pub record HoldsMarker (e : Endian) (size from k : ℕ) (image : List ℕ) (block j : ℕ) : Type 0 where
   pub unwritten : from ≤ block * size
   pub before : from + k ≤ block * size + header_len
   pub no_fewer : from + k ≤ block * size + j
   pub most : j ≤ header_len
-  pub bytes : (i : ℕ) → i < size → flash_byte image (block * size + i) ≡ flash_byte (take j (clean_marker e)) i
+  pub bytes : (i : ℕ) → i < size
+      → flash_byte image (block * size + i) ≡ flash_byte (take j (clean_marker e)) i
 
--- A stop after k bytes of `out`, which was being written from the address `from` on, may leave this image of the base.
-pub record IsLeft (e : Endian) (size blocks : ℕ) (base : List ℕ) (from : ℕ) (out : List ℕ) (k : ℕ) (image : List ℕ) : Type 0 where
+-- A stop after k bytes of `out`, which was being written from the address `from` on, may leave this
+-- image of the base.
+pub record IsLeft (e : Endian) (size blocks : ℕ) (base : List ℕ) (from : ℕ) (out : List ℕ) (k : ℕ)
+    (image : List ℕ) : Type 0 where
   pub no_longer : length image ≤ blocks * size
   pub stays : (at : ℕ) → at < from → flash_byte image at ≡ flash_byte base at
-  pub each : (block : ℕ) → block < blocks → HoldsWritten size from out k image block ⊎ ((j : ℕ) × HoldsMarker e size from k image block j)
+  pub each : (block : ℕ) → block < blocks → HoldsWritten size from out k image block
+      ⊎ ((j : ℕ) × HoldsMarker e size from k image block j)
 
 -- the base's bytes up to an address, what it lacks as erased flash
 abbrev pub front_of : List ℕ → ℕ → List ℕ
@@ -51,10 +57,12 @@ is_whole from out k place = bytes_eq (bytes_at from (torn out k) place) (bytes_a
 abbrev pub count_whole : ℕ → List ℕ → ℕ → List (ℕ × ℕ) → ℕ
 count_whole from out k places = count_by (is_whole from out k) places
 
--- The same, node by node: a node stands whole by the bytes that it still gets, and after one that does not none does.
+-- The same, node by node: a node stands whole by the bytes that it still gets, and after one that
+-- does not none does.
 abbrev pub intact : ℕ → ℕ → ℕ → List (List ℕ) → ℕ
 intact size from k [] = 0
 intact size from k (node ∷ nodes) =
     let at = place_after size from (length node) in
     let end = at + pad4_of (length node) in
-    if bytes_eq (torn node (k - (at - from))) node then suc (intact size end (k - (end - from)) nodes) else 0
+    if bytes_eq (torn node (k - (at - from))) node then suc
+    (intact size end (k - (end - from)) nodes) else 0

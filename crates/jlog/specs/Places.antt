@@ -6,8 +6,8 @@ use Rattle.flashbase.specs.Bytes.{pad4_of}
 use Rattle.jnode.specs.Header.{header_len}
 use Rattle.jscan.specs.Image.{is_block_size, greatest_image}
 
--- A place for a node of len bytes: a multiple of 4, not before `from`, after the clean marker of its block, and the
--- node ends within that block.
+-- A place for a node of len bytes: a multiple of 4, not before `from`, after the clean marker of
+-- its block, and the node ends within that block.
 pub record IsPlace (size from len at : ℕ) : Type 0 where
   pub aligned : at % 4 ≡ 0
   pub upwards : from ≤ at
@@ -25,7 +25,8 @@ ArePlaces size from [] [] = Unit {0}
 ArePlaces size from [] (place ∷ places) = ⊥
 ArePlaces size from (node ∷ nodes) [] = ⊥
 ArePlaces size from (node ∷ nodes) (place ∷ places) =
-    IsLeastPlace size from (length node) place.0 × (place.1 ≡ length node) × ArePlaces size (place.0 + place.1) nodes places
+    IsLeastPlace size from (length node) place.0 × (place.1 ≡ length node)
+    × ArePlaces size (place.0 + place.1) nodes places
 
 -- ---- the same computed
 
@@ -43,7 +44,8 @@ end_after size from len = place_after size from len + pad4_of len
 -- each node's place and length, one after the other
 abbrev pub places : ℕ → ℕ → List (List ℕ) → List (ℕ × ℕ)
 places size from [] = []
-places size from (node ∷ nodes) = (place_after size from (length node), length node) ∷ places size (end_after size from (length node)) nodes
+places size from (node ∷ nodes) = (place_after size from (length node), length node)
+    ∷ places size (end_after size from (length node)) nodes
 
 -- where writing goes on after all of them
 abbrev pub end_of_all : ℕ → ℕ → List (List ℕ) → ℕ
@@ -54,18 +56,21 @@ end_of_all size from (node ∷ nodes) = end_of_all size (end_after size from (le
 
 -- each node ends by the end of the flash
 abbrev pub fit : ℕ → ℕ → ℕ → List (List ℕ) → Bool
-fit size blocks from nodes = list_all (λ place. nat_le (place.0 + place.1) (blocks * size)) (places size from nodes)
+fit size blocks from nodes =
+    list_all (λ place. nat_le (place.0 + place.1) (blocks * size)) (places size from nodes)
 
 -- the place of one node where it ends by the end of the flash
 abbrev pub place_within : ℕ → ℕ → ℕ → ℕ → Option ℕ
-place_within size blocks from len = if nat_le (place_after size from len + len) (blocks * size) then Some (place_after size from len) else None
+place_within size blocks from len = if nat_le (place_after size from len + len) (blocks * size) then
+    Some (place_after size from len) else None
 
 -- the limits for writing
 abbrev pub is_writable_flash : ℕ → ℕ → Bool
-is_writable_flash size blocks = is_block_size size && nat_le 8192 size && nat_lt 0 blocks && nat_le (blocks * size) greatest_image
+is_writable_flash size blocks = is_block_size size && nat_le 8192 size && nat_lt 0 blocks
+    && nat_le (blocks * size) greatest_image
 
--- What a refusal for want of room tells: the bytes that the nodes need, and those that are left, less a marker for each
--- block that is not begun.
+-- What a refusal for want of room tells: the bytes that the nodes need, and those that are left,
+-- less a marker for each block that is not begun.
 abbrev pub needed : List (List ℕ) → ℕ
 needed nodes = sum_by (λ node. pad4_of (length node)) nodes
 

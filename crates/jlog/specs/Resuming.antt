@@ -8,12 +8,13 @@ use Rattle.jlog.specs.Headline.{is_flash_of, resume_address}
 use Rattle.jlog.specs.declared.fault.SessionFault.{SessionFault}
 use Rattle.jlog.specs.declared.fault.SessionFault.TheVariants as fault
 
--- An image that may not be written is not resumed, nor is one that a flash of so many blocks does not hold; any other is
--- at the block from which on the flash is blank.
+-- An image that may not be written is not resumed, nor is one that a flash of so many blocks does
+-- not hold; any other is at the block from which on the flash is blank.
 abbrev pub resumes_at : Endian → ℕ → ℕ → Mount → Result ℕ SessionFault
 resumes_at e size blocks mount =
     if mount.read_only then Err fault.ReadOnly else
-    if is_flash_of size blocks mount.image then Ok (resume_address e size blocks mount.image) else Err fault.Geometry
+    if is_flash_of size blocks mount.image then Ok (resume_address e size blocks mount.image) else
+    Err fault.Geometry
 
 -- A block holds its marker, and a node of a page's bytes.
 abbrev pub page_fits : ℕ → Page → Bool
@@ -23,4 +24,5 @@ page_fits size page = nat_le (page_size page + 80) size
 abbrev pub resumes_by : Page → Endian → ℕ → ℕ → Mount → Result ℕ SessionFault
 resumes_by page e size blocks mount =
     if mount.read_only then Err fault.ReadOnly else
-    if is_flash_of size blocks mount.image && page_fits size page then Ok (resume_address e size blocks mount.image) else Err fault.Geometry
+    if is_flash_of size blocks mount.image && page_fits size page then Ok
+    (resume_address e size blocks mount.image) else Err fault.Geometry

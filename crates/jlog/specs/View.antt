@@ -18,7 +18,8 @@ use Rattle.jlog.specs.declared.report.Place.{Place}
 use Rattle.jlog.specs.declared.report.RunReport.{RunReport}
 use Rattle.jlog.specs.declared.session.Session.{Session}
 
-module _ {E : Type 0} {S : Type 0} {order : OfOrder E} {numbers : OfByteOrder E} {sink : OfSink S} where
+module _ {E : Type 0} {S : Type 0} {order : OfOrder E} {numbers : OfByteOrder E}
+    {sink : OfSink S} where
   -- the bytes that were mounted
   abbrev pub base_of : Session E S order numbers sink → List ℕ
   base_of session = session.base.now
@@ -55,52 +56,72 @@ module _ {E : Type 0} {S : Type 0} {order : OfOrder E} {numbers : OfByteOrder E}
 
   -- it goes on from its base, as resuming gives it
   abbrev pub IsResumed : Session E S order numbers sink → Type 0
-  IsResumed session = IsFresh order.order (block_size_of session) (blocks_of session) (base_of session) (cursor_of session) (index_of_log session)
+  IsResumed session = IsFresh order.order (block_size_of session) (blocks_of session)
+      (base_of session) (cursor_of session) (index_of_log session)
 
-  -- Applying an operation to the one leaves the other, and the places of its nodes are added to those before.
-  abbrev pub AppliesTo : {T : Type 0} → Session E S order numbers sink → Op → Session E S order numbers sink → List Place → List Place → Result T SessionFault → Type 0
+  -- Applying an operation to the one leaves the other, and the places of its nodes are added to
+  -- those before.
+  abbrev pub AppliesTo : {T : Type 0} → Session E S order numbers sink → Op
+      → Session E S order numbers sink → List Place → List Place → Result T SessionFault → Type 0
   AppliesTo old o new before after result =
-      Applies (page_size (page_of old)) order.order (block_size_of old) (blocks_of old) (cursor_of old) (index_of_log old) o (is_broken old)
+      Applies (page_size (page_of old)) order.order (block_size_of old) (blocks_of old)
+      (cursor_of old) (index_of_log old) o (is_broken old)
       (cursor_of new) (index_of_log new) (is_broken new)
-      (sink.taken (sink_of old)) (sink.taken (sink_of new)) (sink.failures (sink_of old)) (sink.failures (sink_of new)) before after result
+      (sink.taken (sink_of old)) (sink.taken (sink_of new)) (sink.failures (sink_of old))
+      (sink.failures (sink_of new)) before after result
 
-  -- Running operations on the one leaves the other: so many were accepted, their nodes have these places, and this stopped it.
-  abbrev pub RunsOn : Session E S order numbers sink → List Op → Session E S order numbers sink → ℕ → List Place → Option SessionFault → Type 0
+  -- Running operations on the one leaves the other: so many were accepted, their nodes have these
+  -- places, and this stopped it.
+  abbrev pub RunsOn : Session E S order numbers sink → List Op → Session E S order numbers sink → ℕ
+      → List Place → Option SessionFault → Type 0
   RunsOn old ops new accepted places stopped =
-      Runs (page_size (page_of old)) order.order (block_size_of old) (blocks_of old) (cursor_of old) (index_of_log old) ops (is_broken old)
+      Runs (page_size (page_of old)) order.order (block_size_of old) (blocks_of old) (cursor_of old)
+      (index_of_log old) ops (is_broken old)
       accepted (cursor_of new) (index_of_log new) (is_broken new)
-      (sink.taken (sink_of old)) (sink.taken (sink_of new)) (sink.failures (sink_of old)) (sink.failures (sink_of new)) places stopped
+      (sink.taken (sink_of old)) (sink.taken (sink_of new)) (sink.failures (sink_of old))
+      (sink.failures (sink_of new)) places stopped
 
-  -- A broken session does nothing: it accepts no operation, tells no place, and leaves its sink alone. The first operation,
-  -- where there is one, meets S6.
-  pub record IsHalted (old : Session E S order numbers sink) (ops : List Op) (new : Session E S order numbers sink) (report : RunReport) : Type 0 where
+  -- A broken session does nothing: it accepts no operation, tells no place, and leaves its sink
+  -- alone. The first operation, where there is one, meets S6.
+  pub record IsHalted (old : Session E S order numbers sink) (ops : List Op)
+      (new : Session E S order numbers sink) (report : RunReport) : Type 0 where
     pub none_accepted : report.accepted ≡ 0
     pub no_places : report.places.items ≡ []
     pub same_sink : sink_of new ≡ sink_of old
     pub broken : IsTrue (is_broken new)
     pub stopped : report.stopped ≡ option_map (λ _. fault.Broken) (slice_get ops 0)
 
-  -- Since it was resumed these operations were done, in whatever calls, and the session goes on after them.
+  -- Since it was resumed these operations were done, in whatever calls, and the session goes on
+  -- after them.
   abbrev pub HasDone : Session E S order numbers sink → List Op → Type 0
   HasDone session done =
-      GoesOnBy (page_size (page_of session)) order.order (block_size_of session) (blocks_of session) (base_of session) done (cursor_of session) (index_of_log session)
+      GoesOnBy (page_size (page_of session)) order.order (block_size_of session) (blocks_of session)
+      (base_of session) done (cursor_of session) (index_of_log session)
 
-  -- Whatever was done before: its steps, and then those of the operations that were attempted, survive on the session's base.
-  abbrev pub RunSurvives : Session E S order numbers sink → List Op → Session E S order numbers sink → ℕ → Type 0
+  -- Whatever was done before: its steps, and then those of the operations that were attempted,
+  -- survive on the session's base.
+  abbrev pub RunSurvives : Session E S order numbers sink → List Op → Session E S order numbers sink
+      → ℕ → Type 0
   RunSurvives old ops new accepted = (done : List Op) → HasDone old done
       → SurvivesAfter order.order (block_size_of old) (blocks_of old) (base_of old)
       (steps_on (page_size (page_of old)) order.order (block_size_of old) (base_of old) done)
-      (steps_of_first (page_size (page_of old)) (index_of_log old) ops (attempted accepted (is_broken new)))
+      (steps_of_first (page_size (page_of old)) (index_of_log old) ops
+      (attempted accepted (is_broken new)))
 
   -- What was accepted is done, after what was done before.
-  abbrev pub HasDoneMore : Session E S order numbers sink → List Op → Session E S order numbers sink → ℕ → Type 0
-  HasDoneMore old ops new accepted = (done : List Op) → HasDone old done → HasDone new (done ++ take accepted ops)
+  abbrev pub HasDoneMore : Session E S order numbers sink → List Op → Session E S order numbers sink
+      → ℕ → Type 0
+  HasDoneMore old ops new accepted =
+      (done : List Op) → HasDone old done → HasDone new (done ++ take accepted ops)
 
   -- A tree that had its shape has it again, unless an operation was written in part.
   abbrev pub KeepsShape : Session E S order numbers sink → Session E S order numbers sink → Type 0
-  KeepsShape old new = IsFalse (is_broken new) → HasShape (index_of_log old).tree → HasShape (index_of_log new).tree
+  KeepsShape old new =
+      IsFalse (is_broken new) → HasShape (index_of_log old).tree → HasShape (index_of_log new).tree
 
-  -- So it is after each whole operation that was accepted, also where the next one broke the session.
+  -- So it is after each whole operation that was accepted, also where the next one broke the
+  -- session.
   abbrev pub RunKeepsShape : Session E S order numbers sink → List Op → ℕ → Type 0
   RunKeepsShape old ops accepted = HasShape (index_of_log old).tree → (n : ℕ) → n ≤ accepted
-      → HasShape (after sizes (index_of_log old).tree (steps_of_first (page_size (page_of old)) (index_of_log old) ops n))
+      → HasShape (after sizes (index_of_log old).tree
+      (steps_of_first (page_size (page_of old)) (index_of_log old) ops n))

@@ -43,8 +43,10 @@ pub fn made_file_is_cut()
 pub fn erased_end_is_whole()
     ensures length { length (output Little 8192 0 made_and_written) ≡ 196 }
     ensures places { places 8192 0 made_and_written ≡ (12, 68) ∷ (80, 41) ∷ (124, 71) ∷ [] }
-    ensures before { count_whole 0 (output Little 8192 0 made_and_written) 191 ((12, 68) ∷ (80, 41) ∷ (124, 71) ∷ []) ≡ 2 }
-    ensures after { count_whole 0 (output Little 8192 0 made_and_written) 192 ((12, 68) ∷ (80, 41) ∷ (124, 71) ∷ []) ≡ 3 }
+    ensures before { count_whole 0 (output Little 8192 0 made_and_written) 191
+        ((12, 68) ∷ (80, 41) ∷ (124, 71) ∷ []) ≡ 2 }
+    ensures after { count_whole 0 (output Little 8192 0 made_and_written) 192
+        ((12, 68) ∷ (80, 41) ∷ (124, 71) ∷ []) ≡ 3 }
     ensures intact_before { intact 8192 0 191 made_and_written ≡ 2 }
     ensures intact_after { intact 8192 0 192 made_and_written ≡ 3 }
 {}
@@ -52,7 +54,8 @@ pub fn erased_end_is_whole()
 /// A directory is made and renamed.
 #[tactic(auto, unfolding(flashbase::specs::Bytes::pad4_of))]
 pub fn directory_is_renamed()
-    ensures { places 8192 0 (of_lengths (68 ∷ 41 ∷ 41 ∷ 41 ∷ [])) ≡ (12, 68) ∷ (80, 41) ∷ (124, 41) ∷ (168, 41) ∷ [] }
+    ensures { places 8192 0 (of_lengths (68 ∷ 41 ∷ 41 ∷ 41 ∷ []))
+        ≡ (12, 68) ∷ (80, 41) ∷ (124, 41) ∷ (168, 41) ∷ [] }
 {}
 
 /// A page that fits no more.
@@ -68,7 +71,8 @@ pub fn page_does_not_fit()
 /// Two blocks: a node goes over into the second one, and three more do not fit although as many bytes are free.
 #[tactic(auto, unfolding(flashbase::specs::Bytes::pad4_of))]
 pub fn two_blocks()
-    ensures places { places 8192 0 (of_lengths (68 ∷ 41 ∷ 4164 ∷ 4164 ∷ [])) ≡ (12, 68) ∷ (80, 41) ∷ (124, 4164) ∷ (8204, 4164) ∷ [] }
+    ensures places { places 8192 0 (of_lengths (68 ∷ 41 ∷ 4164 ∷ 4164 ∷ []))
+        ≡ (12, 68) ∷ (80, 41) ∷ (124, 4164) ∷ (8204, 4164) ∷ [] }
     ensures end { end_of_all 8192 0 (of_lengths (68 ∷ 41 ∷ 4164 ∷ 4164 ∷ [])) ≡ 12368 }
     ensures free { free 8192 2 124 ≡ 16248 }
     ensures needed { needed (of_lengths (4164 ∷ 4164 ∷ 4164 ∷ [])) ≡ 12492 }

@@ -16,7 +16,8 @@ const LEAST_WRITTEN: u32 = 8192;
 
 /// Whether a flash of so many blocks is one that is written, and holds an image of `len` bytes.
 fn holds(geometry: Geometry, blocks: u32, len: usize) -> bool
-    ensures { result ≡ (is_writable_flash geometry.block blocks && nat_le len (blocks * geometry.block)) }
+    ensures { result
+        ≡ (is_writable_flash geometry.block blocks && nat_le len (blocks * geometry.block)) }
 {
     let bytes = u64::from(blocks) * u64::from(geometry.block);
     geometry.is_readable()

@@ -15,7 +15,8 @@ node_of_version nodes v = lookup (eq_by_cmp nat_cmp v) (by_version nodes)
 -- where the last node of a version stands, the first of these at this place
 abbrev pub last_place_from : ℕ → ℕ → Option ℕ → List InodeNode → Option ℕ
 last_place_from place v found [] = found
-last_place_from place v found (node ∷ nodes) = last_place_from (suc place) v (if node.version == v then Some place else found) nodes
+last_place_from place v found (node ∷ nodes) =
+    last_place_from (suc place) v (if node.version == v then Some place else found) nodes
 
 -- where the last node of a version stands among these
 abbrev pub place_of_version : List InodeNode → ℕ → Option ℕ

@@ -1,6 +1,6 @@
--- Nodes that contradict each other. Of two inode nodes of one number and version the medium format names no winner
--- (Woodhouse 2001: versions order the nodes of one inode number): if they are not one and the same, they clash. An entry
--- and an inode node never do.
+-- Nodes that contradict each other. Of two inode nodes of one number and version the medium format
+-- names no winner (Woodhouse 2001: versions order the nodes of one inode number): if they are not
+-- one and the same, they clash. An entry and an inode node never do.
 use Rattle.std.specs.Prelude.{◌≡◌, ◌≢◌, ℕ, ◌<◌, List, Contains}
 use Rattle.jnode.specs.declared.node.InodeNode.{InodeNode}
 use Rattle.jnode.specs.declared.node.NodeRef.{NodeRef}
@@ -21,11 +21,13 @@ NodesClash (Inode a) (Entry b) = ⊥
 
 -- an inode node clashes with one of these
 abbrev pub SomeInodeClashesWith : List InodeNode → InodeNode → Type 0
-SomeInodeClashesWith inodes node = (other : InodeNode) × Contains inodes other × InodesClash other node
+SomeInodeClashesWith inodes node =
+    (other : InodeNode) × Contains inodes other × InodesClash other node
 
 -- an inode node clashes with none of these
 abbrev pub NoInodeClashesWith : List InodeNode → InodeNode → Type 0
-NoInodeClashesWith inodes node = (other : InodeNode) → Contains inodes other → InodesClash other node → ⊥
+NoInodeClashesWith inodes node =
+    (other : InodeNode) → Contains inodes other → InodesClash other node → ⊥
 
 -- no two of these clash
 abbrev pub NoInodesClash : List InodeNode → Type 0

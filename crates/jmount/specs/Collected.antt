@@ -22,7 +22,8 @@ HasNoClash ns = (at : ℕ) → IsClashAt ns at → ⊥
 
 -- a node of these that clashes with this one
 abbrev pub ClashesIn : List (ℕ × NodeRef) → NodeRef → Type 0
-ClashesIn ns node = (below : ℕ) × (other : NodeRef) × Contains ns (below, other) × NodesClash node other
+ClashesIn ns node =
+    (below : ℕ) × (other : NodeRef) × Contains ns (below, other) × NodesClash node other
 
 -- the first of a list that clashes with one before it, at this address
 abbrev pub FirstClash : List (ℕ × NodeRef) → ℕ → Type 0
@@ -31,9 +32,11 @@ FirstClash ns addr =
     × (ns ≡ pre ++ (addr, node) ∷ post) × HasNoClash pre × ClashesIn pre node
 
 -- what was collected of these nodes, of which no two clash
-pub record Collected (gained : List Dirent) (inode_list : List InodeNode) (ns : List (ℕ × NodeRef)) : Type 0 where
+pub record Collected (gained : List Dirent) (inode_list : List InodeNode)
+    (ns : List (ℕ × NodeRef)) : Type 0 where
   pub same_entries : (x : Dirent) → Contains gained x ↔ Contains (entries (map (λ n. n.1) ns)) x
-  pub same_inodes : (x : InodeNode) → Contains inode_list x ↔ Contains (inodes (map (λ n. n.1) ns)) x
+  pub same_inodes : (x : InodeNode) → Contains inode_list x
+      ↔ Contains (inodes (map (λ n. n.1) ns)) x
   pub entries_apart : names.NoEntriesClash gained
   pub inodes_apart : NoInodesClash inode_list
 

@@ -9,7 +9,20 @@ use Rattle.jnode.specs.declared.node.NodeRef.TheVariants.{Inode}
 -- a version of a number, of a regular file of mode 0644
 abbrev pub version_node : ℕ → ℕ → ℕ → ℕ → ℕ → Fill → NodeRef
 version_node ino version isize offset dsize fill =
-    Inode (record { ino = ino; version = version; mode = 0o100644; uid = 0; gid = 0; isize = isize; atime = 0; mtime = 0; ctime = 0; offset = offset; dsize = dsize; fill = fill })
+    Inode (record {
+      ino = ino;
+      version = version;
+      mode = 0o100644;
+      uid = 0;
+      gid = 0;
+      isize = isize;
+      atime = 0;
+      mtime = 0;
+      ctime = 0;
+      offset = offset;
+      dsize = dsize;
+      fill = fill;
+    })
 
 -- made, ten bytes written, cut to four, zeros up to eight, and a byte there
 abbrev pub five_versions : List NodeRef
@@ -31,4 +44,5 @@ three_versions =
 
 -- the entry "q" of the root, by its version
 abbrev pub named_node : ℕ → ℕ → Dirent
-named_node version ino = record { pino = 1; version = version; ino = ino; mctime = 0; kind = 8; name = codes "q" }
+named_node version ino =
+    record { pino = 1; version = version; ino = ino; mctime = 0; kind = 8; name = codes "q" }

@@ -1,4 +1,5 @@
--- Paths, and what they name (POSIX.1-2017, 4.13 "Pathname Resolution", without relative paths and symlinks).
+-- Paths, and what they name (POSIX.1-2017, 4.13 "Pathname Resolution", without relative paths and
+-- symlinks).
 use Rattle.std.specs.Prelude.{◌≡◌, ℕ, ◌-◌, ◌==◌, ◌&&◌, not, Bool, nat_lt, bytes_eq, IsTrue, List, [], ◌∷◌, length, take, flat_map, Option, Some, None, Result, Ok, Err, All, if◌then◌else◌}
 use Rattle.std.specs.List.{list_all}
 use Rattle.jmount.specs.Tree.{Tree, named, is_there, is_directory}
@@ -51,7 +52,8 @@ step_to t (Some i) = if is_there t i then Ok i else Err fault.NotFound
 
 -- from an object to the one that a name stands for there
 abbrev pub step : {B : Type 0} → Tree B → ℕ → List ℕ → Result ℕ FindFault
-step t here name = if is_directory t here then step_to t (named t here name) else Err fault.NotDirectory
+step t here name =
+    if is_directory t here then step_to t (named t here name) else Err fault.NotDirectory
 
 -- from an object, name by name, up to the first fault
 abbrev pub walk : {B : Type 0} → Tree B → List (List ℕ) → Result ℕ FindFault → Result ℕ FindFault

@@ -22,7 +22,8 @@ abbrev pub InodeAgrees : Option InodeNode → InodeNode → Type 0
 InodeAgrees None node = ⊤
 InodeAgrees (Some there) node = there ≡ node
 
--- the nodes of a number: that of the greatest version, and the older ones in the order in which they came
+-- the nodes of a number: that of the greatest version, and the older ones in the order in which
+-- they came
 abbrev pub nodes_in : Versions → List InodeNode
 nodes_in versions = versions.newest ∷ versions.older.nodes.items
 
@@ -35,15 +36,18 @@ NodesByNumber = BTreeMap ℕ Versions
 
 -- the node that is stored for a number and a version
 abbrev pub inode_at : NodesByNumber → ℕ → ℕ → Option InodeNode
-inode_at numbers i v = option_and_then (λ versions. inode_of_version versions v) (get nat_cmp numbers i)
+inode_at numbers i v =
+    option_and_then (λ versions. inode_of_version versions v) (get nat_cmp numbers i)
 
 -- each node is stored for its own number and version
 abbrev pub IsKeyed : NodesByNumber → Type 0
-IsKeyed numbers = (i v : ℕ) (node : InodeNode) → inode_at numbers i v ≡ Some node → (node.ino ≡ i) × (node.version ≡ v)
+IsKeyed numbers = (i v : ℕ) (node : InodeNode) → inode_at numbers i v ≡ Some node → (node.ino ≡ i)
+    × (node.version ≡ v)
 
 -- each node of a number is stored at its own version
 abbrev pub IsByVersion : Versions → Type 0
-IsByVersion versions = (v : ℕ) (node : InodeNode) → inode_of_version versions v ≡ Some node → node.version ≡ v
+IsByVersion versions =
+    (v : ℕ) (node : InodeNode) → inode_of_version versions v ≡ Some node → node.version ≡ v
 
 -- all nodes, in order of number
 unfoldable pub nodes_of_numbers : NodesByNumber → List InodeNode

@@ -22,8 +22,10 @@ state e size image = state_of (plain_nodes e size image)
 
 -- the fault is at the address
 abbrev pub IsFaultAt : Endian → ℕ → List ℕ → ℕ → MountFault → Type 0
-IsFaultAt e size image at (fault.Incompatible addr nodetype) = (at ≡ addr) × Contains (sightings e size image) (addr, seen.Incompatible nodetype)
-IsFaultAt e size image at (fault.Compressed addr compr) = (at ≡ addr) × Contains (sightings e size image) (addr, seen.Compressed compr)
+IsFaultAt e size image at (fault.Incompatible addr nodetype) =
+    (at ≡ addr) × Contains (sightings e size image) (addr, seen.Incompatible nodetype)
+IsFaultAt e size image at (fault.Compressed addr compr) =
+    (at ≡ addr) × Contains (sightings e size image) (addr, seen.Compressed compr)
 IsFaultAt e size image at (fault.Clash addr) = (at ≡ addr) × IsClashAt (nodes e size image) addr
 IsFaultAt e size image at fault.BlockSize = ⊥
 IsFaultAt e size image at fault.TooLarge = ⊥
@@ -38,7 +40,8 @@ IsFirstAt e size image addr f =
 
 -- an image with no such fault
 abbrev pub IsSound : Endian → ℕ → List ℕ → Type 0
-IsSound e size image = IsScannable size image × ((at : ℕ) (f : MountFault) → IsFaultAt e size image at f → ⊥)
+IsSound e size image =
+    IsScannable size image × ((at : ℕ) (f : MountFault) → IsFaultAt e size image at f → ⊥)
 
 -- the image mounts, as this file system
 pub record MountsAs (e : Endian) (size : ℕ) (image : List ℕ) (s : State) : Type 0 where
@@ -57,9 +60,13 @@ pub record IsMountOf (e : Endian) (size : ℕ) (mount : Mount) : Type 0 where
 abbrev pub Answers : Endian → ℕ → List ℕ → Result Mount MountFault → Type 0
 Answers e size image (Ok mount) = (mount.image ≡ image) × IsMountOf e size mount
 Answers e size image (Err fault.BlockSize) = IsFalse (is_block_size size)
-Answers e size image (Err fault.TooLarge) = IsTrue (is_block_size size) × (greatest_image < length image)
-Answers e size image (Err (fault.Incompatible addr nodetype)) = IsFirstAt e size image addr (fault.Incompatible addr nodetype)
-Answers e size image (Err (fault.Compressed addr compr)) = IsFirstAt e size image addr (fault.Compressed addr compr)
+Answers e size image (Err fault.TooLarge) =
+    IsTrue (is_block_size size) × (greatest_image < length image)
+Answers e size image (Err (fault.Incompatible addr nodetype)) =
+    IsFirstAt e size image addr (fault.Incompatible addr nodetype)
+Answers e size image (Err (fault.Compressed addr compr)) =
+    IsFirstAt e size image addr (fault.Compressed addr compr)
 Answers e size image (Err (fault.Clash addr)) = IsFirstAt e size image addr (fault.Clash addr)
-Answers e size image (Err fault.RootKind) = IsSound e size image × IsFalse (is_directory (state e size image) 1)
+Answers e size image (Err fault.RootKind) =
+    IsSound e size image × IsFalse (is_directory (state e size image) 1)
 Answers e size image (Err fault.OutOfMemory) = IsScannable size image

@@ -3,11 +3,14 @@ use Rattle.std.specs.Prelude.{◌≡◌, ◌≢◌, ℕ, true, List, [], Some, O
 use Rattle.jmount.specs.Tree.{Tree, named, is_directory}
 use Rattle.jmount.specs.Find.{walk}
 
--- two names of one directory other than the root are one name, in whatever directory they are looked up
+-- two names of one directory other than the root are one name, in whatever directory they are
+-- looked up
 abbrev pub IsSingle : {B : Type 0} → Tree B → Type 0
-IsSingle t = (a b : ℕ) (m n : List ℕ) (i : ℕ) → named t a m ≡ Some i → named t b n ≡ Some i → is_directory t i ≡ true → i ≢ 1 → (a ≡ b) × (m ≡ n)
+IsSingle t = (a b : ℕ) (m n : List ℕ) (i : ℕ) → named t a m ≡ Some i → named t b n ≡ Some i
+    → is_directory t i ≡ true → i ≢ 1 → (a ≡ b) × (m ≡ n)
 
--- No directory but the root has two names, and a walk that comes back to where it began had no names to go.
+-- No directory but the root has two names, and a walk that comes back to where it began had no
+-- names to go.
 pub record HasShape {B : Type 0} (t : Tree B) : Type 0 where
   pub single : IsSingle t
   pub no_loop : (i : ℕ) (names : List (List ℕ)) → walk t names (Ok i) ≡ Ok i → names ≡ []

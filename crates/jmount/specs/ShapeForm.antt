@@ -28,7 +28,8 @@ HeldByEachOther t xs = (i : ℕ) → Contains xs i → (dir : ℕ) × Contains x
 
 -- two entries do not give one directory two names
 abbrev pub is_no_second : Outline → Key × ℕ → Key × ℕ → Bool
-is_no_second t e f = not (e.1 == f.1) || ((e.1 == 1) || (not (is_directory t e.1) || eq_by_cmp key_cmp e.0 f.0))
+is_no_second t e f =
+    not (e.1 == f.1) || ((e.1 == 1) || (not (is_directory t e.1) || eq_by_cmp key_cmp e.0 f.0))
 
 abbrev pub is_single : Outline → Bool
 is_single t = list_all (λ e. list_all (is_no_second t e) (entries t.names)) (entries t.names)
@@ -37,7 +38,8 @@ is_single t = list_all (λ e. list_all (is_no_second t e) (entries t.names)) (en
 abbrev pub is_held : Outline → List ℕ → ℕ → Bool
 is_held t dirs i = list_any (λ e. (e.1 == i) && list_any (λ d. d == e.0.0) dirs) (entries t.names)
 
--- what is left of some after so many rounds, each of which takes away what none of them has a name for
+-- what is left of some after so many rounds, each of which takes away what none of them has a name
+-- for
 abbrev pub left_after : Outline → ℕ → List ℕ → List ℕ
 left_after t zero dirs = dirs
 left_after t (suc n) dirs = left_after t n (filter (is_held t dirs) dirs)

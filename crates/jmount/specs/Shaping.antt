@@ -18,19 +18,24 @@ IsHeld s i = IsBelow s i × ((dir : ℕ) × Holds s dir i)
 
 -- those that are not among some, in order
 abbrev pub others : State → BTreeSet ℕ → List ℕ
-others s held = filter (λ i. not (i == 1) && is_directory s i && not (contains nat_cmp held i)) (map (λ e. e.0) (objects_in s))
+others s held = filter (λ i. not (i == 1) && is_directory s i && not (contains nat_cmp held i))
+    (map (λ e. e.0) (objects_in s))
 
 -- the root has a name in itself or in one of some directories
 abbrev pub is_root_held : State → BTreeSet ℕ → Bool
-is_root_held s left = list_any (λ e. (e.2 == 1) && is_directory s e.0 && ((e.0 == 1) || contains nat_cmp left e.0)) (all_entries s)
+is_root_held s left = list_any (λ e. (e.2 == 1) && is_directory s e.0
+    && ((e.0 == 1) || contains nat_cmp left e.0)) (all_entries s)
 
 -- what holds a directory: one that is kept apart or left, or one whose names are still to come
 abbrev pub HeldBy : State → (ℕ → Bool) → BTreeSet ℕ → (ℕ → List ℕ → Type 0) → ℕ → Type 0
-HeldBy s apart left to_come i = (dir : ℕ) × (name : List ℕ) × (is_directory s dir ≡ true) × (named s dir name ≡ Some i)
+HeldBy s apart left to_come i =
+    (dir : ℕ) × (name : List ℕ) × (is_directory s dir ≡ true) × (named s dir name ≡ Some i)
     × ((apart dir ≡ true) ⊎ (contains nat_cmp left dir ≡ true) ⊎ to_come dir name)
 
--- All that is on loops is left, or is kept apart. Each that is left is held by one that is left, kept apart, or still to come.
-pub record IsPeeled (s : State) (apart : ℕ → Bool) (to_come : ℕ → List ℕ → Type 0) (left : BTreeSet ℕ) : Type 0 where
+-- All that is on loops is left, or is kept apart. Each that is left is held by one that is left,
+-- kept apart, or still to come.
+pub record IsPeeled (s : State) (apart : ℕ → Bool) (to_come : ℕ → List ℕ → Type 0)
+    (left : BTreeSet ℕ) : Type 0 where
   pub single : IsSingle s
   pub loops : (i : ℕ) → IsOnLoop s i → (apart i ≡ true) ⊎ (contains nat_cmp left i ≡ true)
   pub below : (i : ℕ) → contains nat_cmp left i ≡ true → IsBelow s i × (apart i ≡ false)
@@ -38,7 +43,8 @@ pub record IsPeeled (s : State) (apart : ℕ → Bool) (to_come : ℕ → List �
 
 -- some directories whose names are still to come are neither left nor kept apart
 abbrev pub AreGone : (ℕ → Bool) → BTreeSet ℕ → List ℕ → Type 0
-AreGone apart left above = (i : ℕ) → Contains above i → (apart i ≡ false) × (contains nat_cmp left i ≡ false)
+AreGone apart left above =
+    (i : ℕ) → Contains above i → (apart i ≡ false) × (contains nat_cmp left i ≡ false)
 
 abbrev pub NamesOf : List ℕ → ℕ → List ℕ → Type 0
 NamesOf above dir name = Contains above dir

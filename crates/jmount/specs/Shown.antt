@@ -22,7 +22,16 @@ kind_of bits =
 
 -- an object of an outline as callers see it
 abbrev pub shown_outline : ObjectOf ℕ → Object
-shown_outline o = record { kind = kind_of (type_bits o.mode); mode = o.mode; uid = o.uid; gid = o.gid; size = o.body; atime = o.atime; mtime = o.mtime; ctime = o.ctime }
+shown_outline o = record {
+  kind = kind_of (type_bits o.mode);
+  mode = o.mode;
+  uid = o.uid;
+  gid = o.gid;
+  size = o.body;
+  atime = o.atime;
+  mtime = o.mtime;
+  ctime = o.ctime;
+}
 
 abbrev pub shown : ObjectOf (List ℕ) → Object
 shown o = shown_outline (sized o)
@@ -34,7 +43,8 @@ objects_in s = map (λ e. (e.0, shown e.1)) (finite.entries s.objects)
 -- the bytes of a regular file or a symlink, and none of anything else
 abbrev pub bytes_if : Option (ObjectOf (List ℕ)) → List ℕ
 bytes_if None = []
-bytes_if (Some o) = if (type_bits o.mode == regular_bits) || (type_bits o.mode == symlink_bits) then o.body else []
+bytes_if (Some o) =
+    if (type_bits o.mode == regular_bits) || (type_bits o.mode == symlink_bits) then o.body else []
 
 abbrev pub readable : State → ℕ → List ℕ
 readable s i = bytes_if (object s i)

@@ -32,7 +32,8 @@ inodes ns = filter_map inode_in ns
 abbrev pub entries : List NodeRef → List Dirent
 entries ns = filter_map entry_in ns
 
--- ---- an object: the attributes and the size of its latest version, and each byte of the highest that covers it
+-- ---- an object: the attributes and the size of its latest version, and each byte of the highest
+-- that covers it
 
 -- the nodes of a number
 abbrev pub versions_of : List InodeNode → ℕ → List InodeNode
@@ -47,7 +48,8 @@ body_of dsize fill.Zero = body.Zero dsize
 body_of dsize (fill.Data bytes) = body.Bytes bytes
 
 abbrev pub piece_of : InodeNode → Piece
-piece_of node = record { version = node.version; offset = node.offset; body = body_of node.dsize node.fill }
+piece_of node =
+    record { version = node.version; offset = node.offset; body = body_of node.dsize node.fill }
 
 -- the first `size` bytes that these versions of an object give
 abbrev pub contents : List InodeNode → ℕ → List ℕ
@@ -70,7 +72,8 @@ object_by versions node = with_bytes node (contents versions node.isize)
 
 -- the root of an image that has no inode node for it (profile)
 abbrev pub default_root : ObjectOf (List ℕ)
-default_root = record { mode = 0o040755; uid = 0; gid = 0; atime = 0; mtime = 0; ctime = 0; body = [] }
+default_root =
+    record { mode = 0o040755; uid = 0; gid = 0; atime = 0; mtime = 0; ctime = 0; body = [] }
 
 abbrev pub or_root : ℕ → Option (ObjectOf (List ℕ)) → Option (ObjectOf (List ℕ))
 or_root i None = if i == 1 then Some default_root else None
@@ -98,7 +101,8 @@ numbers_in (Entry entry) = entry.pino ∷ entry.ino ∷ []
 abbrev pub next_of : List NodeRef → ℕ
 next_of ns = 1 + greatest (1 ∷ flat_map numbers_in ns)
 
--- the number whose versions a node counts among: an inode node's own, and for an entry its directory's
+-- the number whose versions a node counts among: an inode node's own, and for an entry its
+-- directory's
 abbrev pub owner : NodeRef → ℕ
 owner (Inode node) = node.ino
 owner (Entry entry) = entry.pino

@@ -34,17 +34,21 @@ ObjectsByNumber = BTreeMap ℕ Stored
 
 -- the objects that are stored
 abbrev pub stored_objects : ObjectsByNumber → FinMap nat_cmp (ObjectOf (List ℕ))
-stored_objects objects = tabled nat_cmp (map (λ e. e.0) objects.entries) (λ i. option_map stored_object (get nat_cmp objects i))
+stored_objects objects = tabled nat_cmp (map (λ e. e.0) objects.entries)
+    (λ i. option_map stored_object (get nat_cmp objects i))
 
 -- the greatest version of a number, over its inode nodes and the entries below it
 abbrev pub stored_top : ObjectsByNumber → List Dirent → ℕ → ℕ
 stored_top objects names i =
-    max (unwrap_or (option_map (λ stored. stored.version) (get nat_cmp objects i)) 0) (unwrap_or (highest names i) 0)
+    max (unwrap_or (option_map (λ stored. stored.version) (get nat_cmp objects i)) 0)
+    (unwrap_or (highest names i) 0)
 
 abbrev pub stored_tops : ObjectsByNumber → List Dirent → FinMap nat_cmp ℕ
 stored_tops objects names =
-    tabled nat_cmp (map (λ e. e.0) objects.entries ++ map (λ entry. entry.pino) names) (λ i. Some (stored_top objects names i))
+    tabled nat_cmp (map (λ e. e.0) objects.entries ++ map (λ entry. entry.pino) names)
+    (λ i. Some (stored_top objects names i))
 
 -- the file system that is stored
 abbrev pub stored_state : ObjectsByNumber → List Dirent → ℕ → State
-stored_state objects names next = record { objects = stored_objects objects; names = live_names names; next = next }
+stored_state objects names next =
+    record { objects = stored_objects objects; names = live_names names; next = next }

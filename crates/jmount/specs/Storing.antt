@@ -23,7 +23,8 @@ made_by versions = option_map (λ node. (object_by versions node, node.version))
 
 -- what the nodes of a number make, where it has any
 abbrev pub made_of_number : NodesByNumber → ℕ → Option VersionedObject
-made_of_number numbers i = option_and_then (λ versions. made_by (nodes_in versions)) (get nat_cmp numbers i)
+made_of_number numbers i =
+    option_and_then (λ versions. made_by (nodes_in versions)) (get nat_cmp numbers i)
 
 -- the root of an image that has no inode node for it, which has no version
 abbrev pub made_root : VersionedObject

@@ -29,10 +29,23 @@ abbrev pub Outline : Type 0
 Outline = Tree ℕ
 
 abbrev pub sized : ObjectOf (List ℕ) → ObjectOf ℕ
-sized o = record { mode = o.mode; uid = o.uid; gid = o.gid; atime = o.atime; mtime = o.mtime; ctime = o.ctime; body = length o.body }
+sized o = record {
+  mode = o.mode;
+  uid = o.uid;
+  gid = o.gid;
+  atime = o.atime;
+  mtime = o.mtime;
+  ctime = o.ctime;
+  body = length o.body;
+}
 
 abbrev pub outline : State → Outline
-outline s = record { objects = tabled nat_cmp (keys s.objects) (λ i. option_map sized (get s.objects i)); names = s.names; next = s.next }
+outline s = record {
+  objects = tabled nat_cmp (keys s.objects)
+      (λ i. option_map sized (get s.objects i));
+  names = s.names;
+  next = s.next;
+}
 
 -- ---- what a tree says of a number and of a name
 

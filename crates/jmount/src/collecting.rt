@@ -33,7 +33,8 @@ pub fn collect<'a>(
     nodes: Vec<(u32, NodeRef<'a>)>,
 ) -> Result<NodeTables<'a>, MountFault>
     ensures ok { IfOk result (λ tables. Collected tables.names tables.inodes nodes.entry.items) }
-    ensures greatest { IfOk result (λ tables. tables.greatest ≡ greatest_number (without_addresses nodes.entry.items)) }
+    ensures greatest { IfOk result
+        (λ tables. tables.greatest ≡ greatest_number (without_addresses nodes.entry.items)) }
     ensures err { IfErr result (StopsCollecting nodes.entry.items) }
 {
     if are_in_order(&nodes) {
@@ -53,7 +54,8 @@ fn collect_in_turn<'a>(
     nodes: Vec<(u32, NodeRef<'a>)>,
 ) -> Result<NodeTables<'a>, MountFault>
     ensures ok { IfOk result (λ tables. Collected tables.names tables.inodes nodes.entry.items) }
-    ensures greatest { IfOk result (λ tables. tables.greatest ≡ greatest_number (without_addresses nodes.entry.items)) }
+    ensures greatest { IfOk result
+        (λ tables. tables.greatest ≡ greatest_number (without_addresses nodes.entry.items)) }
     ensures err { IfErr result (StopsCollecting nodes.entry.items) }
 {
     let mut names = Names::new(alloc);
@@ -81,7 +83,8 @@ fn collect_inodes<'a>(
 ) -> Result<NodeTables<'a>, MountFault>
     requires { CollectedEntries names (entries (without_addresses nodes.items)) }
     ensures ok { IfOk result (λ tables. Collected tables.names tables.inodes nodes.entry.items) }
-    ensures greatest { IfOk result (λ tables. tables.greatest ≡ greatest_number (without_addresses nodes.entry.items)) }
+    ensures greatest { IfOk result
+        (λ tables. tables.greatest ≡ greatest_number (without_addresses nodes.entry.items)) }
     ensures err { IfErr result (StopsCollecting nodes.entry.items) }
 {
     let mut inodes = Inodes::new(alloc);

@@ -13,7 +13,8 @@ ghost use Rattle.jmount.specs.Tree.{dangling, object, type_bits};
 
 /// Written, cut, and written after its end: what the cut took away does not come back.
 pub fn cut_and_written()
-    ensures bytes { option_map (λ o. o.body) (object (state_of five_versions) 2) ≡ Some (1 ∷ 2 ∷ 3 ∷ 4 ∷ 0 ∷ 0 ∷ 0 ∷ 0 ∷ 255 ∷ []) }
+    ensures bytes { option_map (λ o. o.body) (object (state_of five_versions) 2)
+        ≡ Some (1 ∷ 2 ∷ 3 ∷ 4 ∷ 0 ∷ 0 ∷ 0 ∷ 0 ∷ 255 ∷ []) }
     ensures top { top five_versions 2 ≡ 5 }
     ensures next { (state_of five_versions).next ≡ 3 }
 {}
@@ -21,15 +22,19 @@ pub fn cut_and_written()
 /// Three versions that lie over one another: the size is the newest one's, and each byte that of the highest version
 /// that covers it.
 pub fn three_pieces()
-    ensures { option_map (λ o. o.body) (object (state_of three_versions) 2) ≡ Some (replicate 10 33 ++ replicate 40 11 ++ replicate 10 22 ++ replicate 40 11 ++ 0 ∷ []) }
+    ensures { option_map (λ o. o.body) (object (state_of three_versions) 2)
+        ≡ Some (replicate 10 33 ++ replicate 40 11 ++ replicate 10 22 ++ replicate 40 11 ++ 0
+        ∷ []) }
 {}
 
 /// A name whose object is missing: its number is taken, and no path finds it.
 pub fn dangling_name()
     ensures next { (state_of (Entry (named_node 1 57) ∷ [])).next ≡ 58 }
     ensures live { live (named_node 1 57 ∷ []) (1, codes "q") ≡ Some 57 }
-    ensures dangling { dangling (state_of (Entry (named_node 1 57) ∷ [])) ≡ (1, codes "q", 57) ∷ [] }
-    ensures find { find (state_of (Entry (named_node 1 57) ∷ [])) (codes "/q") ≡ Err fault.NotFound }
+    ensures dangling { dangling (state_of (Entry (named_node 1 57) ∷ []))
+        ≡ (1, codes "q", 57) ∷ [] }
+    ensures find { find (state_of (Entry (named_node 1 57) ∷ [])) (codes "/q")
+        ≡ Err fault.NotFound }
 {}
 
 /// A name that was taken away does not stand for an older one, in whatever order the nodes come.

@@ -72,7 +72,9 @@ impl<'a> Inodes<'a> {
     /// nodes of which no two clash.
     pub fn into_objects(self) -> Result<BTreeMap<u32, Stored<'a>>, AllocError>
         requires ends { All (λ node. end_of (piece_of node) < 2 ^ 32) self }
-        ensures each { IfOk result (λ objects. (i : ℕ) → option_map as_made (get nat_cmp objects i) ≡ made_of self.entry i) }
+        ensures each { IfOk result
+            (λ objects. (i : ℕ)
+            → option_map as_made (get nat_cmp objects i) ≡ made_of self.entry i) }
         ensures ordered { IfOk result (IsOrdered nat_cmp) }
     {
         objects_with_root(self.alloc, self.numbers)
@@ -85,9 +87,13 @@ fn add_node<'a>(
     numbers: &mut NodesByNumber<'a>,
     node: InodeNode<'a>,
 ) -> Result<(), InodeFault>
-    ensures clash { result ≡ Err InodeFault.Clash → InodeDiffers (inode_at numbers.old node.entry.ino node.entry.version) node.entry }
-    ensures alone { OnOk result (InodeAgrees (inode_at numbers.old node.entry.ino node.entry.version) node.entry) }
-    ensures ok { OnOk result ((i v : ℕ) → inode_at numbers.new i v ≡ (if node.entry.ino == i && node.entry.version == v then Some node.entry else inode_at numbers.old i v)) }
+    ensures clash { result ≡ Err InodeFault.Clash
+        → InodeDiffers (inode_at numbers.old node.entry.ino node.entry.version) node.entry }
+    ensures alone { OnOk result
+        (InodeAgrees (inode_at numbers.old node.entry.ino node.entry.version) node.entry) }
+    ensures ok { OnOk result ((i v : ℕ) → inode_at numbers.new i v
+        ≡ (if node.entry.ino == i
+        && node.entry.version == v then Some node.entry else inode_at numbers.old i v)) }
     ensures err { OnErr result (nodes_of_numbers numbers.new ≡ nodes_of_numbers numbers.old) }
     ensures same { OnErr result ((i v : ℕ) → inode_at numbers.new i v ≡ inode_at numbers.old i v) }
     ensures ordered { IsOrdered nat_cmp numbers.new }

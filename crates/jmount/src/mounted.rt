@@ -47,7 +47,13 @@ impl<'a> Model for Mounted<'a> {
 
     ghost coded = { mount_code };
 
-    ghost view = { λ m. record { image = m.image.now; state = stored_state m.objects m.names m.next; tops = stored_tops m.objects m.names; findings = m.findings.items; read_only = m.read_only } };
+    ghost view = { λ m. record {
+      image = m.image.now;
+      state = stored_state m.objects m.names m.next;
+      tops = stored_tops m.objects m.names;
+      findings = m.findings.items;
+      read_only = m.read_only;
+    } };
 
     ghost invariant = { λ m. IsOrdered nat_cmp m.objects };
 }
@@ -67,7 +73,13 @@ impl<'a> Mounted<'a> {
         read_only: bool,
     ) -> Mounted<'a>
         requires { IsOrdered nat_cmp objects }
-        ensures { result ≡ record { image = image.now; state = stored_state objects.entry names.entry next; tops = stored_tops objects.entry names.entry; findings = findings.items; read_only = read_only } }
+        ensures { result ≡ record {
+          image = image.now;
+          state = stored_state objects.entry names.entry next;
+          tops = stored_tops objects.entry names.entry;
+          findings = findings.items;
+          read_only = read_only;
+        } }
     {
         Mounted {
             image,
@@ -197,7 +209,8 @@ impl<'a> Mounted<'a> {
     /// # Errors
     /// Out of memory.
     pub fn dangling(&self, alloc: Global) -> Result<Vec<(u32, &[u8], u32)>, AllocError>
-        ensures { IfOk result (λ names. map (λ n. (n.0, n.1.now, n.2)) names.items ≡ tree.dangling self.now.state) }
+        ensures { IfOk result
+            (λ names. map (λ n. (n.0, n.1.now, n.2)) names.items ≡ tree.dangling self.now.state) }
     {
         self.names()
             .filter(|(_, _, ino)| !self.is_there(*ino))
@@ -218,8 +231,10 @@ impl<'a> Mounted<'a> {
     /// Reads the bytes of a regular file or a symlink from an offset on: as many as the slice and the size allow, at the
     /// front of the slice. Answers how many; 0 for what is neither of the two. Takes no memory.
     pub fn read_at(&self, ino: u32, offset: u64, out: &mut [u8]) -> usize
-        ensures count { result ≡ min (length out.old) (length (readable self.now.state ino) - offset) }
-        ensures bytes { out.new ≡ take result (drop offset (readable self.now.state ino)) ++ drop result out.old }
+        ensures count { result
+            ≡ min (length out.old) (length (readable self.now.state ino) - offset) }
+        ensures bytes { out.new
+            ≡ take result (drop offset (readable self.now.state ino)) ++ drop result out.old }
     {
         match self.objects.get(&ino) {
             Some(stored) => read_stored(stored, offset, out),
@@ -232,7 +247,8 @@ impl<'a> Mounted<'a> {
     /// # Errors
     /// The sink failed. A beginning of the bytes went out.
     pub fn put_bytes<T: Sink>(&self, ino: u32, sink: &mut T) -> Result<(), DeviceFault>
-        ensures { Puts (T.taken sink.old) (T.taken sink.new) (T.failures sink.old) (T.failures sink.new)
+        ensures { Puts (T.taken sink.old) (T.taken sink.new) (T.failures sink.old)
+            (T.failures sink.new)
             (readable self.now.state ino) result }
     {
         match self.objects.get(&ino) {

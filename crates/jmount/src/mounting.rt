@@ -39,7 +39,8 @@ pub fn mount_scanned<'a>(
     partial: PartialScan<'a>,
 ) -> Result<Mounted<'a>, MountFault>
     requires scanned { (e : Endian) × (size : ℕ) × IsScanOf e size image.now partial }
-    ensures { (e : Endian) (size : ℕ) → IsScanOf e size image.now partial.entry → Answers e size image.now result }
+    ensures { (e : Endian) (size : ℕ) → IsScanOf e size image.now partial.entry
+        → Answers e size image.now result }
 {
     let PartialScan {
         nodes,

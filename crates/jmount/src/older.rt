@@ -22,9 +22,11 @@ use std::boxed::Box;
 pub struct Older<'a> {
     pub nodes: Vec<InodeNode<'a>>,
     pub places: Option<Box<Places>>,
-    ghost found: { (node : InodeNode) → Contains nodes.items node → node_of_version nodes.items node.version ≡ Some node },
+    ghost found: { (node : InodeNode) → Contains nodes.items node
+        → node_of_version nodes.items node.version ≡ Some node },
     ghost within: { (p : Box Places Global) → places ≡ Some p → p.value.listed ≤ length nodes.items },
-    ghost placed: { (p : Box Places Global) (v : ℕ) → places ≡ Some p → get nat_cmp p.value.map v ≡ place_of_version (take p.value.listed nodes.items) v },
+    ghost placed: { (p : Box Places Global) (v : ℕ) → places ≡ Some p
+        → get nat_cmp p.value.map v ≡ place_of_version (take p.value.listed nodes.items) v },
 }
 
 impl<'a> Older<'a> {
@@ -53,7 +55,8 @@ impl<'a> Older<'a> {
 
     /// Where the node of a version stands.
     fn place_of(&mut self, alloc: Global, version: u32) -> Result<Option<usize>, AllocError>
-        ensures place { IfOk result (λ place. place ≡ place_of_version self.old.nodes.items version) }
+        ensures place { IfOk result
+            (λ place. place ≡ place_of_version self.old.nodes.items version) }
         ensures nodes { self.new.nodes.items ≡ self.old.nodes.items }
     {
         let mut places = match self.places.take() {
@@ -68,10 +71,15 @@ impl<'a> Older<'a> {
 
     /// Adds a node.
     pub fn add(&mut self, alloc: Global, node: InodeNode<'a>) -> Result<(), InodeFault>
-        ensures clash { result ≡ Err InodeFault.Clash → InodeDiffers (node_of_version self.old.nodes.items node.entry.version) node.entry }
-        ensures alone { OnOk result (InodeAgrees (node_of_version self.old.nodes.items node.entry.version) node.entry) }
-        ensures ok { OnOk result ((v : ℕ) → node_of_version self.new.nodes.items v ≡ (if node.entry.version == v then Some node.entry else node_of_version self.old.nodes.items v)) }
-        ensures nodes { OnOk result ((x : InodeNode) → Contains self.new.nodes.items x → Contains (node.entry ∷ self.old.nodes.items) x) }
+        ensures clash { result ≡ Err InodeFault.Clash
+            → InodeDiffers (node_of_version self.old.nodes.items node.entry.version) node.entry }
+        ensures alone { OnOk result
+            (InodeAgrees (node_of_version self.old.nodes.items node.entry.version) node.entry) }
+        ensures ok { OnOk result ((v : ℕ) → node_of_version self.new.nodes.items v
+            ≡ (if node.entry.version
+            == v then Some node.entry else node_of_version self.old.nodes.items v)) }
+        ensures nodes { OnOk result ((x : InodeNode) → Contains self.new.nodes.items x
+            → Contains (node.entry ∷ self.old.nodes.items) x) }
         ensures err { OnErr result (self.new.nodes.items ≡ self.old.nodes.items) }
     {
         match self.place_of(alloc, node.version)? {

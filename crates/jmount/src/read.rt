@@ -15,8 +15,10 @@ const PIECE: usize = 4096;
 
 /// Fills the front of the slice with an object's bytes from an offset on, and says how many there were.
 pub fn read_stored(stored: &Stored<'_>, offset: u64, out: &mut [u8]) -> usize
-    ensures count { result ≡ min (length out.old) (length (bytes_if (Some (stored_object stored.now))) - offset) }
-    ensures bytes { out.new ≡ take result (drop offset (bytes_if (Some (stored_object stored.now)))) ++ drop result out.old }
+    ensures count { result
+        ≡ min (length out.old) (length (bytes_if (Some (stored_object stored.now))) - offset) }
+    ensures bytes { out.new ≡ take result (drop offset (bytes_if (Some (stored_object stored.now))))
+        ++ drop result out.old }
 {
     if !has_bytes(stored.mode) {
         return 0;

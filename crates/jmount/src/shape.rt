@@ -46,7 +46,8 @@ fn has_second_name(alloc: Global, mounted: &Mounted<'_>) -> Result<bool, AllocEr
 
 /// The directories other than the root that have a name in a directory.
 fn held(alloc: Global, mounted: &Mounted<'_>) -> Result<BTreeSet<u32>, AllocError>
-    ensures { IfOk result (λ held. (i : ℕ) → Decides (contains nat_cmp held i) (IsHeld mounted.now.state i)) }
+    ensures { IfOk result
+        (λ held. (i : ℕ) → Decides (contains nat_cmp held i) (IsHeld mounted.now.state i)) }
 {
     let mut held = BTreeSet::new(alloc);
     for (dir, _, ino) in mounted.names() {
@@ -78,7 +79,8 @@ fn remove_below(
     mut above: Vec<u32>,
     left: &mut BTreeSet<u32>,
 ) -> Result<(), AllocError>
-    ensures { OnOk result ((apart : ℕ → Bool) → IsPeeledUpTo mounted.now.state apart above.items left.old → IsPeeledUpTo mounted.now.state apart [] left.new) }
+    ensures { OnOk result ((apart : ℕ → Bool) → IsPeeledUpTo mounted.now.state apart above.items
+        left.old → IsPeeledUpTo mounted.now.state apart [] left.new) }
 {
     while let Some(dir) = above.pop() {
         for (_, ino) in mounted.entries(dir) {

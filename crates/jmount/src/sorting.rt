@@ -45,7 +45,8 @@ pub fn collect_names<'a>(
     alloc: Global,
     nodes: &[(u32, NodeRef<'a>)],
 ) -> Result<Names<'a>, NameFault>
-    ensures { IfOk result (λ names. CollectedEntries names (entries (without_addresses nodes.now))) }
+    ensures { IfOk result
+        (λ names. CollectedEntries names (entries (without_addresses nodes.now))) }
 {
     let mut pending = entries_in(alloc, nodes)?;
     pending.sort_unstable_by_key(|pending| pending.key);
@@ -57,7 +58,8 @@ fn entries_in<'n, 'a>(
     alloc: Global,
     nodes: &'n [(u32, NodeRef<'a>)],
 ) -> Result<Vec<Pending<'n, 'a>>, AllocError>
-    ensures { IfOk result (λ pending. pending_entries pending.items ≡ entries (without_addresses nodes.now)) }
+    ensures { IfOk result
+        (λ pending. pending_entries pending.items ≡ entries (without_addresses nodes.now)) }
 {
     let mut pending = Vec::with_capacity(alloc, count_entries(nodes))?;
     for (_, node) in nodes {

@@ -24,7 +24,8 @@ pub fn objects_with_root<'a>(
 ) -> Result<BTreeMap<u32, Stored<'a>>, AllocError>
     requires keyed { IsKeyed numbers }
     requires ends { All (λ node. end_of (piece_of node) < 2 ^ 32) (nodes_of_numbers numbers) }
-    ensures each { IfOk result (λ objects. (i : ℕ) → option_map as_made (get nat_cmp objects i) ≡ or_made_root i (made_of_number numbers.entry i)) }
+    ensures each { IfOk result (λ objects. (i : ℕ) → option_map as_made (get nat_cmp objects i)
+        ≡ or_made_root i (made_of_number numbers.entry i)) }
     ensures ordered { IfOk result (IsOrdered nat_cmp) }
 {
     let mut objects = objects_of(alloc, numbers)?;
@@ -58,7 +59,8 @@ fn objects_of<'a>(
 ) -> Result<BTreeMap<u32, Stored<'a>>, AllocError>
     requires keyed { IsKeyed numbers }
     requires ends { All (λ node. end_of (piece_of node) < 2 ^ 32) (nodes_of_numbers numbers) }
-    ensures each { IfOk result (λ objects. (i : ℕ) → option_map as_made (get nat_cmp objects i) ≡ made_of_number numbers.entry i) }
+    ensures each { IfOk result (λ objects. (i : ℕ) → option_map as_made (get nat_cmp objects i)
+        ≡ made_of_number numbers.entry i) }
     ensures ordered { IfOk result (IsOrdered nat_cmp) }
 {
     let mut objects = BTreeMap::new(alloc);

@@ -48,7 +48,9 @@ impl<'a> Versions<'a> {
 
     /// One node. Takes no memory.
     pub fn of_one(alloc: Global, node: InodeNode<'a>) -> Self
-        ensures { (v : ℕ) → inode_of_version result v ≡ (if node.entry.version == v then Some node.entry else None) }
+        ensures { (v : ℕ)
+            → inode_of_version result v
+            ≡ (if node.entry.version == v then Some node.entry else None) }
     {
         Versions {
             newest: node,
@@ -58,11 +60,16 @@ impl<'a> Versions<'a> {
 
     /// Adds a node.
     pub fn add(&mut self, alloc: Global, node: InodeNode<'a>) -> Result<(), InodeFault>
-        ensures clash { result ≡ Err InodeFault.Clash → InodeDiffers (inode_of_version self.old node.entry.version) node.entry }
-        ensures alone { OnOk result (InodeAgrees (inode_of_version self.old node.entry.version) node.entry) }
-        ensures ok { OnOk result ((v : ℕ) → inode_of_version self.new v ≡ (if node.entry.version == v then Some node.entry else inode_of_version self.old v)) }
+        ensures clash { result ≡ Err InodeFault.Clash
+            → InodeDiffers (inode_of_version self.old node.entry.version) node.entry }
+        ensures alone { OnOk result
+            (InodeAgrees (inode_of_version self.old node.entry.version) node.entry) }
+        ensures ok { OnOk result ((v : ℕ) → inode_of_version self.new v
+            ≡ (if node.entry.version
+            == v then Some node.entry else inode_of_version self.old v)) }
         ensures err { OnErr result (nodes_in self.new ≡ nodes_in self.old) }
-        ensures same { OnErr result ((v : ℕ) → inode_of_version self.new v ≡ inode_of_version self.old v) }
+        ensures same { OnErr result
+            ((v : ℕ) → inode_of_version self.new v ≡ inode_of_version self.old v) }
     {
         if node.version == self.newest.version {
             return agree(&self.newest, &node);

@@ -29,7 +29,8 @@ versions_of_name names name = lookup (λ k. is_eq (slice_cmp nat_cmp name (cow_s
 
 -- the content that is stored under a name at a version
 abbrev pub content_in : List (Name × Versions) → List ℕ → ℕ → Option Content
-content_in names name v = option_and_then (λ versions. version_at versions v) (versions_of_name names name)
+content_in names name v =
+    option_and_then (λ versions. version_at versions v) (versions_of_name names name)
 
 -- a name with the contents at its versions, in order
 abbrev pub with_contents : Name × Versions → Name × List (ℕ × Content)

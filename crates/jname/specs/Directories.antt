@@ -22,8 +22,10 @@ DirectoriesByNumber = BTreeMap ℕ Apart
 
 -- the content that is stored for a parent, a name and a version
 abbrev pub content_at : DirectoriesByNumber → ℕ → List ℕ → ℕ → Option Content
-content_at directories pino name v = option_and_then (λ apart. content_held apart name v) (get nat_cmp directories pino)
+content_at directories pino name v =
+    option_and_then (λ apart. content_held apart name v) (get nat_cmp directories pino)
 
 -- the greatest version of a directory
 abbrev pub highest_at : DirectoriesByNumber → ℕ → Option ℕ
-highest_at directories pino = option_map (λ apart. apart.directory.value.highest) (get nat_cmp directories pino)
+highest_at directories pino =
+    option_map (λ apart. apart.directory.value.highest) (get nat_cmp directories pino)

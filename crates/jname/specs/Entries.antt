@@ -15,7 +15,14 @@ abbrev pub content_of_entry : Dirent → Content
 content_of_entry entry = record { ino = entry.ino; mctime = entry.mctime; kind = entry.kind }
 
 abbrev pub entry_of : ℕ → List ℕ → ℕ × Content → Dirent
-entry_of pino name e = record { pino = pino; version = e.0; ino = e.1.ino; mctime = e.1.mctime; kind = e.1.kind; name = name }
+entry_of pino name e = record {
+  pino = pino;
+  version = e.0;
+  ino = e.1.ino;
+  mctime = e.1.mctime;
+  kind = e.1.kind;
+  name = name;
+}
 
 abbrev pub entries_under : ℕ → Name × Versions → List Dirent
 entries_under pino e = map (entry_of pino (cow_slice_items e.0)) (contents_of e.1)

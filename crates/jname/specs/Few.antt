@@ -16,7 +16,9 @@ abbrev pub one_further : Result ℕ ℕ → Result ℕ ℕ
 one_further (Ok place) = Ok (suc place)
 one_further (Err place) = Err (suc place)
 
--- where a name stands in a row in byte order, or else would stand: before the first that is not below it
+-- where a name stands in a row in byte order, or else would stand: before the first that is not
+-- below it
 abbrev pub place_in : List (Name × Versions) → List ℕ → Result ℕ ℕ
 place_in [] name = Err 0
-place_in (e ∷ es) name = match_ordering (slice_cmp nat_cmp name (cow_slice_items e.0)) (Err 0) (Ok 0) (one_further (place_in es name))
+place_in (e ∷ es) name = match_ordering (slice_cmp nat_cmp name (cow_slice_items e.0)) (Err 0)
+    (Ok 0) (one_further (place_in es name))

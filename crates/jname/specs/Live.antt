@@ -1,5 +1,5 @@
--- The live names (Woodhouse 2001, "Directory entries": of the entries of a name the one of highest version counts,
--- and an entry whose inode number is 0 says that the name is gone).
+-- The live names (Woodhouse 2001, "Directory entries": of the entries of a name the one of highest
+-- version counts, and an entry whose inode number is 0 says that the name is gone).
 use Rattle.std.specs.Prelude.{◌≡◌, ℕ, ◌==◌, ◌&&◌, ◌⊎◌, ◌↔◌, Bool, bytes_eq, List, map, filter, Contains, Option, Some, None, option_map, option_and_then, if◌then◌else◌}
 use Rattle.std.specs.declared.cmp.Ordering.{Ordering}
 use Rattle.std.specs.Ordering.{nat_cmp, ordering_then}
@@ -27,7 +27,8 @@ ino_if_any entry = if entry.ino == 0 then None else Some entry.ino
 
 -- the inode number that a name stands for: that of its entry of highest version
 abbrev pub live : List Dirent → Key → Option ℕ
-live given key = option_and_then ino_if_any (newest (λ entry. entry.version) (filter (is_at key) given))
+live given key =
+    option_and_then ino_if_any (newest (λ entry. entry.version) (filter (is_at key) given))
 
 -- all live names, each with its inode number
 abbrev pub live_names : List Dirent → FinMap key_cmp ℕ
@@ -35,7 +36,8 @@ live_names given = tabled key_cmp (map key_of given) (live given)
 
 -- The live names of a directory, each with its inode number, in byte order
 abbrev pub names_of : List Dirent → ℕ → List (List ℕ × ℕ)
-names_of given pino = map (λ e. (e.0.1, e.1)) (filter (λ e. e.0.0 == pino) (entries (live_names given)))
+names_of given pino =
+    map (λ e. (e.0.1, e.1)) (filter (λ e. e.0.0 == pino) (entries (live_names given)))
 
 -- all live names, each with its directory's number and its inode number, in order
 abbrev pub all_names : List Dirent → List (ℕ × List ℕ × ℕ)
@@ -43,7 +45,8 @@ all_names given = map (λ e. (e.0.0, e.0.1, e.1)) (entries (live_names given))
 
 -- the greatest version of a directory's entries, with inode number 0 or not
 abbrev pub highest : List Dirent → ℕ → Option ℕ
-highest given pino = option_map (λ entry. entry.version) (newest (λ entry. entry.version) (filter (λ entry. entry.pino == pino) given))
+highest given pino = option_map (λ entry. entry.version)
+    (newest (λ entry. entry.version) (filter (λ entry. entry.pino == pino) given))
 
 -- the same entries, and one more
 abbrev pub Gains : List Dirent → List Dirent → Dirent → Type 0

@@ -39,7 +39,8 @@ abbrev pub Agrees : Option Content → Content → Type 0
 Agrees None content = ⊤
 Agrees (Some there) content = there ≡ content
 
--- of what is stored at each version: this content is stored at this version, and none at a higher one
+-- of what is stored at each version: this content is stored at this version, and none at a higher
+-- one
 abbrev pub IsTop : (ℕ → Option Content) → ℕ → Content → Type 0
 IsTop at v content = (at v ≡ Some content) × ((w : ℕ) → IsSome (at w) → w ≤ v)
 

@@ -27,4 +27,5 @@ with_parent pino e = (pino, e.0, e.1)
 
 -- the live names of directories
 abbrev pub names_within : List (ℕ × Apart) → List (ℕ × List ℕ × ℕ)
-names_within es = flat_map (λ e. map (with_parent e.0) (names_under (names_in e.1.directory.value.names))) es
+names_within es =
+    flat_map (λ e. map (with_parent e.0) (names_under (names_in e.1.directory.value.names))) es

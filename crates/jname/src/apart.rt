@@ -37,10 +37,15 @@ impl<'a> Apart<'a> {
         version: u32,
         content: Content,
     ) -> Result<(), NameFault>
-        ensures clash { result ≡ Err NameFault.Clash → Differs (content_held self.old (cow_slice_items name.entry) version) content }
-        ensures alone { OnOk result (Agrees (content_held self.old (cow_slice_items name.entry) version) content) }
-        ensures ok { OnOk result ((n : List ℕ) (v : ℕ) → content_held self.new n v ≡ (if bytes_eq (cow_slice_items name.entry) n && version == v then Some content else content_held self.old n v)) }
-        ensures err { OnErr result (HasSameContents (names_in self.old.directory.value.names) (names_in self.new.directory.value.names)) }
+        ensures clash { result ≡ Err NameFault.Clash
+            → Differs (content_held self.old (cow_slice_items name.entry) version) content }
+        ensures alone { OnOk result
+            (Agrees (content_held self.old (cow_slice_items name.entry) version) content) }
+        ensures ok { OnOk result ((n : List ℕ) (v : ℕ)
+            → content_held self.new n v ≡ (if bytes_eq (cow_slice_items name.entry) n
+            && version == v then Some content else content_held self.old n v)) }
+        ensures err { OnErr result (HasSameContents (names_in self.old.directory.value.names)
+            (names_in self.new.directory.value.names)) }
     {
         self.directory.add(alloc, name, version, content)
     }

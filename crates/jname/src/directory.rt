@@ -31,7 +31,9 @@ impl<'a> Directory<'a> {
         version: u32,
         content: Content,
     ) -> Result<Self, AllocError>
-        ensures { IfOk result (λ directory. (n : List ℕ) (v : ℕ) → content_under directory n v ≡ (if bytes_eq (cow_slice_items name.entry) n && version == v then Some content else None)) }
+        ensures { IfOk result (λ directory. (n : List ℕ) (v : ℕ)
+            → content_under directory n v ≡ (if bytes_eq (cow_slice_items name.entry) n
+            && version == v then Some content else None)) }
     {
         let names = NameMap::of_one(alloc, name, Versions::of_one(version, content))?;
         Ok(Directory {
@@ -48,10 +50,15 @@ impl<'a> Directory<'a> {
         version: u32,
         content: Content,
     ) -> Result<(), NameFault>
-        ensures clash { result ≡ Err NameFault.Clash → Differs (content_under self.old (cow_slice_items name.entry) version) content }
-        ensures alone { OnOk result (Agrees (content_under self.old (cow_slice_items name.entry) version) content) }
-        ensures ok { OnOk result ((n : List ℕ) (v : ℕ) → content_under self.new n v ≡ (if bytes_eq (cow_slice_items name.entry) n && version == v then Some content else content_under self.old n v)) }
-        ensures err { OnErr result (HasSameContents (names_in self.old.names) (names_in self.new.names)) }
+        ensures clash { result ≡ Err NameFault.Clash
+            → Differs (content_under self.old (cow_slice_items name.entry) version) content }
+        ensures alone { OnOk result
+            (Agrees (content_under self.old (cow_slice_items name.entry) version) content) }
+        ensures ok { OnOk result ((n : List ℕ) (v : ℕ)
+            → content_under self.new n v ≡ (if bytes_eq (cow_slice_items name.entry) n
+            && version == v then Some content else content_under self.old n v)) }
+        ensures err { OnErr result
+            (HasSameContents (names_in self.old.names) (names_in self.new.names)) }
     {
         self.names.add(alloc, name, version, content)?;
         self.highest = self.highest.max(version);

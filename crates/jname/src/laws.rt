@@ -13,12 +13,14 @@ pub fn live_names_are_live()
 
 /// What a name stands for depends on which entries there are, and not on their order or how often each is there.
 pub fn live_depends_on_entries()
-    ensures { (a b : List Dirent) (key : Key) → SameEntries a b → NoEntriesClash a → live a key ≡ live b key }
+    ensures { (a b : List Dirent) (key : Key) → SameEntries a b → NoEntriesClash a
+        → live a key ≡ live b key }
 {}
 
 /// So do all live names.
 pub fn live_names_depend_on_entries()
-    ensures { (a b : List Dirent) → SameEntries a b → NoEntriesClash a → live_names a ≡ live_names b }
+    ensures { (a b : List Dirent) → SameEntries a b → NoEntriesClash a
+        → live_names a ≡ live_names b }
 {}
 
 /// So does the greatest version of a directory, whether entries clash or not.

@@ -74,7 +74,8 @@ impl<'a> NameMap<'a> {
 
     /// The versions of a name.
     pub fn get(&self, name: &[u8]) -> Option<&Versions>
-        ensures { option_map (λ versions. versions.now) result ≡ versions_of_name (names_in self.now) name.now }
+        ensures { option_map (λ versions. versions.now) result
+            ≡ versions_of_name (names_in self.now) name.now }
     {
         match place_of(&self.few, name) {
             Ok(place) => Some(&self.few[place].1),
@@ -90,9 +91,15 @@ impl<'a> NameMap<'a> {
         version: u32,
         content: Content,
     ) -> Result<(), NameFault>
-        ensures clash { result ≡ Err NameFault.Clash → Differs (content_in (names_in self.old) (cow_slice_items name.entry) version) content }
-        ensures alone { OnOk result (Agrees (content_in (names_in self.old) (cow_slice_items name.entry) version) content) }
-        ensures ok { OnOk result ((n : List ℕ) (v : ℕ) → content_in (names_in self.new) n v ≡ (if bytes_eq (cow_slice_items name.entry) n && version == v then Some content else content_in (names_in self.old) n v)) }
+        ensures clash { result ≡ Err NameFault.Clash
+            → Differs (content_in (names_in self.old) (cow_slice_items name.entry) version)
+            content }
+        ensures alone { OnOk result
+            (Agrees (content_in (names_in self.old) (cow_slice_items name.entry) version) content) }
+        ensures ok { OnOk result ((n : List ℕ) (v : ℕ)
+            → content_in (names_in self.new) n v
+            ≡ (if bytes_eq (cow_slice_items name.entry) n
+            && version == v then Some content else content_in (names_in self.old) n v)) }
         ensures err { OnErr result (HasSameContents (names_in self.old) (names_in self.new)) }
     {
         match place_of(&self.few, name.as_slice()) {
@@ -146,9 +153,13 @@ fn add_name<'a>(
     version: u32,
     content: Content,
 ) -> Result<(), NameFault>
-    ensures clash { result ≡ Err NameFault.Clash → Differs (content_in names.old.entries (cow_slice_items name.entry) version) content }
-    ensures alone { OnOk result (Agrees (content_in names.old.entries (cow_slice_items name.entry) version) content) }
-    ensures ok { OnOk result ((n : List ℕ) (v : ℕ) → content_in names.new.entries n v ≡ (if bytes_eq (cow_slice_items name.entry) n && version == v then Some content else content_in names.old.entries n v)) }
+    ensures clash { result ≡ Err NameFault.Clash
+        → Differs (content_in names.old.entries (cow_slice_items name.entry) version) content }
+    ensures alone { OnOk result
+        (Agrees (content_in names.old.entries (cow_slice_items name.entry) version) content) }
+    ensures ok { OnOk result ((n : List ℕ) (v : ℕ) → content_in names.new.entries n v
+        ≡ (if bytes_eq (cow_slice_items name.entry) n
+        && version == v then Some content else content_in names.old.entries n v)) }
     ensures unchanged { OnErr result (HasSameContents names.old.entries names.new.entries) }
     ensures ordered { IsOrdered name_cmp names.new }
 {

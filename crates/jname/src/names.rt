@@ -147,9 +147,14 @@ fn add_entry<'a>(
     version: u32,
     content: Content,
 ) -> Result<(), NameFault>
-    ensures clash { result ≡ Err NameFault.Clash → Differs (content_at directories.old pino (cow_slice_items name.entry) version) content }
-    ensures alone { OnOk result (Agrees (content_at directories.old pino (cow_slice_items name.entry) version) content) }
-    ensures ok { OnOk result ((p : ℕ) (n : List ℕ) (v : ℕ) → content_at directories.new p n v ≡ (if pino == p && (bytes_eq (cow_slice_items name.entry) n && version == v) then Some content else content_at directories.old p n v)) }
+    ensures clash { result ≡ Err NameFault.Clash
+        → Differs (content_at directories.old pino (cow_slice_items name.entry) version) content }
+    ensures alone { OnOk result
+        (Agrees (content_at directories.old pino (cow_slice_items name.entry) version) content) }
+    ensures ok { OnOk result ((p : ℕ) (n : List ℕ) (v : ℕ)
+        → content_at directories.new p n v ≡ (if pino == p
+        && (bytes_eq (cow_slice_items name.entry) n && version == v) then Some content else
+        content_at directories.old p n v)) }
     ensures err { OnErr result (entries_of directories.new ≡ entries_of directories.old) }
     ensures ordered { IsOrdered nat_cmp directories.new }
 {

@@ -30,7 +30,8 @@ pub fn add_older(
     requires { IsOrdered nat_cmp older.old }
     ensures clash { result ≡ Err NameFault.Clash → Differs (get nat_cmp older.old version) content }
     ensures alone { OnOk result (Agrees (get nat_cmp older.old version) content) }
-    ensures ok { OnOk result ((v : ℕ) → get nat_cmp older.new v ≡ (if version == v then Some content else get nat_cmp older.old v)) }
+    ensures ok { OnOk result ((v : ℕ) → get nat_cmp older.new v
+        ≡ (if version == v then Some content else get nat_cmp older.old v)) }
     ensures err { OnErr result (older.new.entries ≡ older.old.entries) }
     ensures ordered { IsOrdered nat_cmp older.new }
 {

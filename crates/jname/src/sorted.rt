@@ -37,9 +37,11 @@ impl Sorted {
 
     /// Holds a content at a version.
     pub fn add(&mut self, version: u32, content: Content) -> Result<(), NameFault>
-        ensures clash { result ≡ Err NameFault.Clash → Differs (sorted_at self.old version) content }
+        ensures clash { result ≡ Err NameFault.Clash
+            → Differs (sorted_at self.old version) content }
         ensures alone { OnOk result (Agrees (sorted_at self.old version) content) }
-        ensures ok { OnOk result ((v : ℕ) → sorted_at self.new v ≡ (if version == v then Some content else sorted_at self.old v)) }
+        ensures ok { OnOk result ((v : ℕ) → sorted_at self.new v
+            ≡ (if version == v then Some content else sorted_at self.old v)) }
         ensures err { OnErr result (contents_in_order self.new ≡ contents_in_order self.old) }
     {
         if version == self.greatest {

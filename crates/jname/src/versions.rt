@@ -35,9 +35,11 @@ impl Versions {
 
     /// Holds a content at a version.
     pub fn add(&mut self, alloc: Global, version: u32, content: Content) -> Result<(), NameFault>
-        ensures clash { result ≡ Err NameFault.Clash → Differs (version_at self.old version) content }
+        ensures clash { result ≡ Err NameFault.Clash
+            → Differs (version_at self.old version) content }
         ensures alone { OnOk result (Agrees (version_at self.old version) content) }
-        ensures ok { OnOk result ((v : ℕ) → version_at self.new v ≡ (if version == v then Some content else version_at self.old v)) }
+        ensures ok { OnOk result ((v : ℕ) → version_at self.new v
+            ≡ (if version == v then Some content else version_at self.old v)) }
         ensures err { OnErr result (contents_of self.new ≡ contents_of self.old) }
     {
         match self {

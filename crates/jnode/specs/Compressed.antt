@@ -1,4 +1,5 @@
--- An inode node whose data are compressed (Linux, include/uapi/linux/jffs2.h: `struct jffs2_raw_inode`).
+-- An inode node whose data are compressed (Linux, include/uapi/linux/jffs2.h: `struct
+-- jffs2_raw_inode`).
 use Rattle.std.specs.Prelude.{◌≡◌, ◌≢◌, ◌≤◌, ◌<◌, ◌+◌, ℕ, Option, Some, None, List, [], ◌∷◌, ◌++◌, length}
 use Rattle.flashbase.specs.Crc.{crc_of}
 use Rattle.flashbase.specs.Ranges.{IsHalf, IsWord}

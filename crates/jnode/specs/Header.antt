@@ -1,4 +1,5 @@
--- The header that each node begins with (Linux, include/uapi/linux/jffs2.h: `struct jffs2_unknown_node`).
+-- The header that each node begins with (Linux, include/uapi/linux/jffs2.h: `struct
+-- jffs2_unknown_node`).
 use Rattle.std.specs.Prelude.{◌≡◌, ◌≤◌, ◌==◌, ◌&&◌, ℕ, ◌%◌, Bool, nat_le, if◌then◌else◌, Option, Some, None, List, ◌++◌, length, take, drop, bit_or, bit_and}
 use Rattle.flashbase.specs.Crc.{crc_of}
 use Rattle.jnode.specs.Order.{number_at, bytes_in}
@@ -33,9 +34,12 @@ hdr_crc_of e bytes = number_at e 4 8 bytes
 abbrev pub header_len : ℕ
 header_len = 12
 
--- The checksum of the first 8 bytes, taken with the bit ACCURATE set: a node that is made obsolete keeps its hdr_crc.
+-- The checksum of the first 8 bytes, taken with the bit ACCURATE set: a node that is made obsolete
+-- keeps its hdr_crc.
 unfoldable pub header_crc_of : Endian → List ℕ → ℕ
-header_crc_of e bytes = crc_of ((take 2 bytes ++ bytes_in e 2 (bit_or (nodetype_of e bytes) accurate_bit)) ++ take 4 (drop 4 bytes))
+header_crc_of e bytes = crc_of
+    ((take 2 bytes ++ bytes_in e 2 (bit_or (nodetype_of e bytes) accurate_bit))
+    ++ take 4 (drop 4 bytes))
 
 -- There is a good header at the start of these bytes, the rest of a block.
 pub record IsGood (e : Endian) (rest : List ℕ) : Type 0 where
@@ -52,7 +56,11 @@ pub record IsGoodAt (e : Endian) (block : List ℕ) (place : ℕ) : Type 0 where
 
 -- what the header says
 abbrev pub header_of : Endian → List ℕ → Header
-header_of e rest = record { nodetype = nodetype_of e rest; totlen = totlen_of e rest; accurate = is_accurate (nodetype_of e rest) }
+header_of e rest = record {
+  nodetype = nodetype_of e rest;
+  totlen = totlen_of e rest;
+  accurate = is_accurate (nodetype_of e rest);
+}
 
 -- ---- the same, computed
 
@@ -62,7 +70,8 @@ has_header e bytes = (magic_of e bytes == magic) && (hdr_crc_of e bytes == heade
 
 -- a good header of a rest of `len` bytes, by its front
 unfoldable pub is_good_front : Endian → List ℕ → ℕ → Bool
-is_good_front e front len = has_header e front && nat_le header_len (totlen_of e front) && nat_le (totlen_of e front) len
+is_good_front e front len =
+    has_header e front && nat_le header_len (totlen_of e front) && nat_le (totlen_of e front) len
 
 -- what that header says
 abbrev pub header_by_front : Endian → List ℕ → ℕ → Option Header

@@ -18,7 +18,8 @@ use Rattle.jnode.specs.declared.node.Seen.TheVariants.{Marker, Padding, Damaged}
 
 -- a number that fits n bytes is what is in its n bytes
 abbrev pub NumberReadsBack : Type 0
-NumberReadsBack = (e : Endian) (n x : ℕ) (rest : List ℕ) → x < 256 ^ n → number_in e n (bytes_in e n x ++ rest) ≡ x
+NumberReadsBack = (e : Endian) (n x : ℕ) (rest : List ℕ) → x < 256 ^ n
+    → number_in e n (bytes_in e n x ++ rest) ≡ x
 
 -- and the bytes at a place are those of the number that is there
 pub record NumberIsSpelled : Type 0 where
@@ -55,7 +56,8 @@ SeenIsRead = (e : Endian) (rest : List ℕ) (node : NodeRef) → IsGood e rest �
 
 -- What is seen of bytes fits its widths, also in a tile that a block's end cut short.
 abbrev pub SeenFits : Type 0
-SeenFits = (e : Endian) (tile : List ℕ) (node : NodeRef) → AreBytes tile → node_in (seen_of e tile) ≡ Some node → Fits node × HoldsBytes node
+SeenFits = (e : Endian) (tile : List ℕ) (node : NodeRef) → AreBytes tile
+    → node_in (seen_of e tile) ≡ Some node → Fits node × HoldsBytes node
 
 -- whether a node may be written is computed
 abbrev pub WritableIsComputed : Type 0
@@ -63,7 +65,8 @@ WritableIsComputed = (node : NodeRef) → IsTrue (is_writable node) ↔ IsWritab
 
 -- The written form, up to a multiple of 4, reads as that node.
 abbrev pub WrittenReads : Type 0
-WrittenReads = (e : Endian) (node : NodeRef) → Fits node → IsTrue (is_writable node) → Reads e (filled (canonical e node)) node
+WrittenReads = (e : Endian) (node : NodeRef) → Fits node → IsTrue (is_writable node)
+    → Reads e (filled (canonical e node)) node
 
 -- The tile at the start of these bytes, the rest of a block, is that of the written bytes.
 pub record IsTileOf (e : Endian) (bytes rest : List ℕ) : Type 0 where
@@ -93,7 +96,8 @@ CompressedIsTile = (e : Endian) (node : CompressedNode) (rest : List ℕ)
 
 -- What is read of such a node fits its widths.
 abbrev pub CompressedFits : Type 0
-CompressedFits = (e : Endian) (tile : List ℕ) → AreBytes tile → FitsCompressed (compressed_of e tile)
+CompressedFits =
+    (e : Endian) (tile : List ℕ) → AreBytes tile → FitsCompressed (compressed_of e tile)
 
 -- The clean marker is a tile of its own too, and it is seen as that.
 pub record IsMarkerTile (e : Endian) (rest : List ℕ) : Type 0 where
@@ -110,7 +114,8 @@ pub record IsPaddingTile (e : Endian) (n : ℕ) (rest : List ℕ) : Type 0 where
   pub seen : seen_of e (filled (padding_node e n)) ≡ Padding
 
 abbrev pub PaddingIsTile : Type 0
-PaddingIsTile = (e : Endian) (n : ℕ) (rest : List ℕ) → header_len ≤ n → IsWord n → IsPaddingTile e n (filled (padding_node e n) ++ rest)
+PaddingIsTile = (e : Endian) (n : ℕ) (rest : List ℕ) → header_len ≤ n → IsWord n
+    → IsPaddingTile e n (filled (padding_node e n) ++ rest)
 
 -- ---- cuts
 
@@ -118,16 +123,21 @@ PaddingIsTile = (e : Endian) (n : ℕ) (rest : List ℕ) → header_len ≤ n �
 abbrev pub IsPlain : ℕ → Type 0
 IsPlain totlen = (totlen < 65536) × (totlen ≢ 6533)
 
--- Where a cut inside the header changes it, and the checks show that, there is no good header at any word from there on:
--- at the second word the length spells no magic, and at the third the length that would follow is 0xFFFFFFFF.
+-- Where a cut inside the header changes it, and the checks show that, there is no good header at
+-- any word from there on: at the second word the length spells no magic, and at the third the
+-- length that would follow is 0xFFFFFFFF.
 abbrev pub TornHeaderIsNone : Type 0
-TornHeaderIsNone = (e : Endian) (node : NodeRef) (j n word : ℕ) → IsPlain (length (canonical e node)) → j < header_len → j + n ≤ totlen_most
-    → take header_len (torn (canonical e node) j) ≢ take header_len (canonical e node) → is_weak e (canonical e node) j ≡ false
+TornHeaderIsNone = (e : Endian) (node : NodeRef) (j n word : ℕ)
+    → IsPlain (length (canonical e node)) → j < header_len → j + n ≤ totlen_most
+    → take header_len (torn (canonical e node) j) ≢ take header_len (canonical e node)
+    → is_weak e (canonical e node) j ≡ false
     → is_good e (drop (4 * word) (take j (canonical e node) ++ erased n)) ≡ false
 
--- Where a cut changes a node and not its header, and the checks show that, the node is seen as damaged.
+-- Where a cut changes a node and not its header, and the checks show that, the node is seen as
+-- damaged.
 abbrev pub TornNodeIsDamaged : Type 0
-TornNodeIsDamaged = (e : Endian) (node : NodeRef) (j : ℕ) → take header_len (torn (canonical e node) j) ≡ take header_len (canonical e node)
+TornNodeIsDamaged = (e : Endian) (node : NodeRef) (j : ℕ)
+    → take header_len (torn (canonical e node) j) ≡ take header_len (canonical e node)
     → torn (canonical e node) j ≢ canonical e node → is_weak e (canonical e node) j ≡ false
     → (which : Damage) × (seen_of e (filled (torn (canonical e node) j)) ≡ Damaged which)
 
@@ -137,16 +147,21 @@ pub record IsTornTile (e : Endian) (bytes : List ℕ) (j : ℕ) (rest : List ℕ
   pub totlen : totlen_of e rest ≡ length bytes
   pub tile : tile_of e rest ≡ filled (torn bytes j)
 
--- Where a cut keeps the header, the node is a tile of its own: what was written of it, and erased bytes.
+-- Where a cut keeps the header, the node is a tile of its own: what was written of it, and erased
+-- bytes.
 abbrev pub TornIsTile : Type 0
-TornIsTile = (e : Endian) (node : NodeRef) (j n : ℕ) → IsWord (length (canonical e node)) → j ≤ length (canonical e node)
-    → pad4_of (length (canonical e node)) ≤ j + n → take header_len (torn (canonical e node) j) ≡ take header_len (canonical e node)
+TornIsTile = (e : Endian) (node : NodeRef) (j n : ℕ) → IsWord (length (canonical e node))
+    → j ≤ length (canonical e node)
+    → pad4_of (length (canonical e node)) ≤ j + n
+    → take header_len (torn (canonical e node) j) ≡ take header_len (canonical e node)
     → IsTornTile e (canonical e node) j (take j (canonical e node) ++ erased n)
 
 -- a cut after the header keeps it
 abbrev pub CutBehindKeepsHeader : Type 0
-CutBehindKeepsHeader = (bytes : List ℕ) (j : ℕ) → header_len ≤ j → header_len ≤ length bytes → take header_len (torn bytes j) ≡ take header_len bytes
+CutBehindKeepsHeader = (bytes : List ℕ) (j : ℕ) → header_len ≤ j → header_len ≤ length bytes
+    → take header_len (torn bytes j) ≡ take header_len bytes
 
 -- Nor is there a good header at any word of a clean marker that was cut.
 abbrev pub TornMarkerIsNone : Type 0
-TornMarkerIsNone = (e : Endian) (j n word : ℕ) → j < header_len → is_good e (drop (4 * word) (take j (clean_marker e) ++ erased n)) ≡ false
+TornMarkerIsNone = (e : Endian) (j n word : ℕ) → j < header_len
+    → is_good e (drop (4 * word) (take j (clean_marker e) ++ erased n)) ≡ false

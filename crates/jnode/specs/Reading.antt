@@ -1,4 +1,5 @@
--- What a node's bytes say (Linux, include/uapi/linux/jffs2.h: `struct jffs2_raw_dirent`, `struct jffs2_raw_inode`).
+-- What a node's bytes say (Linux, include/uapi/linux/jffs2.h: `struct jffs2_raw_dirent`, `struct
+-- jffs2_raw_inode`).
 use Rattle.std.specs.Prelude.{◌≡◌, ◌≢◌, ◌≤◌, ◌==◌, ◌&&◌, ◌||◌, ◌+◌, ℕ, Bool, not, nat_le, nat_lt, if◌then◌else◌, IsTrue, Option, Some, None, List, length, take, drop, slice_index, bit_and}
 use Rattle.flashbase.specs.Crc.{crc_of}
 use Rattle.flashbase.specs.Bytes.{pad4_of}
@@ -121,7 +122,8 @@ compr_of tile = slice_index tile 56
 abbrev pub data_of : Endian → List ℕ → List ℕ
 data_of e tile = take (csize_of e tile) (drop inode_len tile)
 
--- the fields of an inode node, each at its place, with what it gives; usercompr at 57 and flags at 58 are free
+-- the fields of an inode node, each at its place, with what it gives; usercompr at 57 and flags at
+-- 58 are free
 abbrev pub inode_of : Endian → List ℕ → Fill → InodeNode
 inode_of e tile fill = record {
   ino = number_at e 4 12 tile;
@@ -149,10 +151,12 @@ pub record IsSoundInode (e : Endian) (tile : List ℕ) : Type 0 where
   pub node_crc : number_at e 4 64 tile ≡ crc_of (take 60 tile)
   pub data_crc : csize_of e tile ≢ 0 → number_at e 4 60 tile ≡ crc_of (data_of e tile)
 
--- Compression 0 gives the data, which are as long as the range, and 1 gives zeros, whatever data it has.
+-- Compression 0 gives the data, which are as long as the range, and 1 gives zeros, whatever data it
+-- has.
 abbrev pub ReadsFill : Endian → List ℕ → Fill → Type 0
 ReadsFill e tile Zero = compr_of tile ≡ 1
-ReadsFill e tile (Data bytes) = (compr_of tile ≡ 0) × (csize_of e tile ≡ number_at e 4 52 tile) × (bytes ≡ data_of e tile)
+ReadsFill e tile (Data bytes) =
+    (compr_of tile ≡ 0) × (csize_of e tile ≡ number_at e 4 52 tile) × (bytes ≡ data_of e tile)
 
 -- The tile reads as this inode node.
 pub record ReadsInode (e : Endian) (tile : List ℕ) (inode : InodeNode) : Type 0 where
@@ -186,7 +190,8 @@ unfoldable pub is_size_right : Endian → List ℕ → ℕ → Bool
 is_size_right e tile size = pad4_of size == pad4_of (totlen_of e tile)
 
 unfoldable pub is_entry_in_range : Endian → List ℕ → Bool
-is_entry_in_range e tile = nat_le 1 (nsize_of tile) && nat_le (nsize_of tile) 254 && nat_lt 0 (number_at e 4 12 tile)
+is_entry_in_range e tile =
+    nat_le 1 (nsize_of tile) && nat_le (nsize_of tile) 254 && nat_lt 0 (number_at e 4 12 tile)
 
 -- What a tile of an entry node's type is seen as: the check that fails first is named.
 unfoldable pub entry_seen : Endian → List ℕ → Seen
@@ -205,7 +210,8 @@ is_inode_long e tile = nat_le inode_len (totlen_of e tile)
 
 unfoldable pub is_inode_in_range : Endian → List ℕ → Bool
 is_inode_in_range e tile =
-    nat_lt 0 (number_at e 4 12 tile) && nat_le (number_at e 4 44 tile + number_at e 4 52 tile) 0xFFFF_FFFF
+    nat_lt 0 (number_at e 4 12 tile)
+    && nat_le (number_at e 4 44 tile + number_at e 4 52 tile) 0xFFFF_FFFF
     && (not (compr_of tile == 0) || (csize_of e tile == number_at e 4 52 tile))
 
 unfoldable pub is_data_crc_right : Endian → List ℕ → Bool

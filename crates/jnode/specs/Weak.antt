@@ -23,20 +23,23 @@ is_sound _ = false
 
 -- a header of right magic and hdr_crc, of a node that is not too long
 unfoldable pub has_bounded_header : Endian → List ℕ → Bool
-has_bounded_header e bytes = has_header e bytes && nat_le header_len (totlen_of e bytes) && nat_le (totlen_of e bytes) totlen_most
+has_bounded_header e bytes = has_header e bytes && nat_le header_len (totlen_of e bytes)
+    && nat_le (totlen_of e bytes) totlen_most
 
--- The checks do not show the cut after j bytes: what is left differs from the node, and either its header differs
--- and yet holds, or its header is the node's and all its checks hold.
+-- The checks do not show the cut after j bytes: what is left differs from the node, and either its
+-- header differs and yet holds, or its header is the node's and all its checks hold.
 unfoldable pub is_weak : Endian → List ℕ → ℕ → Bool
 is_weak e bytes j =
     let left = torn bytes j in
     not (bytes_eq left bytes)
-    && (if bytes_eq (take header_len left) (take header_len bytes) then is_sound (seen_of e (filled left)) else has_bounded_header e left)
+    && (if bytes_eq (take header_len left) (take header_len bytes) then is_sound
+    (seen_of e (filled left)) else has_bounded_header e left)
 
 -- the least cut that goes unseen, if there is one
 abbrev pub IsLeastWeak : Endian → List ℕ → Option ℕ → Type 0
 IsLeastWeak e bytes None = (j : ℕ) → is_weak e bytes j ≡ false
-IsLeastWeak e bytes (Some j) = IsTrue (is_weak e bytes j) × ((i : ℕ) → IsTrue (is_weak e bytes i) → j ≤ i)
+IsLeastWeak e bytes (Some j) =
+    IsTrue (is_weak e bytes j) × ((i : ℕ) → IsTrue (is_weak e bytes i) → j ≤ i)
 
 -- These bytes are the written form of this node, which is one that is not refused.
 pub record IsWrittenAs (e : Endian) (bytes : List ℕ) (node : NodeRef) : Type 0 where
@@ -61,4 +64,5 @@ is_hidden bytes j = not (bytes_eq (torn bytes j) bytes) && (crc_of bytes == crc_
 -- the least such cut, if there is one
 abbrev pub IsLeastHidden : List ℕ → Option ℕ → Type 0
 IsLeastHidden bytes None = (j : ℕ) → is_hidden bytes j ≡ false
-IsLeastHidden bytes (Some j) = IsTrue (is_hidden bytes j) × ((i : ℕ) → IsTrue (is_hidden bytes i) → j ≤ i)
+IsLeastHidden bytes (Some j) =
+    IsTrue (is_hidden bytes j) × ((i : ℕ) → IsTrue (is_hidden bytes i) → j ≤ i)

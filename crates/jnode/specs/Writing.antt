@@ -1,4 +1,5 @@
--- The written form of nodes (Linux, include/uapi/linux/jffs2.h: `struct jffs2_raw_dirent`, `struct jffs2_raw_inode`).
+-- The written form of nodes (Linux, include/uapi/linux/jffs2.h: `struct jffs2_raw_dirent`, `struct
+-- jffs2_raw_inode`).
 use Rattle.std.specs.Prelude.{◌≡◌, ◌≤◌, ◌<◌, ◌+◌, ◌-◌, ◌==◌, ◌&&◌, ℕ, Bool, true, nat_le, List, [], ◌∷◌, ◌++◌, length}
 use Rattle.flashbase.specs.Crc.{crc_of}
 use Rattle.flashbase.specs.Bytes.{pad4_of, erased}
@@ -22,7 +23,8 @@ sealed e bytes = bytes ++ bytes_in e 4 (crc_of bytes)
 
 -- A header: 8 bytes and their checksum.
 unfoldable pub header_bytes : Endian → ℕ → ℕ → List ℕ
-header_bytes e nodetype totlen = sealed e (bytes_in e 2 magic ++ bytes_in e 2 nodetype ++ bytes_in e 4 totlen)
+header_bytes e nodetype totlen =
+    sealed e (bytes_in e 2 magic ++ bytes_in e 2 nodetype ++ bytes_in e 4 totlen)
 
 -- the clean marker of an erased block
 abbrev pub clean_marker : Endian → List ℕ
@@ -36,12 +38,14 @@ padding_node e n = header_bytes e padding_type n ++ erased (n - header_len)
 unfoldable pub entry_front : Endian → Dirent → List ℕ
 entry_front e entry =
     header_bytes e dirent_type (entry_len + length entry.name)
-    ++ bytes_in e 4 entry.pino ++ bytes_in e 4 entry.version ++ bytes_in e 4 entry.ino ++ bytes_in e 4 entry.mctime
+    ++ bytes_in e 4 entry.pino ++ bytes_in e 4 entry.version ++ bytes_in e 4 entry.ino
+    ++ bytes_in e 4 entry.mctime
     ++ length entry.name ∷ entry.kind ∷ 0 ∷ 0 ∷ []
 
 -- An entry node: those bytes and their checksum, the name's checksum, and the name.
 unfoldable pub canonical_entry : Endian → Dirent → List ℕ
-canonical_entry e entry = sealed e (entry_front e entry) ++ bytes_in e 4 (crc_of entry.name) ++ entry.name
+canonical_entry e entry =
+    sealed e (entry_front e entry) ++ bytes_in e 4 (crc_of entry.name) ++ entry.name
 
 -- the bytes that an inode node holds, and their compression
 abbrev pub stored_bytes : Fill → List ℕ
@@ -55,26 +59,32 @@ stored_compr (Data bytes) = 0
 -- whose version an inode node is, and its attributes
 unfoldable pub object_bytes : Endian → InodeNode → List ℕ
 object_bytes e inode =
-    bytes_in e 4 inode.ino ++ bytes_in e 4 inode.version ++ bytes_in e 4 inode.mode ++ bytes_in e 2 inode.uid ++ bytes_in e 2 inode.gid
+    bytes_in e 4 inode.ino ++ bytes_in e 4 inode.version ++ bytes_in e 4 inode.mode
+    ++ bytes_in e 2 inode.uid ++ bytes_in e 2 inode.gid
 
 -- its size and times
 unfoldable pub time_bytes : Endian → InodeNode → List ℕ
-time_bytes e inode = bytes_in e 4 inode.isize ++ bytes_in e 4 inode.atime ++ bytes_in e 4 inode.mtime ++ bytes_in e 4 inode.ctime
+time_bytes e inode = bytes_in e 4 inode.isize ++ bytes_in e 4 inode.atime
+    ++ bytes_in e 4 inode.mtime ++ bytes_in e 4 inode.ctime
 
 -- its range, and how it holds the bytes of it; usercompr and flags are 0
 unfoldable pub range_bytes : Endian → InodeNode → List ℕ
 range_bytes e inode =
-    bytes_in e 4 inode.offset ++ bytes_in e 4 (length (stored_bytes inode.fill)) ++ bytes_in e 4 inode.dsize
+    bytes_in e 4 inode.offset ++ bytes_in e 4 (length (stored_bytes inode.fill))
+    ++ bytes_in e 4 inode.dsize
     ++ stored_compr inode.fill ∷ 0 ∷ 0 ∷ 0 ∷ []
 
 -- the bytes of an inode node that its node_crc covers
 unfoldable pub inode_front : Endian → InodeNode → List ℕ
-inode_front e inode = header_bytes e inode_type (inode_len + length (stored_bytes inode.fill)) ++ object_bytes e inode ++ time_bytes e inode ++ range_bytes e inode
+inode_front e inode = header_bytes e inode_type (inode_len + length (stored_bytes inode.fill))
+    ++ object_bytes e inode ++ time_bytes e inode ++ range_bytes e inode
 
--- An inode node: those bytes, the checksum of the bytes that it holds, its node_crc, and the bytes that it holds.
+-- An inode node: those bytes, the checksum of the bytes that it holds, its node_crc, and the bytes
+-- that it holds.
 unfoldable pub canonical_inode : Endian → InodeNode → List ℕ
 canonical_inode e inode =
-    inode_front e inode ++ bytes_in e 4 (crc_of (stored_bytes inode.fill)) ++ bytes_in e 4 (crc_of (inode_front e inode)) ++ stored_bytes inode.fill
+    inode_front e inode ++ bytes_in e 4 (crc_of (stored_bytes inode.fill))
+    ++ bytes_in e 4 (crc_of (inode_front e inode)) ++ stored_bytes inode.fill
 
 -- The written form of a node.
 abbrev pub canonical : Endian → NodeRef → List ℕ
@@ -152,7 +162,9 @@ holds_range Zero dsize = true
 holds_range (Data bytes) dsize = length bytes == dsize
 
 unfoldable pub is_writable : NodeRef → Bool
-is_writable (Entry entry) = nat_le 1 (length entry.name) && nat_le (length entry.name) 254 && nat_le 1 entry.pino
+is_writable (Entry entry) =
+    nat_le 1 (length entry.name) && nat_le (length entry.name) 254 && nat_le 1 entry.pino
 is_writable (Inode inode) =
     nat_le 1 inode.ino && nat_le (inode.offset + inode.dsize) 0xFFFF_FFFF
-    && holds_range inode.fill inode.dsize && nat_le (inode_len + length (stored_bytes inode.fill)) totlen_most
+    && holds_range inode.fill inode.dsize
+    && nat_le (inode_len + length (stored_bytes inode.fill)) totlen_most

@@ -168,7 +168,8 @@ pub fn write_compressed<E: Order>(
     out: &mut Vec<u8>,
     node: &CompressedNode<'_>,
 ) -> Result<(), WriteFault>
-    ensures ok { OnOk result (out.new.items ≡ out.old.items ++ canonical_compressed E.order node.now) }
+    ensures ok { OnOk result
+        (out.new.items ≡ out.old.items ++ canonical_compressed E.order node.now) }
     ensures capacity { OnOk result (vec_capacity out.old ≤ vec_capacity out.new) }
     ensures writable { OnOk result (IsWritableCompressed node.now) }
     ensures fits { OnOk result (FitsCompressed node.now) }

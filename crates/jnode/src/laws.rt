@@ -160,19 +160,29 @@ pub fn known_nodes()
 /// What headers alone are seen as, by their types.
 #[tactic(auto, unfolding(crate::specs::Order::bytes_in, crate::specs::Writing::header_bytes, crate::specs::Order::number_in, crate::specs::Reading::seen_of, crate::specs::Reading::entry_seen, crate::specs::Reading::inode_seen, crate::specs::Reading::plain_seen, crate::specs::Reading::other_seen, crate::specs::Reading::passed_seen, crate::specs::Reading::is_entry_long, crate::specs::Reading::is_crc_right, crate::specs::Reading::is_size_right, crate::specs::Reading::is_entry_in_range, crate::specs::Reading::is_inode_long, crate::specs::Reading::is_inode_in_range, crate::specs::Reading::is_data_crc_right, flashbase::specs::Crc::crc_after, flashbase::specs::Crc::push_byte, flashbase::specs::Crc::push_bits, flashbase::specs::Crc::push_bit))]
 pub fn known_types()
-    ensures attribute { seen_of Endian.Little (header_bytes Endian.Little 0xE008 12) ≡ Seen.Attribute }
-    ensures attribute_reference { seen_of Endian.Little (header_bytes Endian.Little 0xE009 12) ≡ Seen.Attribute }
-    ensures incompatible { seen_of Endian.Little (header_bytes Endian.Little 0xE0F7 12) ≡ Seen.Incompatible 0xE0F7 }
-    ensures read_only { seen_of Endian.Little (header_bytes Endian.Little 0xA0F7 12) ≡ Seen.ReadOnly 0xA0F7 }
-    ensures copied { seen_of Endian.Little (header_bytes Endian.Little 0x60F7 12) ≡ Seen.Skippable 0x60F7 }
-    ensures deleted { seen_of Endian.Little (header_bytes Endian.Little 0x20F7 12) ≡ Seen.Skippable 0x20F7 }
-    ensures summary { seen_of Endian.Little (header_bytes Endian.Little 0x2006 12) ≡ Seen.Skippable 0x2006 }
-    ensures obsolete { seen_of Endian.Little (header_bytes Endian.Little 0xC0F7 12) ≡ Seen.Obsolete }
+    ensures attribute { seen_of Endian.Little (header_bytes Endian.Little 0xE008 12)
+        ≡ Seen.Attribute }
+    ensures attribute_reference { seen_of Endian.Little (header_bytes Endian.Little 0xE009 12)
+        ≡ Seen.Attribute }
+    ensures incompatible { seen_of Endian.Little (header_bytes Endian.Little 0xE0F7 12)
+        ≡ Seen.Incompatible 0xE0F7 }
+    ensures read_only { seen_of Endian.Little (header_bytes Endian.Little 0xA0F7 12)
+        ≡ Seen.ReadOnly 0xA0F7 }
+    ensures copied { seen_of Endian.Little (header_bytes Endian.Little 0x60F7 12)
+        ≡ Seen.Skippable 0x60F7 }
+    ensures deleted { seen_of Endian.Little (header_bytes Endian.Little 0x20F7 12)
+        ≡ Seen.Skippable 0x20F7 }
+    ensures summary { seen_of Endian.Little (header_bytes Endian.Little 0x2006 12)
+        ≡ Seen.Skippable 0x2006 }
+    ensures obsolete { seen_of Endian.Little (header_bytes Endian.Little 0xC0F7 12)
+        ≡ Seen.Obsolete }
     ensures marker { seen_of Endian.Little (header_bytes Endian.Little 0x2003 12) ≡ Seen.Marker }
     ensures padding { seen_of Endian.Little (header_bytes Endian.Little 0x2004 12) ≡ Seen.Padding }
     ensures padding_of_16 { seen_of Endian.Little (padding_node Endian.Little 16) ≡ Seen.Padding }
-    ensures entry { seen_of Endian.Little (header_bytes Endian.Little 0xE001 12) ≡ Seen.Damaged Damage.Length }
-    ensures inode { seen_of Endian.Little (header_bytes Endian.Little 0xE002 12) ≡ Seen.Damaged Damage.Length }
+    ensures entry { seen_of Endian.Little (header_bytes Endian.Little 0xE001 12)
+        ≡ Seen.Damaged Damage.Length }
+    ensures inode { seen_of Endian.Little (header_bytes Endian.Little 0xE002 12)
+        ≡ Seen.Damaged Damage.Length }
 {}
 
 /// Data that fail their check hide the node in them.

@@ -259,9 +259,12 @@ pub fn read_part<'a, E: Order>(rest: &Part<'a>) -> Seen<'a>
     requires good { IsGood E.order rest.now }
     requires words { length rest.now % 4 ≡ 0 }
     // An entry node is answered exactly where the tile reads as that node, and so is an inode node.
-    ensures entry { (node : Dirent) → (result ≡ Seen.Entry node) ↔ ReadsEntry E.order (tile_of E.order rest.now) node }
-    ensures inode { (node : InodeNode) → (result ≡ Seen.Inode node) ↔ ReadsInode E.order (tile_of E.order rest.now) node }
-    ensures compressed { (compr : ℕ) → (result ≡ Seen.Compressed compr) ↔ ReadsCompressed E.order (tile_of E.order rest.now) compr }
+    ensures entry { (node : Dirent) → (result ≡ Seen.Entry node)
+        ↔ ReadsEntry E.order (tile_of E.order rest.now) node }
+    ensures inode { (node : InodeNode) → (result ≡ Seen.Inode node)
+        ↔ ReadsInode E.order (tile_of E.order rest.now) node }
+    ensures compressed { (compr : ℕ) → (result ≡ Seen.Compressed compr)
+        ↔ ReadsCompressed E.order (tile_of E.order rest.now) compr }
     // Which answer it is in any case.
     ensures exact { result ≡ seen_of E.order (tile_of E.order rest.now) }
 {
@@ -273,9 +276,12 @@ pub fn read_node<E: Order>(bytes: &[u8]) -> Seen<'_>
     requires good { IsGood E.order bytes.now }
     requires words { length bytes.now % 4 ≡ 0 }
     // An entry node is answered exactly where the tile reads as that node, and so is an inode node.
-    ensures entry { (node : Dirent) → (result ≡ Seen.Entry node) ↔ ReadsEntry E.order (tile_of E.order bytes.now) node }
-    ensures inode { (node : InodeNode) → (result ≡ Seen.Inode node) ↔ ReadsInode E.order (tile_of E.order bytes.now) node }
-    ensures compressed { (compr : ℕ) → (result ≡ Seen.Compressed compr) ↔ ReadsCompressed E.order (tile_of E.order bytes.now) compr }
+    ensures entry { (node : Dirent) → (result ≡ Seen.Entry node)
+        ↔ ReadsEntry E.order (tile_of E.order bytes.now) node }
+    ensures inode { (node : InodeNode) → (result ≡ Seen.Inode node)
+        ↔ ReadsInode E.order (tile_of E.order bytes.now) node }
+    ensures compressed { (compr : ℕ) → (result ≡ Seen.Compressed compr)
+        ↔ ReadsCompressed E.order (tile_of E.order bytes.now) compr }
     // Which answer it is in any case.
     ensures exact { result ≡ seen_of E.order (tile_of E.order bytes.now) }
 {

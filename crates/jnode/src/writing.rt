@@ -61,7 +61,8 @@ pub(crate) fn put_u32<E: Order>(out: &mut Vec<u8>, n: u32)
 fn put_crc<E: Order>(out: &mut Vec<u8>, start: usize)
     requires room { vec_len out.old + 4 ≤ vec_capacity out.old }
     requires within { start ≤ vec_len out.old }
-    ensures items { out.new.items ≡ out.old.items ++ bytes_in E.order 4 (crc_of (drop start out.old.items)) }
+    ensures items { out.new.items
+        ≡ out.old.items ++ bytes_in E.order 4 (crc_of (drop start out.old.items)) }
     ensures len { vec_len out.new ≡ vec_len out.old + 4 }
     ensures capacity { vec_capacity out.old ≤ vec_capacity out.new }
 {
@@ -127,7 +128,8 @@ pub fn write_entry<E: Order>(out: &mut Vec<u8>, node: &Dirent<'_>) -> Result<(),
     ensures name { (result ≡ Err WriteFault.Name) ↔ (¬ HasNameLength node.now) }
     ensures data { (result ≡ Err WriteFault.Data) ↔ (HasNameLength node.now × (node.now.pino ≡ 0)) }
     // Memory was wanting only where the room was.
-    ensures memory { result ≡ Err WriteFault.OutOfMemory → vec_capacity out.old < vec_len out.old + (entry_len + length node.now.name) }
+    ensures memory { result ≡ Err WriteFault.OutOfMemory
+        → vec_capacity out.old < vec_len out.old + (entry_len + length node.now.name) }
 {
     let name = &node.name;
     let size = name.len();
@@ -266,7 +268,8 @@ pub(crate) fn crc_since(out: &Vec<u8>, start: usize) -> u32
 
 #[tactic(auto, unfolding(crate::specs::Writing::canonical_inode))]
 fn put_inode<E: Order>(out: &mut Vec<u8>, node: &InodeNode<'_>)
-    requires room { vec_len out.old + (inode_len + length (stored_bytes node.now.fill)) ≤ vec_capacity out.old }
+    requires room { vec_len out.old + (inode_len + length (stored_bytes node.now.fill))
+        ≤ vec_capacity out.old }
     requires long { inode_len + length (stored_bytes node.now.fill) ≤ totlen_most }
     ensures items { out.new.items ≡ out.old.items ++ canonical_inode E.order node.now }
     ensures capacity { vec_capacity out.old ≤ vec_capacity out.new }
@@ -310,7 +313,9 @@ pub fn write_inode<E: Order>(out: &mut Vec<u8>, node: &InodeNode<'_>) -> Result<
     ensures name { result ≢ Err WriteFault.Name }
     ensures data { (result ≡ Err WriteFault.Data) ↔ (¬ IsWritableInode node.now) }
     // Memory was wanting only where the room was.
-    ensures memory { result ≡ Err WriteFault.OutOfMemory → vec_capacity out.old < vec_len out.old + (inode_len + length (stored_bytes node.now.fill)) }
+    ensures memory { result ≡ Err WriteFault.OutOfMemory
+        → vec_capacity out.old
+        < vec_len out.old + (inode_len + length (stored_bytes node.now.fill)) }
 {
     if !is_writable_inode(node) {
         return Err(WriteFault::Data);
@@ -326,7 +331,8 @@ pub fn write_marker<E: Order>(out: &mut Vec<u8>) -> Result<(), WriteFault>
     ensures ok { OnOk result (out.new.items ≡ out.old.items ++ clean_marker E.order) }
     ensures capacity { OnOk result (vec_capacity out.old ≤ vec_capacity out.new) }
     ensures err { OnErr result (out.new.items ≡ out.old.items) }
-    ensures memory { OnErr result ((result ≡ Err WriteFault.OutOfMemory) × (vec_capacity out.old < vec_len out.old + header_len)) }
+    ensures memory { OnErr result ((result ≡ Err WriteFault.OutOfMemory)
+        × (vec_capacity out.old < vec_len out.old + header_len)) }
 {
     out.reserve(header::LEN)
         .map_err(|_| WriteFault::OutOfMemory)?;
@@ -354,9 +360,11 @@ pub fn write_padding<E: Order>(out: &mut Vec<u8>, totlen: u32) -> Result<(), Wri
 
     // Which refusal it is.
     ensures name { result ≢ Err WriteFault.Name }
-    ensures data { (result ≡ Err WriteFault.Data) ↔ ((totlen < header_len) ⊎ (totlen_most < totlen)) }
+    ensures data { (result ≡ Err WriteFault.Data)
+        ↔ ((totlen < header_len) ⊎ (totlen_most < totlen)) }
     // Memory was wanting only where the room was.
-    ensures memory { result ≡ Err WriteFault.OutOfMemory → vec_capacity out.old < vec_len out.old + totlen }
+    ensures memory { result ≡ Err WriteFault.OutOfMemory
+        → vec_capacity out.old < vec_len out.old + totlen }
 {
     let size = totlen as usize;
     if size < header::LEN || size > TOTLEN_MOST {

@@ -18,7 +18,8 @@ compressed_note =
 
 -- the line after that of a fault, if there is one
 unfoldable pub advice_of : ProgramFault → List ℕ
-advice_of (program.Mount (mount.Compressed addr compr)) = if is_read_method compr then compressed_note else []
+advice_of (program.Mount (mount.Compressed addr compr)) =
+    if is_read_method compr then compressed_note else []
 advice_of _ = []
 
 -- all that standard error is told of a fault

@@ -31,7 +31,11 @@ IsContentFault content _ = ⊥
 
 -- A call puts these bytes. Where the sink fails, a beginning of them went out; where there are
 -- none, nothing did.
-abbrev pub PutsContent : {T : Type 0} → Result (List ℕ) ProgramFault → Option (List ℕ) → Option (List ℕ) → ℕ → ℕ → Result T ProgramFault → Type 0
-PutsContent content old new before now (Ok _) = (bytes : List ℕ) × (content ≡ Ok bytes) × Appends old new bytes × (now ≡ before)
-PutsContent content old new before now (Err Output) = (bytes : List ℕ) × (content ≡ Ok bytes) × PutsPart old new bytes × (now ≡ next_count before)
-PutsContent content old new before now (Err fault) = IsContentFault content fault × (new ≡ old) × (now ≡ before)
+abbrev pub PutsContent : {T : Type 0} → Result (List ℕ) ProgramFault → Option (List ℕ)
+    → Option (List ℕ) → ℕ → ℕ → Result T ProgramFault → Type 0
+PutsContent content old new before now (Ok _) =
+    (bytes : List ℕ) × (content ≡ Ok bytes) × Appends old new bytes × (now ≡ before)
+PutsContent content old new before now (Err Output) =
+    (bytes : List ℕ) × (content ≡ Ok bytes) × PutsPart old new bytes × (now ≡ next_count before)
+PutsContent content old new before now (Err fault) =
+    IsContentFault content fault × (new ≡ old) × (now ≡ before)

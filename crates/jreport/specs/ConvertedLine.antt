@@ -3,4 +3,5 @@ use Rattle.std.specs.Prelude.{ℕ, List, [], ◌∷◌, ◌++◌, codes, decimal
 
 -- so many of its nodes were compressed, and so many nodes and bytes went out
 abbrev pub decompressed_line : ℕ → ℕ → ℕ → List ℕ
-decompressed_line changed nodes bytes = codes "decompressed " ++ decimal changed ++ codes " nodes " ++ decimal nodes ++ codes " bytes " ++ decimal bytes ++ 10 ∷ []
+decompressed_line changed nodes bytes = codes "decompressed " ++ decimal changed ++ codes " nodes "
+    ++ decimal nodes ++ codes " bytes " ++ decimal bytes ++ 10 ∷ []

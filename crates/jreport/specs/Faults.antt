@@ -35,15 +35,19 @@ at_text addr = codes " at " ++ hex 8 addr
 unfoldable pub scan_fault_text : ScanFault → List ℕ
 scan_fault_text scan.BlockSize = codes "C1 BlockSize"
 scan_fault_text scan.TooLarge = codes "C2 TooLarge"
-scan_fault_text (scan.Incompatible addr nodetype) = codes "C3 Incompatible" ++ at_text addr ++ codes " type " ++ hex 4 nodetype
-scan_fault_text (scan.Compressed addr compr) = codes "C4 Compressed" ++ at_text addr ++ codes " compr " ++ decimal compr
+scan_fault_text (scan.Incompatible addr nodetype) =
+    codes "C3 Incompatible" ++ at_text addr ++ codes " type " ++ hex 4 nodetype
+scan_fault_text (scan.Compressed addr compr) =
+    codes "C4 Compressed" ++ at_text addr ++ codes " compr " ++ decimal compr
 scan_fault_text scan.OutOfMemory = codes "C5 OutOfMemory"
 
 unfoldable pub mount_text : MountFault → List ℕ
 mount_text mount.BlockSize = codes "M1 BlockSize"
 mount_text mount.TooLarge = codes "M2 TooLarge"
-mount_text (mount.Incompatible addr nodetype) = codes "M3 Incompatible" ++ at_text addr ++ codes " type " ++ hex 4 nodetype
-mount_text (mount.Compressed addr compr) = codes "M4 Compressed" ++ at_text addr ++ codes " compr " ++ decimal compr
+mount_text (mount.Incompatible addr nodetype) =
+    codes "M3 Incompatible" ++ at_text addr ++ codes " type " ++ hex 4 nodetype
+mount_text (mount.Compressed addr compr) =
+    codes "M4 Compressed" ++ at_text addr ++ codes " compr " ++ decimal compr
 mount_text (mount.Clash addr) = codes "M5 Clash" ++ at_text addr
 mount_text mount.RootKind = codes "M6 RootKind"
 mount_text mount.OutOfMemory = codes "M7 OutOfMemory"
@@ -72,7 +76,8 @@ op_text op.OutOfMemory = codes "O13 OutOfMemory"
 -- why a session refuses or stopped
 unfoldable pub session_text : SessionFault → List ℕ
 session_text (session.Refused fault) = codes "S1 Refused " ++ op_text fault
-session_text (session.Full needed free) = codes "S2 Full needed " ++ decimal needed ++ codes " free " ++ decimal free
+session_text (session.Full needed free) =
+    codes "S2 Full needed " ++ decimal needed ++ codes " free " ++ decimal free
 session_text session.ReadOnly = codes "S3 ReadOnly"
 session_text session.Sink = codes "S4 Sink"
 session_text session.OutOfMemory = codes "S5 OutOfMemory"

@@ -12,7 +12,10 @@ use Rattle.jreport.specs.declared.findings.Found.{Found}
 abbrev pub found_among : List Extent → Found
 found_among ss =
     let found = filter_map finding_of ss in
-    record { noted = count_by (λ f. is_noted f.kind) found; attributes = count_by (λ f. is_attribute_node f.kind) found }
+    record {
+      noted = count_by (λ f. is_noted f.kind) found;
+      attributes = count_by (λ f. is_attribute_node f.kind) found;
+    }
 
 -- those of an image
 abbrev pub found_in : Endian → ℕ → List ℕ → Found

@@ -1,4 +1,5 @@
--- What a reader of files is told of an image that mounted, and yet has bytes where a node may have been.
+-- What a reader of files is told of an image that mounted, and yet has bytes where a node may have
+-- been.
 use Rattle.std.specs.Prelude.{ℕ, ◌==◌, Bool, true, false, if◌then◌else◌, List, ◌++◌, codes, count_by, decimal}
 use Rattle.jmount.specs.Mount.{Mount}
 use Rattle.jscan.specs.declared.finding.FindingKind.{FindingKind}
@@ -19,8 +20,10 @@ noted m = count_by (λ f. is_noted f.kind) m.findings
 -- what is said of n of them
 unfoldable pub findings_text : ℕ → List ℕ
 findings_text n = if n == 1
-    then codes " finding, see check --scan; a wrong --block or --endian shows as findings too, see info\n"
-    else codes " findings, see check --scan; a wrong --block or --endian shows as findings too, see info\n"
+    then codes
+    " finding, see check --scan; a wrong --block or --endian shows as findings too, see info\n"
+    else codes
+    " findings, see check --scan; a wrong --block or --endian shows as findings too, see info\n"
 
 -- the line on standard error that tells of n of them
 unfoldable pub note_line_of : ℕ → List ℕ

@@ -18,4 +18,5 @@ IsWordFault bytes _ = ⊥
 
 -- A name as it is printed is a word that stands for the name.
 abbrev pub EscapedIsReadBack : Type 0
-EscapedIsReadBack = (bytes : List ℕ) → All (λ b. b < 256) bytes → path_of (escaped bytes) ≡ Some bytes
+EscapedIsReadBack =
+    (bytes : List ℕ) → All (λ b. b < 256) bytes → path_of (escaped bytes) ≡ Some bytes

@@ -12,22 +12,26 @@ use Rattle.jreport.specs.declared.report_fault.ReportFault.TheVariants.{Scan, Ou
 use Rattle.jscan.specs.Counts.{is_found}
 use Rattle.jreport.specs.Report.{scan_text, count_in_image}
 
--- The fault that fits the image: its block size comes first, and then its length. A report meets no other fault of
--- a scan than out of memory.
+-- The fault that fits the image: its block size comes first, and then its length. A report meets no
+-- other fault of a scan than out of memory.
 abbrev pub IsScanFaultOf : ℕ → List ℕ → ScanFault → Type 0
 IsScanFaultOf size image scan.BlockSize = is_block_size size ≡ false
-IsScanFaultOf size image scan.TooLarge = IsTrue (is_block_size size) × (greatest_image < length image)
+IsScanFaultOf size image scan.TooLarge =
+    IsTrue (is_block_size size) × (greatest_image < length image)
 IsScanFaultOf size image scan.OutOfMemory = IsScannable size image
 IsScanFaultOf size image (scan.Incompatible addr nodetype) = ⊥
 IsScanFaultOf size image (scan.Compressed addr compr) = ⊥
 
--- A report puts its whole text and answers the number of findings; at a fault a beginning of the text went out. An
--- image that can't be scanned is refused before anything is put. No memory is taken.
-abbrev pub PutsReport : Endian → ℕ → List ℕ → Option (List ℕ) → Option (List ℕ) → ℕ → ℕ → Result ℕ ReportFault → Type 0
+-- A report puts its whole text and answers the number of findings; at a fault a beginning of the
+-- text went out. An image that can't be scanned is refused before anything is put. No memory is
+-- taken.
+abbrev pub PutsReport : Endian → ℕ → List ℕ → Option (List ℕ) → Option (List ℕ) → ℕ → ℕ
+    → Result ℕ ReportFault → Type 0
 PutsReport e size image old new before now (Ok findings) =
     IsScannable size image × (findings ≡ count_in_image is_found e size image)
     × Appends old new (scan_text e size image) × (now ≡ before)
 PutsReport e size image old new before now (Err Output) =
     IsScannable size image × PutsPart old new (scan_text e size image) × (now ≡ next_count before)
 PutsReport e size image old new before now (Err (Scan scan.OutOfMemory)) = ⊥
-PutsReport e size image old new before now (Err (Scan fault)) = IsScanFaultOf size image fault × (new ≡ old) × (now ≡ before)
+PutsReport e size image old new before now (Err (Scan fault)) =
+    IsScanFaultOf size image fault × (new ≡ old) × (now ≡ before)

@@ -23,7 +23,8 @@ pub record CountsHaveRoom (c : Counts) (n : ℕ) : Type 0 where
 
 -- how many extents of an image have a kind that passes the test
 abbrev pub count_in_image : (ExtentKind → Bool) → Endian → ℕ → List ℕ → ℕ
-count_in_image test e size image = count_in test (extents_below e size image (block_count size image))
+count_in_image test e size image =
+    count_in test (extents_below e size image (block_count size image))
 
 -- the lines of block k, which has these extents
 abbrev pub lines_of_block : ℕ → List Extent → List ℕ
@@ -42,4 +43,5 @@ totals_line c = total_line c.blocks c.entries c.inodes c.findings
 
 -- what `check --scan` prints
 unfoldable pub scan_text : Endian → ℕ → List ℕ → List ℕ
-scan_text e size image = let blocks = block_count size image in lines_below e size image blocks ++ totals_line (counts_of e size image blocks)
+scan_text e size image = let blocks = block_count size image in lines_below e size image blocks
+    ++ totals_line (counts_of e size image blocks)

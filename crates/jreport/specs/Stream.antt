@@ -12,29 +12,40 @@ use Rattle.jreport.specs.Report.{lines_below, count_in_image, scan_text}
 use Rattle.jreport.specs.declared.faults.ProgramFault.{ProgramFault}
 use Rattle.jreport.specs.declared.faults.ProgramFault.TheVariants as program
 
--- A call puts the report of an image that it reads block by block, and answers the number of findings. Where the image is not
--- read on, the lines of whole blocks have gone out; where the sink fails, a beginning of the report.
-abbrev pub PutsStream : Endian → ℕ → List ℕ → Option (List ℕ) → Option (List ℕ) → ℕ → ℕ → Result ℕ ProgramFault → Type 0
+-- A call puts the report of an image that it reads block by block, and answers the number of
+-- findings. Where the image is not read on, the lines of whole blocks have gone out; where the sink
+-- fails, a beginning of the report.
+abbrev pub PutsStream : Endian → ℕ → List ℕ → Option (List ℕ) → Option (List ℕ) → ℕ → ℕ
+    → Result ℕ ProgramFault → Type 0
 PutsStream e size image old new before now (Ok findings) =
-    (findings ≡ count_in_image is_found e size image) × Appends old new (scan_text e size image) × (now ≡ before)
-PutsStream e size image old new before now (Err program.Output) = PutsPart old new (scan_text e size image) × (now ≡ next_count before)
+    (findings ≡ count_in_image is_found e size image) × Appends old new (scan_text e size image)
+    × (now ≡ before)
+PutsStream e size image old new before now (Err program.Output) =
+    PutsPart old new (scan_text e size image) × (now ≡ next_count before)
 PutsStream e size image old new before now (Err (program.Load load.Device)) =
-    (n : ℕ) × (n ≤ block_count size image) × Appends old new (lines_below e size image n) × (now ≡ before)
+    (n : ℕ) × (n ≤ block_count size image) × Appends old new (lines_below e size image n)
+    × (now ≡ before)
 PutsStream e size image old new before now (Err (program.Load load.TooLarge)) =
-    (n : ℕ) × (n ≤ block_count size image) × Appends old new (lines_below e size image n) × (now ≡ before)
-PutsStream e size image old new before now (Err (program.Load load.OutOfMemory)) = (new ≡ old) × (now ≡ before)
-PutsStream e size image old new before now (Err (program.Scan scan.BlockSize)) = (new ≡ old) × (now ≡ before)
+    (n : ℕ) × (n ≤ block_count size image) × Appends old new (lines_below e size image n)
+    × (now ≡ before)
+PutsStream e size image old new before now (Err (program.Load load.OutOfMemory)) =
+    (new ≡ old) × (now ≡ before)
+PutsStream e size image old new before now (Err (program.Scan scan.BlockSize)) =
+    (new ≡ old) × (now ≡ before)
 PutsStream e size image old new before now (Err _) = ⊥
 
--- The lines of the blocks in front of the one that the source broke off have gone out, and less than a block is gone past them.
-abbrev pub BreaksOff : Endian → ℕ → Option (List ℕ) → Option (List ℕ) → Option (List ℕ) → List ℕ → Type 0
+-- The lines of the blocks in front of the one that the source broke off have gone out, and less
+-- than a block is gone past them.
+abbrev pub BreaksOff : Endian → ℕ → Option (List ℕ) → Option (List ℕ) → Option (List ℕ) → List ℕ
+    → Type 0
 BreaksOff e size old new left image =
-    (n : ℕ) × (n ≤ block_count size image) × StopsWithin (Some (drop (n * size) image)) left size × Appends old new (lines_below e size image n)
+    (n : ℕ) × (n ≤ block_count size image) × StopsWithin (Some (drop (n * size) image)) left size
+    × Appends old new (lines_below e size image n)
 
 -- ---- the source
 
--- A source is handed back with the count of its failures, which rose by one where it is blamed, and else stayed. It is gone
--- exactly where nothing is read of it.
+-- A source is handed back with the count of its failures, which rose by one where it is blamed, and
+-- else stayed. It is gone exactly where nothing is read of it.
 abbrev pub HandsBack : ℕ → Option ℕ → Result ℕ ProgramFault → Type 0
 HandsBack before None (Err (program.Scan scan.BlockSize)) = ⊤
 HandsBack before None (Err (program.Load load.OutOfMemory)) = ⊤
@@ -44,17 +55,23 @@ HandsBack before (Some now) (Err (program.Load load.OutOfMemory)) = ⊥
 HandsBack before (Some now) (Err (program.Load load.Device)) = now ≡ next_count before
 HandsBack before (Some now) _ = now ≡ before
 
--- What follows whole blocks is left of the source, and the lines of all of these but the last have gone out.
-abbrev pub StopsBehind : Endian → ℕ → Option (List ℕ) → Option (List ℕ) → Option (List ℕ) → List ℕ → Type 0
+-- What follows whole blocks is left of the source, and the lines of all of these but the last have
+-- gone out.
+abbrev pub StopsBehind : Endian → ℕ → Option (List ℕ) → Option (List ℕ) → Option (List ℕ) → List ℕ
+    → Type 0
 StopsBehind e size old new left image =
     (n : ℕ) × (n ≤ block_count size image) × (left ≡ Some (drop (n * size) image))
     × (more : List ℕ) × Appends old new (lines_below e size image (n - 1) ++ more)
 
--- How far the source was read, by the answer: to its end; into the block that it broke off; past the greatest image, by a block at
--- most; or, where the sink failed, through the block whose lines it did not take.
-abbrev pub ReadsTo : Endian → ℕ → List ℕ → Option (List ℕ) → Option (List ℕ) → Option (List ℕ) → Result ℕ ProgramFault → Type 0
+-- How far the source was read, by the answer: to its end; into the block that it broke off; past
+-- the greatest image, by a block at most; or, where the sink failed, through the block whose lines
+-- it did not take.
+abbrev pub ReadsTo : Endian → ℕ → List ℕ → Option (List ℕ) → Option (List ℕ) → Option (List ℕ)
+    → Result ℕ ProgramFault → Type 0
 ReadsTo e size image old new left (Ok _) = IsAtEnd left
-ReadsTo e size image old new left (Err (program.Load load.Device)) = BreaksOff e size old new left image
-ReadsTo e size image old new left (Err (program.Load load.TooLarge)) = StopsPast (Some image) left greatest_image (greatest_image + size)
+ReadsTo e size image old new left (Err (program.Load load.Device)) =
+    BreaksOff e size old new left image
+ReadsTo e size image old new left (Err (program.Load load.TooLarge)) =
+    StopsPast (Some image) left greatest_image (greatest_image + size)
 ReadsTo e size image old new left (Err program.Output) = StopsBehind e size old new left image
 ReadsTo e size image old new left (Err _) = ⊤

@@ -28,24 +28,30 @@ kind_letter kind.Other = codes "?"
 
 -- the low 12 bits of a mode, in four octal digits
 abbrev pub permissions : ℕ → List ℕ
-permissions mode = (48 + mode / 512 % 8) ∷ (48 + mode / 64 % 8) ∷ (48 + mode / 8 % 8) ∷ (48 + mode % 8) ∷ []
+permissions mode =
+    (48 + mode / 512 % 8) ∷ (48 + mode / 64 % 8) ∷ (48 + mode / 8 % 8) ∷ (48 + mode % 8) ∷ []
 
 -- what is before the path: kind, permissions, owners, size, time of change, and number
 unfoldable pub object_start : ℕ → Object → List ℕ
-object_start i o = kind_letter o.kind ++ codes " " ++ permissions o.mode ++ codes " " ++ decimal o.uid ++ codes " " ++ decimal o.gid
-    ++ codes " " ++ decimal o.size ++ codes " " ++ decimal o.mtime ++ codes " " ++ decimal i ++ codes " "
+object_start i o = kind_letter o.kind ++ codes " " ++ permissions o.mode ++ codes " "
+    ++ decimal o.uid ++ codes " " ++ decimal o.gid
+    ++ codes " " ++ decimal o.size ++ codes " " ++ decimal o.mtime ++ codes " " ++ decimal i
+    ++ codes " "
 
 -- where a symlink leads
 unfoldable pub target_shown : List ℕ → List ℕ
-target_shown target = if nat_lt 4095 (length target) then codes " -> (long)" else codes " -> " ++ escaped target
+target_shown target =
+    if nat_lt 4095 (length target) then codes " -> (long)" else codes " -> " ++ escaped target
 
--- what follows the path: of a symlink where it leads, and of a directory that was met before that it was
+-- what follows the path: of a symlink where it leads, and of a directory that was met before that
+-- it was
 abbrev pub tail_shown : List ℕ → Kind → Bool → List ℕ
 tail_shown target kind.Symlink again = target_shown target
 tail_shown target _ again = if again then codes " (again)" else []
 
 abbrev pub object_line : State → List (List ℕ) → ℕ → Object → Bool → List ℕ
-object_line s path i o again = object_start i o ++ (path_shown path ++ (tail_shown (readable s i) o.kind again ++ 10 ∷ []))
+object_line s path i o again =
+    object_start i o ++ (path_shown path ++ (tail_shown (readable s i) o.kind again ++ 10 ∷ []))
 
 abbrev pub line_if : State → List (List ℕ) → ℕ → Option Object → Bool → List ℕ
 line_if s path i None again = []
@@ -75,22 +81,26 @@ abbrev pub met_after : State → Met → ℕ → Met
 met_after s met i = λ j. met j || (is_directory s i && i == j)
 
 abbrev pub todo_after : State → Met → Item → List Item → List Item
-todo_after s met item todo = if is_entered s met item.1 then items_of s item.0 (entries_in s item.1) ++ todo else todo
+todo_after s met item todo =
+    if is_entered s met item.1 then items_of s item.0 (entries_in s item.1) ++ todo else todo
 
 abbrev pub line_of : State → Met → Item → List ℕ
-line_of s met item = line_if s item.0 item.1 (option_map shown (object s item.1)) (is_directory s item.1 && met item.1)
+line_of s met item = line_if s item.0 item.1 (option_map shown (object s item.1))
+    (is_directory s item.1 && met item.1)
 
 -- the lines of what is still to print, first to last
 abbrev pub AreLinesOf : State → Met → List Item → List (List ℕ) → Type 0
 AreLinesOf s met [] lines = lines ≡ []
 AreLinesOf s met (item ∷ todo) [] = ⊥
 AreLinesOf s met (item ∷ todo) (line ∷ lines) =
-    (line ≡ line_of s met item) × AreLinesOf s (met_after s met item.1) (todo_after s met item todo) lines
+    (line ≡ line_of s met item)
+    × AreLinesOf s (met_after s met item.1) (todo_after s met item todo) lines
 
 -- the lines of an object, which this path leads to, and of what lies below it
 abbrev pub IsTextFrom : State → Item → List ℕ → Type 0
 IsTextFrom s item text =
-    (lines : List (List ℕ)) × AreLinesOf s none_met (item ∷ []) lines × (text ≡ flat_map (λ line. line) lines)
+    (lines : List (List ℕ)) × AreLinesOf s none_met (item ∷ []) lines
+    × (text ≡ flat_map (λ line. line) lines)
 
 -- what `ls` prints: the lines from the root on
 abbrev pub IsTreeText : State → List ℕ → Type 0
@@ -107,12 +117,14 @@ abbrev pub PutsFrom : {T : Type 0} → State → Item → Option (List ℕ) → 
     → Result T ProgramFault → Type 0
 PutsFrom s item old new before now (Ok _) =
     (text : List ℕ) × IsTextFrom s item text × Appends old new text × (now ≡ before)
-PutsFrom s item old new before now (Err Output) = PutsPartFrom s item old new × (now ≡ next_count before)
+PutsFrom s item old new before now (Err Output) =
+    PutsPartFrom s item old new × (now ≡ next_count before)
 PutsFrom s item old new before now (Err OutOfMemory) = PutsPartFrom s item old new × (now ≡ before)
 PutsFrom s item old new before now (Err _) = ⊥
 
 -- the text of the whole tree
-abbrev pub PutsTree : {T : Type 0} → State → Option (List ℕ) → Option (List ℕ) → ℕ → ℕ → Result T ProgramFault → Type 0
+abbrev pub PutsTree : {T : Type 0} → State → Option (List ℕ) → Option (List ℕ) → ℕ → ℕ
+    → Result T ProgramFault → Type 0
 PutsTree {T} s old new before now result = PutsFrom {T = T} s ([], 1) old new before now result
 
 -- ---- a part of a tree
@@ -121,16 +133,19 @@ PutsTree {T} s old new before now result = PutsFrom {T = T} s ([], 1) old new be
 abbrev pub IsItemAt : State → List ℕ → Item → Type 0
 IsItemAt s path item = (path_names path ≡ Some item.0) × (find s path ≡ Ok item.1)
 
--- A call puts the lines of the object that a path names, and of what lies below it; or it says that it names none, and
--- puts nothing.
+-- A call puts the lines of the object that a path names, and of what lies below it; or it says that
+-- it names none, and puts nothing.
 abbrev pub PutsPartAt : {T : Type 0} → State → List ℕ → Option (List ℕ) → Option (List ℕ) → ℕ → ℕ
     → Result T ProgramFault → Type 0
-PutsPartAt s path old new before now (Err (Path fault)) = (find s path ≡ Err fault) × (new ≡ old) × (now ≡ before)
+PutsPartAt s path old new before now (Err (Path fault)) =
+    (find s path ≡ Err fault) × (new ≡ old) × (now ≡ before)
 PutsPartAt {T} s path old new before now result =
     (item : Item) × IsItemAt s path item × PutsFrom {T = T} s item old new before now result
 
 -- the part of the tree where a path is given, and else the whole
-abbrev pub PutsTreeAt : {T : Type 0} → State → Option (List ℕ) → Option (List ℕ) → Option (List ℕ) → ℕ → ℕ
+abbrev pub PutsTreeAt : {T : Type 0} → State → Option (List ℕ) → Option (List ℕ) → Option (List ℕ)
+    → ℕ → ℕ
     → Result T ProgramFault → Type 0
 PutsTreeAt {T} s None old new before now result = PutsTree {T = T} s old new before now result
-PutsTreeAt {T} s (Some path) old new before now result = PutsPartAt {T = T} s path old new before now result
+PutsTreeAt {T} s (Some path) old new before now result =
+    PutsPartAt {T = T} s path old new before now result

@@ -19,7 +19,8 @@ use Rattle.jreport.specs.declared.faults.ProgramFault.TheVariants as program
 
 -- what comes before the name in a dangling entry's line
 unfoldable pub dangling_start : ℕ → ℕ → List ℕ
-dangling_start pino ino = codes "dangling pino " ++ decimal pino ++ codes " ino " ++ decimal ino ++ codes " name "
+dangling_start pino ino =
+    codes "dangling pino " ++ decimal pino ++ codes " ino " ++ decimal ino ++ codes " name "
 
 -- a dangling entry: its directory, its name, and the number that has no object
 abbrev pub dangling_line : ℕ × List ℕ × ℕ → List ℕ
@@ -49,7 +50,8 @@ abbrev pub shape_if : Bool → Mount → Option Bool
 shape_if asked m = if asked then Some (is_shaped m) else None
 
 abbrev pub mounted_text : Bool → Mount → List ℕ
-mounted_text asked m = ok_line m.read_only ++ (flat_map dangling_line (dangling m.state) ++ shape_text (shape_if asked m))
+mounted_text asked m = ok_line m.read_only
+    ++ (flat_map dangling_line (dangling m.state) ++ shape_text (shape_if asked m))
 
 abbrev pub verdict_of : Bool → Result Mount MountFault → List ℕ
 verdict_of asked (Ok m) = mounted_text asked m
@@ -70,8 +72,10 @@ abbrev pub is_bad : Bool → Result Mount MountFault → Bool
 is_bad asked (Ok m) = is_wrong asked m
 is_bad asked (Err fault) = true
 
--- the verdict on an image, with its shape where it is asked for, and whether it says that something is wrong; out of memory is no verdict
-pub record IsVerdict (e : Endian) (size : ℕ) (image : List ℕ) (asked : Bool) (text : List ℕ) (bad : Bool) : Type 0 where
+-- the verdict on an image, with its shape where it is asked for, and whether it says that something
+-- is wrong; out of memory is no verdict
+pub record IsVerdict (e : Endian) (size : ℕ) (image : List ℕ) (asked : Bool) (text : List ℕ)
+    (bad : Bool) : Type 0 where
   pub answer : Result Mount MountFault
   pub answers : Answers e size image answer
   pub memory : answer ≢ Err mount.OutOfMemory
@@ -81,18 +85,24 @@ pub record IsVerdict (e : Endian) (size : ℕ) (image : List ℕ) (asked : Bool)
 -- ---- what a call puts
 
 -- the lines of a mounted image; out of memory comes before the first of them
-abbrev pub PutsMounted : Bool → Mount → Option (List ℕ) → Option (List ℕ) → ℕ → ℕ → Result Bool ProgramFault → Type 0
-PutsMounted asked m old new before now (Ok bad) = (bad ≡ is_wrong asked m) × Appends old new (mounted_text asked m) × (now ≡ before)
-PutsMounted asked m old new before now (Err program.Output) = PutsPart old new (mounted_text asked m) × (now ≡ next_count before)
+abbrev pub PutsMounted : Bool → Mount → Option (List ℕ) → Option (List ℕ) → ℕ → ℕ
+    → Result Bool ProgramFault → Type 0
+PutsMounted asked m old new before now (Ok bad) =
+    (bad ≡ is_wrong asked m) × Appends old new (mounted_text asked m) × (now ≡ before)
+PutsMounted asked m old new before now (Err program.Output) =
+    PutsPart old new (mounted_text asked m) × (now ≡ next_count before)
 PutsMounted asked m old new before now (Err program.OutOfMemory) = (new ≡ old) × (now ≡ before)
 PutsMounted asked m old new before now (Err _) = ⊥
 
--- The verdict on an image. Where the sink fails, a beginning of it went out; where memory runs out, nothing did.
-abbrev pub PutsVerdict : Endian → ℕ → List ℕ → Bool → Option (List ℕ) → Option (List ℕ) → ℕ → ℕ → Result Bool ProgramFault → Type 0
+-- The verdict on an image. Where the sink fails, a beginning of it went out; where memory runs out,
+-- nothing did.
+abbrev pub PutsVerdict : Endian → ℕ → List ℕ → Bool → Option (List ℕ) → Option (List ℕ) → ℕ → ℕ
+    → Result Bool ProgramFault → Type 0
 PutsVerdict e size image asked old new before now (Ok bad) =
     (text : List ℕ) × IsVerdict e size image asked text bad × Appends old new text × (now ≡ before)
 PutsVerdict e size image asked old new before now (Err program.Output) =
-    (text : List ℕ) × (bad : Bool) × IsVerdict e size image asked text bad × PutsPart old new text × (now ≡ next_count before)
+    (text : List ℕ) × (bad : Bool) × IsVerdict e size image asked text bad × PutsPart old new text
+    × (now ≡ next_count before)
 PutsVerdict e size image asked old new before now (Err program.OutOfMemory) =
     (m : Mount) × Answers e size image (Ok m) × (new ≡ old) × (now ≡ before)
 PutsVerdict e size image asked old new before now (Err (program.Mount mount.OutOfMemory)) =

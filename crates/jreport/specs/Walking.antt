@@ -15,7 +15,8 @@ use Rattle.jreport.specs.declared.faults.ProgramFault.TheVariants.{Output, OutOf
 
 -- the text of what is still to print
 abbrev pub IsTextOf : State → Met → List Item → List ℕ → Type 0
-IsTextOf s met todo text = (lines : List (List ℕ)) × AreLinesOf s met todo lines × (text ≡ flat_map (λ line. line) lines)
+IsTextOf s met todo text =
+    (lines : List (List ℕ)) × AreLinesOf s met todo lines × (text ≡ flat_map (λ line. line) lines)
 
 -- a beginning of it went out
 abbrev pub PutsPartOf : State → Met → List Item → Option (List ℕ) → Option (List ℕ) → Type 0
@@ -27,11 +28,16 @@ abbrev pub met_of : BTreeSet ℕ → Met
 met_of set = λ i. contains nat_cmp set i
 
 -- Its line is put, as if it had been the next to print. The answer is whether it is entered.
-abbrev pub PutsVisit : State → BTreeSet ℕ → BTreeSet ℕ → Item → Option (List ℕ) → Option (List ℕ) → ℕ → ℕ → Result Bool ProgramFault → Type 0
-PutsVisit s set set_after item old new before now (Ok entered) = (entered ≡ is_entered s (met_of set) item.1)
-    × (met_of set_after ≡ met_after s (met_of set) item.1) × Appends old new (line_of s (met_of set) item) × (now ≡ before)
-PutsVisit s set set_after item old new before now (Err Output) = PutsPart old new (line_of s (met_of set) item) × (now ≡ next_count before)
-PutsVisit s set set_after item old new before now (Err OutOfMemory) = Appends old new [] × (now ≡ before)
+abbrev pub PutsVisit : State → BTreeSet ℕ → BTreeSet ℕ → Item → Option (List ℕ) → Option (List ℕ)
+    → ℕ → ℕ → Result Bool ProgramFault → Type 0
+PutsVisit s set set_after item old new before now (Ok entered) =
+    (entered ≡ is_entered s (met_of set) item.1)
+    × (met_of set_after ≡ met_after s (met_of set) item.1)
+    × Appends old new (line_of s (met_of set) item) × (now ≡ before)
+PutsVisit s set set_after item old new before now (Err Output) =
+    PutsPart old new (line_of s (met_of set) item) × (now ≡ next_count before)
+PutsVisit s set set_after item old new before now (Err OutOfMemory) =
+    Appends old new [] × (now ≡ before)
 PutsVisit s set set_after item old new before now (Err _) = ⊥
 
 -- ---- what is still to print at a place of the walk
@@ -55,7 +61,8 @@ unmet s met = count_by (λ e. not (met e.0.0)) (entries s.names)
 
 -- the names that the walk has not read, those of directories that it may meet among them
 abbrev pub listing_names_left : State → Walk → ℕ
-listing_names_left s w = unmet s (met_of w.met) + length w.left + sum_by (λ left. length left) w.above.items
+listing_names_left s w =
+    unmet s (met_of w.met) + length w.left + sum_by (λ left. length left) w.above.items
 
 abbrev pub steps_left : State → Walk → ℕ
 steps_left s w = 2 * listing_names_left s w + length w.above.items
@@ -65,17 +72,24 @@ steps_left s w = 2 * listing_names_left s w + length w.above.items
 -- a line, perhaps an empty one, was put, and the rest is still to print
 abbrev pub LeavesRest : State → Walk → Walk → Option (List ℕ) → Option (List ℕ) → Type 0
 LeavesRest s w w_after old new = (line : List ℕ) × Appends old new line
-    × ((rest : List ℕ) → IsTextOf s (met_of w_after.met) (todo_of s w_after) rest → IsTextOf s (met_of w.met) (todo_of s w) (line ++ rest))
+    × ((rest : List ℕ) → IsTextOf s (met_of w_after.met) (todo_of s w_after) rest
+    → IsTextOf s (met_of w.met) (todo_of s w) (line ++ rest))
 
 -- the walk went back to the directory above, or there is none
 abbrev pub GoesUp : Walk → Walk → Bool → Type 0
-GoesUp w w_after true = (w.above.items ≡ w_after.above.items ++ w_after.left ∷ []) × (way_of w_after ≡ way_up (way_of w)) × (w_after.met ≡ w.met)
+GoesUp w w_after true = (w.above.items ≡ w_after.above.items ++ w_after.left ∷ [])
+    × (way_of w_after ≡ way_up (way_of w)) × (w_after.met ≡ w.met)
 GoesUp w w_after false = w.above.items ≡ []
 
 -- `false`: nothing is still to print. At a fault a beginning of what was to print went out.
-abbrev pub PutsStep : State → Walk → Walk → Option (List ℕ) → Option (List ℕ) → ℕ → ℕ → Result Bool ProgramFault → Type 0
-PutsStep s w w_after old new before now (Ok true) = LeavesRest s w w_after old new × (steps_left s w_after < steps_left s w) × (now ≡ before)
-PutsStep s w w_after old new before now (Ok false) = (todo_of s w ≡ []) × Appends old new [] × (now ≡ before)
-PutsStep s w w_after old new before now (Err Output) = PutsPartOf s (met_of w.met) (todo_of s w) old new × (now ≡ next_count before)
-PutsStep s w w_after old new before now (Err OutOfMemory) = PutsPartOf s (met_of w.met) (todo_of s w) old new × (now ≡ before)
+abbrev pub PutsStep : State → Walk → Walk → Option (List ℕ) → Option (List ℕ) → ℕ → ℕ
+    → Result Bool ProgramFault → Type 0
+PutsStep s w w_after old new before now (Ok true) =
+    LeavesRest s w w_after old new × (steps_left s w_after < steps_left s w) × (now ≡ before)
+PutsStep s w w_after old new before now (Ok false) =
+    (todo_of s w ≡ []) × Appends old new [] × (now ≡ before)
+PutsStep s w w_after old new before now (Err Output) =
+    PutsPartOf s (met_of w.met) (todo_of s w) old new × (now ≡ next_count before)
+PutsStep s w w_after old new before now (Err OutOfMemory) =
+    PutsPartOf s (met_of w.met) (todo_of s w) old new × (now ≡ before)
 PutsStep s w w_after old new before now (Err _) = ⊥

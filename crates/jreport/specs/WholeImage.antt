@@ -24,13 +24,17 @@ use Rattle.jreport.specs.declared.faults.ProgramFault.TheVariants as program
 abbrev pub OfSomeImage : Option (List ℕ) → (List ℕ → Type 0) → Type 0
 OfSomeImage known_bytes P = (image : List ℕ) × IfSome known_bytes (λ bytes. image ≡ bytes) × P image
 
--- A call reads all that a source has left, by the bytes that it tells and the count of its failures. A fault of loading says
--- why it did not; at any other answer the source is at its end, and had no more left than the greatest image.
-abbrev pub ReadsWhole : {T : Type 0} → Option (List ℕ) → Option (List ℕ) → ℕ → ℕ → Result T ProgramFault → Type 0
+-- A call reads all that a source has left, by the bytes that it tells and the count of its
+-- failures. A fault of loading says why it did not; at any other answer the source is at its end,
+-- and had no more left than the greatest image.
+abbrev pub ReadsWhole : {T : Type 0} → Option (List ℕ) → Option (List ℕ) → ℕ → ℕ
+    → Result T ProgramFault → Type 0
 ReadsWhole old new before now (Err (program.Load load.Device)) = now ≡ next_count before
-ReadsWhole old new before now (Err (program.Load load.TooLarge)) = IfSome old (λ bytes. greatest_image < length bytes) × (now ≡ before)
+ReadsWhole old new before now (Err (program.Load load.TooLarge)) =
+    IfSome old (λ bytes. greatest_image < length bytes) × (now ≡ before)
 ReadsWhole old new before now (Err (program.Load load.OutOfMemory)) = now ≡ before
-ReadsWhole old new before now _ = IsAtEnd new × IfSome old (λ bytes. length bytes ≤ greatest_image) × (now ≡ before)
+ReadsWhole old new before now _ =
+    IsAtEnd new × IfSome old (λ bytes. length bytes ≤ greatest_image) × (now ≡ before)
 
 -- the image was not read
 abbrev pub IsFaultOfLoad : ProgramFault → Type 0
@@ -39,9 +43,10 @@ IsFaultOfLoad _ = ⊥
 
 -- ---- `check`
 
--- what it prints of an image, and whether it found anything: the report, and then the verdict, with the shape where it is
--- asked for
-pub record IsCheck (e : Endian) (size : ℕ) (image : List ℕ) (asked : Bool) (text : List ℕ) (found : Bool) : Type 0 where
+-- what it prints of an image, and whether it found anything: the report, and then the verdict, with
+-- the shape where it is asked for
+pub record IsCheck (e : Endian) (size : ℕ) (image : List ℕ) (asked : Bool) (text : List ℕ)
+    (found : Bool) : Type 0 where
   pub verdict : List ℕ
   pub bad : Bool
   pub mount : IsVerdict e size image asked verdict bad
@@ -52,31 +57,41 @@ pub record IsCheck (e : Endian) (size : ℕ) (image : List ℕ) (asked : Bool) (
 abbrev pub PutsPartOfCheck : Endian → ℕ → List ℕ → Bool → Option (List ℕ) → Option (List ℕ) → Type 0
 PutsPartOfCheck e size image asked old new =
     PutsPart old new (scan_text e size image)
-    ⊎ ((text : List ℕ) × (found : Bool) × IsCheck e size image asked text found × PutsPart old new text)
+    ⊎ ((text : List ℕ) × (found : Bool) × IsCheck e size image asked text found
+    × PutsPart old new text)
 
--- A call puts what `check` prints. Only where the sink is blamed did it fail, once. Memory is wanting in the report only
--- where the last block of the image has a missing tail, and then in the mount, or for the entries that dangle in it, or for
--- its shape.
-abbrev pub PutsCheck : Endian → ℕ → List ℕ → Bool → Option (List ℕ) → Option (List ℕ) → ℕ → ℕ → Result Bool ProgramFault → Type 0
+-- A call puts what `check` prints. Only where the sink is blamed did it fail, once. Memory is
+-- wanting in the report only where the last block of the image has a missing tail, and then in the
+-- mount, or for the entries that dangle in it, or for its shape.
+abbrev pub PutsCheck : Endian → ℕ → List ℕ → Bool → Option (List ℕ) → Option (List ℕ) → ℕ → ℕ
+    → Result Bool ProgramFault → Type 0
 PutsCheck e size image asked old new before now (Ok found) =
     (text : List ℕ) × IsCheck e size image asked text found × Appends old new text × (now ≡ before)
-PutsCheck e size image asked old new before now (Err program.Output) = PutsPartOfCheck e size image asked old new × (now ≡ next_count before)
-PutsCheck e size image asked old new before now (Err (program.Load fault)) = (new ≡ old) × (now ≡ before)
-PutsCheck e size image asked old new before now (Err (program.Scan scan.BlockSize)) = (new ≡ old) × (now ≡ before)
+PutsCheck e size image asked old new before now (Err program.Output) =
+    PutsPartOfCheck e size image asked old new × (now ≡ next_count before)
+PutsCheck e size image asked old new before now (Err (program.Load fault)) =
+    (new ≡ old) × (now ≡ before)
+PutsCheck e size image asked old new before now (Err (program.Scan scan.BlockSize)) =
+    (new ≡ old) × (now ≡ before)
 PutsCheck e size image asked old new before now (Err (program.Scan scan.OutOfMemory)) =
     (length image % size ≢ 0) × PutsPart old new (scan_text e size image) × (now ≡ before)
 PutsCheck e size image asked old new before now (Err (program.Mount mount.OutOfMemory)) =
-    Answers e size image (Err mount.OutOfMemory) × Appends old new (scan_text e size image) × (now ≡ before)
+    Answers e size image (Err mount.OutOfMemory) × Appends old new (scan_text e size image)
+    × (now ≡ before)
 PutsCheck e size image asked old new before now (Err program.OutOfMemory) =
-    (m : Mount) × Answers e size image (Ok m) × Appends old new (scan_text e size image) × (now ≡ before)
+    (m : Mount) × Answers e size image (Ok m) × Appends old new (scan_text e size image)
+    × (now ≡ before)
 PutsCheck e size image asked old new before now (Err _) = ⊥
 
 -- ---- `cat` and `ls`
 
 -- What a call does that mounts an image: nothing is put of one that was not read or does not mount.
-abbrev pub OnMount : {T : Type 0} → Endian → ℕ → List ℕ → Option (List ℕ) → Option (List ℕ) → ℕ → ℕ → (Mount → Type 0) → Result T ProgramFault → Type 0
-OnMount e size image old new before now puts (Err (program.Load fault)) = (new ≡ old) × (now ≡ before)
-OnMount e size image old new before now puts (Err (program.Mount fault)) = Answers e size image (Err fault) × (new ≡ old) × (now ≡ before)
+abbrev pub OnMount : {T : Type 0} → Endian → ℕ → List ℕ → Option (List ℕ) → Option (List ℕ) → ℕ → ℕ
+    → (Mount → Type 0) → Result T ProgramFault → Type 0
+OnMount e size image old new before now puts (Err (program.Load fault)) =
+    (new ≡ old) × (now ≡ before)
+OnMount e size image old new before now puts (Err (program.Mount fault)) =
+    Answers e size image (Err fault) × (new ≡ old) × (now ≡ before)
 OnMount e size image old new before now puts _ = (m : Mount) × Answers e size image (Ok m) × puts m
 
 -- the answer is the number of findings that a reader of files is told of
@@ -85,12 +100,15 @@ AnswersNoted m (Ok n) = n ≡ noted m
 AnswersNoted m (Err _) = ⊤
 
 -- `cat`: the content of the regular file that a path names in an image
-abbrev pub PutsFile : Endian → ℕ → List ℕ → List ℕ → Option (List ℕ) → Option (List ℕ) → ℕ → ℕ → Result ℕ ProgramFault → Type 0
+abbrev pub PutsFile : Endian → ℕ → List ℕ → List ℕ → Option (List ℕ) → Option (List ℕ) → ℕ → ℕ
+    → Result ℕ ProgramFault → Type 0
 PutsFile e size image path old new before now answer =
-    OnMount e size image old new before now (λ m. PutsContent (content_of m.state path) old new before now answer × AnswersNoted m answer) answer
+    OnMount e size image old new before now (λ m. PutsContent (content_of m.state path) old new
+    before now answer × AnswersNoted m answer) answer
 
 -- `ls`: the lines of an image's tree, or of the part of it that a path names
-abbrev pub PutsListing : Endian → ℕ → Option (List ℕ) → List ℕ → Option (List ℕ) → Option (List ℕ) → ℕ → ℕ
+abbrev pub PutsListing : Endian → ℕ → Option (List ℕ) → List ℕ → Option (List ℕ) → Option (List ℕ)
+    → ℕ → ℕ
     → Result ℕ ProgramFault → Type 0
 PutsListing e size path image old new before now answer =
     OnMount e size image old new before now

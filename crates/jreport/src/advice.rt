@@ -31,7 +31,8 @@ fn advice(fault: &ProgramFault<'_>) -> &'static [u8]
 
 /// Puts the line of a fault as it is on standard error, and the note after it, where there is one.
 pub fn fault_lines<T: Sink>(fault: &ProgramFault<'_>, sink: &mut T) -> Result<(), DeviceFault>
-    ensures { Puts (T.taken sink.old) (T.taken sink.new) (T.failures sink.old) (T.failures sink.new) (fault_lines_of fault.now) result }
+    ensures { Puts (T.taken sink.old) (T.taken sink.new) (T.failures sink.old) (T.failures sink.new)
+        (fault_lines_of fault.now) result }
 {
     fault_line(fault, sink)?;
     put_text(sink, advice(fault))

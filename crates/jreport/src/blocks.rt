@@ -35,7 +35,8 @@ fn put_extent<T: Sink>(
 ) -> Result<(), DeviceFault>
     requires name { length (shown_name extent.now.kind) ≤ 255 }
     requires room { CountsHaveRoom counts.old 1 }
-    ensures puts { Puts (T.taken sink.old) (T.taken sink.new) (T.failures sink.old) (T.failures sink.new) (extent_line extent.now) result }
+    ensures puts { Puts (T.taken sink.old) (T.taken sink.new) (T.failures sink.old)
+        (T.failures sink.new) (extent_line extent.now) result }
     ensures counts { OnOk result (counts.new ≡ counted counts.old extent.now.kind) }
 {
     write_extent(line, extent);
@@ -46,7 +47,8 @@ fn put_extent<T: Sink>(
 
 /// Gives an extent to a scan, if one is made. It ends where memory runs out.
 fn scan_extent<'a>(partial: &mut Option<PartialScan<'a>>, extent: Extent<'a>)
-    ensures { (ss : List Extent) → IfSome partial.old (HasScanned ss) → IfSome partial.new (HasScanned (ss ++ extent.entry ∷ [])) }
+    ensures { (ss : List Extent) → IfSome partial.old (HasScanned ss)
+        → IfSome partial.new (HasScanned (ss ++ extent.entry ∷ [])) }
 {
     if let Some(mut scan) = partial.take() {
         if scan.take(extent).is_ok() {
@@ -68,11 +70,14 @@ pub fn put_part<'a, E: Order, T: Sink>(
     requires whole_words { length block % 4 ≡ 0 }
     requires addressed { start + length block < 2 ^ 32 }
     requires room { CountsHaveRoom counts.old (length block + 1) }
-    ensures puts { Puts (T.taken sink.old) (T.taken sink.new) (T.failures sink.old) (T.failures sink.new)
+    ensures puts { Puts (T.taken sink.old) (T.taken sink.new) (T.failures sink.old)
+        (T.failures sink.new)
         (lines_of_block counts.old.blocks (extents E.order start block.entry)) result }
-    ensures counts { OnOk result (counts.new ≡ block_counted counts.old (extents E.order start block.entry)) }
+    ensures counts { OnOk result
+        (counts.new ≡ block_counted counts.old (extents E.order start block.entry)) }
     ensures scan { (before : List Extent) → IfSome partial.old (HasScanned before)
-        → OnOk result (IfSome partial.new (HasScanned (before ++ extents E.order start block.entry))) }
+        → OnOk result
+        (IfSome partial.new (HasScanned (before ++ extents E.order start block.entry))) }
 {
     let mut line = LineBuffer::new();
     write_block(&mut line, counts.blocks);
@@ -95,9 +100,11 @@ pub fn put_block<E: Order, T: Sink>(
     requires whole_words { length block.now % 4 ≡ 0 }
     requires addressed { start + length block.now < 2 ^ 32 }
     requires room { CountsHaveRoom counts.old (length block.now + 1) }
-    ensures puts { Puts (T.taken sink.old) (T.taken sink.new) (T.failures sink.old) (T.failures sink.new)
+    ensures puts { Puts (T.taken sink.old) (T.taken sink.new) (T.failures sink.old)
+        (T.failures sink.new)
         (lines_of_block counts.old.blocks (extents E.order start block.now)) result }
-    ensures counts { OnOk result (counts.new ≡ block_counted counts.old (extents E.order start block.now)) }
+    ensures counts { OnOk result
+        (counts.new ≡ block_counted counts.old (extents E.order start block.now)) }
 {
     put_part::<E, T>(sink, start, whole(block), counts, &mut None)
 }
@@ -111,7 +118,8 @@ fn whole(bytes: &[u8]) -> Part<'_>
 
 /// Puts the last line of a report.
 pub fn put_total<T: Sink>(sink: &mut T, counts: &Counts) -> Result<(), DeviceFault>
-    ensures { Puts (T.taken sink.old) (T.taken sink.new) (T.failures sink.old) (T.failures sink.new) (totals_line counts.now) result }
+    ensures { Puts (T.taken sink.old) (T.taken sink.new) (T.failures sink.old) (T.failures sink.new)
+        (totals_line counts.now) result }
 {
     let mut line = LineBuffer::new();
     write_total(

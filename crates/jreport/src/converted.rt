@@ -28,7 +28,8 @@ pub fn put_decompressed<T: Sink>(
     bytes: u64,
     sink: &mut T,
 ) -> Result<(), DeviceFault>
-    ensures { Puts (T.taken sink.old) (T.taken sink.new) (T.failures sink.old) (T.failures sink.new) (decompressed_line changed nodes bytes) result }
+    ensures { Puts (T.taken sink.old) (T.taken sink.new) (T.failures sink.old) (T.failures sink.new)
+        (decompressed_line changed nodes bytes) result }
 {
     let mut line = LineBuffer::new();
     write_decompressed(&mut line, changed, nodes, bytes);

@@ -54,7 +54,8 @@ fn write_attributes(line: &mut LineBuffer, nodes: u64)
 }
 
 fn put_findings<T: Sink>(findings: u64, sink: &mut T) -> Result<(), DeviceFault>
-    ensures { Puts (T.taken sink.old) (T.taken sink.new) (T.failures sink.old) (T.failures sink.new) (line_of_count note_line_of findings) result }
+    ensures { Puts (T.taken sink.old) (T.taken sink.new) (T.failures sink.old) (T.failures sink.new)
+        (line_of_count note_line_of findings) result }
 {
     if findings == 0 {
         return Ok(());
@@ -63,7 +64,8 @@ fn put_findings<T: Sink>(findings: u64, sink: &mut T) -> Result<(), DeviceFault>
 }
 
 fn put_lost_bits<T: Sink>(objects: u64, sink: &mut T) -> Result<(), DeviceFault>
-    ensures { Puts (T.taken sink.old) (T.taken sink.new) (T.failures sink.old) (T.failures sink.new) (line_of_count lost_bits_line_of objects) result }
+    ensures { Puts (T.taken sink.old) (T.taken sink.new) (T.failures sink.old) (T.failures sink.new)
+        (line_of_count lost_bits_line_of objects) result }
 {
     if objects == 0 {
         return Ok(());
@@ -74,7 +76,8 @@ fn put_lost_bits<T: Sink>(objects: u64, sink: &mut T) -> Result<(), DeviceFault>
 }
 
 fn put_attributes<T: Sink>(nodes: u64, sink: &mut T) -> Result<(), DeviceFault>
-    ensures { Puts (T.taken sink.old) (T.taken sink.new) (T.failures sink.old) (T.failures sink.new) (line_of_count attributes_line_of nodes) result }
+    ensures { Puts (T.taken sink.old) (T.taken sink.new) (T.failures sink.old) (T.failures sink.new)
+        (line_of_count attributes_line_of nodes) result }
 {
     if nodes == 0 {
         return Ok(());

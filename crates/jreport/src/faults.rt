@@ -305,7 +305,8 @@ fn push_fault<'a>(line: &mut LineBuffer, fault: &ProgramFault<'a>) -> &'a str
 
 /// Puts one text after another.
 fn put_both<T: Sink>(sink: &mut T, first: &[u8], second: &[u8]) -> Result<(), PutFault>
-    ensures ok { OnOk result (Appends (T.taken sink.old) (T.taken sink.new) (first.now ++ second.now)) }
+    ensures ok { OnOk result
+        (Appends (T.taken sink.old) (T.taken sink.new) (first.now ++ second.now)) }
     ensures none_failed { OnOk result (T.failures sink.new ≡ T.failures sink.old) }
     ensures part { IfErr result (λ e. (e.taken < length (first.now ++ second.now))
         × Appends (T.taken sink.old) (T.taken sink.new) (take e.taken (first.now ++ second.now))) }
@@ -323,7 +324,8 @@ fn put_both<T: Sink>(sink: &mut T, first: &[u8], second: &[u8]) -> Result<(), Pu
 /// Puts the text of a fault: its number and name, and then its parts. There is no line feed after it, and no memory is
 /// taken.
 pub fn fault_text<T: Sink>(fault: &ProgramFault<'_>, sink: &mut T) -> Result<(), PutFault>
-    ensures ok { OnOk result (Appends (T.taken sink.old) (T.taken sink.new) (fault_text_of fault.now)) }
+    ensures ok { OnOk result
+        (Appends (T.taken sink.old) (T.taken sink.new) (fault_text_of fault.now)) }
     ensures none_failed { OnOk result (T.failures sink.new ≡ T.failures sink.old) }
 
     // On a fault of the sink exactly the first `taken` bytes of the text went out.
@@ -338,7 +340,8 @@ pub fn fault_text<T: Sink>(fault: &ProgramFault<'_>, sink: &mut T) -> Result<(),
 
 /// Puts the text of a fault within a line.
 fn put_fault<T: Sink>(fault: &ProgramFault<'_>, sink: &mut T) -> Result<(), DeviceFault>
-    ensures { Puts (T.taken sink.old) (T.taken sink.new) (T.failures sink.old) (T.failures sink.new) (in_line (fault_text_of fault.now)) result }
+    ensures { Puts (T.taken sink.old) (T.taken sink.new) (T.failures sink.old) (T.failures sink.new)
+        (in_line (fault_text_of fault.now)) result }
 {
     let mut line = LineBuffer::new();
     let name = push_fault(&mut line, fault);
@@ -349,7 +352,8 @@ fn put_fault<T: Sink>(fault: &ProgramFault<'_>, sink: &mut T) -> Result<(), Devi
 /// Puts the line of a fault, as it is on standard error. It is one line: a control byte of a file's name goes out
 /// escaped.
 pub fn fault_line<T: Sink>(fault: &ProgramFault<'_>, sink: &mut T) -> Result<(), DeviceFault>
-    ensures { Puts (T.taken sink.old) (T.taken sink.new) (T.failures sink.old) (T.failures sink.new) (fault_line_of fault.now) result }
+    ensures { Puts (T.taken sink.old) (T.taken sink.new) (T.failures sink.old) (T.failures sink.new)
+        (fault_line_of fault.now) result }
 {
     put_text(sink, b"jffs2_image: ")?;
     put_fault(fault, sink)?;

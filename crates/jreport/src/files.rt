@@ -21,7 +21,8 @@ fn is_regular(mounted: &Mounted<'_>, ino: u32) -> bool
 /// The number of the regular file that a path names.
 #[tactic(auto, unfolding(crate::specs::Content::content_of))]
 fn regular_at(mounted: &Mounted<'_>, path: &[u8]) -> Result<u32, ProgramFault<'static>>
-    ensures ok { IfOk result (λ i. content_of mounted.now.state path.now ≡ Ok (readable mounted.now.state i)) }
+    ensures ok { IfOk result
+        (λ i. content_of mounted.now.state path.now ≡ Ok (readable mounted.now.state i)) }
     ensures err { IfErr result (IsContentFault (content_of mounted.now.state path.now)) }
 {
     let ino = mounted.find(path)?;
@@ -37,7 +38,8 @@ pub fn content<T: Sink>(
     path: &[u8],
     sink: &mut T,
 ) -> Result<(), ProgramFault<'static>>
-    ensures { PutsContent (content_of mounted.now.state path.now) (T.taken sink.old) (T.taken sink.new)
+    ensures { PutsContent (content_of mounted.now.state path.now) (T.taken sink.old)
+        (T.taken sink.new)
         (T.failures sink.old) (T.failures sink.new) result }
 {
     let ino = regular_at(mounted, path)?;

@@ -60,7 +60,8 @@ impl<'m, 'a> Walk<'m, 'a> {
         sink: &mut T,
     ) -> Result<bool, ProgramFault<'static>>
         ensures { PutsStep mounted.now.state self.old self.new
-            (T.taken sink.old) (T.taken sink.new) (T.failures sink.old) (T.failures sink.new) result }
+            (T.taken sink.old) (T.taken sink.new) (T.failures sink.old) (T.failures sink.new)
+            result }
     {
         let Some((name, ino)) = self.left.next() else {
             return Ok(self.go_up());
@@ -121,7 +122,8 @@ pub fn tree_lines<T: Sink>(
     mounted: &Mounted<'_>,
     sink: &mut T,
 ) -> Result<(), ProgramFault<'static>>
-    ensures { PutsTree mounted.now.state (T.taken sink.old) (T.taken sink.new) (T.failures sink.old) (T.failures sink.new) result }
+    ensures { PutsTree mounted.now.state (T.taken sink.old) (T.taken sink.new) (T.failures sink.old)
+        (T.failures sink.new) result }
 {
     lines_from(alloc, mounted, Vec::new(alloc), ROOT, sink)
 }

@@ -59,7 +59,8 @@ fn write_note(line: &mut LineBuffer, findings: u64)
 
 /// Puts the note that there are so many such findings, as it is on standard error.
 pub fn note_line<T: Sink>(findings: u64, sink: &mut T) -> Result<(), DeviceFault>
-    ensures { Puts (T.taken sink.old) (T.taken sink.new) (T.failures sink.old) (T.failures sink.new) (note_line_of findings) result }
+    ensures { Puts (T.taken sink.old) (T.taken sink.new) (T.failures sink.old) (T.failures sink.new)
+        (note_line_of findings) result }
 {
     let mut line = LineBuffer::new();
     write_note(&mut line, findings);

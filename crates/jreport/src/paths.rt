@@ -28,7 +28,8 @@ pub(crate) fn names_of_path<'a>(
     alloc: Global,
     text: &'a [u8],
 ) -> Result<Option<Vec<&'a [u8]>>, AllocError>
-    ensures { IfOk result (λ o. option_map (λ names. map (λ n. n.now) names.items) o ≡ path_names text.now) }
+    ensures { IfOk result
+        (λ o. option_map (λ names. map (λ n. n.now) names.items) o ≡ path_names text.now) }
 {
     let Some(names) = after_slash(text) else {
         return Ok(None);

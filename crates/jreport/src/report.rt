@@ -31,10 +31,12 @@ fn put_block_of<'a, E: Order, T: Sink>(
     requires next { k < block_count size image.now }
     requires counts { counts.old ≡ counts_of E.order size image.now k }
     requires scan { IfSome partial.old (HasScanned (extents_below E.order size image.now k)) }
-    ensures puts { Puts (T.taken sink.old) (T.taken sink.new) (T.failures sink.old) (T.failures sink.new)
+    ensures puts { Puts (T.taken sink.old) (T.taken sink.new) (T.failures sink.old)
+        (T.failures sink.new)
         (block_lines E.order size image.now k) result }
     ensures counts { OnOk result (counts.new ≡ counts_of E.order size image.now (k + 1)) }
-    ensures scan { OnOk result (IfSome partial.new (HasScanned (extents_below E.order size image.now (k + 1)))) }
+    ensures scan { OnOk result
+        (IfSome partial.new (HasScanned (extents_below E.order size image.now (k + 1)))) }
 {
     let start = k * size;
     put_part::<E, T>(
@@ -56,10 +58,13 @@ fn put_blocks<'a, E: Order, T: Sink>(
     requires size { IsTrue (is_block_size size) }
     requires small { length image.now ≤ greatest_image }
     requires scan { IfSome partial.old (HasScanned []) }
-    ensures puts { Puts (T.taken sink.old) (T.taken sink.new) (T.failures sink.old) (T.failures sink.new)
+    ensures puts { Puts (T.taken sink.old) (T.taken sink.new) (T.failures sink.old)
+        (T.failures sink.new)
         (lines_below E.order size image.now (block_count size image.now)) result }
-    ensures counts { IfOk result (λ counts. counts ≡ counts_of E.order size image.now (block_count size image.now)) }
-    ensures scan { OnOk result (IfSome partial.new (HasScanned (image_extents E.order size image.now))) }
+    ensures counts { IfOk result
+        (λ counts. counts ≡ counts_of E.order size image.now (block_count size image.now)) }
+    ensures scan { OnOk result
+        (IfSome partial.new (HasScanned (image_extents E.order size image.now))) }
 {
     let mut counts = nothing();
     for k in 0..image.len().div_ceil(size) {
@@ -80,7 +85,8 @@ pub fn report_and_scan<'a, E: Order, T: Sink>(
     requires scan { IfSome partial.old (HasScanned []) }
     ensures puts { PutsReport E.order geometry.block image.now (T.taken sink.old) (T.taken sink.new)
         (T.failures sink.old) (T.failures sink.new) result }
-    ensures scan { OnOk result (IfSome partial.new (HasScanned (image_extents E.order geometry.block image.now))) }
+    ensures scan { OnOk result
+        (IfSome partial.new (HasScanned (image_extents E.order geometry.block image.now))) }
 {
     if !geometry.is_readable() {
         return Err(ReportFault::Scan(ScanFault::BlockSize));
@@ -119,8 +125,10 @@ pub fn scan_lines<E: Order>(
     geometry: Geometry,
 ) -> Result<Lines, ScanFault>
     ensures limits { OnOk result (IsScannable geometry.block image.now) }
-    ensures text { IfOk result (λ lines. lines.text.items ≡ scan_text E.order geometry.block image.now) }
-    ensures findings { IfOk result (λ lines. lines.findings ≡ count_in_image is_found E.order geometry.block image.now) }
+    ensures text { IfOk result
+        (λ lines. lines.text.items ≡ scan_text E.order geometry.block image.now) }
+    ensures findings { IfOk result
+        (λ lines. lines.findings ≡ count_in_image is_found E.order geometry.block image.now) }
     ensures fault { IfErr result (IsScanFaultOf geometry.block image.now) }
 {
     let mut sink = FromWriter::new(Vec::new(alloc));

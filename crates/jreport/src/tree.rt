@@ -129,7 +129,8 @@ pub fn put_object<T: Sink>(
 ) -> Result<(), DeviceFault>
     requires { option_map shown (tree.object mounted.now.state ino) ≡ Some object.now }
     ensures { Puts (T.taken sink.old) (T.taken sink.new) (T.failures sink.old) (T.failures sink.new)
-        (object_line mounted.now.state (map (λ name. name.now) path.now) ino object.now again) result }
+        (object_line mounted.now.state (map (λ name. name.now) path.now) ino object.now again)
+        result }
 {
     let mut line = LineBuffer::new();
     write_object(&mut line, ino, object);

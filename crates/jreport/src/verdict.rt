@@ -136,7 +136,8 @@ fn put_mounted<T: Sink>(
     asked: bool,
     sink: &mut T,
 ) -> Result<bool, ProgramFault<'static>>
-    ensures { PutsMounted asked mounted.now (T.taken sink.old) (T.taken sink.new) (T.failures sink.old) (T.failures sink.new) result }
+    ensures { PutsMounted asked mounted.now (T.taken sink.old) (T.taken sink.new)
+        (T.failures sink.old) (T.failures sink.new) result }
 {
     let dangling = mounted.dangling(alloc)?;
     let shape = shape_if(alloc, mounted, asked)?;
@@ -154,7 +155,8 @@ fn put_verdict<T: Sink>(
     sink: &mut T,
 ) -> Result<bool, ProgramFault<'static>>
     ensures { (e : Endian) (size : ℕ) (image : List ℕ) → Answers e size image answer.entry
-        → PutsVerdict e size image asked (T.taken sink.old) (T.taken sink.new) (T.failures sink.old) (T.failures sink.new) result }
+        → PutsVerdict e size image asked (T.taken sink.old) (T.taken sink.new) (T.failures sink.old)
+        (T.failures sink.new) result }
 {
     match answer {
         Ok(mounted) => put_mounted(alloc, &mounted, asked, sink),
@@ -178,7 +180,8 @@ pub fn verdict_lines<E: Order, T: Sink>(
     shape: bool,
     sink: &mut T,
 ) -> Result<bool, ProgramFault<'static>>
-    ensures { PutsVerdict E.order geometry.block image.now shape (T.taken sink.old) (T.taken sink.new)
+    ensures { PutsVerdict E.order geometry.block image.now shape (T.taken sink.old)
+        (T.taken sink.new)
         (T.failures sink.old) (T.failures sink.new) result }
 {
     put_verdict(alloc, mount::<E>(alloc, image, geometry), shape, sink)
@@ -190,8 +193,10 @@ fn mount_partial<'a>(
     image: &'a [u8],
     partial: Option<PartialScan<'a>>,
 ) -> Result<Mounted<'a>, MountFault>
-    requires scanned { IfSome partial (λ scan. (e : Endian) × (size : ℕ) × IsScanOf e size image.now scan) }
-    ensures { (e : Endian) (size : ℕ) → IsScannable size image.now → IfSome partial.entry (IsScanOf e size image.now)
+    requires scanned { IfSome partial
+        (λ scan. (e : Endian) × (size : ℕ) × IsScanOf e size image.now scan) }
+    ensures { (e : Endian) (size : ℕ) → IsScannable size image.now
+        → IfSome partial.entry (IsScanOf e size image.now)
         → Answers e size image.now result }
 {
     match partial {
@@ -208,9 +213,12 @@ pub fn scanned_verdict<T: Sink>(
     shape: bool,
     sink: &mut T,
 ) -> Result<bool, ProgramFault<'static>>
-    requires scanned { IfSome partial (λ scan. (e : Endian) × (size : ℕ) × IsScanOf e size image.now scan) }
-    ensures { (e : Endian) (size : ℕ) → IsScannable size image.now → IfSome partial.entry (IsScanOf e size image.now)
-        → PutsVerdict e size image.now shape (T.taken sink.old) (T.taken sink.new) (T.failures sink.old) (T.failures sink.new) result }
+    requires scanned { IfSome partial
+        (λ scan. (e : Endian) × (size : ℕ) × IsScanOf e size image.now scan) }
+    ensures { (e : Endian) (size : ℕ) → IsScannable size image.now
+        → IfSome partial.entry (IsScanOf e size image.now)
+        → PutsVerdict e size image.now shape (T.taken sink.old) (T.taken sink.new)
+        (T.failures sink.old) (T.failures sink.new) result }
 {
     put_verdict(alloc, mount_partial(alloc, image, partial), shape, sink)
 }

@@ -33,14 +33,18 @@ pub fn check_lines<E: Order, S: Source, T: Sink>(
     sink: &mut T,
 ) -> Result<bool, ProgramFault<'static>>
     // The size of a block is judged before anything is read or put.
-    ensures block_size { IsErrOf result (ProgramFault.Scan ScanFault.BlockSize) ↔ IsFalse (is_block_size geometry.block) }
-    ensures unread { IsFalse (is_block_size geometry.block) → (source.new ≡ source.old) × (sink.new ≡ sink.old) }
+    ensures block_size { IsErrOf result (ProgramFault.Scan ScanFault.BlockSize)
+        ↔ IsFalse (is_block_size geometry.block) }
+    ensures unread { IsFalse (is_block_size geometry.block) → (source.new ≡ source.old)
+        × (sink.new ≡ sink.old) }
 
     // Then all that the source had left is read. Nothing is put of an image that was not.
     ensures read { IsTrue (is_block_size geometry.block)
-        → ReadsWhole (S.rest source.old) (S.rest source.new) (S.failures source.old) (S.failures source.new) result }
+        → ReadsWhole (S.rest source.old) (S.rest source.new) (S.failures source.old)
+        (S.failures source.new) result }
     ensures load { IfErr result (λ fault. IsFaultOfLoad fault → sink.new ≡ sink.old) }
-    ensures put { OfSomeImage (S.rest source.old) (λ image. PutsCheck E.order geometry.block image shape
+    ensures put { OfSomeImage (S.rest source.old)
+        (λ image. PutsCheck E.order geometry.block image shape
         (T.taken sink.old) (T.taken sink.new) (T.failures sink.old) (T.failures sink.new) result) }
 {
     if !geometry.is_readable() {
@@ -98,9 +102,11 @@ pub fn file_bytes<E: Order, S: Source, T: Sink>(
     sink: &mut T,
 ) -> Result<u64, ProgramFault<'static>>
     // All that the source had left is read before the size of a block is judged. Nothing is put of an image that was not.
-    ensures read { ReadsWhole (S.rest source.old) (S.rest source.new) (S.failures source.old) (S.failures source.new) result }
+    ensures read { ReadsWhole (S.rest source.old) (S.rest source.new) (S.failures source.old)
+        (S.failures source.new) result }
     ensures load { IfErr result (λ fault. IsFaultOfLoad fault → sink.new ≡ sink.old) }
-    ensures put { OfSomeImage (S.rest source.old) (λ image. PutsFile E.order geometry.block image path.now
+    ensures put { OfSomeImage (S.rest source.old)
+        (λ image. PutsFile E.order geometry.block image path.now
         (T.taken sink.old) (T.taken sink.new) (T.failures sink.old) (T.failures sink.new) result) }
 {
     let image = load(alloc, source, GREATEST_IMAGE)?;
@@ -117,7 +123,8 @@ pub fn list_lines<E: Order, S: Source, T: Sink>(
     sink: &mut T,
 ) -> Result<u64, ProgramFault<'static>>
     // All that the source had left is read before the size of a block is judged. Nothing is put of an image that was not.
-    ensures read { ReadsWhole (S.rest source.old) (S.rest source.new) (S.failures source.old) (S.failures source.new) result }
+    ensures read { ReadsWhole (S.rest source.old) (S.rest source.new) (S.failures source.old)
+        (S.failures source.new) result }
     ensures load { IfErr result (λ fault. IsFaultOfLoad fault → sink.new ≡ sink.old) }
     ensures put { OfSomeImage (S.rest source.old) (λ image. PutsListing E.order geometry.block
         (option_map (λ p. p.now) path.entry) image

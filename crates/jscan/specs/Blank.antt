@@ -29,4 +29,5 @@ pub record IsBlankFrom (e : Endian) (size : ℕ) (image : List ℕ) (blocks b : 
 abbrev pub blank_from : Endian → ℕ → List ℕ → ℕ → ℕ
 blank_from e size image zero = zero
 blank_from e size image (suc blocks) =
-    if is_blank e size (block_of size image blocks) then blank_from e size image blocks else suc blocks
+    if is_blank e size (block_of size image blocks) then blank_from e size image blocks else
+    suc blocks

@@ -44,7 +44,12 @@ extents_below e size image n = flat_map (extents_of_block e size image) (below n
 abbrev pub counts_of : Endian → ℕ → List ℕ → ℕ → Counts
 counts_of e size image n =
     let ss = extents_below e size image n in
-    record { blocks = n; entries = count_in is_entry_tile ss; inodes = count_in is_inode_tile ss; findings = count_in is_found ss }
+    record {
+      blocks = n;
+      entries = count_in is_entry_tile ss;
+      inodes = count_in is_inode_tile ss;
+      findings = count_in is_found ss;
+    }
 
 abbrev pub no_counts : Counts
 no_counts = record { blocks = 0; entries = 0; inodes = 0; findings = 0 }

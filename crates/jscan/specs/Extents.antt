@@ -16,8 +16,8 @@ use Rattle.jscan.specs.declared.extent.Extent.{Extent}
 abbrev pub other_magic : ℕ
 other_magic = 0x8519
 
--- A word or a rest is erased if all its bytes are 0xFF. Else it is the other byte order's if it begins with that
--- order's magic, and dirt if it does not.
+-- A word or a rest is erased if all its bytes are 0xFF. Else it is the other byte order's if it
+-- begins with that order's magic, and dirt if it does not.
 unfoldable pub class_of : Endian → List ℕ → ExtentKind
 class_of e bytes =
     if list_all (λ b. b == 0xFF) bytes then Erased
@@ -32,7 +32,11 @@ extent_kind_of e Rest bytes = class_of e bytes
 
 -- a tile as an extent of the block that begins at an address
 abbrev pub extent_of : Endian → ℕ → Tile → Extent
-extent_of e start tile = record { addr = start + tile.place; len = length tile.bytes; kind = extent_kind_of e tile.kind tile.bytes }
+extent_of e start tile = record {
+  addr = start + tile.place;
+  len = length tile.bytes;
+  kind = extent_kind_of e tile.kind tile.bytes;
+}
 
 -- two kinds that go on as one run
 abbrev pub is_one_run : ExtentKind → ExtentKind → Bool
@@ -44,7 +48,8 @@ is_one_run _ _ = false
 -- an extent in front of others: one with the first of them, where they go on as one run
 abbrev pub in_front : Extent → List Extent → List Extent
 in_front s [] = s ∷ []
-in_front s (t ∷ ts) = if is_one_run s.kind t.kind then record { addr = s.addr; len = s.len + t.len; kind = s.kind } ∷ ts else s ∷ t ∷ ts
+in_front s (t ∷ ts) = if is_one_run s.kind t.kind then
+    record { addr = s.addr; len = s.len + t.len; kind = s.kind } ∷ ts else s ∷ t ∷ ts
 
 -- the extents with each longest run as one
 abbrev pub runs_joined : List Extent → List Extent

@@ -6,5 +6,6 @@ use Rattle.jscan.specs.Extents.{extents_from}
 use Rattle.jscan.specs.declared.extent.Extent.{Extent}
 use Rattle.jscan.specs.declared.extents.Extents.{Extents}
 
-abbrev pub extents_left : {E : Type 0} {o : OfOrder E} {n : OfNumbers E} → Extents E o n → List Extent
+abbrev pub extents_left : {E : Type 0} {o : OfOrder E} {n : OfNumbers E} → Extents E o n
+    → List Extent
 extents_left {o = o} left = extents_from o.order left.start left.place left.rest

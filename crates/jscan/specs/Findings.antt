@@ -28,7 +28,8 @@ found Dirt = Some kind.Dirt
 abbrev pub finding_of : Extent → Option Finding
 finding_of s = option_map (λ what. record { addr = s.addr; kind = what }) (found s.kind)
 
--- a node that no image may have here: one that may not be skipped, or a sound one whose data are compressed
+-- a node that no image may have here: one that may not be skipped, or a sound one whose data are
+-- compressed
 abbrev pub refused_node : ℕ → Seen → Option ScanFault
 refused_node addr (seen.Incompatible nodetype) = Some (fault.Incompatible addr nodetype)
 refused_node addr (seen.Compressed compr) = Some (fault.Compressed addr compr)

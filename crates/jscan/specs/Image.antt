@@ -19,7 +19,8 @@ is_block_size size = nat_le 4096 size && nat_le size 4194304 && (size % 4 == 0)
 abbrev pub greatest_image : ℕ
 greatest_image = 268435456
 
--- A block of the flash. What the image lacks counts as erased, the missing tail of its last block too.
+-- A block of the flash. What the image lacks counts as erased, the missing tail of its last block
+-- too.
 abbrev pub block_of : ℕ → List ℕ → ℕ → List ℕ
 block_of size image k = take size (drop (k * size) image ++ erased size)
 
@@ -34,7 +35,8 @@ sighting e addr bytes Rest = None
 
 -- the nodes' tiles of the rest of a block, from a place on
 abbrev pub sightings_from : Endian → ℕ → ℕ → List ℕ → List (ℕ × Seen)
-sightings_from e start place rest = filter_map (λ tile. sighting e (start + tile.place) tile.bytes tile.kind) (tiling_from e place 0 rest)
+sightings_from e start place rest = filter_map
+    (λ tile. sighting e (start + tile.place) tile.bytes tile.kind) (tiling_from e place 0 rest)
 
 -- the nodes' tiles of the block that begins at an address, in order
 abbrev pub sightings_in : Endian → ℕ → List ℕ → List (ℕ × Seen)
@@ -42,7 +44,8 @@ sightings_in e start block = sightings_from e start 0 block
 
 -- the nodes' tiles of an image, in the order of their addresses
 abbrev pub sightings : Endian → ℕ → List ℕ → List (ℕ × Seen)
-sightings e size image = flat_map (λ k. sightings_in e (k * size) (block_of size image k)) (below (block_count size image))
+sightings e size image = flat_map (λ k. sightings_in e (k * size) (block_of size image k))
+    (below (block_count size image))
 
 -- a node with its address, where the tile reads as one
 abbrev pub node_sighted : ℕ × Seen → Option (ℕ × NodeRef)

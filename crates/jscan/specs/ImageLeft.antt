@@ -12,7 +12,8 @@ use Rattle.jscan.specs.declared.extent.Extent.{Extent}
 
 -- the extents of the blocks from the k-th on
 abbrev pub extents_on : Endian → ℕ → List ℕ → ℕ → List Extent
-extents_on e size image k = flat_map (extents_of_block e size image) (drop k (below (block_count size image)))
+extents_on e size image k =
+    flat_map (extents_of_block e size image) (drop k (below (block_count size image)))
 
 module _ {E : Type 0} {o : OfOrder E} {n : OfNumbers E} where
   abbrev pub image_left : ImageExtents E o n → List Extent

@@ -18,7 +18,8 @@ pub record HasScanned (ss : List Extent) (partial : PartialScan) : Type 0 where
   pub refused : partial.refused ≡ refusal_among (filter_map sighted ss)
   pub nodes : partial.nodes.items ≡ filter_map node_sighted (before_refusal (filter_map sighted ss))
   pub findings : partial.refused ≡ None → partial.findings.items ≡ filter_map finding_of ss
-  pub read_only : partial.refused ≡ None → partial.read_only ≡ list_any (λ s. forbids_writing s.1) (filter_map sighted ss)
+  pub read_only : partial.refused ≡ None
+      → partial.read_only ≡ list_any (λ s. forbids_writing s.1) (filter_map sighted ss)
 
 -- it is the scan of an image
 pub record IsScanOf (e : Endian) (size : ℕ) (image : List ℕ) (partial : PartialScan) : Type 0 where

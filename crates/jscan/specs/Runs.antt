@@ -7,14 +7,18 @@ use Rattle.jscan.specs.declared.extent.ExtentKind.{ExtentKind}
 -- The first n bytes of the rest have this kind, and the run may go on after them.
 unfoldable pub BeginsRun : Endian → List ℕ → ℕ → ExtentKind → Type 0
 BeginsRun e rest n kind = (start place : ℕ)
-    → extents_from e start place rest ≡ in_front (record { addr = start + place; len = n; kind = kind }) (extents_from e start (place + n) (drop n rest))
+    → extents_from e start place rest ≡ in_front (record
+    { addr = start + place; len = n; kind = kind })
+    (extents_from e start (place + n) (drop n rest))
 
 -- The first n bytes of the rest are one extent, with this kind.
 unfoldable pub IsExtent : Endian → List ℕ → ℕ → ExtentKind → Type 0
 IsExtent e rest n kind = (start place : ℕ)
-    → extents_from e start place rest ≡ record { addr = start + place; len = n; kind = kind } ∷ extents_from e start (place + n) (drop n rest)
+    → extents_from e start place rest ≡ record { addr = start + place; len = n; kind = kind }
+    ∷ extents_from e start (place + n) (drop n rest)
 
 -- No run of this kind goes on with the rest.
 unfoldable pub EndsRun : Endian → List ℕ → ExtentKind → Type 0
 EndsRun e rest kind = (start place addr n : ℕ)
-    → in_front (record { addr = addr; len = n; kind = kind }) (extents_from e start place rest) ≡ record { addr = addr; len = n; kind = kind } ∷ extents_from e start place rest
+    → in_front (record { addr = addr; len = n; kind = kind }) (extents_from e start place rest)
+    ≡ record { addr = addr; len = n; kind = kind } ∷ extents_from e start place rest

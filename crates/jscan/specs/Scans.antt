@@ -56,7 +56,8 @@ first_refused e size image = refusal_among (sightings e size image)
 
 -- the nodes in front of it, in order
 abbrev pub nodes_before_refusal : Endian → ℕ → List ℕ → List (ℕ × NodeRef)
-nodes_before_refusal e size image = filter_map node_sighted (before_refusal (sightings e size image))
+nodes_before_refusal e size image =
+    filter_map node_sighted (before_refusal (sightings e size image))
 
 -- ---- answers
 
@@ -79,10 +80,14 @@ IsNoNode (fault.Compressed addr compr) = ⊥
 -- the answer of a scan of an image
 abbrev pub Scans : Endian → ℕ → List ℕ → Result Scan ScanFault → Type 0
 Scans e size image (Ok scan) =
-    IsScannable size image × (first_refused e size image ≡ None) × (scan.nodes.items ≡ nodes e size image)
+    IsScannable size image × (first_refused e size image ≡ None)
+    × (scan.nodes.items ≡ nodes e size image)
     × (scan.findings.items ≡ findings e size image) × (scan.read_only ≡ is_read_only e size image)
 Scans e size image (Err fault.BlockSize) = IsFalse (is_block_size size)
-Scans e size image (Err fault.TooLarge) = IsTrue (is_block_size size) × (greatest_image < length image)
-Scans e size image (Err (fault.Incompatible addr nodetype)) = IsScannable size image × (first_refused e size image ≡ Some (fault.Incompatible addr nodetype))
-Scans e size image (Err (fault.Compressed addr compr)) = IsScannable size image × (first_refused e size image ≡ Some (fault.Compressed addr compr))
+Scans e size image (Err fault.TooLarge) =
+    IsTrue (is_block_size size) × (greatest_image < length image)
+Scans e size image (Err (fault.Incompatible addr nodetype)) =
+    IsScannable size image × (first_refused e size image ≡ Some (fault.Incompatible addr nodetype))
+Scans e size image (Err (fault.Compressed addr compr)) =
+    IsScannable size image × (first_refused e size image ≡ Some (fault.Compressed addr compr))
 Scans e size image (Err fault.OutOfMemory) = IsScannable size image

@@ -7,5 +7,6 @@ use Rattle.jscan.specs.Extents.{sighted}
 use Rattle.jscan.specs.ImageLeft.{image_left}
 use Rattle.jscan.specs.declared.sightings.Sightings.{Sightings}
 
-abbrev pub sightings_left : {E : Type 0} {o : OfOrder E} {n : OfNumbers E} → Sightings E o n → List (ℕ × Seen)
+abbrev pub sightings_left : {E : Type 0} {o : OfOrder E} {n : OfNumbers E} → Sightings E o n
+    → List (ℕ × Seen)
 sightings_left sightings = filter_map sighted (image_left sightings.extents)

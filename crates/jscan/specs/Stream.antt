@@ -10,7 +10,8 @@ use Rattle.jscan.specs.declared.stream.StreamFault.TheVariants.{BlockSize, Devic
 use Rattle.jscan.specs.declared.stream.BlockReader.{BlockReader}
 use denote.Ref.{Bor}
 
--- The block is the next one of these bytes, all of them within the greatest image, and the others are left.
+-- The block is the next one of these bytes, all of them within the greatest image, and the others
+-- are left.
 abbrev pub IsNextBlock : ℕ → ℕ → Option (List ℕ) → Option (List ℕ) → List ℕ → Type 0
 IsNextBlock size start None new block = ⊤
 IsNextBlock size start (Some bytes) new block =
@@ -71,11 +72,14 @@ module _ {S : Type 0} {o : OfSource S} where
     pub same_size : size_of new ≡ size_of old
     pub stays : start_of new ≡ start_of old
     pub failed : fault_of new ≡ Some fault
-    pub torn : fault ≡ Device → fault_of old ≡ None → StopsWithin (rest_of old) (rest_of new) (size_of old)
-    pub passed : fault ≡ TooLarge → fault_of old ≡ None → StopsPast (rest_of old) (rest_of new) (greatest_image - start_of old) (size_of old)
+    pub torn : fault ≡ Device → fault_of old ≡ None
+        → StopsWithin (rest_of old) (rest_of new) (size_of old)
+    pub passed : fault ≡ TooLarge → fault_of old ≡ None
+        → StopsPast (rest_of old) (rest_of new) (greatest_image - start_of old) (size_of old)
     pub again : IfSome (fault_of old) (λ f. (fault ≡ f) × (new ≡ old))
     pub first : IfNone (fault_of old) ((has_ended old ≡ false)
-        × Breaks (rest_of old) (failures_of old) (failures_of new) (size_of old) (greatest_image - start_of old) fault)
+        × Breaks (rest_of old) (failures_of old) (failures_of new) (size_of old)
+        (greatest_image - start_of old) fault)
 
   -- one call, which answers whether there is a block in the buffer
   abbrev pub Steps : BlockReader S o → BlockReader S o → Result Bool StreamFault → Type 0
@@ -84,19 +88,21 @@ module _ {S : Type 0} {o : OfSource S} where
   Steps old new (Err fault) = GivesFault old new fault
 
   -- one call of `next`
-  abbrev pub Gives : BlockReader S o → BlockReader S o → Result (Option (Bor (List ℕ))) StreamFault → Type 0
+  abbrev pub Gives : BlockReader S o → BlockReader S o → Result (Option (Bor (List ℕ))) StreamFault
+      → Type 0
   Gives old new (Ok (Some block)) = GivesBlock old new block.now
   Gives old new (Ok None) = GivesNone old new
   Gives old new (Err fault) = GivesFault old new fault
 
   -- a reader of blocks of this size that has given none
   abbrev pub IsAtStart : ℕ → BlockReader S o → Type 0
-  IsAtStart size reader = (is_block_size size ≡ true) × (size_of reader ≡ size) × (start_of reader ≡ 0) × (fault_of reader ≡ None)
+  IsAtStart size reader = (is_block_size size ≡ true) × (size_of reader ≡ size)
+      × (start_of reader ≡ 0) × (fault_of reader ≡ None)
 
 -- ---- the source of a call that goes over all blocks
 
--- A source comes back with the count of its failures, which rose by one where it is blamed, and else stayed. It is gone exactly
--- where nothing is read of it.
+-- A source comes back with the count of its failures, which rose by one where it is blamed, and
+-- else stayed. It is gone exactly where nothing is read of it.
 abbrev pub ComesBack : {T : Type 0} → ℕ → Option ℕ → Result T StreamFault → Type 0
 ComesBack before None (Err BlockSize) = ⊤
 ComesBack before None (Err OutOfMemory) = ⊤
@@ -106,10 +112,13 @@ ComesBack before (Some now) (Err OutOfMemory) = ⊥
 ComesBack before (Some now) (Err Device) = now ≡ next_count before
 ComesBack before (Some now) _ = now ≡ before
 
--- What is left of it, of whose bytes `start` are those of the blocks given: nothing; or where it failed, all but less than a block
--- of what follows them; or all but a part that goes past the greatest image.
-abbrev pub IsReadTo : {T : Type 0} → ℕ → ℕ → List ℕ → Option (List ℕ) → Result T StreamFault → Type 0
+-- What is left of it, of whose bytes `start` are those of the blocks given: nothing; or where it
+-- failed, all but less than a block of what follows them; or all but a part that goes past the
+-- greatest image.
+abbrev pub IsReadTo : {T : Type 0} → ℕ → ℕ → List ℕ → Option (List ℕ) → Result T StreamFault
+    → Type 0
 IsReadTo size start image left (Ok _) = IsAtEnd left
 IsReadTo size start image left (Err Device) = StopsWithin (Some (drop start image)) left size
-IsReadTo size start image left (Err TooLarge) = StopsPast (Some (drop start image)) left (greatest_image - start) size
+IsReadTo size start image left (Err TooLarge) =
+    StopsPast (Some (drop start image)) left (greatest_image - start) size
 IsReadTo size start image left (Err _) = ⊤

@@ -21,24 +21,35 @@ pub fn scan_stream<E: Order, S: Source>(
     geometry: Geometry,
     counts: &mut Counts,
 ) -> (Result<(), StreamFault>, Option<S>)
-    ensures counted { IfSome (S.rest source) (λ image. counts.new ≡ counts_of E.order geometry.block image counts.new.blocks) }
-    ensures all { OnOk result.0 (IfSome (S.rest source) (λ image. counts.new.blocks ≡ block_count geometry.block image)) }
-    ensures within { OnOk result.0 (IfSome (S.rest source) (λ image. length image ≤ greatest_image)) }
-    ensures block_size { result.0 ≡ Err StreamFault.BlockSize ↔ (is_block_size geometry.block ≡ false) }
+    ensures counted { IfSome (S.rest source)
+        (λ image. counts.new ≡ counts_of E.order geometry.block image counts.new.blocks) }
+    ensures all { OnOk result.0
+        (IfSome (S.rest source) (λ image. counts.new.blocks ≡ block_count geometry.block image)) }
+    ensures within { OnOk result.0
+        (IfSome (S.rest source) (λ image. length image ≤ greatest_image)) }
+    ensures block_size { result.0 ≡ Err StreamFault.BlockSize
+        ↔ (is_block_size geometry.block ≡ false) }
     ensures unread { result.0 ≡ Err StreamFault.BlockSize → counts.new ≡ no_counts }
     ensures memory { result.0 ≡ Err StreamFault.OutOfMemory → counts.new ≡ no_counts }
 
-    // Only where the next block holds a byte past the greatest image, within which those counted end.
+    // Only where the next block holds a byte past the greatest image, within which those counted
+    // end.
     ensures too_large { result.0 ≡ Err StreamFault.TooLarge
-        → IfSome (S.rest source) (λ image. greatest_image < min (length image) ((counts.new.blocks + 1) * geometry.block)) }
-    ensures before_the_end { result.0 ≡ Err StreamFault.TooLarge → counts.new.blocks * geometry.block ≤ greatest_image }
+        → IfSome (S.rest source)
+        (λ image.
+        greatest_image < min (length image) ((counts.new.blocks + 1) * geometry.block)) }
+    ensures before_the_end { result.0 ≡ Err StreamFault.TooLarge
+        → counts.new.blocks * geometry.block ≤ greatest_image }
 
     // The source failed exactly where it is blamed, once.
-    ensures back { ComesBack (S.failures source) (option_map (λ left. S.failures left) result.1) result.0 }
+    ensures back { ComesBack (S.failures source) (option_map (λ left. S.failures left) result.1)
+        result.0 }
 
-    // It is at its end, or within the block after those counted where it failed, or past the greatest image.
+    // It is at its end, or within the block after those counted where it failed, or past the
+    // greatest image.
     ensures left { IfSome result.1 (λ left. IfSome (S.rest source)
-        (λ image. IsReadTo geometry.block (counts.new.blocks * geometry.block) image (S.rest left) result.0)) }
+        (λ image. IsReadTo geometry.block (counts.new.blocks * geometry.block) image (S.rest left)
+        result.0)) }
 {
     *counts = Counts {
         blocks: 0,
@@ -62,14 +73,23 @@ fn count_blocks<E: Order, S: Source>(
 ) -> Result<(), StreamFault>
     requires start { IsAtStart geometry.block reader.old }
     requires uncounted { counts.old ≡ no_counts }
-    ensures counted { IfSome (rest_of reader.old) (λ image. counts.new ≡ counts_of E.order geometry.block image counts.new.blocks) }
-    ensures all { OnOk result (IfSome (rest_of reader.old) (λ image. counts.new.blocks ≡ block_count geometry.block image)) }
-    ensures within { OnOk result (IfSome (rest_of reader.old) (λ image. length image ≤ greatest_image)) }
+    ensures counted { IfSome (rest_of reader.old)
+        (λ image. counts.new ≡ counts_of E.order geometry.block image counts.new.blocks) }
+    ensures all { OnOk result
+        (IfSome (rest_of reader.old)
+        (λ image. counts.new.blocks ≡ block_count geometry.block image)) }
+    ensures within { OnOk result
+        (IfSome (rest_of reader.old) (λ image. length image ≤ greatest_image)) }
     ensures too_large { result ≡ Err StreamFault.TooLarge
-        → IfSome (rest_of reader.old) (λ image. greatest_image < min (length image) ((counts.new.blocks + 1) * geometry.block)) }
-    ensures before_the_end { result ≡ Err StreamFault.TooLarge → counts.new.blocks * geometry.block ≤ greatest_image }
+        → IfSome (rest_of reader.old)
+        (λ image.
+        greatest_image < min (length image) ((counts.new.blocks + 1) * geometry.block)) }
+    ensures before_the_end { result ≡ Err StreamFault.TooLarge
+        → counts.new.blocks * geometry.block ≤ greatest_image }
     ensures read { ComesBack (failures_of reader.old) (Some (failures_of reader.new)) result }
-    ensures left { IfSome (rest_of reader.old) (λ image. IsReadTo geometry.block (counts.new.blocks * geometry.block) image (rest_of reader.new) result) }
+    ensures left { IfSome (rest_of reader.old) (λ image.
+        IsReadTo geometry.block (counts.new.blocks * geometry.block) image (rest_of reader.new)
+        result) }
 {
     let mut start = 0;
     while let Some(block) = reader.next()? {

@@ -30,11 +30,14 @@ impl<'a, E: Order> ImageExtents<'a, E> {
     ghost use Rattle.jscan.specs.ExtentsLeft.{extents_left};
 
     pub(crate) fn new(image: &'a [u8], geometry: Geometry) -> Result<Self, ScanFault>
-        ensures block_size { result ≡ Err ScanFault.BlockSize ↔ (is_block_size geometry.block ≡ false) }
-        ensures too_large { result ≡ Err ScanFault.TooLarge ↔ (is_block_size geometry.block ≡ true) × (greatest_image < length image.now) }
+        ensures block_size { result ≡ Err ScanFault.BlockSize
+            ↔ (is_block_size geometry.block ≡ false) }
+        ensures too_large { result ≡ Err ScanFault.TooLarge ↔ (is_block_size geometry.block ≡ true)
+            × (greatest_image < length image.now) }
         ensures no_other { IfErr result IsUnread }
         ensures scannable { OnOk result (IsScannable geometry.block image.now) }
-        ensures extents { IfOk result (λ left. image_left left ≡ image_extents E.order geometry.block image.now) }
+        ensures extents { IfOk result
+            (λ left. image_left left ≡ image_extents E.order geometry.block image.now) }
     {
         if !geometry.is_readable() {
             return Err(ScanFault::BlockSize);

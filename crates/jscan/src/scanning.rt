@@ -18,15 +18,21 @@ pub fn scan_to_refusal<'a, E: Order>(
     geometry: Geometry,
 ) -> Result<PartialScan<'a>, ScanFault>
     ensures block_size { result ≡ Err ScanFault.BlockSize ↔ (is_block_size geometry.block ≡ false) }
-    ensures too_large { result ≡ Err ScanFault.TooLarge ↔ (is_block_size geometry.block ≡ true) × (greatest_image < length image.now) }
+    ensures too_large { result ≡ Err ScanFault.TooLarge ↔ (is_block_size geometry.block ≡ true)
+        × (greatest_image < length image.now) }
     ensures memory { result ≡ Err ScanFault.OutOfMemory → IsScannable geometry.block image.now }
     ensures no_other { IfErr result IsNoNode }
     ensures scannable { OnOk result (IsScannable geometry.block image.now) }
-    ensures refused { IfOk result (λ partial. partial.refused ≡ first_refused E.order geometry.block image.now) }
-    ensures nodes { IfOk result (λ partial. partial.nodes.items ≡ nodes_before_refusal E.order geometry.block image.now) }
-    ensures all_nodes { IfOk result (λ partial. partial.refused ≡ None → partial.nodes.items ≡ nodes E.order geometry.block image.now) }
-    ensures findings { IfOk result (λ partial. partial.refused ≡ None → partial.findings.items ≡ findings E.order geometry.block image.now) }
-    ensures read_only { IfOk result (λ partial. partial.refused ≡ None → partial.read_only ≡ is_read_only E.order geometry.block image.now) }
+    ensures refused { IfOk result
+        (λ partial. partial.refused ≡ first_refused E.order geometry.block image.now) }
+    ensures nodes { IfOk result
+        (λ partial. partial.nodes.items ≡ nodes_before_refusal E.order geometry.block image.now) }
+    ensures all_nodes { IfOk result (λ partial. partial.refused ≡ None
+        → partial.nodes.items ≡ nodes E.order geometry.block image.now) }
+    ensures findings { IfOk result (λ partial. partial.refused ≡ None
+        → partial.findings.items ≡ findings E.order geometry.block image.now) }
+    ensures read_only { IfOk result (λ partial. partial.refused ≡ None
+        → partial.read_only ≡ is_read_only E.order geometry.block image.now) }
 {
     let mut partial = PartialScan::new(alloc);
     for extent in ImageExtents::<E>::new(image, geometry)? {

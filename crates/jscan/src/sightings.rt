@@ -20,11 +20,14 @@ impl<'a, E: Order> Sightings<'a, E> {
 
     /// The sightings of an image.
     pub fn new(image: &'a [u8], geometry: Geometry) -> Result<Self, ScanFault>
-        ensures block_size { result ≡ Err ScanFault.BlockSize ↔ (is_block_size geometry.block ≡ false) }
-        ensures too_large { result ≡ Err ScanFault.TooLarge ↔ (is_block_size geometry.block ≡ true) × (greatest_image < length image.now) }
+        ensures block_size { result ≡ Err ScanFault.BlockSize
+            ↔ (is_block_size geometry.block ≡ false) }
+        ensures too_large { result ≡ Err ScanFault.TooLarge ↔ (is_block_size geometry.block ≡ true)
+            × (greatest_image < length image.now) }
         ensures no_other { IfErr result IsUnread }
         ensures scannable { OnOk result (IsScannable geometry.block image.now) }
-        ensures sightings { IfOk result (λ left. sightings_left left ≡ sightings E.order geometry.block image.now) }
+        ensures sightings { IfOk result
+            (λ left. sightings_left left ≡ sightings E.order geometry.block image.now) }
     {
         Ok(Sightings {
             extents: ImageExtents::new(image, geometry)?,

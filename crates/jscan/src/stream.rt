@@ -72,9 +72,11 @@ impl<S: Source> BlockReader<S> {
         ensures size { IfOk result (λ reader. size_of reader ≡ geometry.block) }
         ensures start { IfOk result (λ reader. start_of reader ≡ 0) }
         ensures source { IfOk result (λ reader. source_of reader ≡ source) }
-        ensures reading { IfOk result (λ reader. (fault_of reader ≡ None) × (has_ended reader ≡ false)) }
+        ensures reading { IfOk result
+            (λ reader. (fault_of reader ≡ None) × (has_ended reader ≡ false)) }
         ensures readable { OnOk result (is_block_size geometry.block ≡ true) }
-        ensures block_size { result ≡ Err StreamFault.BlockSize ↔ (is_block_size geometry.block ≡ false) }
+        ensures block_size { result ≡ Err StreamFault.BlockSize
+            ↔ (is_block_size geometry.block ≡ false) }
         ensures no_other { (result ≢ Err StreamFault.Device) × (result ≢ Err StreamFault.TooLarge) }
     {
         if !geometry.is_readable() {
@@ -147,13 +149,18 @@ fn fill_block<S: Source>(
 ) -> Result<usize, StreamFault>
     ensures whole { length block.new ≡ length block.old }
     ensures within { IfOk result (λ n. (n ≤ length block.new) × (n ≤ room)) }
-    ensures bytes { IfOk result (λ n. Consumes (S.rest source.old) (S.rest source.new) (take n block.new)) }
+    ensures bytes { IfOk result
+        (λ n. Consumes (S.rest source.old) (S.rest source.new) (take n block.new)) }
     ensures end { IfOk result (λ n. n < length block.new → IsAtEnd (S.rest source.new)) }
-    ensures filled { IfOk result (λ n. block.new ≡ take n block.new ++ replicate (length block.new - n) 0xFF) }
+    ensures filled { IfOk result
+        (λ n. block.new ≡ take n block.new ++ replicate (length block.new - n) 0xFF) }
     ensures none_failed { OnOk result (S.failures source.new ≡ S.failures source.old) }
-    ensures torn { result ≡ Err StreamFault.Device → StopsWithin (S.rest source.old) (S.rest source.new) (length block.old) }
-    ensures passed { result ≡ Err StreamFault.TooLarge → StopsPast (S.rest source.old) (S.rest source.new) room (length block.old) }
-    ensures fault { IfErr result (λ e. Breaks (S.rest source.old) (S.failures source.old) (S.failures source.new) (length block.old) room e) }
+    ensures torn { result ≡ Err StreamFault.Device
+        → StopsWithin (S.rest source.old) (S.rest source.new) (length block.old) }
+    ensures passed { result ≡ Err StreamFault.TooLarge
+        → StopsPast (S.rest source.old) (S.rest source.new) room (length block.old) }
+    ensures fault { IfErr result (λ e. Breaks (S.rest source.old) (S.failures source.old)
+        (S.failures source.new) (length block.old) room e) }
 {
     let mut filled = 0;
     while filled < block.len() {

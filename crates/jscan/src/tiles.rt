@@ -105,12 +105,14 @@ ghost use Rattle.jscan.specs.Tiling.{tile_at};
 pub(crate) fn front<E: Order>(rest: &Part<'_>) -> (TileKind, usize)
     requires nonempty { 0 < length rest.now }
     requires whole_words { length rest.now % 4 ≡ 0 }
-    ensures tile { (place : ℕ) → tile_at E.order place rest.now ≡ record { place = place; kind = result.0; bytes = take result.1 rest.now } }
+    ensures tile { (place : ℕ) → tile_at E.order place rest.now
+        ≡ record { place = place; kind = result.0; bytes = take result.1 rest.now } }
     ensures nonempty { 0 < result.1 }
     ensures within { result.1 ≤ length rest.now }
     ensures whole_words { result.1 % 4 ≡ 0 }
     ensures good { (header : Header) → result.0 ≡ Node header → IsGood E.order rest.now }
-    ensures good_tile { (header : Header) → result.0 ≡ Node header → IsGood E.order (take result.1 rest.now) }
+    ensures good_tile { (header : Header) → result.0 ≡ Node header
+        → IsGood E.order (take result.1 rest.now) }
 {
     match header_of::<E>(rest) {
         Some(header) => (TileKind::Node(header), pad4(header.totlen) as usize),
@@ -123,12 +125,14 @@ pub(crate) fn front<E: Order>(rest: &Part<'_>) -> (TileKind, usize)
 fn front_of<E: Order>(rest: &[u8]) -> (TileKind, usize)
     requires nonempty { 0 < length rest.now }
     requires whole_words { length rest.now % 4 ≡ 0 }
-    ensures tile { (place : ℕ) → tile_at E.order place rest.now ≡ record { place = place; kind = result.0; bytes = take result.1 rest.now } }
+    ensures tile { (place : ℕ) → tile_at E.order place rest.now
+        ≡ record { place = place; kind = result.0; bytes = take result.1 rest.now } }
     ensures nonempty { 0 < result.1 }
     ensures within { result.1 ≤ length rest.now }
     ensures whole_words { result.1 % 4 ≡ 0 }
     ensures good { (header : Header) → result.0 ≡ Node header → IsGood E.order rest.now }
-    ensures good_tile { (header : Header) → result.0 ≡ Node header → IsGood E.order (take result.1 rest.now) }
+    ensures good_tile { (header : Header) → result.0 ≡ Node header
+        → IsGood E.order (take result.1 rest.now) }
 {
     front::<E>(&whole(rest))
 }

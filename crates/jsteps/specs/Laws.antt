@@ -1,4 +1,5 @@
--- Laws of steps and their nodes. Each is a statement: it holds since a public function's contract names it.
+-- Laws of steps and their nodes. Each is a statement: it holds since a public function's contract
+-- names it.
 use Rattle.std.specs.Prelude.{◌≡◌, ◌≢◌, ℕ, ◌+◌, ◌<◌, ◌≤◌, ◌^◌, IsTrue, List, [], ◌∷◌, ◌++◌, length, map, take, Contains, Some, Ok}
 use Rattle.std.specs.List.{AllByRecursion}
 use Rattle.flashbase.specs.Ranges.{AreBytes, IsHalf, IsWord}
@@ -24,23 +25,28 @@ use Rattle.jsteps.specs.declared.step.Step.{Step}
 
 -- the outline of what a step does is what the step does to the outline
 abbrev pub OutlineOfStep : Type 0
-OutlineOfStep = (s : State) (st : Step) → IsDefined (outline s) st → outline (do_step bytes s st) ≡ do_step sizes (outline s) st
+OutlineOfStep = (s : State) (st : Step) → IsDefined (outline s) st
+    → outline (do_step bytes s st) ≡ do_step sizes (outline s) st
 
 -- one more node makes the file system after one more step
 abbrev pub OneNodeIsOneStep : Type 0
-OneNodeIsOneStep = (ns : List NodeRef) (s : Step) → IsReady (index_of ns) s → state_of (ns ++ node_of (index_of ns) s ∷ []) ≡ do_step bytes (state_of ns) s
+OneNodeIsOneStep = (ns : List NodeRef) (s : Step) → IsReady (index_of ns) s
+    → state_of (ns ++ node_of (index_of ns) s ∷ []) ≡ do_step bytes (state_of ns) s
 
 -- and leads to the next index
 abbrev pub OneNodeIsOneAdvance : Type 0
-OneNodeIsOneAdvance = (ns : List NodeRef) (s : Step) → IsReady (index_of ns) s → index_of (ns ++ node_of (index_of ns) s ∷ []) ≡ advanced (index_of ns) s
+OneNodeIsOneAdvance = (ns : List NodeRef) (s : Step) → IsReady (index_of ns) s
+    → index_of (ns ++ node_of (index_of ns) s ∷ []) ≡ advanced (index_of ns) s
 
 -- its version is above those of its number
 abbrev pub NewNodeIsNewer : Type 0
-NewNodeIsNewer = (ns : List NodeRef) (s : Step) → IsReady (index_of ns) s → top ns (owner (node_of (index_of ns) s)) < version_of (node_of (index_of ns) s)
+NewNodeIsNewer = (ns : List NodeRef) (s : Step) → IsReady (index_of ns) s
+    → top ns (owner (node_of (index_of ns) s)) < version_of (node_of (index_of ns) s)
 
 -- so it clashes with none of the nodes
 abbrev pub StepDoesNotClash : Type 0
-StepDoesNotClash = (ns : List NodeRef) (s : Step) (other : NodeRef) → IsReady (index_of ns) s → Contains ns other → NodesClash other (node_of (index_of ns) s) → ⊥
+StepDoesNotClash = (ns : List NodeRef) (s : Step) (other : NodeRef) → IsReady (index_of ns) s
+    → Contains ns other → NodesClash other (node_of (index_of ns) s) → ⊥
 
 -- ---- steps that follow one another
 
@@ -50,21 +56,25 @@ pub record AreSteps (ns : List NodeRef) (steps : List Step) : Type 0 where
   pub index : index_of (ns ++ nodes_of (index_of ns) steps) ≡ advanced_all (index_of ns) steps
 
 abbrev pub NodesAreSteps : Type 0
-NodesAreSteps = (ns : List NodeRef) (steps : List Step) → AllReady (index_of ns) steps → AreSteps ns steps
+NodesAreSteps =
+    (ns : List NodeRef) (steps : List Step) → AllReady (index_of ns) steps → AreSteps ns steps
 
 -- no two of these nodes clash
 abbrev pub NoneClash : List NodeRef → Type 0
 NoneClash ns = (a b : NodeRef) → Contains ns a → Contains ns b → NodesClash a b → ⊥
 
 abbrev pub NewNodesDoNotClash : Type 0
-NewNodesDoNotClash = (ns : List NodeRef) (steps : List Step) → AllReady (index_of ns) steps → NoneClash ns → NoneClash (ns ++ nodes_of (index_of ns) steps)
+NewNodesDoNotClash = (ns : List NodeRef) (steps : List Step) → AllReady (index_of ns) steps
+    → NoneClash ns → NoneClash (ns ++ nodes_of (index_of ns) steps)
 
 -- and the first so many nodes are those of the first so many steps, which are ready as all are
 abbrev pub FirstNodesAreOfFirstSteps : Type 0
-FirstNodesAreOfFirstSteps = (x : Indexed) (steps : List Step) (m : ℕ) → nodes_of x (take m steps) ≡ take m (nodes_of x steps)
+FirstNodesAreOfFirstSteps = (x : Indexed) (steps : List Step) (m : ℕ)
+    → nodes_of x (take m steps) ≡ take m (nodes_of x steps)
 
 abbrev pub FirstStepsAreReady : Type 0
-FirstStepsAreReady = (x : Indexed) (steps : List Step) (m : ℕ) → AllReady x steps → AllReady x (take m steps)
+FirstStepsAreReady =
+    (x : Indexed) (steps : List Step) (m : ℕ) → AllReady x steps → AllReady x (take m steps)
 
 -- ---- what an index holds
 
@@ -76,15 +86,17 @@ pub record OutlineObjectFits (o : ObjectOf ℕ) : Type 0 where
   pub atime : IsWord o.atime
   pub size : IsWord o.body
 
--- The root is a directory, the numbers below the next are of 32 bits, objects, directories that have names and what names
--- stand for have such, and what is kept fits its widths.
+-- The root is a directory, the numbers below the next are of 32 bits, objects, directories that
+-- have names and what names stand for have such, and what is kept fits its widths.
 pub record IsConsistent (x : Indexed) : Type 0 where
   pub root : IsTrue (is_directory x.tree 1)
   pub next : x.tree.next ≤ 2 ^ 32
   pub numbered : (i : ℕ) (o : ObjectOf ℕ) → object x.tree i ≡ Some o → i < x.tree.next
   pub fits : (i : ℕ) (o : ObjectOf ℕ) → object x.tree i ≡ Some o → OutlineObjectFits o
-  pub linked : (dir : ℕ) (name : List ℕ) (i : ℕ) → named x.tree dir name ≡ Some i → (0 < i) × (i < x.tree.next)
-  pub directories : (dir : ℕ) (name : List ℕ) (i : ℕ) → named x.tree dir name ≡ Some i → dir < x.tree.next
+  pub linked : (dir : ℕ) (name : List ℕ) (i : ℕ) → named x.tree dir name ≡ Some i → (0 < i)
+      × (i < x.tree.next)
+  pub directories : (dir : ℕ) (name : List ℕ) (i : ℕ) → named x.tree dir name ≡ Some i
+      → dir < x.tree.next
 
 -- each node fits its widths, as those that are read do
 abbrev pub AllFit : List NodeRef → Type 0
@@ -92,17 +104,20 @@ AllFit ns = (node : NodeRef) → Contains ns node → Fits node
 
 -- the nodes of an image that mounts lead to one
 abbrev pub IndexIsConsistent : Type 0
-IndexIsConsistent = (ns : List NodeRef) → AllFit ns → IsTrue (is_directory (state_of ns) 1) → IsConsistent (index_of ns)
+IndexIsConsistent = (ns : List NodeRef) → AllFit ns → IsTrue (is_directory (state_of ns) 1)
+    → IsConsistent (index_of ns)
 
 -- what a mounted image leads to is what its nodes lead to
 abbrev pub IndexIsOfNodes : Type 0
-IndexIsOfNodes = (e : Endian) (size : ℕ) (m : Mount) → IsMountOf e size m → indexed m ≡ index_of (plain_nodes e size m.image)
+IndexIsOfNodes = (e : Endian) (size : ℕ) (m : Mount) → IsMountOf e size m
+    → indexed m ≡ index_of (plain_nodes e size m.image)
 
 -- ---- plans
 
 -- the owners and the times of attributes that are given fit their widths
 abbrev pub GivenFit : Attributes → Type 0
-GivenFit attributes = IsHalf attributes.uid × IsHalf attributes.gid × IsWord attributes.atime × IsWord attributes.mtime
+GivenFit attributes = IsHalf attributes.uid × IsHalf attributes.gid × IsWord attributes.atime
+    × IsWord attributes.mtime
 
 -- the time and the owners of an operation fit their widths, as those of the type do
 abbrev pub OpFits : Op → Type 0
@@ -120,7 +135,8 @@ OpFits (op.Rename time old new) = IsWord time
 OpFits (op.Replace time old new) = IsWord time
 OpFits (op.SetAttributes time path attributes) = IsWord time × GivenFit attributes
 
--- steps of which each is ready and has room when its turn comes, and an index after them that is consistent again
+-- steps of which each is ready and has room when its turn comes, and an index after them that is
+-- consistent again
 pub record AreReady (x : Indexed) (steps : List Step) : Type 0 where
   pub ready : AllReady x steps
   pub room : AllRoom x steps
@@ -128,9 +144,11 @@ pub record AreReady (x : Indexed) (steps : List Step) : Type 0 where
 
 -- those of a plan are
 abbrev pub PlannedIsReady : Type 0
-PlannedIsReady = (page : ℕ) (x : Indexed) (o : Op) (steps : List Step) → IsPage page → IsConsistent x → OpFits o → planned_by page x o ≡ Ok steps → AreReady x steps
+PlannedIsReady = (page : ℕ) (x : Indexed) (o : Op) (steps : List Step) → IsPage page
+    → IsConsistent x → OpFits o → planned_by page x o ≡ Ok steps → AreReady x steps
 
--- a node that a plan may have: it can be written, its bytes fit a page and a header, and its length spells no magic
+-- a node that a plan may have: it can be written, its bytes fit a page and a header, and its length
+-- spells no magic
 pub record IsPlanned (page : ℕ) (e : Endian) (node : NodeRef) : Type 0 where
   pub fits : Fits node
   pub writable : IsTrue (is_writable node)
@@ -139,35 +157,43 @@ pub record IsPlanned (page : ℕ) (e : Endian) (node : NodeRef) : Type 0 where
 
 -- the nodes of a plan are such
 abbrev pub PlannedIsWritable : Type 0
-PlannedIsWritable = (page : ℕ) (e : Endian) (x : Indexed) (o : Op) (steps : List Step) → IsPage page → IsConsistent x → OpFits o → planned_by page x o ≡ Ok steps
+PlannedIsWritable = (page : ℕ) (e : Endian) (x : Indexed) (o : Op) (steps : List Step) → IsPage page
+    → IsConsistent x → OpFits o → planned_by page x o ≡ Ok steps
     → AllByRecursion (IsPlanned page e) (nodes_of x steps)
 
 -- ---- the whole
 
--- After any number of these steps' nodes the file system is that after as many steps, with a root that is a directory;
--- and no node clashes with another, where none did before.
+-- After any number of these steps' nodes the file system is that after as many steps, with a root
+-- that is a directory; and no node clashes with another, where none did before.
 pub record GoesOn (page : ℕ) (ns : List NodeRef) (steps : List Step) : Type 0 where
-  pub states : (m : ℕ) → state_of (ns ++ take m (nodes_of (index_of ns) steps)) ≡ after bytes (state_of ns) (take m steps)
-  pub indexes : (m : ℕ) → index_of (ns ++ take m (nodes_of (index_of ns) steps)) ≡ advanced_all (index_of ns) (take m steps)
+  pub states : (m : ℕ) → state_of (ns ++ take m (nodes_of (index_of ns) steps))
+      ≡ after bytes (state_of ns) (take m steps)
+  pub indexes : (m : ℕ) → index_of (ns ++ take m (nodes_of (index_of ns) steps))
+      ≡ advanced_all (index_of ns) (take m steps)
   pub roots : (m : ℕ) → IsTrue (is_directory (after bytes (state_of ns) (take m steps)) 1)
   pub apart : NoneClash ns → (m : ℕ) → NoneClash (ns ++ take m (nodes_of (index_of ns) steps))
   pub room : AllRoom (index_of ns) steps
   pub written : (e : Endian) → AllByRecursion (IsPlanned page e) (nodes_of (index_of ns) steps)
 
--- So it is of the steps of operations that follow one another, up to any of them or to the first that is refused.
+-- So it is of the steps of operations that follow one another, up to any of them or to the first
+-- that is refused.
 abbrev pub PlannedGoesOn : Type 0
-PlannedGoesOn = (page : ℕ) (ns : List NodeRef) (ops : List Op) (n : ℕ) → IsPage page → AllFit ns → IsTrue (is_directory (state_of ns) 1) → AllByRecursion OpFits ops
+PlannedGoesOn = (page : ℕ) (ns : List NodeRef) (ops : List Op) (n : ℕ) → IsPage page → AllFit ns
+    → IsTrue (is_directory (state_of ns) 1) → AllByRecursion OpFits ops
     → GoesOn page ns (steps_of_first page (index_of ns) ops n)
 
 -- No two nodes of an image that mounts clash.
 abbrev pub MountedDoNotClash : Type 0
-MountedDoNotClash = (e : Endian) (size : ℕ) (m : Mount) → IsMountOf e size m → NoneClash (plain_nodes e size m.image)
+MountedDoNotClash = (e : Endian) (size : ℕ) (m : Mount) → IsMountOf e size m
+    → NoneClash (plain_nodes e size m.image)
 
 -- And where no nodes clash, none does at its address.
 abbrev pub NoneClashesAtAddress : Type 0
-NoneClashesAtAddress = (ns : List (ℕ × NodeRef)) → NoneClash (map (λ n. n.1) ns) → (addr : ℕ) → IsClashAt ns addr → ⊥
+NoneClashesAtAddress =
+    (ns : List (ℕ × NodeRef)) → NoneClash (map (λ n. n.1) ns) → (addr : ℕ) → IsClashAt ns addr → ⊥
 
 -- So an image that mounts goes on by the steps that its index plans.
 abbrev pub MountedGoesOn : Type 0
-MountedGoesOn = (page : ℕ) (e : Endian) (size : ℕ) (m : Mount) (ops : List Op) (n : ℕ) → IsPage page → IsMountOf e size m → AreBytes m.image → AllByRecursion OpFits ops
+MountedGoesOn = (page : ℕ) (e : Endian) (size : ℕ) (m : Mount) (ops : List Op) (n : ℕ) → IsPage page
+    → IsMountOf e size m → AreBytes m.image → AllByRecursion OpFits ops
     → GoesOn page (plain_nodes e size m.image) (steps_of_first page (indexed m) ops n)

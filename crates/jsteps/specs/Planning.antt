@@ -24,7 +24,8 @@ page_size P4096 = plain_page
 page_size P8192 = 8192
 page_size P16384 = 16384
 
--- the length of a piece whose node is 0x1985 bytes long, so that its length spells the magic of a header
+-- the length of a piece whose node is 0x1985 bytes long, so that its length spells the magic of a
+-- header
 abbrev pub spelling_len : ℕ
 spelling_len = 0x1985 - 68
 
@@ -32,20 +33,23 @@ spelling_len = 0x1985 - 68
 abbrev pub piece_puts : ℕ → ℕ → ℕ → List ℕ → List Step
 piece_puts time ino start piece =
     if length piece == spelling_len
-    then step.Put time ino start (take plain_page piece) ∷ step.Put time ino (start + plain_page) (drop plain_page piece) ∷ []
+    then step.Put time ino start (take plain_page piece)
+    ∷ step.Put time ino (start + plain_page) (drop plain_page piece) ∷ []
     else step.Put time ino start piece ∷ []
 
 -- those of the bytes of a write that lie in the n-th page of the file
 abbrev pub page_puts : ℕ → ℕ → ℕ → ℕ → List ℕ → ℕ → List Step
 page_puts page time ino offset bytes n =
     let start = max offset (n * page) in
-    piece_puts time ino start (slice_range bytes (start - offset) (min (offset + length bytes) ((n + 1) * page) - offset))
+    piece_puts time ino start
+    (slice_range bytes (start - offset) (min (offset + length bytes) ((n + 1) * page) - offset))
 
 -- and of each page that the bytes meet, in order
 abbrev pub puts : ℕ → ℕ → ℕ → ℕ → List ℕ → List Step
 puts page time ino offset bytes =
     let first = offset / page in
-    flat_map (λ n. page_puts page time ino offset bytes (first + n)) (below ((offset + length bytes + page - 1) / page - first))
+    flat_map (λ n. page_puts page time ino offset bytes (first + n))
+    (below ((offset + length bytes + page - 1) / page - first))
 
 -- zeros up to a size that is past the end
 abbrev pub zeros_to : ℕ → ℕ → ℕ → ℕ → List Step
@@ -54,7 +58,8 @@ zeros_to time ino old new = if nat_lt old new then step.Zero time ino (new - old
 -- bytes at an offset of a file of this size: none of no bytes
 abbrev pub write_steps : ℕ → ℕ → ℕ → ℕ → ℕ → List ℕ → List Step
 write_steps page time ino size offset [] = []
-write_steps page time ino size offset (b ∷ bytes) = zeros_to time ino size offset ++ puts page time ino offset (b ∷ bytes)
+write_steps page time ino size offset (b ∷ bytes) =
+    zeros_to time ino size offset ++ puts page time ino offset (b ∷ bytes)
 
 -- the length of the first piece of so many bytes
 abbrev pub first_len : ℕ → ℕ → ℕ
@@ -62,7 +67,8 @@ first_len page len = if min page len == spelling_len then plain_page else min pa
 
 -- another size of a file of this size
 abbrev pub resize_steps : ℕ → ℕ → ℕ → ℕ → List Step
-resize_steps time ino old new = if nat_lt new old then step.Cut time ino new ∷ [] else zeros_to time ino old new
+resize_steps time ino old new =
+    if nat_lt new old then step.Cut time ino new ∷ [] else zeros_to time ino old new
 
 -- the size of what a path names
 abbrev pub size_named : Outline → List ℕ → ℕ
@@ -71,39 +77,55 @@ size_named t path = unwrap_or (option_map (λ o. o.body) (object_named t path)) 
 -- a new object and its name
 abbrev pub make_steps : Outline → ℕ → List ℕ → ℕ → ℕ → ℕ → List ℕ → List Step
 make_steps t time path mode uid gid bytes =
-    step.MakeObject time mode uid gid bytes ∷ step.SetName time (parent t path) (last_name path) t.next ∷ []
+    step.MakeObject time mode uid gid bytes
+    ∷ step.SetName time (parent t path) (last_name path) t.next ∷ []
 
--- a new object of this number with bytes: it is made with the first piece of them, and the others are written after it
+-- a new object of this number with bytes: it is made with the first piece of them, and the others
+-- are written after it
 abbrev pub bytes_steps : ℕ → ℕ → ℕ → ℕ → ℕ → ℕ → List ℕ → List Step
 bytes_steps page ino time mode uid gid bytes =
-    let first = first_len page (length bytes) in step.MakeObject time mode uid gid (take first bytes) ∷ write_steps page time ino first first (drop first bytes)
+    let first = first_len page (length bytes) in step.MakeObject time mode uid gid
+    (take first bytes) ∷ write_steps page time ino first first (drop first bytes)
 
 -- and its name, which comes last
 abbrev pub file_steps : ℕ → Outline → ℕ → List ℕ → ℕ → ℕ → ℕ → List ℕ → List Step
 file_steps page t time path mode uid gid bytes =
-    bytes_steps page t.next time mode uid gid bytes ++ step.SetName time (parent t path) (last_name path) t.next ∷ []
+    bytes_steps page t.next time mode uid gid bytes
+    ++ step.SetName time (parent t path) (last_name path) t.next ∷ []
 
 -- another name for an object: the new one is set, and then the old one cleared
 abbrev pub move_steps : Outline → ℕ → List ℕ → List ℕ → List Step
 move_steps t time old new =
-    step.SetName time (parent t new) (last_name new) (number_or_zero t old) ∷ step.ClearName time (parent t old) (last_name old) ∷ []
+    step.SetName time (parent t new) (last_name new) (number_or_zero t old)
+    ∷ step.ClearName time (parent t old) (last_name old) ∷ []
 
 -- the steps of an operation under a page
 abbrev pub steps_of : ℕ → Outline → Op → List Step
-steps_of page t (op.Mkdir time path mode uid gid) = make_steps t time path (0o040000 + mode) uid gid []
-steps_of page t (op.Create time path mode uid gid) = make_steps t time path (0o100000 + mode) uid gid []
-steps_of page t (op.File time path mode uid gid bytes) = file_steps page t time path (0o100000 + mode) uid gid bytes
-steps_of page t (op.Fifo time path mode uid gid) = make_steps t time path (0o010000 + mode) uid gid []
-steps_of page t (op.Socket time path mode uid gid) = make_steps t time path (0o140000 + mode) uid gid []
+steps_of page t (op.Mkdir time path mode uid gid) =
+    make_steps t time path (0o040000 + mode) uid gid []
+steps_of page t (op.Create time path mode uid gid) =
+    make_steps t time path (0o100000 + mode) uid gid []
+steps_of page t (op.File time path mode uid gid bytes) =
+    file_steps page t time path (0o100000 + mode) uid gid bytes
+steps_of page t (op.Fifo time path mode uid gid) =
+    make_steps t time path (0o010000 + mode) uid gid []
+steps_of page t (op.Socket time path mode uid gid) =
+    make_steps t time path (0o140000 + mode) uid gid []
 steps_of page t (op.Symlink time path link uid gid) = make_steps t time path 0o120777 uid gid link
-steps_of page t (op.Write time path offset bytes) = write_steps page time (number_or_zero t path) (size_named t path) offset bytes
-steps_of page t (op.Truncate time path size) = resize_steps time (number_or_zero t path) (size_named t path) size
-steps_of page t (op.Link time old new) = step.SetName time (parent t new) (last_name new) (number_or_zero t old) ∷ []
+steps_of page t (op.Write time path offset bytes) =
+    write_steps page time (number_or_zero t path) (size_named t path) offset bytes
+steps_of page t (op.Truncate time path size) =
+    resize_steps time (number_or_zero t path) (size_named t path) size
+steps_of page t (op.Link time old new) =
+    step.SetName time (parent t new) (last_name new) (number_or_zero t old) ∷ []
 steps_of page t (op.Remove time path) = step.ClearName time (parent t path) (last_name path) ∷ []
 steps_of page t (op.Rename time old new) = move_steps t time old new
-steps_of page t (op.Replace time old new) = if is_one_entry t old new then [] else move_steps t time old new
-steps_of page t (op.SetAttributes time path attributes) = step.SetAttributes time (unwrap_or (number_reached t path) 0) attributes ∷ []
+steps_of page t (op.Replace time old new) =
+    if is_one_entry t old new then [] else move_steps t time old new
+steps_of page t (op.SetAttributes time path attributes) =
+    step.SetAttributes time (unwrap_or (number_reached t path) 0) attributes ∷ []
 
--- No plan has more: two for each 4,096 bytes up to the greatest size of a file, and zeros or a name.
+-- No plan has more: two for each 4,096 bytes up to the greatest size of a file, and zeros or a
+-- name.
 abbrev pub most_steps : ℕ
 most_steps = 1048577

@@ -20,7 +20,15 @@ use Rattle.jsteps.specs.declared.stored.Stored.{Stored}
 
 -- an object as it is kept
 abbrev pub stored_outline : Stored → ObjectOf ℕ
-stored_outline stored = record { mode = stored.mode; uid = stored.uid; gid = stored.gid; atime = stored.atime; mtime = stored.mtime; ctime = stored.ctime; body = stored.size }
+stored_outline stored = record {
+  mode = stored.mode;
+  uid = stored.uid;
+  gid = stored.gid;
+  atime = stored.atime;
+  mtime = stored.mtime;
+  ctime = stored.ctime;
+  body = stored.size;
+}
 
 abbrev pub Objects : Type 0
 Objects = BTreeMap ℕ Stored
@@ -47,7 +55,8 @@ abbrev pub ino_in : Names → List ℕ → Option ℕ
 ino_in names name = ino_among (index_names names) name
 
 abbrev pub ino_at : Directories → Key → Option ℕ
-ino_at directories key = option_and_then (λ names. ino_in names key.1) (get nat_cmp directories key.0)
+ino_at directories key =
+    option_and_then (λ names. ino_in names key.1) (get nat_cmp directories key.0)
 
 -- whether there are no names, and whether a name is apart
 abbrev pub is_without_names : Names → Bool
@@ -64,11 +73,13 @@ keys_under e = map (λ n. (e.0, n.0.items)) (index_names e.1)
 unfoldable pub stored_index : Objects → Directories → ℕ → Indexed
 stored_index objects directories next = record {
   tree = record {
-    objects = tabled nat_cmp (map (λ e. e.0) objects.entries) (λ i. option_map stored_outline (get nat_cmp objects i));
+    objects = tabled nat_cmp (map (λ e. e.0) objects.entries)
+        (λ i. option_map stored_outline (get nat_cmp objects i));
     names = tabled key_cmp (flat_map keys_under directories.entries) (ino_at directories);
     next = next;
   };
-  tops = tabled nat_cmp (map (λ e. e.0) objects.entries) (λ i. option_map (λ stored. stored.top) (get nat_cmp objects i));
+  tops = tabled nat_cmp (map (λ e. e.0) objects.entries)
+      (λ i. option_map (λ stored. stored.top) (get nat_cmp objects i));
 }
 
 -- the greatest version and the size of a number, 0 where it has no object
@@ -78,15 +89,26 @@ top_in objects i = unwrap_or (option_map (λ stored. stored.top) (get nat_cmp ob
 abbrev pub size_in : Objects → ℕ → ℕ
 size_in objects i = unwrap_or (option_map (λ stored. stored.size) (get nat_cmp objects i)) 0
 
--- an object of which one more version is there, one that was changed as well, and one that got other attributes
+-- an object of which one more version is there, one that was changed as well, and one that got
+-- other attributes
 abbrev pub raised : Stored → Stored
 raised stored = record stored { top = stored.top + 1 }
 
 abbrev pub changed : ℕ → ℕ → Stored → Stored
-changed time size stored = record stored { size = size; mtime = time; ctime = time; top = stored.top + 1 }
+changed time size stored =
+    record stored { size = size; mtime = time; ctime = time; top = stored.top + 1 }
 
 abbrev pub attributed : ℕ → Attributes → Stored → Stored
-attributed time attributes stored = record stored { mode = with_permissions stored.mode attributes.mode; uid = attributes.uid; gid = attributes.gid; atime = attributes.atime; mtime = attributes.mtime; ctime = time; top = stored.top + 1 }
+attributed time attributes stored = record stored {
+  mode = with_permissions stored.mode
+      attributes.mode;
+  uid = attributes.uid;
+  gid = attributes.gid;
+  atime = attributes.atime;
+  mtime = attributes.mtime;
+  ctime = time;
+  top = stored.top + 1;
+}
 
 -- an object with the greatest version of its number, as it is kept, and of a file system
 abbrev pub with_top : Stored → ObjectOf ℕ × ℕ

@@ -15,7 +15,8 @@ ghost use Rattle.jsteps.specs.declared.step.Step.TheVariants as step;
 /// A write past the end of a file of ten bytes: zeros, and one put for each page.
 pub fn two_pages()
     ensures { write_steps plain_page 0 2 10 4000 (replicate 200 1)
-        ≡ step.Zero 0 2 3990 ∷ step.Put 0 2 4000 (replicate 96 1) ∷ step.Put 0 2 4096 (replicate 104 1) ∷ [] }
+        ≡ step.Zero 0 2 3990 ∷ step.Put 0 2 4000 (replicate 96 1)
+        ∷ step.Put 0 2 4096 (replicate 104 1) ∷ [] }
 {}
 
 /// A write inside a file, a write of no bytes, and other sizes of a file.
@@ -29,10 +30,14 @@ pub fn few_steps()
 
 /// Larger pages cut the same bytes elsewhere, and a piece whose node would be 0x1985 bytes long becomes two puts.
 pub fn larger_page()
-    ensures one { write_steps 8192 0 2 4000 4000 (replicate 200 1) ≡ step.Put 0 2 4000 (replicate 200 1) ∷ [] }
-    ensures shorter { write_steps 8192 0 2 0 0 (replicate 6464 1) ≡ step.Put 0 2 0 (replicate 6464 1) ∷ [] }
-    ensures spelling { write_steps 8192 0 2 0 0 (replicate 6465 1) ≡ step.Put 0 2 0 (replicate 4096 1) ∷ step.Put 0 2 4096 (replicate 2369 1) ∷ [] }
-    ensures longer { write_steps 8192 0 2 0 0 (replicate 6466 1) ≡ step.Put 0 2 0 (replicate 6466 1) ∷ [] }
+    ensures one { write_steps 8192 0 2 4000 4000 (replicate 200 1)
+        ≡ step.Put 0 2 4000 (replicate 200 1) ∷ [] }
+    ensures shorter { write_steps 8192 0 2 0 0 (replicate 6464 1)
+        ≡ step.Put 0 2 0 (replicate 6464 1) ∷ [] }
+    ensures spelling { write_steps 8192 0 2 0 0 (replicate 6465 1)
+        ≡ step.Put 0 2 0 (replicate 4096 1) ∷ step.Put 0 2 4096 (replicate 2369 1) ∷ [] }
+    ensures longer { write_steps 8192 0 2 0 0 (replicate 6466 1)
+        ≡ step.Put 0 2 0 (replicate 6466 1) ∷ [] }
 {}
 
 /// What is refused whatever the tree.
@@ -54,46 +59,61 @@ pub fn plain_refusals()
 /// Plans that are refused, of a tree that has the file "/a" and the name "/q" of an object that is missing.
 pub fn refused_plans()
     ensures root { planned small (op.Remove 0 (codes "/")) ≡ Err refused.BadPath }
-    ensures below_file { planned small (op.Create 0 (codes "/a/b") 0o644 0 0) ≡ Err refused.NotDirectory }
+    ensures below_file { planned small (op.Create 0 (codes "/a/b") 0o644 0 0)
+        ≡ Err refused.NotDirectory }
     ensures taken { planned small (op.Create 0 (codes "/q") 0o644 0 0) ≡ Err refused.Exists }
     ensures dangling { planned small (op.Write 0 (codes "/q") 0 (1 ∷ [])) ≡ Err refused.NotFound }
     ensures same_name { planned small (op.Rename 0 (codes "/a") (codes "/a")) ≡ Err refused.Exists }
     ensures none { planned small (op.Rename 0 (codes "/n") (codes "/a")) ≡ Err refused.NotFound }
-    ensures too_large { planned small (op.Write 0 (codes "/a") 2147483647 (1 ∷ [])) ≡ Err refused.TooLarge }
+    ensures too_large { planned small (op.Write 0 (codes "/a") 2147483647 (1 ∷ []))
+        ≡ Err refused.TooLarge }
     ensures target_taken { planned small (op.Symlink 0 (codes "/a") [] 0 0) ≡ Err refused.Exists }
     ensures target { planned small (op.Symlink 0 (codes "/n") [] 0 0) ≡ Err refused.BadTarget }
 {}
 
 /// And of a tree that has the directory "/d".
 pub fn refused_of_directories()
-    ensures into_itself { planned nested (op.Rename 0 (codes "/d") (codes "/d/e")) ≡ Err refused.IntoItself }
+    ensures into_itself { planned nested (op.Rename 0 (codes "/d") (codes "/d/e"))
+        ≡ Err refused.IntoItself }
     ensures bytes { planned nested (op.Write 0 (codes "/d") 0 (0 ∷ [])) ≡ Err refused.WrongKind }
     ensures link { planned nested (op.Link 0 (codes "/d") (codes "/e")) ≡ Err refused.WrongKind }
 {}
 
 /// Plans of the tree with "/a" and "/q". The number of the missing object is not given again.
 pub fn small_plans()
-    ensures create { planned small (op.Create 7 (codes "/r") 0o644 5 6) ≡ Ok (step.MakeObject 7 0o100644 5 6 [] ∷ step.SetName 7 1 (codes "r") 58 ∷ []) }
-    ensures remove { planned small (op.Remove 7 (codes "/q")) ≡ Ok (step.ClearName 7 1 (codes "q") ∷ []) }
-    ensures rename { planned small (op.Rename 7 (codes "/a") (codes "/b")) ≡ Ok (step.SetName 7 1 (codes "b") 2 ∷ step.ClearName 7 1 (codes "a") ∷ []) }
-    ensures link { planned small (op.Link 7 (codes "/a") (codes "/b")) ≡ Ok (step.SetName 7 1 (codes "b") 2 ∷ []) }
-    ensures write { planned small (op.Write 7 (codes "/a") 6 (9 ∷ [])) ≡ Ok (step.Zero 7 2 2 ∷ step.Put 7 2 6 (9 ∷ []) ∷ []) }
+    ensures create { planned small (op.Create 7 (codes "/r") 0o644 5 6)
+        ≡ Ok (step.MakeObject 7 0o100644 5 6 [] ∷ step.SetName 7 1 (codes "r") 58 ∷ []) }
+    ensures remove { planned small (op.Remove 7 (codes "/q"))
+        ≡ Ok (step.ClearName 7 1 (codes "q") ∷ []) }
+    ensures rename { planned small (op.Rename 7 (codes "/a") (codes "/b"))
+        ≡ Ok (step.SetName 7 1 (codes "b") 2 ∷ step.ClearName 7 1 (codes "a") ∷ []) }
+    ensures link { planned small (op.Link 7 (codes "/a") (codes "/b"))
+        ≡ Ok (step.SetName 7 1 (codes "b") 2 ∷ []) }
+    ensures write { planned small (op.Write 7 (codes "/a") 6 (9 ∷ []))
+        ≡ Ok (step.Zero 7 2 2 ∷ step.Put 7 2 6 (9 ∷ []) ∷ []) }
     ensures cut { planned small (op.Truncate 7 (codes "/a") 3) ≡ Ok (step.Cut 7 2 3 ∷ []) }
     ensures same { planned small (op.Truncate 7 (codes "/a") 4) ≡ Ok [] }
 {}
 
 /// The pieces of a new file's bytes, by pages of two sizes: those that a write of them at the beginning has.
 pub fn file_pieces()
-    ensures none { bytes_steps plain_page 58 7 0o100644 5 6 [] ≡ step.MakeObject 7 0o100644 5 6 [] ∷ [] }
-    ensures page { bytes_steps plain_page 58 7 0o100644 5 6 (replicate 4096 1) ≡ step.MakeObject 7 0o100644 5 6 (replicate 4096 1) ∷ [] }
-    ensures longer { bytes_steps plain_page 58 7 0o100644 5 6 (replicate 4097 1) ≡ step.MakeObject 7 0o100644 5 6 (replicate 4096 1) ∷ step.Put 7 58 4096 (1 ∷ []) ∷ [] }
-    ensures spelling { bytes_steps 8192 58 7 0o100644 5 6 (replicate 6465 1) ≡ step.MakeObject 7 0o100644 5 6 (replicate 4096 1) ∷ step.Put 7 58 4096 (replicate 2369 1) ∷ [] }
+    ensures none { bytes_steps plain_page 58 7 0o100644 5 6 []
+        ≡ step.MakeObject 7 0o100644 5 6 [] ∷ [] }
+    ensures page { bytes_steps plain_page 58 7 0o100644 5 6 (replicate 4096 1)
+        ≡ step.MakeObject 7 0o100644 5 6 (replicate 4096 1) ∷ [] }
+    ensures longer { bytes_steps plain_page 58 7 0o100644 5 6 (replicate 4097 1)
+        ≡ step.MakeObject 7 0o100644 5 6 (replicate 4096 1) ∷ step.Put 7 58 4096 (1 ∷ []) ∷ [] }
+    ensures spelling { bytes_steps 8192 58 7 0o100644 5 6 (replicate 6465 1)
+        ≡ step.MakeObject 7 0o100644 5 6 (replicate 4096 1) ∷ step.Put 7 58 4096 (replicate 2369 1)
+        ∷ [] }
 {}
 
 /// A new file with bytes, which is named last, of the tree with "/a" and "/q"; and where it is refused.
 pub fn file_plans()
-    ensures bytes { planned small (op.File 7 (codes "/r") 0o644 5 6 (8 ∷ 9 ∷ [])) ≡ Ok (step.MakeObject 7 0o100644 5 6 (8 ∷ 9 ∷ []) ∷ step.SetName 7 1 (codes "r") 58 ∷ []) }
-    ensures none { planned small (op.File 7 (codes "/r") 0o644 5 6 []) ≡ planned small (op.Create 7 (codes "/r") 0o644 5 6) }
+    ensures bytes { planned small (op.File 7 (codes "/r") 0o644 5 6 (8 ∷ 9 ∷ []))
+        ≡ Ok (step.MakeObject 7 0o100644 5 6 (8 ∷ 9 ∷ []) ∷ step.SetName 7 1 (codes "r") 58 ∷ []) }
+    ensures none { planned small (op.File 7 (codes "/r") 0o644 5 6 [])
+        ≡ planned small (op.Create 7 (codes "/r") 0o644 5 6) }
     ensures taken { planned small (op.File 7 (codes "/a") 0o644 5 6 (8 ∷ [])) ≡ Err refused.Exists }
     ensures mode { planned small (op.File 7 (codes "/r") 0o10000 5 6 []) ≡ Err refused.BadMode }
 {}
@@ -101,52 +121,95 @@ pub fn file_plans()
 /// A name in the place of another, of a tree that has the file "/a" and the name "/q" of an object that is missing, and of
 /// one that has the directory "/d". Nothing is done where both are one.
 pub fn replaced_names()
-    ensures over { planned small (op.Replace 7 (codes "/a") (codes "/q")) ≡ Ok (step.SetName 7 1 (codes "q") 2 ∷ step.ClearName 7 1 (codes "a") ∷ []) }
-    ensures new { planned small (op.Replace 7 (codes "/a") (codes "/b")) ≡ Ok (step.SetName 7 1 (codes "b") 2 ∷ step.ClearName 7 1 (codes "a") ∷ []) }
+    ensures over { planned small (op.Replace 7 (codes "/a") (codes "/q"))
+        ≡ Ok (step.SetName 7 1 (codes "q") 2 ∷ step.ClearName 7 1 (codes "a") ∷ []) }
+    ensures new { planned small (op.Replace 7 (codes "/a") (codes "/b"))
+        ≡ Ok (step.SetName 7 1 (codes "b") 2 ∷ step.ClearName 7 1 (codes "a") ∷ []) }
     ensures same { planned small (op.Replace 7 (codes "/a") (codes "/a")) ≡ Ok [] }
     ensures root { planned small (op.Replace 7 (codes "/a") (codes "/")) ≡ Err refused.BadPath }
-    ensures dangling { planned small (op.Replace 7 (codes "/q") (codes "/a")) ≡ Err refused.NotFound }
-    ensures directory { planned nested (op.Replace 7 (codes "/d") (codes "/e")) ≡ Err refused.WrongKind }
-    ensures same_directory { planned nested (op.Replace 7 (codes "/d") (codes "/d")) ≡ Err refused.Exists }
+    ensures dangling { planned small (op.Replace 7 (codes "/q") (codes "/a"))
+        ≡ Err refused.NotFound }
+    ensures directory { planned nested (op.Replace 7 (codes "/d") (codes "/e"))
+        ≡ Err refused.WrongKind }
+    ensures same_directory { planned nested (op.Replace 7 (codes "/d") (codes "/d"))
+        ≡ Err refused.Exists }
 {}
 
 /// Other attributes, of the root too. Only the permission bits of the mode are other.
 pub fn attribute_plans()
-    ensures file { planned small (op.SetAttributes 7 (codes "/a") given) ≡ Ok (step.SetAttributes 7 2 given ∷ []) }
-    ensures root { planned small (op.SetAttributes 7 (codes "/") given) ≡ Ok (step.SetAttributes 7 1 given ∷ []) }
+    ensures file { planned small (op.SetAttributes 7 (codes "/a") given)
+        ≡ Ok (step.SetAttributes 7 2 given ∷ []) }
+    ensures root { planned small (op.SetAttributes 7 (codes "/") given)
+        ≡ Ok (step.SetAttributes 7 1 given ∷ []) }
     ensures node { nodes_of small (step.SetAttributes 7 2 given ∷ [])
-        ≡ Inode (record new_file { version = 2; mode = 0o100600; uid = 5; gid = 6; atime = 1; mtime = 2; ctime = 7; isize = 4 }) ∷ [] }
+        ≡ Inode (record new_file {
+          version = 2;
+          mode = 0o100600;
+          uid = 5;
+          gid = 6;
+          atime = 1;
+          mtime = 2;
+          ctime = 7;
+          isize = 4;
+        }) ∷ [] }
     ensures root_node { nodes_of (index_of []) (step.SetAttributes 7 1 given ∷ [])
-        ≡ Inode (record new_file { ino = 1; mode = 0o040600; uid = 5; gid = 6; atime = 1; mtime = 2; ctime = 7 }) ∷ [] }
+        ≡ Inode (record new_file
+        { ino = 1; mode = 0o040600; uid = 5; gid = 6; atime = 1; mtime = 2; ctime = 7 })
+        ∷ [] }
 {}
 
 /// And where they are refused.
 pub fn refused_attributes()
     ensures relative { planned small (op.SetAttributes 7 (codes "a") given) ≡ Err refused.BadPath }
-    ensures dangling { planned small (op.SetAttributes 7 (codes "/q") given) ≡ Err refused.NotFound }
+    ensures dangling { planned small (op.SetAttributes 7 (codes "/q") given)
+        ≡ Err refused.NotFound }
     ensures none { planned small (op.SetAttributes 7 (codes "/n") given) ≡ Err refused.NotFound }
-    ensures below_file { planned small (op.SetAttributes 7 (codes "/a/b") given) ≡ Err refused.NotDirectory }
+    ensures below_file { planned small (op.SetAttributes 7 (codes "/a/b") given)
+        ≡ Err refused.NotDirectory }
     ensures symlink { takes_attributes (Some (record no_object { mode = 0o120777 })) ≡ false }
     ensures device { takes_attributes (Some (record no_object { mode = 0o020644 })) ≡ false }
     ensures fifo { takes_attributes (Some (record no_object { mode = 0o010644 })) ≡ true }
     ensures socket { takes_attributes (Some (record no_object { mode = 0o140755 })) ≡ true }
-    ensures mode { planned small (op.SetAttributes 7 (codes "/a") (record given { mode = 0o10000 })) ≡ Err refused.BadMode }
+    ensures mode { planned small (op.SetAttributes 7 (codes "/a") (record given { mode = 0o10000 }))
+        ≡ Err refused.BadMode }
 {}
 
 /// Numbers and versions that 32 bits do not hold: the last version is given, and none after it.
 pub fn spent_plans()
     ensures number { planned spent (op.Create 0 (codes "/r") 0o644 0 0) ≡ Err refused.Exhausted }
-    ensures last { planned spent (op.Write 0 (codes "/a") 4 (9 ∷ [])) ≡ Ok (step.Put 0 2 4 (9 ∷ []) ∷ []) }
+    ensures last { planned spent (op.Write 0 (codes "/a") 4 (9 ∷ []))
+        ≡ Ok (step.Put 0 2 4 (9 ∷ []) ∷ []) }
     ensures version { planned spent (op.Write 0 (codes "/a") 5 (9 ∷ [])) ≡ Err refused.Exhausted }
-    ensures attributes { planned used_up (op.SetAttributes 0 (codes "/a") given) ≡ Err refused.Exhausted }
+    ensures attributes { planned used_up (op.SetAttributes 0 (codes "/a") given)
+        ≡ Err refused.Exhausted }
 {}
 
 /// The nodes of a new file of an empty image, and of bytes past the end of a file of four.
 pub fn known_nodes()
-    ensures made { nodes_of (index_of []) (step.MakeObject 0 0o100644 0 0 [] ∷ step.SetName 0 1 (codes "a") 2 ∷ []) ≡ Inode new_file ∷ Entry named_a ∷ [] }
+    ensures made { nodes_of (index_of []) (step.MakeObject 0 0o100644 0 0 []
+        ∷ step.SetName 0 1 (codes "a") 2 ∷ []) ≡ Inode new_file ∷ Entry named_a ∷ [] }
     ensures written { nodes_of small (step.Zero 7 2 2 ∷ step.Put 7 2 6 (9 ∷ []) ∷ [])
-        ≡ Inode (record new_file { version = 2; mtime = 7; ctime = 7; isize = 6; offset = 4; dsize = 2; fill = Zero })
-        ∷ Inode (record new_file { version = 3; mtime = 7; ctime = 7; isize = 7; offset = 6; dsize = 1; fill = Data (9 ∷ []) }) ∷ [] }
-    ensures cut { nodes_of small (step.Cut 7 2 3 ∷ []) ≡ Inode (record new_file { version = 2; mtime = 7; ctime = 7; isize = 3 }) ∷ [] }
-    ensures removed { nodes_of small (step.ClearName 7 1 (codes "q") ∷ []) ≡ Entry (record { pino = 1; version = 3; ino = 0; mctime = 7; kind = 0; name = codes "q" }) ∷ [] }
+        ≡ Inode (record new_file {
+          version = 2;
+          mtime = 7;
+          ctime = 7;
+          isize = 6;
+          offset = 4;
+          dsize = 2;
+          fill = Zero;
+        })
+        ∷ Inode (record new_file {
+          version = 3;
+          mtime = 7;
+          ctime = 7;
+          isize = 7;
+          offset = 6;
+          dsize = 1;
+          fill = Data (9 ∷ []);
+        }) ∷ [] }
+    ensures cut { nodes_of small (step.Cut 7 2 3 ∷ [])
+        ≡ Inode (record new_file { version = 2; mtime = 7; ctime = 7; isize = 3 }) ∷ [] }
+    ensures removed { nodes_of small (step.ClearName 7 1 (codes "q") ∷ [])
+        ≡ Entry (record { pino = 1; version = 3; ino = 0; mctime = 7; kind = 0; name = codes "q" })
+        ∷ [] }
 {}

@@ -128,7 +128,8 @@ fn truncate<'a>(
     path: &'a [u8],
     size: u32,
 ) -> Result<Vec<Step<'a>>, OpFault>
-    ensures { (page : ℕ) → GivesPlan result (planned_by page index.now (op.Truncate time path.now size)) }
+    ensures { (page : ℕ)
+        → GivesPlan result (planned_by page index.now (op.Truncate time path.now size)) }
 {
     let Some(site) = look_up(alloc, index, path)? else {
         return Err(OpFault::BadPath);
@@ -149,7 +150,8 @@ fn truncate<'a>(
 
 /// Whether bytes would end past the greatest size.
 fn is_too_large(offset: u32, bytes: &[u8]) -> bool
-    ensures { result ≡ (nat_lt 0 (length bytes.now) && nat_lt greatest_size (offset + length bytes.now)) }
+    ensures { result
+        ≡ (nat_lt 0 (length bytes.now) && nat_lt greatest_size (offset + length bytes.now)) }
 {
     !bytes.is_empty() && offset as usize + bytes.len() > GREATEST as usize
 }
@@ -165,7 +167,8 @@ fn write<'a>(
     bytes: &'a Text<'_>,
 ) -> Result<Vec<Step<'a>>, OpFault>
     requires { IsPage page }
-    ensures { GivesPlan result (planned_by page index.now (op.Write time path.now offset bytes.now)) }
+    ensures { GivesPlan result
+        (planned_by page index.now (op.Write time path.now offset bytes.now)) }
 {
     let bytes = bytes.as_slice();
     let Some(site) = look_up(alloc, index, path.as_slice())? else {
@@ -193,7 +196,8 @@ fn link<'a>(
     old: &'a [u8],
     new: &'a [u8],
 ) -> Result<Vec<Step<'a>>, OpFault>
-    ensures { (page : ℕ) → GivesPlan result (planned_by page index.now (op.Link time old.now new.now)) }
+    ensures { (page : ℕ)
+        → GivesPlan result (planned_by page index.now (op.Link time old.now new.now)) }
 {
     let Some((from, to)) = look_up_both(alloc, index, old, new)? else {
         return Err(OpFault::BadPath);
@@ -241,7 +245,8 @@ fn rename<'a>(
     old: &'a [u8],
     new: &'a [u8],
 ) -> Result<Vec<Step<'a>>, OpFault>
-    ensures { (page : ℕ) → GivesPlan result (planned_by page index.now (op.Rename time old.now new.now)) }
+    ensures { (page : ℕ)
+        → GivesPlan result (planned_by page index.now (op.Rename time old.now new.now)) }
 {
     let Some((from, to)) = look_up_both(alloc, index, old, new)? else {
         return Err(OpFault::BadPath);
@@ -269,7 +274,8 @@ fn replace<'a>(
     old: &'a [u8],
     new: &'a [u8],
 ) -> Result<Vec<Step<'a>>, OpFault>
-    ensures { (page : ℕ) → GivesPlan result (planned_by page index.now (op.Replace time old.now new.now)) }
+    ensures { (page : ℕ)
+        → GivesPlan result (planned_by page index.now (op.Replace time old.now new.now)) }
 {
     let Some((from, to)) = look_up_both(alloc, index, old, new)? else {
         return Err(OpFault::BadPath);
@@ -305,7 +311,8 @@ fn make<'a>(
     is_bad_target: bool,
 ) -> Result<Vec<Step<'a>>, OpFault>
     requires { kind ≤ 0o170000 }
-    ensures { GivesPlan result (made_plan index.now time path.now kind mode uid gid target.now is_bad_target) }
+    ensures { GivesPlan result
+        (made_plan index.now time path.now kind mode uid gid target.now is_bad_target) }
 {
     let Some(site) = look_up(alloc, index, path)? else {
         return Err(OpFault::BadPath);
@@ -340,7 +347,8 @@ fn mkdir<'a>(
     uid: u16,
     gid: u16,
 ) -> Result<Vec<Step<'a>>, OpFault>
-    ensures { (page : ℕ) → GivesPlan result (planned_by page index.now (op.Mkdir time path.now mode uid gid)) }
+    ensures { (page : ℕ)
+        → GivesPlan result (planned_by page index.now (op.Mkdir time path.now mode uid gid)) }
 {
     let target = b"".as_slice();
     make(
@@ -358,7 +366,8 @@ fn create<'a>(
     uid: u16,
     gid: u16,
 ) -> Result<Vec<Step<'a>>, OpFault>
-    ensures { (page : ℕ) → GivesPlan result (planned_by page index.now (op.Create time path.now mode uid gid)) }
+    ensures { (page : ℕ)
+        → GivesPlan result (planned_by page index.now (op.Create time path.now mode uid gid)) }
 {
     let target = b"".as_slice();
     make(
@@ -385,7 +394,8 @@ fn file<'a>(
     bytes: &'a Text<'_>,
 ) -> Result<Vec<Step<'a>>, OpFault>
     requires { IsPage page }
-    ensures { GivesPlan result (planned_by page index.now (op.File new.time path.now new.mode new.uid new.gid bytes.now)) }
+    ensures { GivesPlan result
+        (planned_by page index.now (op.File new.time path.now new.mode new.uid new.gid bytes.now)) }
 {
     let bytes = bytes.as_slice();
     let Some(site) = look_up(alloc, index, path.as_slice())? else {
@@ -417,7 +427,8 @@ fn make_named<'a>(
     requires page { IsPage page }
     requires mode { new.mode ≤ 0o7777 }
     requires end { length bytes.now ≤ 2147483647 }
-    ensures { IfOk result (λ steps. steps.items ≡ bytes_steps page ino new.time (0o100000 + new.mode) new.uid new.gid bytes.now ++ set.entry ∷ []) }
+    ensures { IfOk result (λ steps. steps.items ≡ bytes_steps page ino new.time
+        (0o100000 + new.mode) new.uid new.gid bytes.now ++ set.entry ∷ []) }
 {
     let len = first_len(page, bytes.len());
     let (first, rest) = bytes.split_at(len);
@@ -439,7 +450,8 @@ fn fifo<'a>(
     uid: u16,
     gid: u16,
 ) -> Result<Vec<Step<'a>>, OpFault>
-    ensures { (page : ℕ) → GivesPlan result (planned_by page index.now (op.Fifo time path.now mode uid gid)) }
+    ensures { (page : ℕ)
+        → GivesPlan result (planned_by page index.now (op.Fifo time path.now mode uid gid)) }
 {
     let target = b"".as_slice();
     make(
@@ -457,7 +469,8 @@ fn socket<'a>(
     uid: u16,
     gid: u16,
 ) -> Result<Vec<Step<'a>>, OpFault>
-    ensures { (page : ℕ) → GivesPlan result (planned_by page index.now (op.Socket time path.now mode uid gid)) }
+    ensures { (page : ℕ)
+        → GivesPlan result (planned_by page index.now (op.Socket time path.now mode uid gid)) }
 {
     let target = b"".as_slice();
     make(
@@ -467,7 +480,8 @@ fn socket<'a>(
 
 /// Whether a symlink may not have this target.
 fn is_bad_target(target: &[u8]) -> bool
-    ensures { result ≡ ((length target.now == 0) || nat_lt 4095 (length target.now) || list_any (λ b. b == 0) target.now) }
+    ensures { result ≡ ((length target.now == 0) || nat_lt 4095 (length target.now)
+        || list_any (λ b. b == 0) target.now) }
 {
     target.is_empty() || target.len() > 4095 || target.contains(&0)
 }
@@ -482,7 +496,9 @@ fn symlink<'a>(
     uid: u16,
     gid: u16,
 ) -> Result<Vec<Step<'a>>, OpFault>
-    ensures { (page : ℕ) → GivesPlan result (planned_by page index.now (op.Symlink time path.now target.now uid gid)) }
+    ensures { (page : ℕ)
+        → GivesPlan result
+        (planned_by page index.now (op.Symlink time path.now target.now uid gid)) }
 {
     let path = path.as_slice();
     let target = target.as_slice();
@@ -500,7 +516,8 @@ fn set_attributes<'a>(
     path: &'a [u8],
     attributes: Attributes,
 ) -> Result<Vec<Step<'a>>, OpFault>
-    ensures { (page : ℕ) → GivesPlan result (planned_by page index.now (op.SetAttributes time path.now attributes)) }
+    ensures { (page : ℕ)
+        → GivesPlan result (planned_by page index.now (op.SetAttributes time path.now attributes)) }
 {
     let Some(site) = reach(alloc, index, path)? else {
         return Err(OpFault::BadPath);
@@ -531,9 +548,11 @@ pub fn plan_paged<'a>(
     op: &'a Op<'_>,
     page: Page,
 ) -> Result<Vec<Step<'a>>, OpFault>
-    ensures ok { IfOk result (λ steps. planned_by (page_size page) index.now op.now ≡ Ok steps.items) }
+    ensures ok { IfOk result
+        (λ steps. planned_by (page_size page) index.now op.now ≡ Ok steps.items) }
     ensures few { IfOk result (λ steps. length steps.items ≤ most_steps) }
-    ensures err { IfErr result (λ fault. fault ≢ refused.OutOfMemory → planned_by (page_size page) index.now op.now ≡ Err fault) }
+    ensures err { IfErr result (λ fault. fault ≢ refused.OutOfMemory
+        → planned_by (page_size page) index.now op.now ≡ Err fault) }
 {
     match op {
         Op::Mkdir {
@@ -618,7 +637,8 @@ pub fn plan_paged<'a>(
 pub fn plan<'a>(alloc: Global, index: &Index, op: &'a Op<'_>) -> Result<Vec<Step<'a>>, OpFault>
     ensures ok { IfOk result (λ steps. planned index.now op.now ≡ Ok steps.items) }
     ensures few { IfOk result (λ steps. length steps.items ≤ most_steps) }
-    ensures err { IfErr result (λ fault. fault ≢ refused.OutOfMemory → planned index.now op.now ≡ Err fault) }
+    ensures err { IfErr result
+        (λ fault. fault ≢ refused.OutOfMemory → planned index.now op.now ≡ Err fault) }
 {
     plan_paged(alloc, index, op, Page::P4096)
 }

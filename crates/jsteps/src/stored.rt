@@ -57,7 +57,9 @@ pub fn top_in(objects: &Objects, ino: u32) -> u32
 /// A number has one more version.
 pub fn raise(objects: &mut Objects, ino: u32)
     requires { top_in objects.old ino < 0xFFFFFFFF }
-    ensures { (i : ℕ) → get nat_cmp objects.new i ≡ (if ino == i then option_map raised (get nat_cmp objects.old i) else get nat_cmp objects.old i) }
+    ensures { (i : ℕ) → get nat_cmp objects.new i ≡ (if ino
+        == i then option_map raised (get nat_cmp objects.old i) else get nat_cmp objects.old
+        i) }
 {
     if let Some(stored) = objects.get_mut(&ino) {
         stored.top += 1;
@@ -67,7 +69,9 @@ pub fn raise(objects: &mut Objects, ino: u32)
 /// The object of a number has one more version, of this size.
 pub fn change(objects: &mut Objects, ino: u32, time: u32, size: u32)
     requires { top_in objects.old ino < 0xFFFFFFFF }
-    ensures { (i : ℕ) → get nat_cmp objects.new i ≡ (if ino == i then option_map (changed time size) (get nat_cmp objects.old i) else get nat_cmp objects.old i) }
+    ensures { (i : ℕ) → get nat_cmp objects.new i ≡ (if ino
+        == i then option_map (changed time size) (get nat_cmp objects.old i) else get nat_cmp
+        objects.old i) }
 {
     if let Some(stored) = objects.get_mut(&ino) {
         stored.size = size;
@@ -80,7 +84,9 @@ pub fn change(objects: &mut Objects, ino: u32, time: u32, size: u32)
 /// The object of a number has one more version, of these attributes.
 pub fn set_attributes(objects: &mut Objects, ino: u32, time: u32, attributes: Attributes)
     requires { top_in objects.old ino < 0xFFFFFFFF }
-    ensures { (i : ℕ) → get nat_cmp objects.new i ≡ (if ino == i then option_map (attributed time attributes) (get nat_cmp objects.old i) else get nat_cmp objects.old i) }
+    ensures { (i : ℕ) → get nat_cmp objects.new i ≡ (if ino
+        == i then option_map (attributed time attributes) (get nat_cmp objects.old i) else get
+        nat_cmp objects.old i) }
 {
     if let Some(stored) = objects.get_mut(&ino) {
         stored.mode = with_permissions(stored.mode, attributes.mode);

@@ -32,7 +32,11 @@ plain_attributes = record { mode = 0o755; uid = 0; gid = 0; time = 1 }
 abbrev pub small_items : Texts → List Item
 small_items t =
     record { path = t.directory; attributes = plain_attributes; what = what.Directory }
-    ∷ record { path = t.file; attributes = plain_attributes; what = what.Regular (content.File t.source) }
+    ∷ record {
+      path = t.file;
+      attributes = plain_attributes;
+      what = what.Regular (content.File t.source);
+    }
     ∷ record { path = t.symlink; attributes = plain_attributes; what = what.Symlink t.source }
     ∷ record { path = t.link; attributes = plain_attributes; what = what.Link t.file }
     ∷ []

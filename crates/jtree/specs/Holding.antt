@@ -17,7 +17,15 @@ mode_of_what permissions _ = 0o100000 + permissions
 
 -- the object with these attributes and bytes
 abbrev pub object_with : ℕ → Attributes → List ℕ → ObjectOf (List ℕ)
-object_with mode a bytes = record { mode = mode; uid = a.uid; gid = a.gid; atime = a.time; mtime = a.time; ctime = a.time; body = bytes }
+object_with mode a bytes = record {
+  mode = mode;
+  uid = a.uid;
+  gid = a.gid;
+  atime = a.time;
+  mtime = a.time;
+  ctime = a.time;
+  body = bytes;
+}
 
 abbrev pub root_object : Attributes → ObjectOf (List ℕ)
 root_object a = object_with (0o040000 + a.mode) a []
@@ -48,12 +56,16 @@ HoldsObject files s path a w = LeadsTo s path (object_of_what files a w)
 abbrev pub HoldsItem : Files → State → Item → Type 0
 HoldsItem files s i = HoldsObject files s (string_bytes i.path) i.attributes i.what
 
--- The root has its attributes, each item is there, items share an object only by links, and nothing else is there: no other
--- path leads anywhere, and each object but the root's is an item's.
-pub record HoldsTree (files : Files) (root : Attributes) (items : List Item) (s : State) : Type 0 where
+-- The root has its attributes, each item is there, items share an object only by links, and nothing
+-- else is there: no other path leads anywhere, and each object but the root's is an item's.
+pub record HoldsTree (files : Files) (root : Attributes) (items : List Item) (s : State) : Type
+    0 where
   pub root_is : object s 1 ≡ Some (root_object root)
   pub items_are : (i : Item) → Contains items i → HoldsItem files s i
-  pub apart : (i j : Item) → Contains items i → Contains items j → find s (string_bytes i.path) ≡ find s (string_bytes j.path) → first_path_of i ≡ first_path_of j
+  pub apart : (i j : Item) → Contains items i → Contains items j
+      → find s (string_bytes i.path) ≡ find s (string_bytes j.path)
+      → first_path_of i ≡ first_path_of j
   pub nothing_else : (path : List ℕ) (number : ℕ) → find s path ≡ Ok number
       → (path ≡ 47 ∷ []) ⊎ ((i : Item) × Contains items i × (string_bytes i.path ≡ path))
-  pub no_more_objects : (number : ℕ) → is_there s number ≡ true → (number ≡ 1) ⊎ ((i : Item) × Contains items i × (find s (string_bytes i.path) ≡ Ok number))
+  pub no_more_objects : (number : ℕ) → is_there s number ≡ true → (number ≡ 1)
+      ⊎ ((i : Item) × Contains items i × (find s (string_bytes i.path) ≡ Ok number))

@@ -25,27 +25,35 @@ use Rattle.jtree.specs.Making.{Files, FilesFit, AreFew}
 
 -- the nodes of operations, as they are written on a base
 abbrev pub nodes_on : ℕ → Endian → ℕ → List ℕ → List Op → List (List ℕ)
-nodes_on page e size base ops = map (canonical e) (new_nodes e size base (steps_of_first page (index_of_image e size base) ops (length ops)))
+nodes_on page e size base ops = map (canonical e)
+    (new_nodes e size base (steps_of_first page (index_of_image e size base) ops (length ops)))
 
 -- what goes out for them
 abbrev pub out_for : ℕ → Endian → ℕ → ℕ → List ℕ → List Op → List ℕ
-out_for page e size blocks base ops = output e size (resume_address e size blocks base) (nodes_on page e size base ops)
+out_for page e size blocks base ops =
+    output e size (resume_address e size blocks base) (nodes_on page e size base ops)
 
--- A base without nodes is there, the nodes of these operations fit the flash behind it, and all that goes out for them is
--- written to it.
-pub record IsWrittenFor (page : ℕ) (e : Endian) (size blocks : ℕ) (base : List ℕ) (ops : List Op) (image : List ℕ) : Type 0 where
+-- A base without nodes is there, the nodes of these operations fit the flash behind it, and all
+-- that goes out for them is written to it.
+pub record IsWrittenFor (page : ℕ) (e : Endian) (size blocks : ℕ) (base : List ℕ) (ops : List Op)
+    (image : List ℕ) : Type 0 where
   pub page_is : IsPage page
   pub room : page + 80 ≤ size
   pub base_is : IsBase e size blocks base
   pub are_bytes : AreBytes base
   pub bare : plain_nodes e size base ≡ []
-  pub fits : IsTrue (fit size blocks (resume_address e size blocks base) (nodes_on page e size base ops))
-  pub left : IsLeft e size blocks base (resume_address e size blocks base) (out_for page e size blocks base ops) (length (out_for page e size blocks base ops)) image
+  pub fits : IsTrue
+      (fit size blocks (resume_address e size blocks base) (nodes_on page e size base ops))
+  pub left : IsLeft e size blocks base (resume_address e size blocks base)
+      (out_for page e size blocks base ops) (length (out_for page e size blocks base ops)) image
 
--- The image that is written for the lines of a tree's text mounts, as a file system that holds the tree and nothing else.
+-- The image that is written for the lines of a tree's text mounts, as a file system that holds the
+-- tree and nothing else.
 abbrev pub ImageHoldsTree : Type 0
-ImageHoldsTree = (page : ℕ) (e : Endian) (size blocks : ℕ) (base image : List ℕ) (files : Files) (root : Attributes) (items : List Item) (lines : List Line)
-    → FitsListing root items → IsTree items → FilesFit files items → AreFew files items → lines_of (listing_text root items) ≡ Ok lines
+ImageHoldsTree = (page : ℕ) (e : Endian) (size blocks : ℕ) (base image : List ℕ) (files : Files)
+    (root : Attributes) (items : List Item) (lines : List Line)
+    → FitsListing root items → IsTree items → FilesFit files items → AreFew files items
+    → lines_of (listing_text root items) ≡ Ok lines
     → IsWrittenFor page e size blocks base (ops_in files lines) image
     → (s : State) × MountsAs e size image s × HoldsTree files root items s
 
@@ -56,4 +64,5 @@ pub record IsBareBase (e : Endian) (size blocks : ℕ) (base : List ℕ) : Type 
   pub bare : plain_nodes e size base ≡ []
 
 abbrev pub EmptyIsBare : Type 0
-EmptyIsBare = (e : Endian) (size blocks : ℕ) → IsTrue (is_flash_of size blocks []) → IsBareBase e size blocks []
+EmptyIsBare = (e : Endian) (size blocks : ℕ) → IsTrue (is_flash_of size blocks [])
+    → IsBareBase e size blocks []

@@ -17,19 +17,27 @@ use Rattle.jfolder.specs.declared.tree.Item.{Item}
 use Rattle.jtree.specs.Holding.{HoldsTree}
 use Rattle.jtree.specs.Making.{Files, FilesFit, AreFew, ops_with}
 
--- on the empty file system each operation is accepted, and after them it holds the tree, as the nodes do that are written for them
-pub record MakesTree (page : ℕ) (files : Files) (root : Attributes) (items : List Item) (ops : List Op) : Type 0 where
+-- on the empty file system each operation is accepted, and after them it holds the tree, as the
+-- nodes do that are written for them
+pub record MakesTree (page : ℕ) (files : Files) (root : Attributes) (items : List Item)
+    (ops : List Op) : Type 0 where
   pub accepted : length (plans_of page (index_of []) ops) ≡ length ops
-  pub holds : HoldsTree files root items (after bytes (state_of []) (steps_of_first page (index_of []) ops (length ops)))
-  pub written : HoldsTree files root items (state_of (nodes_of (index_of []) (steps_of_first page (index_of []) ops (length ops))))
+  pub holds : HoldsTree files root items
+      (after bytes (state_of []) (steps_of_first page (index_of []) ops (length ops)))
+  pub written : HoldsTree files root items
+      (state_of (nodes_of (index_of []) (steps_of_first page (index_of []) ops (length ops))))
 
 -- The actions of a tree make exactly that tree.
 abbrev pub ListingMakesTree : Type 0
-ListingMakesTree = (page : ℕ) (files : Files) (root : Attributes) (items : List Item) → IsPage page → FitsListing root items → IsTree items
-    → FilesFit files items → AreFew files items → MakesTree page files root items (ops_with files (actions_of root items))
+ListingMakesTree = (page : ℕ) (files : Files) (root : Attributes) (items : List Item) → IsPage page
+    → FitsListing root items → IsTree items
+    → FilesFit files items → AreFew files items
+    → MakesTree page files root items (ops_with files (actions_of root items))
 
 -- The text of a tree is read, and what it is read as makes exactly that tree.
 abbrev pub TextMakesTree : Type 0
-TextMakesTree = (page : ℕ) (files : Files) (root : Attributes) (items : List Item) → IsPage page → FitsListing root items → IsTree items
+TextMakesTree = (page : ℕ) (files : Files) (root : Attributes) (items : List Item) → IsPage page
+    → FitsListing root items → IsTree items
     → FilesFit files items → AreFew files items
-    → (lines : List Line) × (lines_of (listing_text root items) ≡ Ok lines) × MakesTree page files root items (ops_in files lines)
+    → (lines : List Line) × (lines_of (listing_text root items) ≡ Ok lines)
+    × MakesTree page files root items (ops_in files lines)

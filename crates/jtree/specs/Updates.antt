@@ -63,14 +63,18 @@ FilesAreWhole base ops s = (path all : List ℕ) → LeadsToFile s path all → 
 
 -- So it is after any number of the steps of operations that are updates,
 abbrev pub StepsKeepFilesWhole : Type 0
-StepsKeepFilesWhole = (page : ℕ) (ns : List NodeRef) (ops : List Op) (n m : ℕ) → IsPage page → AllFit ns → IsTrue (is_directory (state_of ns) 1)
+StepsKeepFilesWhole = (page : ℕ) (ns : List NodeRef) (ops : List Op) (n m : ℕ) → IsPage page
+    → AllFit ns → IsTrue (is_directory (state_of ns) 1)
     → AllByRecursion OpFits ops → AllByRecursion IsUpdate ops
-    → FilesAreWhole (state_of ns) ops (after bytes (state_of ns) (take m (steps_of_first page (index_of ns) ops n)))
+    → FilesAreWhole (state_of ns) ops
+    (after bytes (state_of ns) (take m (steps_of_first page (index_of ns) ops n)))
 
 -- and so in what mounts after a stop at any byte, where no node of them is weak.
 abbrev pub UpdatesAreWhole : Type 0
-UpdatesAreWhole = (page : ℕ) (e : Endian) (size blocks n : ℕ) (base : List ℕ) (ops : List Op) → IsPage page → page + 80 ≤ size → IsBase e size blocks base
-    → AreBytes base → AllByRecursion OpFits ops → AllByRecursion IsUpdate ops → AreAccepted page e size blocks base ops n
+UpdatesAreWhole = (page : ℕ) (e : Endian) (size blocks n : ℕ) (base : List ℕ) (ops : List Op)
+    → IsPage page → page + 80 ≤ size → IsBase e size blocks base
+    → AreBytes base → AllByRecursion OpFits ops → AllByRecursion IsUpdate ops
+    → AreAccepted page e size blocks base ops n
     → let new = new_nodes e size base (steps_of_first page (index_of_image e size base) ops n) in
     let from = resume_address e size blocks base in
     let out = output e size from (map (canonical e) new) in

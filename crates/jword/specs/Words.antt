@@ -21,7 +21,8 @@ digit_of b =
 
 -- the byte that two hexadecimal digits are
 abbrev pub byte_of_digits : ℕ → ℕ → Option ℕ
-byte_of_digits high low = option_and_then (λ h. option_map (λ l. 16 * h + l) (digit_of low)) (digit_of high)
+byte_of_digits high low =
+    option_and_then (λ h. option_map (λ l. 16 * h + l) (digit_of low)) (digit_of high)
 
 abbrev pub and_byte : Option ℕ → Option (List ℕ) → Option (List ℕ)
 and_byte byte bytes = option_and_then (λ b. option_map (λ bs. b ∷ bs) bytes) byte

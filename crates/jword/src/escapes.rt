@@ -10,7 +10,8 @@ use std::alloc::Global;
 /// What is after a backslash: the byte that it begins, and the rest of the word.
 #[tactic(auto, using(crate::proofs::WordLemmas::unescaped_escape))]
 fn escaped_byte(behind: &[u8]) -> Option<(u8, &[u8])>
-    ensures some { IfSome result (λ r. unescaped (92 ∷ behind.now) ≡ option_map (λ bytes. r.0 ∷ bytes) (unescaped r.1.now)) }
+    ensures some { IfSome result
+        (λ r. unescaped (92 ∷ behind.now) ≡ option_map (λ bytes. r.0 ∷ bytes) (unescaped r.1.now)) }
     ensures shorter { IfSome result (λ r. length r.1.now < length behind.now) }
     ensures none { result ≡ None → unescaped (92 ∷ behind.now) ≡ None }
 {
@@ -27,7 +28,8 @@ fn escaped_byte(behind: &[u8]) -> Option<(u8, &[u8])>
 #[tactic(auto, using(crate::proofs::WordLemmas::unescaped_plain))]
 fn next_byte(word: &[u8]) -> Option<(u8, &[u8])>
     requires { 0 < length word.now }
-    ensures some { IfSome result (λ r. unescaped word.now ≡ option_map (λ bytes. r.0 ∷ bytes) (unescaped r.1.now)) }
+    ensures some { IfSome result
+        (λ r. unescaped word.now ≡ option_map (λ bytes. r.0 ∷ bytes) (unescaped r.1.now)) }
     ensures shorter { IfSome result (λ r. length r.1.now < length word.now) }
     ensures none { result ≡ None → unescaped word.now ≡ None }
 {

@@ -11,7 +11,8 @@ use std::alloc::Global;
 #[tactic(auto, using(crate::proofs::WordLemmas::pairs_of_pair))]
 fn next_pair(word: &[u8]) -> Option<(u8, &[u8])>
     requires { 0 < length word.now }
-    ensures some { IfSome result (λ r. pairs_of word.now ≡ option_map (λ bytes. r.0 ∷ bytes) (pairs_of r.1.now)) }
+    ensures some { IfSome result
+        (λ r. pairs_of word.now ≡ option_map (λ bytes. r.0 ∷ bytes) (pairs_of r.1.now)) }
     ensures shorter { IfSome result (λ r. length r.1.now < length word.now) }
     ensures none { result ≡ None → pairs_of word.now ≡ None }
 {

@@ -18,7 +18,8 @@ fn has_version(index: &Index, ino: u32) -> bool
 
 /// The size of an object, and 0 where there is none.
 fn size_of(index: &Index, ino: u32) -> u32
-    ensures { result ≡ unwrap_or (option_map (λ (o : ObjectOf ℕ). o.body) (object index.now.tree ino)) 0 }
+    ensures { result
+        ≡ unwrap_or (option_map (λ (o : ObjectOf ℕ). o.body) (object index.now.tree ino)) 0 }
 {
     match index.object(ino) {
         Some(object) => object.size,
