@@ -1,4 +1,5 @@
 use Rattle.std.proofs.Common.{rules, ◌≡◌, None, subst, sym}
+use Rattle.std.specs.Prelude.{option_map}
 use Rattle.jcommand.specs.Parsed.{Parsed, ScanParsed, CheckParsed, ListParsed, CatParsed, view}
 use Rattle.jffs2_image.specs.Runs.{Meets}
 use Rattle.jffs2_image.proofs.WritingLemmas.{met_by_any}
