@@ -13,7 +13,7 @@ use Rattle.jcommand.specs.Parsed.{ListParsed, CatParsed, AppendParsed, Decompres
 use Rattle.jcommand.specs.declared.parsed.Options.{Options}
 use Rattle.jreport.specs.FoundIn.{found_in}
 use Rattle.jreport.specs.Paths.{path_of}
-use Rattle.jreport.specs.WholeImage.{PutsFile, PutsListing}
+use Rattle.jreport.specs.WholeImage.{PutsFile, PutsListing, list_request}
 use Rattle.jreport.specs.declared.faults.ProgramFault.{ProgramFault}
 use Rattle.jreport.specs.declared.faults.ProgramFault.TheVariants as program
 use Rattle.jffs2_image.specs.Decompressing.{DecompressesFile, IsNotConverted, IsNotWritten, fault_of_conversion, with_findings}
@@ -139,10 +139,10 @@ list_refused told held e options name image old n f of not = record {
 }
 
 pub list_done : (told : List ℕ → Option (List ℕ)) (held : Held) (e : Endian) (options : Options) (name image made : List ℕ) (old new : Option (List ℕ)) (before now : ℕ) (done : Result ℕ ProgramFault)
-    → AreLoaded (told name) image → Converts e options.geometry.block image (Ok made) → PutsListing e options.geometry.block None made old new before now done
+    → AreLoaded (told name) image → Converts e options.geometry.block image (Ok made) → PutsListing (list_request e options.geometry.block None) made old new before now done
     → Meets told held e (ListParsed options true name None) old new before now (with_findings (found_in e options.geometry.block image).noted done)
 list_done told held e options name image made old new before now done of is puts = record {
-  block_size = λ wrong. absurd ((subst (PutsListing e options.geometry.block None made old new before now) (same_fault _ done _ wrong) puts).2.0);
+  block_size = λ wrong. absurd ((subst (PutsListing (list_request e options.geometry.block None) made old new before now) (same_fault _ done _ wrong) puts).2.0);
   told_of = λ wrong. tt;
   put = inl (image, of.0, inl (made, done, is, puts, refl));
 }
@@ -177,10 +177,10 @@ part_refused told held e options name word path image old n f path_is of not = r
 }
 
 pub part_done : (told : List ℕ → Option (List ℕ)) (held : Held) (e : Endian) (options : Options) (name word path image made : List ℕ) (old new : Option (List ℕ)) (before now : ℕ) (done : Result ℕ ProgramFault)
-    → path_of word ≡ Some path → AreLoaded (told name) image → Converts e options.geometry.block image (Ok made) → PutsListing e options.geometry.block (Some path) made old new before now done
+    → path_of word ≡ Some path → AreLoaded (told name) image → Converts e options.geometry.block image (Ok made) → PutsListing (list_request e options.geometry.block (Some path)) made old new before now done
     → Meets told held e (ListParsed options true name (Some word)) old new before now (with_findings (found_in e options.geometry.block image).noted done)
 part_done told held e options name word path image made old new before now done path_is of is puts = record {
-  block_size = λ wrong. absurd ((subst (PutsListing e options.geometry.block (Some path) made old new before now) (same_fault _ done _ wrong) puts).2.0.2);
+  block_size = λ wrong. absurd ((subst (PutsListing (list_request e options.geometry.block (Some path)) made old new before now) (same_fault _ done _ wrong) puts).2.0.2);
   told_of = λ wrong. tt;
   put = inl (image, of.0, (path, path_is, inl (made, done, is, puts, refl)));
 }

@@ -7,7 +7,7 @@ use Rattle.jscan.specs.Image.{is_block_size}
 use Rattle.jscan.specs.declared.geometry.ScanFault.TheVariants as scan
 use Rattle.jmount.specs.declared.fault.FindFault.TheVariants as find
 use Rattle.jreport.specs.Advice.{fault_lines_of}
-use Rattle.jreport.specs.WholeImage.{PutsCheck, PutsFile, PutsListing}
+use Rattle.jreport.specs.WholeImage.{PutsCheck, PutsFile, PutsListing, list_request}
 use Rattle.jreport.specs.Notes.{note_line_of}
 use Rattle.jreport.specs.Stream.{PutsStream}
 use Rattle.jreport.specs.Paths.{path_of}
@@ -82,12 +82,13 @@ abbrev pub PutsAnswer : (List ℕ → Option (List ℕ)) → Held → Endian →
 PutsAnswer told held e (ScanParsed options name) = PutsStream e options.geometry.block
 PutsAnswer told held e (CheckParsed options shape name) = PutsJudged e options.geometry.block shape
 PutsAnswer told held e (ListParsed options decompress name None) =
-    PutsTaken decompress e options.geometry.block (PutsListing e options.geometry.block None)
+    PutsTaken decompress e options.geometry.block
+    (PutsListing (list_request e options.geometry.block None))
 PutsAnswer told held e (ListParsed options decompress name (Some word)) =
     λ image old new before now answer.
     (path : List ℕ) × (path_of word ≡ Some path)
     × PutsTaken decompress e options.geometry.block
-    (PutsListing e options.geometry.block (Some path))
+    (PutsListing (list_request e options.geometry.block (Some path)))
     image old new before now answer
 PutsAnswer told held e (CatParsed options decompress name word) = λ image old new before now answer.
     (path : List ℕ) × (path_of word ≡ Some path)

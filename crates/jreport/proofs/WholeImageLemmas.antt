@@ -22,7 +22,7 @@ use Rattle.jmount.specs.declared.fault.MountFault.{MountFault}
 use Rattle.jmount.specs.declared.fault.MountFault.TheVariants as mount
 use Rattle.jreport.specs.Content.{content_of, PutsContent}
 use Rattle.jreport.specs.Faults.{fault_of_report}
-use Rattle.jreport.specs.WholeImage.{AnswersNoted, IsFaultOfLoad, OfSomeImage, OnMount, PutsCheck, PutsFile, PutsListing, ReadsWhole}
+use Rattle.jreport.specs.WholeImage.{AnswersNoted, IsFaultOfLoad, OfSomeImage, OnMount, PutsCheck, PutsFile, PutsListing, ReadsWhole, list_request}
 use Rattle.jreport.specs.Puts.{PutsReport}
 use Rattle.jreport.specs.Report.{count_in_image, scan_text}
 use Rattle.jreport.specs.TreeText.{Item, PutsFrom, PutsTreeAt}
@@ -308,7 +308,7 @@ not_mounting X s (Some path) a b before now f p = p.2
 
 pub tree_put : (e : Endian) (size : ℕ) (path : Option (List ℕ)) (items present : List ℕ) (m : Mount) (a b : Option (List ℕ)) (before now : ℕ) (r : Result ℕ ProgramFault)
     → present ≡ items → Answers e size present (Ok m) → PutsTreeAt m.state path a b before now r → AnswersNoted m r
-    → PutsListing e size path items a b before now r
+    → PutsListing (list_request e size path) items a b before now r
 tree_put e size path items present m a b before now r same answers put noted =
     on_mounted e size items m a b before now (λ (x : Mount) (s : Result ℕ ProgramFault). PutsTreeAt x.state path a b before now s × AnswersNoted x s) r
     (λ f none. not_loading ℕ m.state path a b before now f none.0) (λ f none. not_mounting ℕ m.state path a b before now f none.0)
@@ -317,10 +317,10 @@ tree_put e size path items present m a b before now r same answers put noted =
 -- a fault that is passed on
 pub tree_failed : (X : Type 0) (e : Endian) (size : ℕ) (path : Option (List ℕ)) (items present : List ℕ) (m : Mount) (a b : Option (List ℕ)) (before now : ℕ) (f : ProgramFault) (r : Result ℕ ProgramFault)
     → IsErrAnd r (λ x. x ≡ f) → present ≡ items → Answers e size present (Ok m) → PutsTreeAt {T = X} m.state path a b before now (Err f)
-    → PutsListing e size path items a b before now r
+    → PutsListing (list_request e size path) items a b before now r
 tree_failed X e size path items present m a b before now f (Ok x) is same answers put = absurd is
 tree_failed X e size path items present m a b before now f (Err x) is same answers put =
-    subst (λ (y : ProgramFault). PutsListing e size path items a b before now (Err y)) (sym is)
+    subst (λ (y : ProgramFault). PutsListing (list_request e size path) items a b before now (Err y)) (sym is)
     (tree_put e size path items present m a b before now (Err f) same answers (passed_on X ℕ m.state path a b before now f put) tt)
 
 pub tree_is_read : (X : Type 0) {T : Type 0} (m : Mount) (path : Option (List ℕ)) (a b : Option (List ℕ)) (before now : ℕ) (f : ProgramFault) (r : Result T ProgramFault)

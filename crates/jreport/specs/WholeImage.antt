@@ -106,10 +106,18 @@ PutsFile e size image path old new before now answer =
     OnMount e size image old new before now (λ m. PutsContent (content_of m.state path) old new
     before now answer × AnswersNoted m answer) answer
 
+-- what `ls` is asked for: a byte order, the size of a block, and a path where a part is wanted
+pub record ListRequest : Type 0 where
+  pub order : Endian
+  pub block : ℕ
+  pub path : Option (List ℕ)
+
+abbrev pub list_request : Endian → ℕ → Option (List ℕ) → ListRequest
+list_request order block path = record { order = order; block = block; path = path }
+
 -- `ls`: the lines of an image's tree, or of the part of it that a path names
-abbrev pub PutsListing : Endian → ℕ → Option (List ℕ) → List ℕ → Option (List ℕ) → Option (List ℕ)
-    → ℕ → ℕ
+abbrev pub PutsListing : ListRequest → List ℕ → Option (List ℕ) → Option (List ℕ) → ℕ → ℕ
     → Result ℕ ProgramFault → Type 0
-PutsListing e size path image old new before now answer =
-    OnMount e size image old new before now
-    (λ m. PutsTreeAt m.state path old new before now answer × AnswersNoted m answer) answer
+PutsListing asked image old new before now answer =
+    OnMount asked.order asked.block image old new before now
+    (λ m. PutsTreeAt m.state asked.path old new before now answer × AnswersNoted m answer) answer

@@ -2,7 +2,7 @@
 
 ghost use Rattle.std.specs.Prelude.{◌≡◌, ◌↔◌, ◌||◌, nat_lt, IsFalse, IsTrue, IfErr, IsErrOf, option_map};
 ghost use Rattle.jscan.specs.Image.{is_block_size};
-ghost use Rattle.jreport.specs.WholeImage.{IsFaultOfLoad, OfSomeImage, PutsCheck, PutsFile, PutsListing, ReadsWhole};
+ghost use Rattle.jreport.specs.WholeImage.{IsFaultOfLoad, OfSomeImage, PutsCheck, PutsFile, PutsListing, ReadsWhole, list_request};
 
 use crate::faults::ProgramFault;
 use crate::files::content;
@@ -83,7 +83,8 @@ pub fn image_tree<E: Order, T: Sink>(
     path: Option<&[u8]>,
     sink: &mut T,
 ) -> Result<u64, ProgramFault<'static>>
-    ensures put { PutsListing E.order geometry.block (option_map (λ p. p.now) path.entry) image.now
+    ensures put { PutsListing
+        (list_request E.order geometry.block (option_map (λ p. p.now) path.entry)) image.now
         (T.taken sink.old) (T.taken sink.new) (T.failures sink.old) (T.failures sink.new) result }
     ensures read { IfErr result (λ fault. IsFaultOfLoad fault → ⊥) }
 {
@@ -126,8 +127,8 @@ pub fn list_lines<E: Order, S: Source, T: Sink>(
     ensures read { ReadsWhole (S.rest source.old) (S.rest source.new) (S.failures source.old)
         (S.failures source.new) result }
     ensures load { IfErr result (λ fault. IsFaultOfLoad fault → sink.new ≡ sink.old) }
-    ensures put { OfSomeImage (S.rest source.old) (λ image. PutsListing E.order geometry.block
-        (option_map (λ p. p.now) path.entry) image
+    ensures put { OfSomeImage (S.rest source.old) (λ image. PutsListing
+        (list_request E.order geometry.block (option_map (λ p. p.now) path.entry)) image
         (T.taken sink.old) (T.taken sink.new) (T.failures sink.old) (T.failures sink.new) result) }
 {
     let image = load(alloc, source, GREATEST_IMAGE)?;

@@ -2,8 +2,8 @@
 
 use crate::checks::{equal, expect};
 use crate::images::{
-    CLASH, COMPRESSED, DAMAGED_INODE_2, FILE_AS_ROOT, GEOMETRY, LARGE, ONE_BLOCK, OTHER_ORDER, Raw,
-    TREE, image_of, raw_image,
+    CIRCLE, CIRCLE_BELOW, CLASH, COMPRESSED, DAMAGED_INODE_2, FILE_AS_ROOT, GEOMETRY, LARGE,
+    ONE_BLOCK, OTHER_ORDER, Raw, TREE, image_of, raw_image,
 };
 use byteorder::LittleEndian;
 use flashbase::{FromReader, FromWriter, Sink, Source};
@@ -168,6 +168,8 @@ d 1700 0 0 0 0 2 /d\n\
 - 0644 0 0 2 0 3 /d/f\n\
 l 0777 0 0 4 0 4 /s -> \\x2fd\\x2ff\n";
 
+pub(crate) const PART_LISTED: &[u8] = b"d 1700 0 0 0 0 2 /d\n- 0644 0 0 2 0 3 /d/f\n";
+
 /// An image, a call, its answer, and how what it puts ends.
 type Row = (
     &'static [Node<'static>],
@@ -183,7 +185,7 @@ const CLASHES: Result<u64, ProgramFault<'static>> = Err(ProgramFault::Mount(Moun
 const NO_ROOT: Result<u64, ProgramFault<'static>> = Err(ProgramFault::Mount(MountFault::RootKind));
 
 /// What is put whole.
-const WHOLE: [Row; 14] = [
+const WHOLE: [Row; 17] = [
     (TREE, Call::Check, Ok(1), TREE_CHECKED),
     (TREE, Call::Content(b"/d/f"), Ok(0), b"hi"),
     (
@@ -200,13 +202,15 @@ const WHOLE: [Row; 14] = [
     ),
     (TREE, Call::Listing, Ok(0), TREE_LISTED),
     (TREE, Call::Part(b"/"), Ok(0), TREE_LISTED),
+    (TREE, Call::Part(b"/d"), Ok(0), PART_LISTED),
+    (TREE, Call::Part(b"/d/f"), Ok(0), b"- 0644 0 0 2 0 3 /d/f\n"),
     (
         TREE,
-        Call::Part(b"/d"),
-        Ok(0),
-        b"d 1700 0 0 0 0 2 /d\n- 0644 0 0 2 0 3 /d/f\n",
+        Call::Part(b"/d/f/g"),
+        Err(ProgramFault::Path(FindFault::NotDirectory)),
+        b"",
     ),
-    (TREE, Call::Part(b"/d/f"), Ok(0), b"- 0644 0 0 2 0 3 /d/f\n"),
+    (CIRCLE, Call::Part(b"/d/x/d"), Ok(0), CIRCLE_BELOW),
     (
         TREE,
         Call::Part(b"/x"),
@@ -221,6 +225,7 @@ const WHOLE: [Row; 14] = [
     ),
     (CLASH, Call::Content(b"/d/f"), CLASHES, b""),
     (CLASH, Call::Listing, CLASHES, b""),
+    (CLASH, Call::Part(b"/d"), CLASHES, b""),
     (FILE_AS_ROOT, Call::Content(b"/d/f"), NO_ROOT, b""),
     (FILE_AS_ROOT, Call::Listing, NO_ROOT, b""),
 ];
