@@ -1,22 +1,22 @@
 -- The lines of a part of a tree that has the shape are a stretch of the lines of the whole.
-use Rattle.std.proofs.Common.{◌≡◌, ℕ, ◌&&◌, not, cond, Bool, true, false, List, [], ◌∷◌, ◌++◌, map, refl, sym, ap, ◌∙◌, subst, Option, Some, None, Ok, Err, append_assoc, append-nil, eqb-refl, ◌==◌}
+use Rattle.std.proofs.Common.{◌≡◌, ℕ, ◌&&◌, not, cond, Bool, true, false, List, [], ◌∷◌, ◌++◌, map, refl, sym, ap, ◌∙◌, subst, Option, Some, None, Ok, Err, append_assoc, append-nil, arith, ◌==◌}
 use Rattle.std.specs.Prelude.{Contains, filter, is_ok, option_map}
 use Rattle.std.specs.FinMap.{entries}
 use Rattle.std.specs.List.{flat_map}
 use Rattle.std.proofs.lemmas.Bool.{false≢true}
+use Rattle.std.proofs.lemmas.Bool.Decides.{nat_tests}
 use Rattle.std.proofs.lemmas.Grind.{flat_map-append}
 use Rattle.std.proofs.lemmas.List.{map-append}
 use Rattle.std.proofs.lemmas.List.Elements.{filter-append}
 use Rattle.flashbase.proofs.MemberLemmas.{Contains-filter, Contains-map, split_around}
 use Rattle.jmount.specs.Tree.{State, object, named, is_there, is_directory, entries_in}
-use Rattle.jmount.specs.Find.{find_names, path_names, step, step_to, walk}
+use Rattle.jmount.specs.Find.{find_names, step, step_to, walk}
 use Rattle.jmount.specs.declared.fault.FindFault.TheVariants as find
-use Rattle.jmount.specs.Shape.{HasShape}
 use Rattle.jmount.specs.Shown.{shown}
 use Rattle.jmount.proofs.ShapeLemmas.{IsShaped, leads_none, same_ok, shaped, step_leads, walk_begins}
 use Rattle.jmount.proofs.ShapeOfLemmas.{listed}
 use Rattle.jreport.specs.TreeParts.{PartIsStretch}
-use Rattle.jreport.specs.TreeText.{Item, Met, none_met, items_of, line_if, line_of, met_after, todo_after, is_entered, AreLinesOf, IsTextFrom, IsItemAt}
+use Rattle.jreport.specs.TreeText.{Item, Met, none_met, items_of, line_if, met_after, todo_after, is_entered, AreLinesOf}
 use Rattle.jreport.proofs.ListedOnceLemmas.{AreFresh, IsFresh, fresh_after, no_mark}
 use Rattle.jreport.proofs.ListingLemmas.{text_is_one}
 
@@ -95,10 +95,13 @@ items_there : (s : State) (path : List (List ℕ)) (name : List ℕ) (i : ℕ) (
 items_there s path name i names there =
     ap (λ b. map (λ e. (path ++ e.0 ∷ [], e.1)) (cond b ((name, i) ∷ filter (λ e. is_there s e.1) names) (filter (λ e. is_there s e.1) names))) there
 
+same_number : (n : ℕ) → (n == n) ≡ true
+same_number n = grind (arith, nat_tests)
+
 among : (s : State) (dir i : ℕ) (name : List ℕ) → named s dir name ≡ Some i → Contains (entries_in s dir) (name, i)
 among s dir i name e =
     Contains-map (λ e. (e.0.1, e.1)) (filter (λ e. e.0.0 == dir) (entries s.names)) ((dir, name), i)
-    (Contains-filter (λ e. e.0.0 == dir) (entries s.names) ((dir, name), i) (eqb-refl dir) (listed s dir name i e))
+    (Contains-filter (λ e. e.0.0 == dir) (entries s.names) ((dir, name), i) (same_number dir) (listed s dir name i e))
 
 record IsAmong (s : State) (path : List (List ℕ)) (dir : ℕ) (item : Item) : Type 0 where
   front : List Item

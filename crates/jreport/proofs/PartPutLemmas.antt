@@ -1,6 +1,6 @@
 -- What a call puts of the part of a tree that a path names.
-use Rattle.std.proofs.Common.{◌≡◌, ℕ, List, refl, sym, ap, ◌∙◌, subst, Option, Some, None, Result, Ok, Err}
-use Rattle.std.specs.Prelude.{IsErrAnd}
+use Rattle.std.proofs.Common.{◌≡◌, ℕ, List, Vec, Bor, Global, map, refl, sym, ap, ◌∙◌, subst, Option, Some, None, Result, Ok, Err}
+use Rattle.std.specs.Prelude.{IsErrAnd, option_map}
 use Rattle.jmount.specs.Tree.{State}
 use Rattle.jmount.specs.Find.{find, find_names, path_names}
 use Rattle.jmount.specs.declared.fault.FindFault.{FindFault}
@@ -20,11 +20,17 @@ pub item_at : (s : State) (text : List ℕ) (i : ℕ) → find s text ≡ Ok i �
 item_at s text i found =
     let path = found_names s (path_names text) i found in ((path.0, i), (path.1, found))
 
-pub item_of_names : (s : State) (text : List ℕ) (path : List (List ℕ)) (i : ℕ) → path_names text ≡ Some path → find s text ≡ Ok i → IsItemAt s text (path, i)
-item_of_names s text path i names found = (names, found)
+-- the names as they were read
+pub item_of_names : (s : State) (text : List ℕ) (read : Option (Vec (Bor (List ℕ)) Global)) (names : Vec (Bor (List ℕ)) Global) (i : ℕ)
+    → option_map (λ v. map (λ n. n.now) v.items) read ≡ path_names text → read ≡ Some names → Ok i ≡ find s text
+    → IsItemAt s text (map (λ n. n.now) names.items, i)
+item_of_names s text read names i are is found =
+    (sym are ∙ ap (option_map (λ (v : Vec (Bor (List ℕ)) Global). map (λ n. n.now) v.items)) is, sym found)
 
-pub no_names : (s : State) (text : List ℕ) → path_names text ≡ None → find s text ≡ Err fault.BadPath
-no_names s text none = ap (find_names s) none
+pub no_names : (s : State) (text : List ℕ) (read : Option (Vec (Bor (List ℕ)) Global)) → option_map (λ v. map (λ n. n.now) v.items) read ≡ path_names text
+    → read ≡ None → find s text ≡ Err fault.BadPath
+no_names s text None are is = ap (find_names s) (sym are)
+no_names s text (Some names) are is = absurd (cc)
 
 -- ---- what is put
 

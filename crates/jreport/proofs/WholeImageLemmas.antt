@@ -295,6 +295,12 @@ passed_on X Y s (Some path) a b before now (program.NoSpace folder) p = (p.0, p.
 passed_on X Y s (Some path) a b before now (program.Data addr) p = (p.0, p.1, lines_passed_on X Y s p.0 a b before now (program.Data addr) p.2)
 passed_on X Y s (Some path) a b before now (program.TooLong addr) p = (p.0, p.1, lines_passed_on X Y s p.0 a b before now (program.TooLong addr) p.2)
 
+-- an answer of another kind
+pub tree_done : (X : Type 0) (s : State) (path : Option (List ℕ)) (a b : Option (List ℕ)) (before now : ℕ) (x : X) (n : ℕ)
+    → PutsTreeAt {T = X} s path a b before now (Ok x) → PutsTreeAt {T = ℕ} s path a b before now (Ok n)
+tree_done X s None a b before now x n put = put
+tree_done X s (Some path) a b before now x n put = (put.0, put.1, put.2)
+
 -- no call fails by loading, or by a mount
 not_loading : (X : Type 0) (s : State) (path : Option (List ℕ)) (a b : Option (List ℕ)) (before now : ℕ) (f : LoadFault)
     → PutsTreeAt {T = X} s path a b before now (Err (program.Load f)) → ⊥
