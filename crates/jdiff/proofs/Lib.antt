@@ -1,0 +1,12 @@
+pub mod ByteLemmas
+pub mod FoundLemmas
+pub mod LawLemmas
+pub mod LineLemmas
+pub mod NameLemmas
+pub mod OrderLemmas
+pub mod PairLemmas
+pub mod PairedLemmas
+pub mod PlaceLemmas
+pub mod SpotLemmas
+pub mod StepLemmas
+pub mod UniqueLemmas

@@ -1,0 +1,40 @@
+-- The lines on two trees, and what a call puts of them.
+use Rattle.std.specs.Prelude.{◌≡◌, ℕ, ◌-◌, ◌^◌, Bool, List, length, min, Option, Result, Ok, Err}
+use Rattle.std.specs.Io.KnownBytes.{Appends}
+use Rattle.std.specs.List.{flat_map}
+use Rattle.flashbase.specs.Device.{PutsPart, next_count}
+use Rattle.jmount.specs.Tree.{State}
+use Rattle.jreport.specs.declared.faults.ProgramFault.{ProgramFault}
+use Rattle.jreport.specs.declared.faults.ProgramFault.TheVariants.{Output, OutOfMemory}
+use Rattle.jdiff.specs.Entries.{Entry, AreEntries}
+use Rattle.jdiff.specs.Pairing.{Place, ArePaired, lines_on}
+
+-- the lines on two trees: on each path in order, those on what the trees have there
+pub record AreDifferences (times : Bool) (s t : State) (lines : List (List ℕ)) : Type 0 where
+  pub left : List Entry
+  pub right : List Entry
+  pub places : List Place
+  pub of_left : AreEntries s left
+  pub of_right : AreEntries t right
+  pub paired : ArePaired left right places
+  pub said : lines ≡ lines_on times places
+
+-- a beginning of them went out
+abbrev pub PutsPartOfDifferences : Bool → State → State → Option (List ℕ) → Option (List ℕ) → Type 0
+PutsPartOfDifferences times s t old new =
+    (lines : List (List ℕ)) × AreDifferences times s t lines
+    × PutsPart old new (flat_map (λ line. line) lines)
+
+-- A call puts the lines, and answers how many there are, or the greatest u64. Where the sink fails
+-- or memory runs out, a beginning of them went out.
+abbrev pub PutsDifferences : Bool → State → State → Option (List ℕ) → Option (List ℕ) → ℕ → ℕ
+    → Result ℕ ProgramFault → Type 0
+PutsDifferences times s t old new before now (Ok count) =
+    (lines : List (List ℕ)) × AreDifferences times s t lines
+    × (count ≡ min (length lines) (2 ^ 64 - 1))
+    × Appends old new (flat_map (λ line. line) lines) × (now ≡ before)
+PutsDifferences times s t old new before now (Err Output) =
+    PutsPartOfDifferences times s t old new × (now ≡ next_count before)
+PutsDifferences times s t old new before now (Err OutOfMemory) =
+    PutsPartOfDifferences times s t old new × (now ≡ before)
+PutsDifferences times s t old new before now (Err _) = ⊥

@@ -1,0 +1,201 @@
+-- The walk through two trees at once: what is still to compare, and what a step of it does.
+use Rattle.std.specs.Prelude.{◌≡◌, ℕ, ◌+◌, ◌*◌, ◌<◌, ◌&&◌, Bool, List, [], ◌∷◌, ◌++◌, length, map, reverse, sum_by, option_map, Option, Some, None, Result, Ok, Err, if◌then◌else◌}
+use Rattle.std.specs.BTreeSet.{BTreeSet}
+use Rattle.std.specs.Io.KnownBytes.{Appends}
+use Rattle.flashbase.specs.Device.{PutsPart, next_count}
+use Rattle.jmount.specs.Tree.{State, object, is_directory}
+use Rattle.jmount.specs.Shown.{readable, shown}
+use Rattle.jmount.specs.Find.{way_up}
+use Rattle.jmount.specs.declared.object.Object.{Object}
+use Rattle.jreport.specs.TreeText.{Met, met_after, is_entered}
+use Rattle.jreport.specs.Walking.{met_of, unmet}
+use Rattle.jreport.specs.declared.faults.ProgramFault.{ProgramFault}
+use Rattle.jreport.specs.declared.faults.ProgramFault.TheVariants.{Output, OutOfMemory}
+use Rattle.std.specs.List.{flat_map}
+use Rattle.jdiff.specs.Entries.{Entry, listed_entry}
+use Rattle.jdiff.specs.Changes.{changes}
+use Rattle.jdiff.specs.Names.{SharedName, names_there, joined}
+use Rattle.jdiff.specs.Pairing.{Place, text_on, count_on}
+use Rattle.jdiff.specs.declared.found.Found.{Found}
+use Rattle.jdiff.specs.declared.walk.Walk.{Walk}
+use Rattle.jdiff.specs.declared.walk.Visited.{Visited}
+
+-- ---- a path in one tree, by the number that it leads to, if it does
+
+abbrev pub spot_entry : State → Met → List (List ℕ) → Option ℕ → Option Entry
+spot_entry s met path None = None
+spot_entry s met path (Some i) = listed_entry s met (path, i)
+
+abbrev pub met_by : State → Met → Option ℕ → Met
+met_by s met None = met
+met_by s met (Some i) = met_after s met i
+
+-- the directory whose names come next
+abbrev pub entered_at : State → Met → Option ℕ → Option ℕ
+entered_at s met None = None
+entered_at s met (Some i) = if is_entered s met i then Some i else None
+
+-- ---- the walk
+
+-- a path, and the number that it leads to in each tree
+abbrev pub Spot : Type 0
+Spot = List (List ℕ) × Option ℕ × Option ℕ
+
+abbrev pub spots_of : List (List ℕ) → List SharedName → List Spot
+spots_of path names = map (λ n. (path ++ n.0 ∷ [], n.1, n.2)) names
+
+abbrev pub spot_place : State → State → Met → Met → Spot → Place
+spot_place s t left right spot = record {
+  path = spot.0;
+  left = spot_entry s left spot.0 spot.1;
+  right = spot_entry t right spot.0 spot.2;
+}
+
+abbrev pub spots_after : State → State → Met → Met → Spot → List Spot → List Spot
+spots_after s t left right spot todo =
+    spots_of spot.0 (joined (names_there s (entered_at s left spot.1))
+    (names_there t (entered_at t right spot.2))) ++ todo
+
+-- the places of what is still to compare, first to last
+abbrev pub AreSpotPlaces : State → State → Met → Met → List Spot → List Place → Type 0
+AreSpotPlaces s t left right [] places = places ≡ []
+AreSpotPlaces s t left right (spot ∷ todo) [] = ⊥
+AreSpotPlaces s t left right (spot ∷ todo) (place ∷ places) =
+    (place ≡ spot_place s t left right spot)
+    × AreSpotPlaces s t (met_by s left spot.1) (met_by t right spot.2)
+    (spots_after s t left right spot todo) places
+
+abbrev pub root_spot : Spot
+root_spot = ([], Some 1, Some 1)
+
+-- ---- what was found at a path
+
+abbrev pub found_if : ℕ → Bool → Bool → Option Object → Option Found
+found_if i again entered None = None
+found_if i again entered (Some o) =
+    Some (record { ino = i; object = o; again = again; entered = entered })
+
+-- what a number leads to
+abbrev pub found_at : State → Met → Option ℕ → Option Found
+found_at s met None = None
+found_at s met (Some i) =
+    found_if i (is_directory s i && met i) (is_entered s met i) (option_map shown (object s i))
+
+abbrev pub directory_found : Option Found → Option ℕ
+directory_found None = None
+directory_found (Some f) = if f.entered then Some f.ino else None
+
+-- as an entry of the tree
+abbrev pub entry_found : State → List (List ℕ) → Found → Entry
+entry_found s path f =
+    record { path = path; object = f.object; bytes = readable s f.ino; again = f.again }
+
+abbrev pub entries_here : State → List (List ℕ) → Option Found → Option Entry
+entries_here s path found = option_map (entry_found s path) found
+
+-- what was found is an object of the tree
+abbrev pub IsFoundIn : State → Found → Type 0
+IsFoundIn s f = option_map shown (object s f.ino) ≡ Some f.object
+
+-- ---- a spot that is visited
+
+-- the directories of each tree that were met
+pub record BothMet : Type 0 where
+  pub left : BTreeSet ℕ
+  pub right : BTreeSet ℕ
+
+-- a sink before and after: what is known of its bytes, and how often it failed
+pub record SinkStep : Type 0 where
+  pub old : Option (List ℕ)
+  pub new : Option (List ℕ)
+  pub before : ℕ
+  pub now : ℕ
+
+-- the lines on it
+abbrev pub spot_lines : Bool → State → State → BTreeSet ℕ → BTreeSet ℕ → Spot → List (List ℕ)
+spot_lines times s t left right spot = changes times (spot_entry s (met_of left) spot.0 spot.1)
+    (spot_entry t (met_of right) spot.0 spot.2)
+
+abbrev pub spot_text : Bool → State → State → BTreeSet ℕ → BTreeSet ℕ → Spot → List ℕ
+spot_text times s t left right spot = flat_map (λ line. line) (spot_lines times s t left right spot)
+
+-- Its lines are put. The answer is how many, and which directories are entered.
+abbrev pub PutsSpot : Bool → State → State → BothMet → BothMet → Spot → SinkStep
+    → Result Visited ProgramFault → Type 0
+PutsSpot times s t met after spot sink (Ok v) =
+    (v.lines ≡ length (spot_lines times s t met.left met.right spot))
+    × (v.left ≡ entered_at s (met_of met.left) spot.1)
+    × (v.right ≡ entered_at t (met_of met.right) spot.2)
+    × (met_of after.left ≡ met_by s (met_of met.left) spot.1)
+    × (met_of after.right ≡ met_by t (met_of met.right) spot.2)
+    × Appends sink.old sink.new (spot_text times s t met.left met.right spot)
+    × (sink.now ≡ sink.before)
+PutsSpot times s t met after spot sink (Err Output) =
+    PutsPart sink.old sink.new (spot_text times s t met.left met.right spot)
+    × (sink.now ≡ next_count sink.before)
+PutsSpot times s t met after spot sink (Err OutOfMemory) =
+    Appends sink.old sink.new [] × (sink.now ≡ sink.before)
+PutsSpot times s t met after spot sink (Err _) = ⊥
+
+-- ---- what is still to compare at a point of the walk
+
+-- what is left of these pairs of directories, where `path` leads to the first and each lies in the
+-- next
+abbrev pub spots_up : List (List SharedName) → List (List ℕ) → List Spot
+spots_up [] path = []
+spots_up (left ∷ above) path = spots_of path left ++ spots_up above (way_up path)
+
+abbrev pub way_of_pair : Walk → List (List ℕ)
+way_of_pair w = map (λ name. name.now) w.path.items
+
+abbrev pub spots_left : Walk → List Spot
+spots_left w = spots_up (w.left ∷ reverse w.above.items) (way_of_pair w)
+
+abbrev pub AreLeft : State → State → Walk → List Place → Type 0
+AreLeft s t w places =
+    AreSpotPlaces s t (met_of w.met_left) (met_of w.met_right) (spots_left w) places
+
+-- ---- how far it is to the end
+
+abbrev pub names_to_go : State → State → Walk → ℕ
+names_to_go s t w = unmet s (met_of w.met_left) + unmet t (met_of w.met_right) + length w.left
+    + sum_by (λ left. length left) w.above.items
+
+abbrev pub steps_to_go : State → State → Walk → ℕ
+steps_to_go s t w = 2 * names_to_go s t w + length w.above.items
+
+-- ---- a step
+
+-- the lines on these places were put, and those on the rest are still to put
+pub record LeavesPlaces (times : Bool) (s t : State) (w w_after : Walk) (old new : Option (List ℕ))
+    (count : ℕ) : Type 0 where
+  pub done : List Place
+  pub put : Appends old new (text_on times done)
+  pub counted : count ≡ count_on times done
+  pub rest : (places : List Place) → AreLeft s t w_after places → AreLeft s t w (done ++ places)
+
+-- the walk went back to the pair above, or there is none
+abbrev pub PairGoesUp : Walk → Walk → Option ℕ → Type 0
+PairGoesUp w w_after (Some n) = (n ≡ 0) × (w.above.items ≡ w_after.above.items ++ w_after.left ∷ [])
+    × (way_of_pair w_after ≡ way_up (way_of_pair w))
+    × (w_after.met_left ≡ w.met_left) × (w_after.met_right ≡ w.met_right)
+PairGoesUp w w_after None = w.above.items ≡ []
+
+-- a beginning of what was to put went out
+abbrev pub PutsPartOfLeft : Bool → State → State → Walk → Option (List ℕ) → Option (List ℕ) → Type 0
+PutsPartOfLeft times s t w old new =
+    (places : List Place) × AreLeft s t w places × PutsPart old new (text_on times places)
+
+-- `None`: nothing is still to compare. At a fault a beginning of what was to put went out.
+abbrev pub PutsPairStep : Bool → State → State → Walk → Walk → SinkStep
+    → Result (Option ℕ) ProgramFault → Type 0
+PutsPairStep times s t w w_after sink (Ok (Some n)) =
+    LeavesPlaces times s t w w_after sink.old sink.new n
+    × (steps_to_go s t w_after < steps_to_go s t w) × (sink.now ≡ sink.before)
+PutsPairStep times s t w w_after sink (Ok None) =
+    (spots_left w ≡ []) × Appends sink.old sink.new [] × (sink.now ≡ sink.before)
+PutsPairStep times s t w w_after sink (Err Output) =
+    PutsPartOfLeft times s t w sink.old sink.new × (sink.now ≡ next_count sink.before)
+PutsPairStep times s t w w_after sink (Err OutOfMemory) =
+    PutsPartOfLeft times s t w sink.old sink.new × (sink.now ≡ sink.before)
+PutsPairStep times s t w w_after sink (Err _) = ⊥

@@ -1,0 +1,137 @@
+//! What is told of a path of two trees.
+
+ghost use Rattle.std.specs.Prelude.{◌≡◌, ◌≤◌, IfOk, IfSome, length, map, Some, None};
+ghost use Rattle.std.specs.List.{flat_map};
+ghost use Rattle.flashbase.specs.Device.{Puts};
+ghost use Rattle.jmount.specs.Shown.{readable};
+ghost use Rattle.jdiff.specs.Changes.{both_lines, bytes_changes, changes, first_difference, is_same_object, is_symlink};
+ghost use Rattle.jdiff.specs.Walking.{entries_here, entry_found, IsFoundIn};
+
+use crate::bytes::first_difference;
+use crate::found::Found;
+use crate::line::{put_entry, put_place};
+use flashbase::{DeviceFault, Sink};
+use jmount::{Kind, Mounted, Object};
+
+/// Two trees, and whether times of change are compared.
+#[derive(Clone, Copy)]
+pub(crate) struct Trees<'m, 'a> {
+    pub left: &'m Mounted<'a>,
+    pub right: &'m Mounted<'a>,
+    pub times: bool,
+}
+
+/// Whether two objects are the same, but for their bytes.
+fn is_same_object(times: bool, left: &Object, right: &Object) -> bool
+    ensures { result ≡ is_same_object times left.now right.now }
+{
+    left.mode % 65536 == right.mode % 65536
+        && left.uid == right.uid
+        && left.gid == right.gid
+        && left.size == right.size
+        && (!times || left.mtime == right.mtime)
+}
+
+fn is_symlink(kind: Kind) -> bool
+    ensures { result ≡ is_symlink kind }
+{
+    matches!(kind, Kind::Symlink)
+}
+
+/// Puts the lines of both objects.
+fn put_both<T: Sink>(
+    trees: &Trees<'_, '_>,
+    path: &[&[u8]],
+    left: &Found,
+    right: &Found,
+    sink: &mut T,
+) -> Result<u64, DeviceFault>
+    requires left { IsFoundIn trees.now.left.now.state left.now }
+    requires right { IsFoundIn trees.now.right.now.state right.now }
+    ensures puts { let way = map (λ name. name.now) path.now in
+        Puts (T.taken sink.old) (T.taken sink.new) (T.failures sink.old) (T.failures sink.new)
+        (flat_map (λ line. line) (both_lines trees.now.times
+        (entry_found trees.now.left.now.state way left.now)
+        (entry_found trees.now.right.now.state way right.now))) result }
+    ensures count { IfOk result (λ n. n ≡ 2) }
+{
+    put_entry(trees.left, trees.times, b"- ", path, left, sink)?;
+    put_entry(trees.right, trees.times, b"+ ", path, right, sink)?;
+    Ok(2)
+}
+
+/// Puts where the bytes of two objects differ that are the same otherwise.
+fn put_bytes<T: Sink>(
+    trees: &Trees<'_, '_>,
+    path: &[&[u8]],
+    left: &Found,
+    right: &Found,
+    sink: &mut T,
+) -> Result<u64, DeviceFault>
+    requires left { IsFoundIn trees.now.left.now.state left.now }
+    requires right { IsFoundIn trees.now.right.now.state right.now }
+    requires size { left.now.object.size ≡ right.now.object.size }
+    ensures puts { let way = map (λ name. name.now) path.now in
+        let x = entry_found trees.now.left.now.state way left.now in
+        let y = entry_found trees.now.right.now.state way right.now in
+        Puts (T.taken sink.old) (T.taken sink.new) (T.failures sink.old) (T.failures sink.new)
+        (flat_map (λ line. line)
+        (bytes_changes trees.now.times x y (first_difference x.bytes y.bytes))) result }
+    ensures count { let way = map (λ name. name.now) path.now in
+        let x = entry_found trees.now.left.now.state way left.now in
+        let y = entry_found trees.now.right.now.state way right.now in
+        IfOk result
+        (λ n. n ≡ length (bytes_changes trees.now.times x y (first_difference x.bytes y.bytes))) }
+{
+    let size = left.object.size;
+    match first_difference(trees.left, left.ino, trees.right, right.ino, size) {
+        None => Ok(0),
+        Some(place) => {
+            if is_symlink(left.object.kind) {
+                return put_both(trees, path, left, right, sink);
+            }
+            put_place(path, place, sink)?;
+            Ok(1)
+        }
+    }
+}
+
+/// Puts the lines on a path, and answers how many.
+pub(crate) fn put_changes<T: Sink>(
+    trees: &Trees<'_, '_>,
+    path: &[&[u8]],
+    left: Option<Found>,
+    right: Option<Found>,
+    sink: &mut T,
+) -> Result<u64, DeviceFault>
+    requires left { IfSome left (λ f. IsFoundIn trees.now.left.now.state f) }
+    requires right { IfSome right (λ f. IsFoundIn trees.now.right.now.state f) }
+    ensures puts { let way = map (λ name. name.now) path.now in
+        Puts (T.taken sink.old) (T.taken sink.new) (T.failures sink.old) (T.failures sink.new)
+        (flat_map (λ line. line) (changes trees.now.times
+        (entries_here trees.now.left.now.state way left)
+        (entries_here trees.now.right.now.state way right))) result }
+    ensures count { let way = map (λ name. name.now) path.now in
+        IfOk result
+        (λ n. n ≡ length (changes trees.now.times (entries_here trees.now.left.now.state way left)
+        (entries_here trees.now.right.now.state way right))) }
+{
+    match (left, right) {
+        (None, None) => Ok(0),
+        (Some(found), None) => {
+            put_entry(trees.left, trees.times, b"- ", path, &found, sink)?;
+            Ok(1)
+        }
+        (None, Some(found)) => {
+            put_entry(trees.right, trees.times, b"+ ", path, &found, sink)?;
+            Ok(1)
+        }
+        (Some(ours), Some(theirs)) => {
+            if is_same_object(trees.times, &ours.object, &theirs.object) {
+                put_bytes(trees, path, &ours, &theirs, sink)
+            } else {
+                put_both(trees, path, &ours, &theirs, sink)
+            }
+        }
+    }
+}
