@@ -1,6 +1,6 @@
 -- What commands do of images that are decompressed.
 use Rattle.std.proofs.Common.{◌≡◌, ℕ, Bool, true, false, List, Option, Some, None, Result, Ok, Err, inl, inr, refl, sym, ap, ◌∙◌, subst}
-use Rattle.std.specs.Prelude.{◌⊎◌, IfOk, IsErrOf}
+use Rattle.std.specs.Prelude.{◌⊎◌, IfOk, IfSome, IsErrOf}
 use Rattle.flashbase.specs.declared.source.LoadFault.TheVariants as load
 use Rattle.jnode.specs.declared.order.Endian.{Endian}
 use Rattle.jscan.specs.declared.geometry.ScanFault.TheVariants as scan
@@ -13,11 +13,11 @@ use Rattle.jcommand.specs.Parsed.{ListParsed, CatParsed, AppendParsed, Decompres
 use Rattle.jcommand.specs.declared.parsed.Options.{Options}
 use Rattle.jreport.specs.FoundIn.{found_in}
 use Rattle.jreport.specs.Paths.{path_of}
-use Rattle.jreport.specs.WholeImage.{PutsFile, PutsListing, list_request}
+use Rattle.jreport.specs.WholeImage.{OfSomeImage, PutsFile, PutsListing, list_request}
 use Rattle.jreport.specs.declared.faults.ProgramFault.{ProgramFault}
 use Rattle.jreport.specs.declared.faults.ProgramFault.TheVariants as program
 use Rattle.jffs2_image.specs.Decompressing.{DecompressesFile, IsNotConverted, IsNotWritten, fault_of_conversion, with_findings}
-use Rattle.jffs2_image.specs.Host.{AreLoaded, AreOf, Blames, BlamesDecompress, IsReadFault, IsRefusedBefore, ReadsFile}
+use Rattle.jffs2_image.specs.Host.{AreLoaded, AreOf, Blames, BlamesDecompress, GivesFile, IsReadFault, IsRefusedBefore, ReadsFile}
 use Rattle.jffs2_image.specs.Runs.{Meets, RunsListed}
 use Rattle.jffs2_image.specs.Writes.{Held, IsNotedIn, IsUnreadFile}
 use Rattle.jffs2_image.proofs.WritingLemmas.{not_scanned}
@@ -184,6 +184,24 @@ part_done told held e options name word path image made old new before now done 
   told_of = λ wrong. tt;
   put = inl (image, of.0, (path, path_is, inl (made, done, is, puts, refl)));
 }
+
+-- the same of the image as it is
+given : (told rest : Option (List ℕ)) (image : List ℕ) → GivesFile told rest → IfSome rest (λ bytes. image ≡ bytes) → AreOf told image
+given None rest image gives is = tt
+given (Some known) None image gives is = absurd (cc)
+given (Some known) (Some bytes) image gives is = let same : bytes ≡ known = cc in is ∙ same
+
+pub part_listed : (told : List ℕ → Option (List ℕ)) (held : Held) (e : Endian) (options : Options) (name word path : List ℕ) (rest : Option (List ℕ)) (d : Bool) (old new : Option (List ℕ)) (before now : ℕ) (answer : Result ℕ ProgramFault)
+    → d ≡ false → path_of word ≡ Some path → GivesFile (told name) rest
+    → OfSomeImage rest (λ image. PutsListing (list_request e options.geometry.block (Some path)) image old new before now answer)
+    → Meets told held e (ListParsed options d name (Some word)) old new before now answer
+part_listed told held e options name word path rest d old new before now answer plain is gives puts =
+    let meets : Meets told held e (ListParsed options false name (Some word)) old new before now answer = record {
+      block_size = λ wrong. absurd ((subst (PutsListing (list_request e options.geometry.block (Some path)) puts.0 old new before now) wrong puts.2).2.0.2);
+      told_of = λ wrong. tt;
+      put = inl (puts.0, given (told name) rest puts.0 gives puts.1, (path, is, puts.2));
+    } in
+    subst (λ (b : Bool). Meets told held e (ListParsed options b name (Some word)) old new before now answer) (sym plain) meets
 
 -- `cat`, of a path
 pub cat_unread : (told : List ℕ → Option (List ℕ)) (held : Held) (e : Endian) (options : Options) (name word path : List ℕ) (old : Option (List ℕ)) (n : ℕ) (f : ProgramFault)

@@ -1,5 +1,5 @@
 -- What a command comes to whose image is decompressed.
-use Rattle.std.proofs.Common.{◌≡◌, ℕ, true, List, Option, Some, Result, Ok, Err, inl, inr, refl, sym, ap, subst}
+use Rattle.std.proofs.Common.{◌≡◌, ℕ, true, List, Option, Some, Result, Ok, Err, inl, inr, refl, sym, ap, subst, None}
 use Rattle.std.specs.Prelude.{◌⊎◌}
 use Rattle.std.specs.Io.KnownBytes.{Keeps}
 use Rattle.jnode.specs.declared.order.Endian.{Endian}
