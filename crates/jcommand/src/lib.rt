@@ -23,4 +23,4 @@ mod parsed;
 
 pub use crate::command_line::{RequestFault, request, task};
 pub use crate::outcome::{Outcome, status};
-pub use crate::parsed::{Extraction, FolderListing, Options, Owner, Request, Target, Task};
+pub use crate::parsed::{Cuts, Extraction, FolderListing, Options, Owner, Request, Target, Task};

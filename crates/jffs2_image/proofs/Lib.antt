@@ -5,3 +5,4 @@ pub mod DecompressingLemmas
 pub mod WritingLemmas
 pub mod HostLemmas
 pub mod RunLemmas
+pub mod CutRunLemmas
