@@ -51,7 +51,7 @@ def options_in(body, bodies):
 
 
 def words_in(body):
-    return re.findall(r'\bmake_word\(\s*alloc,\s*"(\w+)"', body)
+    return re.findall(r'\bmake_(?:optional_)?word\(\s*alloc,\s*"(\w+)"', body)
 
 
 def values_of_the_program():

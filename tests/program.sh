@@ -52,7 +52,7 @@ wrong="error: *Usage: *--help*"
 run; want 2 "" "error: *Usage: jffs2_image <COMMAND>*"
 run paint; want 2 "" "error: unrecognized subcommand 'paint'*Usage: *"
 run ls; want 2 "" "error: *<IMAGE>*Usage: *"
-run ls block /; want 2 "" "error: unexpected argument '/' found*Usage: *"
+run ls block / /a; want 2 "" "error: unexpected argument '/a' found*Usage: *"
 run ls --scan block; want 2 "" "error: unexpected argument '--scan' found*Usage: *"
 run ls block --block; want 2 "" "error: *--block <N>*"
 run ls --block=4k block; want 2 "" "error: invalid value '4k' for '--block <N>': *--help*"
@@ -179,6 +179,18 @@ done
 # The sample image with a tree, which mkfs.jffs2 made
 tree=$samples/tree.img
 run ls --block 8192 "$tree"; want 0 "$(sed 's/\\/\\\\/g' "$samples/../stdout")" ""
+# A part of it: for each path the lines of the whole whose path is that, or begins with it and a slash.
+run ls --block 8192 "$tree"; cp out all_lines
+while read -r _ _ _ _ _ _ _ path _; do
+    PATH_ASKED=$path awk 'BEGIN { asked = ENVIRON["PATH_ASKED"]; below = asked == "/" ? "/" : asked "/" }
+        $8 == asked || index($8, below) == 1' all_lines > wanted_lines
+    run ls --block 8192 "$tree" "$path"; want 0 "*" ""; whole wanted_lines
+done < all_lines
+run ls --block 8192 "$tree" /none; want 1 "" "jffs2_image: P3 Path NotFound"
+run ls --block 8192 "$tree" /etc/passwd/a; want 1 "" "jffs2_image: P3 Path NotDirectory"
+run ls --block 8192 "$tree" etc; want 1 "" "jffs2_image: P3 Path BadPath"
+run ls none '/\x1'; want 1 "" "jffs2_image: P3 Path BadPath"
+run ls none /etc; want 1 "" "jffs2_image: P1 File none"
 run check --block 8192 "$tree"; want 0 "*entries 12 inodes 11 findings 0*mount ok" ""
 run build --block 8192 --blocks 1 "$samples/tree.txt" built; want 0 "accepted 17 nodes 28 bytes 1772" ""
 run ls --block 8192 built; want 0 "$(sed 's/\\/\\\\/g' "$samples/../stdout")" ""

@@ -11,6 +11,10 @@ use Rattle.clap.specs.declared.builder.action.ArgAction.TheVariants.{SetTrue}
 abbrev pub word : Text → Rule
 word id = record (new_rule id) { required = true }
 
+-- a word that may be left out
+abbrev pub optional_word : Text → Rule
+optional_word id = new_rule id
+
 -- an option with a value, and the value that stands for it where it is not given
 abbrev pub option_or : Text → Text → Rule
 option_or id default =
@@ -46,9 +50,10 @@ check_app = with_rule (with_rule (with_rule (plain_command (codes "check")) (fla
 abbrev pub decompressing : App → App
 decompressing app = with_rule app (flag (codes "decompress"))
 
--- `ls [--decompress] [--block N] [--endian ORDER] IMAGE`
+-- `ls [--decompress] [--block N] [--endian ORDER] IMAGE [PATH]`
 abbrev pub ls_app : App
-ls_app = with_rule (decompressing (plain_command (codes "ls"))) (word (codes "IMAGE"))
+ls_app = with_rule (with_rule (decompressing (plain_command (codes "ls"))) (word (codes "IMAGE")))
+    (optional_word (codes "PATH"))
 
 -- `cat [--decompress] [--block N] [--endian ORDER] IMAGE PATH`
 abbrev pub cat_app : App

@@ -64,7 +64,7 @@ number_option id rows = option_and_then decimal_number (first_of id rows)
 pub data Parsed : Type 0 where
   ScanParsed : Options → Text → Parsed
   CheckParsed : Options → Bool → Text → Parsed
-  ListParsed : Options → Bool → Text → Parsed
+  ListParsed : Options → Bool → Text → Option Text → Parsed
   CatParsed : Options → Bool → Text → Text → Parsed
   BuildParsed : Options → ℕ → Page → Text → Text → Parsed
   AppendParsed : Options → ℕ → Page → Bool → Text → Text → Text → Parsed
@@ -73,7 +73,8 @@ pub data Parsed : Type 0 where
 abbrev pub view : Request → Parsed
 view (request.Scan options image) = ScanParsed options image.now
 view (request.Check options shape image) = CheckParsed options shape image.now
-view (request.List options decompress image) = ListParsed options decompress image.now
+view (request.List options decompress image path) =
+    ListParsed options decompress image.now (option_map (λ p. p.now) path)
 view (request.Cat options decompress image path) = CatParsed options decompress image.now path.now
 view (request.Build target listing) =
     BuildParsed target.options target.blocks target.page listing.now target.output.now
@@ -102,7 +103,7 @@ task_view (task.Cuts x) =
 abbrev pub options_of : Request → Options
 options_of (request.Scan options image) = options
 options_of (request.Check options shape image) = options
-options_of (request.List options decompress image) = options
+options_of (request.List options decompress image path) = options
 options_of (request.Cat options decompress image path) = options
 options_of (request.Build target listing) = target.options
 options_of (request.Append target decompress image listing) = target.options
@@ -136,7 +137,8 @@ abbrev pub is_decompressed : List Row → Bool
 is_decompressed rows = is_given (first_of (codes "decompress") rows)
 
 abbrev pub ls_in : List Row → Option Parsed
-ls_in rows = image_in rows >>= λ p. Some (ListParsed p.0 (is_decompressed rows) p.1)
+ls_in rows = image_in rows >>= λ p.
+    Some (ListParsed p.0 (is_decompressed rows) p.1 (first_of (codes "PATH") rows))
 
 abbrev pub cat_in : List Row → Option Parsed
 cat_in rows = image_in rows >>= λ p. first_of (codes "PATH") rows >>= λ path.

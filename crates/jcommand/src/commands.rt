@@ -1,7 +1,7 @@
 //! The command line, built with clap: the program, its subcommands, and the words that each one takes.
 ghost use Rattle.std.specs.Prelude.{◌≡◌, Ok};
 ghost use Rattle.clap.specs.Words.{App, Rule, new_app, with_rule, with_subcommand};
-ghost use Rattle.jcommand.specs.Commands.{IsApp, IsRule, MakesApp, word, option_or, required_option, option_of, option_of_two, flag, plain_command, writer, check_app, ls_app, cat_app, build_app, append_app, decompress_app, extract_app, listing_app, info_app, cuts_app, bare, program};
+ghost use Rattle.jcommand.specs.Commands.{IsApp, IsRule, MakesApp, word, optional_word, option_or, required_option, option_of, option_of_two, flag, plain_command, writer, check_app, ls_app, cat_app, build_app, append_app, decompress_app, extract_app, listing_app, info_app, cuts_app, bare, program};
 
 use crate::help;
 use clap::{Arg, ArgAction, Command};
@@ -17,6 +17,13 @@ fn make_word<'a>(alloc: Global, id: &'a str, help: &'a str) -> Arg<'a>
     ensures { IsRule result (word id.now) }
 {
     Arg::new(alloc, id).required(true).help(help)
+}
+
+/// A word that may be left out.
+fn make_optional_word<'a>(alloc: Global, id: &'a str, help: &'a str) -> Arg<'a>
+    ensures { IsRule result (optional_word id.now) }
+{
+    Arg::new(alloc, id).help(help)
 }
 
 /// An option with a value that may be left out.
@@ -124,8 +131,9 @@ fn make_ls<'a>(alloc: Global) -> Made<'a>
 {
     let decompress = make_flag(alloc, "decompress", help::DECOMPRESSED);
     let image = make_word(alloc, "IMAGE", help::IMAGE);
+    let path = make_optional_word(alloc, "PATH", help::PART);
     let command = make_plain(alloc, "ls", help::LIST, help::LIST_EPILOGUE);
-    add_arg(add_arg(command, decompress), image)
+    add_arg(add_arg(add_arg(command, decompress), image), path)
 }
 
 fn make_cat<'a>(alloc: Global) -> Made<'a>

@@ -45,6 +45,8 @@ pub(crate) const DECOMPRESSED: &str = "Take the image as decompress would write 
 
 pub(crate) const PATH: &str = "Path from the root, as /a/b; \\x and two hex digits are one byte";
 
+pub(crate) const PART: &str = "Path from the root, as for cat: this object and what lies below it";
+
 pub(crate) const LISTING: &str = "File with the operations, a line each";
 
 pub(crate) const FOLDER: &str = "Folder that is read";
@@ -145,8 +147,11 @@ are in byte order. A line is
 where the target has more than 4095 bytes. ' (again)' follows a directory that
 was met before.
 
-Example:
+With PATH only the object there and what lies below it are listed.
+
+Examples:
   jffs2_image ls --endian big flash.img
+  jffs2_image ls flash.img /etc
 
 Exit status:
   0  done

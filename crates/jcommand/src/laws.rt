@@ -47,12 +47,12 @@ pub fn known_requests()
         (codes "jffs2_image" ∷ codes "ls" ∷ codes "a" ∷ codes "--block=8192" ∷ [])
         ≡ Some (ImageParsed
         (ListParsed (record { geometry = record { block = 8192 }; endian = Little }) false
-        (codes "a"))) }
+        (codes "a") None)) }
     ensures decompressed_tree { parsed_from
-        (codes "jffs2_image" ∷ codes "ls" ∷ codes "--decompress" ∷ codes "a" ∷ [])
+        (codes "jffs2_image" ∷ codes "ls" ∷ codes "--decompress" ∷ codes "a" ∷ codes "/b" ∷ [])
         ≡ Some (ImageParsed
         (ListParsed (record { geometry = record { block = 65536 }; endian = Little }) true
-        (codes "a"))) }
+        (codes "a") (Some (codes "/b")))) }
     ensures content { parsed_from (codes "jffs2_image" ∷ codes "cat" ∷ codes "a" ∷ codes "/b" ∷ [])
         ≡ Some (ImageParsed
         (CatParsed (record { geometry = record { block = 65536 }; endian = Little }) false

@@ -45,11 +45,13 @@ pub enum Request<'a> {
         shape: bool,
         image: &'a str,
     },
-    /// `ls`: a line for each object of the tree; with `--decompress`, of what `decompress` makes of the image.
+    /// `ls`: a line for each object of the tree, or of the part of it that a path names; with `--decompress`, of what
+    /// `decompress` makes of the image.
     List {
         options: Options,
         decompress: bool,
         image: &'a str,
+        path: Option<&'a str>,
     },
     /// `cat`: the content of a file; with `--decompress` in the same way.
     Cat {
@@ -266,6 +268,7 @@ fn ls_at<'a>(found: &ArgMatches<'a>) -> Option<Request<'a>>
         options,
         decompress: is_decompressed(found),
         image,
+        path: text_at(found, "PATH"),
     })
 }
 

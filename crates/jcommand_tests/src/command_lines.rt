@@ -40,10 +40,12 @@ fn shown(alloc: Global, request: Request<'_>) -> Result<String, AllocError> {
         Request::List {
             image,
             decompress,
+            path,
             ..
         } => {
             let mark = mark(decompress);
-            format!(in alloc; "ls {block} {order} {image}{mark}")
+            let path = path.unwrap_or("all");
+            format!(in alloc; "ls {block} {order} {image} {path}{mark}")
         }
         Request::Cat {
             image,
@@ -158,7 +160,7 @@ pub(crate) fn is_wrong(text: &str, part: &str) -> bool {
 }
 
 /// Lines that ask to read, and what they ask for.
-const READING: [(&str, &str); 17] = [
+const READING: [(&str, &str); 18] = [
     ("t check --scan a.img", "scan 65536 little a.img"),
     ("t check a.img", "check 65536 little a.img"),
     ("t check --shape a.img", "check 65536 little a.img shape"),
@@ -181,7 +183,11 @@ const READING: [(&str, &str); 17] = [
     ("t check --scan -- a.img", "scan 65536 little a.img"),
     ("t check a.img", "check 65536 little a.img"),
     ("t check --block 0065536 a.img", "check 65536 little a.img"),
-    ("t ls a.img --block 8192 --endian=big", "ls 8192 big a.img"),
+    (
+        "t ls a.img --block 8192 --endian=big",
+        "ls 8192 big a.img all",
+    ),
+    ("t ls a.img --block 8192 /b", "ls 8192 little a.img /b"),
     (
         "t cat --endian big --block=4096 a.img /b",
         "cat 4096 big a.img /b",
@@ -271,7 +277,7 @@ const WRONG: [(&str, &str); 32] = [
     ("t", "requires a subcommand"),
     ("t paint", "unrecognized subcommand 'paint'"),
     ("t ls", "<IMAGE>"),
-    ("t ls a.img /a", "'/a'"),
+    ("t ls a.img /a /b", "'/b'"),
     ("t ls --scan a.img", "--scan"),
     ("t ls --shape a.img", "--shape"),
     ("t ls --block=many a.img", "'many' for '--block <N>'"),

@@ -15,8 +15,8 @@ const ASKED: [(&str, &str); 8] = [
         "decompress 8192 big a.img a.img",
     ),
     (
-        "t ls --decompress a.img",
-        "ls 65536 little a.img decompressed",
+        "t ls --decompress a.img /b",
+        "ls 65536 little a.img /b decompressed",
     ),
     (
         "t cat a.img --decompress /b",

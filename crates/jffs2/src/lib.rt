@@ -13,7 +13,7 @@
 //! | read its bytes | [`Mounted::read_at`], or [`Mounted::put_bytes`] into a [`Sink`] |
 //! | list a directory | [`Mounted::entries`]; [`Mounted::names`] has the names of all directories |
 //! | know what is damaged | [`Mounted::findings`], [`Mounted::dangling`], [`Mounted::shape`] |
-//! | print what `ls`, `cat` and `check` print | [`tree_lines`], [`content`], [`scan_lines`], [`verdict_lines`] |
+//! | print what `ls`, `cat` and `check` print | [`tree_lines`], [`part_lines`], [`content`], [`scan_lines`], [`verdict_lines`] |
 //! | see each node, with its address | [`scan`], or [`Sightings`] one by one |
 //! | see an image that is larger than memory | [`scan_stream`], [`stream_lines`] |
 //! | write to an image | [`Session::resume`], then [`Session::run`] with a list of [`Op`] |
@@ -41,7 +41,9 @@ pub use jlisting::{Action, Line, ListingFault, listing};
 pub use jlog::{Applied, Place, RunReport, Session, SessionFault};
 pub use jmount::{FindFault, Kind, MountFault, Mounted, Object, mount};
 pub use jnode::{Damage, Dirent, Endian, Fill, InodeNode, NodeRef, Order, Seen, weak_cut};
-pub use jreport::{ProgramFault, content, scan_lines, stream_lines, tree_lines, verdict_lines};
+pub use jreport::{
+    ProgramFault, content, part_lines, scan_lines, stream_lines, tree_lines, verdict_lines,
+};
 pub use jscan::{
     Counts, Extent, ExtentKind, Extents, Finding, FindingKind, GREATEST_IMAGE, Geometry, Scan,
     ScanFault, Sightings, StreamFault, scan, scan_stream,

@@ -12,7 +12,7 @@ pub for_fault : (T : Type 0) (told : List ℕ → Option (List ℕ)) (e : Endian
     → BlamesFor {T = ℕ} told e parsed u old new rb rn mb mn (Err f) → BlamesFor {T = T} told e parsed u old new rb rn mb mn (Err f)
 for_fault T told e (ScanParsed options image) u old new rb rn mb mn f w = (reads_any T (told image) rb rn f w.0, w.1)
 for_fault T told e (CheckParsed options shape image) u old new rb rn mb mn f w = (reads_any T (told image) rb rn f w.0, w.1)
-for_fault T told e (ListParsed options decompress image) u old new rb rn mb mn f w = (reads_any T (told image) rb rn f w.0, w.1)
+for_fault T told e (ListParsed options decompress image path) u old new rb rn mb mn f w = (reads_any T (told image) rb rn f w.0, w.1)
 for_fault T told e (CatParsed options decompress image path) u old new rb rn mb mn f w = (reads_any T (told image) rb rn f w.0, w.1)
 for_fault T told e (BuildParsed options blocks page listing output) u old new rb rn mb mn f w = any_blame T u (MakesFile output old new) rb rn mb mn f w
 for_fault T told e (AppendParsed options blocks page decompress image listing output) u old new rb rn mb mn f (inl w) = inl (any_blame T u (MakesFile output old new) rb rn mb mn f w)
@@ -24,7 +24,7 @@ pub for_answer : (T : Type 0) (told : List ℕ → Option (List ℕ)) (e : Endia
     → BlamesFor {T = ℕ} told e parsed u old new rb rn mb mn (Ok n) → BlamesFor {T = T} told e parsed u old new rb rn mb mn (Ok x)
 for_answer T told e (ScanParsed options image) u old new rb rn mb mn n x w = w
 for_answer T told e (CheckParsed options shape image) u old new rb rn mb mn n x w = w
-for_answer T told e (ListParsed options decompress image) u old new rb rn mb mn n x w = w
+for_answer T told e (ListParsed options decompress image path) u old new rb rn mb mn n x w = w
 for_answer T told e (CatParsed options decompress image path) u old new rb rn mb mn n x w = w
 for_answer T told e (BuildParsed options blocks page listing output) u old new rb rn mb mn n x w = w
 for_answer T told e (AppendParsed options blocks page decompress image listing output) u old new rb rn mb mn n x (inl w) = inl w

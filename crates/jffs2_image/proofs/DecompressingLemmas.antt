@@ -1,6 +1,6 @@
 -- What commands do of images that are decompressed.
 use Rattle.std.proofs.Common.{◌≡◌, ℕ, Bool, true, false, List, Option, Some, None, Result, Ok, Err, inl, inr, refl, sym, ap, ◌∙◌, subst}
-use Rattle.std.specs.Prelude.{◌⊎◌, IfOk, IsErrOf}
+use Rattle.std.specs.Prelude.{◌⊎◌, IfOk, IfSome, IsErrOf}
 use Rattle.flashbase.specs.declared.source.LoadFault.TheVariants as load
 use Rattle.jnode.specs.declared.order.Endian.{Endian}
 use Rattle.jscan.specs.declared.geometry.ScanFault.TheVariants as scan
@@ -13,11 +13,11 @@ use Rattle.jcommand.specs.Parsed.{ListParsed, CatParsed, AppendParsed, Decompres
 use Rattle.jcommand.specs.declared.parsed.Options.{Options}
 use Rattle.jreport.specs.FoundIn.{found_in}
 use Rattle.jreport.specs.Paths.{path_of}
-use Rattle.jreport.specs.WholeImage.{PutsFile, PutsListing}
+use Rattle.jreport.specs.WholeImage.{OfSomeImage, PutsFile, PutsListing, list_request}
 use Rattle.jreport.specs.declared.faults.ProgramFault.{ProgramFault}
 use Rattle.jreport.specs.declared.faults.ProgramFault.TheVariants as program
 use Rattle.jffs2_image.specs.Decompressing.{DecompressesFile, IsNotConverted, IsNotWritten, fault_of_conversion, with_findings}
-use Rattle.jffs2_image.specs.Host.{AreLoaded, AreOf, Blames, BlamesDecompress, IsReadFault, IsRefusedBefore, ReadsFile}
+use Rattle.jffs2_image.specs.Host.{AreLoaded, AreOf, Blames, BlamesDecompress, GivesFile, IsReadFault, IsRefusedBefore, ReadsFile}
 use Rattle.jffs2_image.specs.Runs.{Meets, RunsListed}
 use Rattle.jffs2_image.specs.Writes.{Held, IsNotedIn, IsUnreadFile}
 use Rattle.jffs2_image.proofs.WritingLemmas.{not_scanned}
@@ -123,7 +123,7 @@ one_fault {f} is = ap (fault_or f) is
 
 -- `ls`: its file is not read, or nothing is made of it, or the tree of what is made goes out
 pub list_unread : (told : List ℕ → Option (List ℕ)) (held : Held) (e : Endian) (options : Options) (name : List ℕ) (old : Option (List ℕ)) (n : ℕ) (f : ProgramFault)
-    → IsUnreadFile name (told name) f → Meets told held e (ListParsed options true name) old old n n (Err f)
+    → IsUnreadFile name (told name) f → Meets told held e (ListParsed options true name None) old old n n (Err f)
 list_unread told held e options name old n f not = record {
   block_size = λ is. absurd (subst (IsUnreadFile name (told name)) (one_fault is) not);
   told_of = λ wrong. tt;
@@ -131,7 +131,7 @@ list_unread told held e options name old n f not = record {
 }
 
 pub list_refused : (told : List ℕ → Option (List ℕ)) (held : Held) (e : Endian) (options : Options) (name image : List ℕ) (old : Option (List ℕ)) (n : ℕ) (f : ProgramFault)
-    → AreLoaded (told name) image → IsNotConverted e options.geometry.block image f → Meets told held e (ListParsed options true name) old old n n (Err f)
+    → AreLoaded (told name) image → IsNotConverted e options.geometry.block image f → Meets told held e (ListParsed options true name None) old old n n (Err f)
 list_refused told held e options name image old n f of not = record {
   block_size = λ is. absurd (no_scan not.0 (sym not.1 ∙ one_fault is));
   told_of = λ wrong. tt;
@@ -139,13 +139,69 @@ list_refused told held e options name image old n f of not = record {
 }
 
 pub list_done : (told : List ℕ → Option (List ℕ)) (held : Held) (e : Endian) (options : Options) (name image made : List ℕ) (old new : Option (List ℕ)) (before now : ℕ) (done : Result ℕ ProgramFault)
-    → AreLoaded (told name) image → Converts e options.geometry.block image (Ok made) → PutsListing e options.geometry.block made old new before now done
-    → Meets told held e (ListParsed options true name) old new before now (with_findings (found_in e options.geometry.block image).noted done)
+    → AreLoaded (told name) image → Converts e options.geometry.block image (Ok made) → PutsListing (list_request e options.geometry.block None) made old new before now done
+    → Meets told held e (ListParsed options true name None) old new before now (with_findings (found_in e options.geometry.block image).noted done)
 list_done told held e options name image made old new before now done of is puts = record {
-  block_size = λ wrong. absurd ((subst (PutsListing e options.geometry.block made old new before now) (same_fault _ done _ wrong) puts).2.0);
+  block_size = λ wrong. absurd ((subst (PutsListing (list_request e options.geometry.block None) made old new before now) (same_fault _ done _ wrong) puts).2.0);
   told_of = λ wrong. tt;
   put = inl (image, of.0, inl (made, done, is, puts, refl));
 }
+
+-- `ls` of a path
+pub part_unread : (told : List ℕ → Option (List ℕ)) (held : Held) (e : Endian) (options : Options) (name word path : List ℕ) (old : Option (List ℕ)) (n : ℕ) (f : ProgramFault)
+    → path_of word ≡ Some path → IsUnreadFile name (told name) f → Meets told held e (ListParsed options true name (Some word)) old old n n (Err f)
+part_unread told held e options name word path old n f is not = by f not
+  where
+    by : (f : ProgramFault) → IsUnreadFile name (told name) f → Meets told held e (ListParsed options true name (Some word)) old old n n (Err f)
+    by (program.Load f) not = record { block_size = λ wrong. cc; told_of = λ wrong. tt; put = inr (program.Load f, refl, (not, rw is refl), refl, refl) }
+    by (program.File file) not = record { block_size = λ wrong. cc; told_of = λ wrong. tt; put = inr (program.File file, refl, (not, rw is refl), refl, refl) }
+    by (program.Scan f) not = absurd not
+    by (program.Mount f) not = absurd not
+    by (program.Listing k) not = absurd not
+    by (program.Session f line) not = absurd not
+    by (program.Path f) not = absurd not
+    by program.NotRegular not = absurd not
+    by program.Output not = absurd not
+    by program.OutOfMemory not = absurd not
+    by (program.NoSpace folder) not = absurd not
+    by (program.Data addr) not = absurd not
+    by (program.TooLong addr) not = absurd not
+
+pub part_refused : (told : List ℕ → Option (List ℕ)) (held : Held) (e : Endian) (options : Options) (name word path image : List ℕ) (old : Option (List ℕ)) (n : ℕ) (f : ProgramFault)
+    → path_of word ≡ Some path → AreLoaded (told name) image → IsNotConverted e options.geometry.block image f
+    → Meets told held e (ListParsed options true name (Some word)) old old n n (Err f)
+part_refused told held e options name word path image old n f path_is of not = record {
+  block_size = λ is. absurd (no_scan not.0 (sym not.1 ∙ one_fault is));
+  told_of = λ wrong. tt;
+  put = inl (image, of.0, (path, path_is, inr (f, refl, not, refl, refl)));
+}
+
+pub part_done : (told : List ℕ → Option (List ℕ)) (held : Held) (e : Endian) (options : Options) (name word path image made : List ℕ) (old new : Option (List ℕ)) (before now : ℕ) (done : Result ℕ ProgramFault)
+    → path_of word ≡ Some path → AreLoaded (told name) image → Converts e options.geometry.block image (Ok made) → PutsListing (list_request e options.geometry.block (Some path)) made old new before now done
+    → Meets told held e (ListParsed options true name (Some word)) old new before now (with_findings (found_in e options.geometry.block image).noted done)
+part_done told held e options name word path image made old new before now done path_is of is puts = record {
+  block_size = λ wrong. absurd ((subst (PutsListing (list_request e options.geometry.block (Some path)) made old new before now) (same_fault _ done _ wrong) puts).2.0.2);
+  told_of = λ wrong. tt;
+  put = inl (image, of.0, (path, path_is, inl (made, done, is, puts, refl)));
+}
+
+-- the same of the image as it is
+given : (told rest : Option (List ℕ)) (image : List ℕ) → GivesFile told rest → IfSome rest (λ bytes. image ≡ bytes) → AreOf told image
+given None rest image gives is = tt
+given (Some known) None image gives is = absurd (cc)
+given (Some known) (Some bytes) image gives is = let same : bytes ≡ known = cc in is ∙ same
+
+pub part_listed : (told : List ℕ → Option (List ℕ)) (held : Held) (e : Endian) (options : Options) (name word path : List ℕ) (rest : Option (List ℕ)) (d : Bool) (old new : Option (List ℕ)) (before now : ℕ) (answer : Result ℕ ProgramFault)
+    → d ≡ false → path_of word ≡ Some path → GivesFile (told name) rest
+    → OfSomeImage rest (λ image. PutsListing (list_request e options.geometry.block (Some path)) image old new before now answer)
+    → Meets told held e (ListParsed options d name (Some word)) old new before now answer
+part_listed told held e options name word path rest d old new before now answer plain is gives puts =
+    let meets : Meets told held e (ListParsed options false name (Some word)) old new before now answer = record {
+      block_size = λ wrong. absurd ((subst (PutsListing (list_request e options.geometry.block (Some path)) puts.0 old new before now) wrong puts.2).2.0.2);
+      told_of = λ wrong. tt;
+      put = inl (puts.0, given (told name) rest puts.0 gives puts.1, (path, is, puts.2));
+    } in
+    subst (λ (b : Bool). Meets told held e (ListParsed options b name (Some word)) old new before now answer) (sym plain) meets
 
 -- `cat`, of a path
 pub cat_unread : (told : List ℕ → Option (List ℕ)) (held : Held) (e : Endian) (options : Options) (name word path : List ℕ) (old : Option (List ℕ)) (n : ℕ) (f : ProgramFault)

@@ -1,5 +1,5 @@
 -- What a command comes to whose image is decompressed.
-use Rattle.std.proofs.Common.{◌≡◌, ℕ, true, List, Option, Some, Result, Ok, Err, inl, inr, refl, sym, ap, subst}
+use Rattle.std.proofs.Common.{◌≡◌, ℕ, true, List, Option, Some, Result, Ok, Err, inl, inr, refl, sym, ap, subst, None}
 use Rattle.std.specs.Prelude.{◌⊎◌}
 use Rattle.std.specs.Io.KnownBytes.{Keeps}
 use Rattle.jnode.specs.declared.order.Endian.{Endian}
@@ -10,7 +10,7 @@ use Rattle.jexpand.specs.declared.fault.ConvertFault.TheVariants as convert
 use Rattle.jcommand.specs.Parsed.{ListParsed, CatParsed, AppendParsed}
 use Rattle.jcommand.specs.declared.parsed.Options.{Options}
 use Rattle.jreport.specs.Paths.{path_of}
-use Rattle.jreport.specs.WholeImage.{PutsFile, PutsListing}
+use Rattle.jreport.specs.WholeImage.{PutsFile, PutsListing, list_request}
 use Rattle.jreport.specs.declared.faults.ProgramFault.{ProgramFault}
 use Rattle.jreport.specs.declared.findings.Found.{Found}
 use Rattle.jffs2_image.specs.Decompressing.{IsNotConverted, IsTaken}
@@ -18,7 +18,7 @@ use Rattle.jffs2_image.specs.Host.{AreLoaded, Blames, IsRefusedBefore, ReadsFile
 use Rattle.jffs2_image.specs.Runs.{Meets, RunsListed}
 use Rattle.jffs2_image.specs.Writes.{GivesText, Held, IsBehind, IsNotedIn, IsUnreadFile}
 use Rattle.jffs2_image.specs.declared.decompressing.Taken.{Taken}
-use Rattle.jffs2_image.proofs.DecompressingLemmas.{append_done, append_refused, append_unlisted, append_unread, cat_done, cat_refused, cat_unread, list_done, list_refused, list_unread, reads_fault}
+use Rattle.jffs2_image.proofs.DecompressingLemmas.{append_done, append_refused, append_unlisted, append_unread, cat_done, cat_refused, cat_unread, part_done, part_refused, part_unread, list_done, list_refused, list_unread, reads_fault}
 use Rattle.jffs2_image.proofs.HostLemmas.{file_blame, part_all, same_behind}
 
 -- ---- what the file that is made was given
@@ -53,22 +53,40 @@ made_of : (e : Endian) (size : ℕ) (image present : List ℕ) (taken : Taken) �
 made_of e size image present taken is same = subst (λ (bytes : List ℕ). Converts e size image (Ok bytes)) (sym same) is.made
 
 pub list_stopped : (X : Type 0) (told : List ℕ → Option (List ℕ)) (held : Held) (e : Endian) (options : Options) (name : List ℕ) (old : Option (List ℕ)) (n : ℕ) (f : ProgramFault)
-    → IsNotTaken e options.geometry.block name (told name) X f → Meets told held e (ListParsed options true name) old old n n (Err f)
+    → IsNotTaken e options.geometry.block name (told name) X f → Meets told held e (ListParsed options true name None) old old n n (Err f)
 list_stopped X told held e options name old n f (inl not) = list_unread told held e options name old n f not
 list_stopped X told held e options name old n f (inr not) = list_refused told held e options name not.0 old n f not.1 not.2
 
 pub list_taken : (told : List ℕ → Option (List ℕ)) (held : Held) (e : Endian) (options : Options) (name present : List ℕ) (taken : Taken) (old new : Option (List ℕ)) (before now n : ℕ)
-    → IsTakenOf e options.geometry.block (told name) taken → present ≡ taken.image.items → PutsListing e options.geometry.block present old new before now (Ok n)
-    → Meets told held e (ListParsed options true name) old new before now (Ok taken.found.noted)
+    → IsTakenOf e options.geometry.block (told name) taken → present ≡ taken.image.items → PutsListing (list_request e options.geometry.block None) present old new before now (Ok n)
+    → Meets told held e (ListParsed options true name None) old new before now (Ok taken.found.noted)
 list_taken told held e options name present taken old new before now n is same puts =
-    subst (λ (m : ℕ). Meets told held e (ListParsed options true name) old new before now (Ok m)) (sym (ap (λ (r : Found). r.noted) is.2.found))
+    subst (λ (m : ℕ). Meets told held e (ListParsed options true name None) old new before now (Ok m)) (sym (ap (λ (r : Found). r.noted) is.2.found))
     (list_done told held e options name is.0 present old new before now (Ok n) is.1 (made_of e options.geometry.block is.0 present taken is.2 same) puts)
 
 pub list_failed : (told : List ℕ → Option (List ℕ)) (held : Held) (e : Endian) (options : Options) (name present : List ℕ) (taken : Taken) (old new : Option (List ℕ)) (before now : ℕ) (f : ProgramFault)
-    → IsTakenOf e options.geometry.block (told name) taken → present ≡ taken.image.items → PutsListing e options.geometry.block present old new before now (Err f)
-    → Meets told held e (ListParsed options true name) old new before now (Err f)
+    → IsTakenOf e options.geometry.block (told name) taken → present ≡ taken.image.items → PutsListing (list_request e options.geometry.block None) present old new before now (Err f)
+    → Meets told held e (ListParsed options true name None) old new before now (Err f)
 list_failed told held e options name present taken old new before now f is same puts =
     list_done told held e options name is.0 present old new before now (Err f) is.1 (made_of e options.geometry.block is.0 present taken is.2 same) puts
+
+pub part_stopped : (X : Type 0) (told : List ℕ → Option (List ℕ)) (held : Held) (e : Endian) (options : Options) (name word path : List ℕ) (old : Option (List ℕ)) (n : ℕ) (f : ProgramFault)
+    → path_of word ≡ Some path → IsNotTaken e options.geometry.block name (told name) X f → Meets told held e (ListParsed options true name (Some word)) old old n n (Err f)
+part_stopped X told held e options name word path old n f path_is (inl not) = part_unread told held e options name word path old n f path_is not
+part_stopped X told held e options name word path old n f path_is (inr not) = part_refused told held e options name word path not.0 old n f path_is not.1 not.2
+
+pub part_taken : (told : List ℕ → Option (List ℕ)) (held : Held) (e : Endian) (options : Options) (name word path present : List ℕ) (taken : Taken) (old new : Option (List ℕ)) (before now n : ℕ)
+    → path_of word ≡ Some path → IsTakenOf e options.geometry.block (told name) taken → present ≡ taken.image.items → PutsListing (list_request e options.geometry.block (Some path)) present old new before now (Ok n)
+    → Meets told held e (ListParsed options true name (Some word)) old new before now (Ok taken.found.noted)
+part_taken told held e options name word path present taken old new before now n path_is is same puts =
+    subst (λ (m : ℕ). Meets told held e (ListParsed options true name (Some word)) old new before now (Ok m)) (sym (ap (λ (r : Found). r.noted) is.2.found))
+    (part_done told held e options name word path is.0 present old new before now (Ok n) path_is is.1 (made_of e options.geometry.block is.0 present taken is.2 same) puts)
+
+pub part_failed : (told : List ℕ → Option (List ℕ)) (held : Held) (e : Endian) (options : Options) (name word path present : List ℕ) (taken : Taken) (old new : Option (List ℕ)) (before now : ℕ) (f : ProgramFault)
+    → path_of word ≡ Some path → IsTakenOf e options.geometry.block (told name) taken → present ≡ taken.image.items → PutsListing (list_request e options.geometry.block (Some path)) present old new before now (Err f)
+    → Meets told held e (ListParsed options true name (Some word)) old new before now (Err f)
+part_failed told held e options name word path present taken old new before now f path_is is same puts =
+    part_done told held e options name word path is.0 present old new before now (Err f) path_is is.1 (made_of e options.geometry.block is.0 present taken is.2 same) puts
 
 pub cat_stopped : (X : Type 0) (told : List ℕ → Option (List ℕ)) (held : Held) (e : Endian) (options : Options) (name word path : List ℕ) (old : Option (List ℕ)) (n : ℕ) (f : ProgramFault)
     → path_of word ≡ Some path → IsNotTaken e options.geometry.block name (told name) X f → Meets told held e (CatParsed options true name word) old old n n (Err f)

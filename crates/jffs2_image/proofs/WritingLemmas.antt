@@ -153,7 +153,8 @@ pub met_by_any : (told : List ℕ → Option (List ℕ)) (held later : Held) (e 
     → Meets told held e parsed old new before now answer → Meets told later e parsed old new before now answer
 met_by_any told held later e (ScanParsed options image) old new before now answer none m = record { block_size = m.block_size; told_of = m.told_of; put = m.put }
 met_by_any told held later e (CheckParsed options shape image) old new before now answer none m = record { block_size = m.block_size; told_of = m.told_of; put = m.put }
-met_by_any told held later e (ListParsed options decompress image) old new before now answer none m = record { block_size = m.block_size; told_of = m.told_of; put = m.put }
+met_by_any told held later e (ListParsed options decompress image None) old new before now answer none m = record { block_size = m.block_size; told_of = m.told_of; put = m.put }
+met_by_any told held later e (ListParsed options decompress image (Some word)) old new before now answer none m = record { block_size = m.block_size; told_of = m.told_of; put = m.put }
 met_by_any told held later e (CatParsed options decompress image word) old new before now answer none m = record { block_size = m.block_size; told_of = m.told_of; put = m.put }
 met_by_any told held later e (BuildParsed options blocks page listing output) old new before now answer none m = absurd none
 met_by_any told held later e (AppendParsed options blocks page decompress image listing output) old new before now answer none m = absurd none

@@ -281,8 +281,8 @@ BlamesFor told e (ScanParsed options image) untouched names_old names_new read_b
 BlamesFor told e (CheckParsed options shape image) untouched names_old names_new read_before
     read_now made_before made_now result =
     ReadsFile (told image) read_before read_now result × untouched
-BlamesFor told e (ListParsed options decompress image) untouched names_old names_new read_before
-    read_now made_before made_now result =
+BlamesFor told e (ListParsed options decompress image path) untouched names_old names_new
+    read_before read_now made_before made_now result =
     ReadsFile (told image) read_before read_now result × untouched
 BlamesFor told e (CatParsed options decompress image path) untouched names_old names_new read_before
     read_now made_before made_now result =

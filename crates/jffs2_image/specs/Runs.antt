@@ -7,7 +7,7 @@ use Rattle.jscan.specs.Image.{is_block_size}
 use Rattle.jscan.specs.declared.geometry.ScanFault.TheVariants as scan
 use Rattle.jmount.specs.declared.fault.FindFault.TheVariants as find
 use Rattle.jreport.specs.Advice.{fault_lines_of}
-use Rattle.jreport.specs.WholeImage.{PutsCheck, PutsFile, PutsListing}
+use Rattle.jreport.specs.WholeImage.{PutsCheck, PutsFile, PutsListing, list_request}
 use Rattle.jreport.specs.Notes.{note_line_of}
 use Rattle.jreport.specs.Stream.{PutsStream}
 use Rattle.jreport.specs.Paths.{path_of}
@@ -35,7 +35,7 @@ use Rattle.jffs2_image.specs.declared.program.Stop.TheVariants as stop
 abbrev pub options_parsed : Parsed → Options
 options_parsed (ScanParsed options image) = options
 options_parsed (CheckParsed options shape image) = options
-options_parsed (ListParsed options decompress image) = options
+options_parsed (ListParsed options decompress image path) = options
 options_parsed (CatParsed options decompress image path) = options
 options_parsed (BuildParsed options blocks page listing output) = options
 options_parsed (AppendParsed options blocks page decompress image listing output) = options
@@ -58,7 +58,7 @@ PutsJudged e size asked image old new before now (Err fault) =
 abbrev pub IsImageOf : (List ℕ → Option (List ℕ)) → Parsed → List ℕ → Type 0
 IsImageOf told (ScanParsed options name) image = AreOf (told name) image
 IsImageOf told (CheckParsed options shape name) image = AreOf (told name) image
-IsImageOf told (ListParsed options decompress name) image = AreOf (told name) image
+IsImageOf told (ListParsed options decompress name path) image = AreOf (told name) image
 IsImageOf told (CatParsed options decompress name word) image = AreOf (told name) image
 IsImageOf told (BuildParsed options blocks page listing output) image = image ≡ []
 IsImageOf told (AppendParsed options blocks page decompress name listing output) image =
@@ -81,8 +81,15 @@ abbrev pub PutsAnswer : (List ℕ → Option (List ℕ)) → Held → Endian →
     → Option (List ℕ) → Option (List ℕ) → ℕ → ℕ → Result ℕ ProgramFault → Type 0
 PutsAnswer told held e (ScanParsed options name) = PutsStream e options.geometry.block
 PutsAnswer told held e (CheckParsed options shape name) = PutsJudged e options.geometry.block shape
-PutsAnswer told held e (ListParsed options decompress name) =
-    PutsTaken decompress e options.geometry.block (PutsListing e options.geometry.block)
+PutsAnswer told held e (ListParsed options decompress name None) =
+    PutsTaken decompress e options.geometry.block
+    (PutsListing (list_request e options.geometry.block None))
+PutsAnswer told held e (ListParsed options decompress name (Some word)) =
+    λ image old new before now answer.
+    (path : List ℕ) × (path_of word ≡ Some path)
+    × PutsTaken decompress e options.geometry.block
+    (PutsListing (list_request e options.geometry.block (Some path)))
+    image old new before now answer
 PutsAnswer told held e (CatParsed options decompress name word) = λ image old new before now answer.
     (path : List ℕ) × (path_of word ≡ Some path)
     × PutsTaken decompress e options.geometry.block
@@ -117,8 +124,13 @@ IsUnreadIf true file told fault = IsUnreadFile file told fault
 abbrev pub IsEarlyFault : (List ℕ → Option (List ℕ)) → Endian → Parsed → ProgramFault → Type 0
 IsEarlyFault told e (ScanParsed options image) fault = IsUnopened image fault
 IsEarlyFault told e (CheckParsed options shape image) fault = IsUnopened image fault
-IsEarlyFault told e (ListParsed options decompress image) fault =
+IsEarlyFault told e (ListParsed options decompress image None) fault =
     IsUnreadIf decompress image (told image) fault
+IsEarlyFault told e (ListParsed options decompress image (Some word)) (program.Path find.BadPath) =
+    path_of word ≡ None
+IsEarlyFault told e (ListParsed options decompress image (Some word)) program.OutOfMemory = Unit {0}
+IsEarlyFault told e (ListParsed options decompress image (Some word)) fault =
+    IsUnreadIf decompress image (told image) fault × IsTrue (is_some (path_of word))
 IsEarlyFault told e (CatParsed options decompress image word) (program.Path find.BadPath) =
     path_of word ≡ None
 IsEarlyFault told e (CatParsed options decompress image word) program.OutOfMemory = Unit {0}
@@ -185,7 +197,7 @@ pub record MeetsWhole (told : List ℕ → Option (List ℕ)) (held : Held) (par
 abbrev pub success_of : Parsed → ℕ → Success
 success_of (ScanParsed options image) n = success.Found n
 success_of (CheckParsed options shape image) n = success.Found n
-success_of (ListParsed options decompress image) n = success.Shown n
+success_of (ListParsed options decompress image path) n = success.Shown n
 success_of (CatParsed options decompress image path) n = success.Shown n
 success_of (BuildParsed options blocks page listing output) n = success.Shown n
 success_of (AppendParsed options blocks page decompress image listing output) n = success.Shown n

@@ -1,5 +1,5 @@
 //! The program on its arguments: it opens the image, lets `jreport` do the work, and says how that ended.
-ghost use Rattle.std.specs.Prelude.{◌≡◌, true, IfErr, IfOk, None, OnOk, Some, map};
+ghost use Rattle.std.specs.Prelude.{◌≡◌, true, IfErr, IfOk, None, OnOk, Some, map, option_map};
 ghost use Rattle.std.specs.Io.KnownBytes.{Appends};
 ghost use Rattle.jcommand.specs.Parsed.{Parsed, ScanParsed, CheckParsed, ListParsed, CatParsed, BuildParsed, AppendParsed, DecompressParsed, options_of, view};
 ghost use Rattle.jreport.specs.Advice.{fault_lines_of};
@@ -109,7 +109,7 @@ fn list_decompressed<'a, E: Order, L: Loader, T: Sink>(
     sink: &mut T,
 ) -> Result<u64, ProgramFault<'a>>
     ensures meets { Meets (L.told loader.old) (None, None) E.order
-        (ListParsed options true image.now) (T.taken sink.old) (T.taken sink.new)
+        (ListParsed options true image.now None) (T.taken sink.old) (T.taken sink.new)
         (T.failures sink.old) (T.failures sink.new) result }
     ensures host { ReadsFile (L.told loader.old image.now) (L.failures loader.old)
         (L.failures loader.new) result }
@@ -118,10 +118,88 @@ fn list_decompressed<'a, E: Order, L: Loader, T: Sink>(
         Ok(taken) => taken,
         Err(fault) => return Err(fault),
     };
-    match image_tree::<E, T>(alloc, taken.image.as_slice(), options.geometry, sink) {
+    match image_tree::<E, T>(alloc, taken.image.as_slice(), options.geometry, None, sink) {
         Ok(_) => Ok(taken.found.noted),
         Err(fault) => Err(fault),
     }
+}
+
+/// `ls` of the whole tree: answers how many findings to note.
+fn list_whole<'a, E: Order, L: Loader, T: Sink>(
+    alloc: Global,
+    loader: &mut L,
+    options: Options,
+    decompress: bool,
+    image: &'a str,
+    sink: &mut T,
+) -> Result<u64, ProgramFault<'a>>
+    ensures meets { Meets (L.told loader.old) (None, None) E.order
+        (ListParsed options decompress image.now None) (T.taken sink.old) (T.taken sink.new)
+        (T.failures sink.old) (T.failures sink.new) result }
+    ensures host { ReadsFile (L.told loader.old image.now) (L.failures loader.old)
+        (L.failures loader.new) result }
+{
+    if decompress {
+        return list_decompressed::<E, L, T>(alloc, loader, options, image, sink);
+    }
+    let mut source = open(loader, image)?;
+    let answer = list_lines::<E, _, _>(alloc, &mut source, options.geometry, None, sink);
+    loader.close(source);
+    answer
+}
+
+/// `ls --decompress` of a path, whose word is judged before the image is opened.
+fn part_decompressed<'a, E: Order, L: Loader, T: Sink>(
+    alloc: Global,
+    loader: &mut L,
+    options: Options,
+    image: &'a str,
+    path: &str,
+    sink: &mut T,
+) -> Result<u64, ProgramFault<'a>>
+    ensures meets { Meets (L.told loader.old) (None, None) E.order
+        (ListParsed options true image.now (Some path.now)) (T.taken sink.old) (T.taken sink.new)
+        (T.failures sink.old) (T.failures sink.new) result }
+    ensures host { ReadsFile (L.told loader.old image.now) (L.failures loader.old)
+        (L.failures loader.new) result }
+{
+    let path = path_word(alloc, path.as_bytes())?;
+    let taken = match take_file::<E, L>(alloc, loader, options.geometry, image) {
+        Ok(taken) => taken,
+        Err(fault) => return Err(fault),
+    };
+    let bytes = taken.image.as_slice();
+    match image_tree::<E, T>(alloc, bytes, options.geometry, Some(path.as_slice()), sink) {
+        Ok(_) => Ok(taken.found.noted),
+        Err(fault) => Err(fault),
+    }
+}
+
+/// `ls` of a path, whose word is judged before the image is opened.
+fn list_part<'a, E: Order, L: Loader, T: Sink>(
+    alloc: Global,
+    loader: &mut L,
+    options: Options,
+    decompress: bool,
+    image: &'a str,
+    path: &str,
+    sink: &mut T,
+) -> Result<u64, ProgramFault<'a>>
+    ensures meets { Meets (L.told loader.old) (None, None) E.order
+        (ListParsed options decompress image.now (Some path.now)) (T.taken sink.old)
+        (T.taken sink.new) (T.failures sink.old) (T.failures sink.new) result }
+    ensures host { ReadsFile (L.told loader.old image.now) (L.failures loader.old)
+        (L.failures loader.new) result }
+{
+    if decompress {
+        return part_decompressed::<E, L, T>(alloc, loader, options, image, path, sink);
+    }
+    let path = path_word(alloc, path.as_bytes())?;
+    let mut source = open(loader, image)?;
+    let part = Some(path.as_slice());
+    let answer = list_lines::<E, _, _>(alloc, &mut source, options.geometry, part, sink);
+    loader.close(source);
+    answer
 }
 
 /// `ls`: answers how many findings to note.
@@ -131,21 +209,21 @@ fn list<'a, E: Order, L: Loader, T: Sink>(
     options: Options,
     decompress: bool,
     image: &'a str,
+    path: Option<&str>,
     sink: &mut T,
 ) -> Result<u64, ProgramFault<'a>>
     ensures meets { Meets (L.told loader.old) (None, None) E.order
-        (ListParsed options decompress image.now) (T.taken sink.old) (T.taken sink.new)
-        (T.failures sink.old) (T.failures sink.new) result }
+        (ListParsed options decompress image.now (option_map (λ p. p.now) path.entry))
+        (T.taken sink.old) (T.taken sink.new) (T.failures sink.old) (T.failures sink.new) result }
     ensures host { ReadsFile (L.told loader.old image.now) (L.failures loader.old)
         (L.failures loader.new) result }
 {
-    if decompress {
-        return list_decompressed::<E, L, T>(alloc, loader, options, image, sink);
+    match path {
+        Some(path) => {
+            list_part::<E, L, T>(alloc, loader, options, decompress, image, path, sink)
+        }
+        None => list_whole::<E, L, T>(alloc, loader, options, decompress, image, sink),
     }
-    let mut source = open(loader, image)?;
-    let answer = list_lines::<E, _, _>(alloc, &mut source, options.geometry, sink);
-    loader.close(source);
-    answer
 }
 
 /// `cat --decompress`: answers how many findings of the image that was read to note. The word of the path is judged before
@@ -383,7 +461,8 @@ fn run_in_order<'a, E: Order, L: Loader, M: Maker, T: Sink>(
             options,
             decompress,
             image,
-        } => list::<E, _, _>(alloc, loader, options, decompress, image, sink),
+            path,
+        } => list::<E, _, _>(alloc, loader, options, decompress, image, path, sink),
         Request::Cat {
             options,
             decompress,

@@ -4,6 +4,8 @@ pub mod FaultLemmas
 pub mod GrowingLemmas
 pub mod ListedOnceLemmas
 pub mod ListingLemmas
+pub mod PartLemmas
+pub mod PartPutLemmas
 pub mod WholeImageLemmas
 pub mod PathTextLemmas
 pub mod PutLemmas

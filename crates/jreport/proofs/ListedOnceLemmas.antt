@@ -45,7 +45,7 @@ names_of_directory s dir =
 
 -- ---- what lies below
 
-abbrev Below : State → ℕ → ℕ → Type 0
+abbrev pub Below : State → ℕ → ℕ → Type 0
 Below s a b = (names : List (List ℕ)) × Leads s a names b
 
 below_name : (s : State) (dir i : ℕ) (name : List ℕ) → is_directory s dir ≡ true → named s dir name ≡ Some i → Leads s dir (name ∷ []) i
@@ -79,18 +79,18 @@ by_directory s dir i from name (n ∷ names) shape e there other h =
 -- ---- what is still to print
 
 -- neither of two directories lies below the other
-abbrev Apart : State → ℕ → ℕ → Type 0
+abbrev pub Apart : State → ℕ → ℕ → Type 0
 Apart s a b = is_directory s a ≡ true → is_directory s b ≡ true → (Below s a b → ⊥) × (Below s b a → ⊥)
 
-abbrev IsAway : State → ℕ → List Item → Type 0
+abbrev pub IsAway : State → ℕ → List Item → Type 0
 IsAway s i [] = ⊤
 IsAway s i (item ∷ todo) = Apart s i item.1 × IsAway s i todo
 
 -- a directory that lies below the root, and above nothing that was met
-abbrev IsFresh : State → Met → ℕ → Type 0
+abbrev pub IsFresh : State → Met → ℕ → Type 0
 IsFresh s met i = is_directory s i ≡ true → Below s 1 i × ((k : ℕ) → met k ≡ true → Below s i k → ⊥)
 
-abbrev AreFresh : State → Met → List Item → Type 0
+abbrev pub AreFresh : State → Met → List Item → Type 0
 AreFresh s met [] = ⊤
 AreFresh s met (item ∷ todo) = IsFresh s met item.1 × IsAway s item.1 todo × AreFresh s met todo
 
@@ -233,7 +233,7 @@ reached_after s met item todo reached = by (is_entered s met item.1) refl
 
 -- ---- the walk
 
-fresh_after : (s : State) (met : Met) (item : Item) (todo : List Item) → IsShaped s → AreFresh s met (item ∷ todo) → AreFresh s (met_after s met item.1) (todo_after s met item todo)
+pub fresh_after : (s : State) (met : Met) (item : Item) (todo : List Item) → IsShaped s → AreFresh s met (item ∷ todo) → AreFresh s (met_after s met item.1) (todo_after s met item todo)
 fresh_after s met item todo shape fresh = by (is_entered s met item.1) refl
   where
     rest : AreFresh s (met_after s met item.1) todo
@@ -246,7 +246,7 @@ fresh_after s met item todo shape fresh = by (is_entered s met item.1) refl
         (names_of_directory s item.1) fresh.1 rest
     by false entered = rest
 
-no_mark : (s : State) (met : Met) (i : ℕ) → IsFresh s met i → (is_directory s i && met i) ≡ false
+pub no_mark : (s : State) (met : Met) (i : ℕ) → IsFresh s met i → (is_directory s i && met i) ≡ false
 no_mark s met i fresh = by (is_directory s i) (met i) (λ d m. (fresh d).1 i m ([], leads_none s i))
   where
     by : (d m : Bool) → (d ≡ true → m ≡ true → ⊥) → (d && m) ≡ false

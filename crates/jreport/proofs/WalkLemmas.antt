@@ -13,7 +13,7 @@ use Rattle.flashbase.proofs.DeviceLemmas.{part_before, part_behind}
 use Rattle.jmount.specs.Tree.{ObjectOf, State, object, is_there, is_directory, has_bits, directory_bits, entries_in}
 use Rattle.jmount.specs.Shown.{shown}
 use Rattle.jmount.specs.Find.{way_up}
-use Rattle.jreport.specs.TreeText.{Item, Met, items_of, line_if, line_of, none_met, met_after, todo_after, IsTreeText, PutsPartOfTree, PutsTree}
+use Rattle.jreport.specs.TreeText.{Item, Met, items_of, line_if, line_of, none_met, met_after, todo_after, IsTextFrom, PutsPartFrom, PutsFrom}
 use Rattle.jreport.specs.Walking.{IsTextOf, PutsPartOf, PutsVisit, PutsStep, GoesUp, met_of, items_up, way_of, todo_of, unmet, steps_left}
 use Rattle.jreport.specs.declared.listing.Walk.{Walk}
 use Rattle.jreport.specs.declared.faults.ProgramFault.{ProgramFault}
@@ -251,116 +251,119 @@ pub visit_at : (s : State) (set set_after : BTreeSet ℕ) (path way : List (List
 visit_at s set set_after path way i old new before now r is put =
     subst (λ (p : List (List ℕ)). PutsVisit s set set_after (p, i) old new before now r) is put
 
--- ---- from the root on
+-- ---- from an object on
 
--- what went out, and the text of what a walk has still to print, make the tree's text
-abbrev pub Reaches : State → Walk → Option (List ℕ) → Option (List ℕ) → Type 0
-Reaches s w old new = (text : List ℕ) × Appends old new text × ((rest : List ℕ) → IsTextOf s (met_of w.met) (todo_of s w) rest → IsTreeText s (text ++ rest))
-
-abbrev pub root : Item
-root = ([], 1)
+-- what went out, and the text of what a walk has still to print, make the text from that object on
+abbrev pub Reaches : State → Item → Walk → Option (List ℕ) → Option (List ℕ) → Type 0
+Reaches s item w old new =
+    (text : List ℕ) × Appends old new text
+    × ((rest : List ℕ) → IsTextOf s (met_of w.met) (todo_of s w) rest → IsTextFrom s item (text ++ rest))
 
 none_in : (set : BTreeSet ℕ) → set.keys ≡ [] → met_of set ≡ none_met
 none_in set empty = ap (λ (keys : List ℕ). met_of (record { keys = keys })) empty
 
--- the root was visited
-root_text : (s : State) (empty set : BTreeSet ℕ) (entered : Bool) (old new : Option (List ℕ)) (before now : ℕ) (rest : List ℕ) → empty.keys ≡ []
-    → PutsVisit s empty set root old new before now (Ok entered)
-    → IsTextOf s (met_of set) (cond entered (items_of s [] (entries_in s 1) ++ []) []) rest → IsTreeText s (line_of s (met_of empty) root ++ rest)
-root_text s empty set entered old new before now rest none put is =
+-- the object was visited
+text_from : (s : State) (item : Item) (empty set : BTreeSet ℕ) (entered : Bool) (old new : Option (List ℕ)) (before now : ℕ) (rest : List ℕ) → empty.keys ≡ []
+    → PutsVisit s empty set item old new before now (Ok entered)
+    → IsTextOf s (met_of set) (cond entered (items_of s item.0 (entries_in s item.1) ++ []) []) rest → IsTextFrom s item (line_of s (met_of empty) item ++ rest)
+text_from s item empty set entered old new before now rest none put is =
     let none_met_yet = none_in empty none in
-    subst (λ (m : Met). IsTextOf s m (root ∷ []) (line_of s (met_of empty) root ++ rest)) none_met_yet
-    (next_line s (met_of empty) root [] rest
-    (subst (λ (b : Bool). IsTextOf s (met_after s (met_of empty) 1) (cond b (items_of s [] (entries_in s 1) ++ []) []) rest) put.0
-    (subst (λ (m : Met). IsTextOf s m (cond entered (items_of s [] (entries_in s 1) ++ []) []) rest) put.1 is)))
+    subst (λ (m : Met). IsTextOf s m (item ∷ []) (line_of s (met_of empty) item ++ rest)) none_met_yet
+    (next_line s (met_of empty) item [] rest
+    (subst (λ (b : Bool). IsTextOf s (met_after s (met_of empty) item.1) (cond b (items_of s item.0 (entries_in s item.1) ++ []) []) rest) put.0
+    (subst (λ (m : Met). IsTextOf s m (cond entered (items_of s item.0 (entries_in s item.1) ++ []) []) rest) put.1 is)))
 
-pub root_entered : (s : State) (w : Walk) (empty : BTreeSet ℕ) (old new : Option (List ℕ)) (before now : ℕ) → empty.keys ≡ []
-    → w.path.items ≡ [] → w.left ≡ entries_in s 1 → w.above.items ≡ []
-    → PutsVisit s empty w.met root old new before now (Ok true) → Reaches s w old new
-root_entered s w empty old new before now none path left above put = (
-  line_of s (met_of empty) root,
+pub first_entered : (s : State) (item : Item) (w : Walk) (empty : BTreeSet ℕ) (old new : Option (List ℕ)) (before now : ℕ) → empty.keys ≡ []
+    → way_of w ≡ item.0 → w.left ≡ entries_in s item.1 → w.above.items ≡ []
+    → PutsVisit s empty w.met item old new before now (Ok true) → Reaches s item w old new
+first_entered s item w empty old new before now none path left above put = (
+  line_of s (met_of empty) item,
   put.2,
-  λ rest is. root_text s empty w.met true old new before now rest none put (subst (λ (todo : List Item). IsTextOf s (met_of w.met) todo rest) here is),
+  λ rest is. text_from s item empty w.met true old new before now rest none put (subst (λ (todo : List Item). IsTextOf s (met_of w.met) todo rest) here is),
 )
   where
-    here : todo_of s w ≡ items_of s [] (entries_in s 1) ++ []
+    here : todo_of s w ≡ items_of s item.0 (entries_in s item.1) ++ []
     here =
-        ap (λ (p : List (Bor (List ℕ))). items_up s (w.left ∷ reverse w.above.items) (map (λ n. n.now) p)) path
-        ∙ ap (λ (l : List (List ℕ × ℕ)). items_up s (l ∷ reverse w.above.items) []) left
-        ∙ ap (λ (l : List (List (List ℕ × ℕ))). items_up s (entries_in s 1 ∷ reverse l) []) above
+        ap (λ (p : List (List ℕ)). items_up s (w.left ∷ reverse w.above.items) p) path
+        ∙ ap (λ (l : List (List ℕ × ℕ)). items_up s (l ∷ reverse w.above.items) item.0) left
+        ∙ ap (λ (l : List (List (List ℕ × ℕ))). items_up s (entries_in s item.1 ∷ reverse l) item.0) above
 
-pub root_alone : {T : Type 0} (s : State) (empty set : BTreeSet ℕ) (old new : Option (List ℕ)) (before now : ℕ) (x : T) → empty.keys ≡ []
-    → PutsVisit s empty set root old new before now (Ok false) → PutsTree s old new before now (Ok x)
-root_alone s empty set old new before now x none put = (
-  line_of s (met_of empty) root ++ [],
-  root_text s empty set false old new before now [] none put ([], refl, refl),
-  subst (Appends old new) (sym (append-nil (line_of s (met_of empty) root))) put.2,
+pub first_alone : {T : Type 0} (s : State) (item : Item) (empty set : BTreeSet ℕ) (old new : Option (List ℕ)) (before now : ℕ) (x : T) → empty.keys ≡ []
+    → PutsVisit s empty set item old new before now (Ok false) → PutsFrom s item old new before now (Ok x)
+first_alone s item empty set old new before now x none put = (
+  line_of s (met_of empty) item ++ [],
+  text_from s item empty set false old new before now [] none put ([], refl, refl),
+  subst (Appends old new) (sym (append-nil (line_of s (met_of empty) item))) put.2,
   put.3,
 )
 
--- a beginning of the root's line went out
-root_part : (s : State) (empty : BTreeSet ℕ) (old new : Option (List ℕ)) → empty.keys ≡ [] → PutsPart old new (line_of s (met_of empty) root)
-    → PutsPartOfTree s old new
-root_part s empty old new none part =
-    let line = line_of s none_met root in
-    let rest = has_text s (met_after s none_met 1) (todo_after s none_met root []) in (
+-- a beginning of the first line went out
+first_part : (s : State) (item : Item) (empty : BTreeSet ℕ) (old new : Option (List ℕ)) → empty.keys ≡ [] → PutsPart old new (line_of s (met_of empty) item)
+    → PutsPartFrom s item old new
+first_part s item empty old new none part =
+    let line = line_of s none_met item in
+    let rest = has_text s (met_after s none_met item.1) (todo_after s none_met item []) in (
       line ++ rest.0,
-      next_line s none_met root [] rest.0 rest.1,
-      part_before old new line rest.0 (subst (λ (m : Met). PutsPart old new (line_of s m root)) (none_in empty none) part),
+      next_line s none_met item [] rest.0 rest.1,
+      part_before old new line rest.0 (subst (λ (m : Met). PutsPart old new (line_of s m item)) (none_in empty none) part),
     )
 
-pub root_failed : (T : Type 0) (s : State) (empty set : BTreeSet ℕ) (fault : ProgramFault) (old new : Option (List ℕ)) (before now : ℕ) → empty.keys ≡ []
-    → PutsVisit s empty set root old new before now (Err fault) → PutsTree {T = T} s old new before now (Err fault)
-root_failed T s empty set Output old new before now none put = (root_part s empty old new none put.0, put.1)
-root_failed T s empty set OutOfMemory old new before now none put = (root_part s empty old new none (0, put.0), put.1)
-root_failed T s empty set (program.Load f) old new before now none put = absurd put
-root_failed T s empty set (program.Scan f) old new before now none put = absurd put
-root_failed T s empty set (program.Mount f) old new before now none put = absurd put
-root_failed T s empty set (program.File f) old new before now none put = absurd put
-root_failed T s empty set (program.Listing line) old new before now none put = absurd put
-root_failed T s empty set (program.Session fault line) old new before now none put = absurd put
-root_failed T s empty set (program.Path f) old new before now none put = absurd put
-root_failed T s empty set program.NotRegular old new before now none put = absurd put
-root_failed T s empty set (program.NoSpace folder) old new before now none put = absurd put
-root_failed T s empty set (program.Data addr) old new before now none put = absurd put
-root_failed T s empty set (program.TooLong addr) old new before now none put = absurd put
+-- nothing went out
+pub none_put : (s : State) (item : Item) (old : Option (List ℕ)) → PutsPartFrom s item old old
+none_put s item old = let whole = has_text s none_met (item ∷ []) in (whole.0, whole.1, (0, Appends-nil old))
 
-pub steps_on : (s : State) (w n : Walk) (a b c : Option (List ℕ)) (before now : ℕ) → Reaches s w a b → PutsStep s w n b c before now (Ok true) → Reaches s n a c
-steps_on s w n a b c before now far put = (
+pub first_failed : (T : Type 0) (s : State) (item : Item) (empty set : BTreeSet ℕ) (fault : ProgramFault) (old new : Option (List ℕ)) (before now : ℕ) → empty.keys ≡ []
+    → PutsVisit s empty set item old new before now (Err fault) → PutsFrom {T = T} s item old new before now (Err fault)
+first_failed T s item empty set Output old new before now none put = (first_part s item empty old new none put.0, put.1)
+first_failed T s item empty set OutOfMemory old new before now none put = (first_part s item empty old new none (0, put.0), put.1)
+first_failed T s item empty set (program.Load f) old new before now none put = absurd put
+first_failed T s item empty set (program.Scan f) old new before now none put = absurd put
+first_failed T s item empty set (program.Mount f) old new before now none put = absurd put
+first_failed T s item empty set (program.File f) old new before now none put = absurd put
+first_failed T s item empty set (program.Listing line) old new before now none put = absurd put
+first_failed T s item empty set (program.Session fault line) old new before now none put = absurd put
+first_failed T s item empty set (program.Path f) old new before now none put = absurd put
+first_failed T s item empty set program.NotRegular old new before now none put = absurd put
+first_failed T s item empty set (program.NoSpace folder) old new before now none put = absurd put
+first_failed T s item empty set (program.Data addr) old new before now none put = absurd put
+first_failed T s item empty set (program.TooLong addr) old new before now none put = absurd put
+
+pub steps_on : (s : State) (item : Item) (w n : Walk) (a b c : Option (List ℕ)) (before now : ℕ) → Reaches s item w a b → PutsStep s w n b c before now (Ok true) → Reaches s item n a c
+steps_on s item w n a b c before now far put = (
   far.0 ++ put.0.0,
   Appends-trans a b c far.0 put.0.0 far.1 put.0.1,
-  λ rest is. subst (IsTreeText s) (sym (append_assoc far.0 put.0.0 rest)) (far.2 (put.0.0 ++ rest) (put.0.2 rest is)),
+  λ rest is. subst (IsTextFrom s item) (sym (append_assoc far.0 put.0.0 rest)) (far.2 (put.0.0 ++ rest) (put.0.2 rest is)),
 )
 
-pub all_steps : {T : Type 0} (s : State) (w n : Walk) (a b c : Option (List ℕ)) (first before now : ℕ) (x : T) → Reaches s w a b → before ≡ first
-    → PutsStep s w n b c before now (Ok false) → PutsTree s a c first now (Ok x)
-all_steps s w n a b c first before now x far same put = (
+pub all_steps : {T : Type 0} (s : State) (item : Item) (w n : Walk) (a b c : Option (List ℕ)) (first before now : ℕ) (x : T) → Reaches s item w a b → before ≡ first
+    → PutsStep s w n b c before now (Ok false) → PutsFrom s item a c first now (Ok x)
+all_steps s item w n a b c first before now x far same put = (
   far.0 ++ [],
   far.2 [] (subst (λ (todo : List Item). IsTextOf s (met_of w.met) todo []) (sym put.0) ([], refl, refl)),
   Appends-trans a b c far.0 [] far.1 put.1,
   put.2 ∙ same,
 )
 
-whole_of_part : (s : State) (w : Walk) (a b c : Option (List ℕ)) → Reaches s w a b → PutsPartOf s (met_of w.met) (todo_of s w) b c → PutsPartOfTree s a c
-whole_of_part s w a b c far part = (far.0 ++ part.0, far.2 part.0 part.1, part_behind a b c far.0 part.0 far.1 part.2)
+whole_of_part : (s : State) (item : Item) (w : Walk) (a b c : Option (List ℕ)) → Reaches s item w a b → PutsPartOf s (met_of w.met) (todo_of s w) b c → PutsPartFrom s item a c
+whole_of_part s item w a b c far part = (far.0 ++ part.0, far.2 part.0 part.1, part_behind a b c far.0 part.0 far.1 part.2)
 
-pub stopped : (T : Type 0) (s : State) (w n : Walk) (fault : ProgramFault) (a b c : Option (List ℕ)) (first before now : ℕ) → Reaches s w a b → before ≡ first
-    → PutsStep s w n b c before now (Err fault) → PutsTree {T = T} s a c first now (Err fault)
-stopped T s w n Output a b c first before now far same put = (whole_of_part s w a b c far put.0, put.1 ∙ ap next_count same)
-stopped T s w n OutOfMemory a b c first before now far same put = (whole_of_part s w a b c far put.0, put.1 ∙ same)
-stopped T s w n (program.Load f) a b c first before now far same put = absurd put
-stopped T s w n (program.Scan f) a b c first before now far same put = absurd put
-stopped T s w n (program.Mount f) a b c first before now far same put = absurd put
-stopped T s w n (program.File f) a b c first before now far same put = absurd put
-stopped T s w n (program.Listing line) a b c first before now far same put = absurd put
-stopped T s w n (program.Session fault line) a b c first before now far same put = absurd put
-stopped T s w n (program.Path f) a b c first before now far same put = absurd put
-stopped T s w n program.NotRegular a b c first before now far same put = absurd put
-stopped T s w n (program.NoSpace folder) a b c first before now far same put = absurd put
-stopped T s w n (program.Data addr) a b c first before now far same put = absurd put
-stopped T s w n (program.TooLong addr) a b c first before now far same put = absurd put
+pub stopped : (T : Type 0) (s : State) (item : Item) (w n : Walk) (fault : ProgramFault) (a b c : Option (List ℕ)) (first before now : ℕ) → Reaches s item w a b → before ≡ first
+    → PutsStep s w n b c before now (Err fault) → PutsFrom {T = T} s item a c first now (Err fault)
+stopped T s item w n Output a b c first before now far same put = (whole_of_part s item w a b c far put.0, put.1 ∙ ap next_count same)
+stopped T s item w n OutOfMemory a b c first before now far same put = (whole_of_part s item w a b c far put.0, put.1 ∙ same)
+stopped T s item w n (program.Load f) a b c first before now far same put = absurd put
+stopped T s item w n (program.Scan f) a b c first before now far same put = absurd put
+stopped T s item w n (program.Mount f) a b c first before now far same put = absurd put
+stopped T s item w n (program.File f) a b c first before now far same put = absurd put
+stopped T s item w n (program.Listing line) a b c first before now far same put = absurd put
+stopped T s item w n (program.Session fault line) a b c first before now far same put = absurd put
+stopped T s item w n (program.Path f) a b c first before now far same put = absurd put
+stopped T s item w n program.NotRegular a b c first before now far same put = absurd put
+stopped T s item w n (program.NoSpace folder) a b c first before now far same put = absurd put
+stopped T s item w n (program.Data addr) a b c first before now far same put = absurd put
+stopped T s item w n (program.TooLong addr) a b c first before now far same put = absurd put
 
-pub tree_failed : {T : Type 0} (s : State) (old new : Option (List ℕ)) (before now : ℕ) (r : Result T ProgramFault) (fault : ProgramFault)
-    → IsErrAnd r (λ e. e ≡ fault) → PutsTree {T = T} s old new before now (Err fault) → PutsTree s old new before now r
-tree_failed s old new before now (Ok x) fault is put = absurd is
-tree_failed {T} s old new before now (Err e) fault is put = subst (λ (y : ProgramFault). PutsTree {T = T} s old new before now (Err y)) (sym is) put
+pub tree_failed : {T : Type 0} (s : State) (item : Item) (old new : Option (List ℕ)) (before now : ℕ) (r : Result T ProgramFault) (fault : ProgramFault)
+    → IsErrAnd r (λ e. e ≡ fault) → PutsFrom {T = T} s item old new before now (Err fault) → PutsFrom s item old new before now r
+tree_failed s item old new before now (Ok x) fault is put = absurd is
+tree_failed {T} s item old new before now (Err e) fault is put = subst (λ (y : ProgramFault). PutsFrom {T = T} s item old new before now (Err y)) (sym is) put

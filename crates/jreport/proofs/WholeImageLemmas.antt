@@ -16,15 +16,16 @@ use Rattle.jscan.specs.Scans.{IsScannable, image_extents}
 use Rattle.jscan.specs.declared.answer.PartialScan.{PartialScan}
 use Rattle.jscan.proofs.TakeLemmas.{scanned_image}
 use Rattle.jmount.specs.Mount.{Mount}
+use Rattle.jmount.specs.Tree.{State}
 use Rattle.jmount.specs.Mounts.{Answers}
 use Rattle.jmount.specs.declared.fault.MountFault.{MountFault}
 use Rattle.jmount.specs.declared.fault.MountFault.TheVariants as mount
 use Rattle.jreport.specs.Content.{content_of, PutsContent}
 use Rattle.jreport.specs.Faults.{fault_of_report}
-use Rattle.jreport.specs.WholeImage.{AnswersNoted, IsFaultOfLoad, OfSomeImage, OnMount, PutsCheck, PutsFile, PutsListing, ReadsWhole}
+use Rattle.jreport.specs.WholeImage.{AnswersNoted, IsFaultOfLoad, OfSomeImage, OnMount, PutsCheck, PutsFile, PutsListing, ReadsWhole, list_request}
 use Rattle.jreport.specs.Puts.{PutsReport}
 use Rattle.jreport.specs.Report.{count_in_image, scan_text}
-use Rattle.jreport.specs.TreeText.{PutsTree}
+use Rattle.jreport.specs.TreeText.{Item, PutsFrom, PutsTreeAt}
 use Rattle.jreport.specs.Verdict.{PutsVerdict}
 use Rattle.jreport.specs.declared.faults.ProgramFault.{ProgramFault}
 use Rattle.jreport.specs.declared.faults.ProgramFault.TheVariants as program
@@ -259,44 +260,81 @@ content_is_read X content a b before now f (Err x) is put =
 
 -- ---- `ls`
 
-pub tree_put : (e : Endian) (size : ℕ) (items present : List ℕ) (m : Mount) (a b : Option (List ℕ)) (before now : ℕ) (r : Result ℕ ProgramFault)
-    → present ≡ items → Answers e size present (Ok m) → PutsTree m.state a b before now r → AnswersNoted m r
-    → PutsListing e size items a b before now r
-tree_put e size items present m a b before now r same answers put noted =
-    on_mounted e size items m a b before now (λ (x : Mount) (s : Result ℕ ProgramFault). PutsTree x.state a b before now s × AnswersNoted x s) r
-    (λ f none. none.0) (λ f none. none.0)
+-- a fault that is passed on, of the lines of an object
+lines_passed_on : (X Y : Type 0) (s : State) (item : Item) (a b : Option (List ℕ)) (before now : ℕ) (f : ProgramFault)
+    → PutsFrom {T = X} s item a b before now (Err f) → PutsFrom {T = Y} s item a b before now (Err f)
+lines_passed_on X Y s item a b before now program.Output p = p
+lines_passed_on X Y s item a b before now program.OutOfMemory p = p
+lines_passed_on X Y s item a b before now (program.Load f) p = p
+lines_passed_on X Y s item a b before now (program.Scan f) p = p
+lines_passed_on X Y s item a b before now (program.Mount f) p = p
+lines_passed_on X Y s item a b before now (program.File f) p = p
+lines_passed_on X Y s item a b before now (program.Listing line) p = p
+lines_passed_on X Y s item a b before now (program.Session fault line) p = p
+lines_passed_on X Y s item a b before now (program.Path f) p = p
+lines_passed_on X Y s item a b before now program.NotRegular p = p
+lines_passed_on X Y s item a b before now (program.NoSpace folder) p = p
+lines_passed_on X Y s item a b before now (program.Data addr) p = p
+lines_passed_on X Y s item a b before now (program.TooLong addr) p = p
+
+-- the same of a tree, or of a part of it
+passed_on : (X Y : Type 0) (s : State) (path : Option (List ℕ)) (a b : Option (List ℕ)) (before now : ℕ) (f : ProgramFault)
+    → PutsTreeAt {T = X} s path a b before now (Err f) → PutsTreeAt {T = Y} s path a b before now (Err f)
+passed_on X Y s None a b before now f p = lines_passed_on X Y s ([], 1) a b before now f p
+passed_on X Y s (Some path) a b before now program.Output p = (p.0, p.1, lines_passed_on X Y s p.0 a b before now program.Output p.2)
+passed_on X Y s (Some path) a b before now program.OutOfMemory p = (p.0, p.1, lines_passed_on X Y s p.0 a b before now program.OutOfMemory p.2)
+passed_on X Y s (Some path) a b before now (program.Load f) p = (p.0, p.1, lines_passed_on X Y s p.0 a b before now (program.Load f) p.2)
+passed_on X Y s (Some path) a b before now (program.Scan f) p = (p.0, p.1, lines_passed_on X Y s p.0 a b before now (program.Scan f) p.2)
+passed_on X Y s (Some path) a b before now (program.Mount f) p = (p.0, p.1, lines_passed_on X Y s p.0 a b before now (program.Mount f) p.2)
+passed_on X Y s (Some path) a b before now (program.File f) p = (p.0, p.1, lines_passed_on X Y s p.0 a b before now (program.File f) p.2)
+passed_on X Y s (Some path) a b before now (program.Listing line) p = (p.0, p.1, lines_passed_on X Y s p.0 a b before now (program.Listing line) p.2)
+passed_on X Y s (Some path) a b before now (program.Session fault line) p = (p.0, p.1, lines_passed_on X Y s p.0 a b before now (program.Session fault line) p.2)
+passed_on X Y s (Some path) a b before now (program.Path f) p = p
+passed_on X Y s (Some path) a b before now program.NotRegular p = (p.0, p.1, lines_passed_on X Y s p.0 a b before now program.NotRegular p.2)
+passed_on X Y s (Some path) a b before now (program.NoSpace folder) p = (p.0, p.1, lines_passed_on X Y s p.0 a b before now (program.NoSpace folder) p.2)
+passed_on X Y s (Some path) a b before now (program.Data addr) p = (p.0, p.1, lines_passed_on X Y s p.0 a b before now (program.Data addr) p.2)
+passed_on X Y s (Some path) a b before now (program.TooLong addr) p = (p.0, p.1, lines_passed_on X Y s p.0 a b before now (program.TooLong addr) p.2)
+
+-- an answer of another kind
+pub tree_done : (X : Type 0) (s : State) (path : Option (List ℕ)) (a b : Option (List ℕ)) (before now : ℕ) (x : X) (n : ℕ)
+    → PutsTreeAt {T = X} s path a b before now (Ok x) → PutsTreeAt {T = ℕ} s path a b before now (Ok n)
+tree_done X s None a b before now x n put = put
+tree_done X s (Some path) a b before now x n put = (put.0, put.1, put.2)
+
+-- no call fails by loading, or by a mount
+not_loading : (X : Type 0) (s : State) (path : Option (List ℕ)) (a b : Option (List ℕ)) (before now : ℕ) (f : LoadFault)
+    → PutsTreeAt {T = X} s path a b before now (Err (program.Load f)) → ⊥
+not_loading X s None a b before now f p = p
+not_loading X s (Some path) a b before now f p = p.2
+
+not_mounting : (X : Type 0) (s : State) (path : Option (List ℕ)) (a b : Option (List ℕ)) (before now : ℕ) (f : MountFault)
+    → PutsTreeAt {T = X} s path a b before now (Err (program.Mount f)) → ⊥
+not_mounting X s None a b before now f p = p
+not_mounting X s (Some path) a b before now f p = p.2
+
+pub tree_put : (e : Endian) (size : ℕ) (path : Option (List ℕ)) (items present : List ℕ) (m : Mount) (a b : Option (List ℕ)) (before now : ℕ) (r : Result ℕ ProgramFault)
+    → present ≡ items → Answers e size present (Ok m) → PutsTreeAt m.state path a b before now r → AnswersNoted m r
+    → PutsListing (list_request e size path) items a b before now r
+tree_put e size path items present m a b before now r same answers put noted =
+    on_mounted e size items m a b before now (λ (x : Mount) (s : Result ℕ ProgramFault). PutsTreeAt x.state path a b before now s × AnswersNoted x s) r
+    (λ f none. not_loading ℕ m.state path a b before now f none.0) (λ f none. not_mounting ℕ m.state path a b before now f none.0)
     (subst (λ (image : List ℕ). Answers e size image (Ok m)) same answers) (put, noted)
 
 -- a fault that is passed on
-pub tree_failed : (X : Type 0) (e : Endian) (size : ℕ) (items present : List ℕ) (m : Mount) (a b : Option (List ℕ)) (before now : ℕ) (f : ProgramFault) (r : Result ℕ ProgramFault)
-    → IsErrAnd r (λ x. x ≡ f) → present ≡ items → Answers e size present (Ok m) → PutsTree {T = X} m.state a b before now (Err f)
-    → PutsListing e size items a b before now r
-tree_failed X e size items present m a b before now f (Ok x) is same answers put = absurd is
-tree_failed X e size items present m a b before now f (Err x) is same answers put =
-    subst (λ (y : ProgramFault). PutsListing e size items a b before now (Err y)) (sym is)
-    (tree_put e size items present m a b before now (Err f) same answers (by f put) tt)
-  where
-    by : (g : ProgramFault) → PutsTree {T = X} m.state a b before now (Err g) → PutsTree {T = ℕ} m.state a b before now (Err g)
-    by program.Output p = p
-    by program.OutOfMemory p = p
-    by (program.Load f) p = p
-    by (program.Scan f) p = p
-    by (program.Mount f) p = p
-    by (program.File f) p = p
-    by (program.Listing line) p = p
-    by (program.Session fault line) p = p
-    by (program.Path f) p = p
-    by program.NotRegular p = p
-    by (program.NoSpace folder) p = p
-    by (program.Data addr) p = p
-    by (program.TooLong addr) p = p
+pub tree_failed : (X : Type 0) (e : Endian) (size : ℕ) (path : Option (List ℕ)) (items present : List ℕ) (m : Mount) (a b : Option (List ℕ)) (before now : ℕ) (f : ProgramFault) (r : Result ℕ ProgramFault)
+    → IsErrAnd r (λ x. x ≡ f) → present ≡ items → Answers e size present (Ok m) → PutsTreeAt {T = X} m.state path a b before now (Err f)
+    → PutsListing (list_request e size path) items a b before now r
+tree_failed X e size path items present m a b before now f (Ok x) is same answers put = absurd is
+tree_failed X e size path items present m a b before now f (Err x) is same answers put =
+    subst (λ (y : ProgramFault). PutsListing (list_request e size path) items a b before now (Err y)) (sym is)
+    (tree_put e size path items present m a b before now (Err f) same answers (passed_on X ℕ m.state path a b before now f put) tt)
 
-pub tree_is_read : (X : Type 0) {T : Type 0} (m : Mount) (a b : Option (List ℕ)) (before now : ℕ) (f : ProgramFault) (r : Result T ProgramFault)
-    → IsErrAnd r (λ x. x ≡ f) → PutsTree {T = X} m.state a b before now (Err f) → IsRead r
-tree_is_read X m a b before now f (Ok x) is put = absurd is
-tree_is_read X m a b before now f (Err x) is put =
+pub tree_is_read : (X : Type 0) {T : Type 0} (m : Mount) (path : Option (List ℕ)) (a b : Option (List ℕ)) (before now : ℕ) (f : ProgramFault) (r : Result T ProgramFault)
+    → IsErrAnd r (λ x. x ≡ f) → PutsTreeAt {T = X} m.state path a b before now (Err f) → IsRead r
+tree_is_read X m path a b before now f (Ok x) is put = absurd is
+tree_is_read X m path a b before now f (Err x) is put =
     subst (λ (y : ProgramFault). IsFaultOfLoad y → ⊥) (sym is) (by f put)
   where
-    by : (g : ProgramFault) → PutsTree {T = X} m.state a b before now (Err g) → IsFaultOfLoad g → ⊥
-    by (program.Load f) p is_load = p
+    by : (g : ProgramFault) → PutsTreeAt {T = X} m.state path a b before now (Err g) → IsFaultOfLoad g → ⊥
+    by (program.Load f) p is_load = not_loading X m.state path a b before now f p
     by g p is_load = is_load

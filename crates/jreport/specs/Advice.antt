@@ -1,6 +1,5 @@
 -- What a person may do about a fault: a note after its line.
 use Rattle.std.specs.Prelude.{ℕ, ◌==◌, ◌||◌, Bool, List, [], ◌++◌, codes, if◌then◌else◌}
-use Rattle.jmount.specs.declared.fault.MountFault.{MountFault}
 use Rattle.jmount.specs.declared.fault.MountFault.TheVariants as mount
 use Rattle.jreport.specs.Faults.{fault_line_of}
 use Rattle.jreport.specs.declared.faults.ProgramFault.{ProgramFault}

@@ -12,6 +12,7 @@ pub mod Puts
 pub mod Report
 pub mod Stream
 pub mod TreeLaws
+pub mod TreeParts
 pub mod TreeText
 pub mod Verdict
 pub mod Walking

@@ -4,6 +4,7 @@ use Rattle.std.specs.List.{flat_map}
 use Rattle.std.specs.Io.KnownBytes.{Appends}
 use Rattle.flashbase.specs.Device.{PutsPart, next_count}
 use Rattle.jmount.specs.Tree.{State, object, is_there, is_directory, entries_in}
+use Rattle.jmount.specs.Find.{find, path_names}
 use Rattle.jmount.specs.Shown.{readable, shown}
 use Rattle.jmount.specs.declared.object.Kind.{Kind}
 use Rattle.jmount.specs.declared.object.Kind.TheVariants as kind
@@ -11,7 +12,7 @@ use Rattle.jmount.specs.declared.object.Object.{Object}
 use Rattle.jline.specs.Paths.{path_shown}
 use Rattle.jline.specs.Words.{escaped}
 use Rattle.jreport.specs.declared.faults.ProgramFault.{ProgramFault}
-use Rattle.jreport.specs.declared.faults.ProgramFault.TheVariants.{Output, OutOfMemory}
+use Rattle.jreport.specs.declared.faults.ProgramFault.TheVariants.{Output, OutOfMemory, Path}
 
 -- ---- the line of an object
 
@@ -95,22 +96,56 @@ AreLinesOf s met (item ∷ todo) (line ∷ lines) =
     (line ≡ line_of s met item)
     × AreLinesOf s (met_after s met item.1) (todo_after s met item todo) lines
 
+-- the lines of an object, which this path leads to, and of what lies below it
+abbrev pub IsTextFrom : State → Item → List ℕ → Type 0
+IsTextFrom s item text =
+    (lines : List (List ℕ)) × AreLinesOf s none_met (item ∷ []) lines
+    × (text ≡ flat_map (λ line. line) lines)
+
 -- what `ls` prints: the lines from the root on
 abbrev pub IsTreeText : State → List ℕ → Type 0
-IsTreeText s text = (lines : List (List ℕ)) × AreLinesOf s none_met (([], 1) ∷ []) lines
-    × (text ≡ flat_map (λ line. line) lines)
+IsTreeText s text = IsTextFrom s ([], 1) text
 
 -- ---- what a call puts
 
--- a beginning of the tree's text went out
-abbrev pub PutsPartOfTree : State → Option (List ℕ) → Option (List ℕ) → Type 0
-PutsPartOfTree s old new = (text : List ℕ) × IsTreeText s text × PutsPart old new text
+-- a beginning of that text went out
+abbrev pub PutsPartFrom : State → Item → Option (List ℕ) → Option (List ℕ) → Type 0
+PutsPartFrom s item old new = (text : List ℕ) × IsTextFrom s item text × PutsPart old new text
 
--- A call puts the tree's text. Where the sink fails or memory runs out, a beginning of it went out.
+-- A call puts that text. Where the sink fails or memory runs out, a beginning of it went out.
+abbrev pub PutsFrom : {T : Type 0} → State → Item → Option (List ℕ) → Option (List ℕ) → ℕ → ℕ
+    → Result T ProgramFault → Type 0
+PutsFrom s item old new before now (Ok _) =
+    (text : List ℕ) × IsTextFrom s item text × Appends old new text × (now ≡ before)
+PutsFrom s item old new before now (Err Output) =
+    PutsPartFrom s item old new × (now ≡ next_count before)
+PutsFrom s item old new before now (Err OutOfMemory) = PutsPartFrom s item old new × (now ≡ before)
+PutsFrom s item old new before now (Err _) = ⊥
+
+-- the text of the whole tree
 abbrev pub PutsTree : {T : Type 0} → State → Option (List ℕ) → Option (List ℕ) → ℕ → ℕ
     → Result T ProgramFault → Type 0
-PutsTree s old new before now (Ok _) =
-    (text : List ℕ) × IsTreeText s text × Appends old new text × (now ≡ before)
-PutsTree s old new before now (Err Output) = PutsPartOfTree s old new × (now ≡ next_count before)
-PutsTree s old new before now (Err OutOfMemory) = PutsPartOfTree s old new × (now ≡ before)
-PutsTree s old new before now (Err _) = ⊥
+PutsTree {T} s old new before now result = PutsFrom {T = T} s ([], 1) old new before now result
+
+-- ---- a part of a tree
+
+-- the object that a path names, and the names on the path
+abbrev pub IsItemAt : State → List ℕ → Item → Type 0
+IsItemAt s path item = (path_names path ≡ Some item.0) × (find s path ≡ Ok item.1)
+
+-- A call puts the lines of the object that a path names, and of what lies below it; or it says that
+-- it names none, and puts nothing.
+abbrev pub PutsPartAt : {T : Type 0} → State → List ℕ → Option (List ℕ) → Option (List ℕ) → ℕ → ℕ
+    → Result T ProgramFault → Type 0
+PutsPartAt s path old new before now (Err (Path fault)) =
+    (find s path ≡ Err fault) × (new ≡ old) × (now ≡ before)
+PutsPartAt {T} s path old new before now result =
+    (item : Item) × IsItemAt s path item × PutsFrom {T = T} s item old new before now result
+
+-- the part of the tree where a path is given, and else the whole
+abbrev pub PutsTreeAt : {T : Type 0} → State → Option (List ℕ) → Option (List ℕ) → Option (List ℕ)
+    → ℕ → ℕ
+    → Result T ProgramFault → Type 0
+PutsTreeAt {T} s None old new before now result = PutsTree {T = T} s old new before now result
+PutsTreeAt {T} s (Some path) old new before now result =
+    PutsPartAt {T = T} s path old new before now result

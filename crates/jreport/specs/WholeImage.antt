@@ -13,7 +13,7 @@ use Rattle.jscan.specs.declared.geometry.ScanFault.TheVariants as scan
 use Rattle.jreport.specs.Content.{content_of, PutsContent}
 use Rattle.jreport.specs.Notes.{noted}
 use Rattle.jreport.specs.Report.{count_in_image, scan_text}
-use Rattle.jreport.specs.TreeText.{PutsTree}
+use Rattle.jreport.specs.TreeText.{PutsTreeAt}
 use Rattle.jreport.specs.Verdict.{IsVerdict}
 use Rattle.jreport.specs.declared.faults.ProgramFault.{ProgramFault}
 use Rattle.jreport.specs.declared.faults.ProgramFault.TheVariants as program
@@ -106,9 +106,18 @@ PutsFile e size image path old new before now answer =
     OnMount e size image old new before now (λ m. PutsContent (content_of m.state path) old new
     before now answer × AnswersNoted m answer) answer
 
--- `ls`: the lines of an image's tree
-abbrev pub PutsListing : Endian → ℕ → List ℕ → Option (List ℕ) → Option (List ℕ) → ℕ → ℕ
+-- what `ls` is asked for: a byte order, the size of a block, and a path where a part is wanted
+pub record ListRequest : Type 0 where
+  pub order : Endian
+  pub block : ℕ
+  pub path : Option (List ℕ)
+
+abbrev pub list_request : Endian → ℕ → Option (List ℕ) → ListRequest
+list_request order block path = record { order = order; block = block; path = path }
+
+-- `ls`: the lines of an image's tree, or of the part of it that a path names
+abbrev pub PutsListing : ListRequest → List ℕ → Option (List ℕ) → Option (List ℕ) → ℕ → ℕ
     → Result ℕ ProgramFault → Type 0
-PutsListing e size image old new before now answer =
-    OnMount e size image old new before now
-    (λ m. PutsTree m.state old new before now answer × AnswersNoted m answer) answer
+PutsListing asked image old new before now answer =
+    OnMount asked.order asked.block image old new before now
+    (λ m. PutsTreeAt m.state asked.path old new before now answer × AnswersNoted m answer) answer

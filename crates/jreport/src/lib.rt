@@ -40,7 +40,7 @@ pub use crate::extraction_notes::{attribute_count, put_notes};
 pub use crate::faults::{ProgramFault, fault_line, fault_text};
 pub use crate::files::content;
 pub use crate::findings::{Found, found_in};
-pub use crate::listing::tree_lines;
+pub use crate::listing::{part_lines, tree_lines};
 pub use crate::notes::{note_line, noted};
 pub use crate::paths::path_word;
 pub use crate::report::{Lines, put_report, scan_lines};

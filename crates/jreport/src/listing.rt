@@ -1,13 +1,14 @@
 //! The listing of a mounted image's tree, as `ls` prints it.
 
-ghost use Rattle.std.specs.Prelude.{map};
-ghost use Rattle.jreport.specs.TreeText.{PutsTree};
+ghost use Rattle.std.specs.Prelude.{map, option_map};
+ghost use Rattle.jreport.specs.TreeText.{PutsFrom, PutsPartAt, PutsTree, PutsTreeAt};
 ghost use Rattle.jreport.specs.Walking.{GoesUp, PutsStep, PutsVisit};
 
 use crate::faults::ProgramFault;
+use crate::paths::names_of_path;
 use crate::tree::put_object;
 use flashbase::Sink;
-use jmount::{Kind, Mounted};
+use jmount::{FindFault, Kind, Mounted};
 use jname::Of;
 use std::alloc::Global;
 use std::collections::BTreeSet;
@@ -88,6 +89,31 @@ impl<'m, 'a> Walk<'m, 'a> {
     }
 }
 
+/// Puts the lines of an object, which these names lead to, and of what lies below it.
+fn lines_from<'m, T: Sink>(
+    alloc: Global,
+    mounted: &'m Mounted<'_>,
+    path: Vec<&'m [u8]>,
+    ino: u32,
+    sink: &mut T,
+) -> Result<(), ProgramFault<'static>>
+    ensures { PutsFrom mounted.now.state (map (λ name. name.now) path.entry.items, ino)
+        (T.taken sink.old) (T.taken sink.new) (T.failures sink.old) (T.failures sink.new) result }
+{
+    let mut met = BTreeSet::new(alloc);
+    if !visit(mounted, &path, ino, &mut met, sink)? {
+        return Ok(());
+    }
+    let mut walk = Walk {
+        path,
+        left: mounted.entries(ino),
+        above: Vec::new(alloc),
+        met,
+    };
+    while walk.step(mounted, sink)? {}
+    Ok(())
+}
+
 /// Puts a line for each object that a path leads to, a directory before what lies in it and each name in byte order. A
 /// directory that was met before is put again, but not what lies in it. Takes memory for the way to an object and for the
 /// directories that were met.
@@ -99,16 +125,41 @@ pub fn tree_lines<T: Sink>(
     ensures { PutsTree mounted.now.state (T.taken sink.old) (T.taken sink.new) (T.failures sink.old)
         (T.failures sink.new) result }
 {
-    let mut met = BTreeSet::new(alloc);
-    if !visit(mounted, &[], ROOT, &mut met, sink)? {
-        return Ok(());
-    }
-    let mut walk = Walk {
-        path: Vec::new(alloc),
-        left: mounted.entries(ROOT),
-        above: Vec::new(alloc),
-        met,
+    lines_from(alloc, mounted, Vec::new(alloc), ROOT, sink)
+}
+
+/// The same of the object that a path names, and of what lies below it: the lines that they have in the whole tree.
+///
+/// # Errors
+/// `Path`: the path names nothing, and nothing was put.
+pub fn part_lines<T: Sink>(
+    alloc: Global,
+    mounted: &Mounted<'_>,
+    path: &[u8],
+    sink: &mut T,
+) -> Result<(), ProgramFault<'static>>
+    ensures { PutsPartAt mounted.now.state path.now (T.taken sink.old) (T.taken sink.new)
+        (T.failures sink.old) (T.failures sink.new) result }
+{
+    let ino = mounted.find(path)?;
+    let Some(names) = names_of_path(alloc, path)? else {
+        return Err(ProgramFault::Path(FindFault::BadPath));
     };
-    while walk.step(mounted, sink)? {}
-    Ok(())
+    lines_from(alloc, mounted, names, ino, sink)
+}
+
+/// The one or the other.
+pub(crate) fn lines_at<T: Sink>(
+    alloc: Global,
+    mounted: &Mounted<'_>,
+    path: Option<&[u8]>,
+    sink: &mut T,
+) -> Result<(), ProgramFault<'static>>
+    ensures { PutsTreeAt mounted.now.state (option_map (λ p. p.now) path.entry) (T.taken sink.old)
+        (T.taken sink.new) (T.failures sink.old) (T.failures sink.new) result }
+{
+    match path {
+        Some(path) => part_lines(alloc, mounted, path, sink),
+        None => tree_lines(alloc, mounted, sink),
+    }
 }

@@ -1,12 +1,13 @@
 //! The word of the command line that names a path.
 
-ghost use Rattle.std.specs.Prelude.{◌≡◌, Some, IfOk, IfErr};
+ghost use Rattle.std.specs.Prelude.{◌≡◌, Some, map, option_map, IfOk, IfErr};
+ghost use Rattle.jmount.specs.Find.{parts, path_names};
 ghost use Rattle.jreport.specs.Paths.{path_of, IsWordFault};
 
 use crate::faults::ProgramFault;
-use jmount::FindFault;
+use jmount::{FindFault, after_slash};
 use jword::{WordFault, unescape};
-use std::alloc::Global;
+use std::alloc::{AllocError, Global};
 
 /// The bytes that a word stands for: `\x` and two hexadecimal digits are one byte.
 ///
@@ -20,4 +21,28 @@ pub fn path_word(alloc: Global, word: &[u8]) -> Result<Vec<u8>, ProgramFault<'st
         Err(WordFault::Invalid) => Err(ProgramFault::Path(FindFault::BadPath)),
         Err(WordFault::OutOfMemory) => Err(ProgramFault::OutOfMemory),
     }
+}
+
+/// The names of a path, in order: none of the root's; `None` of a text that is no path.
+pub(crate) fn names_of_path<'a>(
+    alloc: Global,
+    text: &'a [u8],
+) -> Result<Option<Vec<&'a [u8]>>, AllocError>
+    ensures { IfOk result
+        (λ o. option_map (λ names. map (λ n. n.now) names.items) o ≡ path_names text.now) }
+{
+    let Some(names) = after_slash(text) else {
+        return Ok(None);
+    };
+    if names.is_empty() {
+        return Ok(Some(Vec::new(alloc)));
+    }
+    Ok(Some(between_slashes(alloc, names)?))
+}
+
+/// What is between slashes.
+fn between_slashes<'a>(alloc: Global, text: &'a [u8]) -> Result<Vec<&'a [u8]>, AllocError>
+    ensures { IfOk result (λ names. map (λ n. n.now) names.items ≡ parts text.now) }
+{
+    text.split(|b| *b == b'/').collect(alloc)
 }

@@ -2,6 +2,7 @@
 
 ghost use Rattle.jreport.specs.ListedOnce as once;
 ghost use Rattle.jreport.specs.TreeLaws as law;
+ghost use Rattle.jreport.specs.TreeParts as part;
 
 /// However the names of a file system lead, also in a circle, there is one text of its tree.
 pub fn every_tree_has_one_text()
@@ -16,4 +17,9 @@ pub fn root_comes_first()
 /// In the text of a tree that has its shape, no directory is listed again.
 pub fn shape_is_listed_once()
     ensures { once.ShapeIsListedOnce }
+{}
+
+/// In the text of a tree that has its shape, the lines of a part of it are one stretch.
+pub fn part_is_a_stretch()
+    ensures { part.PartIsStretch }
 {}

@@ -1,12 +1,12 @@
 //! What is done with an image that is read as a whole.
 
-ghost use Rattle.std.specs.Prelude.{◌≡◌, ◌↔◌, ◌||◌, nat_lt, IsFalse, IsTrue, IfErr, IsErrOf};
+ghost use Rattle.std.specs.Prelude.{◌≡◌, ◌↔◌, ◌||◌, nat_lt, IsFalse, IsTrue, IfErr, IsErrOf, option_map};
 ghost use Rattle.jscan.specs.Image.{is_block_size};
-ghost use Rattle.jreport.specs.WholeImage.{IsFaultOfLoad, OfSomeImage, PutsCheck, PutsFile, PutsListing, ReadsWhole};
+ghost use Rattle.jreport.specs.WholeImage.{IsFaultOfLoad, OfSomeImage, PutsCheck, PutsFile, PutsListing, ReadsWhole, list_request};
 
 use crate::faults::ProgramFault;
 use crate::files::content;
-use crate::listing::tree_lines;
+use crate::listing::lines_at;
 use crate::notes::noted;
 use crate::report::report_and_scan;
 use crate::verdict::scanned_verdict;
@@ -75,19 +75,21 @@ pub fn image_file<E: Order, T: Sink>(
     Ok(noted(&mounted))
 }
 
-/// Puts a line for each object of an image's tree, as `list_lines`.
+/// Puts a line for each object of an image's tree, or of the part of it that a path names, as `list_lines`.
 pub fn image_tree<E: Order, T: Sink>(
     alloc: Global,
     image: &[u8],
     geometry: Geometry,
+    path: Option<&[u8]>,
     sink: &mut T,
 ) -> Result<u64, ProgramFault<'static>>
-    ensures put { PutsListing E.order geometry.block image.now
+    ensures put { PutsListing
+        (list_request E.order geometry.block (option_map (λ p. p.now) path.entry)) image.now
         (T.taken sink.old) (T.taken sink.new) (T.failures sink.old) (T.failures sink.new) result }
     ensures read { IfErr result (λ fault. IsFaultOfLoad fault → ⊥) }
 {
     let tree = mount::<E>(alloc, image, geometry)?;
-    tree_lines(alloc, &tree, sink)?;
+    lines_at(alloc, &tree, path, sink)?;
     Ok(noted(&tree))
 }
 
@@ -112,21 +114,23 @@ pub fn file_bytes<E: Order, S: Source, T: Sink>(
     image_file::<E, T>(alloc, image.as_slice(), geometry, path, sink)
 }
 
-/// Reads an image, and puts a line for each object of its tree. Answers how many findings of damage, dirt or the other byte
-/// order the image has.
+/// Reads an image, and puts a line for each object of its tree, or of the part of it that a path names. Answers how many
+/// findings of damage, dirt or the other byte order the image has.
 pub fn list_lines<E: Order, S: Source, T: Sink>(
     alloc: Global,
     source: &mut S,
     geometry: Geometry,
+    path: Option<&[u8]>,
     sink: &mut T,
 ) -> Result<u64, ProgramFault<'static>>
     // All that the source had left is read before the size of a block is judged. Nothing is put of an image that was not.
     ensures read { ReadsWhole (S.rest source.old) (S.rest source.new) (S.failures source.old)
         (S.failures source.new) result }
     ensures load { IfErr result (λ fault. IsFaultOfLoad fault → sink.new ≡ sink.old) }
-    ensures put { OfSomeImage (S.rest source.old) (λ image. PutsListing E.order geometry.block image
+    ensures put { OfSomeImage (S.rest source.old) (λ image. PutsListing
+        (list_request E.order geometry.block (option_map (λ p. p.now) path.entry)) image
         (T.taken sink.old) (T.taken sink.new) (T.failures sink.old) (T.failures sink.new) result) }
 {
     let image = load(alloc, source, GREATEST_IMAGE)?;
-    image_tree::<E, T>(alloc, image.as_slice(), geometry, sink)
+    image_tree::<E, T>(alloc, image.as_slice(), geometry, path, sink)
 }

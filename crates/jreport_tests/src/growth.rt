@@ -2,7 +2,7 @@
 
 use crate::checks::equal;
 use crate::images::{CIRCLE, CIRCLE_LINES, GEOMETRY, LARGE, TREE, image_of};
-use crate::reads::{Call, TREE_CHECKED, TREE_LISTED, ask};
+use crate::reads::{Call, PART_LISTED, TREE_CHECKED, TREE_LISTED, ask};
 use byteorder::LittleEndian;
 use flashbase::LoadFault;
 use jmount::{MountFault, mount};
@@ -12,10 +12,11 @@ use std::alloc::Global;
 use test_support::{Giver, MADE, Matcher, Node};
 
 /// What each call answers of `TREE`, and what it puts.
-const WHOLE: [(Call, u64, &[u8]); 3] = [
+const WHOLE: [(Call, u64, &[u8]); 4] = [
     (Call::Check, 1, TREE_CHECKED),
     (Call::Content(b"/d/f"), 0, b"hi"),
     (Call::Listing, 0, TREE_LISTED),
+    (Call::Part(b"/d"), 0, PART_LISTED),
 ];
 
 /// Why a call is not answered; none where its answer and its text are right.

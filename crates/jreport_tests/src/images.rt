@@ -110,6 +110,12 @@ d 0755 0 0 0 0 2 /d\n\
 d 0755 0 0 0 0 1 /d/x (again)\n\
 d 0755 0 0 0 0 2 /d/y (again)\n";
 
+/// The part of it from `/d/x/d` on: each of the two directories is entered once, whatever is above.
+pub(crate) const CIRCLE_BELOW: &[u8] = b"d 0755 0 0 0 0 2 /d/x/d\n\
+d 0755 0 0 0 0 1 /d/x/d/x\n\
+d 0755 0 0 0 0 2 /d/x/d/x/d (again)\n\
+d 0755 0 0 0 0 2 /d/x/d/y (again)\n";
+
 /// A root, a directory with a file in it, a symlink, and a name that dangles.
 pub(crate) const TREE: &[Node<'static>] = &[
     Node::Owned(1, DIRECTORY, b"", 7, 8, 1234567890),

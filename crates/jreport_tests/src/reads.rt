@@ -2,8 +2,8 @@
 
 use crate::checks::{equal, expect};
 use crate::images::{
-    CLASH, COMPRESSED, DAMAGED_INODE_2, FILE_AS_ROOT, GEOMETRY, LARGE, ONE_BLOCK, OTHER_ORDER, Raw,
-    TREE, image_of, raw_image,
+    CIRCLE, CIRCLE_BELOW, CLASH, COMPRESSED, DAMAGED_INODE_2, FILE_AS_ROOT, GEOMETRY, LARGE,
+    ONE_BLOCK, OTHER_ORDER, Raw, TREE, image_of, raw_image,
 };
 use byteorder::LittleEndian;
 use flashbase::{FromReader, FromWriter, Sink, Source};
@@ -86,6 +86,8 @@ pub(crate) enum Call {
     Check,
     Content(&'static [u8]),
     Listing,
+    /// The part of the tree that a path names.
+    Part(&'static [u8]),
 }
 
 /// A call of each kind, the second of the file in `TREE`.
@@ -107,7 +109,10 @@ pub(crate) fn ask<S: Source, T: Sink>(
         Call::Content(path) => {
             file_bytes::<LittleEndian, S, T>(alloc, source, geometry, path, sink)
         }
-        Call::Listing => list_lines::<LittleEndian, S, T>(alloc, source, geometry, sink),
+        Call::Listing => list_lines::<LittleEndian, S, T>(alloc, source, geometry, None, sink),
+        Call::Part(path) => {
+            list_lines::<LittleEndian, S, T>(alloc, source, geometry, Some(path), sink)
+        }
     }
 }
 
@@ -136,7 +141,10 @@ fn image_answer_and_text(
         Call::Content(path) => {
             image_file::<LittleEndian, _>(alloc, image, GEOMETRY, path, &mut sink)
         }
-        Call::Listing => image_tree::<LittleEndian, _>(alloc, image, GEOMETRY, &mut sink),
+        Call::Listing => image_tree::<LittleEndian, _>(alloc, image, GEOMETRY, None, &mut sink),
+        Call::Part(path) => {
+            image_tree::<LittleEndian, _>(alloc, image, GEOMETRY, Some(path), &mut sink)
+        }
     };
     (answer, sink.into_writer())
 }
@@ -160,6 +168,8 @@ d 1700 0 0 0 0 2 /d\n\
 - 0644 0 0 2 0 3 /d/f\n\
 l 0777 0 0 4 0 4 /s -> \\x2fd\\x2ff\n";
 
+pub(crate) const PART_LISTED: &[u8] = b"d 1700 0 0 0 0 2 /d\n- 0644 0 0 2 0 3 /d/f\n";
+
 /// An image, a call, its answer, and how what it puts ends.
 type Row = (
     &'static [Node<'static>],
@@ -175,7 +185,7 @@ const CLASHES: Result<u64, ProgramFault<'static>> = Err(ProgramFault::Mount(Moun
 const NO_ROOT: Result<u64, ProgramFault<'static>> = Err(ProgramFault::Mount(MountFault::RootKind));
 
 /// What is put whole.
-const WHOLE: [Row; 9] = [
+const WHOLE: [Row; 17] = [
     (TREE, Call::Check, Ok(1), TREE_CHECKED),
     (TREE, Call::Content(b"/d/f"), Ok(0), b"hi"),
     (
@@ -191,8 +201,31 @@ const WHOLE: [Row; 9] = [
         b"",
     ),
     (TREE, Call::Listing, Ok(0), TREE_LISTED),
+    (TREE, Call::Part(b"/"), Ok(0), TREE_LISTED),
+    (TREE, Call::Part(b"/d"), Ok(0), PART_LISTED),
+    (TREE, Call::Part(b"/d/f"), Ok(0), b"- 0644 0 0 2 0 3 /d/f\n"),
+    (
+        TREE,
+        Call::Part(b"/d/f/g"),
+        Err(ProgramFault::Path(FindFault::NotDirectory)),
+        b"",
+    ),
+    (CIRCLE, Call::Part(b"/d/x/d"), Ok(0), CIRCLE_BELOW),
+    (
+        TREE,
+        Call::Part(b"/x"),
+        Err(ProgramFault::Path(FindFault::NotFound)),
+        b"",
+    ),
+    (
+        TREE,
+        Call::Part(b"d"),
+        Err(ProgramFault::Path(FindFault::BadPath)),
+        b"",
+    ),
     (CLASH, Call::Content(b"/d/f"), CLASHES, b""),
     (CLASH, Call::Listing, CLASHES, b""),
+    (CLASH, Call::Part(b"/d"), CLASHES, b""),
     (FILE_AS_ROOT, Call::Content(b"/d/f"), NO_ROOT, b""),
     (FILE_AS_ROOT, Call::Listing, NO_ROOT, b""),
 ];

@@ -7,8 +7,8 @@ use flashbase::{FromReader, PutFault};
 use jline::{put_escaped, put_hex, put_in_line, put_text, put_word};
 use jmount::{FindFault, MountFault, mount};
 use jreport::{
-    ProgramFault, content, fault_line, fault_lines, fault_text, note_line, put_decompressed,
-    put_object, put_report, stream_lines, tree_lines, verdict_lines,
+    ProgramFault, content, fault_line, fault_lines, fault_text, note_line, part_lines,
+    put_decompressed, put_object, put_report, stream_lines, tree_lines, verdict_lines,
 };
 use std::alloc::Global;
 use std::test::Fail;
@@ -21,6 +21,7 @@ enum Text {
     Stream,
     Verdict,
     Tree,
+    Part,
     Object,
     Content,
     Note,
@@ -35,11 +36,12 @@ enum Text {
     Hex,
 }
 
-const TEXTS: [Text; 16] = [
+const TEXTS: [Text; 17] = [
     Text::Report,
     Text::Stream,
     Text::Verdict,
     Text::Tree,
+    Text::Part,
     Text::Object,
     Text::Content,
     Text::Note,
@@ -77,6 +79,7 @@ fn put_mounted(
             None => Err(FAULT),
         },
         Text::Content => content(&mounted, b"/d/f", sink),
+        Text::Part => part_lines(alloc, &mounted, b"/d", sink),
         _ => tree_lines(alloc, &mounted, sink),
     }
 }
@@ -107,7 +110,9 @@ fn put(
         Text::Verdict => {
             verdict_lines::<LittleEndian, _>(alloc, image, GEOMETRY, true, sink)?;
         }
-        Text::Tree | Text::Object | Text::Content => put_mounted(alloc, text, image, sink)?,
+        Text::Tree | Text::Part | Text::Object | Text::Content => {
+            put_mounted(alloc, text, image, sink)?;
+        }
         Text::Note => note_line(17, sink)?,
         Text::Fault => {
             let answer = fault_text(&FAULT, sink);

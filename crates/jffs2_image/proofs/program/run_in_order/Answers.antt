@@ -1,4 +1,5 @@
 use Rattle.std.proofs.Common.{rules, ◌≡◌, None, subst, sym}
+use Rattle.std.specs.Prelude.{option_map}
 use Rattle.jcommand.specs.Parsed.{Parsed, ScanParsed, CheckParsed, ListParsed, CatParsed, view}
 use Rattle.jffs2_image.specs.Runs.{Meets}
 use Rattle.jffs2_image.proofs.WritingLemmas.{met_by_any}
@@ -20,10 +21,10 @@ returns-in-Check-clause-meets g c =
 
 pub returns-in-List-clause-meets : goal.returns-in-List-clause-meets
 returns-in-List-clause-meets g c =
-    let is : view c.args.request ≡ ListParsed c.in-List.options c.in-List.decompress c.in-List.image.now = search rules in
+    let is : view c.args.request ≡ ListParsed c.in-List.options c.in-List.decompress c.in-List.image.now (option_map (λ p. p.now) c.in-List.path) = search rules in
     subst (λ (p : Parsed). Meets (g.L.Loader.told c.args.loader.now) (g.M.Maker.held c.args.maker.now, g.M.Maker.held c.args.maker.now) g.E.Order.order p (g.T.Sink.taken c.args.sink.now) (g.T.Sink.taken c.list.new.sink)
     (g.T.Sink.failures c.args.sink.now) (g.T.Sink.failures c.list.new.sink) c.list.result) (sym is)
-    (met_by_any _ (None, None) _ g.E.Order.order (ListParsed c.in-List.options c.in-List.decompress c.in-List.image.now) _ _ _ _ c.list.result tt c.list.ensures.meets)
+    (met_by_any _ (None, None) _ g.E.Order.order (ListParsed c.in-List.options c.in-List.decompress c.in-List.image.now (option_map (λ p. p.now) c.in-List.path)) _ _ _ _ c.list.result tt c.list.ensures.meets)
 
 pub returns-in-Cat-clause-meets : goal.returns-in-Cat-clause-meets
 returns-in-Cat-clause-meets g c =

@@ -1,13 +1,10 @@
-use Rattle.std.proofs.Common.{rules, ◌≡◌, ◌<◌, ◌≤◌, ◌*◌, ◌%◌, ◌++◌, ℕ, List, length, arith, ap, refl, sym, ◌∙◌, subst}
-use Rattle.jscan.specs.Counts.{extents_below, extents_of_block}
-use Rattle.jscan.specs.Extents.{extents}
-use Rattle.jscan.specs.Image.{block_count, block_of}
-use Rattle.jscan.specs.declared.extent.Extent.{Extent}
+use Rattle.std.proofs.Common.{rules, ◌≡◌, ◌<◌, ◌%◌, ℕ, length, arith, ap, refl, ◌∙◌}
+use Rattle.jscan.specs.Counts.{extents_below}
+use Rattle.jscan.specs.Image.{block_count}
 use Rattle.jscan.proofs.StreamCounts.{readable_words}
-use Rattle.jreport.specs.FoundIn.{found_among}
 use Rattle.jreport.specs.declared.findings.Found.{Found}
-use Rattle.jreport.proofs.BlockLemmas.{block_begins, block_size_is, extents_below_more, length_block_of, length_extents_below}
-use Rattle.jreport.proofs.FoundLemmas.{attributes_few, found_append, noted_few, found_of_block}
+use Rattle.jreport.proofs.BlockLemmas.{block_begins, block_size_is, length_block_of, length_extents_below}
+use Rattle.jreport.proofs.FoundLemmas.{attributes_few, noted_few, found_of_block}
 use Rattle.jreport.proofs.findings.found_in.Goals as goal
 
 pub found_in_block-found-requires-clause-whole_words : goal.found_in_block-found-requires-clause-whole_words

@@ -1,11 +1,9 @@
-use Rattle.std.proofs.Common.{rules, ◌≡◌, ◌<◌, ◌≤◌, ℕ, None, Some, List, length, arith, ap, sym, ◌∙◌, subst}
+use Rattle.std.proofs.Common.{rules, ◌≡◌, None, length, arith, ap, sym, ◌∙◌}
 use Rattle.jscan.specs.Counts.{one_if}
 use Rattle.jscan.specs.Extents.{extents}
 use Rattle.jscan.specs.ExtentsLeft.{extents_left}
 use Rattle.jscan.specs.Findings.{finding_of}
-use Rattle.jscan.specs.declared.extent.Extent.{Extent}
 use Rattle.jreport.specs.ExtractionNotes.{is_attribute_node}
-use Rattle.jreport.specs.FoundIn.{found_among}
 use Rattle.jreport.specs.Notes.{is_noted}
 use Rattle.jreport.specs.declared.findings.Found.{Found}
 use Rattle.jreport.proofs.ExtentLemmas.{length_extents}

@@ -1,11 +1,11 @@
-use Rattle.std.proofs.Common.{◌≡◌}
+use Rattle.std.proofs.Common.{◌≡◌, map}
 use Rattle.jreport.specs.Walking.{steps_left}
 use Rattle.jreport.proofs.WalkLemmas.{Reaches}
-use Rattle.jreport.proofs.listing.tree_lines.Given as goal
+use Rattle.jreport.proofs.listing.lines_from.Given as goal
 
 abbrev pub invariant-loop-walk : goal.invariant-loop-walk
 invariant-loop-walk g l = record {
-  so_far : Reaches l.mounted.state l.walk (g.T.Sink.taken l.fn.sink) (g.T.Sink.taken l.sink);
+  so_far : Reaches l.mounted.state (map (λ n. n.now) l.fn.path.items, l.fn.ino) l.walk (g.T.Sink.taken l.fn.sink) (g.T.Sink.taken l.sink);
   failed : g.T.Sink.failures l.sink ≡ g.T.Sink.failures l.fn.sink;
 }
 
