@@ -13,22 +13,23 @@ complete -c jffs2_image -n __fish_use_subcommand -a cat -d 'Bytes of a regular f
 complete -c jffs2_image -n __fish_use_subcommand -a build -d 'Make an image by a listing'
 complete -c jffs2_image -n __fish_use_subcommand -a append -d 'Extend an image by a listing'
 complete -c jffs2_image -n __fish_use_subcommand -a decompress -d 'Copy with data decompressed'
+complete -c jffs2_image -n __fish_use_subcommand -a compress -d 'Copy with data compressed'
 complete -c jffs2_image -n __fish_use_subcommand -a extract -d 'Tree into a new folder'
 complete -c jffs2_image -n __fish_use_subcommand -a listing -d 'Listing of a folder'
 complete -c jffs2_image -n __fish_use_subcommand -a info -d 'What it shows of order and blocks'
 complete -c jffs2_image -n __fish_use_subcommand -a cuts -d 'Which step stands from which byte on'
 complete -c jffs2_image -n __fish_use_subcommand -a help -d 'Help of a command'
 complete -c jffs2_image -n '__jffs2_image_in help' -f \
-    -a 'check ls cat build append decompress extract listing info cuts help'
+    -a 'check ls cat build append decompress compress extract listing info cuts help'
 
 # Options of the program and of every command
 complete -c jffs2_image -n 'not __jffs2_image_in help' -s h -l help -d 'Print help'
 complete -c jffs2_image -n __fish_use_subcommand -s V -l version -d 'Print the version'
 
 # Options of several commands
-complete -c jffs2_image -n '__jffs2_image_in check ls cat build append decompress extract cuts' \
+complete -c jffs2_image -n '__jffs2_image_in check ls cat build append decompress compress extract cuts' \
     -l block -x -a '4096 8192 16384 32768 65536 131072 262144' -d 'Size of an erase block'
-complete -c jffs2_image -n '__jffs2_image_in check ls cat build append decompress extract cuts' \
+complete -c jffs2_image -n '__jffs2_image_in check ls cat build append decompress compress extract cuts' \
     -l endian -x -a 'little big' -d 'Byte order'
 complete -c jffs2_image -n '__jffs2_image_in build append cuts' -l blocks -x -d 'Number of blocks'
 complete -c jffs2_image -n '__jffs2_image_in build append cuts' -l page -x \

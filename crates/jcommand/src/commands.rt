@@ -1,7 +1,7 @@
 //! The command line, built with clap: the program, its subcommands, and the words that each one takes.
 ghost use Rattle.std.specs.Prelude.{◌≡◌, Ok};
 ghost use Rattle.clap.specs.Words.{App, Rule, new_app, with_rule, with_subcommand};
-ghost use Rattle.jcommand.specs.Commands.{IsApp, IsRule, MakesApp, word, optional_word, option_or, required_option, option_of, option_of_two, flag, plain_command, writer, check_app, ls_app, cat_app, build_app, append_app, decompress_app, extract_app, listing_app, info_app, cuts_app, bare, program};
+ghost use Rattle.jcommand.specs.Commands.{IsApp, IsRule, MakesApp, word, optional_word, option_or, required_option, option_of, option_of_two, flag, plain_command, writer, check_app, ls_app, cat_app, build_app, append_app, decompress_app, compress_app, extract_app, listing_app, info_app, cuts_app, bare, program};
 
 use crate::help;
 use clap::{Arg, ArgAction, Command};
@@ -192,6 +192,15 @@ fn make_decompress<'a>(alloc: Global) -> Made<'a>
     add_arg(add_arg(command, image), output)
 }
 
+fn make_compress<'a>(alloc: Global) -> Made<'a>
+    ensures { MakesApp result compress_app }
+{
+    let image = make_word(alloc, "IMAGE", help::IMAGE);
+    let output = make_word(alloc, "OUT", help::OUT);
+    let command = make_plain(alloc, "compress", help::COMPRESS, help::COMPRESS_EPILOGUE);
+    add_arg(add_arg(command, image), output)
+}
+
 fn make_extract<'a>(alloc: Global) -> Made<'a>
     ensures { MakesApp result extract_app }
 {
@@ -255,6 +264,7 @@ pub(crate) fn make_program<'a>(alloc: Global) -> Made<'a>
     let command = add_subcommand(command, make_build(alloc));
     let command = add_subcommand(command, make_append(alloc));
     let command = add_subcommand(command, make_decompress(alloc));
+    let command = add_subcommand(command, make_compress(alloc));
     let command = add_subcommand(command, make_extract(alloc));
     let command = add_subcommand(command, make_listing(alloc));
     let command = add_subcommand(command, make_info(alloc));

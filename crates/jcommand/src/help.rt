@@ -17,6 +17,8 @@ pub(crate) const APPEND: &str = "Copy an image, and extend the copy by a listing
 
 pub(crate) const DECOMPRESS: &str = "Copy an image, and decompress the data in the copy";
 
+pub(crate) const COMPRESS: &str = "Copy an image, and compress the data in the copy";
+
 pub(crate) const EXTRACT: &str = "Write the tree of an image into a new folder of this host";
 
 pub(crate) const LISTING_OF: &str = "Print the listing that builds a folder of this host";
@@ -72,7 +74,8 @@ listing is, 'jffs2_image help check' what check prints, and so for the others.
 
 The data of an image that Linux or mkfs.jffs2 wrote are often compressed. ls,
 cat, append and extract take them with --decompress, and decompress makes an
-image without them.
+image without them. What build writes is not compressed: compress makes an image
+of it that is shorter.
 
 Examples:
   jffs2_image info flash.img
@@ -83,6 +86,7 @@ Examples:
   jffs2_image append --blocks 64 flash.img more.txt new.img
   jffs2_image cuts --blocks 64 --on flash.img more.txt
   jffs2_image decompress dump.img flash.img
+  jffs2_image compress flash.img small.img
   jffs2_image extract --decompress dump.img tree
   jffs2_image listing tree > tree.txt
 
@@ -272,6 +276,33 @@ which is held in memory.
 Examples:
   jffs2_image decompress --block 131072 dump.img flash.img
   jffs2_image ls --block 131072 --decompress dump.img
+
+Exit status:
+  0  done
+  1  a fault, which standard error names
+  2  the command line is wrong";
+
+pub(crate) const COMPRESS_EPILOGUE: &str = "\
+OUT has the nodes of IMAGE in the order of their addresses, from the first block
+on. The data of regular files are compressed there, by ZLIB, where the node then
+is shorter; all else stands as it does in IMAGE, since Linux reads symlinks and
+devices as they stand. decompress gives the nodes of IMAGE back. What makes no
+part of the file system is left out: markers, padding, obsolete and damaged
+nodes, extended attributes and dirt. A note on standard error counts damage and
+dirt in IMAGE, as for ls.
+
+'compressed C nodes N bytes B' is printed: OUT has N nodes and B bytes, and C of
+the nodes are compressed. All else is judged before OUT is made. M4 Compressed:
+a node of IMAGE is compressed already; give the image to decompress first. Z2
+TooLong: a node does not fit into a block after a marker.
+
+IMAGE and OUT can be one file, since IMAGE is held in memory before OUT is made.
+But if the power, the host or the disk fails while OUT is written, the old bytes
+are gone.
+
+Examples:
+  jffs2_image build --blocks 64 tree.txt flash.img
+  jffs2_image compress flash.img small.img
 
 Exit status:
   0  done

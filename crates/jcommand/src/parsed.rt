@@ -1,7 +1,7 @@
 //! What the matches of the program's command line ask for.
 ghost use Rattle.std.specs.Prelude.{◌≡◌, IfSome, codes, map, option_map};
 ghost use Rattle.clap.specs.Words.{found_of, rows_of, all_of, first_of};
-ghost use Rattle.jcommand.specs.Parsed.{decimal_number, endian_of, page_of, number_option, options_in, image_in, is_given, check_in, is_decompressed, ls_in, cat_in, writing_in, build_in, append_in, decompress_in, extract_in, listing_in, info_in, cuts_in, owner_number, owner_of, if_given, parsed, options_of, task_view, view};
+ghost use Rattle.jcommand.specs.Parsed.{decimal_number, endian_of, page_of, number_option, options_in, image_in, is_given, check_in, is_decompressed, ls_in, cat_in, writing_in, build_in, append_in, decompress_in, extract_in, listing_in, info_in, compress_in, cuts_in, owner_number, owner_of, if_given, parsed, options_of, task_view, view};
 
 use clap::ArgMatches;
 use jnode::Endian;
@@ -128,6 +128,14 @@ pub struct Cuts<'a> {
     pub listing: &'a str,
 }
 
+/// An image of the same nodes, of which those of regular files are compressed.
+#[derive(Clone, Copy)]
+pub struct Compression<'a> {
+    pub options: Options,
+    pub image: &'a str,
+    pub output: &'a str,
+}
+
 /// What is asked for.
 #[derive(Clone, Copy)]
 pub enum Task<'a> {
@@ -141,6 +149,8 @@ pub enum Task<'a> {
     Info { image: &'a str },
     /// `cuts`: what stands after a stop of writing.
     Cuts(Cuts<'a>),
+    /// `compress`.
+    Compress(Compression<'a>),
 }
 
 /// A number below 2^32 in decimal digits.
@@ -429,6 +439,20 @@ fn cuts_at<'a>(found: &ArgMatches<'a>) -> Option<Task<'a>>
     }))
 }
 
+fn compress_at<'a>(found: &ArgMatches<'a>) -> Option<Task<'a>>
+    ensures { option_map task_view result ≡ compress_in (rows_of (found_of found.now)) }
+{
+    let (options, image) = image_at(found)?;
+    match text_at(found, "OUT") {
+        Some(output) => Some(Task::Compress(Compression {
+            options,
+            image,
+            output,
+        })),
+        None => None,
+    }
+}
+
 /// What the subcommand asks for, or nothing where a value can't be read.
 #[tactic(auto, unfolding(crate::specs::Parsed::parsed))]
 pub(crate) fn parsed_of<'a>(name: &str, found: &ArgMatches<'a>) -> Option<Task<'a>>
@@ -445,6 +469,7 @@ pub(crate) fn parsed_of<'a>(name: &str, found: &ArgMatches<'a>) -> Option<Task<'
         "listing" => listing_at(found),
         "info" => info_at(found),
         "cuts" => cuts_at(found),
+        "compress" => compress_at(found),
         _ => None,
     }
 }

@@ -3,8 +3,8 @@
 
 use crate::checks::{equal, equal_at, expect, expect_at};
 use jcommand::{
-    Cuts, Extraction, FolderListing, Options, Outcome, Owner, Request, RequestFault, Target, Task,
-    status, task,
+    Compression, Cuts, Extraction, FolderListing, Options, Outcome, Owner, Request, RequestFault,
+    Target, Task, status, task,
 };
 use jnode::Endian;
 use std::alloc::{AllocError, Global};
@@ -13,6 +13,13 @@ use std::test::Fail;
 /// The number of blocks, the size of a page, and the file of what is written.
 fn written(target: Target<'_>) -> (u32, u32, &str) {
     (target.blocks, target.page.size(), target.output)
+}
+
+fn order_name(endian: Endian) -> &'static str {
+    match endian {
+        Endian::Little => "little",
+        Endian::Big => "big",
+    }
 }
 
 /// What follows the values where the image is to be decompressed.
@@ -25,10 +32,7 @@ fn mark(decompress: bool) -> &'static str {
 fn shown(alloc: Global, request: Request<'_>) -> Result<String, AllocError> {
     let Options { geometry, endian } = request.options();
     let block = geometry.block;
-    let order = match endian {
-        Endian::Little => "little",
-        Endian::Big => "big",
-    };
+    let order = order_name(endian);
     match request {
         Request::Scan { image, .. } => format!(in alloc; "scan {block} {order} {image}"),
         Request::Check {
@@ -94,7 +98,7 @@ fn shown_cuts(alloc: Global, asked: Cuts<'_>) -> Result<String, AllocError> {
     format!(in alloc; "cuts {block} {is_big} {blocks} {page} {on} {listing}")
 }
 
-/// A task of a folder in the same way.
+/// A task in the same way.
 fn shown_task(alloc: Global, task: Task<'_>) -> Result<String, AllocError> {
     match task {
         Task::Image(request) => shown(alloc, request),
@@ -127,6 +131,18 @@ fn shown_task(alloc: Global, task: Task<'_>) -> Result<String, AllocError> {
         }
         Task::Info { image } => format!(in alloc; "info {image}"),
         Task::Cuts(asked) => shown_cuts(alloc, asked),
+        Task::Compress(
+            Compression {
+                options,
+                image,
+                output,
+            },
+        ) => {
+            let Options { geometry, endian } = options;
+            let order = order_name(endian);
+            let block = geometry.block;
+            format!(in alloc; "compress {block} {order} {image} {output}")
+        }
     }
 }
 

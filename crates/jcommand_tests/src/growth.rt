@@ -5,7 +5,7 @@ use jcommand::{Request, RequestFault, Task, task};
 use std::alloc::Global;
 
 /// Words, and what they ask for.
-const LINES: [(&[&str], &str); 12] = [
+const LINES: [(&[&str], &str); 13] = [
     (&["t", "check", "--scan", "--block=4096", "a.img"], "scan"),
     (&["t", "check", "--endian", "big", "a.img"], "check"),
     (&["t", "ls", "a.img"], "ls"),
@@ -22,6 +22,7 @@ const LINES: [(&[&str], &str); 12] = [
     ),
     (&["t", "info", "a.img"], "info"),
     (&["t", "cuts", "--blocks=8", "--on", "a.img", "b"], "cuts"),
+    (&["t", "compress", "a.img", "b.img"], "compress"),
     (&["t", "check", "--help"], "help"),
     (&["t", "check", "--block", "x", "a.img"], "wrong"),
 ];
@@ -40,6 +41,7 @@ fn asked(alloc: Global, words: &[&str]) -> &'static str {
         Ok(Task::Listing(_)) => "listing",
         Ok(Task::Info { .. }) => "info",
         Ok(Task::Cuts(_)) => "cuts",
+        Ok(Task::Compress(_)) => "compress",
         Err(RequestFault::Help { .. }) => "help",
         Err(RequestFault::Usage { .. }) => "wrong",
         Err(RequestFault::OutOfMemory) => "no memory",

@@ -19,6 +19,7 @@
 //! | write to an image | [`Session::resume`], then [`Session::run`] with a list of [`Op`] |
 //! | put the old image and new operations out as one | [`emit`] |
 //! | read an image with compressed data | [`decompressed`], then [`mount`]; [`decompress`] writes it |
+//! | write an image with compressed data | [`compress`], of one that is not |
 //! | read operations from a text | [`listing`], then [`operations`] |
 //! | know whether a power cut inside a node would be seen | [`weak_cut`] |
 //!
@@ -36,7 +37,7 @@ pub use flashbase::{
     DeviceFault, FromReader, FromWriter, LoadFault, PutFault, Sink, Source, load, put_all,
 };
 pub use jbuild::{Parts, emit, operations};
-pub use jconvert::{ConvertFault, Converted, decompress, decompressed};
+pub use jconvert::{ConvertFault, Converted, compress, decompress, decompressed};
 pub use jlisting::{Action, Line, ListingFault, listing};
 pub use jlog::{Applied, Place, RunReport, Session, SessionFault};
 pub use jmount::{FindFault, Kind, MountFault, Mounted, Object, mount};

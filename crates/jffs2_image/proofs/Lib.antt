@@ -6,3 +6,4 @@ pub mod WritingLemmas
 pub mod HostLemmas
 pub mod RunLemmas
 pub mod CutRunLemmas
+pub mod CompressingLemmas

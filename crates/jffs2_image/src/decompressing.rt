@@ -28,7 +28,7 @@ pub struct Taken {
 }
 
 /// What the program gives up for where an image is not converted.
-fn conversion_fault(fault: ConvertFault) -> ProgramFault<'static>
+pub(crate) fn conversion_fault(fault: ConvertFault) -> ProgramFault<'static>
     ensures { result ≡ fault_of_conversion fault }
 {
     match fault {

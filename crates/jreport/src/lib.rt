@@ -35,7 +35,7 @@ mod verdict;
 mod whole_image;
 
 pub use crate::advice::fault_lines;
-pub use crate::converted::put_decompressed;
+pub use crate::converted::{put_compressed, put_decompressed};
 pub use crate::extraction_notes::{attribute_count, put_notes};
 pub use crate::faults::{ProgramFault, fault_line, fault_text};
 pub use crate::files::content;

@@ -8,7 +8,8 @@ use jline::{put_escaped, put_hex, put_in_line, put_text, put_word};
 use jmount::{FindFault, MountFault, mount};
 use jreport::{
     ProgramFault, content, fault_line, fault_lines, fault_text, note_line, part_lines,
-    put_decompressed, put_object, put_report, stream_lines, tree_lines, verdict_lines,
+    put_compressed, put_decompressed, put_object, put_report, stream_lines, tree_lines,
+    verdict_lines,
 };
 use std::alloc::Global;
 use std::test::Fail;
@@ -29,6 +30,7 @@ enum Text {
     FaultLine,
     FaultLines,
     Decompressed,
+    Compressed,
     Plain,
     Escaped,
     InLine,
@@ -49,6 +51,7 @@ const TEXTS: [Text; 17] = [
     Text::FaultLine,
     Text::FaultLines,
     Text::Decompressed,
+    Text::Compressed,
     Text::Plain,
     Text::Escaped,
     Text::InLine,
@@ -121,6 +124,7 @@ fn put(
         Text::FaultLine => fault_line(&FAULT, sink)?,
         Text::FaultLines => fault_lines(&NOTED_FAULT, sink)?,
         Text::Decompressed => put_decompressed(7, 29, 30168, sink)?,
+        Text::Compressed => put_compressed(5, 31, 20416, sink)?,
         Text::Plain => put_text(sink, BYTES)?,
         Text::Escaped => put_escaped(sink, BYTES)?,
         Text::InLine => put_in_line(sink, BYTES)?,

@@ -63,3 +63,7 @@ returns-clause-cut c = refl
 pub returns-clause-cut_alone : goal.returns-clause-cut_alone
 unfolding clap_on_literals program parsed parsed_from
 returns-clause-cut_alone c = refl
+
+pub returns-clause-compressed : goal.returns-clause-compressed
+unfolding clap_on_literals program parsed parsed_from
+returns-clause-compressed c = refl
