@@ -304,16 +304,16 @@ pub(crate) const LISTING_EPILOGUE: &str = "\
 The listing goes to standard output. 'jffs2_image build' reads it, and
 'jffs2_image help build' tells what it means. Names are in byte order, so one
 folder has one listing, which can be edited and kept. The content of a file is
-not in it: a line 'part' names the file, from the working directory where DIR is
-no path from /. A file whose path has a space or a line feed, which no such line
-can name, has its bytes in lines 'write'.
+not in it: a line 'file' names the file, from the working directory where DIR is
+no path from /.
 
-Hard links become lines 'link'. Symlinks are never followed. --owner and --time
-take the place of those of the folder: with them the listing is the same whoever
-makes it and whenever. What a listing can't say is left out, each with a line
-'left out PATH: REASON' on standard error: sockets, FIFOs and devices, names
-above 254 bytes or that are no text, files above 268435456 bytes, owners above
-65535 and times that 32 bits do not hold. The rest goes on.
+Hard links become lines 'link', FIFOs and sockets lines 'fifo' and 'socket'.
+Symlinks are never followed. --owner and --time take the place of those of the
+folder: with them the listing is the same whoever makes it and whenever. What a
+listing can't say is left out, each with a line 'left out PATH: REASON' on
+standard error: devices, names above 254 bytes or that are no text, files above
+268435456 bytes, owners above 65535 and times that 32 bits do not hold. The rest
+goes on.
 
 Examples:
   jffs2_image listing tree > tree.txt
