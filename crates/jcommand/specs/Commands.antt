@@ -95,6 +95,11 @@ listing_app = with_rule
 abbrev pub info_app : App
 info_app = with_rule (new_app (codes "info")) (word (codes "IMAGE"))
 
+-- `diff [--times] [--block N] [--endian ORDER] A B`
+abbrev pub diff_app : App
+diff_app = with_rule (with_rule (with_rule (plain_command (codes "diff")) (flag (codes "times")))
+    (word (codes "A"))) (word (codes "B"))
+
 -- the program without its subcommands, of which one has to be named; it tells its version
 abbrev pub bare : App
 bare = let app = new_app (codes "jffs2_image") in record app
@@ -106,9 +111,10 @@ program = with_subcommand
     (with_subcommand
     (with_subcommand
     (with_subcommand
+    (with_subcommand
     (with_subcommand (with_subcommand (with_subcommand (with_subcommand bare
     check_app.top) ls_app.top) cat_app.top) build_app.top) append_app.top) decompress_app.top)
-    extract_app.top) listing_app.top) info_app.top
+    extract_app.top) listing_app.top) info_app.top) diff_app.top
 
 -- ---- what is made
 

@@ -81,13 +81,14 @@ view (request.Append target decompress image listing) = AppendParsed target.opti
     target.page decompress image.now listing.now target.output.now
 view (request.Decompress options image output) = DecompressParsed options image.now output.now
 
--- the same of a task: a request of an image, one that works with a folder of the host, or what an
--- image tells of itself
+-- the same of a task: a request of an image, one that works with a folder of the host, what an
+-- image tells of itself, or what two images differ in
 pub data TaskParsed : Type 0 where
   ImageParsed : Parsed → TaskParsed
   ExtractParsed : Options → Bool → Bool → Bool → Text → Text → TaskParsed
   ListingParsed : Option Owner → Option ℕ → Bool → Text → TaskParsed
   InfoParsed : Text → TaskParsed
+  DiffParsed : Options → Bool → Text → Text → TaskParsed
 
 abbrev pub task_view : Task → TaskParsed
 task_view (task.Image r) = ImageParsed (view r)
@@ -95,6 +96,7 @@ task_view (task.Extract x) =
     ExtractParsed x.options x.decompress x.owners x.quiet x.image.now x.folder.now
 task_view (task.Listing l) = ListingParsed l.owner l.time l.quiet l.folder.now
 task_view (task.Info image) = InfoParsed image.now
+task_view (task.Diff d) = DiffParsed d.options d.times d.first.now d.second.now
 
 abbrev pub options_of : Request → Options
 options_of (request.Scan options image) = options
@@ -173,6 +175,11 @@ listing_in rows = if_given (all_of (codes "owner") rows) owner_of >>= λ owner.
 abbrev pub info_in : List Row → Option TaskParsed
 info_in rows = first_of (codes "IMAGE") rows >>= λ image. Some (InfoParsed image)
 
+abbrev pub diff_in : List Row → Option TaskParsed
+diff_in rows = options_in rows >>= λ options. first_of (codes "A") rows >>= λ first.
+    first_of (codes "B") rows >>= λ second.
+    Some (DiffParsed options (is_given (first_of (codes "times") rows)) first second)
+
 -- what the subcommand of this name asks for, with these rows; None where it is no subcommand or a
 -- value can't be read
 unfoldable pub parsed : Text → List Row → Option TaskParsed
@@ -186,6 +193,7 @@ parsed name rows =
     else if bytes_eq name (codes "extract") then extract_in rows
     else if bytes_eq name (codes "listing") then listing_in rows
     else if bytes_eq name (codes "info") then info_in rows
+    else if bytes_eq name (codes "diff") then diff_in rows
     else None
 
 abbrev pub parsed_by : Option (Text × List Row) → Option TaskParsed
@@ -230,9 +238,11 @@ abbrev pub IsOfImage : Option TaskParsed → Type 0
 IsOfImage (Some (ImageParsed p)) = Unit {0}
 IsOfImage _ = ⊥
 
--- they ask to fill or to read a folder, or for what an image tells of itself
+-- they ask to fill or to read a folder, for what an image tells of itself, or for what two images
+-- differ in
 abbrev pub IsNoRequest : Option TaskParsed → Type 0
 IsNoRequest (Some (ExtractParsed options decompress owners quiet image folder)) = Unit {0}
 IsNoRequest (Some (ListingParsed owner time quiet folder)) = Unit {0}
 IsNoRequest (Some (InfoParsed image)) = Unit {0}
+IsNoRequest (Some (DiffParsed options times first second)) = Unit {0}
 IsNoRequest _ = ⊥

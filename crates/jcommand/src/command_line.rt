@@ -169,8 +169,8 @@ pub fn task<'a>(alloc: Global, args: &'a [&'a str]) -> Result<Task<'a>, RequestF
     }
 }
 
-/// The request that the words of a command line make of an image: what `task` answers, but for a command on a folder and for
-/// `info`, which are refused.
+/// The request that the words of a command line make of an image: what `task` answers, but for a command on a folder, `info`
+/// and `diff`, which are refused.
 pub fn request<'a>(alloc: Global, args: &'a [&'a str]) -> Result<Request<'a>, RequestFault>
     // The subcommand and its values are clap's own function of the words.
     ensures ok { IfOk result
@@ -197,10 +197,9 @@ pub fn request<'a>(alloc: Global, args: &'a [&'a str]) -> Result<Request<'a>, Re
 {
     match task(alloc, args) {
         Ok(Task::Image(request)) => Ok(request),
-        Ok(Task::Extract(_) | Task::Listing(_) | Task::Info { .. }) => Err(usage(String::from_str(
-            alloc,
-            "error: the command makes no request of an image\n",
-        ))),
+        Ok(Task::Extract(_) | Task::Listing(_) | Task::Info { .. } | Task::Diff(_)) => {
+            Err(usage(String::from_str(alloc, "error: the command makes no request of an image\n")))
+        }
         Err(fault) => Err(fault),
     }
 }

@@ -23,4 +23,6 @@ mod parsed;
 
 pub use crate::command_line::{RequestFault, request, task};
 pub use crate::outcome::{Outcome, status};
-pub use crate::parsed::{Extraction, FolderListing, Options, Owner, Request, Target, Task};
+pub use crate::parsed::{
+    Comparison, Extraction, FolderListing, Options, Owner, Request, Target, Task,
+};

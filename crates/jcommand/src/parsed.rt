@@ -1,7 +1,7 @@
 //! What the matches of the program's command line ask for.
 ghost use Rattle.std.specs.Prelude.{◌≡◌, IfSome, codes, map, option_map};
 ghost use Rattle.clap.specs.Words.{found_of, rows_of, all_of, first_of};
-ghost use Rattle.jcommand.specs.Parsed.{decimal_number, endian_of, page_of, number_option, options_in, image_in, is_given, check_in, is_decompressed, ls_in, cat_in, writing_in, build_in, append_in, decompress_in, extract_in, listing_in, info_in, owner_number, owner_of, if_given, parsed, options_of, task_view, view};
+ghost use Rattle.jcommand.specs.Parsed.{decimal_number, endian_of, page_of, number_option, options_in, image_in, is_given, check_in, is_decompressed, ls_in, cat_in, writing_in, build_in, append_in, decompress_in, extract_in, listing_in, info_in, diff_in, owner_number, owner_of, if_given, parsed, options_of, task_view, view};
 
 use clap::ArgMatches;
 use jnode::Endian;
@@ -115,6 +115,15 @@ pub struct FolderListing<'a> {
     pub folder: &'a str,
 }
 
+/// What the trees of two images differ in; with `--times`, in times of change too.
+#[derive(Clone, Copy)]
+pub struct Comparison<'a> {
+    pub options: Options,
+    pub times: bool,
+    pub first: &'a str,
+    pub second: &'a str,
+}
+
 /// What is asked for.
 #[derive(Clone, Copy)]
 pub enum Task<'a> {
@@ -126,6 +135,8 @@ pub enum Task<'a> {
     Listing(FolderListing<'a>),
     /// `info`: what an image tells of itself, whose block size and byte order nobody says.
     Info { image: &'a str },
+    /// `diff`.
+    Diff(Comparison<'a>),
 }
 
 /// A number below 2^32 in decimal digits.
@@ -398,6 +409,20 @@ fn info_at<'a>(found: &ArgMatches<'a>) -> Option<Task<'a>>
     Some(Task::Info { image })
 }
 
+fn diff_at<'a>(found: &ArgMatches<'a>) -> Option<Task<'a>>
+    ensures { option_map task_view result ≡ diff_in (rows_of (found_of found.now)) }
+{
+    let options = options_at(found)?;
+    let first = text_at(found, "A")?;
+    let second = text_at(found, "B")?;
+    Some(Task::Diff(Comparison {
+        options,
+        times: is_given(found, "times"),
+        first,
+        second,
+    }))
+}
+
 /// What the subcommand asks for, or nothing where a value can't be read.
 #[tactic(auto, unfolding(crate::specs::Parsed::parsed))]
 pub(crate) fn parsed_of<'a>(name: &str, found: &ArgMatches<'a>) -> Option<Task<'a>>
@@ -413,6 +438,7 @@ pub(crate) fn parsed_of<'a>(name: &str, found: &ArgMatches<'a>) -> Option<Task<'
         "extract" => extract_at(found),
         "listing" => listing_at(found),
         "info" => info_at(found),
+        "diff" => diff_at(found),
         _ => None,
     }
 }

@@ -12,4 +12,5 @@ returns c =
     let decompress = c.add_subcommand-command-6.ensures _ _ append c.make_decompress.ensures in
     let extract = c.add_subcommand-command-7.ensures _ _ decompress c.make_extract.ensures in
     let listing = c.add_subcommand-command-8.ensures _ _ extract c.make_listing.ensures in
-    c.add_subcommand.ensures _ _ listing c.make_info.ensures
+    let info = c.add_subcommand-command-9.ensures _ _ listing c.make_info.ensures in
+    c.add_subcommand.ensures _ _ info c.make_diff.ensures

@@ -55,3 +55,11 @@ returns-clause-decompressed c = refl
 pub returns-clause-told : goal.returns-clause-told
 unfolding clap_on_literals program parsed parsed_from
 returns-clause-told c = refl
+
+pub returns-clause-compared : goal.returns-clause-compared
+unfolding clap_on_literals program parsed parsed_from
+returns-clause-compared c = refl
+
+pub returns-clause-compared_with_times : goal.returns-clause-compared_with_times
+unfolding clap_on_literals program parsed parsed_from
+returns-clause-compared_with_times c = refl
