@@ -8,6 +8,7 @@ ghost use Rattle.std.specs.Prelude.{◌≡◌, IfOk, map, string_bytes};
 ghost use Rattle.std.specs.Vec.Iter.{into_iter_items};
 
 pub mod decompressing;
+pub mod diff;
 mod folders;
 pub mod host;
 pub mod info;
