@@ -131,8 +131,18 @@ def escaped(text):
     return "".join(chr(b) if 0x21 <= b <= 0x7E and b not in b"\\/" else f"\\x{b:02x}" for b in text)
 
 
-def seen(top):
-    """What a folder has: of each path, as the names on it, the status and the bytes or the target."""
+def path_of(names):
+    return "".join("/" + escaped(name) for name in names) or "/"
+
+
+def times_of_links(image, options):
+    """The time of change of each symlink by `ls`, since `extract` leaves those of symlinks to the host."""
+    lines = [line.split(" ") for line in run("ls", *options, image).out.decode().splitlines()]
+    return {fields[7]: int(fields[5]) for fields in lines if fields[0] == "l"}
+
+
+def seen(top, times):
+    """What a folder has: of each path, as the names on it, the status, the bytes or the target, and the time of change."""
     found = {}
 
     def visit(path, names):
@@ -144,7 +154,7 @@ def seen(top):
         elif kind == stat.S_IFREG:
             with open(path, "rb") as file:
                 content = file.read()
-        found[names] = (is_, content)
+        found[names] = (is_, content, times.get(path_of(names), int(is_.st_mtime)))
         if kind == stat.S_IFDIR:
             for name in os.listdir(path):
                 visit(os.path.join(path, name), (*names, name))
@@ -153,14 +163,13 @@ def seen(top):
     return found
 
 
-def shown(names, is_, content, times):
+def shown(names, is_, content, time, times):
     """What a line has after its sign: kind, permissions, owner, group, size, time, path and target."""
     kind = stat.S_IFMT(is_.st_mode)
     fields = [KINDS[kind], f"{stat.S_IMODE(is_.st_mode):04o}", is_.st_uid, is_.st_gid, len(content)]
-    fields += [int(is_.st_mtime)] if times else []
-    path = "".join("/" + escaped(name) for name in names) or "/"
+    fields += [time] if times else []
     target = f" -> {escaped(content)}" if kind == stat.S_IFLNK else ""
-    return " ".join(map(str, fields)) + f" {path}{target}"
+    return " ".join(map(str, fields)) + f" {path_of(names)}{target}"
 
 
 def compared(first, second, times):
@@ -174,8 +183,7 @@ def compared(first, second, times):
         elif first[names][1] != second[names][1]:
             ours, theirs = first[names][1], second[names][1]
             at = next(k for k in range(len(ours)) if ours[k] != theirs[k])
-            path = "".join("/" + escaped(name) for name in names)
-            lines.append(f"* {path} at {at}")
+            lines.append(f"* {path_of(names)} at {at}")
     return "".join(line + "\n" for line in lines).encode()
 
 
@@ -190,7 +198,7 @@ def built(name, listing, options):
     taken = run("extract", *(["--owners"] if IS_ROOT else []), *options, f"{name}.img", name)
     if made.status not in (0, 1) or taken.status != 0:
         raise AssertionError((made, taken, listing))
-    return seen(name)
+    return seen(name, times_of_links(f"{name}.img", options))
 
 
 def random_listings():
