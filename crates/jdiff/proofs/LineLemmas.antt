@@ -14,8 +14,8 @@ one_line old new before now line r put = subst (λ (l : List ℕ). Puts old new 
 pub one_failed : {T E : Type 0} (old new : Option (List ℕ)) (before now : ℕ) (line : List ℕ) (r : Result T E) → IsErr r → PutsPart old new line → now ≡ next_count before → Puts old new before now (line ++ []) r
 one_failed old new before now line r err part failed = first_failed old new before now line [] r err part failed
 
-pub one_put : {T E : Type 0} (old new : Option (List ℕ)) (before now : ℕ) (line : List ℕ) (x : T) → Appends old new line → now ≡ before → Puts {E = E} old new before now (line ++ []) (Ok x)
-one_put {E} old new before now line x put same = one_line {E = E} old new before now line (Ok x) (put, same)
+pub one_put : {T : Type 0} (E : Type 0) (old new : Option (List ℕ)) (before now : ℕ) (line : List ℕ) (x : T) → Appends old new line → now ≡ before → Puts {E = E} old new before now (line ++ []) (Ok x)
+one_put E old new before now line x put same = one_line {E = E} old new before now line (Ok x) (put, same)
 
 -- two lines
 pub second_failed : {T E : Type 0} (a b c : Option (List ℕ)) (before mid now : ℕ) (first second : List ℕ) (r : Result T E) → IsErr r → Appends a b first → mid ≡ before
@@ -23,10 +23,10 @@ pub second_failed : {T E : Type 0} (a b c : Option (List ℕ)) (before mid now :
 second_failed a b c before mid now first second r err put same part failed =
     then_failed a b c before mid now first (second ++ []) r err put same (part_before b c second [] part) failed
 
-pub two_put : {T E : Type 0} (a b c : Option (List ℕ)) (before mid now : ℕ) (first second : List ℕ) (x : T) → Appends a b first → mid ≡ before
+pub two_put : {T : Type 0} (E : Type 0) (a b c : Option (List ℕ)) (before mid now : ℕ) (first second : List ℕ) (x : T) → Appends a b first → mid ≡ before
     → Appends b c second → now ≡ mid → Puts {E = E} a c before now (first ++ (second ++ [])) (Ok x)
-two_put {E} a b c before mid now first second x put same next still =
-    then_puts {E = E} a b c before mid now first (second ++ []) (Ok x) put same (one_put {E = E} b c mid now second x next still)
+two_put E a b c before mid now first second x put same next still =
+    then_puts {E = E} a b c before mid now first (second ++ []) (Ok x) put same (one_put E b c mid now second x next still)
 
 -- ---- what is told of two entries
 

@@ -4,7 +4,7 @@ ghost use Rattle.std.specs.Prelude.{◌≡◌, ◌≤◌, IfOk, IfSome, length, 
 ghost use Rattle.std.specs.List.{flat_map};
 ghost use Rattle.flashbase.specs.Device.{Puts};
 ghost use Rattle.jmount.specs.Shown.{readable};
-ghost use Rattle.jdiff.specs.Changes.{both_lines, bytes_changes, changes, is_same_object, is_symlink};
+ghost use Rattle.jdiff.specs.Changes.{both_lines, bytes_changes, changes, first_difference, is_same_object, is_symlink};
 ghost use Rattle.jdiff.specs.Walking.{entries_here, entry_found, IsFoundIn};
 
 use crate::bytes::first_difference;

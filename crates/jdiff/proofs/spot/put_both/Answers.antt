@@ -1,6 +1,7 @@
 use Rattle.std.proofs.Common.{ℕ, List, [], ◌++◌, map}
 use Rattle.jdiff.specs.Changes.{removed_line, added_line}
 use Rattle.jdiff.specs.Walking.{entry_found}
+use Rattle.flashbase.specs.declared.source.DeviceFault.{DeviceFault}
 use Rattle.jdiff.proofs.LineLemmas.{second_failed, two_put}
 use Rattle.flashbase.proofs.DeviceLemmas.{first_failed}
 use Rattle.jdiff.proofs.spot.put_both.Goals as goal
@@ -32,4 +33,4 @@ returns-clause-puts g c =
     let added = added_line trees.times (entry_found trees.right.now.state way c.args.right.now) in
     let put = c.in_ok-put_entry.ensures in
     let next = c.in_ok-put_entry-2.ensures in
-    two_put _ (g.T.Sink.taken c.put_entry.new.sink) _ _ _ _ removed added 2 put.0 put.1 next.0 next.1
+    two_put {T = ℕ} DeviceFault _ (g.T.Sink.taken c.put_entry.new.sink) _ _ _ _ removed added 2 put.0 put.1 next.0 next.1

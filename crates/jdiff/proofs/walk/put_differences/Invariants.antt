@@ -3,11 +3,11 @@ use Rattle.jdiff.specs.Walking.{steps_to_go}
 use Rattle.jdiff.proofs.StepLemmas.{ReachesPlaces}
 use Rattle.jdiff.proofs.walk.put_differences.Given as goal
 
-abbrev pub invariant-loop-more : goal.invariant-loop-more
-invariant-loop-more g l = record {
+abbrev pub invariant-loop-walk : goal.invariant-loop-walk
+invariant-loop-walk g l = record {
   so_far : ReachesPlaces l.fn.times l.fn.left.state l.fn.right.state l.walk (g.T.Sink.taken l.fn.sink) (g.T.Sink.taken l.sink) l.lines;
   failed : g.T.Sink.failures l.sink ≡ g.T.Sink.failures l.fn.sink;
 }
 
-abbrev pub decreases-loop-more : goal.decreases-loop-more
-decreases-loop-more g l = steps_to_go l.fn.left.state l.fn.right.state l.walk
+abbrev pub decreases-loop-walk : goal.decreases-loop-walk
+decreases-loop-walk g l = steps_to_go l.fn.left.state l.fn.right.state l.walk

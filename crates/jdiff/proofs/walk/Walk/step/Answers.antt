@@ -29,17 +29,17 @@ returns-in_err-seen g c =
     let s = trees.left.now.state in
     let t = trees.right.now.state in
     let w = c.args.self.now in
-    let n : Walk = record w { path = c.push.new.self; left = c.next.new.self; met_left = c.visit-seen.new.met_left; met_right = c.visit-seen.new.met_right } in
+    let n : Walk = record w { path = c.push.new.self; left = c.next.new.self; met_left = c.visit.new.met_left; met_right = c.visit.new.met_right } in
     let old = g.T.Sink.taken c.args.sink.now in
-    let new = g.T.Sink.taken c.visit-seen.new.sink in
+    let new = g.T.Sink.taken c.visit.new.sink in
     let before = g.T.Sink.failures c.args.sink.now in
-    let now = g.T.Sink.failures c.visit-seen.new.sink in
+    let now = g.T.Sink.failures c.visit.new.sink in
     let way = pair_way_on w c.in-Some.name c.deref.result.now c.push.new.self.items c.deref.ensures.value c.in_ok-push.ensures.items in
     let fault = c.in_err-seen.field-0.0 in
-    let put = spot_at trees.times s t w.met_left w.met_right c.visit-seen.new.met_left c.visit-seen.new.met_right _ (way_of_pair w ++ c.in-Some.name.now ∷ []) c.in-Some.left c.in-Some.right old new before now
+    let put = spot_at trees.times s t w.met_left w.met_right c.visit.new.met_left c.visit.new.met_right _ (way_of_pair w ++ c.in-Some.name.now ∷ []) c.in-Some.left c.in-Some.right old new before now
     (Err fault) way c.in_err-seen.ensures in
     pair_step_failed trees.times s t w n old new before now c.from_residual-in_err-seen.result fault c.from_residual-in_err-seen.ensures.1
-    (spot_failed trees.times s t w n c.in-Some.name.now c.in-Some.left c.in-Some.right c.next.new.self c.visit-seen.new.met_left c.visit-seen.new.met_right fault old new before now c.in-Some.ensures put)
+    (spot_failed trees.times s t w n c.in-Some.name.now c.in-Some.left c.in-Some.right c.next.new.self c.visit.new.met_left c.visit.new.met_right fault old new before now c.in-Some.ensures put)
 
 pub returns-in_err-push-2 : goal.returns-in_err-push-2
 returns-in_err-push-2 g c =
@@ -47,16 +47,16 @@ returns-in_err-push-2 g c =
     let s = trees.left.now.state in
     let t = trees.right.now.state in
     let w = c.args.self.now in
-    let n : Walk = record w { path = c.push.new.self; left = c.replace.new.dest; above = c.push-2.new.self; met_left = c.visit-seen.new.met_left; met_right = c.visit-seen.new.met_right } in
+    let n : Walk = record w { path = c.push.new.self; left = c.replace.new.dest; above = c.push-2.new.self; met_left = c.visit.new.met_left; met_right = c.visit.new.met_right } in
     let old = g.T.Sink.taken c.args.sink.now in
-    let new = g.T.Sink.taken c.visit-seen.new.sink in
+    let new = g.T.Sink.taken c.visit.new.sink in
     let before = g.T.Sink.failures c.args.sink.now in
-    let now = g.T.Sink.failures c.visit-seen.new.sink in
+    let now = g.T.Sink.failures c.visit.new.sink in
     let way = pair_way_on w c.in-Some.name c.deref.result.now c.push.new.self.items c.deref.ensures.value c.in_ok-push.ensures.items in
-    let put = spot_at trees.times s t w.met_left w.met_right c.visit-seen.new.met_left c.visit-seen.new.met_right _ (way_of_pair w ++ c.in-Some.name.now ∷ []) c.in-Some.left c.in-Some.right old new before now
-    (Ok c.in_ok-seen.field-0) way c.in_ok-seen.ensures in
+    let put = spot_at trees.times s t w.met_left w.met_right c.visit.new.met_left c.visit.new.met_right _ (way_of_pair w ++ c.in-Some.name.now ∷ []) c.in-Some.left c.in-Some.right old new before now
+    (Ok c.in_ok-seen.seen) way c.in_ok-seen.ensures in
     pair_step_failed trees.times s t w n old new before now c.from_residual-in_err-push-2.result OutOfMemory c.from_residual-in_err-push-2.ensures.1
-    (spot_put trees.times s t w n c.in-Some.name.now c.in-Some.left c.in-Some.right c.next.new.self c.visit-seen.new.met_left c.visit-seen.new.met_right c.in_ok-seen.field-0 old new before now c.in-Some.ensures put)
+    (spot_put trees.times s t w n c.in-Some.name.now c.in-Some.left c.in-Some.right c.next.new.self c.visit.new.met_left c.visit.new.met_right c.in_ok-seen.seen old new before now c.in-Some.ensures put)
 
 pub returns : goal.returns
 returns g c =
@@ -64,15 +64,15 @@ returns g c =
     let s = trees.left.now.state in
     let t = trees.right.now.state in
     let w = c.args.self.now in
-    let n : Walk = record w { path = c.push.new.self; left = c.replace.new.dest; above = c.push-2.new.self; met_left = c.visit-seen.new.met_left; met_right = c.visit-seen.new.met_right } in
+    let n : Walk = record w { path = c.push.new.self; left = c.replace.new.dest; above = c.push-2.new.self; met_left = c.visit.new.met_left; met_right = c.visit.new.met_right } in
     let old = g.T.Sink.taken c.args.sink.now in
-    let new = g.T.Sink.taken c.visit-seen.new.sink in
+    let new = g.T.Sink.taken c.visit.new.sink in
     let before = g.T.Sink.failures c.args.sink.now in
-    let now = g.T.Sink.failures c.visit-seen.new.sink in
+    let now = g.T.Sink.failures c.visit.new.sink in
     let way = pair_way_on w c.in-Some.name c.deref.result.now c.push.new.self.items c.deref.ensures.value c.in_ok-push.ensures.items in
-    let put = spot_at trees.times s t w.met_left w.met_right c.visit-seen.new.met_left c.visit-seen.new.met_right _ (way_of_pair w ++ c.in-Some.name.now ∷ []) c.in-Some.left c.in-Some.right old new before now
-    (Ok c.in_ok-seen.field-0) way c.in_ok-seen.ensures in
-    enters_pair trees.times s t w n c.in-Some.name.now c.in-Some.left c.in-Some.right c.next.new.self c.in_ok-seen.field-0 old new before now c.in-Some.ensures
+    let put = spot_at trees.times s t w.met_left w.met_right c.visit.new.met_left c.visit.new.met_right _ (way_of_pair w ++ c.in-Some.name.now ∷ []) c.in-Some.left c.in-Some.right old new before now
+    (Ok c.in_ok-seen.seen) way c.in_ok-seen.ensures in
+    enters_pair trees.times s t w n c.in-Some.name.now c.in-Some.left c.in-Some.right c.next.new.self c.in_ok-seen.seen old new before now c.in-Some.ensures
     (c.replace.ensures.after ∙ c.new-below.ensures)
     (c.in_ok-push-2.ensures.items ∙ ap (λ (l : List SharedName). w.above.items ++ l ∷ []) c.replace.ensures.value)
     (pair_way_on w c.in-Some.name c.push.new.self.items c.push.new.self.items refl c.in_ok-push.ensures.items)
