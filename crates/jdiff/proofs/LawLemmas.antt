@@ -1,14 +1,13 @@
 -- There are no lines exactly where two trees have the same entries.
-use Rattle.std.proofs.Common.{◌≡◌, ℕ, ◌&&◌, cond, Bool, true, false, List, [], ◌∷◌, ◌++◌, refl, sym, ap, ◌∙◌, subst, Option, Some, None}
-use Rattle.std.specs.Prelude.{⊤, IsTrue, ◌↔◌, filter_map, IfSome}
+use Rattle.std.proofs.Common.{◌≡◌, ℕ, cond, Bool, true, false, List, [], ◌∷◌, ◌++◌, refl, sym, ap, ◌∙◌, subst, Option, Some, None}
+use Rattle.std.specs.Prelude.{IsTrue, filter_map}
 use Rattle.std.specs.List.{AllByRecursion, cons_option}
 use Rattle.std.specs.declared.cmp.Ordering.TheVariants.{Less}
 use Rattle.jmount.specs.Tree.{State}
 use Rattle.jreport.specs.TreeText.{Item, Met, none_met, met_after, todo_after}
 use Rattle.jdiff.specs.Entries.{Entry, AreFound, entries_found, AreEntries}
 use Rattle.jdiff.specs.Changes.{is_same_object, first_difference, is_symlink, both_lines, bytes_differ_line, bytes_changes, changes}
-use Rattle.jdiff.specs.Pairing.{Place, path_cmp, AreInOrder, IsAtPath, ArePaired, lines_on}
-use Rattle.jdiff.specs.Differing.{AreDifferences}
+use Rattle.jdiff.specs.Pairing.{Place, path_cmp, AreInOrder, IsAtPath, lines_on}
 use Rattle.jdiff.specs.Laws.{IsSameEntry, AreSameEntries, SameTreesHaveNoLines}
 use Rattle.jdiff.proofs.ByteLemmas.{same_bytes, no_difference}
 use Rattle.jdiff.proofs.OrderLemmas.{not_before}

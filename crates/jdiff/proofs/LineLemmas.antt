@@ -1,6 +1,6 @@
 -- Lines that go out one after another.
 use Rattle.std.proofs.Common.{◌≡◌, ℕ, ◌≤◌, cond, true, false, length, arith, None, Bool, List, [], ◌∷◌, ◌++◌, sym, ap, ◌∙◌, subst, append-nil, Option, Some}
-use Rattle.std.specs.Prelude.{Result, Ok, Err, IsErr}
+use Rattle.std.specs.Prelude.{Result, Ok, IsErr}
 use Rattle.std.specs.Io.KnownBytes.{Appends}
 use Rattle.flashbase.specs.Device.{PutsPart, Puts, next_count}
 use Rattle.jdiff.specs.Entries.{Entry}

@@ -1,5 +1,5 @@
 -- The paths of places rise.
-use Rattle.std.proofs.Common.{◌≡◌, ℕ, List, [], ◌∷◌, ◌++◌, refl, sym, ap, ◌∙◌, subst, Option, ◌⊎◌, inl, inr, ⊎_elim}
+use Rattle.std.proofs.Common.{◌≡◌, ℕ, List, [], ◌∷◌, ◌++◌, refl, sym, ap, ◌∙◌, subst, ◌⊎◌, inl, inr, ⊎_elim}
 use Rattle.std.specs.Prelude.{⊤}
 use Rattle.std.specs.List.{AllByRecursion}
 use Rattle.std.specs.declared.cmp.Ordering.{Ordering}
@@ -10,7 +10,7 @@ use Rattle.jmount.specs.Tree.{State}
 use Rattle.jreport.specs.TreeText.{Met}
 use Rattle.jdiff.specs.Names.{SharedName, names_there, joined}
 use Rattle.jdiff.specs.Pairing.{Place, path_cmp, AreInOrder}
-use Rattle.jdiff.specs.Walking.{Spot, met_by, entered_at, spots_of, spot_place, spots_after, AreSpotPlaces}
+use Rattle.jdiff.specs.Walking.{Spot, met_by, entered_at, spots_of, spots_after, AreSpotPlaces}
 use Rattle.jdiff.proofs.NameLemmas.{name_cmp, AboveShared, RisingShared, joined_rising, there_rises}
 
 abbrev Path : Type 0

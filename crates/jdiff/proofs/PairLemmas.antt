@@ -7,10 +7,10 @@ use Rattle.std.specs.declared.cmp.Ordering.TheVariants.{Less, Equal, Greater}
 use Rattle.std.specs.Ordering.{nat_cmp}
 use Rattle.std.specs.Cmp.Lexicographic.{slice_cmp}
 use Rattle.std.proofs.lemmas.Bool.{false≢true}
-use Rattle.jmount.specs.Tree.{ObjectOf, State, object, is_there}
+use Rattle.jmount.specs.Tree.{ObjectOf, State, is_there}
 use Rattle.jmount.specs.Shown.{shown}
 use Rattle.jmount.specs.declared.object.Object.{Object}
-use Rattle.jdiff.specs.Names.{SharedName, join_first, joined}
+use Rattle.jdiff.specs.Names.{SharedName, joined}
 use Rattle.jdiff.specs.Sides.{names_behind, names_ahead}
 
 abbrev pub those_there : State → List (List ℕ × ℕ) → List (List ℕ × ℕ)

@@ -1,5 +1,5 @@
 -- The places of a walk from the roots on pair the entries of both trees.
-use Rattle.std.proofs.Common.{◌≡◌, ℕ, Bool, List, [], ◌∷◌, refl, sym}
+use Rattle.std.proofs.Common.{Bool, List, [], ◌∷◌, refl, sym}
 use Rattle.std.specs.Prelude.{filter_map}
 use Rattle.jmount.specs.Tree.{State}
 use Rattle.jreport.specs.TreeText.{none_met}

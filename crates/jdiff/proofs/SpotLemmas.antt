@@ -1,5 +1,5 @@
 -- A spot that is visited.
-use Rattle.std.proofs.Common.{◌≡◌, ℕ, Bool, List, [], length, refl, sym, ap, ◌∙◌, subst, Option, Result, Ok, Err}
+use Rattle.std.proofs.Common.{◌≡◌, ℕ, Bool, List, length, refl, sym, ap, ◌∙◌, subst, Option, Result, Ok, Err}
 use Rattle.std.specs.Prelude.{IfSome, IsErrAnd}
 use Rattle.std.specs.List.{flat_map}
 use Rattle.std.specs.BTreeSet.{BTreeSet}
@@ -12,7 +12,7 @@ use Rattle.jreport.specs.Walking.{met_of}
 use Rattle.jreport.specs.declared.faults.ProgramFault.{ProgramFault}
 use Rattle.jreport.specs.declared.faults.ProgramFault.TheVariants.{Output, OutOfMemory}
 use Rattle.jdiff.specs.Changes.{changes}
-use Rattle.jdiff.specs.Walking.{spot_entry, met_by, entered_at, found_at, directory_found, entries_here, IsFoundIn, spot_lines, spot_text, Spot, PutsSpot}
+use Rattle.jdiff.specs.Walking.{spot_entry, met_by, found_at, directory_found, entries_here, IsFoundIn, spot_lines, Spot, PutsSpot}
 use Rattle.jdiff.specs.declared.found.Found.{Found}
 use Rattle.jdiff.specs.declared.walk.Visited.{Visited}
 use Rattle.jdiff.proofs.FoundLemmas.{found_entry, found_directory, found_there}

@@ -1,5 +1,5 @@
 -- The steps of a walk through two trees.
-use Rattle.std.proofs.Common.{◌≡◌, ℕ, ◌+◌, ◌*◌, ◌-◌, ◌^◌, ◌<◌, ◌≤◌, Bool, true, false, List, [], ◌∷◌, ◌++◌, length, map, take, min, refl, sym, ap, ◌∙◌, subst, arith, append_assoc, append-nil, Option, Some, None, Result, Ok, Err, Bor}
+use Rattle.std.proofs.Common.{◌≡◌, ℕ, ◌+◌, ◌-◌, ◌^◌, ◌<◌, ◌≤◌, Bool, List, [], ◌∷◌, ◌++◌, length, map, take, min, refl, sym, ap, ◌∙◌, subst, arith, append_assoc, append-nil, Option, Some, None, Result, Ok, Err, Bor}
 use Rattle.std.specs.Prelude.{reverse, sum_by, IsErrAnd}
 use Rattle.std.specs.List.{flat_map}
 use Rattle.std.specs.BTreeSet.{BTreeSet}
@@ -19,10 +19,10 @@ use Rattle.jreport.specs.declared.faults.ProgramFault.{ProgramFault}
 use Rattle.jreport.specs.declared.faults.ProgramFault.TheVariants as program
 use Rattle.jreport.specs.declared.faults.ProgramFault.TheVariants.{Output, OutOfMemory}
 use Rattle.jdiff.specs.Changes.{changes}
-use Rattle.jdiff.specs.Differing.{AreDifferences, PutsPartOfDifferences, PutsDifferences}
+use Rattle.jdiff.specs.Differing.{PutsPartOfDifferences, PutsDifferences}
 use Rattle.jdiff.specs.Names.{SharedName, names_there, joined}
 use Rattle.jdiff.specs.Pairing.{Place, lines_on, text_on, count_on}
-use Rattle.jdiff.specs.Walking.{Spot, spot_entry, met_by, entered_at, spots_of, spot_place, spots_after, AreSpotPlaces, root_spot, spot_lines, spot_text, spots_up, way_of_pair, spots_left, AreLeft, names_to_go, steps_to_go, LeavesPlaces, PairGoesUp, PutsPartOfLeft, PutsPairStep}
+use Rattle.jdiff.specs.Walking.{Spot, spot_entry, met_by, entered_at, spots_of, spot_place, spots_after, AreSpotPlaces, root_spot, spot_lines, spot_text, spots_up, way_of_pair, spots_left, AreLeft, steps_to_go, PairGoesUp, PutsPartOfLeft, PutsPairStep}
 use Rattle.jdiff.specs.declared.walk.Walk.{Walk}
 use Rattle.jdiff.specs.declared.walk.Visited.{Visited}
 use Rattle.jdiff.proofs.LineLemmas.{changes_few}

@@ -3,16 +3,12 @@ use Rattle.std.proofs.Common.{◌≡◌, ℕ, zero, suc, ◌+◌, ◌≤◌, Boo
 use Rattle.std.specs.Prelude.{filter_map}
 use Rattle.std.specs.List.{AllByRecursion, cons_option}
 use Rattle.std.specs.declared.cmp.Ordering.TheVariants.{Less}
-use Rattle.std.specs.Ordering.{nat_cmp}
 use Rattle.std.specs.Cmp.{IsTotalOrder}
-use Rattle.std.specs.Cmp.Lexicographic.{slice_cmp}
 use Rattle.std.proofs.lemmas.Cmp.{nat_list_cmp_total, lists_total}
-use Rattle.jmount.specs.Tree.{State}
 use Rattle.jreport.specs.TreeText.{none_met}
 use Rattle.jdiff.specs.Entries.{Entry}
 use Rattle.jdiff.specs.Changes.{changes}
 use Rattle.jdiff.specs.Pairing.{Place, path_cmp, AreInOrder, IsAtPath, lines_on}
-use Rattle.jdiff.specs.Differing.{AreDifferences}
 use Rattle.jdiff.specs.Laws.{TreesHaveLines}
 use Rattle.jdiff.specs.Walking.{root_spot}
 use Rattle.jdiff.proofs.LawLemmas.{later_left, later_right, entries_are_one}

@@ -1,17 +1,13 @@
 -- The walk through two trees at once: what is still to compare, and what a step of it does.
-use Rattle.std.specs.Prelude.{◌≡◌, ℕ, ◌+◌, ◌*◌, ◌<◌, ◌==◌, ◌&&◌, not, Bool, List, [], ◌∷◌, ◌++◌, length, map, filter, reverse, sum_by, option_map, Option, Some, None, Result, Ok, Err, if◌then◌else◌}
-use Rattle.std.specs.Ordering.{nat_cmp}
-use Rattle.std.specs.declared.cmp.Ordering.{Ordering}
-use Rattle.std.specs.declared.cmp.Ordering.TheVariants.{Less, Equal, Greater}
-use Rattle.std.specs.Cmp.Lexicographic.{slice_cmp}
+use Rattle.std.specs.Prelude.{◌≡◌, ℕ, ◌+◌, ◌*◌, ◌<◌, ◌&&◌, Bool, List, [], ◌∷◌, ◌++◌, length, map, reverse, sum_by, option_map, Option, Some, None, Result, Ok, Err, if◌then◌else◌}
 use Rattle.std.specs.BTreeSet.{BTreeSet}
 use Rattle.std.specs.Io.KnownBytes.{Appends}
 use Rattle.flashbase.specs.Device.{PutsPart, next_count}
-use Rattle.jmount.specs.Tree.{State, object, is_there, is_directory, entries_in}
+use Rattle.jmount.specs.Tree.{State, object, is_directory}
 use Rattle.jmount.specs.Shown.{readable, shown}
 use Rattle.jmount.specs.Find.{way_up}
 use Rattle.jmount.specs.declared.object.Object.{Object}
-use Rattle.jreport.specs.TreeText.{Met, none_met, met_after, is_entered}
+use Rattle.jreport.specs.TreeText.{Met, met_after, is_entered}
 use Rattle.jreport.specs.Walking.{met_of, unmet}
 use Rattle.jreport.specs.declared.faults.ProgramFault.{ProgramFault}
 use Rattle.jreport.specs.declared.faults.ProgramFault.TheVariants.{Output, OutOfMemory}

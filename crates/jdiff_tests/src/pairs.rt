@@ -21,18 +21,29 @@ const PLAIN: Attributes = Attributes {
     mtime: 0,
 };
 
-/// Puts the lines on the images of these nodes, and answers how many, or nothing where the sink failed.
+/// An image of these nodes.
+fn image_of(alloc: Global, nodes: &[Node<'_>]) -> Result<Vec<u8>, &'static str> {
+    image_of_nodes::<LittleEndian>(alloc, nodes, PLAIN).map_err(|_| "no image")
+}
+
+/// An image of a file with these bytes.
+fn image_of_file(alloc: Global, bytes: &[u8]) -> Result<Vec<u8>, &'static str> {
+    image_of(
+        alloc,
+        &[Node::Inode(2, FILE, bytes), Node::Entry(1, 2, b"f")],
+    )
+}
+
+/// Puts the lines on two images, and answers how many, or nothing where the sink failed.
 fn put<T: Sink>(
     alloc: Global,
-    left: &[Node<'_>],
-    right: &[Node<'_>],
+    left: &[u8],
+    right: &[u8],
     times: bool,
     sink: &mut T,
 ) -> Result<Option<u64>, &'static str> {
-    let one = image_of_nodes::<LittleEndian>(alloc, left, PLAIN).map_err(|_| "no image")?;
-    let other = image_of_nodes::<LittleEndian>(alloc, right, PLAIN).map_err(|_| "no image")?;
-    let one = mount::<LittleEndian>(alloc, &one, GEOMETRY).map_err(|_| "no mount")?;
-    let other = mount::<LittleEndian>(alloc, &other, GEOMETRY).map_err(|_| "no mount")?;
+    let one = mount::<LittleEndian>(alloc, left, GEOMETRY).map_err(|_| "no mount")?;
+    let other = mount::<LittleEndian>(alloc, right, GEOMETRY).map_err(|_| "no mount")?;
     match put_differences(alloc, &one, &other, times, sink) {
         Ok(count) => Ok(Some(count)),
         Err(_) => Ok(None),
@@ -108,20 +119,35 @@ const ONCE: &[Node<'static>] = &[Node::Inode(2, DIRECTORY, b""), Node::Entry(1, 
 
 const AGAIN_LINES: &str = "- d 0755 0 0 0 /a/c (again)\n- d 0755 0 0 0 /b (again)\n";
 
-const ROWS: [Row; 6] = [
+const OURS: &[Node<'static>] = &[
+    Node::Owned(2, FILE, b"abc", 1, 2, 5),
+    Node::Entry(1, 2, b"a"),
+];
+
+const THEIRS: &[Node<'static>] = &[
+    Node::Owned(2, FILE, b"abc", 2, 1, 5),
+    Node::Entry(1, 2, b"a"),
+];
+
+const OWNERS: &str = "- - 0644 1 2 3 /a\n+ - 0644 2 1 3 /a\n";
+
+const ROWS: [Row; 7] = [
     (&[], &[], true, "", 0),
     (LEFT, LEFT, true, "", 0),
     (LEFT, RIGHT, false, CHANGED, 9),
     (LEFT, RIGHT, true, CHANGED_WITH_TIMES, 10),
     (AGAIN, ONCE, false, AGAIN_LINES, 2),
     (AGAIN, AGAIN, false, "", 0),
+    (OURS, THEIRS, false, OWNERS, 2),
 ];
 
 #[test]
 fn worked_pairs(rt: HostRuntime) -> Result<(), Fail> {
     for (left, right, times, text, count) in ROWS {
+        let one = image_of(rt.alloc(), left)?;
+        let other = image_of(rt.alloc(), right)?;
         let mut sink = Taker::new(rt.alloc());
-        let lines = put(rt.alloc(), left, right, times, &mut sink)?;
+        let lines = put(rt.alloc(), &one, &other, times, &mut sink)?;
         equal(&rt, sink.bytes.as_slice(), text.as_bytes());
         equal(&rt, lines, Some(count));
     }
@@ -134,8 +160,8 @@ fn a_later_byte(rt: HostRuntime) -> Result<(), Fail> {
     let bytes = vec![in rt.alloc(); b'x'; 5000]?;
     let mut other = vec![in rt.alloc(); b'x'; 4096]?;
     other.resize(5000, b'y')?;
-    let left = [Node::Inode(2, FILE, &bytes), Node::Entry(1, 2, b"f")];
-    let right = [Node::Inode(2, FILE, &other), Node::Entry(1, 2, b"f")];
+    let left = image_of_file(rt.alloc(), &bytes)?;
+    let right = image_of_file(rt.alloc(), &other)?;
     let mut sink = Taker::new(rt.alloc());
     let lines = put(rt.alloc(), &left, &right, false, &mut sink)?;
     equal(&rt, sink.bytes.as_slice(), b"* /f at 4096\n".as_slice());
@@ -146,9 +172,11 @@ fn a_later_byte(rt: HostRuntime) -> Result<(), Fail> {
 /// Each has taken a beginning of the lines.
 #[test]
 fn sinks_that_fail(rt: HostRuntime) -> Result<(), Fail> {
+    let left = image_of(rt.alloc(), LEFT)?;
+    let right = image_of(rt.alloc(), RIGHT)?;
     for limit in [0, 1, 9, 10, 11, 12, 60, 100, 168] {
         let mut sink = Taker::limited(rt.alloc(), 7, limit);
-        let lines = put(rt.alloc(), LEFT, RIGHT, false, &mut sink)?;
+        let lines = put(rt.alloc(), &left, &right, false, &mut sink)?;
         let wanted = CHANGED.as_bytes().get(..limit).ok_or("short")?;
         expect_at(&rt, lines.is_none() && sink.took(1, wanted), limit);
     }

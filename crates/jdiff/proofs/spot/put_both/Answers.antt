@@ -1,4 +1,4 @@
-use Rattle.std.proofs.Common.{ℕ, List, [], ◌++◌, map}
+use Rattle.std.proofs.Common.{ℕ, [], ◌++◌, map}
 use Rattle.jdiff.specs.Changes.{removed_line, added_line}
 use Rattle.jdiff.specs.Walking.{entry_found}
 use Rattle.flashbase.specs.declared.source.DeviceFault.{DeviceFault}

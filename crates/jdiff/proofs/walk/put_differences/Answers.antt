@@ -1,4 +1,4 @@
-use Rattle.std.proofs.Common.{◌∙◌, ℕ, subst, Ok, Some, None, Option}
+use Rattle.std.proofs.Common.{◌∙◌, ℕ, subst, Ok, Option}
 use Rattle.jdiff.specs.declared.walk.Walk.{Walk}
 use Rattle.jdiff.proofs.StepLemmas.{PutsPairStepOn, roots_entered, roots_failed, places_on, places_end, pair_stopped, differences_failed}
 use Rattle.jdiff.proofs.walk.put_differences.Goals as goal

@@ -1,4 +1,4 @@
-use Rattle.std.proofs.Common.{ℕ, List, map, Option}
+use Rattle.std.proofs.Common.{map}
 use Rattle.jdiff.proofs.SpotLemmas.{found_is_there, spot_visited, spot_memory, spot_output}
 use Rattle.jdiff.proofs.walk.visit.Goals as goal
 

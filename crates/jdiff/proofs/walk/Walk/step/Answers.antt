@@ -1,4 +1,4 @@
-use Rattle.std.proofs.Common.{ℕ, List, [], ◌∷◌, ◌++◌, refl, ap, ◌∙◌, Ok, Err, Option}
+use Rattle.std.proofs.Common.{List, [], ◌∷◌, ◌++◌, refl, ap, ◌∙◌, Ok, Err}
 use Rattle.jdiff.specs.Names.{SharedName}
 use Rattle.jdiff.specs.Walking.{way_of_pair}
 use Rattle.jdiff.specs.declared.walk.Walk.{Walk}
