@@ -1,4 +1,4 @@
-//! What changed between two mounted images: `diff`.
+//! Where two mounted images differ.
 //!
 //! It is built on `jmount` (mounted images), `jreport` (the walk of `ls`, and faults) and `jline` (lines of text). Its promise
 //! to the program: what goes to a sink is a line for each path at which the two trees differ, in order; there is none exactly
