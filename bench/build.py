@@ -1,5 +1,5 @@
 #!/usr/bin/env python3
-"""Compares `build` and `append` with other makers of images: python3 bench/build.py FOLDER [RUNS] [CRATES]
+"""Compares `build`, `cuts` and `append` with other makers of images: python3 bench/build.py FOLDER [RUNS] [CRATES]
 
 Two trees are made in the folder, each of about 62 MiB: 62 files of 1 MiB, and 16,000 of 3,900 bytes, and for each a listing
 that builds it. mkfs.jffs2 is that of mtd-utils; where it is missing it is left out. As `build` does it writes little order,
@@ -41,6 +41,7 @@ def make(name, count, length):
 def commands(name):
     """The commands that make an image of a tree, or go on from one: a name for each, and its words."""
     yield "build", [PROGRAM, "build", *BLOCKS, name + ".txt", name + ".img"]
+    yield "cuts", [PROGRAM, "cuts", *BLOCKS, name + ".txt"]
     yield "build --page 16384", [PROGRAM, "build", *BLOCKS, "--page", "16384", name + ".txt", name + ".large"]
     if shutil.which("mkfs.jffs2"):
         made = ["mkfs.jffs2", "-m", "none", "-l", "-e", "64KiB", "-r", name, "-o", name + ".mkfs"]

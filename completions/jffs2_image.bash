@@ -13,6 +13,7 @@ _jffs2_image_options() {
         extract) echo "$plain --decompress --owners --quiet $help" ;;
         listing) echo "--owner --time --quiet $help" ;;
         info) echo "$help" ;;
+        cuts) echo "$plain $write --on $help" ;;
         diff) echo "$plain --times $help" ;;
         '') echo "$help -V --version" ;;
     esac
@@ -22,7 +23,7 @@ _jffs2_image_options() {
 _jffs2_image_count() {
     case $1 in
         --owner) echo 2 ;;
-        --block | --endian | --blocks | --page | --time) echo 1 ;;
+        --block | --endian | --blocks | --page | --time | --on) echo 1 ;;
         *) echo 0 ;;
     esac
 }
@@ -39,10 +40,8 @@ _jffs2_image_values() {
 # How `compgen` finds a command's word at this place, counted from 0.
 _jffs2_image_kind() {
     case $1:$2 in
-        check:0 | ls:0 | cat:0 | build:[01] | append:[012] | decompress:[01] | extract:0)
-            echo -f
-            ;;
-        info:0 | diff:[01])
+        check:0 | ls:0 | cat:0 | build:[01] | append:[012] | decompress:[01] | extract:0 | info:0 | \
+            cuts:0 | diff:[01])
             echo -f
             ;;
         extract:1 | listing:0) echo -d ;;
@@ -50,7 +49,7 @@ _jffs2_image_kind() {
 }
 
 _jffs2_image() {
-    local commands='check ls cat build append decompress extract listing info diff help'
+    local commands='check ls cat build append decompress extract listing info cuts diff help'
     local current=${COMP_WORDS[COMP_CWORD]} command='' option='' place=0 values=0 word kind
     # bash cuts --option=value into three words
     for word in "${COMP_WORDS[@]:1:COMP_CWORD-1}"; do

@@ -893,4 +893,58 @@ line="standard error is closed"
 line="standard error is /dev/full"
 "$program" check --scan none > out 2> /dev/full; got=$?; : > err; want 1 "" ""
 
+# What stands after a stop: the lines of each operation, and of a weak node
+first=$'0000000c 68 line 1 step 1 of 2 stands from 00000050\n00000050 41 line 1 step 2 of 2 stands from 00000079'
+lines listing "create 0644 /a"
+run cuts --block 8192 --blocks 1 listing
+want 0 "$first"$'\ntotal operations 1 steps 2 from 00000000 to 0000007c weak 0' ""
+lines listing "create 0644 /a" "write /a 0 ffffff"
+run cuts --block 8192 --blocks 1 listing
+want 0 "$first"$'\n0000007c 71 line 2 step 1 of 1 stands from 000000c0\ntotal operations 2 steps 3 from 00000000 to 000000c4 weak 0' ""
+lines listing "create 0644 /a" "write /a 0 bef98e24fe"
+for order in little big; do
+    run cuts --block 8192 --blocks 1 --endian $order listing
+    want 3 "$first"$'\n0000007c 73 line 2 step 1 of 1 stands from 000000c5\nweak 0000007c at 68\ntotal operations 2 steps 3 from 00000000 to 000000c8 weak 1' ""
+done
+# cut there it shows a file of five bytes 0xFF, which nobody wrote
+run build --block 8192 --blocks 1 listing weak_image; want 0 "accepted 2 nodes 3 bytes 200" ""
+head -c $((0x7c + 68)) weak_image > cut_image
+run cat --block 8192 cut_image /a; want 0 "*" ""
+same out <(bytes ff ff ff ff ff)
+# on a base, from its next block on; and with no operation
+run cuts --block 8192 --blocks 2 --on weak_image create_b
+want 0 $'0000200c 68 line 1 step 1 of 2 stands from 00002050\n00002050 41 line 1 step 2 of 2 stands from 00002079\ntotal operations 1 steps 2 from 00002000 to 0000207c weak 0' ""
+run cuts --block 8192 --blocks 1 --on weak_image /dev/null
+want 0 "total operations 0 steps 0 from 00002000 to 00002000 weak 0" ""
+# what is refused: the lines of the operations before it stand
+lines listing "create 0644 /a" "" "create 0644 /a"
+run cuts --block 8192 --blocks 1 listing; want 1 "$first" "jffs2_image: S1 Refused O5 Exists line 3"
+run cuts --block 8192 --blocks 1 --on weak_image create_b; want 1 "" "jffs2_image: S2 Full needed 112 free 0 line 1"
+run cuts --blocks 0 listing; want 1 "" "jffs2_image: S7 Geometry"
+run cuts --block 8192 --blocks 1 --page 8192 listing; want 1 "" "jffs2_image: S7 Geometry"
+lines listing "paint /a"
+run cuts --blocks 1 listing; want 1 "" "jffs2_image: P2 Listing line 1"
+lines listing "create 0644 /a" "part /a 0 none"
+run cuts --blocks 1 listing; want 1 "" "jffs2_image: P1 File none"
+run cuts --blocks 1 none; want 1 "" "jffs2_image: P1 File none"
+run cuts --blocks 1 --on none listing; want 1 "" "jffs2_image: P1 File none"
+run cuts --blocks 1 --on folder listing; want 1 "" "jffs2_image: L1 Device"
+run cuts listing; want 2 "" "error: *--blocks*"
+run cuts --blocks 1 listing out; want 2 "" "error: unexpected argument 'out' found*"
+run cuts --blocks 1 --page 512 listing; want 2 "" "error: invalid value '512' for '--page <N>': *"
+# The commands of docs/POWER-CUTS.md: each block of its section on `cuts`, and what the next one says that it prints
+block_of() {
+    awk -v open="\`\`\`$1" -v want="$2" '/^## / { here = /^## See it on your own image/ } /^```$/ { inside = 0 }
+        inside { print } here && $0 == open { inside = ++n == want }' "$top/docs/POWER-CUTS.md"
+}
+jffs2_image() { "$program" "$@"; }
+mkdir power_cuts
+for block in 1 2 3 4 5; do
+    line="docs/POWER-CUTS.md, commands $block"
+    (cd power_cuts && set -e && eval "$(block_of sh $block)") > out 2> err; got=$?
+    want 0 "$(block_of text $block)" "*"
+done
+line="docs/POWER-CUTS.md has five blocks of commands on cuts, the last of five lines"
+got="$(block_of sh 5 | wc -l) $(block_of sh 6 | wc -l)"; want "5 0" "*" "*"
+
 finish

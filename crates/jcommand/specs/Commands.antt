@@ -95,6 +95,11 @@ listing_app = with_rule
 abbrev pub info_app : App
 info_app = with_rule (new_app (codes "info")) (word (codes "IMAGE"))
 
+-- `cuts --blocks N [--page N] [--on IMAGE] [--block N] [--endian ORDER] LISTING`
+abbrev pub cuts_app : App
+cuts_app =
+    with_rule (with_rule (writer (codes "cuts")) (option_of (codes "on"))) (word (codes "LISTING"))
+
 -- `diff [--times] [--block N] [--endian ORDER] A B`
 abbrev pub diff_app : App
 diff_app = with_rule (with_rule (with_rule (plain_command (codes "diff")) (flag (codes "times")))
@@ -112,9 +117,10 @@ program = with_subcommand
     (with_subcommand
     (with_subcommand
     (with_subcommand
+    (with_subcommand
     (with_subcommand (with_subcommand (with_subcommand (with_subcommand bare
     check_app.top) ls_app.top) cat_app.top) build_app.top) append_app.top) decompress_app.top)
-    extract_app.top) listing_app.top) info_app.top) diff_app.top
+    extract_app.top) listing_app.top) info_app.top) cuts_app.top) diff_app.top
 
 -- ---- what is made
 

@@ -88,6 +88,7 @@ pub data TaskParsed : Type 0 where
   ExtractParsed : Options → Bool → Bool → Bool → Text → Text → TaskParsed
   ListingParsed : Option Owner → Option ℕ → Bool → Text → TaskParsed
   InfoParsed : Text → TaskParsed
+  CutsParsed : Options → ℕ → Page → Option Text → Text → TaskParsed
   DiffParsed : Options → Bool → Text → Text → TaskParsed
 
 abbrev pub task_view : Task → TaskParsed
@@ -96,6 +97,8 @@ task_view (task.Extract x) =
     ExtractParsed x.options x.decompress x.owners x.quiet x.image.now x.folder.now
 task_view (task.Listing l) = ListingParsed l.owner l.time l.quiet l.folder.now
 task_view (task.Info image) = InfoParsed image.now
+task_view (task.Cuts x) =
+    CutsParsed x.options x.blocks x.page (option_map (λ name. name.now) x.on) x.listing.now
 task_view (task.Diff d) = DiffParsed d.options d.times d.first.now d.second.now
 
 abbrev pub options_of : Request → Options
@@ -175,6 +178,13 @@ listing_in rows = if_given (all_of (codes "owner") rows) owner_of >>= λ owner.
 abbrev pub info_in : List Row → Option TaskParsed
 info_in rows = first_of (codes "IMAGE") rows >>= λ image. Some (InfoParsed image)
 
+-- the image that is gone on from may be left out
+abbrev pub cuts_in : List Row → Option TaskParsed
+cuts_in rows = options_in rows >>= λ options. number_option (codes "blocks") rows >>= λ blocks.
+    (first_of (codes "page") rows >>= page_of) >>= λ page.
+    first_of (codes "LISTING") rows >>= λ listing.
+    Some (CutsParsed options blocks page (first_of (codes "on") rows) listing)
+
 abbrev pub diff_in : List Row → Option TaskParsed
 diff_in rows = options_in rows >>= λ options. first_of (codes "A") rows >>= λ first.
     first_of (codes "B") rows >>= λ second.
@@ -193,6 +203,7 @@ parsed name rows =
     else if bytes_eq name (codes "extract") then extract_in rows
     else if bytes_eq name (codes "listing") then listing_in rows
     else if bytes_eq name (codes "info") then info_in rows
+    else if bytes_eq name (codes "cuts") then cuts_in rows
     else if bytes_eq name (codes "diff") then diff_in rows
     else None
 
@@ -244,5 +255,6 @@ abbrev pub IsNoRequest : Option TaskParsed → Type 0
 IsNoRequest (Some (ExtractParsed options decompress owners quiet image folder)) = Unit {0}
 IsNoRequest (Some (ListingParsed owner time quiet folder)) = Unit {0}
 IsNoRequest (Some (InfoParsed image)) = Unit {0}
+IsNoRequest (Some (CutsParsed options blocks page on listing)) = Unit {0}
 IsNoRequest (Some (DiffParsed options times first second)) = Unit {0}
 IsNoRequest _ = ⊥

@@ -197,9 +197,12 @@ pub fn request<'a>(alloc: Global, args: &'a [&'a str]) -> Result<Request<'a>, Re
 {
     match task(alloc, args) {
         Ok(Task::Image(request)) => Ok(request),
-        Ok(Task::Extract(_) | Task::Listing(_) | Task::Info { .. } | Task::Diff(_)) => {
-            Err(usage(String::from_str(alloc, "error: the command makes no request of an image\n")))
-        }
+        Ok(
+            Task::Extract(_) | Task::Listing(_) | Task::Info { .. } | Task::Cuts(_) | Task::Diff(_),
+        ) => Err(usage(String::from_str(
+            alloc,
+            "error: the command makes no request of an image\n",
+        ))),
         Err(fault) => Err(fault),
     }
 }

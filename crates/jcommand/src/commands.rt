@@ -1,7 +1,7 @@
 //! The command line, built with clap: the program, its subcommands, and the words that each one takes.
 ghost use Rattle.std.specs.Prelude.{◌≡◌, Ok};
 ghost use Rattle.clap.specs.Words.{App, Rule, new_app, with_rule, with_subcommand};
-ghost use Rattle.jcommand.specs.Commands.{IsApp, IsRule, MakesApp, word, option_or, required_option, option_of, option_of_two, flag, plain_command, writer, check_app, ls_app, cat_app, build_app, append_app, decompress_app, extract_app, listing_app, info_app, diff_app, bare, program};
+ghost use Rattle.jcommand.specs.Commands.{IsApp, IsRule, MakesApp, word, option_or, required_option, option_of, option_of_two, flag, plain_command, writer, check_app, ls_app, cat_app, build_app, append_app, decompress_app, extract_app, listing_app, info_app, cuts_app, diff_app, bare, program};
 
 use crate::help;
 use clap::{Arg, ArgAction, Command};
@@ -219,6 +219,15 @@ fn make_info<'a>(alloc: Global) -> Made<'a>
     add_arg(Ok(command), image)
 }
 
+fn make_cuts<'a>(alloc: Global) -> Made<'a>
+    ensures { MakesApp result cuts_app }
+{
+    let on = make_optional(alloc, "on", "IMAGE", help::ON);
+    let listing = make_word(alloc, "LISTING", help::LISTING);
+    let command = make_writer(alloc, "cuts", help::CUTS, help::CUTS_EPILOGUE);
+    add_arg(add_arg(command, on), listing)
+}
+
 fn make_diff<'a>(alloc: Global) -> Made<'a>
     ensures { MakesApp result diff_app }
 {
@@ -251,5 +260,6 @@ pub(crate) fn make_program<'a>(alloc: Global) -> Made<'a>
     let command = add_subcommand(command, make_extract(alloc));
     let command = add_subcommand(command, make_listing(alloc));
     let command = add_subcommand(command, make_info(alloc));
+    let command = add_subcommand(command, make_cuts(alloc));
     add_subcommand(command, make_diff(alloc))
 }

@@ -23,6 +23,10 @@ pub(crate) const LISTING_OF: &str = "Print the listing that builds a folder of t
 
 pub(crate) const INFO: &str = "Print what an image shows of its byte order, blocks and nodes";
 
+pub(crate) const CUTS: &str = "Print from which byte on each step of a listing stands after a stop";
+
+pub(crate) const ON: &str = "Image that is gone on from, as by append";
+
 pub(crate) const DIFF: &str = "Print where the trees of two images differ";
 
 pub(crate) const BLOCK: &str = "Erase block size: 4096 to 4194304 bytes";
@@ -68,8 +72,8 @@ pub(crate) const OUT: &str = "File that is made, or written over, with the bytes
 /// What is at the end of the program's help.
 pub(crate) const EPILOGUE: &str = "\
 Each command but listing and info takes --block, the size of an erase block,
-which is a multiple of 4, and --endian, the byte order. build and append need
---blocks too, the number of blocks. 'jffs2_image help build' tells what a
+which is a multiple of 4, and --endian, the byte order. build, append and cuts
+need --blocks too, the number of blocks. 'jffs2_image help build' tells what a
 listing is, 'jffs2_image help check' what check prints, and so for the others.
 
 The data of an image that Linux or mkfs.jffs2 wrote are often compressed. ls,
@@ -83,6 +87,7 @@ Examples:
   jffs2_image cat --endian big flash.img /etc/passwd
   jffs2_image build --blocks 64 tree.txt flash.img
   jffs2_image append --blocks 64 flash.img more.txt new.img
+  jffs2_image cuts --blocks 64 --on flash.img more.txt
   jffs2_image decompress dump.img flash.img
   jffs2_image extract --decompress dump.img tree
   jffs2_image listing tree > tree.txt
@@ -92,8 +97,8 @@ Exit status:
   0  done, and nothing was found
   1  a fault, which standard error names
   2  the command line is wrong
-  3  check found something, diff a difference, info no node, or extract or
-     listing left something out
+  3  check found something, diff a difference, info no node, cuts a weak
+     node, or extract or listing left something out
 
 A fault is one line, as 'jffs2_image: M6 RootKind'. Its letter says what gave
 up: C the report, L reading a file, M the mount, Z compressed data, S the
@@ -355,6 +360,37 @@ Exit status:
   1  a fault, which standard error names
   2  the command line is wrong
   3  no node was found";
+
+pub(crate) const CUTS_EPILOGUE: &str = "\
+It plans what build would write of LISTING, or append with --on, and writes
+nothing. Each operation is written as a few nodes, a step of the file system
+each. In the order of their addresses, a line a node, it prints
+
+  A N line L step S of T stands from B
+
+  A  address of the node, and N its number of bytes
+  L  line of the listing, of whose T steps this is the step S
+  B  the node is whole exactly where the bytes below address B were written
+
+Where power fails, what is left mounts as the file system after exactly the
+steps whose B is at most the address of the stop, unless a node is weak. Below
+the line of a weak node stands 'weak A at J': a stop after its first J bytes
+leaves a node that passes every check and that nobody wrote. Last comes
+
+  total operations O steps N from R to E weak W
+
+R is where writing begins, E where it ends, W the number of weak nodes. The
+first operation that is refused is the last: the fault has the number of its
+line, and the lines of the operations before it stand.
+
+Example:
+  jffs2_image cuts --blocks 64 --on flash.img more.txt
+
+Exit status:
+  0  done, and no node is weak
+  1  a fault, which standard error names
+  2  the command line is wrong
+  3  a node is weak";
 
 pub(crate) const DIFF_EPILOGUE: &str = "\
 Both images are mounted with the same --block and --endian. It prints a line for

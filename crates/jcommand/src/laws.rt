@@ -3,7 +3,7 @@ ghost use Rattle.std.specs.Prelude.{◌≡◌, true, false, [], ◌∷◌, Some,
 ghost use Rattle.clap.specs.Words.{fault_of};
 ghost use Rattle.clap.specs.declared.error.ErrorKind.TheVariants.{DisplayHelp, DisplayVersion, MissingSubcommand, MissingRequiredArgument, UnknownArgument, WrongNumberOfValues};
 ghost use Rattle.jnode.specs.declared.order.Endian.TheVariants.{Little, Big};
-ghost use Rattle.jcommand.specs.Parsed.{ScanParsed, CheckParsed, ListParsed, CatParsed, BuildParsed, AppendParsed, DecompressParsed, ImageParsed, ExtractParsed, ListingParsed, InfoParsed, DiffParsed, parsed_from, endian_of, decimal_number, owner_of, page_of};
+ghost use Rattle.jcommand.specs.Parsed.{ScanParsed, CheckParsed, ListParsed, CatParsed, BuildParsed, AppendParsed, DecompressParsed, ImageParsed, ExtractParsed, ListingParsed, InfoParsed, CutsParsed, DiffParsed, parsed_from, endian_of, decimal_number, owner_of, page_of};
 ghost use Rattle.jsteps.specs.declared.page.Page.TheVariants.{P4096, P8192, P16384};
 ghost use Rattle.jcommand.specs.Commands.{program};
 
@@ -87,6 +87,14 @@ pub fn known_requests()
         ≡ Some (ListingParsed (Some (record { uid = 0; gid = 7 })) (Some 9) false (codes "a")) }
     ensures told { parsed_from (codes "jffs2_image" ∷ codes "info" ∷ codes "a" ∷ [])
         ≡ Some (InfoParsed (codes "a")) }
+    ensures cut { parsed_from (codes "jffs2_image" ∷ codes "cuts" ∷ codes "--on=b"
+        ∷ codes "--blocks" ∷ codes "2" ∷ codes "a" ∷ [])
+        ≡ Some (CutsParsed (record { geometry = record { block = 65536 }; endian = Little }) 2 P4096
+        (Some (codes "b")) (codes "a")) }
+    ensures cut_alone { parsed_from (codes "jffs2_image" ∷ codes "cuts" ∷ codes "--page=8192"
+        ∷ codes "--blocks=2" ∷ codes "a" ∷ [])
+        ≡ Some (CutsParsed (record { geometry = record { block = 65536 }; endian = Little }) 2 P8192
+        None (codes "a")) }
     ensures compared { parsed_from
         (codes "jffs2_image" ∷ codes "diff" ∷ codes "a" ∷ codes "--block=8192" ∷ codes "b" ∷ [])
         ≡ Some (DiffParsed (record { geometry = record { block = 8192 }; endian = Little }) false
@@ -128,6 +136,8 @@ pub fn known_refusals()
         (codes "jffs2_image" ∷ codes "decompress" ∷ codes "a" ∷ []) ≡ MissingRequiredArgument ∷ [] }
     ensures not_of_info { fault_of program (codes "jffs2_image" ∷ codes "info"
         ∷ codes "--block=4096" ∷ codes "a" ∷ []) ≡ UnknownArgument ∷ [] }
+    ensures no_flash { fault_of program (codes "jffs2_image" ∷ codes "cuts" ∷ codes "a" ∷ [])
+        ≡ MissingRequiredArgument ∷ [] }
     ensures no_second { fault_of program (codes "jffs2_image" ∷ codes "diff" ∷ codes "a" ∷ [])
         ≡ MissingRequiredArgument ∷ [] }
     ensures no_folder { fault_of program (codes "jffs2_image" ∷ codes "extract" ∷ codes "a" ∷ [])

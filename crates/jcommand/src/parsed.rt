@@ -1,7 +1,7 @@
 //! What the matches of the program's command line ask for.
 ghost use Rattle.std.specs.Prelude.{◌≡◌, IfSome, codes, map, option_map};
 ghost use Rattle.clap.specs.Words.{found_of, rows_of, all_of, first_of};
-ghost use Rattle.jcommand.specs.Parsed.{decimal_number, endian_of, page_of, number_option, options_in, image_in, is_given, check_in, is_decompressed, ls_in, cat_in, writing_in, build_in, append_in, decompress_in, extract_in, listing_in, info_in, diff_in, owner_number, owner_of, if_given, parsed, options_of, task_view, view};
+ghost use Rattle.jcommand.specs.Parsed.{decimal_number, endian_of, page_of, number_option, options_in, image_in, is_given, check_in, is_decompressed, ls_in, cat_in, writing_in, build_in, append_in, decompress_in, extract_in, listing_in, info_in, cuts_in, diff_in, owner_number, owner_of, if_given, parsed, options_of, task_view, view};
 
 use clap::ArgMatches;
 use jnode::Endian;
@@ -115,6 +115,17 @@ pub struct FolderListing<'a> {
     pub folder: &'a str,
 }
 
+/// What `build` would write of a listing, or `append` on an image.
+#[derive(Clone, Copy)]
+pub struct Cuts<'a> {
+    pub options: Options,
+    pub blocks: u32,
+    pub page: Page,
+    /// The image, if one is given.
+    pub on: Option<&'a str>,
+    pub listing: &'a str,
+}
+
 /// What the trees of two images differ in; with `--times`, in times of change too.
 #[derive(Clone, Copy)]
 pub struct Comparison<'a> {
@@ -135,6 +146,8 @@ pub enum Task<'a> {
     Listing(FolderListing<'a>),
     /// `info`: what an image tells of itself, whose block size and byte order nobody says.
     Info { image: &'a str },
+    /// `cuts`: what stands after a stop of writing.
+    Cuts(Cuts<'a>),
     /// `diff`.
     Diff(Comparison<'a>),
 }
@@ -409,6 +422,21 @@ fn info_at<'a>(found: &ArgMatches<'a>) -> Option<Task<'a>>
     Some(Task::Info { image })
 }
 
+fn cuts_at<'a>(found: &ArgMatches<'a>) -> Option<Task<'a>>
+    ensures { option_map task_view result ≡ cuts_in (rows_of (found_of found.now)) }
+{
+    let options = options_at(found)?;
+    let blocks = number_at(found, "blocks")?;
+    let page = page(text_at(found, "page")?)?;
+    Some(Task::Cuts(Cuts {
+        options,
+        blocks,
+        page,
+        on: text_at(found, "on"),
+        listing: text_at(found, "LISTING")?,
+    }))
+}
+
 fn diff_at<'a>(found: &ArgMatches<'a>) -> Option<Task<'a>>
     ensures { option_map task_view result ≡ diff_in (rows_of (found_of found.now)) }
 {
@@ -438,6 +466,7 @@ pub(crate) fn parsed_of<'a>(name: &str, found: &ArgMatches<'a>) -> Option<Task<'
         "extract" => extract_at(found),
         "listing" => listing_at(found),
         "info" => info_at(found),
+        "cuts" => cuts_at(found),
         "diff" => diff_at(found),
         _ => None,
     }

@@ -3,8 +3,8 @@
 
 use crate::checks::{equal, equal_at, expect, expect_at};
 use jcommand::{
-    Comparison, Extraction, FolderListing, Options, Outcome, Owner, Request, RequestFault, Target,
-    Task, status, task,
+    Comparison, Cuts, Extraction, FolderListing, Options, Outcome, Owner, Request, RequestFault,
+    Target, Task, status, task,
 };
 use jnode::Endian;
 use std::alloc::{AllocError, Global};
@@ -76,6 +76,22 @@ fn shown(alloc: Global, request: Request<'_>) -> Result<String, AllocError> {
     }
 }
 
+/// What is to be told of a stop in the same way; `-` where no image is gone on from.
+fn shown_cuts(alloc: Global, asked: Cuts<'_>) -> Result<String, AllocError> {
+    let Cuts {
+        options,
+        blocks,
+        page,
+        on,
+        listing,
+    } = asked;
+    let block = options.geometry.block;
+    let is_big = options.endian == Endian::Big;
+    let page = page.size();
+    let on = on.unwrap_or("-");
+    format!(in alloc; "cuts {block} {is_big} {blocks} {page} {on} {listing}")
+}
+
 fn shown_comparison(alloc: Global, asked: Comparison<'_>) -> Result<String, AllocError> {
     let Comparison {
         options,
@@ -120,6 +136,7 @@ fn shown_task(alloc: Global, task: Task<'_>) -> Result<String, AllocError> {
             format!(in alloc; "listing {uid} {gid} {time} {quiet} {folder}")
         }
         Task::Info { image } => format!(in alloc; "info {image}"),
+        Task::Cuts(asked) => shown_cuts(alloc, asked),
         Task::Diff(asked) => shown_comparison(alloc, asked),
     }
 }
@@ -201,7 +218,12 @@ fn args_that_ask_for_something(rt: HostRuntime) -> Result<(), Fail> {
 }
 
 /// Lines that ask to write, and what they ask for.
-const WRITING: [(&str, &str); 12] = [
+const WRITING: [(&str, &str); 14] = [
+    ("t cuts --blocks 8 a.txt", "cuts 65536 false 8 4096 - a.txt"),
+    (
+        "t cuts a.txt --on b.img --page=8192 --endian big --block 8192 --blocks=7",
+        "cuts 8192 true 7 8192 b.img a.txt",
+    ),
     (
         "t build --blocks 8 a.txt b.img",
         "build 65536 little 8 4096 a.txt b.img",
@@ -335,7 +357,10 @@ fn args_that_are_wrong(rt: HostRuntime) -> Result<(), Fail> {
 }
 
 /// Those with the words of writing.
-const WRONG_TO_WRITE: [(&str, &str); 37] = [
+const WRONG_TO_WRITE: [(&str, &str); 40] = [
+    ("t cuts a", "--blocks <N>"),
+    ("t cuts --blocks 8 a b", "'b'"),
+    ("t cuts --blocks 8 a --on", "--on <IMAGE>"),
     ("t build", "--blocks <N>"),
     ("t build a b", "--blocks <N>"),
     ("t build --block 8192 a b", "--blocks <N>"),

@@ -5,7 +5,7 @@ use jcommand::{Request, RequestFault, Task, task};
 use std::alloc::Global;
 
 /// Words, and what they ask for.
-const LINES: [(&[&str], &str); 12] = [
+const LINES: [(&[&str], &str); 13] = [
     (&["t", "check", "--scan", "--block=4096", "a.img"], "scan"),
     (&["t", "check", "--endian", "big", "a.img"], "check"),
     (&["t", "ls", "a.img"], "ls"),
@@ -21,6 +21,7 @@ const LINES: [(&[&str], &str); 12] = [
         "listing",
     ),
     (&["t", "info", "a.img"], "info"),
+    (&["t", "cuts", "--blocks=8", "--on", "a.img", "b"], "cuts"),
     (&["t", "diff", "--times", "a.img", "b.img"], "diff"),
     (&["t", "check", "--help"], "help"),
     (&["t", "check", "--block", "x", "a.img"], "wrong"),
@@ -39,6 +40,7 @@ fn asked(alloc: Global, words: &[&str]) -> &'static str {
         Ok(Task::Extract(_)) => "extract",
         Ok(Task::Listing(_)) => "listing",
         Ok(Task::Info { .. }) => "info",
+        Ok(Task::Cuts(_)) => "cuts",
         Ok(Task::Diff(_)) => "diff",
         Err(RequestFault::Help { .. }) => "help",
         Err(RequestFault::Usage { .. }) => "wrong",

@@ -19,10 +19,10 @@ use Rattle.jconvert.specs.Converting.{least_written, greatest_blocks, expanded_f
 if_true : {X : Type 0} (b : Bool) (x y : X) → b ≡ true → cond b x y ≡ x
 if_true b x y h = cond-true b x y h
 
-if_false : {X : Type 0} (b : Bool) (x y : X) → b ≡ false → cond b x y ≡ y
+pub if_false : {X : Type 0} (b : Bool) (x y : X) → b ≡ false → cond b x y ≡ y
 if_false b x y h = cond-false b x y h
 
-unless_none : (b : Bool) (f : ConvertFault) (o : Option ConvertFault) → cond b (Some f) o ≡ None → (b ≡ false) × (o ≡ None)
+pub unless_none : (b : Bool) (f : ConvertFault) (o : Option ConvertFault) → cond b (Some f) o ≡ None → (b ≡ false) × (o ≡ None)
 unless_none true f o h = absurd (cc)
 unless_none false f o h = (refl, h)
 
@@ -34,14 +34,14 @@ pub both_none : (o p : Option ConvertFault) → option_or o p ≡ None → (o �
 both_none None p h = (refl, h)
 both_none (Some f) p h = absurd (cc)
 
-not_true : (b : Bool) → not b ≡ false → b ≡ true
+pub not_true : (b : Bool) → not b ≡ false → b ≡ true
 not_true true h = refl
 not_true false h = absurd (cc)
 
-not_less : (a b : ℕ) → nat_lt a b ≡ false → b ≤ a
+pub not_less : (a b : ℕ) → nat_lt a b ≡ false → b ≤ a
 not_less a b h = ⊎_elim (λ inside. let it : b ≤ a = leb-true _ _ inside in it) (λ outside. let above : a < b = leb-false _ _ outside in let t : nat_lt a b ≡ true = lt-ltb a b above in let clash : true ≡ false = sym t ∙ h in absurd (cc)) (cases_Bool (nat_le b a))
 
-no_less : (a b : ℕ) → b ≤ a → nat_lt a b ≡ false
+pub no_less : (a b : ℕ) → b ≤ a → nat_lt a b ≡ false
 no_less a b h = ⊎_elim (λ inside. let up : a < b = ltb-true _ _ inside in absurd (omega arith)) (λ outside. outside) (cases_Bool (nat_lt a b))
 
 -- ---- what is not refused
@@ -90,7 +90,7 @@ scanned_fault e size image is =
 pub node_refused : (e : Endian) (size : ℕ) (image : List ℕ) (f : ConvertFault) → IsScannable size image → nodes_fault e size image ≡ Some f → convert_fault e size image ≡ Some f
 node_refused e size image f is some = scanned_fault e size image is ∙ ap (λ (o : Option ConvertFault). option_or o (flash_fault e size image)) some
 
-flash_decides : (e : Endian) (size : ℕ) (image : List ℕ) → IsScannable size image → nodes_fault e size image ≡ None → convert_fault e size image ≡ flash_fault e size image
+pub flash_decides : (e : Endian) (size : ℕ) (image : List ℕ) → IsScannable size image → nodes_fault e size image ≡ None → convert_fault e size image ≡ flash_fault e size image
 flash_decides e size image is none = scanned_fault e size image is ∙ ap (λ (o : Option ConvertFault). option_or o (flash_fault e size image)) none
 
 pub forbids : (e : Endian) (size : ℕ) (image : List ℕ) → IsScannable size image → nodes_fault e size image ≡ None → is_read_only e size image ≡ true

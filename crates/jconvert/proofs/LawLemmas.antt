@@ -147,7 +147,7 @@ all_storable e size image (s ∷ ss) size_is are among none =
 
 -- ---- the laws
 
-are_storable : (e : Endian) (size : ℕ) (image : List ℕ) → AreBytes image → convert_fault e size image ≡ None
+pub are_storable : (e : Endian) (size : ℕ) (image : List ℕ) → AreBytes image → convert_fault e size image ≡ None
     → AreStorable e size (greatest_blocks size) (expanded_nodes e size image)
 are_storable e size image are h =
     let it = accepted e size image h in
@@ -157,7 +157,7 @@ are_storable e size image are h =
       room = it.fits;
     }
 
-greatest_small : (size : ℕ) → greatest_blocks size * size ≤ greatest_image
+pub greatest_small : (size : ℕ) → greatest_blocks size * size ≤ greatest_image
 greatest_small size = omega (arith, div-add-mod' greatest_image size)
 
 pub converted_is_image : (e : Endian) (size : ℕ) (image : List ℕ) → AreBytes image → convert_fault e size image ≡ None

@@ -6,3 +6,8 @@ pub mod CallLemmas
 pub mod LawLemmas
 pub mod TileLemmas
 pub mod HoldingLemmas
+pub mod PackLemmas
+pub mod RestLemmas
+pub mod ShownLemmas
+pub mod WalkLemmas
+pub mod BackLemmas

@@ -55,7 +55,7 @@ fn forbids_writing(seen: &Seen<'_>) -> bool
 }
 
 /// A count with so many more; one past 64 bits takes more memory than there is.
-fn more(count: u64, by: u64) -> Result<u64, ConvertFault>
+pub(crate) fn more(count: u64, by: u64) -> Result<u64, ConvertFault>
     ensures sum { IfOk result (λ sum. sum ≡ count + by) }
     ensures memory { IfErr result (λ fault. fault ≡ OutOfMemory) }
 {

@@ -1,5 +1,6 @@
 //! Laws of what goes out. Each function's contract is a law, and its body is empty.
 
+ghost use Rattle.jconvert.specs.CompressingLaws.{CompressedAreNodes, CompressedGivesBack, CompressedMounts};
 ghost use Rattle.jconvert.specs.Laws.{ConvertedIsImage, ConvertedMounts, ConvertedHasNoRoot, ConvertedClashes};
 
 /// What goes out is an image of exactly the expanded nodes, in order; it mounts as the file system that they make, or answers
@@ -9,4 +10,11 @@ pub fn converted_mounts()
     ensures mounts { ConvertedMounts }
     ensures root { ConvertedHasNoRoot }
     ensures clashes { ConvertedClashes }
+{}
+
+/// What went out compressed is decompressed to the nodes of the image that went in, each and in order; so it mounts as that one.
+pub fn compressed_gives_back()
+    ensures nodes { CompressedAreNodes }
+    ensures back { CompressedGivesBack }
+    ensures mounts { CompressedMounts }
 {}

@@ -23,7 +23,7 @@ use jscan::{Geometry, Sightings};
 use std::alloc::Global;
 
 /// Puts the written form of a node at its place after `from`, and answers where the next one may begin.
-fn put_form<E: Order, S: Sink>(
+pub(crate) fn put_form<E: Order, S: Sink>(
     sink: &mut S,
     geometry: Geometry,
     from: u32,

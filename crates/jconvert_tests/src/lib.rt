@@ -4,6 +4,8 @@
 #[cfg(test)]
 mod checks;
 #[cfg(test)]
+mod compressing;
+#[cfg(test)]
 mod converting;
 #[cfg(test)]
 mod faults;

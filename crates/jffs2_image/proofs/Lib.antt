@@ -6,3 +6,4 @@ pub mod DiffLemmas
 pub mod WritingLemmas
 pub mod HostLemmas
 pub mod RunLemmas
+pub mod CutRunLemmas

@@ -59,7 +59,7 @@ pub fn load_file<'a, L: Loader>(loader: &mut L, name: &'a str) -> Result<Vec<u8>
 }
 
 /// The files that a listing names, each of which is read once. The name of one that can't be opened is kept in `unread`.
-fn load_parts<'a, L: Loader>(
+pub fn load_parts<'a, L: Loader>(
     alloc: Global,
     loader: &mut L,
     lines: &[Line<'_>],
@@ -91,7 +91,7 @@ fn load_parts<'a, L: Loader>(
 }
 
 /// The numbers of lines.
-fn numbers_of(alloc: Global, lines: &[Line<'_>]) -> Result<Vec<usize>, AllocError>
+pub fn numbers_of(alloc: Global, lines: &[Line<'_>]) -> Result<Vec<usize>, AllocError>
     ensures { IfOk result (λ numbers. numbers.items ≡ map (λ line. line.number) lines.now) }
 {
     lines.iter().map(|line| line.number).collect(alloc)

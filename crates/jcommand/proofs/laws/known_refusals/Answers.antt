@@ -68,6 +68,10 @@ pub returns-clause-not_of_info : goal.returns-clause-not_of_info
 unfolding clap_on_literals program parsed parsed_from
 returns-clause-not_of_info c = refl
 
+pub returns-clause-no_flash : goal.returns-clause-no_flash
+unfolding clap_on_literals program parsed parsed_from
+returns-clause-no_flash c = refl
+
 pub returns-clause-no_second : goal.returns-clause-no_second
 unfolding clap_on_literals program parsed parsed_from
 returns-clause-no_second c = refl

@@ -56,6 +56,14 @@ pub returns-clause-told : goal.returns-clause-told
 unfolding clap_on_literals program parsed parsed_from
 returns-clause-told c = refl
 
+pub returns-clause-cut : goal.returns-clause-cut
+unfolding clap_on_literals program parsed parsed_from
+returns-clause-cut c = refl
+
+pub returns-clause-cut_alone : goal.returns-clause-cut_alone
+unfolding clap_on_literals program parsed parsed_from
+returns-clause-cut_alone c = refl
+
 pub returns-clause-compared : goal.returns-clause-compared
 unfolding clap_on_literals program parsed parsed_from
 returns-clause-compared c = refl

@@ -1,0 +1,133 @@
+-- An image of the profile, compressed: what may stand for each of its nodes, and why none goes out.
+use Rattle.std.specs.Prelude.{◌≡◌, ◌⊎◌, ℕ, suc, ◌+◌, ◌<◌, Bool, true, false, not, nat_lt, IsTrue, List, [], ◌∷◌, length, Option, Some, None, Result, Ok, Err, if◌then◌else◌}
+use Rattle.std.specs.Option.{option_or}
+use Rattle.std.specs.Io.KnownBytes.{Appends}
+use Rattle.flashbase.specs.Bytes.{pad4_of}
+use Rattle.flashbase.specs.Device.{PutsPart, next_count}
+use Rattle.jnode.specs.Compressed.{canonical_compressed, FitsCompressed, IsWritableCompressed}
+use Rattle.jnode.specs.Reading.{inode_len}
+use Rattle.jnode.specs.Writing.{canonical}
+use Rattle.jnode.specs.declared.node.CompressedNode.{CompressedNode}
+use Rattle.jnode.specs.declared.node.InodeNode.{InodeNode}
+use Rattle.jnode.specs.declared.node.NodeRef.{NodeRef}
+use Rattle.jnode.specs.declared.node.Seen.{Seen}
+use Rattle.jnode.specs.declared.node.Seen.TheVariants as seen
+use Rattle.jnode.specs.declared.order.Endian.{Endian}
+use Rattle.jscan.specs.Image.{is_block_size, greatest_image, sightings}
+use Rattle.jmount.specs.Tree.{type_bits, regular_bits}
+use Rattle.jlog.specs.Output.{output}
+use Rattle.jexpand.specs.Expanded.{node_content, with_content, expanded_nodes}
+use Rattle.jexpand.specs.Refused.{node_fault}
+use Rattle.jexpand.specs.declared.fault.ConvertFault.{ConvertFault}
+use Rattle.jexpand.specs.declared.fault.ConvertFault.TheVariants as fault
+use Rattle.jconvert.specs.Converting.{flash_fault}
+use Rattle.jconvert.specs.declared.converted.Converted.{Converted}
+
+-- ---- what may stand for a node
+
+-- the number of the method that is written
+abbrev pub zlib_number : ℕ
+zlib_number = 6
+
+-- the compressed node of the same fields as an inode node, with these data
+abbrev pub packed_as : InodeNode → List ℕ → CompressedNode
+packed_as inode stream = record {
+  ino = inode.ino;
+  version = inode.version;
+  mode = inode.mode;
+  uid = inode.uid;
+  gid = inode.gid;
+  isize = inode.isize;
+  atime = inode.atime;
+  mtime = inode.mtime;
+  ctime = inode.ctime;
+  offset = inode.offset;
+  dsize = inode.dsize;
+  compr = zlib_number;
+  «data» = stream;
+}
+
+-- A compressed node that stands for a node of a regular file: its data give just the bytes of that
+-- node, whose other fields it has, and it takes fewer words.
+pub record StandsFor (packed : CompressedNode) (node : NodeRef) : Type 0 where
+  pub bytes : List ℕ
+  pub content : node_content packed ≡ Some bytes
+  pub expanded : with_content packed bytes ≡ node
+  pub method : packed.compr ≡ zlib_number
+  pub regular : type_bits packed.mode ≡ regular_bits
+  pub shorter : pad4_of (inode_len + length packed.data) < pad4_of (inode_len + length bytes)
+  pub fits : FitsCompressed packed
+  pub writable : IsWritableCompressed packed
+
+-- the written form of a compressed node that stands for a node
+abbrev pub IsPackedForm : Endian → NodeRef → List ℕ → Type 0
+IsPackedForm e node form =
+    (packed : CompressedNode) × StandsFor packed node × (form ≡ canonical_compressed e packed)
+
+-- The written forms that go out for nodes, one for each and in their order: the node's own, or that
+-- of a compressed node that stands for it, of which there are so many.
+abbrev pub AreFormsFor : Endian → List NodeRef → List (List ℕ) → ℕ → Type 0
+AreFormsFor e [] [] changed = changed ≡ 0
+AreFormsFor e [] (form ∷ forms) changed = ⊥
+AreFormsFor e (node ∷ nodes) [] changed = ⊥
+AreFormsFor e (node ∷ nodes) (form ∷ forms) changed =
+    ((form ≡ canonical e node) × AreFormsFor e nodes forms changed)
+    ⊎ (IsPackedForm e node form
+    × ((fewer : ℕ) × (changed ≡ suc fewer) × AreFormsFor e nodes forms fewer))
+
+-- An image that goes out for another: forms of all its nodes, from the start of an erased flash on,
+-- so many of them packed. (Where none of the nodes is compressed the expanded ones are they.)
+abbrev pub IsPackedImage : Endian → ℕ → List ℕ → List ℕ → ℕ → Type 0
+IsPackedImage e size image out changed =
+    (forms : List (List ℕ)) × AreFormsFor e (expanded_nodes e size image) forms changed
+    × (out ≡ output e size 0 forms)
+
+-- a beginning of one went out
+abbrev pub PutsPackedPart : Endian → ℕ → List ℕ → Option (List ℕ) → Option (List ℕ) → Type 0
+PutsPackedPart e size image old new =
+    (out : List ℕ) × (changed : ℕ) × IsPackedImage e size image out changed × PutsPart old new out
+
+-- ---- why none goes out
+
+-- the number of the method of a compressed node
+abbrev pub packed_number : Seen → Option ℕ
+packed_number (seen.Compressed compr) = Some compr
+packed_number s = None
+
+-- why a sighted tile is refused: it is compressed already, or a block does not hold its node
+abbrev pub pack_fault : Endian → ℕ → List ℕ → ℕ × Seen → Option ConvertFault
+pack_fault e size image (addr, seen.Compressed compr) = Some (fault.Compressed addr compr)
+pack_fault e size image s = node_fault e size image s
+
+abbrev pub pack_fault_among : Endian → ℕ → List ℕ → List (ℕ × Seen) → Option ConvertFault
+pack_fault_among e size image [] = None
+pack_fault_among e size image (s ∷ ss) =
+    option_or (pack_fault e size image s) (pack_fault_among e size image ss)
+
+-- Why an image is not compressed: its sizes come first, then the node of least address that is
+-- refused, then the flash, of which the nodes as they are must have room.
+abbrev pub compress_fault : Endian → ℕ → List ℕ → Option ConvertFault
+compress_fault e size image =
+    if not (is_block_size size) then Some fault.BlockSize
+    else if nat_lt greatest_image (length image) then Some fault.TooLarge
+    else option_or (pack_fault_among e size image (sightings e size image))
+    (flash_fault e size image)
+
+-- ---- what goes out
+
+-- What compressing into a sink answers: an image goes out for the one that is given, with what is
+-- told of it; or that one is refused before a byte is put; or a beginning went out.
+abbrev pub Compresses : Endian → ℕ → List ℕ → Option (List ℕ) → Option (List ℕ) → ℕ → ℕ
+    → Result Converted ConvertFault → Type 0
+Compresses e size image old new before now (Ok told) =
+    (compress_fault e size image ≡ None)
+    × ((out : List ℕ) × IsPackedImage e size image out told.changed × Appends old new out
+    × (told.bytes ≡ length out))
+    × (told.nodes ≡ length (expanded_nodes e size image)) × (now ≡ before)
+Compresses e size image old new before now (Err fault.Sink) =
+    (compress_fault e size image ≡ None) × PutsPackedPart e size image old new
+    × (now ≡ next_count before)
+Compresses e size image old new before now (Err fault.OutOfMemory) =
+    PutsPackedPart e size image old new × (now ≡ before)
+Compresses e size image old new before now (Err f) =
+    (compress_fault e size image ≡ Some f) × (new ≡ old) × (now ≡ before)

@@ -1,0 +1,162 @@
+-- What a run of the program does that tells what stands after a stop.
+use Rattle.std.specs.Prelude.{◌≡◌, ◌⊎◌, ℕ, Bool, List, [], map, Option, Some, None, Result, Ok, Err}
+use Rattle.flashbase.specs.Device.{next_count}
+use Rattle.flashbase.specs.declared.source.LoadFault.TheVariants as load
+use Rattle.jnode.specs.declared.order.Endian.{Endian}
+use Rattle.jmount.specs.Mount.{Mount}
+use Rattle.jmount.specs.Mounts.{Answers}
+use Rattle.jsteps.specs.declared.page.Page.{Page}
+use Rattle.jlisting.specs.Listing.{lines_of}
+use Rattle.jlisting.specs.declared.line.Line.{Line}
+use Rattle.jbuild.specs.Operations.{ops_in}
+use Rattle.jcuts.specs.Cuts.{Asked, SinkChange, PutsCuts}
+use Rattle.jcuts.specs.declared.cuts.CutsFault.{CutsFault}
+use Rattle.jcuts.specs.declared.cuts.CutsFault.TheVariants as cuts
+use Rattle.jcuts.specs.declared.cuts.Flash.{Flash}
+use Rattle.jcuts.specs.declared.lines.Telling.TheVariants.{Nodes}
+use Rattle.jreport.specs.Advice.{fault_lines_of}
+use Rattle.jreport.specs.declared.faults.ProgramFault.{ProgramFault}
+use Rattle.jreport.specs.declared.faults.ProgramFault.TheVariants as program
+use Rattle.jcommand.specs.Parsed.{CutsParsed, IsFaultless, parsed_from}
+use Rattle.jcommand.specs.Status.{outcome_of}
+use Rattle.jcommand.specs.declared.parsed.Options.{Options}
+use Rattle.jcommand.specs.declared.outcome.Outcome.{Outcome}
+use Rattle.jcommand.specs.declared.outcome.Outcome.TheVariants as outcome
+use Rattle.jffs2_image.specs.Host.{AreAllRead, AreLoaded, HaveBytes}
+use Rattle.jffs2_image.specs.InfoRuns.{FileReads}
+use Rattle.jffs2_image.specs.Runs.{Finishes, Says, answer_finished}
+use Rattle.jffs2_image.specs.Writes.{IsNamedByLine, IsPartUnread, IsUnreadFile}
+
+-- ---- the lines of a listing
+
+-- its operations, with the bytes of the files that they name, and the numbers of its lines
+abbrev pub asked_of : (List ℕ → List ℕ) → List Line → Asked
+asked_of files lines =
+    record { telling = Nodes; ops = ops_in files lines; lines = map (λ line. line.number) lines }
+
+-- the program's answer where this is told
+abbrev pub answer_of_cuts : Result ℕ CutsFault → Result ℕ ProgramFault
+answer_of_cuts (Ok weak) = Ok weak
+answer_of_cuts (Err (cuts.Session fault line)) = Err (program.Session fault line)
+answer_of_cuts (Err cuts.Output) = Err program.Output
+
+-- The listing's operations on a base that mounts are told, with the bytes of the host's files.
+pub record TellsLines (told : List ℕ → Option (List ℕ)) (e : Endian) (flash : Flash)
+    (base text : List ℕ) (sink : SinkChange) (answer : Result ℕ ProgramFault) : Type 0 where
+  pub lines : List Line
+  pub files : List ℕ → List ℕ
+  pub mount : Mount
+  pub cuts : Result ℕ CutsFault
+  pub read : lines_of text ≡ Ok lines
+  pub bytes : HaveBytes told lines files
+  pub mounts : Answers e flash.geometry.block base (Ok mount)
+  pub puts : PutsCuts e flash mount (asked_of files lines) sink cuts
+  pub comes_to : answer ≡ answer_of_cuts cuts
+
+-- why nothing is told of them
+abbrev pub IsLinesFault : (List ℕ → Option (List ℕ)) → Endian → ℕ → List ℕ → List ℕ → ProgramFault
+    → Type 0
+IsLinesFault told e size base text (program.Listing n) = lines_of text ≡ Err n
+IsLinesFault told e size base text (program.File name) =
+    (lines : List Line) × (lines_of text ≡ Ok lines) × IsNamedByLine lines name.now
+IsLinesFault told e size base text (program.Load fault) =
+    (lines : List Line) × (lines_of text ≡ Ok lines) × IsPartUnread told lines (program.Load fault)
+IsLinesFault told e size base text (program.Mount fault) =
+    AreAllRead told text × Answers e size base (Err fault)
+IsLinesFault told e size base text program.OutOfMemory = Unit {0}
+IsLinesFault told e size base text _ = ⊥
+
+-- the one or the other
+abbrev pub TellsText : (List ℕ → Option (List ℕ)) → Endian → Flash → List ℕ → List ℕ → SinkChange
+    → Result ℕ ProgramFault → Type 0
+TellsText told e flash base text sink answer =
+    TellsLines told e flash base text sink answer
+    ⊎ ((fault : ProgramFault) × (answer ≡ Err fault)
+    × IsLinesFault told e flash.geometry.block base text fault
+    × (sink.new ≡ sink.old) × (sink.now ≡ sink.before))
+
+-- ---- the files of the host
+
+-- the image that is gone on from: that of a name, or none
+abbrev pub IsBaseOf : (List ℕ → Option (List ℕ)) → Option (List ℕ) → List ℕ → Type 0
+IsBaseOf told None base = base ≡ []
+IsBaseOf told (Some name) base = AreLoaded (told name) base
+
+-- it can't be read to its end
+abbrev pub IsBaseUnread : (List ℕ → Option (List ℕ)) → Option (List ℕ) → ProgramFault → Type 0
+IsBaseUnread told None fault = ⊥
+IsBaseUnread told (Some name) fault = IsUnreadFile name (told name) fault
+
+-- Both files are read, and the listing's operations are told; or one of them can't be, and nothing
+-- is.
+abbrev pub TellsFiles : (List ℕ → Option (List ℕ)) → Endian → Flash → Option (List ℕ) → List ℕ
+    → SinkChange → Result ℕ ProgramFault → Type 0
+TellsFiles told e flash on listing sink answer =
+    ((base : List ℕ) × (text : List ℕ) × IsBaseOf told on base × AreLoaded (told listing) text
+    × TellsText told e flash base text sink answer)
+    ⊎ ((fault : ProgramFault) × (answer ≡ Err fault)
+    × (IsBaseUnread told on fault ⊎ IsUnreadFile listing (told listing) fault)
+    × (sink.new ≡ sink.old) × (sink.now ≡ sink.before))
+
+-- Files are only read. One that can't be opened, or fails while it is read, counts once; at what
+-- comes after all reading none has.
+abbrev pub BlamesReading : ℕ → ℕ → Result ℕ ProgramFault → Type 0
+BlamesReading before now (Err (program.File name)) = now ≡ next_count before
+BlamesReading before now (Err (program.Load load.Device)) = now ≡ next_count before
+BlamesReading before now (Err (program.Load fault)) = Unit {0}
+BlamesReading before now (Err program.OutOfMemory) = Unit {0}
+BlamesReading before now _ = now ≡ before
+
+-- ---- a run
+
+-- what is asked for: the byte order, the flash, the image, if one is given, and the listing
+pub record CutsAsked : Type 0 where
+  pub options : Options
+  pub blocks : ℕ
+  pub page : Page
+  pub on : Option (List ℕ)
+  pub listing : List ℕ
+
+abbrev pub flash_asked : CutsAsked → Flash
+flash_asked asked =
+    record { geometry = asked.options.geometry; blocks = asked.blocks; page = asked.page }
+
+-- It is told, and all that was put is given on.
+pub record FinishesCuts (told : List ℕ → Option (List ℕ)) (asked : CutsAsked) (output : SinkChange)
+    (result : Result ℕ ProgramFault) : Type 0 where
+  pub taken : Option (List ℕ)
+  pub count : ℕ
+  pub answer : Result ℕ ProgramFault
+  pub finished : Bool
+  pub tells : TellsFiles told asked.options.endian (flash_asked asked) asked.on asked.listing
+      (record { old = output.old; new = taken; before = output.before; now = count }) answer
+  pub finishes : Finishes taken output.new count output.now finished
+  pub comes_to : result ≡ answer_finished answer finished
+
+-- on standard error: a fault
+abbrev pub said_after_cuts : Result ℕ ProgramFault → Option (List ℕ)
+said_after_cuts (Ok weak) = None
+said_after_cuts (Err fault) = Some (fault_lines_of fault)
+
+-- weak nodes are found
+abbrev pub outcome_of_cuts : Result ℕ ProgramFault → Outcome
+outcome_of_cuts (Ok weak) = outcome_of weak
+outcome_of_cuts (Err fault) = outcome.Fault
+
+pub record EndsCuts (asked : CutsAsked) (reading : FileReads) (output errors : SinkChange)
+    (result : Outcome) : Type 0 where
+  pub answer : Result ℕ ProgramFault
+  pub tells : FinishesCuts reading.told asked output answer
+  pub blames : BlamesReading reading.before reading.now answer
+  pub said : Says ((errors.new ≡ errors.old) × (errors.now ≡ errors.before)) errors.old errors.new
+      errors.before errors.now (said_after_cuts answer)
+  pub ends : result ≡ outcome_of_cuts answer
+
+-- `cuts`, of what is given
+pub record RunsCuts (args : List (List ℕ)) (reading : FileReads) (output errors : SinkChange)
+    (result : Outcome) : Type 0 where
+  pub asked : CutsAsked
+  pub parsed : parsed_from args
+      ≡ Some (CutsParsed asked.options asked.blocks asked.page asked.on asked.listing)
+  pub faultless : IsFaultless args
+  pub ends : EndsCuts asked reading output errors result

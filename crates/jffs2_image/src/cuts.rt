@@ -1,0 +1,277 @@
+//! `cuts`: what stands after a stop of writing, told of the operations of a listing.
+ghost use Rattle.std.specs.Prelude.{◌≡◌, ◌≤◌, ℕ, List, Option, Ok, Err, IfErr, IfOk, length, option_map};
+ghost use Rattle.jmount.specs.Mounts.{IsMountOf};
+ghost use Rattle.jlisting.specs.Listing.{lines_of};
+ghost use Rattle.jcuts.specs.Cuts.{PutsCuts};
+ghost use Rattle.jcuts.specs.declared.cuts.CutsFault.{CutsFault};
+ghost use Rattle.jcuts.specs.declared.lines.Telling.TheVariants.{Nodes};
+ghost use Rattle.std.specs.Prelude.{Result};
+ghost use Rattle.jffs2_image.specs.Host.{AreRead};
+ghost use Rattle.jffs2_image.specs.CutRuns.{answer_of_cuts, BlamesReading, EndsCuts, FinishesCuts, IsBaseOf, IsBaseUnread, TellsFiles, TellsText};
+
+use crate::host::Loader;
+use crate::output::Output;
+use crate::program::report_fault;
+use crate::writing::{Texts, load_file, load_parts, numbers_of};
+use byteorder::{BigEndian, LittleEndian};
+use flashbase::Sink;
+use jbuild::{Parts, operations};
+use jcommand::{Cuts, Outcome};
+use jcuts::{CutsFault, Flash, Telling, put_cuts};
+use jlisting::{Line, listing};
+use jmount::{Mounted, mount};
+use jnode::{Endian, Order};
+use jreport::ProgramFault;
+use jsteps::Op;
+use std::alloc::Global;
+
+/// Tells operations on a mounted image, with the numbers of their lines. Answers how many nodes are weak.
+#[tactic(none)]
+fn tell_ops<E: Order, T: Sink>(
+    alloc: Global,
+    mounted: &Mounted<'_>,
+    flash: Flash,
+    ops: &[Op<'_>],
+    lines: &[usize],
+    sink: &mut T,
+) -> Result<u64, ProgramFault<'static>>
+    requires mount { IsMountOf E.order flash.geometry.block mounted.now }
+    requires numbered { length lines.now ≡ length ops.now }
+    ensures tells { (cuts : Result ℕ CutsFault) × PutsCuts E.order flash mounted.now
+        (record { telling = Nodes; ops = ops.now; lines = lines.now })
+        (record {
+          old = T.taken sink.old;
+          new = T.taken sink.new;
+          before = T.failures sink.old;
+          now = T.failures sink.new;
+        }) cuts
+        × (result ≡ answer_of_cuts cuts) }
+    ensures unread { (n : ℕ) → BlamesReading n n result }
+{
+    match put_cuts::<E, T>(alloc, mounted, flash, Telling::Nodes, ops, lines, sink) {
+        Ok(weak) => Ok(weak as u64),
+        Err(CutsFault::Session { fault, line }) => Err(ProgramFault::Session { fault, line }),
+        Err(CutsFault::Output) => Err(ProgramFault::Output),
+    }
+}
+
+/// Tells the operations of a listing's lines on a base.
+fn tell_lines<'p, 'b: 'p, E: Order, T: Sink>(
+    alloc: Global,
+    flash: Flash,
+    base: &[u8],
+    lines: Vec<Line<'b>>,
+    parts: &'p Parts,
+    sink: &mut T,
+) -> Result<u64, ProgramFault<'static>>
+    ensures tells { (told : List ℕ → Option (List ℕ)) → (text : List ℕ)
+        → lines_of text ≡ Ok lines.entry.items → AreRead told lines.entry.items parts.entry.now
+        → TellsText told E.order flash base.now text (record {
+          old = T.taken sink.old;
+          new = T.taken sink.new;
+          before = T.failures sink.old;
+          now = T.failures sink.new;
+        }) result }
+    ensures unread { (n : ℕ) → BlamesReading n n result }
+{
+    let numbers = numbers_of(alloc, &lines)?;
+    let ops = operations(alloc, lines, parts)?;
+    let mounted = mount::<E>(alloc, base, flash.geometry)?;
+    tell_ops::<E, T>(alloc, &mounted, flash, &ops, &numbers, sink)
+}
+
+/// Tells the operations of a listing's text on a base.
+fn tell_text<'a, E: Order, L: Loader, T: Sink>(
+    alloc: Global,
+    loader: &mut L,
+    flash: Flash,
+    base: &[u8],
+    text: &'a [u8],
+    unread: &'a mut String,
+    sink: &mut T,
+) -> Result<u64, ProgramFault<'a>>
+    ensures tells { TellsText (L.told loader.old) E.order flash base.now text.now
+        (record {
+          old = T.taken sink.old;
+          new = T.taken sink.new;
+          before = T.failures sink.old;
+          now = T.failures sink.new;
+        }) result }
+    ensures blames { BlamesReading (L.failures loader.old) (L.failures loader.new) result }
+{
+    let lines = listing(alloc, text)?;
+    let parts = load_parts(alloc, loader, &lines, unread)?;
+    tell_lines::<E, T>(alloc, flash, base, lines, &parts, sink)
+}
+
+/// The bytes of the image that is gone on from, if one is given.
+fn load_base<'a, L: Loader>(
+    alloc: Global,
+    loader: &mut L,
+    on: Option<&'a str>,
+) -> Result<Vec<u8>, ProgramFault<'a>>
+    ensures bytes { IfOk result (λ bytes.
+        IsBaseOf (L.told loader.old) (option_map (λ name. name.now) on.entry) bytes.items) }
+    ensures unread { IfErr result
+        (IsBaseUnread (L.told loader.old) (option_map (λ name. name.now) on.entry)) }
+    ensures blames { IfErr result
+        (λ fault. BlamesReading (L.failures loader.old) (L.failures loader.new) (Err fault)) }
+    ensures read { IfOk result (λ bytes. L.failures loader.new ≡ L.failures loader.old) }
+    ensures stays { (other : List ℕ) → L.told loader.new other ≡ L.told loader.old other }
+{
+    let Some(name) = on else {
+        return Ok(Vec::new(alloc));
+    };
+    match load_file(loader, name) {
+        Ok(bytes) => Ok(bytes),
+        Err(fault) => Err(fault),
+    }
+}
+
+/// Tells the operations of the listing of a name, on the image of a name if one is given. The
+/// listing's text is kept, since a fault may name a part of it.
+fn tell_files<'a, E: Order, L: Loader, T: Sink>(
+    alloc: Global,
+    loader: &mut L,
+    asked: Cuts<'a>,
+    texts: &'a mut Texts,
+    sink: &mut T,
+) -> Result<u64, ProgramFault<'a>>
+    ensures tells { TellsFiles (L.told loader.old) E.order
+        (record {
+          geometry = asked.entry.options.geometry;
+          blocks = asked.entry.blocks;
+          page = asked.entry.page;
+        }) (option_map (λ name. name.now) asked.entry.on)
+        asked.entry.listing.now (record {
+          old = T.taken sink.old;
+          new = T.taken sink.new;
+          before = T.failures sink.old;
+          now = T.failures sink.new;
+        }) result }
+    ensures blames { BlamesReading (L.failures loader.old) (L.failures loader.new) result }
+{
+    let flash = Flash {
+        geometry: asked.options.geometry,
+        blocks: asked.blocks,
+        page: asked.page,
+    };
+    let base = match load_base(alloc, loader, asked.on) {
+        Ok(base) => base,
+        Err(fault) => return Err(fault),
+    };
+    texts.listing = match load_file(loader, asked.listing) {
+        Ok(text) => text,
+        Err(fault) => return Err(fault),
+    };
+    tell_text::<E, L, T>(
+        alloc,
+        loader,
+        flash,
+        &base,
+        texts.listing.as_slice(),
+        &mut texts.unread,
+        sink,
+    )
+}
+
+/// The same in the byte order that is asked for.
+fn tell_in_order<'a, L: Loader, T: Sink>(
+    alloc: Global,
+    loader: &mut L,
+    asked: Cuts<'a>,
+    texts: &'a mut Texts,
+    sink: &mut T,
+) -> Result<u64, ProgramFault<'a>>
+    ensures tells { TellsFiles (L.told loader.old) asked.entry.options.endian
+        (record {
+          geometry = asked.entry.options.geometry;
+          blocks = asked.entry.blocks;
+          page = asked.entry.page;
+        }) (option_map (λ name. name.now) asked.entry.on)
+        asked.entry.listing.now (record {
+          old = T.taken sink.old;
+          new = T.taken sink.new;
+          before = T.failures sink.old;
+          now = T.failures sink.new;
+        }) result }
+    ensures blames { BlamesReading (L.failures loader.old) (L.failures loader.new) result }
+{
+    match asked.options.endian {
+        Endian::Little => tell_files::<LittleEndian, L, T>(alloc, loader, asked, texts, sink),
+        Endian::Big => tell_files::<BigEndian, L, T>(alloc, loader, asked, texts, sink),
+    }
+}
+
+/// The same to the last byte. What was put goes out, also before a fault.
+fn tell_whole<'a, L: Loader, T: Output>(
+    alloc: Global,
+    loader: &mut L,
+    asked: Cuts<'a>,
+    texts: &'a mut Texts,
+    output: &mut T,
+) -> Result<u64, ProgramFault<'a>>
+    ensures tells { FinishesCuts (L.told loader.old) (record {
+      options = asked.entry.options;
+      blocks = asked.entry.blocks;
+      page = asked.entry.page;
+      on = option_map (λ name. name.now) asked.entry.on;
+      listing = asked.entry.listing.now;
+    })
+        (record {
+          old = T.taken output.old;
+          new = T.given output.new;
+          before = T.failures output.old;
+          now = T.failures output.new;
+        }) result }
+    ensures blames { BlamesReading (L.failures loader.old) (L.failures loader.new) result }
+{
+    let answer = tell_in_order::<L, T>(alloc, loader, asked, texts, output);
+    let finished = output.finish();
+    match answer {
+        Ok(weak) => match finished {
+            Ok(()) => Ok(weak),
+            Err(_) => Err(ProgramFault::Output),
+        },
+        Err(fault) => Err(fault),
+    }
+}
+
+/// `cuts` as a command.
+pub fn run_cuts<L: Loader, T: Output, E: Sink>(
+    alloc: Global,
+    loader: &mut L,
+    asked: Cuts<'_>,
+    output: &mut T,
+    errors: &mut E,
+) -> Outcome
+    ensures { EndsCuts (record {
+      options = asked.entry.options;
+      blocks = asked.entry.blocks;
+      page = asked.entry.page;
+      on = option_map (λ name. name.now) asked.entry.on;
+      listing = asked.entry.listing.now;
+    }) (record {
+      told = L.told loader.old;
+      before = L.failures loader.old;
+      now = L.failures loader.new;
+    })
+        (record {
+          old = T.taken output.old;
+          new = T.given output.new;
+          before = T.failures output.old;
+          now = T.failures output.new;
+        })
+        (record {
+          old = E.taken errors.old;
+          new = E.taken errors.new;
+          before = E.failures errors.old;
+          now = E.failures errors.new;
+        }) result }
+{
+    let mut texts = Texts::new(alloc);
+    match tell_whole(alloc, loader, asked, &mut texts, output) {
+        Ok(weak) => Outcome::of(weak),
+        Err(fault) => report_fault(&fault, errors),
+    }
+}
