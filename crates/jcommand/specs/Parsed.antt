@@ -82,7 +82,7 @@ view (request.Append target decompress image listing) = AppendParsed target.opti
 view (request.Decompress options image output) = DecompressParsed options image.now output.now
 
 -- the same of a task: a request of an image, one that works with a folder of the host, what an
--- image tells of itself, or what two images differ in
+-- image tells of itself, what stands after a stop, or what two images differ in
 pub data TaskParsed : Type 0 where
   ImageParsed : Parsed → TaskParsed
   ExtractParsed : Options → Bool → Bool → Bool → Text → Text → TaskParsed
@@ -249,8 +249,8 @@ abbrev pub IsOfImage : Option TaskParsed → Type 0
 IsOfImage (Some (ImageParsed p)) = Unit {0}
 IsOfImage _ = ⊥
 
--- they ask to fill or to read a folder, for what an image tells of itself, or for what two images
--- differ in
+-- they ask to fill or to read a folder, for what an image tells of itself, for what stands after a
+-- stop, or for what two images differ in
 abbrev pub IsNoRequest : Option TaskParsed → Type 0
 IsNoRequest (Some (ExtractParsed options decompress owners quiet image folder)) = Unit {0}
 IsNoRequest (Some (ListingParsed owner time quiet folder)) = Unit {0}
