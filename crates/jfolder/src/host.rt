@@ -2,8 +2,8 @@
 
 ghost use Rattle.std.specs.Prelude.{◌≡◌, true, IfErr, IfOk, IfSome, OnOk};
 ghost use Rattle.std.specs.String.{string_bytes};
-ghost use Rattle.jfolder.specs.Known.{AreBytesOf, Known, MayAnswer, named_of};
-ghost use Rattle.jfolder.specs.Reasons.{BytesAreUnread, IsUnseen, IsUntold};
+ghost use Rattle.jfolder.specs.Known.{Known, MayAnswer, named_of};
+ghost use Rattle.jfolder.specs.Reasons.{IsUnseen, IsUntold};
 
 use crate::fault::FolderFault;
 
@@ -57,15 +57,6 @@ pub trait HostFolder {
             (λ it. IfSome ((known self.old).target path.now) (λ told. string_bytes it ≡ told)) }
         ensures untold { IfErr result (IsUntold ((known self.old).target path.now)) };
 
-    /// The bytes of a regular file. One that has more than `limit` is refused, or gives more than
-    /// `limit` bytes. It is asked only where the name of the file is no word of a listing.
-    fn bytes(&mut self, path: &str, limit: usize) -> Result<Vec<u8>, FolderFault>
-        ensures kept { known self.new ≡ known self.old }
-        ensures told { IfOk result
-            (λ it. IfSome ((known self.old).bytes path.now)
-            (λ told. AreBytesOf told limit it.items)) }
-        ensures untold { IfErr result (BytesAreUnread ((known self.old).bytes path.now) limit) };
-
     /// The name by which another program opens the file.
     fn host_path(&mut self, path: &str) -> Result<String, FolderFault>
         ensures kept { known self.new ≡ known self.old }
@@ -73,8 +64,7 @@ pub trait HostFolder {
             (λ it. IfSome ((known self.old).host_path path.now) (λ told. string_bytes it ≡ told)) }
         ensures untold { IfErr result (IsUntold ((known self.old).host_path path.now)) };
 
-    /// Opens a regular file to be read, and closes it. It is asked only where the name of the file
-    /// is a word of a listing.
+    /// Opens a regular file to be read, and closes it.
     fn open(&mut self, path: &str) -> Result<(), FolderFault>
         ensures kept { known self.new ≡ known self.old }
         ensures opened { OnOk result (MayAnswer ((known self.old).is_opened path.now) true) }

@@ -32,4 +32,4 @@ pub use crate::host::{HostFolder, Looked, Names};
 pub use crate::reading::{Folder, read_folder};
 pub use crate::reason::Reason;
 pub use crate::text::put_listing;
-pub use crate::tree::{Attributes, Content, Item, What};
+pub use crate::tree::{Attributes, Item, What};

@@ -244,7 +244,7 @@ impl Walk {
         let index = self.firsts.get(&identity_of(looked)?)?;
         let item = self.items.as_slice().get(*index)?;
         match &item.what {
-            What::Regular(_) => Some(item.path.as_str()),
+            What::Regular { .. } => Some(item.path.as_str()),
             _ => None,
         }
     }

@@ -9,22 +9,14 @@ pub struct Attributes {
     pub time: u32,
 }
 
-/// Where the bytes of a regular file come from.
-#[derive(Drop)]
-pub enum Content {
-    /// There are none.
-    Empty,
-    /// Those of the file of the host of this name, which is a word of a listing: not empty, without a space or a line feed.
-    File(String),
-    /// These.
-    Bytes(Vec<u8>),
-}
-
 /// What a path leads to.
 #[derive(Drop)]
 pub enum What {
     Directory,
-    Regular(Content),
+    /// A regular file with the bytes of the file of the host of this name, which is not empty.
+    Regular { file: String },
+    Fifo,
+    Socket,
     Symlink { target: String },
     /// The object of an earlier path.
     Link { first: String },

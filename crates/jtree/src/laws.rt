@@ -20,8 +20,9 @@ pub fn image_holds_tree()
 
 /// Where no operation makes a regular file without its bytes, or writes or cuts one, each path that leads to a regular file
 /// leads to one with all bytes of a file that the base had, or of one that an operation makes: after any number of steps, and so
-/// in what mounts after a stop at any byte.
+/// in what mounts after a stop at any byte. The operations that a tree's text is read as are such.
 pub fn updates_are_whole()
     ensures steps { update.StepsKeepFilesWhole }
     ensures stopped { update.UpdatesAreWhole }
+    ensures listing { update.ListingIsUpdate }
 {}
