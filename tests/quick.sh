@@ -297,7 +297,7 @@ gives 1 "jffs2_image: P2 Listing line 2" build --blocks 1 tree.txt none.img
 
 # ---- Help
 
-for command in check ls cat build append decompress extract listing info cuts; do
+for command in check ls cat build append decompress extract listing info cuts diff; do
     found=$(jffs2_image help "$command")
     same "usage of $command" "$(grep -c "^Usage: [^ ]* $command" <<< "$found")" 1
     same "help in two ways" "$(jffs2_image "$command" --help)" "$found"

@@ -110,6 +110,11 @@ abbrev pub cuts_app : App
 cuts_app =
     with_rule (with_rule (writer (codes "cuts")) (option_of (codes "on"))) (word (codes "LISTING"))
 
+-- `diff [--times] [--block N] [--endian ORDER] A B`
+abbrev pub diff_app : App
+diff_app = with_rule (with_rule (with_rule (plain_command (codes "diff")) (flag (codes "times")))
+    (word (codes "A"))) (word (codes "B"))
+
 -- the program without its subcommands, of which one has to be named; it tells its version
 abbrev pub bare : App
 bare = let app = new_app (codes "jffs2_image") in record app
@@ -123,9 +128,10 @@ program = with_subcommand
     (with_subcommand
     (with_subcommand
     (with_subcommand
+    (with_subcommand
     (with_subcommand (with_subcommand (with_subcommand (with_subcommand bare
     check_app.top) ls_app.top) cat_app.top) build_app.top) append_app.top) decompress_app.top)
-    compress_app.top) extract_app.top) listing_app.top) info_app.top) cuts_app.top
+    compress_app.top) extract_app.top) listing_app.top) info_app.top) cuts_app.top) diff_app.top
 
 -- ---- what is made
 

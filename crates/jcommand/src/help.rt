@@ -29,6 +29,8 @@ pub(crate) const CUTS: &str = "Print from which byte on each step of a listing s
 
 pub(crate) const ON: &str = "Image that is gone on from, as by append";
 
+pub(crate) const DIFF: &str = "Print where the trees of two images differ";
+
 pub(crate) const BLOCK: &str = "Erase block size: 4096 to 4194304 bytes";
 
 pub(crate) const ENDIAN: &str = "Byte order of the image: little or big";
@@ -42,6 +44,12 @@ pub(crate) const SCAN: &str = "Print the report alone, and do not mount";
 pub(crate) const SHAPE: &str = "Print last whether the directories make a tree";
 
 pub(crate) const IMAGE: &str = "File with the bytes of the flash";
+
+pub(crate) const FIRST: &str = "File with the bytes of the first image";
+
+pub(crate) const SECOND: &str = "File with the bytes of the second image";
+
+pub(crate) const TIMES: &str = "Compare times of change too, and print them";
 
 pub(crate) const DECOMPRESSED: &str = "Take the image as decompress would write it";
 
@@ -89,13 +97,14 @@ Examples:
   jffs2_image compress flash.img small.img
   jffs2_image extract --decompress dump.img tree
   jffs2_image listing tree > tree.txt
+  jffs2_image diff old.img new.img
 
 Exit status:
   0  done, and nothing was found
   1  a fault, which standard error names
   2  the command line is wrong
-  3  check found something, info no node, cuts a weak node, or extract or
-     listing left something out
+  3  check found something, diff a difference, info no node, cuts a weak
+     node, or extract or listing left something out
 
 A fault is one line, as 'jffs2_image: M6 RootKind'. Its letter says what gave
 up: C the report, L reading a file, M the mount, Z compressed data, S the
@@ -418,3 +427,27 @@ Exit status:
   1  a fault, which standard error names
   2  the command line is wrong
   3  a node is weak";
+
+pub(crate) const DIFF_EPILOGUE: &str = "\
+Both images are mounted with the same --block and --endian. It prints a line for
+each path at which their trees differ; a directory stands before what lies in
+it, and names are in byte order:
+
+  - LINE            only A has the path
+  + LINE            only B has it
+  - LINE, + LINE    both have it, and kind, permissions, owner, group, size or
+                    target differ, or with --times the time of change
+  * PATH at OFFSET  only the bytes differ, from this offset on
+
+LINE is that of ls without the inode number, and without the time of change
+unless --times is given: 'jffs2_image help ls' tells what it is. A directory
+that was met before is not entered again.
+
+Example:
+  jffs2_image diff --block 131072 old.img new.img
+
+Exit status:
+  0  done, and nothing was printed
+  1  a fault, which standard error names
+  2  the command line is wrong
+  3  a difference was printed";

@@ -24,5 +24,5 @@ mod parsed;
 pub use crate::command_line::{RequestFault, request, task};
 pub use crate::outcome::{Outcome, status};
 pub use crate::parsed::{
-    Compression, Cuts, Extraction, FolderListing, Options, Owner, Request, Target, Task,
+    Comparison, Compression, Cuts, Extraction, FolderListing, Options, Owner, Request, Target, Task,
 };

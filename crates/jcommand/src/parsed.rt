@@ -1,7 +1,7 @@
 //! What the matches of the program's command line ask for.
 ghost use Rattle.std.specs.Prelude.{◌≡◌, IfSome, codes, map, option_map};
 ghost use Rattle.clap.specs.Words.{found_of, rows_of, all_of, first_of};
-ghost use Rattle.jcommand.specs.Parsed.{decimal_number, endian_of, page_of, number_option, options_in, image_in, is_given, check_in, is_decompressed, ls_in, cat_in, writing_in, build_in, append_in, decompress_in, extract_in, listing_in, info_in, compress_in, cuts_in, owner_number, owner_of, if_given, parsed, options_of, task_view, view};
+ghost use Rattle.jcommand.specs.Parsed.{decimal_number, endian_of, page_of, number_option, options_in, image_in, is_given, check_in, is_decompressed, ls_in, cat_in, writing_in, build_in, append_in, decompress_in, extract_in, listing_in, info_in, compress_in, cuts_in, diff_in, owner_number, owner_of, if_given, parsed, options_of, task_view, view};
 
 use clap::ArgMatches;
 use jnode::Endian;
@@ -136,6 +136,15 @@ pub struct Compression<'a> {
     pub output: &'a str,
 }
 
+/// What the trees of two images differ in; with `--times`, in times of change too.
+#[derive(Clone, Copy)]
+pub struct Comparison<'a> {
+    pub options: Options,
+    pub times: bool,
+    pub first: &'a str,
+    pub second: &'a str,
+}
+
 /// What is asked for.
 #[derive(Clone, Copy)]
 pub enum Task<'a> {
@@ -151,6 +160,8 @@ pub enum Task<'a> {
     Cuts(Cuts<'a>),
     /// `compress`.
     Compress(Compression<'a>),
+    /// `diff`.
+    Diff(Comparison<'a>),
 }
 
 /// A number below 2^32 in decimal digits.
@@ -453,6 +464,20 @@ fn compress_at<'a>(found: &ArgMatches<'a>) -> Option<Task<'a>>
     }
 }
 
+fn diff_at<'a>(found: &ArgMatches<'a>) -> Option<Task<'a>>
+    ensures { option_map task_view result ≡ diff_in (rows_of (found_of found.now)) }
+{
+    let options = options_at(found)?;
+    let first = text_at(found, "A")?;
+    let second = text_at(found, "B")?;
+    Some(Task::Diff(Comparison {
+        options,
+        times: is_given(found, "times"),
+        first,
+        second,
+    }))
+}
+
 /// What the subcommand asks for, or nothing where a value can't be read.
 #[tactic(auto, unfolding(crate::specs::Parsed::parsed))]
 pub(crate) fn parsed_of<'a>(name: &str, found: &ArgMatches<'a>) -> Option<Task<'a>>
@@ -470,6 +495,7 @@ pub(crate) fn parsed_of<'a>(name: &str, found: &ArgMatches<'a>) -> Option<Task<'
         "info" => info_at(found),
         "cuts" => cuts_at(found),
         "compress" => compress_at(found),
+        "diff" => diff_at(found),
         _ => None,
     }
 }

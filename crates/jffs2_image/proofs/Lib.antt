@@ -2,6 +2,7 @@ mod CommandLemmas
 mod TakenLemmas
 mod ExtractingLemmas
 pub mod DecompressingLemmas
+pub mod DiffLemmas
 pub mod WritingLemmas
 pub mod HostLemmas
 pub mod RunLemmas

@@ -5,6 +5,7 @@ ghost use Rattle.jcommand.specs.Parsed.{Parsed, ScanParsed, CheckParsed, ListPar
 ghost use Rattle.jreport.specs.Advice.{fault_lines_of};
 ghost use Rattle.flashbase.specs.Device.{CountsErr};
 ghost use Rattle.jffs2_image.specs.Host.{Blames, BlamesCommand, BlamesDecompress, BlamesFor, GivesFile, HasFailed, MakesFile, ReadsFile};
+ghost use Rattle.jffs2_image.specs.DiffRuns.{RunsDiff};
 ghost use Rattle.jffs2_image.specs.FolderRuns.{RunsExtract, RunsListing, RunsTask};
 ghost use Rattle.jffs2_image.specs.Compressing.{RunsCompress};
 ghost use Rattle.jffs2_image.specs.CutRuns.{RunsCuts};
@@ -15,6 +16,7 @@ ghost use Rattle.jffs2_image.specs.Runs.{IsCommand, IsSaid, Meets, MeetsCommand,
 use crate::compressing::run_compress;
 use crate::cuts::run_cuts;
 use crate::decompressing::{decompress_into, take_file};
+use crate::diff::run_diff;
 use crate::folders::{Folders, run_extract, run_listing};
 use crate::host::{Loader, Maker};
 use crate::info::run_info;
@@ -678,7 +680,8 @@ pub fn run<L: Loader, M: Maker, D: Folders, T: Output, E: Sink>(
     errors: &mut E,
 ) -> Outcome
     // The words make a request, whose answer goes out, or are answered by a text; or they ask to fill or to read a folder,
-    // for what an image tells of itself, for what stands after a stop of writing one, or to compress one.
+    // for what an image tells of itself, for what stands after a stop of writing one, to compress one, or for what the trees
+    // of two images differ in.
     ensures { RunsTask (map (λ w. w.now) args.now)
         (λ command. (ran : RunsCommand (output.new ≡ output.old) (L.told loader.old)
         (M.held maker.old, M.held maker.new) command (T.taken output.old)
@@ -763,6 +766,25 @@ pub fn run<L: Loader, M: Maker, D: Folders, T: Output, E: Sink>(
           new = E.taken errors.new;
           before = E.failures errors.old;
           now = E.failures errors.new;
+        }) result)
+        ((maker.new ≡ maker.old) × (folders.new ≡ folders.old)
+        × RunsDiff (map (λ w. w.now) args.now)
+        (record {
+          told = L.told loader.old;
+          before = L.failures loader.old;
+          now = L.failures loader.new;
+        }) (output.new ≡ output.old)
+        (record {
+          old = T.taken output.old;
+          new = T.given output.new;
+          before = T.failures output.old;
+          now = T.failures output.new;
+        })
+        (record {
+          old = E.taken errors.old;
+          new = E.taken errors.new;
+          before = E.failures errors.old;
+          now = E.failures errors.new;
         }) result) }
 {
     match task(alloc, args) {
@@ -772,6 +794,7 @@ pub fn run<L: Loader, M: Maker, D: Folders, T: Output, E: Sink>(
         Ok(Task::Info { image }) => run_info(loader, image, output, errors),
         Ok(Task::Cuts(asked)) => run_cuts(alloc, loader, asked, output, errors),
         Ok(Task::Compress(asked)) => run_compress(alloc, loader, maker, asked, output, errors),
+        Ok(Task::Diff(asked)) => run_diff(alloc, loader, asked, output, errors),
         Err(fault) => run_image(alloc, loader, maker, Err(fault), output, errors),
     }
 }

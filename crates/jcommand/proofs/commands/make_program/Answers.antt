@@ -14,4 +14,5 @@ returns c =
     let extract = c.add_subcommand-command-8.ensures _ _ compress c.make_extract.ensures in
     let listing = c.add_subcommand-command-9.ensures _ _ extract c.make_listing.ensures in
     let info = c.add_subcommand-command-10.ensures _ _ listing c.make_info.ensures in
-    c.add_subcommand.ensures _ _ info c.make_cuts.ensures
+    let cuts = c.add_subcommand-command-11.ensures _ _ info c.make_cuts.ensures in
+    c.add_subcommand.ensures _ _ cuts c.make_diff.ensures

@@ -75,3 +75,7 @@ returns-clause-no_flash c = refl
 pub returns-clause-not_compressed : goal.returns-clause-not_compressed
 unfolding clap_on_literals program parsed parsed_from
 returns-clause-not_compressed c = refl
+
+pub returns-clause-no_second : goal.returns-clause-no_second
+unfolding clap_on_literals program parsed parsed_from
+returns-clause-no_second c = refl

@@ -21,7 +21,7 @@ returns-in-Err g c = inl (Err c.in-Err.fault, refusal _ c.in-Err.fault c.in-Err.
 
 pub returns-in-Ok-Compress : goal.returns-in-Ok-Compress
 returns-in-Ok-Compress g c =
-    inr (inr (inr (inr (inr (
+    inr (inr (inr (inr (inr (inl (
       refl,
       record {
         asked = record { options = c.in-Ok-Compress.asked.options; image = c.in-Ok-Compress.asked.image.now; output = c.in-Ok-Compress.asked.output.now };
@@ -29,4 +29,4 @@ returns-in-Ok-Compress g c =
         faultless = c.in-Ok-Compress.ensures.faultless;
         ends = c.run_compress.ensures;
       },
-    )))))
+    ))))))
