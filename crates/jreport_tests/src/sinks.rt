@@ -38,7 +38,7 @@ enum Text {
     Hex,
 }
 
-const TEXTS: [Text; 17] = [
+const TEXTS: [Text; 18] = [
     Text::Report,
     Text::Stream,
     Text::Verdict,
