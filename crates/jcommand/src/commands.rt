@@ -1,4 +1,5 @@
-//! The command line, built with clap: the program, its subcommands, and the words that each one takes.
+//! The command line, built with clap: the program, its subcommands, and the words that each one
+//! takes.
 ghost use Rattle.std.specs.Prelude.{◌≡◌, Ok};
 ghost use Rattle.clap.specs.Words.{App, Rule, new_app, with_rule, with_subcommand};
 ghost use Rattle.jcommand.specs.Commands.{IsApp, IsRule, MakesApp, word, optional_word, option_or, required_option, option_of, option_of_two, flag, plain_command, writer, check_app, ls_app, cat_app, build_app, append_app, decompress_app, compress_app, extract_app, listing_app, info_app, cuts_app, diff_app, bare, program};

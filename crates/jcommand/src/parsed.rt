@@ -45,8 +45,8 @@ pub enum Request<'a> {
         shape: bool,
         image: &'a str,
     },
-    /// `ls`: a line for each object of the tree, or of the part of it that a path names; with `--decompress`, of what
-    /// `decompress` makes of the image.
+    /// `ls`: a line for each object of the tree, or of the part of it that a path names; with
+    /// `--decompress`, of what `decompress` makes of the image.
     List {
         options: Options,
         decompress: bool,
@@ -65,7 +65,8 @@ pub enum Request<'a> {
         target: Target<'a>,
         listing: &'a str,
     },
-    /// `append`: the image with what the listing makes of its file system; with `--decompress` in the same way.
+    /// `append`: the image with what the listing makes of its file system; with `--decompress` in
+    /// the same way.
     Append {
         target: Target<'a>,
         decompress: bool,
@@ -96,8 +97,8 @@ impl Request<'_> {
     }
 }
 
-/// The tree of an image in a new folder of the host; with `--owners`, its owners too, and with `--decompress` that of
-/// what `decompress` makes of the image.
+/// The tree of an image in a new folder of the host; with `--owners`, its owners too, and with
+/// `--decompress` that of what `decompress` makes of the image.
 #[derive(Clone, Copy)]
 pub struct Extraction<'a> {
     pub options: Options,
@@ -108,7 +109,8 @@ pub struct Extraction<'a> {
     pub folder: &'a str,
 }
 
-/// The listing that builds a folder of the host, with one owner or one time for all of it where they are given.
+/// The listing that builds a folder of the host, with one owner or one time for all of it where
+/// they are given.
 #[derive(Clone, Copy)]
 pub struct FolderListing<'a> {
     pub owner: Option<Owner>,

@@ -1,5 +1,5 @@
-//! Command lines with what they ask for or are answered. The words of a line are between spaces, and the first is the
-//! program's own name.
+//! Command lines with what they ask for or are answered. The words of a line are between spaces,
+//! and the first is the program's own name.
 
 use crate::checks::{equal, equal_at, expect, expect_at};
 use jcommand::{
@@ -27,8 +27,8 @@ fn mark(decompress: bool) -> &'static str {
     if decompress { " decompressed" } else { "" }
 }
 
-/// A request as the name of its kind, the size of a block, the byte order, and its other values in the order of the
-/// command's help.
+/// A request as the name of its kind, the size of a block, the byte order, and its other values in
+/// the order of the command's help.
 fn shown(alloc: Global, request: Request<'_>) -> Result<String, AllocError> {
     let Options { geometry, endian } = request.options();
     let block = geometry.block;

@@ -50,7 +50,8 @@ fn asked(alloc: Global, words: &[&str]) -> &'static str {
     }
 }
 
-/// Passes with each allocation failing in turn too: memory is then blamed, and the same words ask for what they ask for.
+/// Passes with each allocation failing in turn too: memory is then blamed, and the same words ask
+/// for what they ask for.
 #[test]
 fn refused_growth_is_want_of_memory(rt: HostRuntime) {
     for (words, want) in LINES {

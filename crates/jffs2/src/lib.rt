@@ -1,8 +1,8 @@
 //! Images of JFFS2, the Journalling Flash File System 2: read, checked, built and extended.
 //!
-//! This crate is the front door. It has no code of its own: it names, in one place, the calls and types
-//! of the crates below it that a program needs. `docs/PROOFS.md` says what is proved of each call,
-//! `docs/FORMAT.md` describes the medium byte by byte.
+//! This crate is the front door. It has no code of its own: it names, in one place, the calls and
+//! types of the crates below it that a program needs. `docs/PROOFS.md` says what is proved of each
+//! call, `docs/FORMAT.md` describes the medium byte by byte.
 //!
 //! | I want to | Call |
 //! |---|---|
@@ -23,11 +23,11 @@
 //! | read operations from a text | [`listing`], then [`operations`] |
 //! | know whether a power cut inside a node would be seen | [`weak_cut`] |
 //!
-//! The byte order of an image is a type parameter, [`LittleEndian`] or [`BigEndian`]; the size of its
-//! erase blocks is the [`Geometry`]. Both have to be known: an image does not tell them.
+//! The byte order of an image is a type parameter, [`LittleEndian`] or [`BigEndian`]; the size of
+//! its erase blocks is the [`Geometry`]. Both have to be known: an image does not tell them.
 //!
-//! What allocates takes the allocator and may answer that memory is out; no call panics. An image is
-//! at most [`GREATEST_IMAGE`] bytes long, and is lent to [`mount`], not copied.
+//! What allocates takes the allocator and may answer that memory is out; no call panics. An image
+//! is at most [`GREATEST_IMAGE`] bytes long, and is lent to [`mount`], not copied.
 //!
 //! The programs `example_read` and `example_write` use these calls.
 #![tactic(auto)]

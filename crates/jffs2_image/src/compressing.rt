@@ -23,8 +23,8 @@ use jreport::{ProgramFault, found_in, put_compressed};
 use jscan::Geometry;
 use std::alloc::Global;
 
-/// Puts out an image of the nodes of one that is not refused, to the last byte. Answers how many of them are compressed,
-/// and its length.
+/// Puts out an image of the nodes of one that is not refused, to the last byte. Answers how many of
+/// them are compressed, and its length.
 fn put_packed<E: Order, S: Output>(
     alloc: Global,
     image: &[u8],
@@ -83,8 +83,9 @@ fn make_packed<'a, E: Order, M: Maker>(
     }
 }
 
-/// An image of the nodes of one goes to a file of this name, which is made only after all was judged that can be before a
-/// byte is written, and is told in a line. Answers how many findings of the image to note.
+/// An image of the nodes of one goes to a file of this name, which is made only after all was
+/// judged that can be before a byte is written, and is told in a line. Answers how many findings of
+/// the image to note.
 pub fn compress_into<'a, E: Order, M: Maker, T: Sink>(
     alloc: Global,
     maker: &mut M,

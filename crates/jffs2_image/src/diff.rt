@@ -16,7 +16,8 @@ use jnode::{Endian, Order};
 use jreport::ProgramFault;
 use std::alloc::Global;
 
-/// Mounts two images, and puts the lines on their trees. Answers how many there are, or the greatest u64.
+/// Mounts two images, and puts the lines on their trees. Answers how many there are, or the
+/// greatest u64.
 fn put_lines<E: Order, T: Sink>(
     alloc: Global,
     options: Options,

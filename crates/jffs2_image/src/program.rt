@@ -1,4 +1,5 @@
-//! The program on its arguments: it opens the image, lets `jreport` do the work, and says how that ended.
+//! The program on its arguments: it opens the image, lets `jreport` do the work, and says how that
+//! ended.
 ghost use Rattle.std.specs.Prelude.{◌≡◌, true, IfErr, IfOk, None, OnOk, Some, map, option_map};
 ghost use Rattle.std.specs.Io.KnownBytes.{Appends};
 ghost use Rattle.jcommand.specs.Parsed.{Parsed, ScanParsed, CheckParsed, ListParsed, CatParsed, BuildParsed, AppendParsed, DecompressParsed, options_of, view};
@@ -230,8 +231,8 @@ fn list<'a, E: Order, L: Loader, T: Sink>(
     }
 }
 
-/// `cat --decompress`: answers how many findings of the image that was read to note. The word of the path is judged before
-/// the image is opened.
+/// `cat --decompress`: answers how many findings of the image that was read to note. The word of
+/// the path is judged before the image is opened.
 fn cat_decompressed<'a, E: Order, L: Loader, T: Sink>(
     alloc: Global,
     loader: &mut L,
@@ -257,7 +258,8 @@ fn cat_decompressed<'a, E: Order, L: Loader, T: Sink>(
     }
 }
 
-/// `cat`: answers how many findings to note. The word of the path is judged before the image is opened.
+/// `cat`: answers how many findings to note. The word of the path is judged before the image is
+/// opened.
 fn cat<'a, E: Order, L: Loader, T: Sink>(
     alloc: Global,
     loader: &mut L,
@@ -283,8 +285,8 @@ fn cat<'a, E: Order, L: Loader, T: Sink>(
     answer
 }
 
-/// `build`: an image of what a listing makes of an empty file system. The listing's text is kept, since a fault may name a
-/// part of it. There is no finding to note.
+/// `build`: an image of what a listing makes of an empty file system. The listing's text is kept,
+/// since a fault may name a part of it. There is no finding to note.
 fn build<'a, E: Order, L: Loader, M: Maker, T: Sink>(
     alloc: Global,
     loader: &mut L,
@@ -316,8 +318,8 @@ fn build<'a, E: Order, L: Loader, M: Maker, T: Sink>(
     Ok(0)
 }
 
-/// `append --decompress`: the same of what `decompress` makes of the image. Answers how many findings of the image that was
-/// read to note.
+/// `append --decompress`: the same of what `decompress` makes of the image. Answers how many
+/// findings of the image that was read to note.
 fn append_decompressed<'a, E: Order, L: Loader, M: Maker, T: Sink>(
     alloc: Global,
     loader: &mut L,
@@ -362,8 +364,8 @@ fn append_decompressed<'a, E: Order, L: Loader, M: Maker, T: Sink>(
     }
 }
 
-/// `decompress`: answers how many findings of the image to note. It is held in memory before the file is made, so the two
-/// may be one.
+/// `decompress`: answers how many findings of the image to note. It is held in memory before the
+/// file is made, so the two may be one.
 fn decompress<'a, E: Order, L: Loader, M: Maker, T: Sink>(
     alloc: Global,
     loader: &mut L,
@@ -394,9 +396,9 @@ fn decompress<'a, E: Order, L: Loader, M: Maker, T: Sink>(
     )
 }
 
-/// `append`: an image with what a listing makes of its file system. It is held in memory before the file is made, so the two
-/// may be one. The listing's text is kept, since a fault may name a part of it. Answers how many
-/// findings of the image to note.
+/// `append`: an image with what a listing makes of its file system. It is held in memory before the
+/// file is made, so the two may be one. The listing's text is kept, since a fault may name a part
+/// of it. Answers how many findings of the image to note.
 fn append<'a, E: Order, L: Loader, M: Maker, T: Sink>(
     alloc: Global,
     loader: &mut L,
@@ -648,8 +650,8 @@ fn run_image<L: Loader, M: Maker, T: Output, E: Sink>(
     output: &mut T,
     errors: &mut E,
 ) -> Outcome
-    // A fault is one that is due, and is told in one line, which a note may follow; `ls` and `cat` note what they passed over. What is told of the
-    // host's files is so.
+    // A fault is one that is due, and is told in one line, which a note may follow; `ls` and `cat`
+    // note what they passed over. What is told of the host's files is so.
     ensures { (ran : RunsCommand (output.new ≡ output.old) (L.told loader.old)
         (M.held maker.old, M.held maker.new) command.entry (T.taken output.old)
         (T.given output.new) (T.failures output.old) (T.failures output.new)
@@ -679,9 +681,9 @@ pub fn run<L: Loader, M: Maker, D: Folders, T: Output, E: Sink>(
     output: &mut T,
     errors: &mut E,
 ) -> Outcome
-    // The words make a request, whose answer goes out, or are answered by a text; or they ask to fill or to read a folder,
-    // for what an image tells of itself, for what stands after a stop of writing one, to compress one, or for what the trees
-    // of two images differ in.
+    // The words make a request, whose answer goes out, or are answered by a text; or they ask to
+    // fill or to read a folder, for what an image tells of itself, for what stands after a stop of
+    // writing one, to compress one, or for what the trees of two images differ in.
     ensures { RunsTask (map (λ w. w.now) args.now)
         (λ command. (ran : RunsCommand (output.new ≡ output.old) (L.told loader.old)
         (M.held maker.old, M.held maker.new) command (T.taken output.old)

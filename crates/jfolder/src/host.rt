@@ -7,8 +7,9 @@ ghost use Rattle.jfolder.specs.Reasons.{IsUnseen, IsUntold};
 
 use crate::fault::FolderFault;
 
-/// What the host tells of an object, as `lstat` does. The bits 12 to 15 of the mode are its kind, and the time is that of the
-/// last change of its bytes, in seconds since 1970. Names of one object have the same device and number.
+/// What the host tells of an object, as `lstat` does. The bits 12 to 15 of the mode are its kind,
+/// and the time is that of the last change of its bytes, in seconds since 1970. Names of one object
+/// have the same device and number.
 #[derive(Clone, Copy)]
 pub struct Looked {
     pub mode: u32,
@@ -21,15 +22,17 @@ pub struct Looked {
     pub number: u64,
 }
 
-/// The names in a directory, without `.` and `..`: those that are UTF-8, in any order, and how many others there are.
+/// The names in a directory, without `.` and `..`: those that are UTF-8, in any order, and how many
+/// others there are.
 #[derive(Drop)]
 pub struct Names {
     pub texts: Vec<String>,
     pub others: u64,
 }
 
-/// A folder of the host that is read. A path is that of an object in it, names with a slash between two; the empty path is the
-/// folder itself. No call follows a symlink that a path ends in. A call that refuses has nothing that is known to tell.
+/// A folder of the host that is read. A path is that of an object in it, names with a slash between
+/// two; the empty path is the folder itself. No call follows a symlink that a path ends in. A call
+/// that refuses has nothing that is known to tell.
 pub trait HostFolder {
     /// What is known of what it tells at each path. No call changes it.
     ghost known: { Self → Known };

@@ -223,7 +223,8 @@ fn put_root<T: Sink>(sink: &mut T, root: &Attributes) -> Result<(), DeviceFault>
     put_attr(sink, root)
 }
 
-/// Puts the listing of a tree: its root's attributes, and then its items in their order. Takes no memory.
+/// Puts the listing of a tree: its root's attributes, and then its items in their order. Takes no
+/// memory.
 pub fn put_listing<T: Sink>(
     root: &Attributes,
     items: &[Item],

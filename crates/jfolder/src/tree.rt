@@ -1,6 +1,7 @@
 //! A tree of objects that an image can be built from.
 
-/// What an object gets: its permission bits, at most 0o7777, its owners, and its time in seconds since 1970.
+/// What an object gets: its permission bits, at most 0o7777, its owners, and its time in seconds
+/// since 1970.
 #[derive(Clone, Copy, Debug, PartialEq, Eq)]
 pub struct Attributes {
     pub mode: u32,
@@ -22,7 +23,8 @@ pub enum What {
     Link { first: String },
 }
 
-/// A path from the root on, which begins with a slash, and what it leads to. The attributes of a link are those of its object.
+/// A path from the root on, which begins with a slash, and what it leads to. The attributes of a
+/// link are those of its object.
 #[derive(Drop)]
 pub struct Item {
     pub path: String,

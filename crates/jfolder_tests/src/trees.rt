@@ -126,7 +126,8 @@ fn names_that_are_none_are_left_out(rt: HostRuntime) {
     expect(&rt, is_read(alloc, &objects, &AS_TOLD, text, notes, 5));
 }
 
-/// A file that can't be read has no line, whatever its size; one of any name has one, which may be of any characters.
+/// A file that can't be read has no line, whatever its size; one of any name has one, which may be
+/// of any characters.
 #[test]
 fn files_that_are_not_listed(rt: HostRuntime) {
     let rows = [

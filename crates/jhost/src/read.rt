@@ -104,7 +104,8 @@ fn push_name<R: AllocGlobal>(rt: &R, names: &mut Names, name: &str) -> Result<()
     Ok(())
 }
 
-/// Adds the name of an entry. One that is no text comes as an error of its own kind, and is counted.
+/// Adds the name of an entry. One that is no text comes as an error of its own kind, and is
+/// counted.
 fn add_name<R: Files + AllocGlobal>(
     rt: &R,
     names: &mut Names,
@@ -140,7 +141,8 @@ fn names_in<R: Files + AllocGlobal>(rt: &R, path: &str) -> io::Result<Names> {
 }
 
 impl<'r, R: Files + AllocGlobal + Clock + Eprint> ReadFolder<'r, R> {
-    /// The folder of a path. It tells how far it is only where `tells`. The file that standard output is written to is not told.
+    /// The folder of a path. It tells how far it is only where `tells`. The file that standard
+    /// output is written to is not told.
     pub fn new(rt: &'r R, path: &str, tells: bool) -> Result<Self, AllocError>
         ensures root { IfOk result (λ folder. read_root folder ≡ path.now) }
         ensures silent { IsFalse tells → IfOk result (λ folder. ReadsInSilence folder) }

@@ -21,7 +21,8 @@ fn write_decompressed(line: &mut LineBuffer, changed: u64, nodes: u64, bytes: u6
     line.push_text(b"\n");
 }
 
-/// Puts the line that tells how many nodes were decompressed, and how many nodes and bytes went out.
+/// Puts the line that tells how many nodes were decompressed, and how many nodes and bytes went
+/// out.
 pub fn put_decompressed<T: Sink>(
     changed: u64,
     nodes: u64,

@@ -1,4 +1,5 @@
-//! Sinks that fail once, at each byte of a text, and then work again: what each call that writes text answers, and what went out.
+//! Sinks that fail once, at each byte of a text, and then work again: what each call that writes
+//! text answers, and what went out.
 
 use crate::checks::{equal, expect, expect_at};
 use crate::images::{BLOCK, GEOMETRY, TREE, image_of};
@@ -134,8 +135,8 @@ fn put(
     Ok(())
 }
 
-/// Whether a sink that takes one byte a call, and fails once after so many, is told of, and takes nothing more. The same call then
-/// puts all.
+/// Whether a sink that takes one byte a call, and fails once after so many, is told of, and takes
+/// nothing more. The same call then puts all.
 fn is_told(
     alloc: Global,
     text: Text,
