@@ -1,7 +1,7 @@
 use Rattle.std.proofs.Common.{◌≡◌, ◌∙◌, Some, None, ap, sym, rules}
 use Rattle.jreport.specs.Paths.{path_of}
 use Rattle.jffs2_image.proofs.TakenLemmas.{part_failed, part_stopped, part_taken}
-use Rattle.jffs2_image.proofs.program.part_decompressed.Goals as goal
+use Rattle.jffs2_image.proofs.looking.part_decompressed.Goals as goal
 
 pub returns-in-Err-clause-meets : goal.returns-in-Err-clause-meets
 returns-in-Err-clause-meets g c =

@@ -1,6 +1,6 @@
 use Rattle.std.proofs.Common.{None}
 use Rattle.jffs2_image.proofs.TakenLemmas.{list_failed, list_stopped, list_taken}
-use Rattle.jffs2_image.proofs.program.list_decompressed.Goals as goal
+use Rattle.jffs2_image.proofs.looking.list_decompressed.Goals as goal
 
 pub returns-in-Err-clause-meets : goal.returns-in-Err-clause-meets
 returns-in-Err-clause-meets g c =

@@ -1,6 +1,6 @@
 use Rattle.std.proofs.Common.{None, rules}
 use Rattle.jffs2_image.proofs.TakenLemmas.{cat_failed, cat_stopped, cat_taken}
-use Rattle.jffs2_image.proofs.program.cat_decompressed.Goals as goal
+use Rattle.jffs2_image.proofs.looking.cat_decompressed.Goals as goal
 
 pub returns-in-Err-clause-meets : goal.returns-in-Err-clause-meets
 returns-in-Err-clause-meets g c =

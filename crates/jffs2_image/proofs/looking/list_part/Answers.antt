@@ -1,7 +1,7 @@
 use Rattle.std.proofs.Common.{◌≡◌, ◌∙◌, Some, None, ap, sym, rules}
 use Rattle.jreport.specs.Paths.{path_of}
 use Rattle.jffs2_image.proofs.DecompressingLemmas.{part_listed}
-use Rattle.jffs2_image.proofs.program.list_part.Goals as goal
+use Rattle.jffs2_image.proofs.looking.list_part.Goals as goal
 
 pub returns-clause-meets : goal.returns-clause-meets
 returns-clause-meets g c =
