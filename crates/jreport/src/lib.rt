@@ -48,6 +48,6 @@ pub use crate::paths::path_word;
 pub use crate::report::{Lines, put_report, scan_lines};
 pub use crate::report_fault::ReportFault;
 pub use crate::stream::stream_lines;
-pub use crate::tree::put_object;
+pub use crate::tree::{push_number, put_object, put_tail, write_mode};
 pub use crate::verdict::verdict_lines;
 pub use crate::whole_image::{check_lines, file_bytes, image_file, image_tree, list_lines};

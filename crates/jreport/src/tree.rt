@@ -36,8 +36,9 @@ fn octal_digit(n: u32) -> u8
     b'0' + (n % 8) as u8
 }
 
-/// The kind and the permissions.
-fn write_mode(line: &mut LineBuffer, kind: Kind, mode: u32)
+/// The letter of a kind, a space, and the permissions as four octal digits, as `ls` prints them.
+/// Set-id and sticky bits are in the first digit.
+pub fn write_mode(line: &mut LineBuffer, kind: Kind, mode: u32)
     requires { line.old ≡ [] }
     ensures text { line.new ≡ kind_letter kind ++ codes " " ++ permissions mode }
     ensures short { length line.new ≤ 6 }
@@ -52,8 +53,8 @@ fn write_mode(line: &mut LineBuffer, kind: Kind, mode: u32)
     ]);
 }
 
-/// A space, and a number in decimal digits.
-fn push_number(line: &mut LineBuffer, n: u32)
+/// A space, and a number in decimal digits. The line must have room for 21 bytes.
+pub fn push_number(line: &mut LineBuffer, n: u32)
     requires { length line.old + 21 ≤ MAX_LINE }
     ensures text { line.new ≡ line.old ++ codes " " ++ decimal n }
     ensures grows { length line.new ≤ length line.old + 21 }
@@ -98,8 +99,10 @@ fn put_target<T: Sink>(
     put_escaped(sink, &target[..count])
 }
 
-/// Puts what follows the path.
-fn put_tail<T: Sink>(
+/// Puts what follows the path on a line of `ls`: where a symlink leads, ` (again)` after another
+/// kind that was met before (`again`), else nothing. Takes no memory. A put that fails took a
+/// beginning of that.
+pub fn put_tail<T: Sink>(
     mounted: &Mounted<'_>,
     ino: u32,
     object: &Object,
