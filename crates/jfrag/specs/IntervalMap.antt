@@ -3,7 +3,7 @@ use Rattle.std.specs.Prelude.{◌≡◌, ◌≢◌, ℕ, ◌+◌, ◌<◌, ◌�
 use Rattle.std.specs.Ordering.{nat_cmp}
 use Rattle.std.specs.BTreeMap.{BTreeMap, get}
 use Rattle.jfrag.specs.declared.piece.Piece.{Piece}
-use Rattle.jfrag.specs.Pieces.{covers, byte_of, end_of}
+use Rattle.jfrag.specs.Pieces.{covers, byte_of, end_of, is_zeros}
 use Rattle.jfrag.specs.Overlays.{Visible}
 
 -- a piece, or a gap
@@ -18,6 +18,11 @@ interval_from d (e ∷ es) i = if nat_lt i e.0 then d else interval_from e.1 es 
 -- the interval that place i lies in
 abbrev pub interval_at : List (ℕ × Interval) → ℕ → Interval
 interval_at es i = interval_from None es i
+
+-- whether an interval shows zeros that no node has: it is a gap, or a piece of zeros
+abbrev pub is_hole : Interval → Bool
+is_hole None = true
+is_hole (Some p) = is_zeros p.body
 
 -- what is visible at place i of an interval
 abbrev pub seen : Interval → ℕ → Visible

@@ -1,6 +1,6 @@
 -- What a piece of a file says (Linux include/uapi/linux/jffs2.h: an inode node has a version, an
 -- offset and dsize bytes of data; with compr ZERO they are zeros).
-use Rattle.std.specs.Prelude.{ℕ, ◌+◌, ◌-◌, Bool, ◌&&◌, nat_lt, nat_le, length, slice_index}
+use Rattle.std.specs.Prelude.{ℕ, ◌+◌, ◌-◌, Bool, true, false, ◌&&◌, nat_lt, nat_le, length, slice_index}
 use Rattle.jfrag.specs.declared.piece.Body.{Body}
 use Rattle.jfrag.specs.declared.piece.Body.TheVariants.{Zero, Bytes}
 use Rattle.jfrag.specs.declared.piece.Piece.{Piece}
@@ -14,6 +14,11 @@ body_len (Bytes bytes) = length bytes
 abbrev pub body_byte : ℕ → Body → ℕ
 body_byte index (Zero count) = 0
 body_byte index (Bytes bytes) = slice_index bytes index
+
+-- whether it is zeros, of which no node has a byte
+abbrev pub is_zeros : Body → Bool
+is_zeros (Zero count) = true
+is_zeros (Bytes bytes) = false
 
 -- the first place after a piece
 abbrev pub end_of : Piece → ℕ

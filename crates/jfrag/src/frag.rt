@@ -17,6 +17,24 @@ pub struct FragOverlay<'a> {
     ghost whole: { IsSoundLayout layout } by { IsSoundLayout-prop layout },
 }
 
+impl<'a> FragOverlay<'a> {
+    ghost use Rattle.std.specs.Prelude.{true, false};
+    ghost use Rattle.jfrag.specs.IntervalMap.{is_hole};
+    ghost use Rattle.jfrag.specs.Intervals.{piece_at};
+
+    /// From a place on, where the interval ends that shows zeros of which no piece has a byte: a
+    /// gap, or a piece of zeros. What comes next may be one more. It is the place itself where a
+    /// byte of a piece is visible, and 2^32 - 1 at most. Takes one search.
+    pub fn hole_end(&self, place: u32) -> u32
+        requires { place < 4294967295 }
+        ensures from { place ≤ result }
+        ensures holes { (i : ℕ) → place ≤ i → i < result → is_hole (piece_at self.now i) ≡ true }
+        ensures bytes { result ≡ place → is_hole (piece_at self.now place) ≡ false }
+    {
+        layout::hole_end(&self.layout, place)
+    }
+}
+
 impl<'a> Overlay<'a> for FragOverlay<'a> {
     ghost use Rattle.std.specs.Prelude.{OnOk, OnErr, ◌^◌};
     ghost use Rattle.jfrag.specs.Pieces.{end_of};

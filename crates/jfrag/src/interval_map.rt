@@ -1,10 +1,10 @@
 //! Ordered intervals of pieces in a map: at each key begins what is visible up to the next key.
-ghost use Rattle.std.specs.Prelude.{◌≡◌, ◌≢◌, ℕ, ◌+◌, ◌-◌, ◌*◌, ◌<◌, ◌≤◌, ◌^◌, true, Some, None, IfOk, IfSome, length, slice_index, EachIndex, OnOk, OnErr, IsTrue, IsSome, is_some, count_by, ◌&&◌, if◌then◌else◌};
+ghost use Rattle.std.specs.Prelude.{◌≡◌, ◌≢◌, ℕ, ◌+◌, ◌-◌, ◌*◌, ◌<◌, ◌≤◌, ◌^◌, true, false, Some, None, IfOk, IfSome, length, slice_index, EachIndex, OnOk, OnErr, IsTrue, IsSome, is_some, count_by, ◌&&◌, if◌then◌else◌};
 ghost use Rattle.std.specs.Ordering.{nat_cmp};
 ghost use Rattle.std.specs.BTreeMap.{get, ContainsKey, IsUnchanged, IsOrdered, Updates, btree_map_len, values};
 ghost use Rattle.jfrag.specs.Pieces.{end_of};
 ghost use Rattle.jfrag.specs.Overlays.{byte_at};
-ghost use Rattle.jfrag.specs.IntervalMap.{Interval, interval_at, seen, is_under, overwritten, between, NoKeyIn, IsCovered, IsJoined, IsSettled, IsTight};
+ghost use Rattle.jfrag.specs.IntervalMap.{Interval, interval_at, is_hole, seen, is_under, overwritten, between, NoKeyIn, IsCovered, IsJoined, IsSettled, IsTight};
 
 use super::piece::Piece;
 use std::alloc::AllocError;
@@ -284,6 +284,32 @@ fn copied<'a>(interval: &Option<Piece<'a>>) -> Option<Piece<'a>>
     match interval {
         None => None,
         Some(piece) => Some(piece.copied()),
+    }
+}
+
+// Whether an interval shows zeros that no node has.
+fn is_hole(interval: &Option<Piece<'_>>) -> bool
+    ensures { result ≡ is_hole interval.now }
+{
+    match interval {
+        None => true,
+        Some(piece) => piece.is_zeros(),
+    }
+}
+
+// Where the interval at a place ends that shows zeros, 2 ^ 32 - 1 at most; the place itself where
+// it shows bytes.
+pub(crate) fn hole_end(intervals: &Intervals<'_>, at: u32) -> u32
+    requires { at < 4294967295 }
+    ensures from { at ≤ result }
+    ensures holes { (i : ℕ) → at ≤ i → i < result
+        → is_hole (interval_at intervals.now.entries i) ≡ true }
+    ensures bytes { result ≡ at → is_hole (interval_at intervals.now.entries at) ≡ false }
+{
+    if is_hole(&interval_at(intervals, at)) {
+        next_key(intervals, at, u32::MAX)
+    } else {
+        at
     }
 }
 

@@ -1,9 +1,9 @@
 //! How the intervals of an overlay are stored.
-ghost use Rattle.std.specs.Prelude.{◌≡◌, ◌*◌, ℕ, ◌+◌, ◌<◌, ◌≤◌, ◌^◌, IfOk, OnOk, OnErr, length, slice_index, EachIndex};
+ghost use Rattle.std.specs.Prelude.{◌≡◌, ◌*◌, ℕ, ◌+◌, ◌<◌, ◌≤◌, ◌^◌, true, false, IfOk, OnOk, OnErr, length, slice_index, EachIndex};
 ghost use Rattle.std.specs.BTreeMap.{btree_map_len};
 ghost use Rattle.jfrag.specs.Pieces.{end_of};
 ghost use Rattle.jfrag.specs.Overlays.{byte_at};
-ghost use Rattle.jfrag.specs.IntervalMap.{interval_at, seen, overwritten, IsCovered, IsSettled, IsTight};
+ghost use Rattle.jfrag.specs.IntervalMap.{interval_at, is_hole, seen, overwritten, IsCovered, IsSettled, IsTight};
 ghost use Rattle.jfrag.specs.Intervals.{IsIntervalCount};
 ghost use Rattle.jfrag.specs.Layouts.{IsSoundLayout, laid_at, laid_ends, of_one};
 
@@ -117,6 +117,41 @@ fn index_of(place: u32, from: u32, count: usize) -> usize
 {
     let past = place.saturating_sub(from) as usize;
     past.min(count)
+}
+
+// Where the interval at a place ends that shows zeros, 2 ^ 32 - 1 at most; the place itself where
+// it shows bytes.
+pub(crate) fn hole_end(layout: &Layout<'_>, at: u32) -> u32
+    requires whole { IsSoundLayout layout.now }
+    requires place { at < 4294967295 }
+    ensures from { at ≤ result }
+    ensures holes { (i : ℕ) → at ≤ i → i < result → is_hole (laid_at layout.now i) ≡ true }
+    ensures bytes { result ≡ at → is_hole (laid_at layout.now at) ≡ false }
+{
+    match layout {
+        Layout::Empty => u32::MAX,
+        Layout::One(piece) => hole_beside(piece, at),
+        Layout::Map(intervals) => interval_map::hole_end(intervals, at),
+    }
+}
+
+// The same where one piece is all that there is.
+fn hole_beside(piece: &Piece<'_>, at: u32) -> u32
+    requires fits { end_of piece.now < 2 ^ 32 }
+    requires place { at < 4294967295 }
+    ensures from { at ≤ result }
+    ensures holes { (i : ℕ) → at ≤ i → i < result → is_hole (of_one piece.now i) ≡ true }
+    ensures bytes { result ≡ at → is_hole (of_one piece.now at) ≡ false }
+{
+    if at < piece.offset {
+        piece.offset
+    } else if at >= piece.end() {
+        u32::MAX
+    } else if piece.is_zeros() {
+        piece.end()
+    } else {
+        at
+    }
 }
 
 // How many intervals there are.

@@ -20,7 +20,7 @@ pub struct Piece<'a> {
 }
 
 impl<'a> Body<'a> {
-    ghost use Rattle.jfrag.specs.Pieces.{body_len, body_byte};
+    ghost use Rattle.jfrag.specs.Pieces.{body_len, body_byte, is_zeros};
 
     fn len(&self) -> usize
         ensures { result ≡ body_len self.now }
@@ -41,6 +41,15 @@ impl<'a> Body<'a> {
         }
     }
 
+    fn is_zeros(&self) -> bool
+        ensures { result ≡ is_zeros self.now }
+    {
+        match self {
+            Body::Zero(_) => true,
+            Body::Bytes(_) => false,
+        }
+    }
+
     fn copied(&self) -> Body<'a>
         ensures { result ≡ self.now }
     {
@@ -52,7 +61,7 @@ impl<'a> Body<'a> {
 }
 
 impl<'a> Piece<'a> {
-    ghost use Rattle.jfrag.specs.Pieces.{end_of, covers, byte_of};
+    ghost use Rattle.jfrag.specs.Pieces.{end_of, covers, byte_of, is_zeros};
 
     pub(crate) fn end(&self) -> u32
         requires { end_of self.now < 2 ^ 32 }
@@ -85,6 +94,12 @@ impl<'a> Piece<'a> {
         } else {
             there
         }
+    }
+
+    pub(crate) fn is_zeros(&self) -> bool
+        ensures { result ≡ is_zeros self.now.body }
+    {
+        self.body.is_zeros()
     }
 
     /// The same piece, of the same bytes.

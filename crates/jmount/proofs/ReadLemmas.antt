@@ -1,11 +1,17 @@
 -- The bytes that a read gives.
-use Rattle.std.proofs.Common.{◌≡◌, ℕ, ◌+◌, ◌-◌, ◌<◌, ◌≤◌, true, ◌==◌, ◌||◌, cond, List, [], length, take, drop, Some, ap, sym, ◌∙◌, arith}
+use Rattle.std.proofs.Common.{◌≡◌, ℕ, ◌+◌, ◌-◌, ◌<◌, ◌≤◌, true, ◌==◌, ◌||◌, cond, List, [], length, take, drop, slice_index, Some, None, refl, ap, sym, ◌∙◌, arith}
 use Rattle.std.specs.Prelude.{min}
+use Rattle.std.proofs.lemmas.Bool.{false≢true}
 use Rattle.std.proofs.lemmas.List.{same_lists, length-take, length-drop, get_or-take, get_or-drop}
 use Rattle.flashbase.specs.Lists.{each_below}
 use Rattle.flashbase.proofs.ListLemmas.{length-each_below, get_or-each_below}
 use Rattle.jmount.specs.Tree.{ObjectOf, type_bits, regular_bits, symlink_bits}
 use Rattle.jfrag.specs.Overlays.{byte_at}
+use Rattle.jfrag.specs.Pieces.{body_byte, is_zeros}
+use Rattle.jfrag.specs.IntervalMap.{Interval, is_hole, seen}
+use Rattle.jfrag.specs.Intervals.{piece_at}
+use Rattle.jfrag.specs.declared.piece.Body.{Body}
+use Rattle.jfrag.specs.declared.piece.Body.TheVariants.{Zero, Bytes}
 use Rattle.jmount.specs.Shown.{bytes_if}
 use Rattle.jmount.specs.Stored.{stored_object, visible_in}
 use Rattle.jmount.specs.declared.stored.Stored.{Stored}
@@ -33,3 +39,20 @@ pub length-stored : (stored : Stored) → ((type_bits stored.mode == regular_bit
     → length (bytes_if (Some (stored_object stored))) ≡ stored.size
 length-stored stored has =
     ap length (bytes-stored (stored_object stored) has) ∙ length-each_below stored.size (λ place. byte_at (visible_in stored.bytes place))
+
+-- ---- zeros that no node has
+
+zeros_are_0 : (body : Body) (k : ℕ) → is_zeros body ≡ true → body_byte k body ≡ 0
+zeros_are_0 (Zero count) k h = refl
+zeros_are_0 (Bytes bytes) k h = absurd (false≢true h)
+
+hole_is_0 : (interval : Interval) (i : ℕ) → is_hole interval ≡ true → byte_at (seen interval i) ≡ 0
+hole_is_0 None i h = refl
+hole_is_0 (Some p) i h = zeros_are_0 p.body (i - p.offset) h
+
+pub stored_hole : (stored : Stored) → ((type_bits stored.mode == regular_bits) || (type_bits stored.mode == symlink_bits)) ≡ true
+    → (i : ℕ) → i < stored.size → is_hole (piece_at stored.bytes i) ≡ true → slice_index (bytes_if (Some (stored_object stored))) i ≡ 0
+stored_hole stored has i within hole =
+    ap (λ (bytes : List ℕ). slice_index bytes i) (bytes-stored (stored_object stored) has)
+    ∙ get_or-each_below stored.size i (λ place. byte_at (visible_in stored.bytes place)) 0 within
+    ∙ hole_is_0 (piece_at stored.bytes i) i hole

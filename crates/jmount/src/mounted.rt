@@ -1,6 +1,6 @@
 //! A mounted image.
 
-ghost use Rattle.std.specs.Prelude.{◌≡◌, ◌-◌, ◌++◌, Decides, IfOk, map, option_map, length, min, take, drop};
+ghost use Rattle.std.specs.Prelude.{◌≡◌, ℕ, ◌-◌, ◌<◌, ◌≤◌, ◌++◌, Decides, IfOk, map, max, option_map, length, min, slice_index, take, drop};
 ghost use Rattle.flashbase.specs.Device.{Puts};
 ghost use Rattle.jmount.specs.Tree as tree;
 ghost use Rattle.jmount.specs.Find as walk;
@@ -10,7 +10,7 @@ ghost use Rattle.jmount.specs.Shown.{shown, objects_in, readable, top_at};
 use crate::fault::FindFault;
 use crate::object::Object;
 use crate::path;
-use crate::read::{put_stored, read_stored};
+use crate::read::{hole_end_stored, put_stored, read_stored};
 use crate::shape::has_shape;
 use crate::shown::{self, shown};
 use crate::stored::Stored;
@@ -244,6 +244,21 @@ impl<'a> Mounted<'a> {
         match self.objects.get(&ino) {
             Some(stored) => read_stored(stored, offset, out),
             None => 0,
+        }
+    }
+
+    /// From an offset on, where the zeros of a regular file or a symlink end that no node has: a
+    /// hole, or a ZERO node's zeros. What comes next may be one more. It is the offset itself where
+    /// there is a node's byte, or the end. Who passes over these zeros reads only what nodes have.
+    pub fn hole_end(&self, ino: u32, offset: u64) -> u64
+        ensures from { offset ≤ result }
+        ensures within { result ≤ max offset (length (readable self.now.state ino)) }
+        ensures zeros { (i : ℕ) → offset ≤ i → i < result
+            → slice_index (readable self.now.state ino) i ≡ 0 }
+    {
+        match self.objects.get(&ino) {
+            Some(stored) => hole_end_stored(stored, offset),
+            None => offset,
         }
     }
 

@@ -1,7 +1,9 @@
 //! The bytes of an object.
 
-ghost use Rattle.std.specs.Prelude.{◌≡◌, ◌-◌, ◌++◌, Some, length, min, take, drop};
+ghost use Rattle.std.specs.Prelude.{◌≡◌, ℕ, ◌-◌, ◌<◌, ◌≤◌, ◌++◌, false, Some, length, max, min, slice_index, take, drop};
 ghost use Rattle.flashbase.specs.Device.{Puts};
+ghost use Rattle.jfrag.specs.IntervalMap.{is_hole};
+ghost use Rattle.jfrag.specs.Intervals.{piece_at};
 ghost use Rattle.jmount.specs.Shown.{bytes_if};
 ghost use Rattle.jmount.specs.Stored.{stored_object};
 
@@ -28,6 +30,26 @@ pub fn read_stored(stored: &Stored<'_>, offset: u64, out: &mut [u8]) -> usize
     let count = left.min(out.len());
     stored.bytes.read_at(offset, &mut out[..count]);
     count
+}
+
+/// From an offset on, where the zeros end that no node has: a gap between its pieces, or one piece
+/// of zeros. It is the offset itself where a node's byte is there.
+pub fn hole_end_stored(stored: &Stored<'_>, offset: u64) -> u64
+    ensures from { offset ≤ result }
+    ensures within { result ≤ max offset (length (bytes_if (Some (stored_object stored.now)))) }
+    ensures zeros { (i : ℕ) → offset ≤ i → i < result
+        → slice_index (bytes_if (Some (stored_object stored.now))) i ≡ 0 }
+    ensures bytes { result ≡ offset → offset < length (bytes_if (Some (stored_object stored.now)))
+        → is_hole (piece_at stored.now.bytes offset) ≡ false }
+{
+    if !has_bytes(stored.mode) {
+        return offset;
+    }
+    if offset >= u64::from(stored.size) {
+        return offset;
+    }
+    let end = stored.bytes.hole_end(offset as u32);
+    u64::from(end.min(stored.size))
 }
 
 /// Puts all of an object's bytes, piece by piece.
