@@ -1,10 +1,10 @@
 -- The first difference of two lists, piece by piece.
-use Rattle.std.proofs.Common.{◌≡◌, ℕ, zero, suc, ◌+◌, ◌-◌, ◌≤◌, ◌<◌, ◌==◌, min, nat_lt, take_all, cond, Bool, true, false, List, [], ◌∷◌, ◌++◌, length, take, drop, get_or, refl, sym, ap, ◌∙◌, arith, Option, Some, None}
+use Rattle.std.proofs.Common.{◌≡◌, ℕ, zero, suc, ◌+◌, ◌-◌, ◌≤◌, ◌<◌, ◌==◌, min, nat_lt, take_all, cond, Bool, true, false, List, [], ◌∷◌, ◌++◌, length, take, drop, get_or, slice_index, refl, sym, ap, ◌∙◌, arith, Option, Some, None}
 use Rattle.std.specs.Prelude.{option_map}
 use Rattle.std.proofs.Math.Seq.{drop-cons}
-use Rattle.std.proofs.lemmas.Grind.{common_steps}
+use Rattle.std.proofs.lemmas.Grind.{common_steps, same_number_lists}
 use Rattle.std.proofs.lemmas.Bool.{eqb-true, eq-eqb, ltb-true, ltb-false}
-use Rattle.std.proofs.lemmas.List.{length-drop}
+use Rattle.std.proofs.lemmas.List.{length-drop, length-take, get_or-take, get_or-drop}
 use Rattle.jmount.proofs.PieceLemmas.{piece_read}
 use Rattle.jdiff.specs.Changes.{first_difference}
 
@@ -158,3 +158,22 @@ pub no_difference : (xs : List ℕ) → first_difference xs xs ≡ None
 no_difference [] = refl
 no_difference (x ∷ xs) =
     ap (λ (b : Bool). cond b (option_map suc (first_difference xs xs)) (Some 0)) (eq-eqb x x refl) ∙ ap (option_map suc) (no_difference xs)
+
+-- ---- zeros of both
+
+zero_of_piece : (xs : List ℕ) (at n k : ℕ) → k < n → ((i : ℕ) → at ≤ i → i < at + n → slice_index xs i ≡ 0) → get_or (take n (drop at xs)) k 0 ≡ 0
+zero_of_piece xs at n k within zeros = get_or-take n (drop at xs) k 0 within ∙ get_or-drop at xs k 0 ∙ zeros (at + k) (omega arith) (omega arith)
+
+length_of_piece : (xs : List ℕ) (at n : ℕ) → n ≤ length xs - at → length (take n (drop at xs)) ≡ n
+length_of_piece xs at n long = omega (arith, length-take n (drop at xs), length-drop at xs)
+
+pub same_zeros : (xs ys : List ℕ) (at n : ℕ) → n ≤ length xs - at → n ≤ length ys - at
+    → ((i : ℕ) → at ≤ i → i < at + n → slice_index xs i ≡ 0) → ((i : ℕ) → at ≤ i → i < at + n → slice_index ys i ≡ 0)
+    → first_difference (take n (drop at xs)) (take n (drop at ys)) ≡ None
+same_zeros xs ys at n long_x long_y zeros_x zeros_y =
+    let of_x = length_of_piece xs at n long_x in
+    let of_y = length_of_piece ys at n long_y in
+    let same : take n (drop at xs) ≡ take n (drop at ys) =
+    same_number_lists (take n (drop at xs)) (take n (drop at ys)) (omega arith)
+    (λ k within. zero_of_piece xs at n k (omega arith) zeros_x ∙ sym (zero_of_piece ys at n k (omega arith) zeros_y)) in
+    ap (first_difference (take n (drop at xs))) (sym same) ∙ no_difference (take n (drop at xs))

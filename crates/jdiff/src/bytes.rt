@@ -1,6 +1,6 @@
 //! Where the bytes of two objects differ.
 
-ghost use Rattle.std.specs.Prelude.{◌≡◌, ◌≤◌, IfSome, length};
+ghost use Rattle.std.specs.Prelude.{◌≡◌, ◌-◌, ◌≤◌, IfSome, None, drop, length, max, take};
 ghost use Rattle.jmount.specs.Shown.{readable};
 ghost use Rattle.jdiff.specs.Changes.{first_difference};
 
@@ -28,8 +28,29 @@ fn first_in(left: &[u8], right: &[u8]) -> Option<usize>
     }
 }
 
+/// Where zeros end that both objects have from an offset on and that no node has; the offset where
+/// there are none.
+fn common_hole(
+    left: &Mounted<'_>,
+    left_ino: u32,
+    right: &Mounted<'_>,
+    right_ino: u32,
+    offset: u64,
+) -> u64
+    ensures from { offset ≤ result }
+    ensures left { result ≤ max offset (length (readable left.now.state left_ino)) }
+    ensures right { result ≤ max offset (length (readable right.now.state right_ino)) }
+    ensures same { first_difference
+        (take (result - offset) (drop offset (readable left.now.state left_ino)))
+        (take (result - offset) (drop offset (readable right.now.state right_ino))) ≡ None }
+{
+    let ours = left.hole_end(left_ino, offset);
+    let theirs = right.hole_end(right_ino, offset);
+    ours.min(theirs)
+}
+
 /// The first place at which the bytes of two objects differ, neither of which has more than `size`.
-/// Takes no memory.
+/// Takes no memory, and time by what nodes have of them, however long their holes are.
 pub(crate) fn first_difference(
     left: &Mounted<'_>,
     left_ino: u32,
@@ -46,12 +67,17 @@ pub(crate) fn first_difference(
     let mut theirs = [0u8; PIECE];
     let mut offset = 0u64;
     while offset < u64::from(size) {
-        let count = left.read_at(left_ino, offset, &mut ours);
-        let other = right.read_at(right_ino, offset, &mut theirs);
-        if let Some(place) = first_in(&ours[..count], &theirs[..other]) {
-            return Some(offset + place as u64);
+        let hole = common_hole(left, left_ino, right, right_ino, offset);
+        if offset < hole {
+            offset = hole;
+        } else {
+            let count = left.read_at(left_ino, offset, &mut ours);
+            let other = right.read_at(right_ino, offset, &mut theirs);
+            if let Some(place) = first_in(&ours[..count], &theirs[..other]) {
+                return Some(offset + place as u64);
+            }
+            offset += PIECE as u64;
         }
-        offset += PIECE as u64;
     }
     None
 }
