@@ -23,7 +23,7 @@ use Rattle.jmount.proofs.LeastLemmas.{next_is_least}
 use Rattle.jmount.proofs.NumbersLemmas.{object-state_of, top_at-tops_of}
 use Rattle.jmount.proofs.OutlineLemmas.{object-outline, is_directory-outline}
 use Rattle.jmount.proofs.UseLemmas.{state_is_numbered, objects_fit, of_inodes}
-use Rattle.jsteps.specs.Steps.{renamed, rewritten, with_body, with_attributes, reattributed}
+use Rattle.jsteps.specs.Steps.{own_bytes, renamed, rewritten, with_body, with_attributes, reattributed}
 use Rattle.jsteps.specs.Nodes.{Indexed, index_by, no_object, object_at, advanced}
 use Rattle.jsteps.specs.Ready.{IsReady, HasRoom}
 use Rattle.jsteps.specs.Laws as law
@@ -178,8 +178,8 @@ unfolding StepFits
 advanced_keeps x (step.MakeObject time mode uid gid target) same ready room fits =
     let root : 1 < x.tree.next = root_below x same in
     let number : x.tree.next ≤ 0xFFFFFFFF = room.number in
-    let long : length target ≤ 0xFFFFFFFF = room.size in
-    insert_keeps x x.tree.next (record { mode = mode; uid = uid; gid = gid; atime = time; mtime = time; ctime = time; body = length target }) (x.tree.next + 1)
+    let long : length (own_bytes mode target) ≤ 0xFFFFFFFF = room.size in
+    insert_keeps x x.tree.next (record { mode = mode; uid = uid; gid = gid; atime = time; mtime = time; ctime = time; body = length (own_bytes mode target) }) (x.tree.next + 1)
     (advanced x (step.MakeObject time mode uid gid target)).tops same (omega arith) (omega arith) (omega arith)
     (record { mode = fits.1; uid = fits.2; gid = fits.3; atime = fits.0; size = omega arith })
     (λ is. absurd (omega arith))

@@ -139,6 +139,7 @@ steps_few page x (op.Mkdir time path mode uid gid) steps is_page e = omega arith
 steps_few page x (op.Create time path mode uid gid) steps is_page e = omega arith
 steps_few page x (op.File time path mode uid gid bytes) steps is_page e =
     file_few page x.tree time path (0o100000 + mode) uid gid bytes is_page (ltb-false greatest_size (length bytes) (accepted page x (op.File time path mode uid gid bytes) steps e).large)
+steps_few page x (op.Device time path kind mode uid gid number) steps is_page e = omega arith
 steps_few page x (op.Fifo time path mode uid gid) steps is_page e = omega arith
 steps_few page x (op.Socket time path mode uid gid) steps is_page e = omega arith
 steps_few page x (op.Symlink time path link uid gid) steps is_page e = omega arith

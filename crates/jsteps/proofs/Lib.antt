@@ -1,5 +1,6 @@
 pub mod IndexLemmas
 pub mod StepsLemmas
+pub mod OwnLemmas
 pub mod NodesLemmas
 pub mod AdvanceLemmas
 pub mod SeveralLemmas

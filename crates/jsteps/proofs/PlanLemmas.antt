@@ -1,5 +1,5 @@
 -- The steps of a plan are ready one after the other, and their nodes can be written.
-use Rattle.std.proofs.Common.{◌≡◌, ℕ, ◌+◌, ◌-◌, ◌<◌, ◌≤◌, Bool, true, false, cond, List, [], ◌∷◌, length, take, drop, length-take, length-drop, Option, Some, Result, Ok, Err, refl, ap, sym, ◌∙◌, subst, arith}
+use Rattle.std.proofs.Common.{◌≡◌, ℕ, ◌+◌, ◌-◌, ◌<◌, ◌≤◌, Bool, true, false, cond, List, [], ◌∷◌, length, take, drop, length-take, length-drop, Some, Result, Ok, Err, refl, ap, sym, ◌∙◌, subst, arith}
 use Rattle.std.specs.Prelude.{◌&&◌, ◌||◌, is_some, is_ok, unwrap_or, option_map, min, nat_lt, ◌==◌}
 use Rattle.std.specs.List.{list_any, AllByRecursion}
 use Rattle.std.specs.Ordering.{eq_by_cmp, nat_cmp}
@@ -8,6 +8,8 @@ use Rattle.std.specs.FinMap.{get, get-insert}
 use Rattle.std.proofs.lemmas.Bool.{cond-true, cond_both, eqb-true, eqb-false, or_parts, ltb-false, lt-ltb, true≢false, false≢true}
 use Rattle.flashbase.specs.Ranges.{IsHalf, IsWord}
 use Rattle.jmount.specs.Tree.{ObjectOf, Outline, object, directory_bits}
+use Rattle.jsteps.specs.Device.{device_mode}
+use Rattle.jsteps.specs.Steps.{is_device, own_bytes}
 use Rattle.jsteps.specs.Nodes.{Indexed, object_at, advanced, advanced_all}
 use Rattle.jsteps.specs.Planning.{IsPage, plain_page, spelling_len, first_len, size_named, write_steps, make_steps, bytes_steps, file_steps, move_steps, steps_of}
 use Rattle.jsteps.specs.Refusals.{paths, has_bad_path, is_bad_path, is_long, is_not_found, meets_nothing, meets_other, is_wrong_kind, is_into_itself, is_too_large, is_bad_mode, is_bad_target, greatest_size, is_exhausted, refusals, unless_refused, planned_by}
@@ -21,6 +23,7 @@ use Rattle.jsteps.specs.declared.op.Op.TheVariants as op
 use Rattle.jsteps.specs.declared.step.Step.{Step}
 use Rattle.jsteps.specs.declared.step.Step.TheVariants as step
 use Rattle.jsteps.proofs.IndexLemmas.{with_some}
+use Rattle.jsteps.proofs.OwnLemmas.{own_short, own_of, regular_is_plain, device_mode_small}
 use Rattle.jsteps.proofs.ConsistentLemmas.{StepFits, root_below}
 use Rattle.jsteps.proofs.WhereLemmas.{HasLength, IsParent, IsTarget, last_name_length, bits_there, parent_is, target_is, not_missing, reached_is}
 use Rattle.jsteps.proofs.WrittenLemmas.{IsPiece}
@@ -169,7 +172,7 @@ parent_some x path is_led = bits_there directory_bits (object x.tree (parent x.t
 
 -- the object that a step makes
 made : ℕ → ℕ → ℕ → ℕ → List ℕ → ObjectOf ℕ
-made time mode uid gid bytes = record { mode = mode; uid = uid; gid = gid; atime = time; mtime = time; ctime = time; body = length bytes }
+made time mode uid gid bytes = record { mode = mode; uid = uid; gid = gid; atime = time; mtime = time; ctime = time; body = length (own_bytes mode bytes) }
 
 make_fine : (page : ℕ) (x : Indexed) (time mode uid gid : ℕ) (bytes : List ℕ) → IsPage page → IsWord time → IsWord mode → IsHalf uid → IsHalf gid → IsPiece page (length bytes)
     → IsFine page x (step.MakeObject time mode uid gid bytes)
@@ -177,6 +180,7 @@ unfolding Shaped StepFits
 make_fine page x time mode uid gid bytes is_page now mode_fits uid_fits gid_fits piece =
     let within : length bytes ≤ page = piece.within in
     let most : page ≤ 16384 = is_page.most in
+    let own : length (own_bytes mode bytes) ≤ length bytes = own_short mode bytes in
     record { ready = record { defined = tt; number = tt }; fits = (now, mode_fits, uid_fits, gid_fits); shaped = piece; size = omega arith }
 
 -- its directory is there after it is made
@@ -223,7 +227,7 @@ first_taken_len page bytes is_page =
     length-take (first_len page (length bytes)) bytes ∙ omega arith
 
 -- the size of the object that a step makes
-made_size : (x : Indexed) (time mode uid gid : ℕ) (bytes : List ℕ) (size : ℕ) → length bytes ≡ size → HasSize (advanced x (step.MakeObject time mode uid gid bytes)) x.tree.next size size
+made_size : (x : Indexed) (time mode uid gid : ℕ) (bytes : List ℕ) (size : ℕ) → length (own_bytes mode bytes) ≡ size → HasSize (advanced x (step.MakeObject time mode uid gid bytes)) x.tree.next size size
 unfolding made
 made_size x time mode uid gid bytes size e = record {
   o = made time mode uid gid bytes;
@@ -233,9 +237,9 @@ made_size x time mode uid gid bytes size e = record {
   most = omega arith;
 }
 
-bytes_fine : (page : ℕ) (x : Indexed) (time mode uid gid : ℕ) (bytes : List ℕ) → IsPage page → IsConsistent x → IsWord time → IsWord mode → IsHalf uid → IsHalf gid → length bytes ≤ 2147483647
+bytes_fine : (page : ℕ) (x : Indexed) (time mode uid gid : ℕ) (bytes : List ℕ) → is_device mode ≡ false → IsPage page → IsConsistent x → IsWord time → IsWord mode → IsHalf uid → IsHalf gid → length bytes ≤ 2147483647
     → AllFine page x (bytes_steps page x.tree.next time mode uid gid bytes)
-bytes_fine page x time mode uid gid bytes is_page same now mode_fits uid_fits gid_fits ends =
+bytes_fine page x time mode uid gid bytes plain is_page same now mode_fits uid_fits gid_fits ends =
     let first = first_len page (length bytes) in
     let is = first_is page (length bytes) is_page in
     let within : first ≤ length bytes = is.within in
@@ -245,11 +249,11 @@ bytes_fine page x time mode uid gid bytes is_page same now mode_fits uid_fits gi
     let root : 1 < x.tree.next = root_below x same in
     AllFine-more page x make (write_steps page time x.tree.next first first (drop first bytes))
     (make_fine page x time mode uid gid (take first bytes) is_page now mode_fits uid_fits gid_fits (subst (IsPiece page) (sym len) is.piece))
-    (write_fine page (advanced x make) time x.tree.next first first (drop first bytes) is_page now (omega arith) (made_size x time mode uid gid (take first bytes) first len) (omega arith) (λ some. omega arith))
+    (write_fine page (advanced x make) time x.tree.next first first (drop first bytes) is_page now (omega arith) (made_size x time mode uid gid (take first bytes) first (ap length (own_of mode (take first bytes) plain) ∙ len)) (omega arith) (λ some. omega arith))
 
-file_fine : (page : ℕ) (x : Indexed) (time : ℕ) (path : List ℕ) (mode uid gid : ℕ) (bytes : List ℕ) → IsPage page → IsConsistent x → IsLed x path → IsWord time → IsWord mode → IsHalf uid → IsHalf gid
+file_fine : (page : ℕ) (x : Indexed) (time : ℕ) (path : List ℕ) (mode uid gid : ℕ) (bytes : List ℕ) → is_device mode ≡ false → IsPage page → IsConsistent x → IsLed x path → IsWord time → IsWord mode → IsHalf uid → IsHalf gid
     → length bytes ≤ 2147483647 → AllFine page x (file_steps page x.tree time path mode uid gid bytes)
-file_fine page x time path mode uid gid bytes is_page same is_led now mode_fits uid_fits gid_fits ends =
+file_fine page x time path mode uid gid bytes plain is_page same is_led now mode_fits uid_fits gid_fits ends =
     let first = first_len page (length bytes) in
     let make = step.MakeObject time mode uid gid (take first bytes) in
     let puts = write_steps page time x.tree.next first first (drop first bytes) in
@@ -257,7 +261,7 @@ file_fine page x time path mode uid gid bytes is_page same is_led now mode_fits 
     let left = objects_left (advanced x make).tree puts (write_on_object page time x.tree.next first first (drop first bytes)) in
     let tree = tree_advanced (advanced x make) puts in
     AllFine-append page x (make ∷ puts) (set ∷ [])
-    (bytes_fine page x time mode uid gid bytes is_page same now mode_fits uid_fits gid_fits ends)
+    (bytes_fine page x time mode uid gid bytes plain is_page same now mode_fits uid_fits gid_fits ends)
     (AllFine-one page (advanced_all (advanced x make) puts) set
     (name_fine page x (advanced_all (advanced x make) puts) time path same is_led now
     (ap (λ (t : Outline). is_some (object t (parent x.tree path))) tree ∙ left.there (parent x.tree path) (parent_stays x time mode uid gid (take first bytes) path is_led))
@@ -285,7 +289,13 @@ all_fine page x (op.File time path mode uid gid bytes) steps is_page same fits i
     let is_led = (led_alone x path false false same is.bad is.long is.found is.directory).0 in
     let bits : mode ≤ 0o7777 = ltb-false 0o7777 mode is.mode in
     let ends : length bytes ≤ 2147483647 = ltb-false greatest_size (length bytes) is.large in
-    file_fine page x time path (0o100000 + mode) uid gid bytes is_page same is_led fits.0 (omega arith) fits.1 fits.2 ends
+    file_fine page x time path (0o100000 + mode) uid gid bytes (regular_is_plain mode bits) is_page same is_led fits.0 (omega arith) fits.1 fits.2 ends
+all_fine page x (op.Device time path kind mode uid gid number) steps is_page same fits is =
+    let is_led = (led_alone x path false false same is.bad is.long is.found is.directory).0 in
+    let bits : mode ≤ 0o7777 = ltb-false 0o7777 mode is.mode in
+    let small : device_mode kind ≤ 0o060000 = device_mode_small kind in
+    let few : length number ≤ 4 = fits.3 in
+    new_fine page x time path (device_mode kind + mode) uid gid number is_page same is_led fits.0 (omega arith) fits.1 fits.2 (omega arith)
 all_fine page x (op.Fifo time path mode uid gid) steps is_page same fits is =
     let is_led = (led_alone x path false false same is.bad is.long is.found is.directory).0 in
     let bits : mode ≤ 0o7777 = ltb-false 0o7777 mode is.mode in

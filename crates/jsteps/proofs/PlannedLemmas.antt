@@ -15,6 +15,8 @@ use Rattle.jsteps.specs.Refusals.{paths, has_bad_path, is_bad_path, is_long, mee
 use Rattle.jsteps.specs.Site.{IsSiteOf}
 use Rattle.jsteps.specs.Tests.{GivesPlan, listed, first_refusal, made_plan, full_by, spent_by, into_itself_at, tests_of, plan_from, made_tests, removed_tests, named_tests, unnamed_at}
 use Rattle.jsteps.specs.Where.{above, number_there, number_or_none, parent, last_name, number_or_zero, object_named}
+use Rattle.jsteps.specs.Device.{device_mode}
+use Rattle.jsteps.specs.declared.device.DeviceKind.{DeviceKind}
 use Rattle.jsteps.specs.declared.fault.OpFault.{OpFault}
 use Rattle.jsteps.specs.declared.fault.OpFault.TheVariants as refused
 use Rattle.jsteps.specs.declared.op.Op.{Op}
@@ -211,6 +213,10 @@ mkdir_made page x time path mode uid gid = made_as page x (op.Mkdir time path mo
 
 pub create_made : (page : ℕ) (x : Indexed) (time : ℕ) (path : List ℕ) (mode uid gid : ℕ) → planned_by page x (op.Create time path mode uid gid) ≡ made_plan x time path 0o100000 mode uid gid [] false
 create_made page x time path mode uid gid = made_as page x (op.Create time path mode uid gid) path (nat_lt 0o7777 mode) false (or_none (is_bad_path path)) (simp (or_none) refl)
+
+pub device_made : (page : ℕ) (x : Indexed) (time : ℕ) (path : List ℕ) (kind : DeviceKind) (mode uid gid : ℕ) (number : List ℕ)
+    → planned_by page x (op.Device time path kind mode uid gid number) ≡ made_plan x time path (device_mode kind) mode uid gid number false
+device_made page x time path kind mode uid gid number = made_as page x (op.Device time path kind mode uid gid number) path (nat_lt 0o7777 mode) false (or_none (is_bad_path path)) (simp (or_none) refl)
 
 pub fifo_made : (page : ℕ) (x : Indexed) (time : ℕ) (path : List ℕ) (mode uid gid : ℕ) → planned_by page x (op.Fifo time path mode uid gid) ≡ made_plan x time path 0o010000 mode uid gid [] false
 fifo_made page x time path mode uid gid = made_as page x (op.Fifo time path mode uid gid) path (nat_lt 0o7777 mode) false (or_none (is_bad_path path)) (simp (or_none) refl)

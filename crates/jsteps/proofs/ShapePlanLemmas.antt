@@ -7,7 +7,8 @@ use Rattle.jname.specs.Live.{key_cmp}
 use Rattle.std.proofs.lemmas.Bool.{cond_both, eqb-false, or_parts, false≢true}
 use Rattle.jmount.specs.Tree.{ObjectOf, Outline, object, named, is_directory, has_bits, directory_bits}
 use Rattle.jmount.specs.declared.fault.FindFault.{FindFault}
-use Rattle.jsteps.specs.Steps.{bytes, sizes, do_step, after, renamed}
+use Rattle.jsteps.specs.Device.{device_mode}
+use Rattle.jsteps.specs.Steps.{own_bytes, bytes, sizes, do_step, after, renamed}
 use Rattle.jsteps.specs.Nodes.{Indexed}
 use Rattle.jsteps.specs.Planning.{size_named, first_len, write_steps, make_steps, move_steps, steps_of}
 use Rattle.jsteps.specs.Where.{names_above, last_name, above, number_or_none, parent, ends_in_directory, named_there, number_there, number_or_zero, number_reached, object_named, is_one_entry, met}
@@ -56,7 +57,7 @@ make_keeps_by : (x : Indexed) (time : ℕ) (path : List ℕ) (mode uid gid : ℕ
     → IsShaped (after sizes x.tree (step.MakeObject time mode uid gid target ∷ (puts ++ step.SetName time (parent x.tree path) (last_name path) x.tree.next ∷ [])))
 make_keeps_by x time path mode uid gid target puts all same there shape =
     let t = x.tree in
-    let v : ObjectOf ℕ = record { mode = mode; uid = uid; gid = gid; atime = time; mtime = time; ctime = time; body = length target } in
+    let v : ObjectOf ℕ = record { mode = mode; uid = uid; gid = gid; atime = time; mtime = time; ctime = time; body = length (own_bytes mode target) } in
     let u : Outline = do_step sizes t (step.MakeObject time mode uid gid target) in
     let below : parent t path < t.next = with_some (object t (parent t path)) (bits_there directory_bits (object t (parent t path)) there) (λ o e. same.numbered (parent t path) o e) in
     let kept : IsShaped u =
@@ -112,6 +113,9 @@ plan_keeps page x (op.File time path mode uid gid bytes) steps same is shape =
     let first = first_len page (length bytes) in
     make_keeps_by x time path (0o100000 + mode) uid gid (take first bytes) (write_steps page time x.tree.next first first (drop first bytes))
     (write_on_object page time x.tree.next first first (drop first bytes)) same is_led.parent_there.there shape
+plan_keeps page x (op.Device time path kind mode uid gid number) steps same is shape =
+    let is_led = (led_alone x path false false same is.bad is.long is.found is.directory).0 in
+    make_keeps x time path (device_mode kind + mode) uid gid number same is_led.parent_there.there shape
 plan_keeps page x (op.Fifo time path mode uid gid) steps same is shape =
     let is_led = (led_alone x path false false same is.bad is.long is.found is.directory).0 in
     make_keeps x time path (0o010000 + mode) uid gid [] same is_led.parent_there.there shape

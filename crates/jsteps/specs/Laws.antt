@@ -119,11 +119,14 @@ abbrev pub GivenFit : Attributes → Type 0
 GivenFit attributes = IsHalf attributes.uid × IsHalf attributes.gid × IsWord attributes.atime
     × IsWord attributes.mtime
 
--- the time and the owners of an operation fit their widths, as those of the type do
+-- the time and the owners of an operation fit their widths, as those of the type do, and so does
+-- the number of a device
 abbrev pub OpFits : Op → Type 0
 OpFits (op.Mkdir time path mode uid gid) = IsWord time × IsHalf uid × IsHalf gid
 OpFits (op.Create time path mode uid gid) = IsWord time × IsHalf uid × IsHalf gid
 OpFits (op.File time path mode uid gid new) = IsWord time × IsHalf uid × IsHalf gid
+OpFits (op.Device time path kind mode uid gid number) =
+    IsWord time × IsHalf uid × IsHalf gid × (length number ≤ 4)
 OpFits (op.Fifo time path mode uid gid) = IsWord time × IsHalf uid × IsHalf gid
 OpFits (op.Socket time path mode uid gid) = IsWord time × IsHalf uid × IsHalf gid
 OpFits (op.Symlink time path link uid gid) = IsWord time × IsHalf uid × IsHalf gid

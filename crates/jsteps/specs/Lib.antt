@@ -1,4 +1,5 @@
 pub mod Text
+pub mod Device
 pub mod Steps
 pub mod Nodes
 pub mod Ready

@@ -2,6 +2,7 @@
 use Rattle.std.specs.Prelude.{ℕ, ◌+◌, ◌-◌, ◌*◌, ◌/◌, ◌==◌, ◌≤◌, max, min, nat_lt, List, [], ◌∷◌, ◌++◌, length, take, drop, slice_range, flat_map, option_map, unwrap_or, if◌then◌else◌}
 use Rattle.flashbase.specs.Lists.{below}
 use Rattle.jmount.specs.Tree.{Outline}
+use Rattle.jsteps.specs.Device.{device_mode}
 use Rattle.jsteps.specs.Where.{parent, last_name, number_or_zero, number_reached, object_named, is_one_entry}
 use Rattle.jsteps.specs.declared.op.Op.{Op}
 use Rattle.jsteps.specs.declared.op.Op.TheVariants as op
@@ -107,6 +108,8 @@ steps_of page t (op.Create time path mode uid gid) =
     make_steps t time path (0o100000 + mode) uid gid []
 steps_of page t (op.File time path mode uid gid bytes) =
     file_steps page t time path (0o100000 + mode) uid gid bytes
+steps_of page t (op.Device time path kind mode uid gid number) =
+    make_steps t time path (device_mode kind + mode) uid gid number
 steps_of page t (op.Fifo time path mode uid gid) =
     make_steps t time path (0o010000 + mode) uid gid []
 steps_of page t (op.Socket time path mode uid gid) =

@@ -4,6 +4,8 @@ ghost use Rattle.std.specs.Prelude.{◌≡◌, ◌++◌, ℕ, List, [], ◌∷�
 ghost use Rattle.jnode.specs.declared.node.Fill.TheVariants.{Zero, Data};
 ghost use Rattle.jnode.specs.declared.node.NodeRef.TheVariants.{Entry, Inode};
 ghost use Rattle.jnode.specs.Vectors.{new_file, named_a};
+ghost use Rattle.jnode.specs.declared.order.Endian.TheVariants.{Little, Big};
+ghost use Rattle.jsteps.specs.Device.{device_number};
 ghost use Rattle.jsteps.specs.Nodes.{no_object, index_of, nodes_of};
 ghost use Rattle.jsteps.specs.Planning.{plain_page, write_steps, resize_steps, piece_puts, bytes_steps};
 ghost use Rattle.jsteps.specs.Refusals.{planned, is_bad_path, is_long, is_bad_mode, is_bad_target, is_too_large, takes_attributes};
@@ -188,10 +190,28 @@ pub fn spent_plans()
         ≡ Err refused.Exhausted }
 {}
 
-/// The nodes of a new file of an empty image, and of bytes past the end of a file of four.
+/// Numbers of devices in both orders: two bytes where major and minor are of 8 bits, else four.
+#[tactic(auto, unfolding(crate::specs::Device::device_number, jnode::specs::Order::bytes_in))]
+pub fn device_numbers()
+    ensures little { device_number Little 4 1 ≡ 1 ∷ 4 ∷ [] }
+    ensures big { device_number Big 4 1 ≡ 4 ∷ 1 ∷ [] }
+    ensures greatest { device_number Little 255 255 ≡ 255 ∷ 255 ∷ [] }
+    ensures little_wide { device_number Little 259 65537 ≡ 1 ∷ 3 ∷ 1 ∷ 16 ∷ [] }
+    ensures big_wide { device_number Big 259 65537 ≡ 16 ∷ 1 ∷ 3 ∷ 1 ∷ [] }
+    ensures major { device_number Big 256 0 ≡ 0 ∷ 1 ∷ 0 ∷ 0 ∷ [] }
+    ensures minor { device_number Big 0 256 ≡ 0 ∷ 16 ∷ 0 ∷ 0 ∷ [] }
+    ensures most { device_number Little 4095 1048575 ≡ 255 ∷ 255 ∷ 255 ∷ 255 ∷ [] }
+{}
+
+/// The nodes of a new file of an empty image, of a device, whose size is 0, and of bytes past the
+/// end of a file of four.
 pub fn known_nodes()
     ensures made { nodes_of (index_of []) (step.MakeObject 0 0o100644 0 0 []
         ∷ step.SetName 0 1 (codes "a") 2 ∷ []) ≡ Inode new_file ∷ Entry named_a ∷ [] }
+    ensures device { nodes_of (index_of []) (step.MakeObject 0 0o020600 0 0 (1 ∷ 4 ∷ [])
+        ∷ step.SetName 0 1 (codes "a") 2 ∷ [])
+        ≡ Inode (record new_file { mode = 0o020600; dsize = 2; fill = Data (1 ∷ 4 ∷ []) })
+        ∷ Entry (record named_a { kind = 2 }) ∷ [] }
     ensures written { nodes_of small (step.Zero 7 2 2 ∷ step.Put 7 2 6 (9 ∷ []) ∷ [])
         ≡ Inode (record new_file {
           version = 2;

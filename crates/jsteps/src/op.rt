@@ -2,6 +2,7 @@
 
 ghost use Rattle.jsteps.specs.Laws.{GivenFit, OpFits};
 
+use crate::device::{DeviceKind, DeviceNumber};
 use crate::text::Text;
 
 /// The attributes that an object gets: the permission bits of its mode, at most 0o7777, its owners,
@@ -61,6 +62,16 @@ pub enum Op<'a> {
         uid: u16,
         gid: u16,
         bytes: Text<'a>,
+    },
+    /// A new character or block device of a number.
+    Device {
+        time: u32,
+        path: Text<'a>,
+        kind: DeviceKind,
+        mode: u32,
+        uid: u16,
+        gid: u16,
+        number: DeviceNumber,
     },
     /// A new FIFO.
     Fifo {
@@ -136,8 +147,8 @@ pub enum Op<'a> {
 }
 
 impl Op<'_> {
-    /// The time and the owners have the widths of their types, which a caller's contract may want
-    /// to know.
+    /// The time and the owners have the widths of their types, and a device's number at most four
+    /// bytes, which a caller's contract may want to know.
     pub fn known(&self)
         ensures { OpFits self.now }
     {
@@ -150,6 +161,15 @@ impl Op<'_> {
             }
             Op::File { time, uid, gid, .. } => {
                 let _known = (*time, *uid, *gid);
+            }
+            Op::Device {
+                time,
+                uid,
+                gid,
+                number,
+                ..
+            } => {
+                let _known = (*time, *uid, *gid, number.len());
             }
             Op::Fifo { time, uid, gid, .. } => {
                 let _known = (*time, *uid, *gid);

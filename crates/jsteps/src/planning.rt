@@ -10,6 +10,7 @@ ghost use Rattle.jsteps.specs.declared.fault.OpFault.TheVariants as refused;
 ghost use Rattle.jsteps.specs.declared.op.Op.TheVariants as op;
 ghost use Rattle.jsteps.specs.declared.step.Step.TheVariants as step;
 
+use crate::device::{DeviceKind, DeviceNumber};
 use crate::fault::OpFault;
 use crate::index::Index;
 use crate::op::{Attributes, Op};
@@ -442,6 +443,28 @@ fn make_named<'a>(
     Ok(steps)
 }
 
+/// A new device.
+fn device<'a>(
+    alloc: Global,
+    index: &Index,
+    time: u32,
+    path: &'a [u8],
+    kind: DeviceKind,
+    mode: u32,
+    uid: u16,
+    gid: u16,
+    number: &'a DeviceNumber,
+) -> Result<Vec<Step<'a>>, OpFault>
+    ensures { (page : ℕ) → GivesPlan result
+        (planned_by page index.now (op.Device time path.now kind mode uid gid number.now)) }
+{
+    let bits = kind.mode();
+    let target = number.as_slice();
+    make(
+        alloc, index, time, path, bits, mode, uid, gid, target, false,
+    )
+}
+
 /// A new FIFO.
 fn fifo<'a>(
     alloc: Global,
@@ -588,6 +611,25 @@ pub fn plan_paged<'a>(
             };
             file(alloc, page.size(), index, path, new, bytes)
         }
+        Op::Device {
+            time,
+            path,
+            kind,
+            mode,
+            uid,
+            gid,
+            number,
+        } => device(
+            alloc,
+            index,
+            *time,
+            path.as_slice(),
+            *kind,
+            *mode,
+            *uid,
+            *gid,
+            number,
+        ),
         Op::Fifo {
             time,
             path,

@@ -53,13 +53,23 @@ const BYTES: [(&str, &str); 23] = [
     ("truncate /d/f 0", ""),
 ];
 
-const NAMES: [(&str, &str); 21] = [
+const NAMES: [(&str, &str); 25] = [
     ("mkdir /x 755", "make 40755 5 6 [], set 1 x 58"),
     ("mkdir /d/e/x 0", "make 40000 5 6 [], set 4 x 58"),
     ("create /d/x 7777", "make 107777 5 6 [], set 3 x 58"),
     ("fifo /d/p 644", "make 10644 5 6 [], set 3 p 58"),
     ("socket /n/s 7777", "make 147777 5 6 [], set 10 s 58"),
     ("fifo /x 0", "make 10000 5 6 [], set 1 x 58"),
+    ("char /x 600 98:97", "make 20600 5 6 [ab], set 1 x 58"),
+    ("block /d/x 7777 98:97", "make 67777 5 6 [ab], set 3 x 58"),
+    (
+        "char /n/x 0 866:411233",
+        "make 20000 5 6 [abcd], set 10 x 58",
+    ),
+    (
+        "block /x 640 866:411233",
+        "make 60640 5 6 [abcd], set 1 x 58",
+    ),
     ("symlink /n/l ../f", "make 120777 5 6 [../f], set 10 l 58"),
     ("link /a /d/b", "set 3 b 2"),
     ("link /s /l", "set 1 l 7"),
@@ -77,7 +87,7 @@ const NAMES: [(&str, &str); 21] = [
     ("rename /s /t", "set 1 t 7, clear 1 s"),
 ];
 
-const ALONE: [(&str, &str); 53] = [
+const ALONE: [(&str, &str); 59] = [
     ("mkdir x 755", "O1 BadPath"),
     ("create  644", "O1 BadPath"),
     ("remove /a/", "O1 BadPath"),
@@ -131,6 +141,12 @@ const ALONE: [(&str, &str); 53] = [
     ("socket /d 644", "O5 Exists"),
     ("fifo /x 10644", "O10 BadMode"),
     ("socket /x 10000", "O10 BadMode"),
+    ("char / 600 1:3", "O1 BadPath"),
+    ("block /none/x 600 8:0", "O3 NotFound"),
+    ("char /a/x 600 1:3", "O4 NotDirectory"),
+    ("block /q 600 8:0", "O5 Exists"),
+    ("char /x 20600 1:3", "O10 BadMode"),
+    ("block /x 10000 8:0", "O10 BadMode"),
 ];
 
 const ROOT: [(&str, &str); 8] = [

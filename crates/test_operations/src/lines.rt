@@ -1,6 +1,7 @@
 //! Operations as lines of text.
 
-use jsteps::{Attributes, Op, Text};
+use byteorder::LittleEndian;
+use jsteps::{Attributes, DeviceKind, DeviceNumber, Op, Text};
 use std::alloc::{AllocError, Global};
 
 /// What is written.
@@ -26,7 +27,8 @@ fn words(line: &str) -> (&str, &str, &str, &str) {
 }
 
 /// The operation of a line. A write has an offset and a count of bytes, which are 0x5A, and 0xFF
-/// under the verb `erase`; a file has a mode and such a count. Attributes have owners 5 and 6 and
+/// under the verb `erase`; a file has a mode and such a count. A device has the verb of its kind, a
+/// mode, and its numbers with a colon between, in little order. Attributes have owners 5 and 6 and
 /// the times 1 and 2.
 pub fn op_of<'a>(line: &'a str, by: By) -> Option<Op<'a>> {
     let (verb, path, second, third) = words(line);
@@ -35,6 +37,8 @@ pub fn op_of<'a>(line: &'a str, by: By) -> Option<Op<'a>> {
             verb, path, second, by,
         )),
         "file" => Some(new_file(path, second, third, by)),
+        "char" => Some(new_device(DeviceKind::Character, path, second, third, by)),
+        "block" => Some(new_device(DeviceKind::Block, path, second, third, by)),
         "write" | "erase" | "truncate" => Some(other_bytes(verb, path, second, third, by.time)),
         "attr" => Some(other_attributes(path, second, by.time)),
         _ => other_name(verb, path, second, by.time),
@@ -110,6 +114,23 @@ fn new_file<'a>(path: &'a str, second: &str, third: &str, by: By) -> Op<'a> {
         uid,
         gid,
         bytes: Text::lent(bytes_of(third)),
+    }
+}
+
+fn new_device<'a>(kind: DeviceKind, path: &'a str, mode: &str, numbers: &str, by: By) -> Op<'a> {
+    let By { time, uid, gid } = by;
+    let (major, minor) = numbers.split_once(':').unwrap_or((numbers, ""));
+    Op::Device {
+        time,
+        path: Text::lent(path.as_bytes()),
+        kind,
+        mode: u32::from_str_radix(mode, 8).unwrap_or(0),
+        uid,
+        gid,
+        number: DeviceNumber::new::<LittleEndian>(
+            major.parse::<u16>().unwrap_or(0),
+            minor.parse::<u32>().unwrap_or(0),
+        ),
     }
 }
 

@@ -41,3 +41,6 @@ returns-in-Socket-clause-few c = few_of (page_size c.args.page) c.args.index.now
 
 pub returns-in-File-clause-few : goal.returns-in-File-clause-few
 returns-in-File-clause-few c = few_of (page_size c.args.page) c.args.index.now c.args.op.now _ (sizes_are_pages c.args.page) (search rules)
+
+pub returns-in-Device-clause-few : goal.returns-in-Device-clause-few
+returns-in-Device-clause-few c = few_of (page_size c.args.page) c.args.index.now c.args.op.now _ (sizes_are_pages c.args.page) (search rules)

@@ -32,6 +32,6 @@ returns-clause-ok c =
     let m = c.self.inside in
     let x = c.args.self.now in
     let a = c.args in
-    let stored : Stored = record { mode = a.mode; uid = a.uid; gid = a.gid; size = c.len.result; atime = a.time; mtime = a.time; ctime = a.time; top = 1 } in
+    let stored : Stored = record { mode = a.mode; uid = a.uid; gid = a.gid; size = c.own_len.result; atime = a.time; mtime = a.time; ctime = a.time; top = 1 } in
     make_advanced m.objects m.names m.next x c.self.view_is c.put_object.new.objects a.time a.mode a.uid a.gid a.target.now stored c.in_ok-put_object.ensures.ok
-    (λ i. record { mode = a.mode; uid = a.uid; gid = a.gid; atime = a.time; mtime = a.time; ctime = a.time; body = c.len.ensures i }) refl
+    (λ i. record { mode = a.mode; uid = a.uid; gid = a.gid; atime = a.time; mtime = a.time; ctime = a.time; body = c.own_len.ensures i }) refl
