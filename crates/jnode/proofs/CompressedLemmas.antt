@@ -1,6 +1,5 @@
 -- A compressed node is answered exactly where the tile reads as it, and what is written of it reads back.
 use Rattle.std.proofs.Common.{◌≡◌, ◌≢◌, ◌↔◌, ℕ, ◌+◌, ◌-◌, ◌%◌, ◌^◌, ◌<◌, ◌≤◌, List, ◌++◌, length, take, drop, slice_index, Option, Some, None, IfSome, refl, sym, ap, ap₂, subst, ◌∙◌, arith}
-use Rattle.std.proofs.lemmas.List.{append_assoc}
 use Rattle.std.proofs.Math.Seq.{take-append_seam}
 use Rattle.flashbase.specs.Crc.{crc_of}
 use Rattle.flashbase.specs.Bytes.{pad4_of, erased}

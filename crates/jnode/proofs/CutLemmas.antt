@@ -1,15 +1,17 @@
 -- Which cut of written bytes is the least that no check shows.
-use Rattle.std.proofs.Common.{◌≡◌, ◌≢◌, ◌↔◌, ◌≤◌, ◌<◌, ◌+◌, ◌-◌, ◌^◌, ◌==◌, ◌&&◌, ◌||◌, ℕ, suc, Bool, true, false, not, IsTrue, nat_lt, Option, Some, None, List, [], ◌∷◌, ◌++◌, length, take, drop, slice_index, bit_xor, refl, sym, ap, ap₂, ◌∙◌, arith, inl, inr, drop-cons, length-drop}
+use Rattle.std.proofs.Common.{◌≡◌, ◌≢◌, ◌↔◌, ◌≤◌, ◌<◌, ◌+◌, ◌-◌, ◌^◌, ◌==◌, ◌&&◌, ◌||◌, ℕ, suc, Bool, true, false, not, IsTrue, nat_lt, Option, Some, None, List, [], ◌∷◌, ◌++◌, length, take, drop, slice_index, bit_xor, refl, sym, ap, ap₂, subst, ◌∙◌, arith, inl, inr, drop-cons, length-drop}
 use Rattle.std.specs.Prelude.{bytes_eq, IfSome}
 use Rattle.std.proofs.lemmas.Bool.{cases_lt, cases_Bool, lt-ltb, ltb-true, eqb-true, eq-eqb, ne_eqb, and_from, and_right, both_ways, false_from_ne_true}
 use Rattle.std.proofs.lemmas.List.{length-take-le, take-append-drop, get_or-replicate, drop_at, take_all, append-nil}
 use Rattle.std.proofs.lemmas.Slice.Eq.{bytes_eq-Decides}
+use Rattle.std.proofs.lemmas.Nat.{xor_lt}
 use lib.Bits.{xor_self}
 use Rattle.flashbase.specs.Bytes.{erased, IsErasedRun}
 use Rattle.flashbase.specs.Crc.{push_byte, crc_after, crc_of}
 use Rattle.flashbase.proofs.CrcLemmas.{crc_goes_on, crc_of-lt}
 use Rattle.jnode.specs.Weak.{torn, is_hidden, IsLeastHidden}
-use Rattle.jnode.proofs.UndoLemmas.{IsGap, gap_of_none, gap_of_more}
+use Rattle.jnode.specs.Tails.{IsGap, IsLeastFrom, Walked}
+use Rattle.jnode.proofs.UndoLemmas.{gap_of_none, gap_of_more, gap_before, gap_before_four, gap_before-lt, one_popped, one_popped-lt, pop_by_table, few_more}
 
 -- ---- whether a cut changes the bytes
 
@@ -71,18 +73,6 @@ hidden_found xs j gap is none differs =
     rw other (eq-eqb _ _ (whole_crc xs j ∙ is.from s s word word (xor_self s ∙ sym none) ∙ sym (torn_crc xs j)))
 
 -- ---- from the last byte to the first
-
--- the least of the cuts from a place on
-abbrev pub IsLeastFrom : List ℕ → ℕ → Option ℕ → Type 0
-IsLeastFrom xs p None = (j : ℕ) → p ≤ j → is_hidden xs j ≡ false
-IsLeastFrom xs p (Some j) = IsTrue (is_hidden xs j) × ((i : ℕ) → p ≤ i → IsTrue (is_hidden xs i) → j ≤ i)
-
-pub record Walked (xs : List ℕ) (place gap : ℕ) (differs : Bool) (least : Option ℕ) : Type 0 where
-  pub within : place ≤ length xs
-  pub gap_is : IsGap (drop place xs) gap
-  pub same : differs ≡ false → drop place xs ≡ erased (length xs - place)
-  pub other : differs ≡ true → drop place xs ≡ erased (length xs - place) → ⊥
-  pub least_is : IsLeastFrom xs place least
 
 none_left : (xs : List ℕ) → drop (length xs) xs ≡ []
 none_left [] = refl
@@ -193,3 +183,68 @@ walk_past xs p gap popped gap' differs differs' least inside small word is befor
       other = λ ok. s.other (sym flag_is ∙ ok);
       least_is = least_before xs p least shown before.least_is;
     }
+
+-- ---- four bytes at once
+
+not_erased : (xs : List ℕ) (p gap : ℕ) → IsGap (drop p xs) gap → drop p xs ≡ erased (length xs - p) → gap ≡ 0
+not_erased xs p gap is same =
+    let n : length (drop p xs) ≡ length xs - p = length-drop p xs in
+    let ends : crc_after 0 (drop p xs) ≡ crc_after 0 (erased (length (drop p xs))) =
+    ap (crc_after 0) same ∙ ap (λ (k : ℕ). crc_after 0 (erased k)) (sym n) in
+    sym (is.to 0 0 (omega arith) (omega arith) ends)
+
+-- what a byte differs in from an erased one
+abbrev pub other_at : List ℕ → ℕ → ℕ
+other_at xs p = bit_xor (slice_index xs p) 0xFF
+
+pub one_past : (xs : List ℕ) (p gap : ℕ) (differs : Bool) (least : Option ℕ) → p < length xs → slice_index xs p < 256 → gap < 2 ^ 32
+    → Walked xs (p + 1) gap differs least → gap_before gap (other_at xs p) ≢ 0
+    → Walked xs p (gap_before gap (other_at xs p)) (differs || not (slice_index xs p == 0xFF)) least
+one_past xs p gap differs least inside small word before some =
+    walk_past xs p gap (one_popped gap) (gap_before gap (other_at xs p)) differs (differs || not (slice_index xs p == 0xFF)) least inside small
+    (one_popped-lt gap word) (pop_by_table gap word) before refl refl (and_right _ _ (ne_eqb _ _ some))
+
+-- four bytes of which the first has a wide gap: no cut within them is hidden
+pub four_past : (xs : List ℕ) (p gap : ℕ) (differs : Bool) (least : Option ℕ) → p + 4 ≤ length xs → ((i : ℕ) → slice_index xs i < 256) → gap < 2 ^ 32
+    → Walked xs (p + 4) gap differs least
+    → 0x1000000 ≤ gap_before_four gap (other_at xs (p + 3)) (other_at xs (p + 2)) (other_at xs (p + 1)) (other_at xs p)
+    → Walked xs p (gap_before_four gap (other_at xs (p + 3)) (other_at xs (p + 2)) (other_at xs (p + 1)) (other_at xs p)) true least
+four_past xs p gap differs least inside small word before wide =
+    let d : (i : ℕ) → other_at xs i < 256 = λ i. xor_lt 8 (slice_index xs i) 0xFF (small i) (omega arith) in
+    let d3 = other_at xs (p + 3) in
+    let d2 = other_at xs (p + 2) in
+    let d1 = other_at xs (p + 1) in
+    let d0 = other_at xs p in
+    let g1 = gap_before gap d3 in
+    let l1 = gap_before-lt gap d3 word (d (p + 3)) in
+    let g2 = gap_before g1 d2 in
+    let l2 = gap_before-lt g1 d2 l1 (d (p + 2)) in
+    let g3 = gap_before g2 d1 in
+    let l3 = gap_before-lt g2 d1 l2 (d (p + 1)) in
+    let g4 = gap_before g3 d0 in
+    let some3 : g3 ≢ 0 = λ none.
+    let few = few_more 8 g3 d0 (omega arith) (omega arith) (omega (arith, d p)) in absurd (omega arith) in
+    let some2 : g2 ≢ 0 = λ none.
+    let few = few_more 8 g2 d1 (omega arith) (omega arith) (omega (arith, d (p + 1))) in
+    let more = few_more 16 g3 d0 (omega arith) (omega arith) (omega (arith, d p)) in absurd (omega arith) in
+    let some1 : g1 ≢ 0 = λ none.
+    let few = few_more 8 g1 d2 (omega arith) (omega arith) (omega (arith, d (p + 2))) in
+    let more = few_more 16 g2 d1 (omega arith) (omega arith) (omega (arith, d (p + 1))) in
+    let most = few_more 24 g3 d0 (omega arith) (omega arith) (omega (arith, d p)) in absurd (omega arith) in
+    let some4 : g4 ≢ 0 = λ none. absurd (omega arith) in
+    let at3 : p + 4 ≡ p + 3 + 1 = omega arith in
+    let at2 : p + 3 ≡ p + 2 + 1 = omega arith in
+    let at1 : p + 2 ≡ p + 1 + 1 = omega arith in
+    let f1 = differs || not (slice_index xs (p + 3) == 0xFF) in
+    let f2 = f1 || not (slice_index xs (p + 2) == 0xFF) in
+    let f3 = f2 || not (slice_index xs (p + 1) == 0xFF) in
+    let f4 = f3 || not (slice_index xs p == 0xFF) in
+    let w1 : Walked xs (p + 3) g1 f1 least = one_past xs (p + 3) gap differs least (omega arith) (small (p + 3)) word (subst (λ (k : ℕ). Walked xs k gap differs least) at3 before) some1 in
+    let w2 : Walked xs (p + 2) g2 f2 least = one_past xs (p + 2) g1 f1 least (omega arith) (small (p + 2)) l1 (subst (λ (k : ℕ). Walked xs k g1 f1 least) at2 w1) some2 in
+    let w3 : Walked xs (p + 1) g3 f3 least = one_past xs (p + 1) g2 f2 least (omega arith) (small (p + 1)) l2 (subst (λ (k : ℕ). Walked xs k g2 f2 least) at1 w2) some3 in
+    let w4 : Walked xs p g4 f4 least = one_past xs p g3 f3 least (omega arith) (small p) l3 w3 some4 in
+    let flag : f4 ≡ true = elim (cases_Bool f4) [
+      | inl it ↦ it
+      | inr not_it ↦ absurd (some4 (not_erased xs p g4 w4.gap_is (w4.same not_it)))
+    ] in
+    subst (λ (f : Bool). Walked xs p g4 f least) flag w4

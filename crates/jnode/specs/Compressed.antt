@@ -2,7 +2,6 @@
 -- jffs2_raw_inode`).
 use Rattle.std.specs.Prelude.{◌≡◌, ◌≢◌, ◌≤◌, ◌<◌, ◌+◌, ℕ, Option, Some, None, List, [], ◌∷◌, ◌++◌, length}
 use Rattle.flashbase.specs.Crc.{crc_of}
-use Rattle.flashbase.specs.Ranges.{IsHalf, IsWord}
 use Rattle.jnode.specs.Order.{number_at, bytes_in}
 use Rattle.jnode.specs.Reading.{inode_type, inode_len, compr_of, data_of, seen_of, IsSoundInode}
 use Rattle.jnode.specs.Writing.{header_bytes, object_bytes, time_bytes, totlen_most, FitsInode}

@@ -4,5 +4,6 @@ pub mod Reading
 pub mod Writing
 pub mod Compressed
 pub mod Weak
+pub mod Tails
 pub mod Vectors
 pub mod Laws

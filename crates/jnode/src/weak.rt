@@ -1,6 +1,7 @@
 //! The least cut of a written node that no check shows.
 
-ghost use Rattle.std.specs.Prelude.{◌≡◌, ◌↔◌, ◌<◌, ◌≤◌, IsTrue, IfSome, length, drop};
+ghost use Rattle.std.specs.Prelude.{◌≡◌, ◌↔◌, ◌+◌, ◌<◌, ◌≤◌, IsTrue, IfSome, length, drop};
+ghost use Rattle.jnode.specs.Tails.{IsTailFrom};
 ghost use Rattle.jnode.specs.Weak.{torn, is_weak, is_sound, IsLeastWeak, IsWrittenNode, IsLeastHidden, stored_at};
 
 use crate::header::{front_of, is_good_front};
@@ -8,32 +9,101 @@ use crate::layout::{TOTLEN_MOST, entry, header, inode, nodetype};
 use crate::node::Seen;
 use crate::order::{Order, u16_at, whole};
 use crate::reading::read_part;
-use crate::undo::pop_byte;
+use crate::undo::{pop_byte, pop_four};
 use flashbase::{Part, erased_run, pad4};
 
-/// The least cut of these bytes that changes them and not their checksum.
-///
-/// One pass, from the last byte to the first. `gap` is the difference (by exclusive or) of two
-/// remainders: one before the bytes from `place` on, one before as many erased bytes, that end in
-/// the same remainder. Where it is 0, a cut at `place` leaves the checksum as it was.
+/// What a walk from the last byte to the first knows of the bytes behind a place.
+#[derive(Clone, Copy)]
+struct Tail {
+    /// The difference (by exclusive or) of two remainders: one before these bytes, one before as
+    /// many erased bytes, that end in the same remainder. Where it is 0, a cut at the place leaves
+    /// the checksum as it was.
+    gap: u32,
+    /// Whether one of these bytes is not an erased one.
+    differs: bool,
+    /// The least cut from the place on that changes the bytes and not their checksum.
+    least: Option<usize>,
+}
+
+/// What is known with the byte at this place, by what is known of those behind it.
+fn with_byte(bytes: &[u8], place: usize, tail: Tail) -> Tail
+    requires within { place < length bytes.now }
+    requires behind { IsTailFrom bytes.now (place + 1) tail }
+    ensures { IsTailFrom bytes.now place result }
+{
+    let byte = bytes[place];
+    let gap = pop_byte(tail.gap) ^ u32::from(byte ^ 0xFF);
+    let differs = tail.differs || byte != 0xFF;
+    let least = if differs && gap == 0 {
+        Some(place)
+    } else {
+        tail.least
+    };
+    Tail {
+        gap,
+        differs,
+        least,
+    }
+}
+
+/// The same with the four bytes from this place on, one after the other.
+fn with_each_of_four(bytes: &[u8], place: usize, tail: Tail) -> Tail
+    requires within { place + 4 ≤ length bytes.now }
+    requires behind { IsTailFrom bytes.now (place + 4) tail }
+    ensures { IsTailFrom bytes.now place result }
+{
+    let tail = with_byte(bytes, place + 3, tail);
+    let tail = with_byte(bytes, place + 2, tail);
+    let tail = with_byte(bytes, place + 1, tail);
+    with_byte(bytes, place, tail)
+}
+
+/// The same with the four bytes from this place on, at once where no cut within them is hidden. A
+/// gap that is 0 at one of these places has at most three bytes of bits at the first of them, so a
+/// wider one shows that there is none.
+fn with_four(bytes: &[u8], place: usize, tail: Tail) -> Tail
+    requires within { place + 4 ≤ length bytes.now }
+    requires behind { IsTailFrom bytes.now (place + 4) tail }
+    ensures { IsTailFrom bytes.now place result }
+{
+    let other = u32::from_le_bytes([
+        bytes[place] ^ 0xFF,
+        bytes[place + 1] ^ 0xFF,
+        bytes[place + 2] ^ 0xFF,
+        bytes[place + 3] ^ 0xFF,
+    ]);
+    let gap = pop_four(tail.gap) ^ other;
+    if gap < 0x0100_0000 {
+        return with_each_of_four(bytes, place, tail);
+    }
+    Tail {
+        gap,
+        differs: true,
+        least: tail.least,
+    }
+}
+
+/// The least cut of these bytes that changes them and not their checksum: one pass, from the last
+/// byte to the first.
 fn least_hidden(bytes: &[u8]) -> Option<usize>
     ensures least { IsLeastHidden bytes.now result }
     ensures within { IfSome result (λ cut. cut < length bytes.now) }
 {
+    let mut tail = Tail {
+        gap: 0,
+        differs: false,
+        least: None,
+    };
     let mut place = bytes.len();
-    let mut gap = 0;
-    let mut differs = false;
-    let mut least = None;
-    while 0 < place {
-        place -= 1;
-        let byte = bytes[place];
-        gap = pop_byte(gap) ^ u32::from(byte ^ 0xFF);
-        differs = differs || byte != 0xFF;
-        if differs && gap == 0 {
-            least = Some(place);
-        }
+    while place >= 4 {
+        place -= 4;
+        tail = with_four(bytes, place, tail);
     }
-    least
+    while place > 0 {
+        place -= 1;
+        tail = with_byte(bytes, place, tail);
+    }
+    tail.least
 }
 
 /// Whether a node is seen that is sound by its checks.
