@@ -18,7 +18,7 @@ const LISTING: &[u8] =
 /// The bytes of an image of one block with these files.
 fn build(alloc: Global) -> Result<Vec<u8>> {
     let parts = Parts::new(alloc);
-    let ops = operations(alloc, listing(alloc, LISTING)?, &parts)?;
+    let ops = operations::<LittleEndian>(alloc, listing(alloc, LISTING)?, &parts)?;
     let empty = mount::<LittleEndian>(alloc, &[], GEOMETRY)?;
     let sink = FromWriter::new(Vec::new(alloc));
     let mut session = Session::<LittleEndian, _>::resume(alloc, &empty, GEOMETRY, 1, sink)?;

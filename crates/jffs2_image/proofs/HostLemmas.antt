@@ -214,7 +214,7 @@ have_bytes told lines parts are = λ name named. (are name named).1
 
 pub files_of_all : (told : List ℕ → Option (List ℕ)) (held : Held) (page : Page) (e : Endian) (size blocks : ℕ) (base text : List ℕ) (lines : List Line) (parts : Parts) (m : Mount) (accepted : ℕ) (places : List Place) (from : ℕ)
     (old new : Option (List ℕ)) (x : ℕ) → m.image ≡ base → from ≡ resume_address e size blocks base → AreRead told lines parts → lines_of text ≡ Ok lines → Answers e size base (Ok m)
-    → IsMade held page e size blocks m (ops_in (part_contents parts) lines) accepted places None → Appends old new (accepted_line from accepted places)
+    → IsMade held page e size blocks m (ops_in e (part_contents parts) lines) accepted places None → Appends old new (accepted_line from accepted places)
     → RunsFiles {T = ℕ} told held page e size blocks base text old new (Ok x)
 files_of_all told held page e size blocks base text lines parts m accepted places from old new x same is are read mounts made put = (
   lines,
@@ -223,12 +223,12 @@ files_of_all told held page e size blocks base text lines parts m accepted place
   record { mount = m; files = part_contents parts; read = read; mounts = mounts; made = made },
   have_bytes told lines parts are,
   subst (λ (at : ℕ). Appends old new (accepted_line at accepted places)) is put,
-  tells_on_base held page e size blocks base (ops_in (part_contents parts) lines) m accepted places same made,
+  tells_on_base held page e size blocks base (ops_in e (part_contents parts) lines) m accepted places same made,
 )
 
 pub files_in_part : (told : List ℕ → Option (List ℕ)) (held : Held) (page : Page) (e : Endian) (size blocks : ℕ) (base text : List ℕ) (lines : List Line) (parts : Parts) (m : Mount) (accepted : ℕ) (places : List Place) (from : ℕ)
     (old new : Option (List ℕ)) (r : Result ℕ ProgramFault) → IsErrAnd r (λ is. is ≡ program.Output) → from ≡ resume_address e size blocks base → AreRead told lines parts → lines_of text ≡ Ok lines
-    → Answers e size base (Ok m) → IsMade held page e size blocks m (ops_in (part_contents parts) lines) accepted places None → PutsPart old new (accepted_line from accepted places)
+    → Answers e size base (Ok m) → IsMade held page e size blocks m (ops_in e (part_contents parts) lines) accepted places None → PutsPart old new (accepted_line from accepted places)
     → RunsFiles {T = ℕ} told held page e size blocks base text old new r
 files_in_part told held page e size blocks base text lines parts m accepted places from old new (Ok x) fault is are read mounts made put = absurd fault
 files_in_part told held page e size blocks base text lines parts m accepted places from old new (Err f) fault is are read mounts made put =
@@ -242,25 +242,25 @@ files_in_part told held page e size blocks base text lines parts m accepted plac
     )
 
 cut_short : (told : List ℕ → Option (List ℕ)) (held : Held) (page : Page) (e : Endian) (size blocks : ℕ) (base text : List ℕ) (lines : List Line) (parts : Parts) (m : Mount)
-    → m.image ≡ base → AreRead told lines parts → lines_of text ≡ Ok lines → HoldsPart held page e size blocks m.image (ops_in (part_contents parts) lines)
+    → m.image ≡ base → AreRead told lines parts → lines_of text ≡ Ok lines → HoldsPart held page e size blocks m.image (ops_in e (part_contents parts) lines)
     → IsCutShort told held page e size blocks base text
 cut_short told held page e size blocks base text lines parts m same are read holds =
-    (lines, part_contents parts, read, have_bytes told lines parts are, subst (λ (image : List ℕ). HoldsPart held page e size blocks image (ops_in (part_contents parts) lines)) same holds)
+    (lines, part_contents parts, read, have_bytes told lines parts are, subst (λ (image : List ℕ). HoldsPart held page e size blocks image (ops_in e (part_contents parts) lines)) same holds)
 
 -- an operation that stopped a run is that of a line
-no_line : (files : List ℕ → List ℕ) (lines : List Line) (n : ℕ) (o : Op) → slice_get (ops_in files lines) n ≡ Some o → None ≡ option_map (λ l. l.number) (slice_get lines n) → ⊥
-no_line files lines n o at none = by (slice_get lines n) (sym (slice_get-map (op_in files) lines n) ∙ at) none
+no_line : (e : Endian) (files : List ℕ → List ℕ) (lines : List Line) (n : ℕ) (o : Op) → slice_get (ops_in e files lines) n ≡ Some o → None ≡ option_map (λ l. l.number) (slice_get lines n) → ⊥
+no_line e files lines n o at none = by (slice_get lines n) (sym (slice_get-map (op_in e files) lines n) ∙ at) none
   where
-    by : (l : Option Line) → option_map (op_in files) l ≡ Some o → None ≡ option_map (λ l. l.number) l → ⊥
+    by : (l : Option Line) → option_map (op_in e files) l ≡ Some o → None ≡ option_map (λ l. l.number) l → ⊥
     by (Some l) at none = cc
     by None at none = cc
 
 pub files_until : (told : List ℕ → Option (List ℕ)) (held : Held) (page : Page) (e : Endian) (size blocks : ℕ) (base text : List ℕ) (lines : List Line) (parts : Parts) (m : Mount) (accepted : ℕ) (places : List Place)
     (old new : Option (List ℕ)) (f : SessionFault) (line : Option ℕ) → line ≡ option_map (λ l. l.number) (slice_get lines accepted) → AreRead told lines parts → lines_of text ≡ Ok lines
-    → Answers e size base (Ok m) → IsMade held page e size blocks m (ops_in (part_contents parts) lines) accepted places (Some f)
+    → Answers e size base (Ok m) → IsMade held page e size blocks m (ops_in e (part_contents parts) lines) accepted places (Some f)
     → RunsFiles {T = ℕ} told held page e size blocks base text old new (Err (program.Session f line))
 files_until told held page e size blocks base text lines parts m accepted places old new f None is are read mounts made =
-    absurd (no_line (part_contents parts) lines accepted made.put.emitted.runs.4 made.put.emitted.runs.5.next is)
+    absurd (no_line e (part_contents parts) lines accepted made.put.emitted.runs.4 made.put.emitted.runs.5.next is)
 files_until told held page e size blocks base text lines parts m accepted places old new f (Some n) is are read mounts made =
     (lines, accepted, places, record { mount = m; files = part_contents parts; read = read; mounts = mounts; made = made }, have_bytes told lines parts are, sym is)
 
@@ -292,12 +292,12 @@ files_not_resumed told held page e size blocks base text lines parts m old new f
 -- no fault of making is one of a line
 pub files_not_made : (told : List ℕ → Option (List ℕ)) (held : Held) (page : Page) (e : Endian) (size blocks : ℕ) (output base text : List ℕ) (lines : List Line) (parts : Parts) (m : Mount) (old new : Option (List ℕ)) (f : ProgramFault) (r : Result ℕ ProgramFault)
     → IsErrAnd r (λ is. is ≡ f) → m.image ≡ base → AreRead told lines parts → lines_of text ≡ Ok lines → IsNotMade page e size blocks m output f
-    → HoldsCut held page e size blocks m.image (ops_in (part_contents parts) lines) f → RunsFiles {T = ℕ} told held page e size blocks base text old new r
+    → HoldsCut held page e size blocks m.image (ops_in e (part_contents parts) lines) f → RunsFiles {T = ℕ} told held page e size blocks base text old new r
 files_not_made told held page e size blocks output base text lines parts m old new f (Ok x) fault same are read not cut = absurd fault
 files_not_made told held page e size blocks output base text lines parts m old new f (Err g) fault same are read not cut =
     subst (λ (z : ProgramFault). RunsFiles {T = ℕ} told held page e size blocks base text old new (Err z)) (sym fault) (by f not cut)
   where
-    by : (f : ProgramFault) → IsNotMade page e size blocks m output f → HoldsCut held page e size blocks m.image (ops_in (part_contents parts) lines) f
+    by : (f : ProgramFault) → IsNotMade page e size blocks m output f → HoldsCut held page e size blocks m.image (ops_in e (part_contents parts) lines) f
         → RunsFiles {T = ℕ} told held page e size blocks base text old new (Err f)
     by (program.Load f) not cut = absurd not
     by (program.Scan f) not cut = tt

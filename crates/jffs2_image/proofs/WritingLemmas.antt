@@ -56,7 +56,7 @@ not_made held page e size blocks output base text m program.OutOfMemory old n mo
 
 -- what was made of the lines of a listing
 pub run_on : (held : Held) (page : Page) (e : Endian) (size blocks : ℕ) (base text : List ℕ) (lines : List Line) (files : List ℕ → List ℕ) (m : Mount) (accepted : ℕ) (places : List Place) (stopped : Option SessionFault)
-    → lines_of text ≡ Ok lines → Answers e size base (Ok m) → IsMade held page e size blocks m (ops_in files lines) accepted places stopped
+    → lines_of text ≡ Ok lines → Answers e size base (Ok m) → IsMade held page e size blocks m (ops_in e files lines) accepted places stopped
     → IsRunOn held page e size blocks base text lines accepted places stopped
 run_on held page e size blocks base text lines files m accepted places stopped read mounts made = record { mount = m; files = files; read = read; mounts = mounts; made = made }
 

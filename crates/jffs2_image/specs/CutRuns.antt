@@ -30,9 +30,9 @@ use Rattle.jffs2_image.specs.Writes.{IsNamedByLine, IsPartUnread, IsUnreadFile}
 -- ---- the lines of a listing
 
 -- its operations, with the bytes of the files that they name, and the numbers of its lines
-abbrev pub asked_of : (List ℕ → List ℕ) → List Line → Asked
-asked_of files lines =
-    record { telling = Nodes; ops = ops_in files lines; lines = map (λ line. line.number) lines }
+abbrev pub asked_of : Endian → (List ℕ → List ℕ) → List Line → Asked
+asked_of e files lines =
+    record { telling = Nodes; ops = ops_in e files lines; lines = map (λ line. line.number) lines }
 
 -- the program's answer where this is told
 abbrev pub answer_of_cuts : Result ℕ CutsFault → Result ℕ ProgramFault
@@ -50,7 +50,7 @@ pub record TellsLines (told : List ℕ → Option (List ℕ)) (e : Endian) (flas
   pub read : lines_of text ≡ Ok lines
   pub bytes : HaveBytes told lines files
   pub mounts : Answers e flash.geometry.block base (Ok mount)
-  pub puts : PutsCuts e flash mount (asked_of files lines) sink cuts
+  pub puts : PutsCuts e flash mount (asked_of e files lines) sink cuts
   pub comes_to : answer ≡ answer_of_cuts cuts
 
 -- why nothing is told of them

@@ -78,7 +78,7 @@ abbrev pub IsCutShort : (List ℕ → Option (List ℕ)) → Held → Page → E
 IsCutShort told held page e size blocks base text =
     (lines : List Line) × (files : List ℕ → List ℕ) × (lines_of text ≡ Ok lines)
     × HaveBytes told lines files
-    × HoldsPart held page e size blocks base (ops_in files lines)
+    × HoldsPart held page e size blocks base (ops_in e files lines)
 
 -- the lines and the files that they name were read
 abbrev pub AreAllRead : (List ℕ → Option (List ℕ)) → List ℕ → Type 0
@@ -98,7 +98,7 @@ RunsFiles told held page e size blocks base text old new (Ok _) =
     × (run : IsRunOn held page e size blocks base text lines accepted places None)
     × HaveBytes told lines run.files
     × Appends old new (accepted_line (resume_address e size blocks base) accepted places)
-    × TellsLength page e size blocks base (ops_in run.files lines) accepted places
+    × TellsLength page e size blocks base (ops_in e run.files lines) accepted places
 RunsFiles told held page e size blocks base text old new (Err program.Output) =
     (lines : List Line) × (accepted : ℕ) × (places : List Place)
     × (run : IsRunOn held page e size blocks base text lines accepted places None)

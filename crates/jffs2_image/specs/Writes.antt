@@ -168,7 +168,7 @@ pub record IsRunOn (held : Held) (page : Page) (e : Endian) (size blocks : ℕ) 
   pub files : List ℕ → List ℕ
   pub read : lines_of text ≡ Ok lines
   pub mounts : Answers e size base (Ok mount)
-  pub made : IsMade held page e size blocks mount (ops_in files lines) accepted places stopped
+  pub made : IsMade held page e size blocks mount (ops_in e files lines) accepted places stopped
 
 -- the file that is made failed, or memory ran out
 abbrev pub IsFaultOfMaking : SessionFault → Type 0

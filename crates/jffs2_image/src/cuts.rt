@@ -76,7 +76,7 @@ fn tell_lines<'p, 'b: 'p, E: Order, T: Sink>(
     ensures unread { (n : ℕ) → BlamesReading n n result }
 {
     let numbers = numbers_of(alloc, &lines)?;
-    let ops = operations(alloc, lines, parts)?;
+    let ops = operations::<E>(alloc, lines, parts)?;
     let mounted = mount::<E>(alloc, base, flash.geometry)?;
     tell_ops::<E, T>(alloc, &mounted, flash, &ops, &numbers, sink)
 }

@@ -253,7 +253,7 @@ fn write_lines<'a, 'p, 'b: 'p, E: Order, M: Maker, T: Sink>(
     ensures noted { IfOk result (IsNotedIn E.order target.entry.options.geometry.block base.now) }
 {
     let numbers = numbers_of(alloc, &lines)?;
-    let ops = operations(alloc, lines, parts)?;
+    let ops = operations::<E>(alloc, lines, parts)?;
     let mounted = mount::<E>(alloc, base, target.options.geometry)?;
     let from = resumed_from::<E>(&mounted, target)?;
     let report = make_image::<E, M>(alloc, maker, target, &mounted, &ops)?;

@@ -2,10 +2,12 @@
 use Rattle.std.specs.Prelude.{◌≡◌, ℕ, ◌+◌, ◌==◌, ◌||◌, Bool, List, [], ◌∷◌, ◌++◌, length, slice_index, codes, Option, Some, None, option_and_then, Result, Ok, Err, if◌then◌else◌}
 use Rattle.std.specs.List.{slice_split}
 use Rattle.std.specs.Str.{bytes_eq}
+use Rattle.jnode.specs.declared.order.Endian.{Endian}
 use Rattle.jword.specs.Words.{◌>>=◌}
+use Rattle.jsteps.specs.Device.{device_number}
 use Rattle.jsteps.specs.declared.op.Op.{Op}
 use Rattle.jsteps.specs.declared.op.Op.TheVariants as op
-use Rattle.jlisting.specs.Words.{decimal_of, mode_of, text_of, hex_data_of, file_name_of, escaped_name_of}
+use Rattle.jlisting.specs.Words.{decimal_of, device_kind_of, mode_of, text_of, hex_data_of, file_name_of, escaped_name_of}
 use Rattle.jlisting.specs.declared.fault.ListingFault.{ListingFault}
 use Rattle.jlisting.specs.declared.fault.ListingFault.TheVariants as fault
 use Rattle.jlisting.specs.declared.line.Action.{Action}
@@ -46,6 +48,19 @@ create_line s a b =
 abbrev pub file_line : Settings → List ℕ → List ℕ → List ℕ → Option Statement
 file_line s a b c = mode_of a >>= λ mode. text_of b >>= λ path. escaped_name_of c >>= λ file.
     Some (kind.Action (action.File s.time path mode s.uid s.gid file))
+
+-- the numbers of a device: 12 bits and 20, as Linux has them (include/linux/kdev_t.h)
+abbrev pub major_word : List ℕ → Option ℕ
+major_word word = decimal_of 4095 word
+
+abbrev pub minor_word : List ℕ → Option ℕ
+minor_word word = decimal_of 1048575 word
+
+abbrev pub device_line : Settings → List ℕ → List ℕ → List ℕ → List ℕ → List ℕ → Option Statement
+device_line s a b c d e =
+    device_kind_of a >>= λ device. mode_of b >>= λ mode. major_word c >>= λ major.
+    minor_word d >>= λ minor. text_of e >>= λ path.
+    Some (kind.Action (action.Device s.time path device mode s.uid s.gid major minor))
 
 abbrev pub fifo_line : Settings → List ℕ → List ℕ → Option Statement
 fifo_line s a b =
@@ -122,6 +137,11 @@ three_operands s name a b c =
     else if bytes_eq name (codes "part") then part_line s a b c
     else None
 
+unfoldable pub five_operands : Settings → List ℕ → List ℕ → List ℕ → List ℕ → List ℕ → List ℕ
+    → Option Statement
+five_operands s name a b c d e =
+    if bytes_eq name (codes "device") then device_line s a b c d e else None
+
 unfoldable pub six_operands : Settings → List ℕ → List ℕ → List ℕ → List ℕ → List ℕ → List ℕ
     → List ℕ → Option Statement
 six_operands s name a b c d e f =
@@ -131,6 +151,7 @@ abbrev pub statement_of_words : Settings → List (List ℕ) → Option Statemen
 statement_of_words s (name ∷ a ∷ []) = one_operand s name a
 statement_of_words s (name ∷ a ∷ b ∷ []) = two_operands s name a b
 statement_of_words s (name ∷ a ∷ b ∷ c ∷ []) = three_operands s name a b c
+statement_of_words s (name ∷ a ∷ b ∷ c ∷ d ∷ e ∷ []) = five_operands s name a b c d e
 statement_of_words s (name ∷ a ∷ b ∷ c ∷ d ∷ e ∷ f ∷ []) = six_operands s name a b c d e f
 statement_of_words s _ = None
 
@@ -191,11 +212,14 @@ IsListingFault lines fault.OutOfMemory = Unit {0}
 -- the one whose bytes are written
 abbrev pub file_of : Action → Option (List ℕ)
 file_of (action.Op o) = None
+file_of (action.Device time path device mode uid gid major minor) = None
 file_of (action.File time path mode uid gid file) = Some file
 file_of (action.Part time path offset file) = Some file
 
--- the operation, where that file has these bytes
-abbrev pub op_of : Action → List ℕ → Op
-op_of (action.Op o) bytes = o
-op_of (action.File time path mode uid gid file) bytes = op.File time path mode uid gid bytes
-op_of (action.Part time path offset file) bytes = op.Write time path offset bytes
+-- the operation in an image of a byte order, where that file has these bytes
+abbrev pub op_of : Endian → Action → List ℕ → Op
+op_of e (action.Op o) bytes = o
+op_of e (action.Device time path device mode uid gid major minor) bytes =
+    op.Device time path device mode uid gid (device_number e major minor)
+op_of e (action.File time path mode uid gid file) bytes = op.File time path mode uid gid bytes
+op_of e (action.Part time path offset file) bytes = op.Write time path offset bytes

@@ -1,6 +1,8 @@
 -- What the words of a listing stand for. No word is empty: an empty one stands for nothing.
 use Rattle.std.specs.Prelude.{ℕ, ◌+◌, ◌-◌, ◌*◌, ◌==◌, ◌&&◌, Bool, nat_le, nat_lt, List, [], ◌∷◌, length, codes, Option, Some, None, if◌then◌else◌}
 use Rattle.std.specs.Str.{bytes_eq, is_utf8}
+use Rattle.jsteps.specs.declared.device.DeviceKind.{DeviceKind}
+use Rattle.jsteps.specs.declared.device.DeviceKind.TheVariants.{Character, Block}
 use Rattle.jword.specs.Words.{◌>>=◌, pairs_of, unescaped}
 
 -- ---- numbers
@@ -25,6 +27,13 @@ decimal_of limit word = number_of 10 10 limit word
 
 abbrev pub mode_of : List ℕ → Option ℕ
 mode_of word = number_of 8 6 0o777777 word
+
+-- the kind of a device
+abbrev pub device_kind_of : List ℕ → Option DeviceKind
+device_kind_of word =
+    if bytes_eq word (codes "c") then Some Character
+    else if bytes_eq word (codes "b") then Some Block
+    else None
 
 -- ---- bytes
 

@@ -1,6 +1,7 @@
 //! Worked listings. Each function's contract is a text and its lines, and its body is empty.
 
 ghost use Rattle.std.specs.Prelude.{◌≡◌, [], ◌∷◌, Some, None, Ok, Err, codes};
+ghost use Rattle.jsteps.specs.declared.device.DeviceKind.TheVariants.{Character, Block};
 ghost use Rattle.jsteps.specs.declared.op.Op.TheVariants as op;
 ghost use Rattle.jlisting.specs.Words.{decimal_of, mode_of, text_of, hex_data_of};
 ghost use Rattle.jlisting.specs.Listing.{lines_of};
@@ -22,6 +23,18 @@ pub fn settings_are_listed()
     ensures { lines_of (codes "mkdir 0 /a\n# later\n\ntime 5\nowner 1 65535\nmkdir 777 /b\n") ≡ Ok (
         record { number = 1; action = action.Op (op.Mkdir 0 (codes "/a") 0 0 0) }
         ∷ record { number = 6; action = action.Op (op.Mkdir 5 (codes "/b") 0o777 1 65535) } ∷ []) }
+{}
+
+/// Devices, with their numbers at the limits and past them.
+#[tactic(auto, unfolding(crate::specs::Listing::lines_of, crate::specs::Listing::statement_of, crate::specs::Listing::five_operands))]
+pub fn devices_are_listed()
+    ensures listed { lines_of (codes "device c 600 5 1 /c\ndevice b 0640 4095 1048575 /b") ≡ Ok (
+        record { number = 1; action = action.Device 0 (codes "/c") Character 0o600 0 0 5 1 }
+        ∷ record { number = 2; action = action.Device 0 (codes "/b") Block 0o640 0 0 4095 1048575 }
+        ∷ []) }
+    ensures major { lines_of (codes "device c 600 4096 1 /c") ≡ Err 1 }
+    ensures minor { lines_of (codes "device c 600 5 1048576 /c") ≡ Err 1 }
+    ensures other { lines_of (codes "device p 600 5 1 /c") ≡ Err 1 }
 {}
 
 /// Two spaces, a space at the end, and a carriage return.

@@ -1,12 +1,13 @@
 //! The forms of a line, each by the words after its first.
 
 ghost use Rattle.jword.specs.Words.{IsRead};
-ghost use Rattle.jlisting.specs.Listing.{time_line, owner_line, mkdir_line, create_line, file_line, fifo_line, socket_line, symlink_line, write_line, part_line, truncate_line, link_line, rename_line, replace_line, remove_line, attr_line};
+ghost use Rattle.jlisting.specs.Listing.{time_line, owner_line, mkdir_line, create_line, file_line, device_line, fifo_line, socket_line, symlink_line, write_line, part_line, truncate_line, link_line, rename_line, replace_line, remove_line, attr_line};
 
 use crate::line::Action;
 use crate::statement::{Settings, Statement};
 use crate::words::{
-    data_word, decimal_word, escaped_file_word, file_word, mode_word, owner_word, text_word,
+    data_word, decimal_word, device_kind_word, escaped_file_word, file_word, major_word,
+    minor_word, mode_word, owner_word, text_word,
 };
 use jsteps::{Attributes, Op};
 use jword::WordFault;
@@ -97,6 +98,36 @@ pub fn read_file<'a>(
         uid: settings.uid,
         gid: settings.gid,
         file,
+    }))
+}
+
+/// `device KIND MODE MAJOR MINOR PATH`
+pub fn read_device<'a>(
+    alloc: Global,
+    settings: Settings,
+    device: &'a [u8],
+    mode: &'a [u8],
+    major: &'a [u8],
+    minor: &'a [u8],
+    path: &'a [u8],
+) -> Result<Statement<'a>, WordFault>
+    ensures { IsRead (device_line settings device.entry.now mode.entry.now major.entry.now
+        minor.entry.now path.entry.now) result }
+{
+    let device = device_kind_word(device)?;
+    let mode = mode_word(mode)?;
+    let major = major_word(major)?;
+    let minor = minor_word(minor)?;
+    let path = text_word(alloc, path)?;
+    Ok(Statement::Action(Action::Device {
+        time: settings.time,
+        path,
+        device,
+        mode,
+        uid: settings.uid,
+        gid: settings.gid,
+        major,
+        minor,
     }))
 }
 

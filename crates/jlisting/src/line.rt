@@ -2,7 +2,8 @@
 
 ghost use Rattle.std.specs.Prelude.{◌≡◌, option_map, string_bytes};
 
-use jsteps::{Op, Text};
+use jnode::Order;
+use jsteps::{DeviceKind, DeviceNumber, Op, Text};
 use std::marker::Model;
 
 /// Where a name lies.
@@ -61,6 +62,17 @@ impl<'a> FileName<'a> {
 #[derive(Drop)]
 pub enum Action<'a> {
     Op(Op<'a>),
+    /// A new device. Its number is written in the byte order of the image.
+    Device {
+        time: u32,
+        path: Text<'a>,
+        device: DeviceKind,
+        mode: u32,
+        uid: u16,
+        gid: u16,
+        major: u16,
+        minor: u32,
+    },
     /// A new file with the bytes of a file of the host, which are not read yet.
     File {
         time: u32,
@@ -88,18 +100,37 @@ impl<'a> Action<'a> {
     {
         match self {
             Action::Op(_) => None,
+            Action::Device { .. } => None,
             Action::File { file, .. } => Some(file.as_str()),
             Action::Part { file, .. } => Some(file.as_str()),
         }
     }
 
-    /// The operation, where that file has these bytes. They are lent; without a file they have no
-    /// use.
-    pub fn op(self, bytes: &'a [u8]) -> Op<'a>
-        ensures { result ≡ op_of self.entry bytes.entry.now }
+    /// The operation in an image of `E`'s order, where that file has these bytes. They are lent;
+    /// without a file they have no use.
+    pub fn op<E: Order>(self, bytes: &'a [u8]) -> Op<'a>
+        ensures { result ≡ op_of E.order self.entry bytes.entry.now }
     {
         match self {
             Action::Op(op) => op,
+            Action::Device {
+                time,
+                path,
+                device,
+                mode,
+                uid,
+                gid,
+                major,
+                minor,
+            } => Op::Device {
+                time,
+                path,
+                kind: device,
+                mode,
+                uid,
+                gid,
+                number: DeviceNumber::new::<E>(major, minor),
+            },
             Action::File {
                 time,
                 path,

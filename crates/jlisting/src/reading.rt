@@ -3,12 +3,12 @@
 ghost use Rattle.std.specs.Prelude.{◌==◌, ◌∷◌};
 ghost use Rattle.std.specs.List.{slice_split};
 ghost use Rattle.jword.specs.Words.{IsRead};
-ghost use Rattle.jlisting.specs.Listing.{one_operand, two_operands, three_operands, six_operands, statement_of, statement_of_words};
+ghost use Rattle.jlisting.specs.Listing.{one_operand, two_operands, three_operands, five_operands, six_operands, statement_of, statement_of_words};
 
 use crate::forms::{
-    read_attr, read_create, read_fifo, read_file, read_link, read_mkdir, read_owner, read_part,
-    read_remove, read_rename, read_replace, read_socket, read_symlink, read_time, read_truncate,
-    read_write,
+    read_attr, read_create, read_device, read_fifo, read_file, read_link, read_mkdir, read_owner,
+    read_part, read_remove, read_rename, read_replace, read_socket, read_symlink, read_time,
+    read_truncate, read_write,
 };
 use crate::split::split_once;
 use crate::statement::{Settings, Statement};
@@ -94,6 +94,28 @@ fn read_three<'a>(
     }
 }
 
+/// A line of six words.
+#[tactic(auto, unfolding(crate::specs::Listing::five_operands))]
+fn read_five<'a>(
+    alloc: Global,
+    settings: Settings,
+    name: &[u8],
+    a: &'a [u8],
+    b: &'a [u8],
+    c: &'a [u8],
+    d: &'a [u8],
+    e: &'a [u8],
+) -> Result<Statement<'a>, WordFault>
+    ensures { IsRead (five_operands settings name.now a.entry.now b.entry.now c.entry.now
+        d.entry.now e.entry.now) result }
+{
+    if is_word(name, b"device") {
+        read_device(alloc, settings, a, b, c, d, e)
+    } else {
+        Err(WordFault::Invalid)
+    }
+}
+
 /// A line of seven words.
 #[tactic(auto, unfolding(crate::specs::Listing::six_operands))]
 fn read_six<'a>(
@@ -135,7 +157,7 @@ fn read_many<'a>(
         return Err(WordFault::Invalid);
     };
     let Some((e, line)) = split_once(line, b' ') else {
-        return Err(WordFault::Invalid);
+        return read_five(alloc, settings, name, a, b, c, d, line);
     };
     match split_once(line, b' ') {
         None => read_six(alloc, settings, name, a, b, c, d, e, line),

@@ -3,10 +3,10 @@
 ghost use Rattle.std.specs.Prelude.{◌≡◌, ◌<◌, ◌≤◌, ◌^◌, ◌∷◌, Some, None, Err, IfOk, IfErr, IfSome, length, option_map};
 ghost use Rattle.std.specs.Str.{bytes_eq};
 ghost use Rattle.jword.specs.Words.{IsRead};
-ghost use Rattle.jlisting.specs.Words.{digits_from, number_of, decimal_of, mode_of, text_of, hex_data_of, file_name_of, escaped_name_of};
+ghost use Rattle.jlisting.specs.Words.{digits_from, number_of, decimal_of, device_kind_of, mode_of, text_of, hex_data_of, file_name_of, escaped_name_of};
 
 use crate::line::FileName;
-use jsteps::Text;
+use jsteps::{DeviceKind, Text};
 use jword::{WordFault, unescape, unhex};
 use std::alloc::Global;
 
@@ -69,6 +69,35 @@ pub fn mode_word(word: &[u8]) -> Result<u32, WordFault>
 {
     let n = number(word, 8, 6, 0o777777)?;
     Ok(n as u32)
+}
+
+/// The major number of a device.
+pub fn major_word(word: &[u8]) -> Result<u16, WordFault>
+    ensures { IsRead (decimal_of 4095 word.now) result }
+{
+    let n = number(word, 10, 10, 4095)?;
+    Ok(n as u16)
+}
+
+/// And the minor one.
+pub fn minor_word(word: &[u8]) -> Result<u32, WordFault>
+    ensures { IsRead (decimal_of 1048575 word.now) result }
+{
+    let n = number(word, 10, 10, 1048575)?;
+    Ok(n as u32)
+}
+
+/// The kind of a device.
+pub fn device_kind_word(word: &[u8]) -> Result<DeviceKind, WordFault>
+    ensures { IsRead (device_kind_of word.now) result }
+{
+    if is_word(word, b"c") {
+        Ok(DeviceKind::Character)
+    } else if is_word(word, b"b") {
+        Ok(DeviceKind::Block)
+    } else {
+        Err(WordFault::Invalid)
+    }
 }
 
 /// A path or a target: lent where no byte of it is escaped.

@@ -2,11 +2,12 @@
 
 use crate::checks::{equal, expect_at};
 use crate::shown::{is_shown, show_line};
+use byteorder::{BigEndian, LittleEndian};
 use jlisting::{Action, Line, listing};
 use std::test::Fail;
 
 /// Whole listings, each with the lines that are read of it.
-const LISTINGS: [(&[u8], &str); 13] = [
+const LISTINGS: [(&[u8], &str); 14] = [
     (
         b"create 0644 /a\nwrite /a 0 0102030405060708090a\ntruncate /a 4\nwrite /a 8 ff\n",
         "1: 0 create 644 0 0 /a\n2: 0 write 0 /a \\x01\\x02\\x03\\x04\\x05\\x06\\x07\\x08\\x09\\x0a\n\
@@ -47,6 +48,10 @@ const LISTINGS: [(&[u8], &str); 13] = [
         "3: 7 fifo 622 1 65535 /a\n4: 7 socket 777777 1 65535 /b\n",
     ),
     (
+        b"time 7\nowner 1 65535\ndevice c 0622 5 1 /\\x61\ndevice b 777777 8 16 /b\n",
+        "3: 7 character 622 1 65535 /a 5 1\n4: 7 block 777777 1 65535 /b 8 16\n",
+    ),
+    (
         b"time 7\nowner 1 65535\nfile 0622 /\\x61\\x20 host\\x20a\\x5c\\xc3\xa4\nfile 0 /b -\n",
         "3: 7 file 622 1 65535 /a\\x20 host a\\\u{e4}\n4: 7 file 0 1 65535 /b -\n",
     ),
@@ -65,7 +70,7 @@ const EMPTY: [&[u8]; 8] = [
 ];
 
 /// Words, each in a line of its own, at the limits of what is read.
-const WORDS: [(&[u8], &str); 33] = [
+const WORDS: [(&[u8], &str); 37] = [
     (b"truncate /a 0000000000", "1: 0 truncate 0 /a\n"),
     (b"truncate /a 4294967295", "1: 0 truncate 4294967295 /a\n"),
     (b"truncate /a 0000000042", "1: 0 truncate 42 /a\n"),
@@ -98,6 +103,19 @@ const WORDS: [(&[u8], &str); 33] = [
     (b"file 644 /a \\x0a\\x00", "1: 0 file 644 0 0 /a \n\0\n"),
     (b"file 777777 /\\x61 file", "1: 0 file 777777 0 0 /a file\n"),
     (b"link a b", "1: 0 link a b\n"),
+    (
+        b"device c 0 4095 1048575 /a",
+        "1: 0 character 0 0 0 /a 4095 1048575\n",
+    ),
+    (b"device b 7 0 0 /a", "1: 0 block 7 0 0 /a 0 0\n"),
+    (
+        b"device c 1 0000000001 0000000002 c",
+        "1: 0 character 1 0 0 c 1 2\n",
+    ),
+    (
+        b"device b 107777 256 257 /\\x20",
+        "1: 0 block 107777 0 0 /\\x20 256 257\n",
+    ),
     (b"attr 0 0 0 0 0 /a", "1: 0 attr 0 0 0 0 0 /a\n"),
     (
         b"attr 777777 65535 0000065534 4294967295 4294967294 /\x61",
@@ -124,9 +142,9 @@ fn listings_that_are_read(rt: HostRuntime) {
 #[test]
 fn lines_with_files_become_operations(rt: HostRuntime) -> Result<(), Fail> {
     let mut out = String::new(rt.alloc());
-    let text = b"time 3\npart /a 4 f\nremove /a\nowner 5 6\nfile 600 /b \\x67\n".to_vec(
-        rt.alloc(),
-    )?;
+    let text = b"time 3\npart /a 4 f\nremove /a\nowner 5 6\nfile 600 /b \\x67\n\
+        device b 640 259 65537 /c\ndevice c 620 4 1 /d\n"
+        .to_vec(rt.alloc())?;
     let lines = listing(rt.alloc(), &text)?;
     let bytes = b"xyz".to_vec(rt.alloc())?;
     for line in lines {
@@ -137,13 +155,17 @@ fn lines_with_files_become_operations(rt: HostRuntime) -> Result<(), Fail> {
         };
         equal(&rt, line.action.file(), wanted);
         let number = line.number;
-        let action = Action::Op(line.action.op(&bytes));
+        let action = Action::Op(match number {
+            6 => line.action.op::<LittleEndian>(&bytes),
+            _ => line.action.op::<BigEndian>(&bytes),
+        });
         show_line(&mut out, &Line { number, action })?;
     }
     equal(
         &rt,
         out.as_str(),
-        "2: 3 write 4 /a xyz\n3: 3 remove /a\n5: 3 file 600 5 6 /b xyz\n",
+        "2: 3 write 4 /a xyz\n3: 3 remove /a\n5: 3 file 600 5 6 /b xyz\n\
+        6: 3 block 640 5 6 /c \\x01\\x03\\x01\\x10\n7: 3 character 620 5 6 /d \\x04\\x01\n",
     );
     Ok(())
 }

@@ -1,14 +1,18 @@
 //! Listings as they are read, as lines of text.
 
 use jlisting::{Action, Line, ListingFault, listing};
-use jsteps::{Attributes, Op, Text};
+use jsteps::{Attributes, DeviceKind, Op, Text};
 use std::alloc::{AllocError, Global};
 use std::fmt::Write;
 
 /// Bytes after a space, each that is no plain letter as `\x` and two digits.
 fn show_bytes(out: &mut String, text: &Text<'_>) -> Result<(), AllocError> {
+    show_slice(out, text.as_slice())
+}
+
+fn show_slice(out: &mut String, bytes: &[u8]) -> Result<(), AllocError> {
     out.push_str(" ")?;
-    for byte in text.as_slice() {
+    for byte in bytes {
         if *byte > 32 && *byte < 127 && *byte != b'\\' {
             out.push(char::from(*byte))?;
         } else {
@@ -61,6 +65,50 @@ fn show_attributes(
     show_bytes(out, path)
 }
 
+fn device_verb(kind: DeviceKind) -> &'static str {
+    match kind {
+        DeviceKind::Character => "character",
+        DeviceKind::Block => "block",
+    }
+}
+
+/// A new device, with the bytes of its number.
+fn show_device(out: &mut String, op: &Op<'_>) -> Result<(), AllocError> {
+    let Op::Device {
+        time,
+        path,
+        kind,
+        mode,
+        uid,
+        gid,
+        number,
+    } = op
+    else {
+        return Ok(());
+    };
+    show_object(out, device_verb(*kind), (*time, *mode, *uid, *gid), path)?;
+    show_slice(out, number.as_slice())
+}
+
+/// A new device, with its two numbers.
+fn show_listed_device(out: &mut String, action: &Action<'_>) -> Result<(), AllocError> {
+    let Action::Device {
+        time,
+        path,
+        device,
+        mode,
+        uid,
+        gid,
+        major,
+        minor,
+    } = action
+    else {
+        return Ok(());
+    };
+    show_object(out, device_verb(*device), (*time, *mode, *uid, *gid), path)?;
+    write!(out, " {major} {minor}")
+}
+
 /// A new object, or what `show_change` shows.
 fn show_op(out: &mut String, op: &Op<'_>) -> Result<(), AllocError> {
     match op {
@@ -89,6 +137,7 @@ fn show_op(out: &mut String, op: &Op<'_>) -> Result<(), AllocError> {
             show_object(out, "file", (*time, *mode, *uid, *gid), path)?;
             show_bytes(out, bytes)
         }
+        Op::Device { .. } => show_device(out, op),
         Op::Fifo {
             time,
             path,
@@ -157,6 +206,7 @@ pub fn show_line(out: &mut String, line: &Line<'_>) -> Result<(), AllocError> {
     write!(out, "{number}: ")?;
     match &line.action {
         Action::Op(op) => show_op(out, op)?,
+        Action::Device { .. } => show_listed_device(out, &line.action)?,
         Action::File {
             time,
             path,

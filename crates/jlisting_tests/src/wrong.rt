@@ -32,7 +32,7 @@ const NUMBERS: [(&[u8], usize); 14] = [
 ];
 
 /// Lines that mean nothing, each a listing of its own.
-const NOTHING: [&[u8]; 150] = [
+const NOTHING: [&[u8]; 168] = [
     b"truncate /a 00000000000",
     b"truncate /a 4294967296",
     b"truncate /a 9999999999",
@@ -136,6 +136,24 @@ const NOTHING: [&[u8]; 150] = [
     b"socket 644 ",
     b"socket  /a",
     b"sock 644 /a",
+    b"device",
+    b"device c 600 5 1",
+    b"device c 600 5 1 ",
+    b"device c 600 5 /a",
+    b"device c 5 1 /a",
+    b"device 600 5 1 /a",
+    b"device c 600 4096 1 /a",
+    b"device c 600 5 1048576 /a",
+    b"device b 600 65536 0 /a",
+    b"device b 600 0 4294967296 /a",
+    b"device p 600 5 1 /a",
+    b"device C 600 5 1 /a",
+    b"device cc 600 5 1 /a",
+    b"device  600 5 1 /a",
+    b"device c 8 5 1 /a",
+    b"device c 600 5 1 /a b",
+    b"device c 600 -1 1 /a",
+    b"devices c 600 5 1 /a",
     b"symlink /a",
     b"symlink /a \\q",
     b"removes /a",

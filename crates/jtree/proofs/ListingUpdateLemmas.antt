@@ -2,6 +2,7 @@
 use Rattle.std.proofs.Common.{List, [], ◌∷◌, ◌++◌, ℕ, sym, subst}
 use Rattle.std.specs.List.{AllByRecursion, flat_map}
 use Rattle.std.specs.String.{string_bytes}
+use Rattle.jnode.specs.declared.order.Endian.{Endian}
 use Rattle.jsteps.specs.declared.op.Op.{Op}
 use Rattle.jfolder.specs.Actions.{actions_of, item_actions, object_actions}
 use Rattle.jfolder.specs.declared.tree.Attributes.{Attributes}
@@ -18,25 +19,25 @@ updates_append : (xs ys : List Op) → AllByRecursion IsUpdate xs → AllByRecur
 updates_append [] ys front back = back
 updates_append (x ∷ xs) ys front back = (front.0, updates_append xs ys front.1 back)
 
-object_updates : (files : Files) (path : List ℕ) (a : Attributes) (w : What) → AllByRecursion IsUpdate (ops_with files (object_actions path a w))
-object_updates files path a what.Directory = (tt, tt)
-object_updates files path a (what.Regular file) = (tt, tt)
-object_updates files path a what.Fifo = (tt, tt)
-object_updates files path a what.Socket = (tt, tt)
-object_updates files path a (what.Symlink target) = (tt, tt)
-object_updates files path a (what.Link first) = (tt, tt)
+object_updates : (e : Endian) (files : Files) (path : List ℕ) (a : Attributes) (w : What) → AllByRecursion IsUpdate (ops_with e files (object_actions path a w))
+object_updates e files path a what.Directory = (tt, tt)
+object_updates e files path a (what.Regular file) = (tt, tt)
+object_updates e files path a what.Fifo = (tt, tt)
+object_updates e files path a what.Socket = (tt, tt)
+object_updates e files path a (what.Symlink target) = (tt, tt)
+object_updates e files path a (what.Link first) = (tt, tt)
 
-items_updates : (files : Files) (items : List Item) → AllByRecursion IsUpdate (ops_with files (flat_map item_actions items))
-items_updates files [] = tt
-items_updates files (i ∷ items) =
-    subst (AllByRecursion IsUpdate) (sym (ops_append files (item_actions i) (flat_map item_actions items)))
-    (updates_append (ops_with files (item_actions i)) (ops_with files (flat_map item_actions items))
-    (object_updates files (string_bytes i.path) i.attributes i.what) (items_updates files items))
+items_updates : (e : Endian) (files : Files) (items : List Item) → AllByRecursion IsUpdate (ops_with e files (flat_map item_actions items))
+items_updates e files [] = tt
+items_updates e files (i ∷ items) =
+    subst (AllByRecursion IsUpdate) (sym (ops_append e files (item_actions i) (flat_map item_actions items)))
+    (updates_append (ops_with e files (item_actions i)) (ops_with e files (flat_map item_actions items))
+    (object_updates e files (string_bytes i.path) i.attributes i.what) (items_updates e files items))
 
-all_updates : (files : Files) (root : Attributes) (items : List Item) → AllByRecursion IsUpdate (ops_with files (actions_of root items))
+all_updates : (e : Endian) (files : Files) (root : Attributes) (items : List Item) → AllByRecursion IsUpdate (ops_with e files (actions_of root items))
 unfolding actions_of
-all_updates files root items = (tt, items_updates files items)
+all_updates e files root items = (tt, items_updates e files items)
 
 pub listing_is_update : law.ListingIsUpdate
-listing_is_update files root items lines fits is =
-    subst (AllByRecursion IsUpdate) (sym (lines_ops files root items lines fits is)) (all_updates files root items)
+listing_is_update e files root items lines fits is =
+    subst (AllByRecursion IsUpdate) (sym (lines_ops e files root items lines fits is)) (all_updates e files root items)

@@ -15,13 +15,14 @@ use Rattle.jsteps.specs.Nodes.{Indexed, nodes_of}
 use Rattle.jsteps.specs.Planning.{IsPage, bytes_steps, first_len, page_puts, piece_puts, plain_page, puts, spelling_len, steps_of, write_steps, zeros_to}
 use Rattle.jsteps.specs.Refusals.{is_past}
 use Rattle.jsteps.specs.Laws.{OpFits}
-use Rattle.jsteps.specs.Steps.{bytes, do_step, after}
+use Rattle.jsteps.specs.Steps.{bytes, do_step, after, is_device, own_bytes}
 use Rattle.jsteps.specs.Where.{last_name, number_or_none}
 use Rattle.jsteps.specs.declared.op.Op.{Op}
 use Rattle.jsteps.specs.declared.op.Op.TheVariants as op
 use Rattle.jsteps.specs.declared.step.Step.{Step}
 use Rattle.jsteps.specs.declared.step.Step.TheVariants as step
 use Rattle.jsteps.proofs.ConsistentLemmas.{root_below}
+use Rattle.jsteps.proofs.OwnLemmas.{own_of, regular_is_plain}
 use Rattle.jsteps.proofs.PlanLemmas.{first_taken_len}
 use Rattle.jtree.proofs.AcceptLemmas.{IsFree, accept}
 use Rattle.jtree.proofs.AppendLemmas.{after-append, write_appends, write_few}
@@ -65,38 +66,48 @@ made_reaches page n x s o steps new way name dir root made most is_page at stand
 
 -- ---- an object whose bytes are all in its first node
 
-make_makes : (s : State) (time mode uid gid : ℕ) (target : List ℕ) (dir : ℕ) (name : List ℕ)
-    → Makes s (after bytes s (step.MakeObject time mode uid gid target ∷ step.SetName time dir name s.next ∷ [])) dir name (new_object time mode uid gid target)
-make_makes s time mode uid gid target dir name =
-    let o = new_object time mode uid gid target in
+-- no bytes are no bytes of any object
+pub own_none : (mode : ℕ) → own_bytes mode [] ≡ []
+unfolding own_bytes
+own_none mode = none (is_device mode)
+  where
+    none : (b : Bool) → cond b [] [] ≡ []
+    none true = refl
+    none false = refl
+
+make_makes : (s : State) (time mode uid gid : ℕ) (held body : List ℕ) (dir : ℕ) (name : List ℕ) → own_bytes mode held ≡ body
+    → Makes s (after bytes s (step.MakeObject time mode uid gid held ∷ step.SetName time dir name s.next ∷ [])) dir name (new_object time mode uid gid body)
+make_makes s time mode uid gid held body dir name same =
+    let o = new_object time mode uid gid (own_bytes mode held) in
     record {
       names = refl;
       next = refl;
       now = get-insert nat_cmp_total s.objects s.next o s.next
-          ∙ cond-true (eq_by_cmp nat_cmp s.next s.next) (Some o) (get s.objects s.next) (itself s.next);
+          ∙ cond-true (eq_by_cmp nat_cmp s.next s.next) (Some o) (get s.objects s.next) (itself s.next)
+          ∙ ap (λ body. Some (new_object time mode uid gid body)) same;
       others = λ k other. get-insert nat_cmp_total s.objects s.next o k
           ∙ insert_other (eq_by_cmp nat_cmp k s.next) o (get s.objects k) (untied k s.next other);
     }
 
-pub make_reaches : (page n : ℕ) (x : Indexed) (s : State) (o : Op) (time mode uid gid : ℕ) (target : List ℕ) (way : List (List ℕ)) (name : List ℕ)
+pub make_reaches : (page n : ℕ) (x : Indexed) (s : State) (o : Op) (time mode uid gid : ℕ) (target body : List ℕ) (same : own_bytes mode target ≡ body) (way : List (List ℕ)) (name : List ℕ)
     (dir : ℕ) (root : ObjectOf (List ℕ)) (made : List Made)
     → IsPage page → IsAt n x s → Stands root made s → OpFits o → IsFree page x o
     → steps_of page x.tree o ≡ step.MakeObject time mode uid gid target ∷ step.SetName time dir name x.tree.next ∷ []
     → walk s way (Ok 1) ≡ Ok dir → is_directory s dir ≡ true → named s dir name ≡ None → has_long (way ++ name ∷ []) ≡ false → n + 4 ≤ 0xFFFFFFFF
-    → Reaches page n x s (o ∷ []) root (made ++ own (way ++ name ∷ []) (new_object time mode uid gid target) ∷ []) 2
-make_reaches page n x s o time mode uid gid target way name dir root made is_page at stands fits is_free are leads there free short few =
+    → Reaches page n x s (o ∷ []) root (made ++ own (way ++ name ∷ []) (new_object time mode uid gid body) ∷ []) 2
+make_reaches page n x s o time mode uid gid target body same way name dir root made is_page at stands fits is_free are leads there free short few =
     let steps = step.MakeObject time mode uid gid target ∷ step.SetName time dir name s.next ∷ [] in
     let all : steps_of page x.tree o ≡ steps = are ∙ ap (λ i. step.MakeObject time mode uid gid target ∷ step.SetName time dir name i ∷ [])
     (at_next n x s at) in
     let owner : dir ≤ 0xFFFFFFFF = few_numbers n x s at dir (at_numbered n x s at dir (there_of_directory s dir there)) (omega arith) in
-    made_reaches page n x s o steps (new_object time mode uid gid target) way name dir root made 2 is_page at stands fits is_free all (tt, (owner, tt))
-    (make_makes s time mode uid gid target dir name) (omega arith) leads there free short (omega arith)
+    made_reaches page n x s o steps (new_object time mode uid gid body) way name dir root made 2 is_page at stands fits is_free all (tt, (owner, tt))
+    (make_makes s time mode uid gid target body dir name same) (omega arith) leads there free short (omega arith)
 
 -- ---- a file, whose further bytes are put after it
 
-file_makes : (page : ℕ) (s : State) (time mode uid gid : ℕ) (all : List ℕ) (dir : ℕ) (name : List ℕ) → IsPage page
+file_makes : (page : ℕ) (s : State) (time mode uid gid : ℕ) (all : List ℕ) (dir : ℕ) (name : List ℕ) → is_device mode ≡ false → IsPage page
     → Makes s (after bytes s (bytes_steps page s.next time mode uid gid all ++ step.SetName time dir name s.next ∷ [])) dir name (new_object time mode uid gid all)
-file_makes page s time mode uid gid all dir name is_page =
+file_makes page s time mode uid gid all dir name plain is_page =
     let first = first_len page (length all) in
     let part = take first all in
     let rest = drop first all in
@@ -104,8 +115,10 @@ file_makes page s time mode uid gid all dir name is_page =
     let begun = do_step bytes s (step.MakeObject time mode uid gid part) in
     let puts = write_steps page time s.next first first rest in
     let set = step.SetName time dir name s.next in
+    let p = new_object time mode uid gid (own_bytes mode part) in
     let there : object begun s.next ≡ Some o =
-    get-insert nat_cmp_total s.objects s.next o s.next ∙ cond-true (eq_by_cmp nat_cmp s.next s.next) (Some o) (get s.objects s.next) (itself s.next) in
+    get-insert nat_cmp_total s.objects s.next p s.next ∙ cond-true (eq_by_cmp nat_cmp s.next s.next) (Some p) (get s.objects s.next) (itself s.next)
+    ∙ ap (λ body. Some (new_object time mode uid gid body)) (own_of mode part plain) in
     let re = write_appends page begun time s.next first rest o part is_page there (sym (first_taken_len page all is_page)) in
     let last : after bytes s (bytes_steps page s.next time mode uid gid all ++ set ∷ []) ≡ do_step bytes (after bytes begun puts) set =
     after-append begun puts (set ∷ []) in
@@ -114,8 +127,8 @@ file_makes page s time mode uid gid all dir name is_page =
       names = ap (λ names. insert names (dir, name) s.next) re.names;
       next = re.next;
       now = re.now ∙ ap (λ body. Some (new_object time mode uid gid body)) (take-append-drop first all);
-      others = λ k other. re.others k other ∙ get-insert nat_cmp_total s.objects s.next o k
-          ∙ insert_other (eq_by_cmp nat_cmp k s.next) o (get s.objects k) (untied k s.next other);
+      others = λ k other. re.others k other ∙ get-insert nat_cmp_total s.objects s.next p k
+          ∙ insert_other (eq_by_cmp nat_cmp k s.next) p (get s.objects k) (untied k s.next other);
     })
 
 -- ---- the numbers that a write works on
@@ -157,7 +170,7 @@ file_few page ino time mode uid gid all last is_page =
     let one : length (bytes_steps page ino time mode uid gid all) ≡ suc (length puts) = refl in
     omega arith
 
-pub file_reaches : (page n : ℕ) (x : Indexed) (s : State) (time : ℕ) (path : List ℕ) (mode uid gid : ℕ) (all : List ℕ) (way : List (List ℕ))
+pub file_reaches : (page n : ℕ) (x : Indexed) (s : State) (time : ℕ) (path : List ℕ) (mode uid gid : ℕ) (all : List ℕ) (bits : mode ≤ 0o7777) (way : List (List ℕ))
     (name : List ℕ) (dir : ℕ) (root : ObjectOf (List ℕ)) (made : List Made)
     → IsPage page → IsAt n x s → Stands root made s → OpFits (op.File time path mode uid gid all) → IsFree page x (op.File time path mode uid gid all)
     → IsPlaced x.tree path dir name
@@ -165,7 +178,7 @@ pub file_reaches : (page n : ℕ) (x : Indexed) (s : State) (time : ℕ) (path :
     → n + (8 + length all / 512) + 4 ≤ 0xFFFFFFFF
     → Reaches page n x s (op.File time path mode uid gid all ∷ []) root
     (made ++ own (way ++ name ∷ []) (new_object time (0o100000 + mode) uid gid all) ∷ []) (8 + length all / 512)
-file_reaches page n x s time path mode uid gid all way name dir root made is_page at stands fits is_free p leads there free short few =
+file_reaches page n x s time path mode uid gid all bits way name dir root made is_page at stands fits is_free p leads there free short few =
     let whole = 0o100000 + mode in
     let o = op.File time path mode uid gid all in
     let set = step.SetName time dir name s.next in
@@ -181,4 +194,4 @@ file_reaches page n x s time path mode uid gid all way name dir root made is_pag
     let owners : AllByRecursion HasOwner steps =
     (tt, owners_append (write_steps page time s.next first first (drop first all)) (set ∷ []) (write_owners page time s.next first first (drop first all) (omega arith)) (owner, tt)) in
     made_reaches page n x s o steps (new_object time whole uid gid all) way name dir root made (8 + length all / 512) is_page at stands fits is_free are owners
-    (file_makes page s time whole uid gid all dir name is_page) (file_few page s.next time whole uid gid all set is_page) leads there free short (omega arith)
+    (file_makes page s time whole uid gid all dir name (regular_is_plain mode bits) is_page) (file_few page s.next time whole uid gid all set is_page) leads there free short (omega arith)

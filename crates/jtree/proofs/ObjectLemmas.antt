@@ -3,12 +3,14 @@ use Rattle.std.proofs.Common.{◌≡◌, ◌≢◌, ℕ, ◌+◌, ◌/◌, ◌%�
 use Rattle.std.specs.Prelude.{All, Contains, ◌==◌}
 use Rattle.std.specs.String.{string_bytes}
 use Rattle.std.proofs.lemmas.Bool.{eq-eqb, ne_eqb}
+use Rattle.jnode.specs.declared.order.Endian.{Endian}
 use Rattle.jmount.specs.Find.{IsPath, path_text}
 use Rattle.jmount.specs.Tree.{ObjectOf, State, type_bits, regular_bits, directory_bits}
 use Rattle.jsteps.specs.Nodes.{Indexed}
 use Rattle.jsteps.specs.Planning.{IsPage}
 use Rattle.jsteps.specs.Where.{names_on_path}
 use Rattle.jsteps.specs.declared.op.Op.TheVariants as op
+use Rattle.jsteps.proofs.OwnLemmas.{own_of}
 use Rattle.jfolder.specs.Actions.{AttributesFit, object_actions}
 use Rattle.jfolder.specs.Trees.{HasTarget, IsRegular, LinksBack}
 use Rattle.jfolder.specs.declared.tree.Attributes.{Attributes}
@@ -21,7 +23,7 @@ use Rattle.jtree.proofs.AcceptLemmas.{fifo_free, file_free, make_steps_are, mkdi
 use Rattle.jtree.proofs.GainLemmas.{own}
 use Rattle.jtree.proofs.ItemLemmas.{IsAhead, IsBuilt, Contains-from_map, Contains-mapped, ahead_placed, made_of, names_are, names_of}
 use Rattle.jtree.proofs.LinkLemmas.{IsTarget, link_reaches}
-use Rattle.jtree.proofs.MakeLemmas.{file_reaches, make_reaches}
+use Rattle.jtree.proofs.MakeLemmas.{file_reaches, make_reaches, own_none}
 use Rattle.jtree.proofs.RunLemmas.{IsAt, Reaches, at_named, reaches_weaker}
 use Rattle.jtree.proofs.StandLemmas.{Made, Stands}
 
@@ -38,42 +40,42 @@ regular_mode mode fits = eq-eqb ((0o100000 + mode) / 4096 % 16) 8 (omega arith)
 plain_mode : (mode : ℕ) → mode ≤ 0o7777 → (type_bits (0o100000 + mode) == directory_bits) ≡ false
 plain_mode mode fits = ne_eqb ((0o100000 + mode) / 4096 % 16) 4 (λ e. omega arith)
 
-directory_reaches : (page n : ℕ) (x : Indexed) (s : State) (files : Files) (path : List ℕ) (a : Attributes) (root : ObjectOf (List ℕ)) (made : List Made)
+directory_reaches : (page n : ℕ) (e : Endian) (x : Indexed) (s : State) (files : Files) (path : List ℕ) (a : Attributes) (root : ObjectOf (List ℕ)) (made : List Made)
     → IsPage page → IsAt n x s → Stands root made s → IsAhead path s → AttributesFit a → n + 4 ≤ 0xFFFFFFFF
-    → Reaches page n x s (ops_with files (object_actions path a what.Directory)) root (made ++ made_at files path a what.Directory ∷ []) 2
-directory_reaches page n x s files path a root made is_page at stands ahead fits few =
+    → Reaches page n x s (ops_with e files (object_actions path a what.Directory)) root (made ++ made_at files path a what.Directory ∷ []) 2
+directory_reaches page n e x s files path a root made is_page at stands ahead fits few =
     let p = ahead_placed n x s path at ahead in
     subst (λ ns. Reaches page n x s (op.Mkdir a.time path a.mode a.uid a.gid ∷ []) root (made ++ own ns (object_of_what files a what.Directory) ∷ []) 2)
     (sym (names_are path (ahead.way ++ ahead.name ∷ []) ahead.path_is))
-    (make_reaches page n x s (op.Mkdir a.time path a.mode a.uid a.gid) a.time (0o040000 + a.mode) a.uid a.gid [] ahead.way ahead.name ahead.dir root made
+    (make_reaches page n x s (op.Mkdir a.time path a.mode a.uid a.gid) a.time (0o040000 + a.mode) a.uid a.gid [] [] (own_none (0o040000 + a.mode)) ahead.way ahead.name ahead.dir root made
     is_page at stands
     (fits.time, fits.uid, fits.gid)
     (mkdir_free page x a.time path a.mode a.uid a.gid ahead.dir ahead.name p (at_named n x s at ahead.dir ahead.name ∙ ahead.free) fits.mode)
     (make_steps_are x.tree a.time path (0o040000 + a.mode) a.uid a.gid [] ahead.dir ahead.name p)
     ahead.leads ahead.directory ahead.free ahead.short few)
 
-fifo_reaches : (page n : ℕ) (x : Indexed) (s : State) (files : Files) (path : List ℕ) (a : Attributes) (root : ObjectOf (List ℕ)) (made : List Made)
+fifo_reaches : (page n : ℕ) (e : Endian) (x : Indexed) (s : State) (files : Files) (path : List ℕ) (a : Attributes) (root : ObjectOf (List ℕ)) (made : List Made)
     → IsPage page → IsAt n x s → Stands root made s → IsAhead path s → AttributesFit a → n + 4 ≤ 0xFFFFFFFF
-    → Reaches page n x s (ops_with files (object_actions path a what.Fifo)) root (made ++ made_at files path a what.Fifo ∷ []) 2
-fifo_reaches page n x s files path a root made is_page at stands ahead fits few =
+    → Reaches page n x s (ops_with e files (object_actions path a what.Fifo)) root (made ++ made_at files path a what.Fifo ∷ []) 2
+fifo_reaches page n e x s files path a root made is_page at stands ahead fits few =
     let p = ahead_placed n x s path at ahead in
     subst (λ ns. Reaches page n x s (op.Fifo a.time path a.mode a.uid a.gid ∷ []) root (made ++ own ns (object_of_what files a what.Fifo) ∷ []) 2)
     (sym (names_are path (ahead.way ++ ahead.name ∷ []) ahead.path_is))
-    (make_reaches page n x s (op.Fifo a.time path a.mode a.uid a.gid) a.time (0o010000 + a.mode) a.uid a.gid [] ahead.way ahead.name ahead.dir root made
+    (make_reaches page n x s (op.Fifo a.time path a.mode a.uid a.gid) a.time (0o010000 + a.mode) a.uid a.gid [] [] (own_none (0o010000 + a.mode)) ahead.way ahead.name ahead.dir root made
     is_page at stands
     (fits.time, fits.uid, fits.gid)
     (fifo_free page x a.time path a.mode a.uid a.gid ahead.dir ahead.name p (at_named n x s at ahead.dir ahead.name ∙ ahead.free) fits.mode)
     (make_steps_are x.tree a.time path (0o010000 + a.mode) a.uid a.gid [] ahead.dir ahead.name p)
     ahead.leads ahead.directory ahead.free ahead.short few)
 
-socket_reaches : (page n : ℕ) (x : Indexed) (s : State) (files : Files) (path : List ℕ) (a : Attributes) (root : ObjectOf (List ℕ)) (made : List Made)
+socket_reaches : (page n : ℕ) (e : Endian) (x : Indexed) (s : State) (files : Files) (path : List ℕ) (a : Attributes) (root : ObjectOf (List ℕ)) (made : List Made)
     → IsPage page → IsAt n x s → Stands root made s → IsAhead path s → AttributesFit a → n + 4 ≤ 0xFFFFFFFF
-    → Reaches page n x s (ops_with files (object_actions path a what.Socket)) root (made ++ made_at files path a what.Socket ∷ []) 2
-socket_reaches page n x s files path a root made is_page at stands ahead fits few =
+    → Reaches page n x s (ops_with e files (object_actions path a what.Socket)) root (made ++ made_at files path a what.Socket ∷ []) 2
+socket_reaches page n e x s files path a root made is_page at stands ahead fits few =
     let p = ahead_placed n x s path at ahead in
     subst (λ ns. Reaches page n x s (op.Socket a.time path a.mode a.uid a.gid ∷ []) root (made ++ own ns (object_of_what files a what.Socket) ∷ []) 2)
     (sym (names_are path (ahead.way ++ ahead.name ∷ []) ahead.path_is))
-    (make_reaches page n x s (op.Socket a.time path a.mode a.uid a.gid) a.time (0o140000 + a.mode) a.uid a.gid [] ahead.way ahead.name ahead.dir root made
+    (make_reaches page n x s (op.Socket a.time path a.mode a.uid a.gid) a.time (0o140000 + a.mode) a.uid a.gid [] [] (own_none (0o140000 + a.mode)) ahead.way ahead.name ahead.dir root made
     is_page at stands
     (fits.time, fits.uid, fits.gid)
     (socket_free page x a.time path a.mode a.uid a.gid ahead.dir ahead.name p (at_named n x s at ahead.dir ahead.name ∙ ahead.free) fits.mode)
@@ -89,7 +91,7 @@ symlink_reaches page n x s files path a target root made is_page at stands ahead
     let p = ahead_placed n x s path at ahead in
     subst (λ ns. Reaches page n x s (op.Symlink a.time path target a.uid a.gid ∷ []) root (made ++ own ns (object_with 0o120777 a target) ∷ []) 2)
     (sym (names_are path (ahead.way ++ ahead.name ∷ []) ahead.path_is))
-    (make_reaches page n x s (op.Symlink a.time path target a.uid a.gid) a.time 0o120777 a.uid a.gid target ahead.way ahead.name ahead.dir root made
+    (make_reaches page n x s (op.Symlink a.time path target a.uid a.gid) a.time 0o120777 a.uid a.gid target target (own_of 0o120777 target refl) ahead.way ahead.name ahead.dir root made
     is_page at stands
     (fits.time, fits.uid, fits.gid)
     (symlink_free page x a.time path target a.uid a.gid ahead.dir ahead.name p (at_named n x s at ahead.dir ahead.name ∙ ahead.free) some short none)
@@ -106,7 +108,7 @@ regular_reaches page n x s path a all root made is_page at stands ahead fits sho
     subst (λ ns. Reaches page n x s (op.File a.time path a.mode a.uid a.gid all ∷ []) root (made ++ own ns (object_with (0o100000 + a.mode) a all) ∷ [])
     (8 + length all / 512))
     (sym (names_are path (ahead.way ++ ahead.name ∷ []) ahead.path_is))
-    (file_reaches page n x s a.time path a.mode a.uid a.gid all ahead.way ahead.name ahead.dir root made is_page at stands
+    (file_reaches page n x s a.time path a.mode a.uid a.gid all fits.mode ahead.way ahead.name ahead.dir root made is_page at stands
     (fits.time, fits.uid, fits.gid)
     (file_free page x a.time path a.mode a.uid a.gid all ahead.dir ahead.name p (at_named n x s at ahead.dir ahead.name ∙ ahead.free) fits.mode short)
     p ahead.leads ahead.directory ahead.free ahead.short few)
@@ -144,32 +146,32 @@ fresh_names files root before n x s path names built is fresh p among e =
     let same : names_of from.0 ≡ names = ap (λ (m : Made). m.names) from.2 ∙ e in
     fresh from.0 from.1 ((built.known from.0 from.1).path.0 ∙ ap path_text same ∙ sym is.0)
 
-pub object_reaches : (page n : ℕ) (x : Indexed) (s : State) (files : Files) (path : List ℕ) (a : Attributes) (w : What) (root : ObjectOf (List ℕ))
+pub object_reaches : (page n : ℕ) (e : Endian) (x : Indexed) (s : State) (files : Files) (path : List ℕ) (a : Attributes) (w : What) (root : ObjectOf (List ℕ))
     (before : List Item)
     → IsPage page → IsBuilt files root before n x s → IsAhead path s → IsFresh before path → LinksBack before w → HasTarget w → AttributesFit a
     → length (bytes_of_what files w) ≤ 2147483647 → n + (8 + length (bytes_of_what files w) / 512) + 4 ≤ 0xFFFFFFFF
-    → Reaches page n x s (ops_with files (object_actions path a w)) root (map (made_of files) before ++ made_at files path a w ∷ [])
+    → Reaches page n x s (ops_with e files (object_actions path a w)) root (map (made_of files) before ++ made_at files path a w ∷ [])
     (8 + length (bytes_of_what files w) / 512)
-object_reaches page n x s files path a what.Directory root before is_page built ahead fresh links target fits short few =
-    reaches_weaker page n x s (ops_with files (object_actions path a what.Directory)) root
+object_reaches page n e x s files path a what.Directory root before is_page built ahead fresh links target fits short few =
+    reaches_weaker page n x s (ops_with e files (object_actions path a what.Directory)) root
     (map (made_of files) before ++ made_at files path a what.Directory ∷ []) 2 (8 + length (bytes_of_what files what.Directory) / 512) (omega arith)
-    (directory_reaches page n x s files path a root (map (made_of files) before) is_page built.is_at built.stands ahead fits (omega arith))
-object_reaches page n x s files path a (what.Regular file) root before is_page built ahead fresh links target fits short few =
+    (directory_reaches page n e x s files path a root (map (made_of files) before) is_page built.is_at built.stands ahead fits (omega arith))
+object_reaches page n e x s files path a (what.Regular file) root before is_page built ahead fresh links target fits short few =
     regular_reaches page n x s path a (files (string_bytes file)) root (map (made_of files) before) is_page built.is_at built.stands ahead fits short few
-object_reaches page n x s files path a what.Fifo root before is_page built ahead fresh links target fits short few =
-    reaches_weaker page n x s (ops_with files (object_actions path a what.Fifo)) root
+object_reaches page n e x s files path a what.Fifo root before is_page built ahead fresh links target fits short few =
+    reaches_weaker page n x s (ops_with e files (object_actions path a what.Fifo)) root
     (map (made_of files) before ++ made_at files path a what.Fifo ∷ []) 2 (8 + length (bytes_of_what files what.Fifo) / 512) (omega arith)
-    (fifo_reaches page n x s files path a root (map (made_of files) before) is_page built.is_at built.stands ahead fits (omega arith))
-object_reaches page n x s files path a what.Socket root before is_page built ahead fresh links target fits short few =
-    reaches_weaker page n x s (ops_with files (object_actions path a what.Socket)) root
+    (fifo_reaches page n e x s files path a root (map (made_of files) before) is_page built.is_at built.stands ahead fits (omega arith))
+object_reaches page n e x s files path a what.Socket root before is_page built ahead fresh links target fits short few =
+    reaches_weaker page n x s (ops_with e files (object_actions path a what.Socket)) root
     (map (made_of files) before ++ made_at files path a what.Socket ∷ []) 2 (8 + length (bytes_of_what files what.Socket) / 512) (omega arith)
-    (socket_reaches page n x s files path a root (map (made_of files) before) is_page built.is_at built.stands ahead fits (omega arith))
-object_reaches page n x s files path a (what.Symlink t) root before is_page built ahead fresh links target fits short few =
-    reaches_weaker page n x s (ops_with files (object_actions path a (what.Symlink t))) root
+    (socket_reaches page n e x s files path a root (map (made_of files) before) is_page built.is_at built.stands ahead fits (omega arith))
+object_reaches page n e x s files path a (what.Symlink t) root before is_page built ahead fresh links target fits short few =
+    reaches_weaker page n x s (ops_with e files (object_actions path a (what.Symlink t))) root
     (map (made_of files) before ++ made_at files path a (what.Symlink t) ∷ []) 2 (8 + length (bytes_of_what files (what.Symlink t)) / 512) (omega arith)
     (symlink_reaches page n x s files path a (string_bytes t) root (map (made_of files) before) is_page built.is_at built.stands ahead fits target.0
     target.1 target.2 (omega arith))
-object_reaches page n x s files path a (what.Link first) root before is_page built ahead fresh links target fits short few =
+object_reaches page n e x s files path a (what.Link first) root before is_page built ahead fresh links target fits short few =
     let i = links.0 in
     let names = ahead.way ++ ahead.name ∷ [] in
     let f = made_of files i in
@@ -177,7 +179,7 @@ object_reaches page n x s files path a (what.Link first) root before is_page bui
     let is = target_of files root before n x s i (string_bytes first) built links.1 links.2 i.what refl links.3 in
     let origin : m.origin ≡ f.names = ap names_on_path (sym links.2) in
     let here : m.names ≡ names = names_are path names ahead.path_is in
-    reaches_weaker page n x s (ops_with files (object_actions path a (what.Link first))) root (map (made_of files) before ++ m ∷ []) 1
+    reaches_weaker page n x s (ops_with e files (object_actions path a (what.Link first))) root (map (made_of files) before ++ m ∷ []) 1
     (8 + length (bytes_of_what files (what.Link first)) / 512) (omega arith)
     (link_reaches page n x s a.time (string_bytes first) path f m root (map (made_of files) before) is_page built.is_at built.stands is ahead fits.time
     here origin

@@ -8,6 +8,7 @@ use Rattle.jmount.specs.Mounts.{plain_nodes}
 use Rattle.jsteps.specs.Laws.{OpFits}
 use Rattle.jsteps.specs.Planning.{IsPage}
 use Rattle.jsteps.specs.Refusals.{plans_of, steps_of_first}
+use Rattle.jnode.specs.declared.order.Endian.{Endian}
 use Rattle.jlisting.specs.Listing.{lines_of}
 use Rattle.jfolder.specs.Text.{listing_text}
 use Rattle.jfolder.specs.Trees.{IsTree}
@@ -166,20 +167,20 @@ pub record IsLawful (page : ℕ) (files : Files) (root : Attributes) (items : Li
   pub makes : MakesTree page files root items ops
   pub op_fits : AllByRecursion OpFits ops
 
-lawful : (page : ℕ) (files : Files) (root : Attributes) (items : List Item) → IsPage page → FitsListing root items → IsTree items
-    → FilesFit files items → AreFew files items → IsLawful page files root items (ops_with files (actions_of root items))
+lawful : (page : ℕ) (e : Endian) (files : Files) (root : Attributes) (items : List Item) → IsPage page → FitsListing root items → IsTree items
+    → FilesFit files items → AreFew files items → IsLawful page files root items (ops_with e files (actions_of root items))
 unfolding actions_of
-lawful page files root items is_page fits tree short few =
+lawful page e files root items is_page fits tree short few =
     let s = state_of [] in
     let x = index_of [] in
     let one = root_reaches page root is_page fits.root_fits in
     let used : length one.steps ≤ 1 = one.few in
     let t = after bytes s one.steps in
-    let all = items_done page (0 + length one.steps) _ t files (root_object root) [] items is_page
+    let all = items_done page (0 + length one.steps) e _ t files (root_object root) [] items is_page
     (record { is_at = one.is_at; stands = one.stands; known = λ j among. absurd (let less = among.1 in omega arith) })
     tree fits.items_fit short (omega arith) in
-    let ops : List Op = ops_with files (actions_of root items) in
-    let r = reaches_then page 0 x s (root_op root ∷ []) (ops_with files (flat_map item_actions items)) (root_object root) [] (map (made_of files) items) 1
+    let ops : List Op = ops_with e files (actions_of root items) in
+    let r = reaches_then page 0 x s (root_op root ∷ []) (ops_with e files (flat_map item_actions items)) (root_object root) [] (map (made_of files) items) 1
     _ one all.reached in
     let these = sym (runs_steps page x ops r.steps r.runs) in
     let holds = holds_tree (after bytes s r.steps) files root items r.stands all.known r.is_at.shape in
@@ -192,37 +193,37 @@ lawful page files root items is_page fits tree short few =
     record { makes = makes; op_fits = r.op_fits }
 
 pub listing_makes_tree : law.ListingMakesTree
-listing_makes_tree page files root items is_page fits tree short few = (lawful page files root items is_page fits tree short few).makes
+listing_makes_tree page e files root items is_page fits tree short few = (lawful page e files root items is_page fits tree short few).makes
 
 -- the operations of lines are those of their actions
-ops_of_lines : (files : Files) (lines : List Line) → ops_in files lines ≡ ops_with files (map (λ line. line.action) lines)
-ops_of_lines files [] = refl
-ops_of_lines files (line ∷ lines) = ap (λ ops. op_with files line.action ∷ ops) (ops_of_lines files lines)
+ops_of_lines : (e : Endian) (files : Files) (lines : List Line) → ops_in e files lines ≡ ops_with e files (map (λ line. line.action) lines)
+ops_of_lines e files [] = refl
+ops_of_lines e files (line ∷ lines) = ap (λ ops. op_with e files line.action ∷ ops) (ops_of_lines e files lines)
 
 same_lines : (a b : List Line) → ◌≡◌ {A = Result (List Line) ℕ} (Ok a) (Ok b) → a ≡ b
 same_lines a b e = cc
 
 -- whatever lines the text is read as
-pub lines_ops : (files : Files) (root : Attributes) (items : List Item) (lines : List Line) → FitsListing root items → lines_of (listing_text root items) ≡ Ok lines
-    → ops_in files lines ≡ ops_with files (actions_of root items)
-lines_ops files root items lines fits is =
+pub lines_ops : (e : Endian) (files : Files) (root : Attributes) (items : List Item) (lines : List Line) → FitsListing root items → lines_of (listing_text root items) ≡ Ok lines
+    → ops_in e files lines ≡ ops_with e files (actions_of root items)
+lines_ops e files root items lines fits is =
     let read = listing_is_read_back root items fits in
-    ap (ops_in files) (same_lines lines read.0 (sym is ∙ read.1)) ∙ ops_of_lines files read.0 ∙ ap (ops_with files) read.2
+    ap (ops_in e files) (same_lines lines read.0 (sym is ∙ read.1)) ∙ ops_of_lines e files read.0 ∙ ap (ops_with e files) read.2
 
-lines_lawful : (page : ℕ) (files : Files) (root : Attributes) (items : List Item) (lines : List Line) → IsPage page → FitsListing root items → IsTree items
-    → FilesFit files items → AreFew files items → lines_of (listing_text root items) ≡ Ok lines → IsLawful page files root items (ops_in files lines)
-lines_lawful page files root items lines is_page fits tree short few is =
-    subst (IsLawful page files root items) (sym (lines_ops files root items lines fits is)) (lawful page files root items is_page fits tree short few)
+lines_lawful : (page : ℕ) (e : Endian) (files : Files) (root : Attributes) (items : List Item) (lines : List Line) → IsPage page → FitsListing root items → IsTree items
+    → FilesFit files items → AreFew files items → lines_of (listing_text root items) ≡ Ok lines → IsLawful page files root items (ops_in e files lines)
+lines_lawful page e files root items lines is_page fits tree short few is =
+    subst (IsLawful page files root items) (sym (lines_ops e files root items lines fits is)) (lawful page e files root items is_page fits tree short few)
 
 pub text_makes_tree : law.TextMakesTree
-text_makes_tree page files root items is_page fits tree short few =
+text_makes_tree page e files root items is_page fits tree short few =
     let read = listing_is_read_back root items fits in
-    (read.0, read.1, (lines_lawful page files root items read.0 is_page fits tree short few read.1).makes)
+    (read.0, read.1, (lines_lawful page e files root items read.0 is_page fits tree short few read.1).makes)
 
 pub image_holds_tree : image.ImageHoldsTree
 image_holds_tree page e size blocks base image files root items lines fits tree short few read is =
-    let ops = ops_in files lines in
-    let made = lines_lawful page files root items lines is.page_is fits tree short few read in
+    let ops = ops_in e files lines in
+    let made = lines_lawful page e files root items lines is.page_is fits tree short few read in
     let planned : length (plans_of page (index_of (plain_nodes e size base)) ops) ≡ length ops =
     subst (λ ns. length (plans_of page (index_of ns) ops) ≡ length ops) (sym is.bare) made.makes.accepted in
     let survives = accepted_survives page e size blocks (length ops) base ops is.page_is is.room is.base_is is.are_bytes made.op_fits

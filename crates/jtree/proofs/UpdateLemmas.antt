@@ -12,16 +12,20 @@ use Rattle.jname.specs.Live.{key_cmp}
 use Rattle.jname.proofs.NamingLemmas.{key_cmp_total}
 use Rattle.jmount.specs.Tree.{ObjectOf, State, Outline, outline, object, named, has_bits, regular_bits, type_bits}
 use Rattle.jmount.specs.declared.fault.FindFault.{FindFault}
-use Rattle.jsteps.specs.Steps.{bytes, do_step, after, renamed, rewritten, with_body, with_attributes, reattributed}
+use Rattle.jsteps.specs.Device.{device_mode}
+use Rattle.jsteps.specs.Steps.{is_device, own_bytes, bytes, do_step, after, renamed, rewritten, with_body, with_attributes, reattributed}
 use Rattle.jsteps.specs.Nodes.{Indexed}
 use Rattle.jsteps.specs.Planning.{IsPage, spelling_len, first_len, piece_puts, page_puts, puts, zeros_to, write_steps, make_steps, file_steps, move_steps, steps_of}
 use Rattle.jsteps.specs.Where.{above, last_name, named_there, number_or_zero, object_named, parent, is_one_entry}
 use Rattle.jsteps.specs.Laws.{IsConsistent}
+use Rattle.jsteps.specs.declared.device.DeviceKind.{DeviceKind}
+use Rattle.jsteps.specs.declared.device.DeviceKind.TheVariants.{Character, Block}
 use Rattle.jsteps.specs.declared.op.Attributes.{Attributes}
 use Rattle.jsteps.specs.declared.op.Op.{Op}
 use Rattle.jsteps.specs.declared.op.Op.TheVariants as op
 use Rattle.jsteps.specs.declared.step.Step.{Step}
 use Rattle.jsteps.specs.declared.step.Step.TheVariants as step
+use Rattle.jsteps.proofs.OwnLemmas.{own_of, regular_is_plain}
 use Rattle.jsteps.proofs.ConsistentLemmas.{cond_some_cases}
 use Rattle.jsteps.proofs.StepsLemmas.{kind_stays}
 use Rattle.jsteps.proofs.PlanLemmas.{IsAccepted, first_taken_len, led_both}
@@ -148,7 +152,7 @@ write_of page time ino size offset (b ∷ new) =
 -- ---- a new object
 
 new_object : ℕ → ℕ → ℕ → ℕ → List ℕ → ObjectOf (List ℕ)
-new_object time mode uid gid target = record { mode = mode; uid = uid; gid = gid; atime = time; mtime = time; ctime = time; body = target }
+new_object time mode uid gid held = record { mode = mode; uid = uid; gid = gid; atime = time; mtime = time; ctime = time; body = own_bytes mode held }
 
 made_touches : (t : State) (time mode uid gid : ℕ) (target : List ℕ) → Touches t (do_step bytes t (step.MakeObject time mode uid gid target)) t.next
 unfolding new_object
@@ -187,15 +191,16 @@ new_whole W x t time path mode uid gid target same tree kind whole =
 
 -- and a file with all its bytes
 file_whole : (W : List ℕ → Type 0) (page : ℕ) (x : Indexed) (t : State) (time : ℕ) (path : List ℕ) (mode uid gid : ℕ) (all : List ℕ) → IsPage page → IsConsistent x → x.tree ≡ outline t
-    → W all → AreWhole W t → EachWhole W t (file_steps page x.tree time path mode uid gid all)
+    → is_device mode ≡ false → W all → AreWhole W t → EachWhole W t (file_steps page x.tree time path mode uid gid all)
 unfolding new_object
-file_whole W page x t time path mode uid gid all is_page same tree has whole =
+file_whole W page x t time path mode uid gid all is_page same tree plain has whole =
     let first = first_len page (length all) in
     let front = take first all in
     let u = do_step bytes t (step.MakeObject time mode uid gid front) in
     let o = new_object time mode uid gid front in
     let next : t.next ≡ x.tree.next = sym (ap (λ (t : Outline). t.next) tree) in
-    let there : object u x.tree.next ≡ Some (with_body o time front) = sym (ap (object u) next) ∙ made_there t time mode uid gid front in
+    let there : object u x.tree.next ≡ Some (with_body o time front) = sym (ap (object u) next) ∙ made_there t time mode uid gid front
+    ∙ ap (λ body. Some (with_body o time body)) (own_of mode front plain) in
     let steps = write_steps page time x.tree.next first first (drop first all) in
     let v = after bytes u steps in
     let re = write_appends page u time x.tree.next first (drop first all) o front is_page there (sym (first_taken_len page all is_page)) in
@@ -253,6 +258,11 @@ attributes_whole W t ino time attributes (Some p) is whole =
     (λ (other : k ≢ ino). whole d n k o e (sym ((insert_touches t ino q t.next).others k other) ∙ there) regular)
     (cases_eq k ino)
 
+-- a device is no regular file
+device_is_other : (kind : DeviceKind) (mode : ℕ) → mode ≤ 0o7777 → (type_bits (device_mode kind + mode) == regular_bits) ≡ false
+device_is_other Character mode bits = let is : type_bits (0o020000 + mode) ≡ 2 = omega arith in ap (λ k. k == regular_bits) is
+device_is_other Block mode bits = let is : type_bits (0o060000 + mode) ≡ 6 = omega arith in ap (λ k. k == regular_bits) is
+
 -- ---- each operation
 
 pub op_whole : (W : List ℕ → Type 0) (page : ℕ) (x : Indexed) (t : State) (o : Op) (steps : List Step) → IsPage page → IsConsistent x → x.tree ≡ outline t → IsUpdate o
@@ -262,7 +272,9 @@ op_whole W page x t (op.Mkdir time path mode uid gid) steps is_page same tree up
     (let bits : mode ≤ 0o7777 = ltb-false 0o7777 mode is.mode in let kind : type_bits (0o040000 + mode) ≡ 4 = omega arith in ap (λ k. k == regular_bits) kind) whole
 op_whole W page x t (op.Create time path mode uid gid) steps is_page same tree update makes is whole = absurd update
 op_whole W page x t (op.File time path mode uid gid all) steps is_page same tree update makes is whole =
-    file_whole W page x t time path (0o100000 + mode) uid gid all is_page same tree (makes all refl) whole
+    file_whole W page x t time path (0o100000 + mode) uid gid all is_page same tree (regular_is_plain mode (ltb-false 0o7777 mode is.mode)) (makes all refl) whole
+op_whole W page x t (op.Device time path kind mode uid gid number) steps is_page same tree update makes is whole =
+    new_whole W x t time path (device_mode kind + mode) uid gid number same tree (device_is_other kind mode (ltb-false 0o7777 mode is.mode)) whole
 op_whole W page x t (op.Fifo time path mode uid gid) steps is_page same tree update makes is whole =
     new_whole W x t time path (0o010000 + mode) uid gid [] same tree
     (let bits : mode ≤ 0o7777 = ltb-false 0o7777 mode is.mode in let kind : type_bits (0o010000 + mode) ≡ 1 = omega arith in ap (λ k. k == regular_bits) kind) whole

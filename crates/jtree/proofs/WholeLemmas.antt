@@ -5,6 +5,7 @@ use Rattle.std.specs.List.{flat_map}
 use Rattle.std.specs.String.{string_bytes}
 use Rattle.std.proofs.lemmas.List.{append-nil}
 use Rattle.std.proofs.lemmas.List.Elements.{All-head, All-tail, Contains-push_cases}
+use Rattle.jnode.specs.declared.order.Endian.{Endian}
 use Rattle.jmount.specs.Find.{IsPath}
 use Rattle.jmount.specs.Tree.{ObjectOf, State}
 use Rattle.jsteps.specs.Nodes.{Indexed}
@@ -28,9 +29,9 @@ map_push : {X Y : Type 0} (f : X → Y) (xs : List X) (x : X) → map f (xs ++ x
 map_push f [] x = refl
 map_push f (y ∷ xs) x = ap (λ ys. f y ∷ ys) (map_push f xs x)
 
-pub ops_append : (files : Files) (xs ys : List Action) → ops_with files (xs ++ ys) ≡ ops_with files xs ++ ops_with files ys
-ops_append files [] ys = refl
-ops_append files (x ∷ xs) ys = ap (λ ops. op_with files x ∷ ops) (ops_append files xs ys)
+pub ops_append : (e : Endian) (files : Files) (xs ys : List Action) → ops_with e files (xs ++ ys) ≡ ops_with e files xs ++ ops_with e files ys
+ops_append e files [] ys = refl
+ops_append e files (x ∷ xs) ys = ap (λ ops. op_with e files x ∷ ops) (ops_append e files xs ys)
 
 -- the first path of an item is a path
 origin_of : (before : List Item) (path : List ℕ) (w : What) → ((j : Item) → Contains before j → IsKnown j) → LinksBack before w → IsPath path (names_on_path path)
@@ -56,25 +57,25 @@ known_of before i known may fits =
           path;
     }
 
-pub record IsDone (page n : ℕ) (x : Indexed) (s : State) (files : Files) (root : ObjectOf (List ℕ)) (before items : List Item) : Type 0 where
-  pub reached : Reaches page n x s (ops_with files (flat_map item_actions items)) root (map (made_of files) (before ++ items)) (weight files items)
+pub record IsDone (page n : ℕ) (e : Endian) (x : Indexed) (s : State) (files : Files) (root : ObjectOf (List ℕ)) (before items : List Item) : Type 0 where
+  pub reached : Reaches page n x s (ops_with e files (flat_map item_actions items)) root (map (made_of files) (before ++ items)) (weight files items)
   pub known : (j : Item) → Contains (before ++ items) j → IsKnown j
 
-pub items_done : (page n : ℕ) (x : Indexed) (s : State) (files : Files) (root : ObjectOf (List ℕ)) (before items : List Item) → IsPage page
+pub items_done : (page n : ℕ) (e : Endian) (x : Indexed) (s : State) (files : Files) (root : ObjectOf (List ℕ)) (before items : List Item) → IsPage page
     → IsBuilt files root before n x s
-    → IsTreeAfter before items → All ItemFits items → FilesFit files items → n + weight files items + 4 ≤ 0xFFFFFFFF → IsDone page n x s files root before items
-items_done page n x s files root before [] is_page built tree fits short few =
+    → IsTreeAfter before items → All ItemFits items → FilesFit files items → n + weight files items + 4 ≤ 0xFFFFFFFF → IsDone page n e x s files root before items
+items_done page n e x s files root before [] is_page built tree fits short few =
     record {
       reached = subst (λ all. Reaches page n x s [] root (map (made_of files) all) 0) (sym (append-nil before))
           (reaches_none page n x s root (map (made_of files) before) built.is_at built.stands);
       known = subst (λ all. (j : Item) → Contains all j → IsKnown j) (sym (append-nil before)) built.known;
     }
-items_done page n x s files root before (i ∷ items) is_page built tree fits short few =
+items_done page n e x s files root before (i ∷ items) is_page built tree fits short few =
     let may = tree.0 in
     let i_fits = All-head ItemFits i items fits in
     let size = length (bytes_of_what files i.what) in
     let i_short : size < 2 ^ 31 = All-head (λ i. length (bytes_of_what files i.what) < 2 ^ 31) i items short in
-    let one = object_reaches page n x s files (string_bytes i.path) i.attributes i.what root before is_page built
+    let one = object_reaches page n e x s files (string_bytes i.path) i.attributes i.what root before is_page built
     (ahead files root before n x s i built may) may.new may.link may.target i_fits.attributes (omega arith) (omega arith) in
     let used : length one.steps ≤ 8 + size / 512 = one.few in
     let more = before ++ i ∷ [] in
@@ -84,18 +85,18 @@ items_done page n x s files root before (i ∷ items) is_page built tree fits sh
       known = λ j among. ⊎_elim (λ old. built.known j old) (λ is. subst IsKnown is (known_of before i built.known may i_fits))
           (Contains-push_cases before i j among);
     } in
-    let rest = items_done page (n + length one.steps) _ (after bytes s one.steps) files root more items is_page next tree.1
+    let rest = items_done page (n + length one.steps) e _ (after bytes s one.steps) files root more items is_page next tree.1
     (All-tail ItemFits i items fits) (All-tail (λ i. length (bytes_of_what files i.what) < 2 ^ 31) i items short) (omega arith) in
     let list : more ++ items ≡ before ++ i ∷ items = append_assoc before (i ∷ []) items in
-    let both = reaches_then page n x s (ops_with files (item_actions i)) (ops_with files (flat_map item_actions items)) root
+    let both = reaches_then page n x s (ops_with e files (item_actions i)) (ops_with e files (flat_map item_actions items)) root
     (map (made_of files) before ++ made_of files i ∷ []) (map (made_of files) (more ++ items))
     (8 + size / 512) (weight files items) one rest.reached in
     record {
       reached = subst (λ ops. Reaches page n x s ops root (map (made_of files) (before ++ i ∷ items)) (weight files (i ∷ items)))
-          (sym (ops_append files (item_actions i) (flat_map item_actions items)))
-          (subst (λ all. Reaches page n x s (ops_with files (item_actions i) ++ ops_with files (flat_map item_actions items)) root
+          (sym (ops_append e files (item_actions i) (flat_map item_actions items)))
+          (subst (λ all. Reaches page n x s (ops_with e files (item_actions i) ++ ops_with e files (flat_map item_actions items)) root
           (map (made_of files) all) (weight files (i ∷ items))) list
-          (reaches_weaker page n x s (ops_with files (item_actions i) ++ ops_with files (flat_map item_actions items)) root
+          (reaches_weaker page n x s (ops_with e files (item_actions i) ++ ops_with e files (flat_map item_actions items)) root
           (map (made_of files) (more ++ items)) (8 + size / 512 + weight files items) (weight files (i ∷ items)) (omega arith) both));
       known = subst (λ all. (j : Item) → Contains all j → IsKnown j) list rest.known;
     }

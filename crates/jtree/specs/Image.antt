@@ -54,7 +54,7 @@ ImageHoldsTree = (page : ℕ) (e : Endian) (size blocks : ℕ) (base image : Lis
     (root : Attributes) (items : List Item) (lines : List Line)
     → FitsListing root items → IsTree items → FilesFit files items → AreFew files items
     → lines_of (listing_text root items) ≡ Ok lines
-    → IsWrittenFor page e size blocks base (ops_in files lines) image
+    → IsWrittenFor page e size blocks base (ops_in e files lines) image
     → (s : State) × MountsAs e size image s × HoldsTree files root items s
 
 -- The empty image is such a base of any flash that is written.

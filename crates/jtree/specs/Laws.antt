@@ -1,5 +1,6 @@
 -- The law of trees.
 use Rattle.std.specs.Prelude.{◌≡◌, ℕ, List, [], length, Ok}
+use Rattle.jnode.specs.declared.order.Endian.{Endian}
 use Rattle.jmount.specs.StateOf.{state_of}
 use Rattle.jsteps.specs.Nodes.{index_of, nodes_of}
 use Rattle.jsteps.specs.Planning.{IsPage}
@@ -29,15 +30,15 @@ pub record MakesTree (page : ℕ) (files : Files) (root : Attributes) (items : L
 
 -- The actions of a tree make exactly that tree.
 abbrev pub ListingMakesTree : Type 0
-ListingMakesTree = (page : ℕ) (files : Files) (root : Attributes) (items : List Item) → IsPage page
-    → FitsListing root items → IsTree items
+ListingMakesTree = (page : ℕ) (e : Endian) (files : Files) (root : Attributes) (items : List Item)
+    → IsPage page → FitsListing root items → IsTree items
     → FilesFit files items → AreFew files items
-    → MakesTree page files root items (ops_with files (actions_of root items))
+    → MakesTree page files root items (ops_with e files (actions_of root items))
 
 -- The text of a tree is read, and what it is read as makes exactly that tree.
 abbrev pub TextMakesTree : Type 0
-TextMakesTree = (page : ℕ) (files : Files) (root : Attributes) (items : List Item) → IsPage page
-    → FitsListing root items → IsTree items
+TextMakesTree = (page : ℕ) (e : Endian) (files : Files) (root : Attributes) (items : List Item)
+    → IsPage page → FitsListing root items → IsTree items
     → FilesFit files items → AreFew files items
     → (lines : List Line) × (lines_of (listing_text root items) ≡ Ok lines)
-    × MakesTree page files root items (ops_in files lines)
+    × MakesTree page files root items (ops_in e files lines)

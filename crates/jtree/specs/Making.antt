@@ -1,6 +1,7 @@
 -- The operations that make a tree, given the bytes of the host's files.
 use Rattle.std.specs.Prelude.{◌<◌, ◌+◌, ◌/◌, ◌^◌, ◌-◌, ℕ, List, [], ◌∷◌, All, length, map}
 use Rattle.std.specs.String.{string_bytes}
+use Rattle.jnode.specs.declared.order.Endian.{Endian}
 use Rattle.jlisting.specs.Listing.{file_of, op_of}
 use Rattle.jlisting.specs.declared.line.Action.{Action}
 use Rattle.jsteps.specs.declared.op.Op.{Op}
@@ -13,12 +14,12 @@ use Rattle.jfolder.specs.declared.tree.What.TheVariants as what
 abbrev pub Files : Type 0
 Files = List ℕ → List ℕ
 
--- an action's operation, where its file has these bytes
-abbrev pub op_with : Files → Action → Op
-op_with files a = op_of a (bytes_of_file files (file_of a))
+-- an action's operation in an image of a byte order, where its file has these bytes
+abbrev pub op_with : Endian → Files → Action → Op
+op_with e files a = op_of e a (bytes_of_file files (file_of a))
 
-abbrev pub ops_with : Files → List Action → List Op
-ops_with files actions = map (op_with files) actions
+abbrev pub ops_with : Endian → Files → List Action → List Op
+ops_with e files actions = map (op_with e files) actions
 
 -- the bytes of an item
 abbrev pub bytes_of_what : Files → What → List ℕ

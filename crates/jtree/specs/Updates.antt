@@ -92,6 +92,6 @@ UpdatesAreWhole = (page : ℕ) (e : Endian) (size blocks n : ℕ) (base : List �
 
 -- What a tree's text is read as are updates, whatever bytes the files of the host have.
 abbrev pub ListingIsUpdate : Type 0
-ListingIsUpdate = (files : Files) (root : Attributes) (items : List Item) (lines : List Line)
-    → FitsListing root items → lines_of (listing_text root items) ≡ Ok lines
-    → AllByRecursion IsUpdate (ops_in files lines)
+ListingIsUpdate = (e : Endian) (files : Files) (root : Attributes) (items : List Item)
+    (lines : List Line) → FitsListing root items → lines_of (listing_text root items) ≡ Ok lines
+    → AllByRecursion IsUpdate (ops_in e files lines)

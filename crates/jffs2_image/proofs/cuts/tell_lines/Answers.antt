@@ -36,17 +36,17 @@ returns-in_err-mounted-clause-unread g c = λ n. answer_blames n n (program.Moun
 pub tell_ops-requires-clause-numbered : goal.tell_ops-requires-clause-numbered
 tell_ops-requires-clause-numbered g c =
     let lines : List Line = c.args.lines.items in
-    let ops : c.deref-2.result.now ≡ ops_in (part_contents c.args.parts.now) lines = search rules in
+    let ops : c.deref-2.result.now ≡ ops_in g.E.Order.order (part_contents c.args.parts.now) lines = search rules in
     let items : c.in_ok-numbers.numbers.items ≡ map (λ (l : Line). l.number) lines = c.in_ok-numbers.ensures ∙ ap (map (λ (l : Line). l.number)) c.deref.ensures.value in
     let numbers : c.deref-3.result.now ≡ map (λ (l : Line). l.number) lines = c.deref-3.ensures.value ∙ items in
-    ap length numbers ∙ (length-map lines (λ (l : Line). l.number) ∙ sym (ap length ops ∙ length-map lines (op_in (part_contents c.args.parts.now))))
+    ap length numbers ∙ (length-map lines (λ (l : Line). l.number) ∙ sym (ap length ops ∙ length-map lines (op_in g.E.Order.order (part_contents c.args.parts.now))))
 
 pub returns-clause-tells : goal.returns-clause-tells
 returns-clause-tells g c = λ told text read parts.
     let lines : List Line = c.args.lines.items in
     let m = c.in_ok-mounted.mounted in
     let mounts : Answers g.E.Order.order c.args.flash.geometry.block c.args.base.now (Ok m) = search rules in
-    let ops : c.deref-2.result.now ≡ ops_in (part_contents c.args.parts.now) lines = search rules in
+    let ops : c.deref-2.result.now ≡ ops_in g.E.Order.order (part_contents c.args.parts.now) lines = search rules in
     let items : c.in_ok-numbers.numbers.items ≡ map (λ (l : Line). l.number) lines = c.in_ok-numbers.ensures ∙ ap (map (λ (l : Line). l.number)) c.deref.ensures.value in
     let numbers : c.deref-3.result.now ≡ map (λ (l : Line). l.number) lines = c.deref-3.ensures.value ∙ items in
     let did = c.tell_ops.ensures.tells in

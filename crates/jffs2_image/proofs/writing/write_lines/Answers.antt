@@ -45,11 +45,11 @@ returns-in-Some-clause-writes g c = λ text read.
     let m = c.in_ok-mounted.mounted in
     let r = c.in_ok-report.report in
     let mounts : Answers e a.target.options.geometry.block a.base.now (Ok m) = search rules in
-    let same : c.deref-2.result.now ≡ ops_in (part_contents a.parts.now) a.lines.items = search rules in
+    let same : c.deref-2.result.now ≡ ops_in e (part_contents a.parts.now) a.lines.items = search rules in
     let stopped : r.stopped ≡ Some c.in-Some.fault = search rules in
     let numbers : c.in_ok-numbers.numbers.items ≡ map (λ l. l.number) a.lines.items = search rules in
     let line : c.number_at-line.result ≡ slice_get c.in_ok-numbers.numbers.items r.accepted = search rules in
-    let made : IsMade (g.M.Maker.held a.maker.now, g.M.Maker.held c.make_image.new.maker) a.target.page e a.target.options.geometry.block a.target.blocks m (ops_in (part_contents a.parts.now) a.lines.items) r.accepted r.places.items (Some c.in-Some.fault) =
+    let made : IsMade (g.M.Maker.held a.maker.now, g.M.Maker.held c.make_image.new.maker) a.target.page e a.target.options.geometry.block a.target.blocks m (ops_in e (part_contents a.parts.now) a.lines.items) r.accepted r.places.items (Some c.in-Some.fault) =
     subst (λ (o : List Op). IsMade (g.M.Maker.held a.maker.now, g.M.Maker.held c.make_image.new.maker) a.target.page e a.target.options.geometry.block a.target.blocks m o r.accepted r.places.items (Some c.in-Some.fault)) same
     (subst (λ s. IsMade (g.M.Maker.held a.maker.now, g.M.Maker.held c.make_image.new.maker) a.target.page e a.target.options.geometry.block a.target.blocks m c.deref-2.result.now r.accepted r.places.items s) stopped c.in_ok-report.ensures.made) in
     let run = run_on _ a.target.page e a.target.options.geometry.block a.target.blocks a.base.now text a.lines.items (part_contents a.parts.now) m r.accepted r.places.items (Some c.in-Some.fault) read mounts made in
@@ -67,11 +67,11 @@ returns-in_err-put_accepted-clause-writes g c = λ text read.
     let m = c.in_ok-mounted.mounted in
     let r = c.in_ok-report.report in
     let mounts : Answers e a.target.options.geometry.block a.base.now (Ok m) = search rules in
-    let same : c.deref-2.result.now ≡ ops_in (part_contents a.parts.now) a.lines.items = search rules in
+    let same : c.deref-2.result.now ≡ ops_in e (part_contents a.parts.now) a.lines.items = search rules in
     let image : m.image ≡ a.base.now = search rules in
     let at : resumes_by a.target.page e a.target.options.geometry.block a.target.blocks m ≡ Ok c.in_ok-from.from = search rules in
     let stopped : r.stopped ≡ None = search rules in
-    let made : IsMade (g.M.Maker.held a.maker.now, g.M.Maker.held c.make_image.new.maker) a.target.page e a.target.options.geometry.block a.target.blocks m (ops_in (part_contents a.parts.now) a.lines.items) r.accepted r.places.items None =
+    let made : IsMade (g.M.Maker.held a.maker.now, g.M.Maker.held c.make_image.new.maker) a.target.page e a.target.options.geometry.block a.target.blocks m (ops_in e (part_contents a.parts.now) a.lines.items) r.accepted r.places.items None =
     subst (λ (o : List Op). IsMade (g.M.Maker.held a.maker.now, g.M.Maker.held c.make_image.new.maker) a.target.page e a.target.options.geometry.block a.target.blocks m o r.accepted r.places.items None) same
     (subst (λ s. IsMade (g.M.Maker.held a.maker.now, g.M.Maker.held c.make_image.new.maker) a.target.page e a.target.options.geometry.block a.target.blocks m c.deref-2.result.now r.accepted r.places.items s) stopped c.in_ok-report.ensures.made) in
     let run = run_on _ a.target.page e a.target.options.geometry.block a.target.blocks a.base.now text a.lines.items (part_contents a.parts.now) m r.accepted r.places.items None read mounts made in
@@ -88,11 +88,11 @@ returns-clause-writes g c = λ text read.
     let m = c.in_ok-mounted.mounted in
     let r = c.in_ok-report.report in
     let mounts : Answers e a.target.options.geometry.block a.base.now (Ok m) = search rules in
-    let same : c.deref-2.result.now ≡ ops_in (part_contents a.parts.now) a.lines.items = search rules in
+    let same : c.deref-2.result.now ≡ ops_in e (part_contents a.parts.now) a.lines.items = search rules in
     let image : m.image ≡ a.base.now = search rules in
     let at : resumes_by a.target.page e a.target.options.geometry.block a.target.blocks m ≡ Ok c.in_ok-from.from = search rules in
     let stopped : r.stopped ≡ None = search rules in
-    let made : IsMade (g.M.Maker.held a.maker.now, g.M.Maker.held c.make_image.new.maker) a.target.page e a.target.options.geometry.block a.target.blocks m (ops_in (part_contents a.parts.now) a.lines.items) r.accepted r.places.items None =
+    let made : IsMade (g.M.Maker.held a.maker.now, g.M.Maker.held c.make_image.new.maker) a.target.page e a.target.options.geometry.block a.target.blocks m (ops_in e (part_contents a.parts.now) a.lines.items) r.accepted r.places.items None =
     subst (λ (o : List Op). IsMade (g.M.Maker.held a.maker.now, g.M.Maker.held c.make_image.new.maker) a.target.page e a.target.options.geometry.block a.target.blocks m o r.accepted r.places.items None) same
     (subst (λ s. IsMade (g.M.Maker.held a.maker.now, g.M.Maker.held c.make_image.new.maker) a.target.page e a.target.options.geometry.block a.target.blocks m c.deref-2.result.now r.accepted r.places.items s) stopped c.in_ok-report.ensures.made) in
     let run = run_on _ a.target.page e a.target.options.geometry.block a.target.blocks a.base.now text a.lines.items (part_contents a.parts.now) m r.accepted r.places.items None read mounts made in
@@ -144,11 +144,11 @@ returns-clause-files g c = λ known text read are.
     let m = c.in_ok-mounted.mounted in
     let r = c.in_ok-report.report in
     let mounts : Answers e a.target.options.geometry.block a.base.now (Ok m) = search rules in
-    let same : c.deref-2.result.now ≡ ops_in (part_contents a.parts.now) a.lines.items = search rules in
+    let same : c.deref-2.result.now ≡ ops_in e (part_contents a.parts.now) a.lines.items = search rules in
     let image : m.image ≡ a.base.now = search rules in
     let at : resumes_by a.target.page e a.target.options.geometry.block a.target.blocks m ≡ Ok c.in_ok-from.from = search rules in
     let stopped : r.stopped ≡ None = search rules in
-    let made : IsMade (g.M.Maker.held a.maker.now, g.M.Maker.held c.make_image.new.maker) a.target.page e a.target.options.geometry.block a.target.blocks m (ops_in (part_contents a.parts.now) a.lines.items) r.accepted r.places.items None =
+    let made : IsMade (g.M.Maker.held a.maker.now, g.M.Maker.held c.make_image.new.maker) a.target.page e a.target.options.geometry.block a.target.blocks m (ops_in e (part_contents a.parts.now) a.lines.items) r.accepted r.places.items None =
     subst (λ (o : List Op). IsMade (g.M.Maker.held a.maker.now, g.M.Maker.held c.make_image.new.maker) a.target.page e a.target.options.geometry.block a.target.blocks m o r.accepted r.places.items None) same
     (subst (λ s. IsMade (g.M.Maker.held a.maker.now, g.M.Maker.held c.make_image.new.maker) a.target.page e a.target.options.geometry.block a.target.blocks m c.deref-2.result.now r.accepted r.places.items s) stopped c.in_ok-report.ensures.made) in
     let from = goes_on_from a.target.page e a.target.options.geometry.block a.target.blocks m c.in_ok-from.from at ∙ ap (λ (l : List ℕ). resume_address e a.target.options.geometry.block a.target.blocks l) image in
@@ -163,11 +163,11 @@ returns-in_err-put_accepted-clause-files g c = λ known text read are.
     let m = c.in_ok-mounted.mounted in
     let r = c.in_ok-report.report in
     let mounts : Answers e a.target.options.geometry.block a.base.now (Ok m) = search rules in
-    let same : c.deref-2.result.now ≡ ops_in (part_contents a.parts.now) a.lines.items = search rules in
+    let same : c.deref-2.result.now ≡ ops_in e (part_contents a.parts.now) a.lines.items = search rules in
     let image : m.image ≡ a.base.now = search rules in
     let at : resumes_by a.target.page e a.target.options.geometry.block a.target.blocks m ≡ Ok c.in_ok-from.from = search rules in
     let stopped : r.stopped ≡ None = search rules in
-    let made : IsMade (g.M.Maker.held a.maker.now, g.M.Maker.held c.make_image.new.maker) a.target.page e a.target.options.geometry.block a.target.blocks m (ops_in (part_contents a.parts.now) a.lines.items) r.accepted r.places.items None =
+    let made : IsMade (g.M.Maker.held a.maker.now, g.M.Maker.held c.make_image.new.maker) a.target.page e a.target.options.geometry.block a.target.blocks m (ops_in e (part_contents a.parts.now) a.lines.items) r.accepted r.places.items None =
     subst (λ (o : List Op). IsMade (g.M.Maker.held a.maker.now, g.M.Maker.held c.make_image.new.maker) a.target.page e a.target.options.geometry.block a.target.blocks m o r.accepted r.places.items None) same
     (subst (λ s. IsMade (g.M.Maker.held a.maker.now, g.M.Maker.held c.make_image.new.maker) a.target.page e a.target.options.geometry.block a.target.blocks m c.deref-2.result.now r.accepted r.places.items s) stopped c.in_ok-report.ensures.made) in
     let from = goes_on_from a.target.page e a.target.options.geometry.block a.target.blocks m c.in_ok-from.from at ∙ ap (λ (l : List ℕ). resume_address e a.target.options.geometry.block a.target.blocks l) image in
@@ -182,12 +182,12 @@ returns-in-Some-clause-files g c = λ known text read are.
     let m = c.in_ok-mounted.mounted in
     let r = c.in_ok-report.report in
     let mounts : Answers e a.target.options.geometry.block a.base.now (Ok m) = search rules in
-    let same : c.deref-2.result.now ≡ ops_in (part_contents a.parts.now) a.lines.items = search rules in
+    let same : c.deref-2.result.now ≡ ops_in e (part_contents a.parts.now) a.lines.items = search rules in
     let image : m.image ≡ a.base.now = search rules in
     let stopped : r.stopped ≡ Some c.in-Some.fault = search rules in
     let numbers : c.in_ok-numbers.numbers.items ≡ map (λ l. l.number) a.lines.items = search rules in
     let line : c.number_at-line.result ≡ slice_get c.in_ok-numbers.numbers.items r.accepted = search rules in
-    let made : IsMade (g.M.Maker.held a.maker.now, g.M.Maker.held c.make_image.new.maker) a.target.page e a.target.options.geometry.block a.target.blocks m (ops_in (part_contents a.parts.now) a.lines.items) r.accepted r.places.items (Some c.in-Some.fault) =
+    let made : IsMade (g.M.Maker.held a.maker.now, g.M.Maker.held c.make_image.new.maker) a.target.page e a.target.options.geometry.block a.target.blocks m (ops_in e (part_contents a.parts.now) a.lines.items) r.accepted r.places.items (Some c.in-Some.fault) =
     subst (λ (o : List Op). IsMade (g.M.Maker.held a.maker.now, g.M.Maker.held c.make_image.new.maker) a.target.page e a.target.options.geometry.block a.target.blocks m o r.accepted r.places.items (Some c.in-Some.fault)) same
     (subst (λ s. IsMade (g.M.Maker.held a.maker.now, g.M.Maker.held c.make_image.new.maker) a.target.page e a.target.options.geometry.block a.target.blocks m c.deref-2.result.now r.accepted r.places.items s) stopped c.in_ok-report.ensures.made) in
     let shown = line ∙ (ap (λ (l : List ℕ). slice_get l r.accepted) numbers ∙ slice_get-map (λ l. l.number) a.lines.items r.accepted) in
@@ -213,10 +213,10 @@ returns-in_err-report-clause-files g c = λ known text read are.
     let e = g.E.Order.order in
     let a = c.args in
     let m = c.in_ok-mounted.mounted in
-    let same : c.deref-2.result.now ≡ ops_in (part_contents a.parts.now) a.lines.items = search rules in
+    let same : c.deref-2.result.now ≡ ops_in e (part_contents a.parts.now) a.lines.items = search rules in
     let image : m.image ≡ a.base.now = search rules in
     let held : Held = (g.M.Maker.held a.maker.now, g.M.Maker.held c.make_image.new.maker) in
-    let cut : HoldsCut held a.target.page e a.target.options.geometry.block a.target.blocks m.image (ops_in (part_contents a.parts.now) a.lines.items) c.in_err-report.field-0.0 =
+    let cut : HoldsCut held a.target.page e a.target.options.geometry.block a.target.blocks m.image (ops_in e (part_contents a.parts.now) a.lines.items) c.in_err-report.field-0.0 =
     subst (λ (o : List Op). HoldsCut held a.target.page e a.target.options.geometry.block a.target.blocks m.image o c.in_err-report.field-0.0) same c.in_err-report.ensures.cut in
     files_not_made known held a.target.page e a.target.options.geometry.block a.target.blocks a.target.output.now a.base.now text a.lines.items a.parts.now m _ _ c.in_err-report.field-0.0 _
     c.from_residual-in_err-report.ensures.1 image are read c.in_err-report.ensures.fault cut
