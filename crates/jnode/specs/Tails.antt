@@ -20,12 +20,12 @@ IsLeastFrom bytes place (Some j) = IsTrue (is_hidden bytes j)
     × ((i : ℕ) → place ≤ i → IsTrue (is_hidden bytes i) → j ≤ i)
 
 -- the gap of the bytes from a place on, whether they differ from erased ones, and the least cut
-pub record Walked (bytes : List ℕ) (place gap : ℕ) (differs : Bool) (least : Option ℕ) : Type 0 where
+pub record Walked (bytes : List ℕ) (place gap : ℕ) (differs : Bool) (cut : Option ℕ) : Type 0 where
   pub within : place ≤ length bytes
   pub gap_is : IsGap (drop place bytes) gap
   pub same : differs ≡ false → drop place bytes ≡ erased (length bytes - place)
   pub other : differs ≡ true → drop place bytes ≡ erased (length bytes - place) → ⊥
-  pub least_is : IsLeastFrom bytes place least
+  pub least_is : IsLeastFrom bytes place cut
 
 abbrev pub IsTailFrom : List ℕ → ℕ → Tail → Type 0
 IsTailFrom bytes place tail = Walked bytes place tail.gap tail.differs tail.least
