@@ -131,7 +131,16 @@ const THEIRS: &[Node<'static>] = &[
 
 const OWNERS: &str = "- - 0644 1 2 3 /a\n+ - 0644 2 1 3 /a\n";
 
-const ROWS: [Row; 7] = [
+/// Files of 4 GiB without a byte, which are passed over.
+const HOLES: &[Node<'static>] = &[
+    Node::Hole(2, u32::MAX),
+    Node::Entry(1, 2, b"a"),
+    Node::Entry(1, 2, b"b"),
+    Node::Entry(1, 2, b"c"),
+];
+
+const ROWS: [Row; 8] = [
+    (HOLES, HOLES, true, "", 0),
     (&[], &[], true, "", 0),
     (LEFT, LEFT, true, "", 0),
     (LEFT, RIGHT, false, CHANGED, 9),

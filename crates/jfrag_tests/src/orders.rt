@@ -85,6 +85,42 @@ fn zeros_hide_older_bytes(rt: HostRuntime) -> Result<(), Fail> {
     Ok(())
 }
 
+/// Where the zeros end that begin at each place: bytes from 5 to 7, zeros from 7 to 12, bytes from
+/// 20 to 23.
+const HOLE_ENDS: [(u16, u32); 9] = [
+    (0, 5),
+    (4, 5),
+    (5, 5),
+    (6, 6),
+    (7, 12),
+    (11, 12),
+    (12, 20),
+    (22, 22),
+    (23, u32::MAX),
+];
+
+#[test]
+fn zeros_that_no_piece_has(rt: HostRuntime) -> Result<(), Fail> {
+    let bytes = bytes_at(1, 5, &[7; 4]);
+    let zeros = zeros_at(2, 7, 5);
+    let more = bytes_at(3, 20, &[9; 3]);
+    let frag: FragOverlay = overlay(rt.alloc(), &[bytes, zeros, more])?;
+    for (place, end) in HOLE_ENDS {
+        equal(&rt, frag.hole_end(u32::from(place)), end);
+    }
+    Ok(())
+}
+
+#[test]
+fn zeros_beside_one_piece(rt: HostRuntime) -> Result<(), Fail> {
+    let bytes: FragOverlay = overlay(rt.alloc(), &[bytes_at(1, 5, &[7; 4])])?;
+    let ends = [bytes.hole_end(1), bytes.hole_end(8), bytes.hole_end(9)];
+    equal(&rt, ends, [5, 8, u32::MAX]);
+    let zeros: FragOverlay = overlay(rt.alloc(), &[zeros_at(2, 7, 5)])?;
+    equal(&rt, [zeros.hole_end(7), zeros.hole_end(12)], [12, u32::MAX]);
+    Ok(())
+}
+
 #[test]
 fn missing_bytes_are_erased_flash(rt: HostRuntime) -> Result<(), Fail> {
     let piece = Piece {

@@ -20,6 +20,8 @@ pub enum Fact {
     Dangling(&'static [(u32, &'static [u8], u32)]),
     /// What reading from an offset into a slice of so many bytes puts at its front.
     Bytes(u32, u64, usize, &'static [u8]),
+    /// Where the zeros of an object end that no node has, from an offset on.
+    HoleEnd(u32, u64, u64),
     Top(u32, u32),
     Next(u64),
     /// How many findings there are.
@@ -52,6 +54,7 @@ fn holds(alloc: Global, mounted: &Mounted<'_>, fact: Fact) -> bool {
         Fact::Names(wanted) => are_names(mounted, wanted),
         Fact::Dangling(wanted) => are_dangling(alloc, mounted, wanted),
         Fact::Bytes(ino, offset, room, wanted) => reads(mounted, ino, offset, room, wanted),
+        Fact::HoleEnd(ino, offset, wanted) => mounted.hole_end(ino, offset) == wanted,
         Fact::Top(ino, wanted) => mounted.top(ino) == wanted,
         Fact::Next(wanted) => mounted.next() == wanted,
         Fact::Findings(wanted) => mounted.findings().len() == wanted,

@@ -42,7 +42,7 @@ const ROOT_OF_VERSION_0: Object = Object {
 };
 
 /// Images that mount as the same in either order.
-const IMAGES: [(&[Item], &[Fact]); 7] = [
+const IMAGES: [(&[Item], &[Fact]); 8] = [
     // No bytes at all.
     (
         &[],
@@ -88,6 +88,12 @@ const IMAGES: [(&[Item], &[Fact]); 7] = [
         ],
         &[
             Fact::Bytes(2, 0, 32, b"\x01\x02\x03\x04\0\0\0\0\xFF"),
+            Fact::HoleEnd(2, 3, 3),
+            Fact::HoleEnd(2, 4, 8),
+            Fact::HoleEnd(2, 8, 8),
+            Fact::HoleEnd(2, 9, 9),
+            Fact::HoleEnd(1, 4, 4),
+            Fact::HoleEnd(3, 5, 5),
             Fact::Find(b"/a", Ok(2)),
             Fact::Object(2, Some(CUT_AND_WRITTEN)),
             Fact::Entries(1, &[(b"a", 2)]),
@@ -105,6 +111,20 @@ const IMAGES: [(&[Item], &[Fact]); 7] = [
             Item::Data(Version(2, 2, FILE, 3), 1, b"BC"),
         ],
         &[Fact::Bytes(2, 0, 32, b"aBCdEF")],
+    ),
+    // Of a size that no node reaches, and with a gap between its nodes.
+    (
+        &[
+            Item::Marker,
+            Item::Data(Version(2, 1, FILE, 9), 2, b"c"),
+            Item::Data(Version(2, 2, FILE, 0x9000_0000), 5, b"f"),
+        ],
+        &[
+            Fact::HoleEnd(2, 0, 2),
+            Fact::HoleEnd(2, 2, 2),
+            Fact::HoleEnd(2, 3, 5),
+            Fact::HoleEnd(2, 6, 0x9000_0000),
+        ],
     ),
     // Twins that are equal are one node.
     (
