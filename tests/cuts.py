@@ -12,7 +12,7 @@ import tempfile
 
 TOP = os.path.dirname(os.path.dirname(os.path.abspath(__file__)))
 PIECE_THAT_SPELLS = 0x1985 - 68
-KINDS = {0o04: "d", 0o10: "-", 0o12: "l", 0o01: "p", 0o14: "s"}
+KINDS = {0o04: "d", 0o10: "-", 0o12: "l", 0o01: "p", 0o02: "c", 0o06: "b", 0o14: "s"}
 
 
 class Tree:
@@ -83,6 +83,10 @@ def change(tree, line, page, state):
         state["time"] = int(words[0])
     elif verb == "owner":
         state["owner"] = (int(words[0]), int(words[1]))
+    elif verb == "device":
+        mode, path, number = int(words[1], 8) | {"c": 0o020000, "b": 0o060000}[words[0]], words[4], tree.next
+        yield lambda: tree.make(time, mode, owner, b"")
+        yield lambda: name(path, number)
     elif verb in kinds or verb == "symlink":
         mode, path = (int(words[0], 8) | kinds[verb], words[1]) if verb in kinds else (0o120777, words[0])
         body = words[1].encode() if verb == "symlink" else b""
@@ -126,7 +130,7 @@ ROWS = [
     (["--endian", "big"], 16384, None, MADE + ["write /d/a 0 " + hexed(5, 40000)]),
     (["--endian", "big"], 4096, None, MADE + ["attr 0711 9 8 7 6 /d/a", "attr 0700 1 2 3 4 /", "attr 0500 1 2 3 4 /d", "time 8", "write /d/a 0 ff"]),
     ([], 4096, None, MADE + ["mkdir 0700 /e", "rename /d/a /e/b", "rename /e /d/e", "link /d/e/b /c", "remove /d/e/b", "remove /s"]),
-    (["--endian", "big"], 4096, None, MADE + ["create 0600 /n", "write /n 0 " + hexed(6, 70), "replace /n /d/a", "replace /d/a /o", "fifo 0600 /f", "socket 0600 /g"]),
+    (["--endian", "big"], 4096, None, MADE + ["create 0600 /n", "write /n 0 " + hexed(6, 70), "replace /n /d/a", "replace /d/a /o", "fifo 0600 /f", "socket 0600 /g", "device c 0600 4 1 /c", "device b 0640 259 65537 /d/b"]),
     ([], 4096, MADE, ["# on a base", "write /d/a 300 " + hexed(7, 5000), "", "rename /d /e", "create 0644 /e/z", "truncate /e/z 10"]),
     (["--endian", "big"], 8192, MADE, ["replace /d/a /b", "write /b 9000 " + hexed(8, 8000) + "ffffff", "attr 0604 0 0 1 2 /b"]),
     ([], 4096, MADE, ["mkdir 0700 /d/" + "n" * 200] + [f"create 0600 /d/{'m' * 180}{i:02}" for i in range(60)]),

@@ -24,6 +24,13 @@ ACCEPTED = (
         (*MADE, (0x7C, "inode", 68), (0xC0, "entry", 44), (0xEC, "entry", 44), (0x118, "entry", 44)),
     ),
     (8192, 1, 4096, (CREATE, "write /a 100 -", "truncate /a 0"), "3 nodes 2 bytes 124", MADE),
+    *(
+        (
+            *(65536, 1, page, (CREATE, "device c 0600 4 1 /c", "device b 0640 259 65537 /b"), "3 nodes 6 bytes 356"),
+            (*MADE, (0x7C, "inode", 72), (0xC4, "entry", 44), (0xF0, "inode", 72), (0x138, "entry", 44)),
+        )
+        for page in (4096, 8192, 16384)
+    ),
     (65536, 1, 16384, (CREATE, "part /a 0 16384"), "2 nodes 3 bytes 16576", (*MADE, (0x7C, "inode", 16452))),
     (65536, 1, 8192, (CREATE, "part /a 0 6464"), "2 nodes 3 bytes 6656", (*MADE, (0x7C, "inode", 6532))),
     # A node whose length would spell the magic is two.
@@ -41,7 +48,19 @@ REFUSED = (
     (1, ("mkdir 0755 /d", "write /d 0 00"), "S1 Refused O6 WrongKind line 2", 124),
     (1, ("remove /",), "S1 Refused O1 BadPath line 1", 0),
     (1, ("create 10000 /x",), "S1 Refused O10 BadMode line 1", 0),
+    (1, ("device c 0600 1 3 /",), "S1 Refused O1 BadPath line 1", 0),
+    (1, (f"device c 0600 1 3 /{'x' * 255}",), "S1 Refused O2 NameTooLong line 1", 0),
+    (1, ("device b 0600 8 0 /none/x",), "S1 Refused O3 NotFound line 1", 0),
+    (1, (CREATE, "device c 0600 1 3 /a/x"), "S1 Refused O4 NotDirectory line 2", 124),
+    (1, (CREATE, "device b 0600 8 0 /a"), "S1 Refused O5 Exists line 2", 124),
+    (1, ("device c 20600 1 3 /x",), "S1 Refused O10 BadMode line 1", 0),
 )
+NEW = {
+    "fifo": "fifo 0622 /p",
+    "socket": "socket 0755 /s",
+    "character": "device c 0620 4 1 /c",
+    "block": "device b 0640 259 65537 /b",
+}
 FILES = {"page": 4096, "two": 8192, "three": 12288, "four": 16384, **{str(size): size for size in (16384, 6464, 6465, 6466, 9000)}}
 ORDERS = ("little", "big")
 
@@ -96,8 +115,8 @@ def refused():
 
 
 def new_objects():
-    """FIFOs and sockets, byte for byte, as tests/new_nodes.py makes them."""
-    for kind, line in (("fifo", "fifo 0622 /p"), ("socket", "socket 0755 /s")):
+    """FIFOs, sockets and devices, byte for byte, as tests/new_nodes.py makes them."""
+    for kind, line in NEW.items():
         for order in ORDERS:
             done = build(("--block", "8192", "--endian", order), 1, ("time 7", "owner 5 6", line))
             words = [sys.executable, f"{ROOT}/tests/new_nodes.py", kind, order]

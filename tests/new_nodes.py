@@ -1,7 +1,7 @@
 #!/usr/bin/env python3
 """The image that a new object makes of an empty flash, by the tables of docs/FORMAT.md and no code of the crates.
 
-Usage: tests/new_nodes.py fifo|socket little|big. Its bytes go to standard output; tests/listings.py compares them.
+Usage: tests/new_nodes.py fifo|socket|character|block little|big. Its bytes go to standard output; tests/listings.py compares them.
 """
 import struct
 import sys
@@ -46,13 +46,27 @@ def image(order, mode, name, isize=0, data=b""):
     return padded(out)
 
 
+def number(order, major, minor):
+    """A device's number: two bytes where they serve, else four."""
+    if major <= 255 and minor <= 255:
+        return struct.pack(order + "H", major << 8 | minor)
+    return struct.pack(order + "I", minor & 0xff | major << 8 | (minor & 0xfff00) << 12)
+
+
 KINDS = {"fifo": (0o010622, b"p"), "socket": (0o140755, b"s")}
+DEVICES = {"character": (0o020620, b"c", 4, 1), "block": (0o060640, b"b", 259, 65537)}
 ORDERS = {"little": "<", "big": ">"}
 
 
 def main(kind, order):
     assert crc(b"123456789") == 0x2DFD2D88
-    sys.stdout.buffer.write(image(ORDERS[order], *KINDS[kind]))
+    order = ORDERS[order]
+    if kind in DEVICES:
+        mode, name, major, minor = DEVICES[kind]
+        out = image(order, mode, name, 0, number(order, major, minor))
+    else:
+        out = image(order, *KINDS[kind])
+    sys.stdout.buffer.write(out)
 
 
 main(*sys.argv[1:])

@@ -1,5 +1,7 @@
--- The operations that a listing makes, where the files of the host that it names have some bytes.
+-- The operations that a listing makes in an image of a byte order, where the files of the host that
+-- it names have some bytes.
 use Rattle.std.specs.Prelude.{ℕ, List, [], map, Option, Some, None}
+use Rattle.jnode.specs.declared.order.Endian.{Endian}
 use Rattle.jsteps.specs.declared.op.Op.{Op}
 use Rattle.jlisting.specs.Listing.{file_of, op_of}
 use Rattle.jlisting.specs.declared.line.Line.{Line}
@@ -10,8 +12,8 @@ bytes_of_file files None = []
 bytes_of_file files (Some name) = files name
 
 -- the operation of a line
-abbrev pub op_in : (List ℕ → List ℕ) → Line → Op
-op_in files line = op_of line.action (bytes_of_file files (file_of line.action))
+abbrev pub op_in : Endian → (List ℕ → List ℕ) → Line → Op
+op_in e files line = op_of e line.action (bytes_of_file files (file_of line.action))
 
-abbrev pub ops_in : (List ℕ → List ℕ) → List Line → List Op
-ops_in files lines = map (op_in files) lines
+abbrev pub ops_in : Endian → (List ℕ → List ℕ) → List Line → List Op
+ops_in e files lines = map (op_in e files) lines

@@ -6,32 +6,34 @@ ghost use Rattle.jbuild.specs.Operations.{op_in, ops_in};
 
 use crate::parts::Parts;
 use jlisting::Line;
+use jnode::Order;
 use jsteps::Op;
 use std::alloc::{AllocError, Global};
 
 /// The operation of a line.
-fn operation<'b, 'a: 'b>(line: Line<'a>, parts: &'b Parts) -> Op<'b>
-    ensures { result ≡ op_in (part_contents parts.now) line.entry }
+fn operation<'b, 'a: 'b, E: Order>(line: Line<'a>, parts: &'b Parts) -> Op<'b>
+    ensures { result ≡ op_in E.order (part_contents parts.now) line.entry }
 {
     let bytes: &[u8] = match line.action.file() {
         Some(name) => parts.bytes(name),
         None => &[],
     };
-    line.action.op(bytes)
+    line.action.op::<E>(bytes)
 }
 
-/// The operations of the lines of a listing, in order. They borrow the bytes of the files that the
-/// lines name; one that was not read has none.
-pub fn operations<'b, 'a: 'b>(
+/// The operations of the lines of a listing, in order, for an image of `E`'s order. They borrow the
+/// bytes of the files that the lines name; one that was not read has none.
+pub fn operations<'b, 'a: 'b, E: Order>(
     alloc: Global,
     lines: Vec<Line<'a>>,
     parts: &'b Parts,
 ) -> Result<Vec<Op<'b>>, AllocError>
-    ensures { IfOk result (λ ops. ops.items ≡ ops_in (part_contents parts.now) lines.entry.items) }
+    ensures { IfOk result
+        (λ ops. ops.items ≡ ops_in E.order (part_contents parts.now) lines.entry.items) }
 {
     let mut ops = Vec::with_capacity(alloc, lines.len())?;
     for line in lines {
-        ops.push(operation(line, parts))?;
+        ops.push(operation::<E>(line, parts))?;
     }
     Ok(ops)
 }

@@ -74,7 +74,7 @@ fn what_is_told(rt: HostRuntime) -> Result<(), Fail> {
 /// Why nothing is put for a file on a base. The sink comes back as it was.
 fn refused(alloc: Global, base: &[u8], blocks: u32) -> Result<Option<SessionFault>, Fail> {
     let parts = read_files(alloc)?;
-    let ops = operations(alloc, listing(alloc, b"create 0644 /b")?, &parts)?;
+    let ops = operations::<LittleEndian>(alloc, listing(alloc, b"create 0644 /b")?, &parts)?;
     let mounted = mount::<LittleEndian>(alloc, base, GEOMETRY)?;
     let sink = Taker::new(alloc);
     match emit::<LittleEndian, _>(alloc, &mounted, GEOMETRY, blocks, Page::P4096, &ops, sink) {

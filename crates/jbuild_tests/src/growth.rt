@@ -38,7 +38,7 @@ fn emitted<S: Sink>(
 ) -> Option<Result<(S, RunReport), (SessionFault, S)>> {
     let parts = read_two(alloc).ok()?;
     let lines = listing(alloc, row.text).ok()?;
-    let ops = operations(alloc, lines, &parts).ok()?;
+    let ops = operations::<LittleEndian>(alloc, lines, &parts).ok()?;
     let mounted = mount::<LittleEndian>(alloc, row.base, GEOMETRY).ok()?;
     let page = Page::P4096;
     Some(emit::<LittleEndian, _>(alloc, &mounted, GEOMETRY, row.blocks, page, &ops, sink))

@@ -1,9 +1,12 @@
 //! Files of the host that listings name.
 
 use crate::checks::{equal, expect};
+use byteorder::{BigEndian, LittleEndian};
 use jbuild::{Parts, operations};
 use jlisting::listing;
-use jsteps::Op;
+use jnode::Order;
+use jsteps::{DeviceKind, Op};
+use std::alloc::Global;
 use std::test::Fail;
 
 #[test]
@@ -46,7 +49,7 @@ fn operations_have_the_bytes_of_their_files(rt: HostRuntime) -> Result<(), Fail>
     parts.insert("f".to_string(rt.alloc())?, b"old".to_vec(rt.alloc())?)?;
     parts.insert("f".to_string(rt.alloc())?, b"new".to_vec(rt.alloc())?)?;
     parts.insert("g".to_string(rt.alloc())?, b"".to_vec(rt.alloc())?)?;
-    let ops = operations(rt.alloc(), listing(rt.alloc(), TEXT)?, &parts)?;
+    let ops = operations::<LittleEndian>(rt.alloc(), listing(rt.alloc(), TEXT)?, &parts)?;
     equal(&rt, ops.len(), 6);
     for (op, (at, wanted)) in ops.iter().zip(WRITTEN) {
         equal(&rt, written(op), Some((7, at, wanted)));
@@ -56,5 +59,36 @@ fn operations_have_the_bytes_of_their_files(rt: HostRuntime) -> Result<(), Fail>
         &rt,
         matches!(ops.last(), Some(Op::File { bytes, .. }) if bytes.as_slice() == b"new".as_slice()),
     );
+    Ok(())
+}
+
+/// Devices, of which one has numbers of 8 bits, and one more.
+const DEVICES: &[u8] = b"device c 0600 4 1 /c\ndevice b 0640 259 65537 /b\n";
+
+/// The operations of these lines make devices of these kinds and numbers.
+fn has_numbers<E: Order>(alloc: Global, wanted: [(DeviceKind, &[u8]); 2]) -> Result<bool, Fail> {
+    let parts = Parts::new(alloc);
+    let ops = operations::<E>(alloc, listing(alloc, DEVICES)?, &parts)?;
+    let mut same = ops.len() == 2;
+    for (op, (kind, bytes)) in ops.iter().zip(wanted) {
+        same = same
+            && matches!(op, Op::Device { kind: found, number, .. }
+                if *found == kind && number.as_slice() == bytes);
+    }
+    Ok(same)
+}
+
+#[test]
+fn devices_have_numbers_in_the_order_of_an_image(rt: HostRuntime) -> Result<(), Fail> {
+    let little: [(DeviceKind, &[u8]); 2] = [
+        (DeviceKind::Character, &[1, 4]),
+        (DeviceKind::Block, &[1, 3, 1, 16]),
+    ];
+    let big: [(DeviceKind, &[u8]); 2] = [
+        (DeviceKind::Character, &[4, 1]),
+        (DeviceKind::Block, &[16, 1, 3, 1]),
+    ];
+    expect(&rt, has_numbers::<LittleEndian>(rt.alloc(), little)?);
+    expect(&rt, has_numbers::<BigEndian>(rt.alloc(), big)?);
     Ok(())
 }

@@ -53,7 +53,7 @@ pub fn made<E: Order>(
     text: &[u8],
 ) -> Result<Outcome, Fail> {
     let parts = read_files(alloc)?;
-    let ops = operations(alloc, listing(alloc, text)?, &parts)?;
+    let ops = operations::<E>(alloc, listing(alloc, text)?, &parts)?;
     let mounted = mount::<E>(alloc, base, GEOMETRY)?;
     let from = resume_at::<E>(&mounted, GEOMETRY, blocks)?;
     let sink = FromWriter::new(Vec::new(alloc));

@@ -19,7 +19,7 @@ type Emitted = Result<(Taker, RunReport), (SessionFault, Taker)>;
 /// What goes out for a file on a base of 124 bytes, which is gone on from at 8192.
 fn emitted(alloc: Global, sink: Taker) -> Result<Emitted, Fail> {
     let parts = read_files(alloc)?;
-    let ops = operations(alloc, listing(alloc, TEXT)?, &parts)?;
+    let ops = operations::<LittleEndian>(alloc, listing(alloc, TEXT)?, &parts)?;
     let mounted = mount::<LittleEndian>(alloc, &MADE, GEOMETRY)?;
     Ok(emit::<LittleEndian, _>(alloc, &mounted, GEOMETRY, 2, Page::P4096, &ops, sink))
 }

@@ -192,6 +192,8 @@ and those that begin with # are skipped.
   mkdir MODE PATH        makes a directory
   create MODE PATH       makes an empty regular file
   file MODE PATH FILE    makes a file with the bytes of FILE of this host
+  device KIND MODE MAJOR MINOR PATH
+                         makes a device: KIND is c (character) or b (block)
   fifo MODE PATH         makes a FIFO
   socket MODE PATH       makes a socket
   symlink PATH TARGET    makes a symlink

@@ -5,4 +5,5 @@ use Rattle.jbuild.specs.Operations.{ops_in}
 use Rattle.jbuild.proofs.listed.operations.Given as goal
 
 abbrev pub invariant-loop-line : goal.invariant-loop-line
-invariant-loop-line l = l.ops.items ++ ops_in (part_contents l.parts) (into_iter_items l.line-iterator) ≡ ops_in (part_contents l.parts) l.fn.lines.items
+invariant-loop-line g l =
+    l.ops.items ++ ops_in g.E.Order.order (part_contents l.parts) (into_iter_items l.line-iterator) ≡ ops_in g.E.Order.order (part_contents l.parts) l.fn.lines.items
