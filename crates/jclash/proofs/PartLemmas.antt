@@ -1,7 +1,7 @@
 -- What stays of nodes of which some clash.
-use Rattle.std.proofs.Common.{◌≡◌, ◌≢◌, ℕ, zero, suc, Bor, drop, slice_index_or, ◌+◌, ◌-◌, ◌<◌, ◌≤◌, List, [], ◌∷◌, ◌++◌, map, length, refl, sym, ap, ap₂, subst, ◌∙◌, arith, Option, None, Some, inl, inr, ⊎_elim}
+use Rattle.std.proofs.Common.{◌≡◌, ◌≢◌, ℕ, zero, suc, drop, slice_index_or, ◌+◌, ◌-◌, ◌<◌, ◌≤◌, List, [], ◌∷◌, ◌++◌, map, length, refl, sym, ap, ap₂, subst, ◌∙◌, arith, Option, None, Some, inl, inr, ⊎_elim}
 use Rattle.std.specs.Prelude.{Contains, ◌⊎◌, reverse}
-use Rattle.std.proofs.lemmas.List.{drop_more, reverse-append, map-append}
+use Rattle.std.proofs.lemmas.List.{drop_more, reverse-append}
 use Rattle.flashbase.proofs.MemberLemmas.{Contains-none, Contains-here, Contains-there, Contains-cases}
 use Rattle.jnode.specs.declared.node.NodeRef.{NodeRef}
 use Rattle.jnode.specs.declared.node.NodeRef.TheVariants.{Entry, Inode}
@@ -172,26 +172,21 @@ order_left ns zero order = order
 order_left [] (suc i) order = tt
 order_left (n ∷ ns) (suc i) order = order_left ns i order.1
 
-none_reversed : {A B : Type 0} (f : A → B) (xs : List A) (x : A) → reverse (map f (xs ++ x ∷ [])) ≡ f x ∷ reverse (map f xs)
-none_reversed f xs x = ap reverse (map-append f xs (x ∷ [])) ∙ reverse-append (map f xs) (f x ∷ [])
+last_first : {A : Type 0} (xs : List A) (x : A) → reverse (xs ++ x ∷ []) ≡ x ∷ reverse xs
+last_first xs x = reverse-append xs (x ∷ [])
 
-pub step_parts : (n : ℕ × NodeRef) (ns : List (ℕ × NodeRef)) (node : Bor NodeRef) (stay stays : List (Bor NodeRef)) (left leaves : List LeftOut) (by : Option ℕ)
-    → node.now ≡ n.1 → IsClashAmong ns n.1 by → PutsBehind (stay, stays) (left, leaves) n.0 node by
-    → Parts ns (reverse (map (λ b. b.now) stay)) (reverse left) → Parts (n ∷ ns) (reverse (map (λ b. b.now) stays)) (reverse leaves)
-step_parts n ns node stay stays left leaves None is none puts parts =
-    let grown : reverse (map (λ b. b.now) stays) ≡ n.1 ∷ reverse (map (λ b. b.now) stay) =
-    ap (λ (s : List (Bor NodeRef)). reverse (map (λ b. b.now) s)) puts.0
-    ∙ none_reversed (λ (b : Bor NodeRef). b.now) stay node
-    ∙ ap (λ (z : NodeRef). z ∷ reverse (map (λ b. b.now) stay)) is in
+pub step_parts : (n : ℕ × NodeRef) (ns : List (ℕ × NodeRef)) (stay stays : List NodeRef) (left leaves : List LeftOut) (by : Option ℕ)
+    → IsClashAmong ns n.1 by → PutsBehind (stay, stays) (left, leaves) n.0 n.1 by
+    → Parts ns (reverse stay) (reverse left) → Parts (n ∷ ns) (reverse stays) (reverse leaves)
+step_parts n ns stay stays left leaves None none puts parts =
+    let grown : reverse stays ≡ n.1 ∷ reverse stay = ap (λ (s : List NodeRef). reverse s) puts.0 ∙ last_first stay n.1 in
     subst (λ (s : List NodeRef). Parts (n ∷ ns) s (reverse leaves)) (sym grown)
-    (subst (λ (l : List LeftOut). Parts (n ∷ ns) (n.1 ∷ reverse (map (λ b. b.now) stay)) (reverse l)) (sym puts.1)
-    (parts_stays n ns (reverse (map (λ b. b.now) stay)) (reverse left) none parts))
-step_parts n ns node stay stays left leaves (Some at) is highest puts parts =
+    (subst (λ (l : List LeftOut). Parts (n ∷ ns) (n.1 ∷ reverse stay) (reverse l)) (sym puts.1) (parts_stays n ns (reverse stay) (reverse left) none parts))
+step_parts n ns stay stays left leaves (Some at) highest puts parts =
     let one : LeftOut = record { addr = n.0; by = at } in
-    let grown : reverse leaves ≡ one ∷ reverse left = ap (λ (l : List LeftOut). reverse l) puts.1 ∙ reverse-append left (one ∷ []) in
-    subst (λ (l : List LeftOut). Parts (n ∷ ns) (reverse (map (λ b. b.now) stays)) l) (sym grown)
-    (subst (λ (s : List (Bor NodeRef)). Parts (n ∷ ns) (reverse (map (λ b. b.now) s)) (one ∷ reverse left)) (sym puts.0)
-    (parts_leaves n ns (reverse (map (λ b. b.now) stay)) (reverse left) at highest parts))
+    let grown : reverse leaves ≡ one ∷ reverse left = ap (λ (l : List LeftOut). reverse l) puts.1 ∙ last_first left one in
+    subst (λ (l : List LeftOut). Parts (n ∷ ns) (reverse stays) l) (sym grown)
+    (subst (λ (s : List NodeRef). Parts (n ∷ ns) (reverse s) (one ∷ reverse left)) (sym puts.0) (parts_leaves n ns (reverse stay) (reverse left) at highest parts))
 
 -- what is left with the node before it
 pub last_left : (ns : List (ℕ × NodeRef)) (i : ℕ) (n : ℕ × NodeRef) → 0 < i → i ≤ length ns → n ≡ slice_index_or ns (i - 1) n → drop (i - 1) ns ≡ n ∷ drop i ns
@@ -199,11 +194,3 @@ last_left ns i n some within is =
     let less : i - 1 < length ns = omega (arith, some, within) in
     let next : i - 1 + 1 ≡ i = omega (arith, some) in
     drop_more ns (i - 1) n less ∙ ap₂ (λ (m : ℕ × NodeRef) (k : ℕ). m ∷ drop k ns) (sym is) next
-
-pub map_reversed : {A B : Type 0} (f : A → B) (xs : List A) → map f (reverse xs) ≡ reverse (map f xs)
-map_reversed f [] = refl
-map_reversed f (x ∷ xs) =
-    ap (map f) (reverse-append (x ∷ []) xs)
-    ∙ map-append f (reverse xs) (x ∷ [])
-    ∙ ap (λ (s : List _). s ++ f x ∷ []) (map_reversed f xs)
-    ∙ sym (reverse-append (f x ∷ []) (map f xs))

@@ -8,6 +8,7 @@
 //! `specs/Parting.antt` says which nodes stay, and `laws` what follows from it.
 #![tactic(auto)]
 
+mod copying;
 mod highest;
 mod key;
 pub mod laws;

@@ -1,9 +1,10 @@
 //! Which nodes stay.
 
-ghost use Rattle.std.specs.Prelude.{IfOk, OnOk, map};
+ghost use Rattle.std.specs.Prelude.{IfOk, OnOk};
 ghost use Rattle.jclash.specs.Parting.{AreInOrder, Parts, PutsBehind};
 
-use crate::highest::{ByKey, add};
+use crate::copying::copied;
+use crate::highest::add;
 use jnode::NodeRef;
 use std::alloc::{AllocError, Global};
 use std::collections::BTreeMap;
@@ -17,24 +18,24 @@ pub struct LeftOut {
 
 /// The nodes that stay, and those that are left out, both in order of their addresses.
 #[derive(Drop)]
-pub struct Parted<'n, 'a> {
-    pub stay: Vec<&'n NodeRef<'a>>,
+pub struct Parted<'a> {
+    pub stay: Vec<NodeRef<'a>>,
     pub left: Vec<LeftOut>,
 }
 
 /// Puts a node in front of those that stay, or of those that are left out, where an address is
 /// given; both are held from the last to the first.
-fn put_front<'n, 'a>(
-    parted: &mut Parted<'n, 'a>,
+fn put_front<'a>(
+    parted: &mut Parted<'a>,
     addr: u32,
-    node: &'n NodeRef<'a>,
+    node: &NodeRef<'a>,
     by: Option<u32>,
 ) -> Result<(), AllocError>
     ensures { OnOk result (PutsBehind (parted.old.stay.items, parted.new.stay.items)
-        (parted.old.left.items, parted.new.left.items) addr node.entry by) }
+        (parted.old.left.items, parted.new.left.items) addr node.now by) }
 {
     match by {
-        None => parted.stay.push(node)?,
+        None => parted.stay.push(copied(node))?,
         Some(by) => parted.left.push(LeftOut { addr, by })?,
     }
     Ok(())
@@ -44,13 +45,13 @@ fn put_front<'n, 'a>(
 ///
 /// # Errors
 /// Only memory can be wanting.
-pub fn without_clashing<'n, 'a>(
+pub fn without_clashing<'a>(
     alloc: Global,
-    nodes: &'n [(u32, NodeRef<'a>)],
-) -> Result<Parted<'n, 'a>, AllocError>
+    nodes: &[(u32, NodeRef<'a>)],
+) -> Result<Parted<'a>, AllocError>
     requires { AreInOrder nodes.now }
     ensures { IfOk result
-        (λ parted. Parts nodes.now (map (λ n. n.now) parted.stay.items) parted.left.items) }
+        (λ parted. Parts nodes.now parted.stay.items parted.left.items) }
 {
     let mut known = BTreeMap::new(alloc);
     let mut parted = Parted {

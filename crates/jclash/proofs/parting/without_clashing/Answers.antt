@@ -1,10 +1,10 @@
-use Rattle.std.proofs.Common.{rules, Bor, ◌≡◌, ℕ, ◌∷◌, ◌<◌, ◌-◌, List, drop, map, length, ap, refl, sym, subst, ◌∙◌, arith}
+use Rattle.std.proofs.Common.{◌≡◌, ℕ, ◌∷◌, ◌<◌, ◌-◌, List, drop, sym, subst, arith}
 use Rattle.std.specs.Prelude.{reverse}
 use Rattle.jnode.specs.declared.node.NodeRef.{NodeRef}
 use Rattle.jclash.specs.Keys.{KnowsNodes}
 use Rattle.jclash.specs.Parting.{AreInOrder, Parts}
 use Rattle.jclash.specs.declared.parting.LeftOut.{LeftOut}
-use Rattle.jclash.proofs.PartLemmas.{last_left, order_left, step_parts, map_reversed}
+use Rattle.jclash.proofs.PartLemmas.{last_left, order_left, step_parts}
 use Rattle.jclash.proofs.parting.without_clashing.Goals as goal
 
 pub loop-i-preserved : goal.loop-i-preserved
@@ -19,16 +19,15 @@ loop-i-preserved c =
     record {
       within = omega (arith, c.loop-i.invariant.within);
       knows = subst (λ (l : List (ℕ × NodeRef)). KnowsNodes l c.add.new.known) (sym split) added.0;
-      parts = subst (λ (l : List (ℕ × NodeRef)). Parts l (reverse (map (λ b. b.now) c.put_front.new.parted.stay.items)) (reverse c.put_front.new.parted.left.items)) (sym split)
-          (step_parts n (drop i ns) _ _ _ _ _ c.in_ok-by.by refl added.1 c.in_ok-put_front.ensures c.loop-i.invariant.parts);
+      parts = subst (λ (l : List (ℕ × NodeRef)). Parts l (reverse c.put_front.new.parted.stay.items) (reverse c.put_front.new.parted.left.items)) (sym split)
+          (step_parts n (drop i ns) _ _ _ _ c.in_ok-by.by added.1 c.in_ok-put_front.ensures c.loop-i.invariant.parts);
     }
 
 pub returns : goal.returns
 returns c =
     let ns : List (ℕ × NodeRef) = c.args.nodes.now in
     let end : c.loop-i.i ≡ 0 = omega (arith, c.loop-i-test.false) in
-    let stay = ap (map (λ (b : Bor NodeRef). b.now)) c.reverse.ensures.items ∙ map_reversed (λ (b : Bor NodeRef). b.now) c.loop-i.parted.stay.items in
-    let parts : Parts ns (reverse (map (λ b. b.now) c.loop-i.parted.stay.items)) (reverse c.loop-i.parted.left.items) =
-    subst (λ (k : ℕ). Parts (drop k ns) (reverse (map (λ b. b.now) c.loop-i.parted.stay.items)) (reverse c.loop-i.parted.left.items)) end c.loop-i.invariant.parts in
-    subst (λ (s : List NodeRef). Parts ns s c.reverse-2.new.self.items) (sym stay)
-    (subst (λ (l : List LeftOut). Parts ns (reverse (map (λ b. b.now) c.loop-i.parted.stay.items)) l) (sym c.reverse-2.ensures.items) parts)
+    let parts : Parts ns (reverse c.loop-i.parted.stay.items) (reverse c.loop-i.parted.left.items) =
+    subst (λ (k : ℕ). Parts (drop k ns) (reverse c.loop-i.parted.stay.items) (reverse c.loop-i.parted.left.items)) end c.loop-i.invariant.parts in
+    subst (λ (s : List NodeRef). Parts ns s c.reverse-2.new.self.items) (sym c.reverse.ensures.items)
+    (subst (λ (l : List LeftOut). Parts ns (reverse c.loop-i.parted.stay.items) l) (sym c.reverse-2.ensures.items) parts)

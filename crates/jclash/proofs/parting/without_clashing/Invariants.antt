@@ -1,4 +1,4 @@
-use Rattle.std.proofs.Common.{ℕ, ◌≤◌, length, drop, map}
+use Rattle.std.proofs.Common.{ℕ, ◌≤◌, length, drop}
 use Rattle.std.specs.Prelude.{reverse}
 use Rattle.jclash.specs.Keys.{KnowsNodes}
 use Rattle.jclash.specs.Parting.{Parts}
@@ -8,7 +8,7 @@ abbrev pub invariant-loop-i : goal.invariant-loop-i
 invariant-loop-i l = record {
   within : l.i ≤ length l.nodes;
   knows : KnowsNodes (drop l.i l.nodes) l.known;
-  parts : Parts (drop l.i l.nodes) (reverse (map (λ b. b.now) l.parted.stay.items)) (reverse l.parted.left.items);
+  parts : Parts (drop l.i l.nodes) (reverse l.parted.stay.items) (reverse l.parted.left.items);
 }
 
 abbrev pub decreases-loop-i : goal.decreases-loop-i
