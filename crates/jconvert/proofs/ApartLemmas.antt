@@ -1,8 +1,9 @@
 -- What goes out without nodes that clash is an image of those that stay.
-use Rattle.std.proofs.Common.{◌≡◌, ℕ, ◌<◌, List, [], ◌∷◌, map, filter_map, refl, sym, ap, ap₂, subst, ◌∙◌, Option, None, Some, Err, option_map, Contains, ⊎_elim}
+use Rattle.std.proofs.Common.{◌≡◌, ℕ, ◌<◌, List, [], ◌∷◌, arith, length, map, filter_map, refl, sym, ap, ap₂, subst, ◌∙◌, Option, None, Some, Err, option_map, Contains, ⊎_elim}
 use Rattle.std.specs.Prelude.{IsTrue, IsFalse}
 use Rattle.std.specs.List.{cons_option, AllByRecursion}
 use Rattle.flashbase.proofs.MemberLemmas.{Contains-filter_map_from}
+use Rattle.jnode.specs.Writing.{canonical}
 use Rattle.jnode.specs.declared.node.NodeRef.{NodeRef}
 use Rattle.jnode.specs.declared.node.Seen.{Seen}
 use Rattle.jnode.specs.declared.order.Endian.{Endian}
@@ -14,14 +15,19 @@ use Rattle.jmount.proofs.FaultLemmas.{Rises, rises, ascends_from_splits}
 use Rattle.jclash.specs.Parting.{AreInOrder, Parts}
 use Rattle.jclash.specs.declared.parting.LeftOut.{LeftOut}
 use Rattle.jclash.proofs.PartLemmas.{staying_do_not_clash}
+use Rattle.jlog.specs.Laws.{FitsBlock}
 use Rattle.jlog.specs.LeftLaws.{IsStorable, AreStorable}
+use Rattle.jlog.specs.Places.{end_of_all}
+use Rattle.jlog.proofs.IntactLemmas.{output_is_long}
 use Rattle.jlog.proofs.AnewLemmas.{output_is_image, output_is_sound, output_mounts}
 use Rattle.jexpand.specs.Expanded.{expanded_node, expanded_nodes}
 use Rattle.jconvert.specs.Apart.{located_node, located_nodes, image_of_nodes}
 use Rattle.jconvert.specs.ApartLaws.{LocatedAreInOrder, LocatedAreExpanded, IsParted, ApartIsImage, ApartMounts, ApartHasNoRoot}
-use Rattle.jconvert.specs.Converting.{greatest_blocks}
+use Rattle.jconvert.specs.Converting.{convert_fault, greatest_blocks}
 use Rattle.jconvert.proofs.JudgeLemmas.{accepted}
 use Rattle.jconvert.proofs.LawLemmas.{are_storable, greatest_small}
+use Rattle.jconvert.proofs.WriteLemmas.{forms_fit}
+use Rattle.jexpand.proofs.SightedLemmas.{size_words}
 
 -- ---- the nodes with their addresses
 
@@ -100,3 +106,23 @@ apart_has_no_root e size image stay left is root =
     let sound = output_is_sound e size (greatest_blocks size) stay (stay_storable e size image stay left is) (greatest_small size)
     (staying_do_not_clash (located_nodes e size image) stay left is.parts) in
     (sound.sound, ap (λ (ns : List NodeRef). is_directory (state_of ns) 1) sound.nodes ∙ root)
+
+-- ---- how long it is
+
+kept_forms : (e : Endian) (Q : List ℕ → Type 0) (ns : List (ℕ × NodeRef)) (stay : List NodeRef) (left : List LeftOut) → Parts ns stay left
+    → AllByRecursion Q (map (canonical e) (map (λ (n : ℕ × NodeRef). n.1) ns)) → AllByRecursion Q (map (canonical e) stay)
+kept_forms e Q [] stay left parts all = subst (λ (s : List NodeRef). AllByRecursion Q (map (canonical e) s)) (sym parts.0) tt
+kept_forms e Q (n ∷ ns) stay left parts all =
+    ⊎_elim
+    (λ here. subst (λ (s : List NodeRef). AllByRecursion Q (map (canonical e) s)) (sym here.1.1) (all.0, kept_forms e Q ns here.1.0 left here.1.2 all.1))
+    (λ out. kept_forms e Q ns stay out.2.0 out.2.2 all.1)
+    parts
+
+pub end_is_long : (e : Endian) (size : ℕ) (image : List ℕ) (stay : List NodeRef) (left : List LeftOut) → convert_fault e size image ≡ None
+    → Parts (located_nodes e size image) stay left → end_of_all size 0 (map (canonical e) stay) ≡ length (image_of_nodes e size stay)
+end_is_long e size image stay left h parts =
+    let it = accepted e size image h in
+    let fits = kept_forms e (FitsBlock size) (located_nodes e size image) stay left parts
+    (subst (λ (ns : List NodeRef). AllByRecursion (FitsBlock size) (map (canonical e) ns)) (sym (located_are_expanded e size image)) (forms_fit e size image (sightings e size image) it.none)) in
+    let long = output_is_long e size 0 (map (canonical e) stay) (size_words size it.size_is) fits in
+    omega (arith, long)
