@@ -1,5 +1,5 @@
 -- What `decompress --clashes higher` does of an image, of a file, and as a command.
-use Rattle.std.proofs.Common.{◌≡◌, ℕ, Bool, true, false, List, [], ◌++◌, Option, Some, None, Result, Ok, Err, inl, inr, refl, sym, ap, ◌∙◌, subst, ◌==◌, cond}
+use Rattle.std.proofs.Common.{◌≡◌, ℕ, Bool, true, false, List, [], ◌++◌, length, map, count_by, Option, Some, None, Result, Ok, Err, inl, inr, refl, sym, ap, ◌∙◌, subst, ◌==◌, cond}
 use Rattle.std.specs.Prelude.{◌⊎◌, OnOk}
 use Rattle.std.specs.Result.{IsErrAnd}
 use Rattle.std.specs.Io.KnownBytes.{Appends, Keeps}
@@ -12,16 +12,21 @@ use Rattle.jnode.specs.declared.node.NodeRef.{NodeRef}
 use Rattle.jnode.specs.declared.order.Endian.{Endian}
 use Rattle.jclash.specs.Parting.{Parts}
 use Rattle.jclash.specs.declared.parting.LeftOut.{LeftOut}
-use Rattle.jconvert.specs.Apart.{image_of_nodes, located_nodes, WritesNodes}
-use Rattle.jconvert.specs.Converting.{Converts, convert_fault}
+use Rattle.jnode.specs.Writing.{canonical}
+use Rattle.jscan.specs.Image.{sightings}
+use Rattle.jlog.specs.Places.{end_of_all}
+use Rattle.jconvert.specs.Apart.{HaveRoom, image_of_nodes, located_nodes, WritesNodes}
+use Rattle.jconvert.specs.Converting.{Converts, convert_fault, is_changed}
+use Rattle.jconvert.specs.declared.converted.Converted.{Converted}
+use Rattle.jconvert.proofs.ApartLemmas.{end_is_long}
 use Rattle.jexpand.specs.declared.fault.ConvertFault.{ConvertFault}
 use Rattle.jexpand.specs.declared.fault.ConvertFault.TheVariants as convert
 use Rattle.jreport.specs.Notes.{note_line_of}
 use Rattle.jreport.specs.declared.faults.ProgramFault.{ProgramFault}
 use Rattle.jreport.specs.declared.faults.ProgramFault.TheVariants as program
-use Rattle.jffs2_image.specs.ClashRuns.{DecompressesApartFile, DecompressesApartNamed, FinishesApart, note_if_any}
+use Rattle.jffs2_image.specs.ClashRuns.{DecompressesApartFile, DecompressesApartNamed, FinishesApart, HoldsApart, note_if_any}
 use Rattle.jffs2_image.specs.Compressing.{CompressionAsked, FileWrites}
-use Rattle.jffs2_image.specs.Decompressing.{IsNotWritten, fault_of_conversion}
+use Rattle.jffs2_image.specs.Decompressing.{HoldsMade, IsNotWritten, fault_of_conversion}
 use Rattle.jffs2_image.specs.Host.{BlamesDecompress, MakesFile}
 use Rattle.jffs2_image.specs.InfoRuns.{FileReads, Passage}
 use Rattle.jffs2_image.specs.Runs.{IsSaid, Says, note_after}
@@ -81,6 +86,25 @@ refused_converts e size image convert.Geometry is other = is (λ same. cc)
 refused_converts e size image (convert.Full needed free) is other = is (λ same. cc)
 refused_converts e size image convert.Sink is other = absurd (other refl)
 refused_converts e size image convert.OutOfMemory is other = tt
+
+-- the file holds what stays
+pub holds_apart : (held : Held) (e : Endian) (size : ℕ) (image : List ℕ) (stay : List NodeRef) (left : List LeftOut) (c : Converted) → convert_fault e size image ≡ None
+    → Parts (located_nodes e size image) stay left → HaveRoom e size stay → c.changed ≡ count_by (λ s. is_changed s.1) (sightings e size image) → c.nodes ≡ length stay
+    → c.bytes ≡ end_of_all size 0 (map (canonical e) stay) → HoldsMade held (image_of_nodes e size stay) → HoldsApart held e size image c left
+holds_apart held e size image stay left c accepted parts room changed nodes bytes made = record {
+  accepted = accepted;
+  out = image_of_nodes e size stay;
+  apart = record {
+    stay = stay;
+    parts = parts;
+    room = room;
+    out_is = refl;
+    changed = changed;
+    nodes = nodes;
+    bytes = bytes ∙ end_is_long e size image stay left accepted parts;
+  };
+  made = made;
+}
 
 -- no file is made of it, or not to its end
 pub apart_not_written : (held : Held) (e : Endian) (size : ℕ) (output image : List ℕ) (old : Option (List ℕ)) (n : ℕ) (stay : List NodeRef) (left : List LeftOut) (f : ProgramFault)

@@ -288,15 +288,25 @@ fn put_left<T: Sink>(sink: &mut T, left: &[LeftOut]) -> Result<(), DeviceFault>
     Ok(())
 }
 
-/// Tells what was left out, and notes the findings.
+/// Says what was left out, and notes the findings.
+fn say_apart<E: Sink>(done: &ApartDone, errors: &mut E)
+    ensures { IsSaid (E.taken errors.old) (E.taken errors.new) (E.failures errors.old)
+        (E.failures errors.new) (said_of_apart (Ok done.now)) }
+{
+    match put_left(errors, &done.left) {
+        Ok(()) => {}
+        Err(DeviceFault) => return,
+    }
+    note(done.found, errors);
+}
+
+/// The same, and what the run comes to.
 fn tell_apart<E: Sink>(done: &ApartDone, errors: &mut E) -> Outcome
     ensures ends { result ≡ outcome_of (length done.now.left.items) }
     ensures said { IsSaid (E.taken errors.old) (E.taken errors.new) (E.failures errors.old)
         (E.failures errors.new) (said_of_apart (Ok done.now)) }
 {
-    if put_left(errors, &done.left).is_ok() {
-        note(done.found, errors);
-    }
+    say_apart(done, errors);
     Outcome::of(done.left.len() as u64)
 }
 
