@@ -9,7 +9,8 @@ _jffs2_image_options() {
         ls | cat) echo "$plain --decompress $help" ;;
         build) echo "$plain $write $help" ;;
         append) echo "$plain $write --decompress $help" ;;
-        decompress | compress) echo "$plain $help" ;;
+        decompress) echo "$plain --clashes $help" ;;
+        compress) echo "$plain $help" ;;
         extract) echo "$plain --decompress --owners --quiet $help" ;;
         listing) echo "--owner --time --quiet $help" ;;
         info) echo "$help" ;;
@@ -23,7 +24,7 @@ _jffs2_image_options() {
 _jffs2_image_count() {
     case $1 in
         --owner) echo 2 ;;
-        --block | --endian | --blocks | --page | --time | --on) echo 1 ;;
+        --block | --endian | --blocks | --page | --time | --on | --clashes) echo 1 ;;
         *) echo 0 ;;
     esac
 }
@@ -34,6 +35,7 @@ _jffs2_image_values() {
         --block) echo '4096 8192 16384 32768 65536 131072 262144' ;;
         --endian) echo 'little big' ;;
         --page) echo '4096 8192 16384' ;;
+        --clashes) echo 'higher' ;;
     esac
 }
 

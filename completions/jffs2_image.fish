@@ -46,6 +46,8 @@ complete -c jffs2_image -n '__jffs2_image_in cuts' -l on -r -d 'Image that is go
 complete -c jffs2_image -n '__jffs2_image_in extract' -l owners -d 'Owners of the image'
 complete -c jffs2_image -n '__jffs2_image_in listing' -l owner -x -d 'Owner and group'
 complete -c jffs2_image -n '__jffs2_image_in listing' -l time -x -d 'Time of everything'
+complete -c jffs2_image -n '__jffs2_image_in decompress' -l clashes -x -a higher \
+    -d 'Which of nodes that clash goes out'
 complete -c jffs2_image -n '__jffs2_image_in diff' -l times -d 'Compare times of change too'
 
 # Words: files, and folders for listing

@@ -328,6 +328,23 @@ for words in "ls --decompress clash" "cat --decompress clash /a" \
     run $words; want 1 "" "jffs2_image: M5 Clash at 00000090"
 done
 unmade none.img
+# With --clashes higher the node below it is left out, and told; what is left mounts.
+run decompress --clashes higher clash out.img
+want 3 "decompressed 1 nodes 2 bytes 144" "left out 00000038: clashes with 00000090"
+run check out.img; want 0 $'*findings 0\nmount ok' ""
+run decompress --clashes higher good out.img; want 0 "decompressed 1 nodes 2 bytes 144" ""
+run decompress good again.img; same out.img again.img
+run decompress --clashes higher damaged out.img
+want 0 "decompressed 1 nodes 2 bytes 144" "$(noted 1)"
+run decompress --clashes=lower clash none.img
+want 2 "" "error: invalid value 'lower' for '--clashes <RULE>': wanted higher*--help*"
+run decompress clash none.img --clashes; want 2 "" "error: *--clashes <RULE>*"
+for words in "ls --clashes higher clash" "compress --clashes higher clash none.img"; do
+    run $words; want 2 "" "error: unexpected argument '--clashes' found*"
+done
+run decompress --clashes higher wrong_zlib none.img; want 1 "" "jffs2_image: Z1 Data at 0000008c"
+run decompress --clashes higher none out.img; want 1 "" "jffs2_image: P1 File none"
+unmade none.img
 run decompress root_file out.img; want 0 "decompressed 2 nodes 3 bytes 232" ""
 run check out.img; want 3 $'*findings 0\nmount refused M6 RootKind' ""
 run ls --decompress root_file; want 1 "" "jffs2_image: M6 RootKind"

@@ -77,10 +77,11 @@ append_app = with_rule
     (word (codes "LISTING")))
     (word (codes "OUT"))
 
--- `decompress [--block N] [--endian ORDER] IMAGE OUT`
+-- `decompress [--clashes RULE] [--block N] [--endian ORDER] IMAGE OUT`
 abbrev pub decompress_app : App
-decompress_app = with_rule (with_rule (plain_command (codes "decompress")) (word (codes "IMAGE")))
-    (word (codes "OUT"))
+decompress_app = with_rule
+    (with_rule (with_rule (plain_command (codes "decompress")) (option_of (codes "clashes")))
+    (word (codes "IMAGE"))) (word (codes "OUT"))
 
 -- `compress [--block N] [--endian ORDER] IMAGE OUT`
 abbrev pub compress_app : App

@@ -1,5 +1,5 @@
 -- What a command line asks for, by clap's matches of its words.
-use Rattle.std.specs.Prelude.{◌≡◌, ◌≢◌, ◌⊎◌, ◌+◌, ◌-◌, ◌*◌, ◌^◌, ◌&&◌, ℕ, Bool, false, List, [], ◌∷◌, Option, Some, None, if◌then◌else◌, nat_lt, codes, option_and_then, option_map}
+use Rattle.std.specs.Prelude.{◌≡◌, ◌≢◌, ◌⊎◌, ◌+◌, ◌-◌, ◌*◌, ◌^◌, ◌&&◌, ℕ, Bool, true, false, List, [], ◌∷◌, Option, Some, None, if◌then◌else◌, nat_lt, codes, option_and_then, option_map}
 use Rattle.std.specs.Char.{is_ascii_digit}
 use Rattle.std.specs.Str.{bytes_eq}
 use Rattle.clap.specs.Words.{Row, Text, IsAmong, all_of, fault_of, first_of, subcommand_of, takes}
@@ -83,8 +83,8 @@ view (request.Append target decompress image listing) = AppendParsed target.opti
 view (request.Decompress options image output) = DecompressParsed options image.now output.now
 
 -- the same of a task: a request of an image, one that works with a folder of the host, what an
--- image tells of itself, what stands after a stop, an image that is compressed, or what two images
--- differ in
+-- image tells of itself, what stands after a stop, an image that is compressed, what two images
+-- differ in, or an image that is decompressed without nodes that clash
 pub data TaskParsed : Type 0 where
   ImageParsed : Parsed → TaskParsed
   ExtractParsed : Options → Bool → Bool → Bool → Text → Text → TaskParsed
@@ -93,6 +93,7 @@ pub data TaskParsed : Type 0 where
   CutsParsed : Options → ℕ → Page → Option Text → Text → TaskParsed
   CompressParsed : Options → Text → Text → TaskParsed
   DiffParsed : Options → Bool → Text → Text → TaskParsed
+  ApartParsed : Options → Text → Text → TaskParsed
 
 abbrev pub task_view : Task → TaskParsed
 task_view (task.Image r) = ImageParsed (view r)
@@ -104,6 +105,7 @@ task_view (task.Cuts x) =
     CutsParsed x.options x.blocks x.page (option_map (λ name. name.now) x.on) x.listing.now
 task_view (task.Compress c) = CompressParsed c.options c.image.now c.output.now
 task_view (task.Diff d) = DiffParsed d.options d.times d.first.now d.second.now
+task_view (task.Apart a) = ApartParsed a.options a.image.now a.output.now
 
 abbrev pub options_of : Request → Options
 options_of (request.Scan options image) = options
@@ -164,9 +166,16 @@ abbrev pub append_in : List Row → Option Parsed
 append_in rows = image_in rows >>= λ p. writing_in rows >>= λ w.
     Some (AppendParsed p.0 w.0 w.1 (is_decompressed rows) p.1 w.2 w.3)
 
-abbrev pub decompress_in : List Row → Option Parsed
+-- whether nodes that clash are left out; `higher` is the only rule
+abbrev pub is_apart : Option Text → Option Bool
+is_apart None = Some false
+is_apart (Some rule) = if bytes_eq rule (codes "higher") then Some true else None
+
+abbrev pub decompress_in : List Row → Option TaskParsed
 decompress_in rows = image_in rows >>= λ p. first_of (codes "OUT") rows >>= λ output.
-    Some (DecompressParsed p.0 p.1 output)
+    is_apart (first_of (codes "clashes") rows) >>= λ apart.
+    Some (if apart then ApartParsed p.0 p.1 output
+    else ImageParsed (DecompressParsed p.0 p.1 output))
 
 abbrev pub extract_in : List Row → Option TaskParsed
 extract_in rows = image_in rows >>= λ p. first_of (codes "DIR") rows >>= λ folder.
@@ -208,7 +217,7 @@ parsed name rows =
     else if bytes_eq name (codes "cat") then option_map ImageParsed (cat_in rows)
     else if bytes_eq name (codes "build") then option_map ImageParsed (build_in rows)
     else if bytes_eq name (codes "append") then option_map ImageParsed (append_in rows)
-    else if bytes_eq name (codes "decompress") then option_map ImageParsed (decompress_in rows)
+    else if bytes_eq name (codes "decompress") then decompress_in rows
     else if bytes_eq name (codes "extract") then extract_in rows
     else if bytes_eq name (codes "listing") then listing_in rows
     else if bytes_eq name (codes "info") then info_in rows
@@ -260,7 +269,8 @@ IsOfImage (Some (ImageParsed p)) = Unit {0}
 IsOfImage _ = ⊥
 
 -- they ask to fill or to read a folder, for what an image tells of itself, for what stands after a
--- stop, to compress one, or for what two images differ in
+-- stop, to compress one, for what two images differ in, or to decompress one without nodes that
+-- clash
 abbrev pub IsNoRequest : Option TaskParsed → Type 0
 IsNoRequest (Some (ExtractParsed options decompress owners quiet image folder)) = Unit {0}
 IsNoRequest (Some (ListingParsed owner time quiet folder)) = Unit {0}
@@ -268,4 +278,5 @@ IsNoRequest (Some (InfoParsed image)) = Unit {0}
 IsNoRequest (Some (CutsParsed options blocks page on listing)) = Unit {0}
 IsNoRequest (Some (CompressParsed options image output)) = Unit {0}
 IsNoRequest (Some (DiffParsed options times first second)) = Unit {0}
+IsNoRequest (Some (ApartParsed options image output)) = Unit {0}
 IsNoRequest _ = ⊥

@@ -118,6 +118,9 @@ fn unreadable_value<'a>(name: &str, found: &ArgMatches<'a>) -> (&'a str, &'a str
     if endian(order).is_none() {
         return (order, "--endian <ORDER>", "little or big");
     }
+    if let Some(rule) = text_at(found, "clashes") {
+        return (rule, "--clashes <RULE>", "higher");
+    }
     let blocks = text_at(found, "blocks").unwrap_or("");
     if number(blocks).is_none() {
         let wanted = "a number of blocks in decimal digits, below 4294967296";
@@ -171,7 +174,8 @@ pub fn task<'a>(alloc: Global, args: &'a [&'a str]) -> Result<Task<'a>, RequestF
 }
 
 /// The request that the words of a command line make of an image: what `task` answers, but for a
-/// command on a folder, `info`, `cuts`, `compress` and `diff`, which are refused.
+/// command on a folder, `info`, `cuts`, `compress`, `diff` and `decompress --clashes`, which are
+/// refused.
 pub fn request<'a>(alloc: Global, args: &'a [&'a str]) -> Result<Request<'a>, RequestFault>
     // The subcommand and its values are clap's own function of the words.
     ensures ok { IfOk result
@@ -204,7 +208,8 @@ pub fn request<'a>(alloc: Global, args: &'a [&'a str]) -> Result<Request<'a>, Re
             | Task::Info { .. }
             | Task::Cuts(_)
             | Task::Compress(_)
-            | Task::Diff(_),
+            | Task::Diff(_)
+            | Task::Apart(_),
         ) => Err(usage(String::from_str(
             alloc,
             "error: the command makes no request of an image\n",

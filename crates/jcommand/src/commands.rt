@@ -182,6 +182,7 @@ fn make_append<'a>(alloc: Global) -> Made<'a>
 fn make_decompress<'a>(alloc: Global) -> Made<'a>
     ensures { MakesApp result decompress_app }
 {
+    let clashes = make_optional(alloc, "clashes", "RULE", help::CLASHES);
     let image = make_word(alloc, "IMAGE", help::IMAGE);
     let output = make_word(alloc, "OUT", help::OUT);
     let command = make_plain(
@@ -190,7 +191,7 @@ fn make_decompress<'a>(alloc: Global) -> Made<'a>
         help::DECOMPRESS,
         help::DECOMPRESS_EPILOGUE,
     );
-    add_arg(add_arg(command, image), output)
+    add_arg(add_arg(add_arg(command, clashes), image), output)
 }
 
 fn make_compress<'a>(alloc: Global) -> Made<'a>

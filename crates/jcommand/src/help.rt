@@ -51,6 +51,8 @@ pub(crate) const SECOND: &str = "File with the bytes of the second image";
 
 pub(crate) const TIMES: &str = "Compare times of change too, and print them";
 
+pub(crate) const CLASHES: &str = "Of nodes that clash keep the one of RULE's address: higher";
+
 pub(crate) const DECOMPRESSED: &str = "Take the image as decompress would write it";
 
 pub(crate) const PATH: &str = "Path from the root, as /a/b; \\x and two hex digits are one byte";
@@ -277,6 +279,13 @@ and OUT has N nodes and B bytes. All else is judged before OUT is made. M4
 Compressed: the method is none of the three. Z1 Data: the data are not what
 their method makes. Z2 TooLong: decompressed, a node does not fit into a block.
 
+Garbage collection of Linux writes some nodes anew under their old version, with
+other contents. Such nodes clash, and no other command takes an image with them
+(M5 Clash). With --clashes higher a node that one of a higher address clashes
+with is left out of OUT, since Linux goes by that one. Each is told on standard
+error: 'left out A: clashes with B', where A and B are addresses in IMAGE, and B
+is the highest that clashes. Then the exit status is 3.
+
 IMAGE and OUT can be one file, since IMAGE is held in memory before OUT is made.
 But if the power, the host or the disk fails while OUT is written, the old bytes
 are gone.
@@ -287,11 +296,13 @@ which is held in memory.
 Examples:
   jffs2_image decompress --block 131072 dump.img flash.img
   jffs2_image ls --block 131072 --decompress dump.img
+  jffs2_image decompress --clashes higher dump.img flash.img
 
 Exit status:
   0  done
   1  a fault, which standard error names
-  2  the command line is wrong";
+  2  the command line is wrong
+  3  nodes were left out";
 
 pub(crate) const COMPRESS_EPILOGUE: &str = "\
 OUT has the nodes of IMAGE in the order of their addresses, from the first block

@@ -3,7 +3,7 @@ ghost use Rattle.std.specs.Prelude.{◌≡◌, true, false, [], ◌∷◌, Some,
 ghost use Rattle.clap.specs.Words.{fault_of};
 ghost use Rattle.clap.specs.declared.error.ErrorKind.TheVariants.{DisplayHelp, DisplayVersion, MissingSubcommand, MissingRequiredArgument, UnknownArgument, WrongNumberOfValues};
 ghost use Rattle.jnode.specs.declared.order.Endian.TheVariants.{Little, Big};
-ghost use Rattle.jcommand.specs.Parsed.{ScanParsed, CheckParsed, ListParsed, CatParsed, BuildParsed, AppendParsed, DecompressParsed, ImageParsed, ExtractParsed, ListingParsed, InfoParsed, CompressParsed, CutsParsed, DiffParsed, parsed_from, endian_of, decimal_number, owner_of, page_of};
+ghost use Rattle.jcommand.specs.Parsed.{ScanParsed, CheckParsed, ListParsed, CatParsed, BuildParsed, AppendParsed, DecompressParsed, ImageParsed, ExtractParsed, ListingParsed, InfoParsed, CompressParsed, CutsParsed, DiffParsed, ApartParsed, parsed_from, endian_of, decimal_number, owner_of, page_of};
 ghost use Rattle.jsteps.specs.declared.page.Page.TheVariants.{P4096, P8192, P16384};
 ghost use Rattle.jcommand.specs.Commands.{program};
 
@@ -75,6 +75,11 @@ pub fn known_requests()
         ≡ Some (ImageParsed
         (DecompressParsed (record { geometry = record { block = 8192 }; endian = Little })
         (codes "a") (codes "b"))) }
+    ensures apart { parsed_from
+        (codes "jffs2_image" ∷ codes "decompress" ∷ codes "a" ∷ codes "--clashes" ∷ codes "higher"
+        ∷ codes "b" ∷ [])
+        ≡ Some (ApartParsed (record { geometry = record { block = 65536 }; endian = Little })
+        (codes "a") (codes "b")) }
     ensures extracted { parsed_from
         (codes "jffs2_image" ∷ codes "extract" ∷ codes "--owners" ∷ codes "a" ∷ codes "b" ∷ [])
         ≡ Some (ExtractParsed (record { geometry = record { block = 65536 }; endian = Little })
@@ -151,6 +156,8 @@ pub fn known_refusals()
         ≡ MissingRequiredArgument ∷ [] }
     ensures unreadable_blocks { parsed_from (codes "jffs2_image" ∷ codes "build"
         ∷ codes "--blocks=x" ∷ codes "a" ∷ codes "b" ∷ []) ≡ None }
+    ensures unreadable_clashes { parsed_from (codes "jffs2_image" ∷ codes "decompress"
+        ∷ codes "--clashes=lower" ∷ codes "a" ∷ codes "b" ∷ []) ≡ None }
     ensures unreadable { parsed_from (codes "jffs2_image" ∷ codes "check" ∷ codes "--block=x"
         ∷ codes "--scan" ∷ codes "a" ∷ []) ≡ None }
 {}

@@ -1,7 +1,7 @@
 //! What the matches of the program's command line ask for.
 ghost use Rattle.std.specs.Prelude.{◌≡◌, IfSome, codes, map, option_map};
 ghost use Rattle.clap.specs.Words.{found_of, rows_of, all_of, first_of};
-ghost use Rattle.jcommand.specs.Parsed.{decimal_number, endian_of, page_of, number_option, options_in, image_in, is_given, check_in, is_decompressed, ls_in, cat_in, writing_in, build_in, append_in, decompress_in, extract_in, listing_in, info_in, compress_in, cuts_in, diff_in, owner_number, owner_of, if_given, parsed, options_of, task_view, view};
+ghost use Rattle.jcommand.specs.Parsed.{decimal_number, endian_of, page_of, number_option, options_in, image_in, is_given, check_in, is_decompressed, ls_in, cat_in, writing_in, build_in, append_in, decompress_in, extract_in, listing_in, info_in, compress_in, cuts_in, diff_in, is_apart, owner_number, owner_of, if_given, parsed, options_of, task_view, view};
 
 use clap::ArgMatches;
 use jnode::Endian;
@@ -138,6 +138,15 @@ pub struct Compression<'a> {
     pub output: &'a str,
 }
 
+/// An image of the nodes of one, whose data are not compressed, without those that one of a higher
+/// address clashes with.
+#[derive(Clone, Copy)]
+pub struct Decompression<'a> {
+    pub options: Options,
+    pub image: &'a str,
+    pub output: &'a str,
+}
+
 /// What the trees of two images differ in; with `--times`, in times of change too.
 #[derive(Clone, Copy)]
 pub struct Comparison<'a> {
@@ -164,6 +173,8 @@ pub enum Task<'a> {
     Compress(Compression<'a>),
     /// `diff`.
     Diff(Comparison<'a>),
+    /// `decompress --clashes higher`.
+    Apart(Decompression<'a>),
 }
 
 /// A number below 2^32 in decimal digits.
@@ -348,15 +359,34 @@ fn append_at<'a>(found: &ArgMatches<'a>) -> Option<Request<'a>>
     })
 }
 
-fn decompress_at<'a>(found: &ArgMatches<'a>) -> Option<Request<'a>>
-    ensures { option_map view result ≡ decompress_in (rows_of (found_of found.now)) }
+/// Whether nodes that clash are left out, by the rule that is given.
+pub(crate) fn apart(rule: Option<&str>) -> Option<bool>
+    ensures { result ≡ is_apart (option_map (λ r. r.now) rule.entry) }
+{
+    match rule {
+        None => Some(false),
+        Some("higher") => Some(true),
+        Some(_) => None,
+    }
+}
+
+fn decompress_at<'a>(found: &ArgMatches<'a>) -> Option<Task<'a>>
+    ensures { option_map task_view result ≡ decompress_in (rows_of (found_of found.now)) }
 {
     let (options, image) = image_at(found)?;
-    Some(Request::Decompress {
-        options,
-        image,
-        output: text_at(found, "OUT")?,
-    })
+    let output = text_at(found, "OUT")?;
+    match apart(text_at(found, "clashes"))? {
+        true => Some(Task::Apart(Decompression {
+            options,
+            image,
+            output,
+        })),
+        false => Some(Task::Image(Request::Decompress {
+            options,
+            image,
+            output,
+        })),
+    }
 }
 
 fn extract_at<'a>(found: &ArgMatches<'a>) -> Option<Task<'a>>
@@ -491,7 +521,7 @@ pub(crate) fn parsed_of<'a>(name: &str, found: &ArgMatches<'a>) -> Option<Task<'
         "cat" => Some(Task::Image(cat_at(found)?)),
         "build" => Some(Task::Image(build_at(found)?)),
         "append" => Some(Task::Image(append_at(found)?)),
-        "decompress" => Some(Task::Image(decompress_at(found)?)),
+        "decompress" => decompress_at(found),
         "extract" => extract_at(found),
         "listing" => listing_at(found),
         "info" => info_at(found),

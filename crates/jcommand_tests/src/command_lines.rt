@@ -3,7 +3,7 @@
 
 use crate::checks::{equal, equal_at, expect, expect_at};
 use jcommand::{
-    Comparison, Compression, Cuts, Extraction, FolderListing, Options, Outcome, Owner, Request,
+    Comparison, Compression, Decompression, Cuts, Extraction, FolderListing, Options, Outcome, Owner, Request,
     RequestFault, Target, Task, status, task,
 };
 use jnode::Endian;
@@ -156,6 +156,18 @@ fn shown_task(alloc: Global, task: Task<'_>) -> Result<String, AllocError> {
             format!(in alloc; "compress {block} {order} {image} {output}")
         }
         Task::Diff(asked) => shown_comparison(alloc, asked),
+        Task::Apart(
+            Decompression {
+                options,
+                image,
+                output,
+            },
+        ) => {
+            let Options { geometry, endian } = options;
+            let order = order_name(endian);
+            let block = geometry.block;
+            format!(in alloc; "apart {block} {order} {image} {output}")
+        }
     }
 }
 

@@ -5,7 +5,15 @@ use crate::command_lines::{answer_to, is_text, is_wrong};
 use std::test::Fail;
 
 /// Lines, and what they ask for.
-const ASKED: [(&str, &str); 9] = [
+const ASKED: [(&str, &str); 11] = [
+    (
+        "t decompress --clashes higher a.img b.img",
+        "apart 65536 little a.img b.img",
+    ),
+    (
+        "t decompress a.img --endian=big b.img --clashes=higher --block 8192",
+        "apart 8192 big a.img b.img",
+    ),
     (
         "t decompress a.img b.img",
         "decompress 65536 little a.img b.img",
@@ -54,7 +62,12 @@ fn args_that_decompress(rt: HostRuntime) -> Result<(), Fail> {
 }
 
 /// Lines that ask for nothing, and a part of the text that says why.
-const WRONG: [(&str, &str); 12] = [
+const WRONG: [(&str, &str); 17] = [
+    ("t decompress --clashes higher a.img", "<OUT>"),
+    ("t decompress --clashes lower a b", "'lower' for '--clashes <RULE>'"),
+    ("t decompress --clashes= a b", "'' for '--clashes <RULE>'"),
+    ("t decompress a b --clashes", "--clashes <RULE>"),
+    ("t ls --clashes higher a", "--clashes"),
     ("t decompress", "<IMAGE>"),
     ("t decompress a.img", "<OUT>"),
     ("t compress a.img", "<OUT>"),

@@ -1,3 +1,6 @@
+pub mod ApartLemmas
+pub mod LocateLemmas
+pub mod KeepLemmas
 pub mod TallyLemmas
 pub mod JudgeLemmas
 pub mod WriteLemmas

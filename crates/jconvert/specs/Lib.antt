@@ -6,3 +6,5 @@ pub mod Laws
 pub mod Compressing
 pub mod PuttingPacked
 pub mod CompressingLaws
+pub mod Apart
+pub mod ApartLaws

@@ -1,5 +1,6 @@
 //! Laws of what goes out. Each function's contract is a law, and its body is empty.
 
+ghost use Rattle.jconvert.specs.ApartLaws.{LocatedAreInOrder, LocatedAreExpanded, ApartIsImage, ApartMounts, ApartHasNoRoot};
 ghost use Rattle.jconvert.specs.CompressingLaws.{CompressedAreNodes, CompressedGivesBack, CompressedMounts};
 ghost use Rattle.jconvert.specs.Laws.{ConvertedIsImage, ConvertedMounts, ConvertedHasNoRoot, ConvertedClashes};
 
@@ -18,4 +19,14 @@ pub fn compressed_gives_back()
     ensures nodes { CompressedAreNodes }
     ensures back { CompressedGivesBack }
     ensures mounts { CompressedMounts }
+{}
+
+/// What goes out without nodes that clash is an image of exactly those that stay, in order; it
+/// mounts as the file system that they make, or answers that the root is no directory.
+pub fn apart_mounts()
+    ensures order { LocatedAreInOrder }
+    ensures expanded { LocatedAreExpanded }
+    ensures image { ApartIsImage }
+    ensures mounts { ApartMounts }
+    ensures root { ApartHasNoRoot }
 {}

@@ -7,19 +7,27 @@
 //! decompressed to judge an image is held, up to a limit, and not decompressed again to write it.
 //!
 //! `specs/Converting.antt` says which image goes out decompressed, and why none does,
-//! `specs/Compressing.antt` which goes out compressed.
+//! `specs/Apart.antt` which goes out without nodes that clash, `specs/Compressing.antt` which goes
+//! out compressed.
 #![tactic(auto)]
 
+mod apart;
 mod compressing;
 mod converted;
 mod holding;
 mod judging;
+mod keeping;
 pub mod laws;
+mod locating;
 mod packing;
 mod writing;
 
+pub use crate::apart::{Apart, decompress_apart, part};
 pub use crate::compressing::{compress, judge_plain, write_packed};
 pub use crate::converted::{Converted, Judged};
 pub use crate::judging::{HELD_MOST, judge};
+pub use crate::keeping::write_nodes;
+pub use crate::locating::located;
 pub use crate::writing::{decompress, decompressed, write_converted};
+pub use jclash::{LeftOut, Parted, without_clashing};
 pub use jexpand::ConvertFault;

@@ -4,7 +4,7 @@
 //! methods of compression). What it promises to the crate above: `expanded_len` answers whether the
 //! node of a tile is refused, and else how long its written form is, and `write_expanded` writes
 //! that form (`write_with_content` by the bytes that `expanded_len` left), exactly as
-//! `specs/Expanded.antt` and `specs/Refused.antt` say.
+//! `specs/Expanded.antt` and `specs/Refused.antt` say. `node_with_content` gives the node itself.
 #![tactic(auto)]
 
 mod content;
@@ -12,4 +12,6 @@ mod fault;
 mod node;
 
 pub use crate::fault::ConvertFault;
-pub use crate::node::{content_len, expanded_len, write_expanded, write_with_content};
+pub use crate::node::{
+    content_len, expanded_len, node_with_content, write_expanded, write_with_content,
+};

@@ -15,7 +15,7 @@ use crate::fault::ConvertFault;
 use flashbase::Part;
 use jcompr::{DataFault, Method};
 use jnode::{
-    CompressedNode, Dirent, Fill, InodeNode, Order, Seen, compressed_fields, write_entry,
+    CompressedNode, Dirent, Fill, InodeNode, NodeRef, Order, Seen, compressed_fields, write_entry,
     write_inode,
 };
 use jscan::{Geometry, block_at};
@@ -267,5 +267,31 @@ pub fn write_with_content<E: Order>(
             put_with_content::<E>(&packed, content, out)
         }
         _ => Ok(false),
+    }
+}
+
+/// The node that a sighted tile gives, if it gives one, with the bytes that its data stand for.
+pub fn node_with_content<'a, E: Order>(
+    image: &[u8],
+    geometry: Geometry,
+    addr: u32,
+    seen: Seen<'a>,
+    content: &'a [u8],
+) -> Option<NodeRef<'a>>
+    requires readable { IsTrue (is_block_size geometry.block) }
+    requires sighted { Contains (sightings E.order geometry.block image.now) (addr, seen) }
+    requires accepted { node_fault E.order geometry.block image.now (addr, seen) ≡ None }
+    requires content { content.now ≡ tile_content E.order geometry.block image.now (addr, seen) }
+    ensures { result ≡ expanded_node E.order geometry.block image.now (addr, seen.entry) }
+{
+    match seen {
+        Seen::Entry(entry) => Some(NodeRef::Entry(entry)),
+        Seen::Inode(inode) => Some(NodeRef::Inode(inode)),
+        Seen::Compressed { .. } => {
+            let packed = compressed_node::<E>(image, geometry, addr);
+            let fill = Fill::Data(Part::new(content, 0));
+            Some(NodeRef::Inode(packed.inode_with(fill)))
+        }
+        _ => None,
     }
 }

@@ -37,7 +37,9 @@ pub use flashbase::{
     DeviceFault, FromReader, FromWriter, LoadFault, PutFault, Sink, Source, load, put_all,
 };
 pub use jbuild::{Parts, emit, operations};
-pub use jconvert::{ConvertFault, Converted, compress, decompress, decompressed};
+pub use jconvert::{
+    Apart, ConvertFault, Converted, LeftOut, compress, decompress, decompress_apart, decompressed,
+};
 pub use jlisting::{Action, Line, ListingFault, listing};
 pub use jlog::{Applied, Place, RunReport, Session, SessionFault};
 pub use jmount::{FindFault, Kind, MountFault, Mounted, Object, mount};

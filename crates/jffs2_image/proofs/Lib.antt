@@ -1,3 +1,4 @@
+pub mod ClashLemmas
 mod CommandLemmas
 mod TakenLemmas
 mod ExtractingLemmas

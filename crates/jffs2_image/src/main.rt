@@ -8,6 +8,7 @@
 ghost use Rattle.std.specs.Prelude.{◌≡◌, IfOk, map, string_bytes};
 ghost use Rattle.std.specs.Vec.Iter.{into_iter_items};
 
+pub mod clashes;
 pub mod compressing;
 pub mod cuts;
 pub mod decompressing;

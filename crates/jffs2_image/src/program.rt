@@ -8,11 +8,13 @@ ghost use Rattle.jffs2_image.specs.Host.{Blames, BlamesCommand, BlamesDecompress
 ghost use Rattle.jffs2_image.specs.DiffRuns.{RunsDiff};
 ghost use Rattle.jffs2_image.specs.FolderRuns.{RunsExtract, RunsListing, RunsTask};
 ghost use Rattle.jffs2_image.specs.Compressing.{RunsCompress};
+ghost use Rattle.jffs2_image.specs.ClashRuns.{RunsApart};
 ghost use Rattle.jffs2_image.specs.CutRuns.{RunsCuts};
 ghost use Rattle.jffs2_image.specs.InfoRuns.{RunsInfo};
 ghost use Rattle.jffs2_image.specs.Writes.{GivesText};
 ghost use Rattle.jffs2_image.specs.Runs.{IsSaid, Meets, MeetsCommand, MeetsWhole, RunsCommand, Says, note_after, success_of};
 
+use crate::clashes::run_apart;
 use crate::compressing::run_compress;
 use crate::cuts::run_cuts;
 use crate::decompressing::{decompress_into, take_file};
@@ -444,7 +446,8 @@ pub fn run<L: Loader, M: Maker, D: Folders, T: Output, E: Sink>(
 ) -> Outcome
     // The words make a request, whose answer goes out, or are answered by a text; or they ask to
     // fill or to read a folder, for what an image tells of itself, for what stands after a stop of
-    // writing one, to compress one, or for what the trees of two images differ in.
+    // writing one, to compress one, for what the trees of two images differ in, or to decompress
+    // one without nodes that clash.
     ensures { RunsTask (map (λ w. w.now) args.now)
         (λ command. (ran : RunsCommand (output.new ≡ output.old) (L.told loader.old)
         (M.held maker.old, M.held maker.new) command (T.taken output.old)
@@ -548,6 +551,31 @@ pub fn run<L: Loader, M: Maker, D: Folders, T: Output, E: Sink>(
           new = E.taken errors.new;
           before = E.failures errors.old;
           now = E.failures errors.new;
+        }) result)
+        ((folders.new ≡ folders.old)
+        × RunsApart (map (λ w. w.now) args.now)
+        (record {
+          told = L.told loader.old;
+          before = L.failures loader.old;
+          now = L.failures loader.new;
+        }) (record {
+          names_old = M.names maker.old;
+          names_new = M.names maker.new;
+          held = (M.held maker.old, M.held maker.new);
+          before = M.failures maker.old;
+          now = M.failures maker.new;
+        }) (maker.new ≡ maker.old)
+        (record {
+          old = T.taken output.old;
+          new = T.given output.new;
+          before = T.failures output.old;
+          now = T.failures output.new;
+        })
+        (record {
+          old = E.taken errors.old;
+          new = E.taken errors.new;
+          before = E.failures errors.old;
+          now = E.failures errors.new;
         }) result) }
 {
     match task(alloc, args) {
@@ -558,6 +586,7 @@ pub fn run<L: Loader, M: Maker, D: Folders, T: Output, E: Sink>(
         Ok(Task::Cuts(asked)) => run_cuts(alloc, loader, asked, output, errors),
         Ok(Task::Compress(asked)) => run_compress(alloc, loader, maker, asked, output, errors),
         Ok(Task::Diff(asked)) => run_diff(alloc, loader, asked, output, errors),
+        Ok(Task::Apart(asked)) => run_apart(alloc, loader, maker, asked, output, errors),
         Err(fault) => run_image(alloc, loader, maker, Err(fault), output, errors),
     }
 }

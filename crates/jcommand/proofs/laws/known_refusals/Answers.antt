@@ -79,3 +79,7 @@ returns-clause-not_compressed c = refl
 pub returns-clause-no_second : goal.returns-clause-no_second
 unfolding clap_on_literals program parsed parsed_from
 returns-clause-no_second c = refl
+
+pub returns-clause-unreadable_clashes : goal.returns-clause-unreadable_clashes
+unfolding clap_on_literals program parsed parsed_from
+returns-clause-unreadable_clashes c = refl

@@ -75,3 +75,7 @@ returns-clause-compared c = refl
 pub returns-clause-compared_with_times : goal.returns-clause-compared_with_times
 unfolding clap_on_literals program parsed parsed_from
 returns-clause-compared_with_times c = refl
+
+pub returns-clause-apart : goal.returns-clause-apart
+unfolding clap_on_literals program parsed parsed_from
+returns-clause-apart c = refl

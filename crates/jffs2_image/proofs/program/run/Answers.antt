@@ -30,3 +30,15 @@ returns-in-Ok-Compress g c =
         ends = c.run_compress.ensures;
       },
     ))))))
+
+pub returns-in-Ok-Apart : goal.returns-in-Ok-Apart
+returns-in-Ok-Apart g c =
+    inr (inr (inr (inr (inr (inr (inr (
+      refl,
+      record {
+        asked = record { options = c.in-Ok-Apart.asked.options; image = c.in-Ok-Apart.asked.image.now; output = c.in-Ok-Apart.asked.output.now };
+        parsed = search rules;
+        faultless = c.in-Ok-Apart.ensures.faultless;
+        ends = c.run_apart.ensures;
+      },
+    )))))))

@@ -1,0 +1,357 @@
+//! `decompress --clashes higher`: an image without the nodes that one of a higher address clashes
+//! with goes to a file.
+ghost use Rattle.std.specs.Prelude.{◌≡◌, ◌≤◌, ◌⊎◌, ℕ, List, None, IfOk, IfErr, OnOk, IsTrue, Ok, length, map};
+ghost use Rattle.std.specs.Io.KnownBytes.{Appends};
+ghost use Rattle.flashbase.specs.Device.{Puts};
+ghost use Rattle.jnode.specs.Writing.{canonical};
+ghost use Rattle.jscan.specs.Image.{is_block_size};
+ghost use Rattle.jlog.specs.Places.{end_of_all};
+ghost use Rattle.jconvert.specs.Apart.{HaveRoom, image_of_nodes};
+ghost use Rattle.jconvert.specs.Converting.{least_written};
+ghost use Rattle.jcommand.specs.Status.{outcome_of};
+ghost use Rattle.jffs2_image.specs.ClashRuns.{DecompressesApartFile, DecompressesApartNamed, EndsApart, FinishesApart, left_line, left_lines, said_of_apart};
+ghost use Rattle.jffs2_image.specs.Decompressing.{HoldsMade, IsNotWritten};
+ghost use Rattle.jffs2_image.specs.Host.{BlamesDecompress, HasFailed, MakesFile};
+ghost use Rattle.jffs2_image.specs.Runs.{IsSaid};
+ghost use Rattle.jffs2_image.specs.Writes.{GivesText, IsFaultOfMaking};
+
+use crate::decompressing::conversion_fault;
+use crate::host::{Loader, MakeFault, Maker};
+use crate::output::Output;
+use crate::program::{note, report_fault};
+use crate::writing::load_file;
+use byteorder::{BigEndian, LittleEndian};
+use flashbase::{DeviceFault, Sink};
+use jcommand::{Decompression, Options, Outcome};
+use jconvert::{ConvertFault, LeftOut, Parted, judge, part, write_nodes};
+use jline::{LineBuffer, put_text};
+use jlog::SessionFault;
+use jnode::{Endian, NodeRef, Order};
+use jreport::{ProgramFault, found_in, put_decompressed};
+use jscan::Geometry;
+use std::alloc::Global;
+
+/// What came of an image without nodes that clash: how many findings it has to note, and the nodes
+/// that were left out.
+#[derive(Drop)]
+pub struct ApartDone {
+    pub found: u64,
+    pub left: Vec<LeftOut>,
+}
+
+/// Puts out an image of these nodes, to the last byte, and answers where it ends.
+fn put_apart<E: Order, S: Output>(
+    alloc: Global,
+    nodes: &[NodeRef<'_>],
+    geometry: Geometry,
+    output: &mut S,
+) -> Result<u64, SessionFault>
+    requires readable { IsTrue (is_block_size geometry.block) }
+    requires written { least_written ≤ geometry.block }
+    ensures room { OnOk result (HaveRoom E.order geometry.block nodes.now) }
+    ensures end { IfOk result
+        (λ end. end ≡ end_of_all geometry.block 0 (map (canonical E.order) nodes.now)) }
+    ensures given { OnOk result (Appends (S.taken output.old) (S.given output.new)
+        (image_of_nodes E.order geometry.block nodes.now)) }
+    ensures count { OnOk result (S.failures output.new ≡ S.failures output.old) }
+    ensures part { IfErr result (λ _. GivesText (S.taken output.old) (S.given output.new)
+        (image_of_nodes E.order geometry.block nodes.now)) }
+    ensures fault { IfErr result IsFaultOfMaking }
+    ensures failed { IfErr result (λ fault. fault ≡ SessionFault.Sink
+        → HasFailed (S.failures output.old) (S.failures output.new)) }
+{
+    let put = write_nodes::<E, S>(alloc, nodes, geometry, output);
+    let finished = output.finish();
+    match (put, finished) {
+        (Ok(end), Ok(())) => Ok(end),
+        (Err(ConvertFault::OutOfMemory), _) => Err(SessionFault::OutOfMemory),
+        _ => Err(SessionFault::Sink),
+    }
+}
+
+/// Makes the file, and puts such an image out to it.
+fn make_apart<'a, E: Order, M: Maker>(
+    alloc: Global,
+    maker: &mut M,
+    nodes: &[NodeRef<'_>],
+    geometry: Geometry,
+    name: &'a str,
+) -> Result<u64, ProgramFault<'a>>
+    requires readable { IsTrue (is_block_size geometry.block) }
+    requires written { least_written ≤ geometry.block }
+    ensures room { OnOk result (HaveRoom E.order geometry.block nodes.now) }
+    ensures end { IfOk result
+        (λ end. end ≡ end_of_all geometry.block 0 (map (canonical E.order) nodes.now)) }
+    ensures made { OnOk result (HoldsMade (M.held maker.old, M.held maker.new)
+        (image_of_nodes E.order geometry.block nodes.now)) }
+    ensures fault { IfErr result (λ fault. IsNotWritten (M.held maker.old, M.held maker.new)
+        name.entry.now (image_of_nodes E.order geometry.block nodes.now) fault) }
+    ensures host { (read : ℕ) → BlamesDecompress (maker.new ≡ maker.old)
+        (MakesFile name.entry.now (M.names maker.old) (M.names maker.new))
+        read read (M.failures maker.old) (M.failures maker.new) result }
+{
+    let mut output = match maker.make(name) {
+        Ok(output) => output,
+        Err(MakeFault::NotMade) => return Err(ProgramFault::File(name)),
+        Err(MakeFault::OutOfMemory) => return Err(ProgramFault::OutOfMemory),
+    };
+    let answer = put_apart::<E, M::Made>(alloc, nodes, geometry, &mut output);
+    maker.take_back(output);
+    match answer {
+        Ok(end) => Ok(end),
+        Err(fault) => Err(ProgramFault::from(fault)),
+    }
+}
+
+/// An image of the nodes that stay goes to a file of this name, which is made only after all was
+/// judged that can be before a byte is written, and is told in a line.
+pub fn decompress_apart_into<'a, E: Order, M: Maker, T: Sink>(
+    alloc: Global,
+    maker: &mut M,
+    image: &[u8],
+    geometry: Geometry,
+    name: &'a str,
+    sink: &mut T,
+) -> Result<ApartDone, ProgramFault<'a>>
+    ensures decompresses { DecompressesApartFile (M.held maker.old, M.held maker.new) E.order
+        geometry.block name.entry.now image.now (record {
+          old = T.taken sink.old;
+          new = T.taken sink.new;
+          before = T.failures sink.old;
+          now = T.failures sink.new;
+        }) result }
+    ensures host { (read : ℕ) → BlamesDecompress (maker.new ≡ maker.old)
+        (MakesFile name.entry.now (M.names maker.old) (M.names maker.new))
+        read read (M.failures maker.old) (M.failures maker.new) result }
+{
+    let judged = match judge::<E>(alloc, image, geometry, usize::MAX) {
+        Ok(judged) => judged,
+        Err(fault) => return Err(conversion_fault(fault)),
+    };
+    let Parted { stay, left } = match part::<E>(alloc, image, geometry, &judged.held) {
+        Ok(parted) => parted,
+        Err(_) => return Err(conversion_fault(ConvertFault::OutOfMemory)),
+    };
+    let bytes = match make_apart::<E, M>(alloc, maker, &stay, geometry, name) {
+        Ok(bytes) => bytes,
+        Err(fault) => return Err(fault),
+    };
+    match put_decompressed(judged.told.changed, stay.len() as u64, bytes, sink) {
+        Ok(()) => Ok(ApartDone {
+            found: found_in::<E>(image, geometry).noted,
+            left,
+        }),
+        Err(DeviceFault) => Err(ProgramFault::Output),
+    }
+}
+
+/// The same of the file of a name.
+pub fn apart_file<'a, E: Order, L: Loader, M: Maker, T: Sink>(
+    alloc: Global,
+    loader: &mut L,
+    maker: &mut M,
+    options: Options,
+    image: &'a str,
+    output: &'a str,
+    sink: &mut T,
+) -> Result<ApartDone, ProgramFault<'a>>
+    ensures decompresses { DecompressesApartNamed (M.held maker.old, M.held maker.new) E.order
+        (record {
+          options = options;
+          image = image.entry.now;
+          output = output.entry.now;
+        }) (L.told loader.old image.entry.now) (record {
+          old = T.taken sink.old;
+          new = T.taken sink.new;
+          before = T.failures sink.old;
+          now = T.failures sink.new;
+        }) result }
+    ensures host { BlamesDecompress (maker.new ≡ maker.old)
+        (MakesFile output.entry.now (M.names maker.old) (M.names maker.new))
+        (L.failures loader.old) (L.failures loader.new)
+        (M.failures maker.old) (M.failures maker.new) result }
+{
+    let bytes = match load_file(loader, image) {
+        Ok(bytes) => bytes,
+        Err(fault) => return Err(fault),
+    };
+    decompress_apart_into::<E, M, T>(
+        alloc,
+        maker,
+        bytes.as_slice(),
+        options.geometry,
+        output,
+        sink,
+    )
+}
+
+/// The same in the byte order that is asked for.
+fn apart_in_order<'a, L: Loader, M: Maker, T: Sink>(
+    alloc: Global,
+    loader: &mut L,
+    maker: &mut M,
+    options: Options,
+    image: &'a str,
+    output: &'a str,
+    sink: &mut T,
+) -> Result<ApartDone, ProgramFault<'a>>
+    ensures decompresses { DecompressesApartNamed (M.held maker.old, M.held maker.new) options.endian
+        (record {
+          options = options;
+          image = image.entry.now;
+          output = output.entry.now;
+        }) (L.told loader.old image.entry.now) (record {
+          old = T.taken sink.old;
+          new = T.taken sink.new;
+          before = T.failures sink.old;
+          now = T.failures sink.new;
+        }) result }
+    ensures host { BlamesDecompress (maker.new ≡ maker.old)
+        (MakesFile output.entry.now (M.names maker.old) (M.names maker.new))
+        (L.failures loader.old) (L.failures loader.new)
+        (M.failures maker.old) (M.failures maker.new) result }
+{
+    match options.endian {
+        Endian::Little => apart_file::<LittleEndian, L, M, T>(
+            alloc, loader, maker, options, image, output, sink,
+        ),
+        Endian::Big => apart_file::<BigEndian, L, M, T>(
+            alloc, loader, maker, options, image, output, sink,
+        ),
+    }
+}
+
+/// The same to the last byte of what is told.
+fn apart_whole<'a, L: Loader, M: Maker, T: Output>(
+    alloc: Global,
+    loader: &mut L,
+    maker: &mut M,
+    options: Options,
+    image: &'a str,
+    made: &'a str,
+    output: &mut T,
+) -> Result<ApartDone, ProgramFault<'a>>
+    ensures { FinishesApart (record {
+      options = options;
+      image = image.entry.now;
+      output = made.entry.now;
+    }) (record {
+      told = L.told loader.old;
+      before = L.failures loader.old;
+      now = L.failures loader.new;
+    }) (record {
+      names_old = M.names maker.old;
+      names_new = M.names maker.new;
+      held = (M.held maker.old, M.held maker.new);
+      before = M.failures maker.old;
+      now = M.failures maker.new;
+    }) (maker.new ≡ maker.old) (record {
+      old = T.taken output.old;
+      new = T.given output.new;
+      before = T.failures output.old;
+      now = T.failures output.new;
+    }) result }
+{
+    let answer = apart_in_order(alloc, loader, maker, options, image, made, output);
+    let finished = output.finish();
+    let done = answer?;
+    match finished {
+        Ok(()) => Ok(done),
+        Err(_) => Err(ProgramFault::Output),
+    }
+}
+
+/// Writes the line of a node that is left out over what a buffer has.
+fn write_left(text: &mut LineBuffer, left: LeftOut)
+    ensures { text.new ≡ left_line left }
+{
+    text.clear();
+    text.push_text(b"left out ");
+    text.push_hex(8, u64::from(left.addr));
+    text.push_text(b": clashes with ");
+    text.push_hex(8, u64::from(left.by));
+    text.push_text(b"\n");
+}
+
+/// Puts the lines of nodes that are left out.
+fn put_left<T: Sink>(sink: &mut T, left: &[LeftOut]) -> Result<(), DeviceFault>
+    ensures { Puts (T.taken sink.old) (T.taken sink.new) (T.failures sink.old) (T.failures sink.new)
+        (left_lines left.now) result }
+{
+    let mut text = LineBuffer::new();
+    let mut i = 0;
+    while i < left.len() {
+        write_left(&mut text, left[i]);
+        put_text(sink, text.as_slice())?;
+        i += 1;
+    }
+    Ok(())
+}
+
+/// Says what was left out, and notes the findings.
+fn say_apart<E: Sink>(done: &ApartDone, errors: &mut E)
+    ensures { IsSaid (E.taken errors.old) (E.taken errors.new) (E.failures errors.old)
+        (E.failures errors.new) (said_of_apart (Ok done.now)) }
+{
+    match put_left(errors, &done.left) {
+        Ok(()) => {}
+        Err(DeviceFault) => return,
+    }
+    note(done.found, errors);
+}
+
+/// The same, and what the run comes to.
+fn tell_apart<E: Sink>(done: &ApartDone, errors: &mut E) -> Outcome
+    ensures ends { result ≡ outcome_of (length done.now.left.items) }
+    ensures said { IsSaid (E.taken errors.old) (E.taken errors.new) (E.failures errors.old)
+        (E.failures errors.new) (said_of_apart (Ok done.now)) }
+{
+    say_apart(done, errors);
+    Outcome::of(done.left.len() as u64)
+}
+
+/// `decompress --clashes higher` as a command.
+pub fn run_apart<L: Loader, M: Maker, T: Output, E: Sink>(
+    alloc: Global,
+    loader: &mut L,
+    maker: &mut M,
+    asked: Decompression<'_>,
+    output: &mut T,
+    errors: &mut E,
+) -> Outcome
+    ensures { EndsApart (record {
+      options = asked.entry.options;
+      image = asked.entry.image.now;
+      output = asked.entry.output.now;
+    }) (record {
+      told = L.told loader.old;
+      before = L.failures loader.old;
+      now = L.failures loader.new;
+    }) (record {
+      names_old = M.names maker.old;
+      names_new = M.names maker.new;
+      held = (M.held maker.old, M.held maker.new);
+      before = M.failures maker.old;
+      now = M.failures maker.new;
+    }) (maker.new ≡ maker.old) (record {
+      old = T.taken output.old;
+      new = T.given output.new;
+      before = T.failures output.old;
+      now = T.failures output.new;
+    }) (record {
+      old = E.taken errors.old;
+      new = E.taken errors.new;
+      before = E.failures errors.old;
+      now = E.failures errors.new;
+    }) result }
+{
+    let Decompression {
+        options,
+        image,
+        output: made,
+    } = asked;
+    match apart_whole(alloc, loader, maker, options, image, made, output) {
+        Ok(done) => tell_apart(&done, errors),
+        Err(fault) => report_fault(&fault, errors),
+    }
+}
