@@ -16,13 +16,12 @@ import shutil
 import subprocess
 import sys
 
-from measuring import taken
+from measuring import program_of, taken
 
 HERE = os.path.dirname(os.path.abspath(__file__))
 FOLDER = os.path.abspath(sys.argv[1])
 RUNS = int(sys.argv[2]) if len(sys.argv) > 2 else 7
-CRATES = os.path.abspath(sys.argv[3] if len(sys.argv) > 3 else os.path.join(HERE, "../crates"))
-PROGRAM = CRATES if os.path.isfile(CRATES) else f"{CRATES}/jffs2_image/out/jffs2_image"
+PROGRAM = program_of(sys.argv, 3)
 SIZES = [int(word) for word in sys.argv[4:]] or [16, 64, 128]
 LARGEST_FILE = 2 << 20
 

@@ -30,3 +30,10 @@ def report(tries, first):
         seconds, memory = min(runs)[0], max(memory for _, memory, _ in runs)
         states = {status for _, _, status in runs} - {0}
         print(f"  {name:18} {seconds:8.3f} s {seconds / least:8.2f} times {memory:7} KiB" + (f"  status {states}" if states else ""), flush=True)
+
+
+def program_of(words, place):
+    """The program that the word at this place names, or that was built in the crates that it names; without it, that built here."""
+    here = os.path.join(os.path.dirname(os.path.abspath(__file__)), "../crates")
+    named = os.path.abspath(words[place] if len(words) > place else here)
+    return named if os.path.isfile(named) else f"{named}/jffs2_image/out/jffs2_image"

@@ -9,11 +9,12 @@ _jffs2_image_options() {
         ls | cat) echo "$plain --decompress $help" ;;
         build) echo "$plain $write $help" ;;
         append) echo "$plain $write --decompress $help" ;;
-        decompress) echo "$plain $help" ;;
+        decompress | compress) echo "$plain $help" ;;
         extract) echo "$plain --decompress --owners --quiet $help" ;;
         listing) echo "--owner --time --quiet $help" ;;
         info) echo "$help" ;;
         cuts) echo "$plain $write --on $help" ;;
+        diff) echo "$plain --times $help" ;;
         '') echo "$help -V --version" ;;
     esac
 }
@@ -39,8 +40,8 @@ _jffs2_image_values() {
 # How `compgen` finds a command's word at this place, counted from 0.
 _jffs2_image_kind() {
     case $1:$2 in
-        check:0 | ls:0 | cat:0 | build:[01] | append:[012] | decompress:[01] | extract:0 | info:0 | \
-            cuts:0)
+        check:0 | ls:0 | cat:0 | build:[01] | append:[012] | decompress:[01] | compress:[01] | \
+            extract:0 | info:0 | cuts:0 | diff:[01])
             echo -f
             ;;
         extract:1 | listing:0) echo -d ;;
@@ -48,7 +49,7 @@ _jffs2_image_kind() {
 }
 
 _jffs2_image() {
-    local commands='check ls cat build append decompress extract listing info cuts help'
+    local commands='check ls cat build append decompress compress extract listing info cuts diff help'
     local current=${COMP_WORDS[COMP_CWORD]} command='' option='' place=0 values=0 word kind
     # bash cuts --option=value into three words
     for word in "${COMP_WORDS[@]:1:COMP_CWORD-1}"; do

@@ -13,22 +13,24 @@ complete -c jffs2_image -n __fish_use_subcommand -a cat -d 'Bytes of a regular f
 complete -c jffs2_image -n __fish_use_subcommand -a build -d 'Make an image by a listing'
 complete -c jffs2_image -n __fish_use_subcommand -a append -d 'Extend an image by a listing'
 complete -c jffs2_image -n __fish_use_subcommand -a decompress -d 'Copy with data decompressed'
+complete -c jffs2_image -n __fish_use_subcommand -a compress -d 'Copy with data compressed'
 complete -c jffs2_image -n __fish_use_subcommand -a extract -d 'Tree into a new folder'
 complete -c jffs2_image -n __fish_use_subcommand -a listing -d 'Listing of a folder'
 complete -c jffs2_image -n __fish_use_subcommand -a info -d 'What it shows of order and blocks'
 complete -c jffs2_image -n __fish_use_subcommand -a cuts -d 'Which step stands from which byte on'
+complete -c jffs2_image -n __fish_use_subcommand -a diff -d 'Where the trees of two differ'
 complete -c jffs2_image -n __fish_use_subcommand -a help -d 'Help of a command'
 complete -c jffs2_image -n '__jffs2_image_in help' -f \
-    -a 'check ls cat build append decompress extract listing info cuts help'
+    -a 'check ls cat build append decompress compress extract listing info cuts diff help'
 
 # Options of the program and of every command
 complete -c jffs2_image -n 'not __jffs2_image_in help' -s h -l help -d 'Print help'
 complete -c jffs2_image -n __fish_use_subcommand -s V -l version -d 'Print the version'
 
 # Options of several commands
-complete -c jffs2_image -n '__jffs2_image_in check ls cat build append decompress extract cuts' \
+complete -c jffs2_image -n '__jffs2_image_in check ls cat build append decompress compress extract cuts diff' \
     -l block -x -a '4096 8192 16384 32768 65536 131072 262144' -d 'Size of an erase block'
-complete -c jffs2_image -n '__jffs2_image_in check ls cat build append decompress extract cuts' \
+complete -c jffs2_image -n '__jffs2_image_in check ls cat build append decompress compress extract cuts diff' \
     -l endian -x -a 'little big' -d 'Byte order'
 complete -c jffs2_image -n '__jffs2_image_in build append cuts' -l blocks -x -d 'Number of blocks'
 complete -c jffs2_image -n '__jffs2_image_in build append cuts' -l page -x \
@@ -44,6 +46,7 @@ complete -c jffs2_image -n '__jffs2_image_in cuts' -l on -r -d 'Image that is go
 complete -c jffs2_image -n '__jffs2_image_in extract' -l owners -d 'Owners of the image'
 complete -c jffs2_image -n '__jffs2_image_in listing' -l owner -x -d 'Owner and group'
 complete -c jffs2_image -n '__jffs2_image_in listing' -l time -x -d 'Time of everything'
+complete -c jffs2_image -n '__jffs2_image_in diff' -l times -d 'Compare times of change too'
 
 # Words: files, and folders for listing
 complete -c jffs2_image -n '__jffs2_image_in listing' -x -a '(__fish_complete_directories)'

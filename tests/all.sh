@@ -38,6 +38,7 @@ suite tests/cuts.py "$copy/crates/jffs2_image/out/jffs2_image"
 suite tests/decompress.sh "$copy/crates/jffs2_image/out/jffs2_image"
 suite tests/hostile.py "$copy/crates/jffs2_image/out/jffs2_image"
 suite tests/folders.py "$copy/crates/jffs2_image/out/jffs2_image"
+suite tests/diff.py "$copy/crates/jffs2_image/out/jffs2_image"
 cat "$times"
 echo "$passed passed, $failed failed"
 [ "$failed" -eq 0 ]

@@ -24,6 +24,9 @@ import tempfile
 
 ROOT = os.path.dirname(os.path.dirname(os.path.abspath(__file__)))
 PROGRAM = os.path.join(ROOT, "crates", "jffs2_image", "out", "jffs2_image")
+# What the repository has; beside it there may be what somebody made by the commands of README.md.
+PARTS = ("bench", "completions", "crates", "docs", "open", "tests", "CHANGELOG.md",
+         "CONTRIBUTING.md", "HANDLES", "README.md", "crates.txt")
 BLOCK = re.compile(r"^```(\w*)\n(.*?)^```$", re.M | re.S)
 LITERAL = re.compile(r"^\.Bd -literal.*?\n(.*?)^\.Ed$"
                      r"(?:\n\.Pp\nIt prints\n\.Ql (.*?) \.$)?", re.M | re.S)
@@ -63,7 +66,13 @@ class Place:
 
     def __init__(self, folder, program, mode):
         self.folder, self.top, self.mode = folder, os.path.join(folder, "top"), mode
-        shutil.copytree(ROOT, self.top, ignore=shutil.ignore_patterns(".git", "out"))
+        os.mkdir(self.top)
+        for part in PARTS:
+            path, copy = os.path.join(ROOT, part), os.path.join(self.top, part)
+            if os.path.isdir(path):
+                shutil.copytree(path, copy, ignore=shutil.ignore_patterns("out"))
+            else:
+                shutil.copy2(path, copy)
         home = os.path.join(folder, "home")
         os.mkdir(home)
         path = [os.path.join(home, ".local", "bin"), os.environ["PATH"]]

@@ -110,6 +110,13 @@ for order in little big; do
     run cat --decompress "${flash[@]}" packed_$order /a; want 0 "*" ""; whole twenty_bytes
     run cat "${flash[@]}" out.img /a; want 0 "*" ""; whole twenty_bytes
     run ls --decompress "${flash[@]}" packed_$order; want 0 "$root"$'\n- 0644 11 12 20 14 2 /a' ""
+    # Compressed, and decompressed again
+    run compress "${flash[@]}" plain_$order small.img
+    want 0 "compressed 1 nodes 2 bytes 136" ""
+    line="the length of OUT"; [[ $(wc -c < small.img) == 136 ]]; count $?
+    run decompress "${flash[@]}" small.img again.img
+    want 0 "decompressed 1 nodes 2 bytes 144" ""; same again.img plain_$order
+    run ls --decompress "${flash[@]}" small.img; want 0 "$root"$'\n- 0644 11 12 20 14 2 /a' ""
     # In the other order nothing is a node, and a note tells so.
     other=big; [[ $order == little ]] || other=little
     run decompress "${small[@]}" --endian $other packed_$order out.img
@@ -221,6 +228,22 @@ while read -r name block order address compr changed bytes; do
     want 0 "decompressed $changed nodes 29 bytes $bytes" ""; same image out.img; rm link
     cp "$image" image; run append --decompress "${flash[@]}" --blocks 16 image create image
     want 0 "accepted 1 nodes 2 bytes 124" ""; same image more.img
+    # Compressed, and decompressed again
+    run compress "${flash[@]}" out.img small.img; want 0 "compressed * nodes 29 bytes *" ""
+    line="compress of $name is shorter"; (($(wc -c < small.img) < bytes)); count $?
+    changed_back=$(cut -d ' ' -f 2 out)
+    run decompress "${flash[@]}" small.img again.img
+    want 0 "decompressed $changed_back nodes 29 bytes $bytes" ""; same again.img out.img
+    run ls --decompress "${flash[@]}" small.img; want 0 "$tree" ""
+    cp out.img image; run compress "${flash[@]}" image image
+    want 0 "compressed * nodes 29 bytes *" ""; same image small.img
+    run compress "${flash[@]}" "$image" none.img; want 1 "" "$fault"$'\n'"$note"; unmade none.img
+    run compress "${flash[@]}" small.img none.img
+    want 1 "" "jffs2_image: M4 Compressed at * compr 6"$'\n'"$note"; unmade none.img
+    run compress "${flash[@]}" out.img /dev/full; want 1 "" "jffs2_image: S4 Sink"
+    line="compress of $name with standard output full"
+    "$program" compress "${flash[@]}" out.img image > /dev/full 2> err
+    got=$?; : > out; want 1 "" "jffs2_image: P5 Output"; same image small.img
     # A longer file that was there before is gone.
     cp blank image; run decompress "${flash[@]}" "$image" image
     want 0 "decompressed $changed nodes 29 bytes $bytes" ""; same image out.img
@@ -316,7 +339,25 @@ run cat --decompress damaged /a; want 0 "abcabcabcabcabcabc" "$(noted 1)"
 run append --decompress --blocks 4 damaged create out.img
 want 0 "accepted 1 nodes 2 bytes 124" "$(noted 1)"
 run extract --decompress damaged made; want 3 "" "$(noted 1)"; rm -rf made
+# Faults of compress, by the same order; a wrong command line
+{ marker; bytes 85 19 f7 a0 0c 00 00 00 2c 5b fb db; } > read_only_alone
+for words in "P1 File none|none" "L1 Device|folder" "M1 BlockSize|--block 4097 plain_little" \
+    "M4 Compressed at 00000038 compr 6|packed_little" "S3 ReadOnly|--block 4096 read_only_alone" \
+    "S7 Geometry|--block 4096 plain_little"; do
+    cp blank there.img
+    run compress ${words#*|} there.img; want 1 "" "jffs2_image: ${words%%|*}*"; same there.img blank
+done
+run compress; want 2 "" "error: *<IMAGE>*<OUT>*Usage: jffs2_image compress *"
+run compress good; want 2 "" "error: *<OUT>*Usage: *"
+run compress --decompress good none.img
+want 2 "" "error: unexpected argument '--decompress' found*Usage: *"; unmade none.img
+run compress --help
+want 0 "*Usage: jffs2_image compress *<IMAGE> <OUT>*--block <N>*--endian <ORDER>*Exit status:*" ""
+run compress blank out.img; want 0 "compressed 0 nodes 0 bytes 0" ""; same out.img empty
+run decompress damaged plain.img; head -c 3 /dev/zero | cat plain.img - > dirty.img
+run compress dirty.img out.img; want 0 "compressed 1 nodes 2 bytes *" "$(noted 1)"
 # OUT that cannot be made
+run compress plain_little nowhere/out.img; want 1 "" "jffs2_image: P1 File nowhere/out.img"
 run decompress good nowhere/out.img; want 1 "" "jffs2_image: P1 File nowhere/out.img"
 run decompress good folder; want 1 "" "jffs2_image: P1 File folder"
 run decompress good ""; want 1 "" "jffs2_image: P1 File "

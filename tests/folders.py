@@ -122,9 +122,6 @@ def what_a_listing_cannot_say():
     """What is left out is told in order, the rest is listed, and the status is 3."""
     os.makedirs("odd/in")
     write("odd/kept", b"")
-    os.mkfifo("odd/fifo")
-    unix = socket.socket(socket.AF_UNIX)
-    unix.bind("odd/socket")
     write("odd/" + "n" * 255, b"")
     for name in (b"odd/\xff", b"odd/\xfe", b"odd/x\x80", b"odd/in/\xff"):
         write(name, b"")
@@ -135,7 +132,7 @@ def what_a_listing_cannot_say():
     for name, size in (("sparse", 268435457), ("a sparse", 67108865)):
         with open(f"odd/{name}", "wb") as file:
             file.truncate(size)
-    wanted = {b"/fifo", b"/socket", b"/" + b"n" * 255, b"/", b"/in/", b"/old", b"/late", b"/sparse", b"/a\\x20sparse"}
+    wanted = {b"/" + b"n" * 255, b"/", b"/in/", b"/old", b"/late", b"/sparse"}
     if IS_ROOT:
         write("odd/owned", b"")
         os.chown("odd/owned", 65536, 0)
@@ -144,16 +141,68 @@ def what_a_listing_cannot_say():
     done = run("listing", "odd")
     told = [line.split(b": ")[0].removeprefix(b"left out ") for line in done.err.splitlines()]
     verdict("what a listing can't say", done.status == 3 and set(told) == wanted and len(told) == len(wanted), done)
-    made = [line for line in done.out.split(b"\n") if line.split(b" ")[0] in (b"create", b"mkdir")]
-    verdict("the rest is listed", made == [b"mkdir 755 /in", b"create 644 /kept"], done)
+    made = [line for line in done.out.split(b"\n") if line.split(b" ")[0] in (b"create", b"part", b"write", b"file", b"mkdir")]
+    verdict("the rest is listed", made == [b"file 644 /a\\x20sparse odd/a\\x20sparse", b"mkdir 755 /in", b"file 644 /kept odd/kept"], done)
     lines = done.err.splitlines()
     verdict("names that are no text are counted", {b"left out /: names that are no text: 3", b"left out /in/: names that are no text: 1"} <= set(lines), done)
-    too_long = (b"left out /sparse: more than 268435456 bytes", b"left out /a\\x20sparse: more than 67108864 bytes, and a space or a line feed in its path")
-    verdict("files that no listing can have", set(too_long) <= set(lines), done)
+    verdict("a file that no listing can have", b"left out /sparse: more than 268435456 bytes" in lines, done)
     done = run("listing", "--owner", "0", "0", "--time", "0", "odd")
     verdict("settings say what the host can't", b"/old" in done.out and b"/late" in done.out and done.status == 3, done)
-    unix.close()
     shutil.rmtree("odd")
+
+
+def queues():
+    """FIFOs and sockets are listed and built; a FIFO without a writer is not opened."""
+    os.makedirs("queues/d")
+    write("queues/a", b"a")
+    os.mkfifo("queues/d/p", 0o640)
+    os.link("queues/d/p", "queues/q")
+    unix = socket.socket(socket.AF_UNIX)
+    unix.bind("queues/d/s x")
+    os.chmod("queues/d/s x", 0o1711)
+    os.chmod("queues/d/p", 0o640)
+    if IS_ROOT:
+        os.chown("queues/q", 7, 8)
+    done = run("listing", "--time", "9", "queues")
+    unix.close()
+    lines = [line for line in done.out.split(b"\n") if line.split(b" ")[0] in (b"fifo", b"socket", b"file", b"link")]
+    wanted = [b"file 644 /a queues/a", b"fifo 640 /d/p", b"socket 1711 /d/s\\x20x", b"fifo 640 /q"]
+    verdict("FIFOs and sockets are listed, for each name", done.status == 0 and done.err == b"" and lines == wanted, done)
+    write("queues.txt", done.out)
+    done = run("build", "--blocks", "1", "queues.txt", "queues.img")
+    verdict("they are built", done.status == 0, done)
+    done = run("ls", "queues.img")
+    told = [line.split(b" ") for line in done.out.splitlines()]
+    is_ = os.lstat("queues/d/p")
+    owner = [str(is_.st_uid).encode(), str(is_.st_gid).encode()]
+    found = {words[7]: (words[0], words[1], words[2:4] == owner, words[4]) for words in told if words[7] in (b"/d/p", b"/q")}
+    wanted = {b"/d/p": (b"p", b"0640", True, b"0"), b"/q": (b"p", b"0640", True, b"0")}
+    verdict("FIFOs are in the image", done.status == 0 and found == wanted, done)
+    sockets = [(words[0], words[1], words[4], words[7]) for words in told if words[0] == b"s"]
+    verdict("a socket is", sockets == [(b"s", b"1711", b"0", b"/d/s\\x20x")], done)
+
+
+def any_name():
+    """Files of any name, which are read by the escapes of a path."""
+    os.makedirs("names\n of\\x41/d")
+    chance = random.Random(11)
+    wanted = {}
+    for name in ("a b", "line\nfeed", "back\\slash", "\\x41", "\u00e9\u4e2d", "\t\x01\x7f", "#", "-", "a'\"$*"):
+        wanted[name] = chance.randbytes(len(name) * 1000)
+        write(f"names\n of\\x41/d/{name}", wanted[name])
+    done = run("listing", "names\n of\\x41")
+    files_listed = [line for line in done.out.split(b"\n") if line.startswith(b"file ")]
+    verdict("each is a line", done.status == 0 and len(files_listed) == len(wanted) and all(len(line.split(b" ")) == 4 for line in files_listed), done)
+    verdict("no bytes are written out", b"\nwrite " not in done.out and b"\npart " not in done.out, done)
+    write("any.txt", done.out)
+    done = run("build", "--blocks", "4", "any.txt", "any.img")
+    verdict("they are built", done.status == 0, done)
+    done = run("extract", "any.img", "any")
+    found = {}
+    for name in os.listdir("any/d"):
+        with open(f"any/d/{name}", "rb") as file:
+            found[name] = file.read()
+    verdict("they come back", done == Done(0, b"", b"") and found == wanted, done)
 
 
 def files(*entries):
@@ -301,7 +350,7 @@ def owners_and_times():
         os.chown("two/a", 1000, 1001)
     is_ = os.lstat("two/a")
     done = run("listing", "two")
-    wanted = f"create 644 /a\npart /a 0 two/a\n".encode()
+    wanted = b"file 644 /a two/a\n"
     verdict("the time of the last change", b"\ntime 7\n" in done.out and done.out.endswith(wanted), done)
     verdict("the owner and the group", f"\nowner {is_.st_uid} {is_.st_gid}\n".encode() in done.out or (is_.st_uid, is_.st_gid) == (0, 0), done)
     listing = "create 644 /a\nattr 640 1000 1001 5 7 /a\nmkdir 755 /d\nattr 750 1002 1003 8 9 /d\n"
@@ -337,8 +386,8 @@ def on_two_file_systems():
         numbers = [os.lstat(f"disks/{place}/x") for place in ("a", "b")]
         verdict("they have one number", numbers[0].st_ino == numbers[1].st_ino and numbers[0].st_dev != numbers[1].st_dev)
         done = run("listing", "--owner", "0", "0", "--time", "0", "disks")
-        wanted = [line for place in ("a", "b") for line in (f"create 644 /{place}/x", f"part /{place}/x 0 disks/{place}/x", f"link /{place}/x /{place}/y")]
-        told = [line for line in done.out.decode().splitlines() if line.split(" ")[0] in ("create", "part", "link")]
+        wanted = [line for place in ("a", "b") for line in (f"file 644 /{place}/x disks/{place}/x", f"link /{place}/x /{place}/y")]
+        told = [line for line in done.out.decode().splitlines() if line.split(" ")[0] in ("file", "link")]
         verdict("each has its own content and links", done.status == 0 and told == wanted, done)
     finally:
         subprocess.run(["umount", "disks/a", "disks/b"], check=True)
@@ -358,9 +407,9 @@ def may_not_be_read():
     other = {"user": 65534, "group": 65534, "extra_groups": []} if IS_ROOT else {}
     words = ["listing", "--owner", "0", "0", "--time", "0", "secret"]
     done = run(*words, stdout=subprocess.PIPE, stderr=subprocess.PIPE, executable=os.path.abspath("program"), **other)
-    left_out = b"left out /closed: the host refused it\nleft out /hidden: the host refused it\n"
+    left_out = b"".join(b"left out /%s: the host refused it\n" % name for name in (b"closed", b"hidden", b"none"))
     verdict("it is told", (done.status, done.err) == (3, left_out), done)
-    rest = b"create 0 /none\ncreate 644 /open\npart /open 0 secret/open\n"
+    rest = b"\nfile 644 /open secret/open\n"
     verdict("the rest is listed", done.out.endswith(rest) and b"closed" not in done.out, done)
     write("secret.txt", done.out)
     done = run("build", "--blocks", "1", "secret.txt", "secret.img", stdout=subprocess.PIPE, stderr=subprocess.PIPE)
@@ -379,7 +428,7 @@ def into_itself():
             listed = file.read()
         told = name.replace(" ", "\\x20").encode()
         verdict(f"it leaves itself out: {name}", (done.status, done.err) == (3, b"left out /" + told + b": the listing itself\n"), done)
-        verdict(f"the rest is there: {name}", b"part /a 0 self/a\n" in listed and told not in listed)
+        verdict(f"the rest is there: {name}", b"file 644 /a self/a\n" in listed and told not in listed)
         os.remove(f"self/{name}")
 
 
@@ -483,6 +532,8 @@ GROUPS = (
     there_and_back,
     with_settings,
     what_a_listing_cannot_say,
+    queues,
+    any_name,
     owners_and_times,
     on_two_file_systems,
     may_not_be_read,

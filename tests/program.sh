@@ -91,7 +91,7 @@ for words in --help "check --help"; do
 done
 
 line="the lines of help, 80 columns wide at most"
-for words in --help "check --help" "ls --help" "cat --help" "build --help" "append --help" "decompress --help" "extract --help" "listing --help" "info --help"; do
+for words in --help "check --help" "ls --help" "cat --help" "build --help" "append --help" "decompress --help" "extract --help" "listing --help" "info --help" "diff --help"; do
     "$program" $words > out
     awk 'length > 80 { print; wide = 1 } END { exit wide }' out
     count $?
@@ -302,6 +302,38 @@ for image in empty block other text "$manual"; do informs 3 $image; done
 for image in "$tree" "$sample" sound flipped crossing two_blocks one_block "$top"/tests/data/*.img; do informs 0 "$image"; done
 run info packed; want 3 $'bytes *\norder none\nblock unknown\n*' "jffs2_image: note: the file begins as gzip does"
 run info uimage; want 0 $'bytes 8196\norder little nodes 24 *' "jffs2_image: note: the file begins as a uImage header does"
+
+# ---- Where two images differ
+
+run diff; want 2 "" "error: *<A>*<B>*Usage: *"
+run diff "$tree"; want 2 "" "error: *<B>*Usage: *"
+run diff "$tree" "$tree" block; want 2 "" "$wrong"
+run diff --decompress "$tree" "$tree"; want 2 "" "error: unexpected argument '--decompress' found*Usage: *"
+run diff --block x "$tree" "$tree"; want 2 "" "error: invalid value 'x' for '--block <N>': *"
+run diff none none2; want 1 "" "jffs2_image: P1 File none"
+run diff "$tree" none2; want 1 "" "jffs2_image: P1 File none2"
+run diff folder none2; want 1 "" "jffs2_image: L1 Device"
+run diff "$tree" larger; want 1 "" "jffs2_image: L2 TooLarge"
+run diff --block 4097 "$tree" "$tree"; want 1 "" "jffs2_image: M1 BlockSize"
+run diff --block 8192 "$tree" "$top/tests/data/default.img"; want 1 "" "jffs2_image: M4 Compressed at *"
+for words in "diff --help" "diff -h" "help diff"; do
+    run $words; want 0 "*Usage: jffs2_image diff *<A> <B>*PATH at OFFSET*Exit status:*" ""
+done
+lines one "mkdir 755 /d" "create 644 /d/in" "create 600 /f" "write /f 0 616263" "symlink /l x"
+lines two "mkdir 700 /d" "create 644 /d.x" "create 600 /f" "write /f 0 616264" "symlink /l yy" "mkdir 755 /z"
+lines later "time 9" "mkdir 755 /d" "create 644 /d/in" "create 600 /f" "write /f 0 616263" "symlink /l x"
+for name in one two later; do run build --blocks 1 $name $name.img; want 0 "accepted *" ""; done
+run diff one.img one.img; want 0 "" ""
+run diff --times one.img one.img; want 0 "" ""
+run diff one.img later.img; want 0 "" ""
+run diff one.img two.img
+want 3 $'- d 0755 0 0 0 /d\n+ d 0700 0 0 0 /d\n- - 0644 0 0 0 /d/in\n+ - 0644 0 0 0 /d.x\n\* /f at 2\n- l 0777 0 0 1 /l -> x\n+ l 0777 0 0 2 /l -> yy\n+ d 0755 0 0 0 /z' ""
+run diff --times one.img later.img
+want 3 $'- d 0755 0 0 0 0 /d\n+ d 0755 0 0 0 9 /d\n- - 0644 0 0 0 0 /d/in\n+ - 0644 0 0 0 9 /d/in\n*- l 0777 0 0 1 0 /l -> x\n+ l 0777 0 0 1 9 /l -> x' ""
+# Of an empty flash and a tree each path has a line, and of the other byte order nothing is seen.
+run diff empty one.img
+want 3 $'+ d 0755 0 0 0 /d\n+ - 0644 0 0 0 /d/in\n+ - 0600 0 0 3 /f\n+ l 0777 0 0 1 /l -> x' ""
+run diff --endian big one.img two.img; want 0 "" ""
 
 # ---- Building and extending images
 
@@ -837,7 +869,7 @@ run cat built /a/file; whole content
 
 # The manual pages have the commands and options of the help, the faults that the sources spell but
 # for those that no command tells, and the lines of a listing.
-for words in --help "check --help" "ls --help" "cat --help" "build --help" "append --help" "decompress --help" "info --help"; do
+for words in --help "check --help" "ls --help" "cat --help" "build --help" "append --help" "decompress --help" "info --help" "diff --help"; do
     run $words
     for word in $(sed -n '/^Commands:/,/^$/s/^  \([a-z]*\) .*/\1/p' out); do
         told "$word" "^\.It Cm $word$"
@@ -857,12 +889,12 @@ done < <(grep -oE '^  [a-z]+( [A-Z]+)+  ' out)
 
 # Standard output that fails
 line="standard output is /dev/full"
-for words in "--help" "check --help" "ls --help" "check --scan empty" "check empty" "ls empty" "build --blocks 1 create_a built" "info empty"; do
+for words in "--help" "check --help" "ls --help" "check --scan empty" "check empty" "ls empty" "build --blocks 1 create_a built" "info empty" "diff empty one.img"; do
     "$program" $words > /dev/full 2> err; got=$?; : > out; want 1 "" "jffs2_image: P5 Output"
 done
 same built made_little
 line="standard output is closed"
-for words in "--help" "check --scan empty" "ls empty" "info empty" "info packed"; do
+for words in "--help" "check --scan empty" "ls empty" "info empty" "info packed" "diff empty one.img"; do
     "$program" $words >&- 2> err; got=$?; : > out; want 1 "" "jffs2_image: P5 Output"
 done
 line="standard error is closed"

@@ -117,23 +117,18 @@ same "listing of a folder" "$(cat tree.txt)" "\
 time 1000000000
 attr 755 0 0 1000000000 1000000000 /
 mkdir 755 /bin
-create 755 /bin/again
-part /bin/again 0 tree/bin/again
+file 755 /bin/again tree/bin/again
 link /bin/again /bin/start
 mkdir 755 /etc
-create 644 /etc/hostname
-part /etc/hostname 0 tree/etc/hostname
+file 644 /etc/hostname tree/etc/hostname
 mkdir 755 /etc/init.d
-create 755 /etc/init.d/network
-part /etc/init.d/network 0 tree/etc/init.d/network
-create 644 /etc/passwd
-part /etc/passwd 0 tree/etc/passwd
+file 755 /etc/init.d/network tree/etc/init.d/network
+file 644 /etc/passwd tree/etc/passwd
 mkdir 755 /var
 mkdir 700 /var/log
-create 644 /var/log/boot\\x20log
-write /var/log/boot\\x20log 0 74776f20776f7264730a
+file 644 /var/log/boot\\x20log tree/var/log/boot\\x20log
 symlink /var/name ../etc/hostname"
-gives 0 "accepted 18 nodes 29 bytes 1840" build --block 8192 --blocks 1 tree.txt again.img
+gives 0 "accepted 13 nodes 24 bytes 1500" build --block 8192 --blocks 1 tree.txt again.img
 gives 0 "" extract --block 8192 again.img copy
 holds tree copy
 printf 'mkdir 0755 /bin\nattr 0700 0 0 0 0 /bin\n' > attr.txt
@@ -217,7 +212,7 @@ ln tree/etc/file tree/etc/again
 ln -s etc/file tree/link
 jffs2_image listing --owner 0 0 --time 1000000000 tree > tree.txt
 same "status of listing" $? 0
-gives 0 "accepted 9 nodes 14 bytes 860" build --block 131072 --blocks 128 tree.txt flash.img
+gives 0 "accepted 7 nodes 12 bytes 724" build --block 131072 --blocks 128 tree.txt flash.img
 gives 0 "" extract --block 131072 flash.img copy
 holds tree copy
 
@@ -265,6 +260,7 @@ mkdir -p folder/tree/etc
 printf 'box\n' > folder/tree/etc/hostname
 printf 'box\n' > "folder/tree/two words"
 ln -s etc/hostname folder/tree/name
+mkfifo -m 600 folder/tree/queue
 chmod 755 folder/tree folder/tree/etc
 chmod 644 folder/tree/etc/hostname "folder/tree/two words"
 found=$(cd folder && jffs2_image listing --owner 0 0 --time 1000000000 tree)
@@ -301,7 +297,7 @@ gives 1 "jffs2_image: P2 Listing line 2" build --blocks 1 tree.txt none.img
 
 # ---- Help
 
-for command in check ls cat build append decompress extract listing info cuts; do
+for command in check ls cat build append decompress extract listing info cuts diff; do
     found=$(jffs2_image help "$command")
     same "usage of $command" "$(grep -c "^Usage: [^ ]* $command" <<< "$found")" 1
     same "help in two ways" "$(jffs2_image "$command" --help)" "$found"

@@ -30,6 +30,7 @@ ORDERS = {"little": ("-l", "<"), "big": ("-b", ">")}
 BLOCKS = (8, 16, 32, 64, 128, 256)
 PAGES = (4096, 8192, 16384, 32768, 65536)
 LINE = re.compile(rb"decompressed (\d+) nodes (\d+) bytes (\d+)\n")
+PACKED = re.compile(rb"compressed (\d+) nodes (\d+) bytes (\d+)\n")
 
 
 def make(folder):
@@ -78,6 +79,28 @@ def opened(what, image, order, block):
     return out
 
 
+def packed(what, plain, order, block):
+    """What `compress` makes of an image: jffs2dump finds no fault in it, and decompressed it is that
+    image. Answers its length."""
+    words, small, back = writing.geometry(order, block), plain + ".small", plain + ".back"
+    status, told, errors = run("compress", *words, plain, small)
+    line = PACKED.fullmatch(told)
+    if status or errors or not line:
+        test(f"{what}: compress", [f"status {status}: {told} {errors}"])
+        return 0
+    length = os.path.getsize(small)
+    seen, faults = dumped(small, block, order)
+    changed, nodes, size = map(int, line.groups())
+    faults += [] if (nodes, size) == (seen, length) and changed else [f"{told}, wanted {seen}"]
+    test(f"{what}: compress", faults)
+    again = run("decompress", *words, small, back)
+    wanted = b"decompressed %d nodes %d bytes %d\n" % (changed, nodes, os.path.getsize(plain))
+    with open(plain, "rb") as first, open(back, "rb") as second:
+        fine = again == (0, wanted, "") and first.read() == second.read()
+    test(f"{what}: compress, decompress", [] if fine else [f"{again}, or other bytes"])
+    return length
+
+
 def read_at_once(what, image, out, words):
     """`ls` and `cat` with --decompress say what they say of the new image."""
     first, second = run("ls", "--decompress", *words, image), run("ls", *words, out)
@@ -114,6 +137,9 @@ def each_method(folder, image):
         if out := opened(what, image, order, block * 1024):
             compare(what, words, out, folder)
             read_at_once(what, image, out, words)
+            length = packed(what, out, order, block * 1024)
+            if method == "default" and length:
+                print(f"{what}: {os.path.getsize(image)} bytes, by compress {length}")
         what += ", sumtool"
         if out := opened(what, summed(image, order, block), order, block * 1024):
             got = run("ls", *words, out)

@@ -5,17 +5,6 @@
 # Usage: tests/peers/decompress.sh [PROGRAM]. The last line is 'N passed, M failed'; status 77 where
 # the package is missing. It is no part of tests/all.sh. README.md has what was seen.
 set -u
-here=$(cd "$(dirname "$0")" && pwd)
-program=$(realpath "${1:-$here/../../crates/jffs2_image/out/jffs2_image}")
-PATH=$PATH:/usr/sbin:/sbin
-for tool in mkfs.jffs2 sumtool jffs2dump; do
-    if ! command -v "$tool" > /dev/null; then
-        echo "$tool is missing: apt-get install mtd-utils"
-        exit 77
-    fi
-done
-if [[ ! -x $program ]]; then
-    echo "$program is no program: build it by rt run in crates/jffs2_image, or name another"
-    exit 1
-fi
+TOOLS="mkfs.jffs2 sumtool jffs2dump"
+. "$(dirname "$0")/needs.sh"
 exec python3 -B "$here/decompress.py" "$program"

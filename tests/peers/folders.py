@@ -35,6 +35,19 @@ def can_come_back(path, limit):
     return names and kind in (stat.S_IFDIR, stat.S_IFREG, stat.S_IFLNK) and max(is_.st_uid, is_.st_gid) <= limit
 
 
+def is_built(path, limit):
+    """Whether an object is a FIFO or a socket that `listing` and `build` take, and `extract` leaves out."""
+    is_ = os.lstat(path)
+    return is_text(os.path.basename(path)) and stat.S_IFMT(is_.st_mode) in (stat.S_IFIFO, stat.S_IFSOCK) and max(is_.st_uid, is_.st_gid) <= limit
+
+
+def built_below(top, limit):
+    """How many such objects lie below a folder, in directories that come back."""
+    paths = [os.path.join(top, name) for name in os.listdir(top)]
+    below = [path for path in paths if stat.S_ISDIR(os.lstat(path).st_mode) and can_come_back(path, limit)]
+    return sum(is_built(path, limit) for path in paths) + sum(built_below(path, limit) for path in below)
+
+
 def facts(top, limit=1 << 32):
     """What comes back of a folder: of each path kind, permissions, owner, time but for a symlink's, content, and the first path of
     the same object. And how many objects do not come back, those below them not counted."""
@@ -66,9 +79,10 @@ def differences(got, wanted):
 
 
 def told(status, errors, lost):
-    """A line for each object that is left out, and the status 3 where there is one."""
+    """A line for each object that is left out, one for all names in a directory that are no text, and the status 3 where there is one."""
     lines = errors.splitlines()
-    fine = status == (3 if lost else 0) and len(lines) == lost and all(line.startswith("left out ") for line in lines)
+    count = sum(int(line.rpartition(" ")[2]) if ": names that are no text: " in line else 1 for line in lines)
+    fine = status == (3 if lost else 0) and count == lost and all(line.startswith("left out ") for line in lines)
     return [] if fine else [f"status {status}, {lost} are lost: {errors}"]
 
 
@@ -84,11 +98,12 @@ def extracted(what, words, image, new, wanted, lost):
 
 
 def there_and_back(folder, place):
-    """A folder by `listing`, `build` and `extract` is the folder, but for what a listing can't say."""
+    """A folder by `listing`, `build` and `extract` is the folder, but for what a listing can't say, and FIFOs and sockets."""
     wanted, lost = facts(folder, 65535)
+    built = built_below(folder, 65535)
     listing, image = os.path.join(place, "folder.txt"), os.path.join(place, "folder.img")
     status, out, errors = run("listing", folder)
-    test("listing: told", told(status, errors, lost))
+    test("listing: told", told(status, errors, lost - built))
     test("listing: the same again", [] if run("listing", folder)[1] == out else ["another text"])
     with open(listing, "wb") as file:
         file.write(out)
@@ -96,7 +111,7 @@ def there_and_back(folder, place):
         words = ["--block", str(block), "--endian", order]
         status, _, errors = run("build", *words, "--blocks", str(FLASH // block), listing, image)
         test(f"listing, build {order} {block}", [] if status == 0 else [f"status {status}: {errors}"])
-        extracted(f"listing, build, extract {order} {block}", words, image, os.path.join(place, f"back-{order}-{block}"), wanted, 0)
+        extracted(f"listing, build, extract {order} {block}", words, image, os.path.join(place, f"back-{order}-{block}"), wanted, built)
 
 
 def of_another_producer(folder, place):

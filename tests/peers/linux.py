@@ -144,6 +144,7 @@ def inputs(place, given):
     tree.make(folder)
     os.remove(os.path.join(folder, b"kinds/s"))  # the guest's tar has no sockets
     os.mkdir(os.path.join(folder, b"dated"))
+    tree.write(os.path.join(folder, b"dated/text"), text(20000))
     for name, time in ((b"dated/older", 1000), (b"dated/newer", 2000), (b"dated", 3000), (b"", 1234567890)):
         if name.startswith(b"dated/"):
             tree.write(os.path.join(folder, name), b"x")
@@ -153,10 +154,14 @@ def inputs(place, given):
     built = os.path.join(given, "built.img")
     written("built", "build", listing, *FLASH, built, place=place)
     written("built-16384", "build", listing, *FLASH, "--page", "16384", os.path.join(given, "built-16384.img"), place=place)
+    squeezed = os.path.join(given, "squeezed.img")
+    status, told, errors = run("compress", *FLASH[:2], built, squeezed)
+    print(f"squeezed: {told.decode().strip()} {errors}")
+    test("squeezed: compress", [] if status == 0 and re.match(rb"compressed [1-9]", told) else [f"status {status}: {told} {errors}"])
     lines = "".join(line + "\n" for line in writing.change(changed, Parts(place)))
     written("appended", "append", lines, *FLASH, built, os.path.join(given, "appended.img"), place=place)
     produce(os.path.join(given, "mkfs.img"), folder, "-l", "-e", "64KiB")
-    return {"built": folder, "built-16384": folder}
+    return {"built": folder, "built-16384": folder, "squeezed": folder}
 
 
 def unpacked(tar):
@@ -327,7 +332,7 @@ def judge(given, got, sources):
         name = what.removesuffix(".again").removesuffix(".rw")
         image = next(file for file in (os.path.join(top, name + ".img") for top in (got, given)) if os.path.exists(file))
         words = ["--block", "16384" if name.startswith(("nand", "packed_nand")) else "65536"]
-        packed = image if name.startswith("packed") else None
+        packed = image if name.startswith(("packed", "squeezed")) else None
         if packed and not (image := opened(what, words, packed)):
             continue
         if clashes(what, words, image):

@@ -1,7 +1,7 @@
 //! The baseline of the benchmarks: loads a file, and prints the bare checksum of its bytes.
 //!
-//! `bench_crc FILE PIECE ROUNDS` takes the checksum on from piece to piece and from round to round, as
-//! `bench/crc_tables.c` does, which it is compared with.
+//! `bench_crc FILE PIECE ROUNDS` takes the checksum on from piece to piece and from round to round,
+//! as `bench/crc_tables.c` does, which it is compared with.
 #![tactic(auto)]
 
 use flashbase::{FromReader, crc, crc_from, load};

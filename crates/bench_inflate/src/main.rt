@@ -1,10 +1,12 @@
 //! For the benchmarks and for tests/peers/compression.py: decompresses the streams of a file.
 //!
-//! `bench_inflate FILE` compares each with what a peer made of it, and prints for each method how many streams were accepted and
-//! how many refused, and a line for each of another answer. `bench_inflate FILE ROUNDS` only decompresses them, so many times over.
+//! `bench_inflate FILE` compares each with what a peer made of it, and prints for each method how
+//! many streams were accepted and how many refused, and a line for each of another answer.
+//! `bench_inflate FILE ROUNDS` only decompresses them, so many times over.
 //!
-//! A stream is the number of its method, 1 where the peer accepts it and else 0, the length that is asked for and that of its data,
-//! four bytes each, least first, the data, and where the peer accepts them the content.
+//! A stream is the number of its method, 1 where the peer accepts it and else 0, the length that is
+//! asked for and that of its data, four bytes each, least first, the data, and where the peer
+//! accepts them the content.
 #![tactic(auto)]
 
 ghost use Rattle.std.specs.Prelude.{◌<◌};

@@ -1,5 +1,5 @@
-//! For the benchmarks: mounts a file as an image of blocks of 65,536 bytes in little order, and prints the next number that
-//! is free in it.
+//! For the benchmarks: mounts a file as an image of blocks of 65,536 bytes in little order, and
+//! prints the next number that is free in it.
 #![tactic(auto)]
 
 use byteorder::LittleEndian;

@@ -1,5 +1,5 @@
-//! For the benchmarks: mounts a file as an image of blocks of 65,536 bytes in little order, makes an index of it, and takes
-//! operations in its root, each planned and its steps taken.
+//! For the benchmarks: mounts a file as an image of blocks of 65,536 bytes in little order, makes
+//! an index of it, and takes operations in its root, each planned and its steps taken.
 #![tactic(auto)]
 
 use byteorder::LittleEndian;
@@ -36,7 +36,8 @@ fn creates(alloc: Global, count: u32) -> Option<Vec<Op<'static>>> {
     Some(ops)
 }
 
-/// Other names for the files of an image that are `0name0`, `0name1` and so on, one by one and round by round.
+/// Other names for the files of an image that are `0name0`, `0name1` and so on, one by one and
+/// round by round.
 fn renames(alloc: Global, count: u32, files: u32) -> Option<Vec<Op<'static>>> {
     let mut ops = Vec::with_capacity(alloc, count as usize).ok()?;
     for k in 0..count {
@@ -70,8 +71,8 @@ fn take(alloc: Global, index: &mut Index, ops: &[Op<'_>]) -> Option<usize> {
     Some(count)
 }
 
-/// What is done, as the words say it: FILE, a count of operations, and a count of the image's files. A fourth word, whichever,
-/// leaves out the seconds.
+/// What is done, as the words say it: FILE, a count of operations, and a count of the image's
+/// files. A fourth word, whichever, leaves out the seconds.
 #[derive(Drop)]
 struct Job {
     file: String,

@@ -1,8 +1,8 @@
 //! For the benchmarks: weak cuts of nodes of 4,164 bytes, and their checksums.
 //!
-//! `bench_weak WHAT COUNT` takes one of two nodes COUNT times, and prints a sum of what it got. WHAT is `crc`, the
-//! checksum of the node; `cut`, its least weak cut; or `worst`, the same of nodes whose node_crc is 0xFFFFFFFF, so that
-//! only the checksum of the data shows a cut in it.
+//! `bench_weak WHAT COUNT` takes one of two nodes COUNT times, and prints a sum of what it got.
+//! WHAT is `crc`, the checksum of the node; `cut`, its least weak cut; or `worst`, the same of
+//! nodes whose node_crc is 0xFFFFFFFF, so that only the checksum of the data shows a cut in it.
 #![tactic(auto)]
 
 ghost use Rattle.jnode.specs.Weak.{IsWrittenNode};

@@ -1,7 +1,7 @@
 //! Prints a file of an image: `example_read IMAGE PATH`.
 //!
-//! It reads the image into memory, mounts it, looks the path up, and puts the file's bytes to standard
-//! output. Blocks are of 8,192 bytes, numbers in little order.
+//! It reads the image into memory, mounts it, looks the path up, and puts the file's bytes to
+//! standard output. Blocks are of 8,192 bytes, numbers in little order.
 #![tactic(auto)]
 
 use anyhow::{Context, Result, bail};

@@ -1,7 +1,8 @@
-//! Writes two files into an image in memory, cuts it as a power failure would, and mounts what is left.
+//! Writes two files into an image in memory, cuts it as a power failure would, and mounts what is
+//! left.
 //!
-//! For each length it prints the names of the file system that is left, and the sizes of their files.
-//! The end of an image that is missing counts as erased flash.
+//! For each length it prints the names of the file system that is left, and the sizes of their
+//! files. The end of an image that is missing counts as erased flash.
 #![tactic(auto)]
 
 use anyhow::{Context, Result};
@@ -41,7 +42,8 @@ fn print_names(rt: &impl Print, alloc: Global, image: &[u8]) -> Result<()> {
 
 fn main(rt: HostRuntime) -> Result<()> {
     let image = build(rt.alloc())?;
-    // All of it; then cuts inside the write of the second file, the write of the first, and its name.
+    // All of it; then cuts inside the write of the second file, the write of the first, and its
+    // name.
     for length in [image.len(), 330, 150, 100] {
         println!(&rt; "{length} bytes")?;
         if let Some(left) = image.get(..length) {

@@ -1,4 +1,5 @@
-//! The checksum of JFFS2: `crc32(0, ..)` of the Linux kernel, as include/uapi/linux/jffs2.h uses it.
+//! The checksum of JFFS2: `crc32(0, ..)` of the Linux kernel, as include/uapi/linux/jffs2.h uses
+//! it.
 
 ghost use Rattle.std.specs.Prelude.{◌≡◌, ◌≤◌, ◌++◌, length, replicate};
 ghost use Rattle.std.specs.Int.{w64, to_le_bytes};
@@ -6,15 +7,16 @@ ghost use Rattle.flashbase.specs.Crc.{crc_after, crc_of, push_byte};
 
 use crate::tables::table_entry;
 
-/// The checksum of the bytes: the reflected 32-bit remainder by the polynomial 0xEDB88320, which starts at 0
-/// and is not changed at the end.
+/// The checksum of the bytes: the reflected 32-bit remainder by the polynomial 0xEDB88320, which
+/// starts at 0 and is not changed at the end.
 pub fn crc(bytes: &[u8]) -> u32
     ensures { result ≡ crc_of bytes.now }
 {
     crc_from(0, bytes)
 }
 
-/// The checksum that was `start`, continued by the bytes: `crc_from(crc(a), b)` is that of `a` and then `b`.
+/// The checksum that was `start`, continued by the bytes: `crc_from(crc(a), b)` is that of `a` and
+/// then `b`.
 pub fn crc_from(start: u32, bytes: &[u8]) -> u32
     ensures { result ≡ crc_after start bytes.now }
 {
@@ -54,8 +56,9 @@ fn push_eight(remainder: u32, bytes: &[u8; 8]) -> u32
     share_of_eight(u64::from(remainder) ^ u64::from_le_bytes(*bytes), 0)
 }
 
-/// The checksum of the eight bytes of a word, the lowest first, and then `zeros` bytes 0. The last bytes are looked up
-/// first: the remainder goes into the first ones, and the others need not wait for it.
+/// The checksum of the eight bytes of a word, the lowest first, and then `zeros` bytes 0. The last
+/// bytes are looked up first: the remainder goes into the first ones, and the others need not wait
+/// for it.
 fn share_of_eight(word: u64, zeros: usize) -> u32
     requires { zeros ≤ 8 }
     ensures { result ≡ crc_of (to_le_bytes w64 word ++ replicate zeros 0) }

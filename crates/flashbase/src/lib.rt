@@ -1,13 +1,15 @@
-//! The ground of flash images: checksums, padding, erased runs, parts of a block, sources and sinks.
+//! The ground of flash images: checksums, padding, erased runs, parts of a block, sources and
+//! sinks.
 //!
-//! It is built on no other crate of the repository. What it promises those above it: `crc` is the remainder taken bit
-//! by bit, `load` gives the rest of a source, and a `put_all` that fails took exactly a beginning.
+//! It is built on no other crate of the repository. What it promises those above it: `crc` is the
+//! remainder taken bit by bit, `load` gives the rest of a source, and a `put_all` that fails took
+//! exactly a beginning.
 //!
 //! - `crc`, `crc_from`: the checksum that nodes bear, of bytes, whole or going on from another.
 //! - `pad4`, `erased_run`: lengths up to whole words, and how much of flash is still erased.
 //! - `Part`: a slice and after it the bytes that an image lacks, seen as one list.
-//! - `Source` and `load`, `Sink` and `put_all`: devices that give and take bytes and count their failures;
-//!   `FromReader` and `FromWriter` make them of std's readers and writers.
+//! - `Source` and `load`, `Sink` and `put_all`: devices that give and take bytes and count their
+//!   failures; `FromReader` and `FromWriter` make them of std's readers and writers.
 //! - The laws of the definitions in `specs/`, each the contract of a function that does nothing.
 #![tactic(auto)]
 

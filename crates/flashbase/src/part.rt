@@ -7,7 +7,8 @@ ghost use Rattle.flashbase.specs.Crc.{crc_of};
 use crate::checksum::{crc, crc_from};
 use std::marker::Model;
 
-/// Bytes of a block, as one list: those that the image has, and then missing ones, which count as 0xFF.
+/// Bytes of a block, as one list: those that the image has, and then missing ones, which count as
+/// 0xFF.
 #[derive(Drop)]
 pub struct Part<'a> {
     present: &'a [u8],

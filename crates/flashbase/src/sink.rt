@@ -23,7 +23,8 @@ pub trait Sink: Drop {
             bytes.now result };
 }
 
-/// Writes bytes by one call, and counts a failure: an error, also one that only interrupts, or nothing taken of a nonempty slice.
+/// Writes bytes by one call, and counts a failure: an error, also one that only interrupts, or
+/// nothing taken of a nonempty slice.
 pub fn write_once<W: Write>(
     writer: &mut W,
     failures: &mut u64,
@@ -46,7 +47,8 @@ pub fn write_once<W: Write>(
     }
 }
 
-/// A sink over a writer. A call that was interrupted, or that takes nothing of a nonempty slice, is a failure.
+/// A sink over a writer. A call that was interrupted, or that takes nothing of a nonempty slice, is
+/// a failure.
 #[derive(Drop)]
 pub struct FromWriter<W: Write + Drop> {
     writer: W,

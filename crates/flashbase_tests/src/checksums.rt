@@ -93,7 +93,8 @@ fn padding(rt: HostRuntime) {
     }
 }
 
-/// Every length on either side of a vector of lanes, and every place of the one byte that is not erased.
+/// Every length on either side of a vector of lanes, and every place of the one byte that is not
+/// erased.
 #[test]
 fn erased_runs(rt: HostRuntime) {
     erased_run_is_longest();

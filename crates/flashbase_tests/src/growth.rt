@@ -4,7 +4,8 @@ use crate::checks::{equal, expect};
 use flashbase::{LoadFault, load};
 use test_support::Giver;
 
-/// Passes with each allocation failing in turn too: memory is then blamed and no device, and what the source has left can be loaded.
+/// Passes with each allocation failing in turn too: memory is then blamed and no device, and what
+/// the source has left can be loaded.
 #[test]
 fn refused_growth_is_want_of_memory(rt: HostRuntime) {
     let text = b"the quick brown fox jumps over the lazy dog".as_slice();

@@ -27,8 +27,8 @@ fn end_of(from: u32, places: &[Place]) -> u64
     }
 }
 
-/// Puts the line that tells of operations that were all accepted: how many, how many nodes they have, and how many bytes
-/// went out for them from the address `from` on.
+/// Puts the line that tells of operations that were all accepted: how many, how many nodes they
+/// have, and how many bytes went out for them from the address `from` on.
 pub fn put_accepted<T: Sink>(
     from: u32,
     ops: usize,

@@ -28,13 +28,15 @@ fn put_front<S: Sink>(sink: &mut S, base: &[u8], from: usize) -> Result<(), PutF
     put_erased(sink, from - base.len())
 }
 
-/// Puts a mounted image's bytes up to where writing goes on, erased flash for those that it lacks, and then runs operations on
-/// it, with bytes cut where a page of this size of a file ends. Answers the sink and what the run did. It is in `E`'s order
-/// and of the geometry that the image was mounted with.
+/// Puts a mounted image's bytes up to where writing goes on, erased flash for those that it lacks,
+/// and then runs operations on it, with bytes cut where a page of this size of a file ends. Answers
+/// the sink and what the run did. It is in `E`'s order and of the geometry that the image was
+/// mounted with.
 ///
 /// # Errors
-/// Nothing was run, and the sink is handed back. `ReadOnly` and `Geometry` as [`Session::resume_paged`] answers them: the sink
-/// is as it was. `Sink`: it failed at the image's bytes. Out of memory: after all of them.
+/// Nothing was run, and the sink is handed back. `ReadOnly` and `Geometry` as
+/// [`Session::resume_paged`] answers them: the sink is as it was. `Sink`: it failed at the image's
+/// bytes. Out of memory: after all of them.
 pub fn emit<E: Order, S: Sink>(
     alloc: Global,
     mounted: &Mounted<'_>,

@@ -2,7 +2,8 @@
 
 ghost use Rattle.jbuild.specs.Length.{LineTellsLength, PlacesTellLength};
 
-/// The number of bytes in the line on operations that were all accepted is the length of what went out for them.
+/// The number of bytes in the line on operations that were all accepted is the length of what went
+/// out for them.
 pub fn line_tells_length()
     ensures places { PlacesTellLength }
     ensures line { LineTellsLength }

@@ -20,8 +20,8 @@ fn operation<'b, 'a: 'b>(line: Line<'a>, parts: &'b Parts) -> Op<'b>
     line.action.op(bytes)
 }
 
-/// The operations of the lines of a listing, in order. They borrow the bytes of the files that the lines name; one that was
-/// not read has none.
+/// The operations of the lines of a listing, in order. They borrow the bytes of the files that the
+/// lines name; one that was not read has none.
 pub fn operations<'b, 'a: 'b>(
     alloc: Global,
     lines: Vec<Line<'a>>,

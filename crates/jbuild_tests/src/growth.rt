@@ -66,8 +66,8 @@ fn is_told(row: &Row<'_>, report: &RunReport) -> bool {
         && line.rest.is_empty()
 }
 
-/// Why not all was accepted, and how many bytes went out; none where the bytes and the line are right. What is refused before
-/// `emit` counts as its want of memory.
+/// Why not all was accepted, and how many bytes went out; none where the bytes and the line are
+/// right. What is refused before `emit` counts as its want of memory.
 fn fault(alloc: Global, row: &Row<'_>, whole: &[u8]) -> Option<(SessionFault, usize)> {
     let sink = Matcher {
         rest: whole,
@@ -102,9 +102,9 @@ const ROWS: [Row<'static>; 2] = [
     },
 ];
 
-/// Whether a growth that is refused is told as such, before the base's bytes or after them, and the next call, with memory,
-/// answers as if there had been none before. Where the memory for what is to go out is refused, also to the sink that keeps it,
-/// no more is asked.
+/// Whether a growth that is refused is told as such, before the base's bytes or after them, and the
+/// next call, with memory, answers as if there had been none before. Where the memory for what is
+/// to go out is refused, also to the sink that keeps it, no more is asked.
 fn holds(alloc: Global, row: &Row<'_>) -> bool {
     let whole = match output_of(alloc, row) {
         Ok(whole) => whole,

@@ -1,8 +1,9 @@
-//! Worked listings: what goes out for them on a base and what is told, from the rules of the format and not from the
-//! program's output.
+//! Worked listings: what goes out for them on a base and what is told, from the rules of the format
+//! and not from the program's output.
 //!
-//! `runs` takes a text to its bytes and its report, `built` has listings on an empty base, `appended` on others, `parted` the
-//! files that listings name, `paged` larger pages, `sinks` sinks that fail or take little, and `growth` memory that is refused.
+//! `runs` takes a text to its bytes and its report, `built` has listings on an empty base,
+//! `appended` on others, `parted` the files that listings name, `paged` larger pages, `sinks` sinks
+//! that fail or take little, and `growth` memory that is refused.
 #![tactic(auto)]
 
 #[cfg(test)]

@@ -1,4 +1,5 @@
-//! Larger pages: blocks that do not hold them. Where the nodes of a file go is in tests/listings.py.
+//! Larger pages: blocks that do not hold them. Where the nodes of a file go is in
+//! tests/listings.py.
 
 use crate::checks::{equal, expect};
 use byteorder::LittleEndian;

@@ -82,6 +82,11 @@ abbrev pub decompress_app : App
 decompress_app = with_rule (with_rule (plain_command (codes "decompress")) (word (codes "IMAGE")))
     (word (codes "OUT"))
 
+-- `compress [--block N] [--endian ORDER] IMAGE OUT`
+abbrev pub compress_app : App
+compress_app = with_rule (with_rule (plain_command (codes "compress")) (word (codes "IMAGE")))
+    (word (codes "OUT"))
+
 -- `extract [--decompress] [--block N] [--endian ORDER] [--owners] [--quiet] IMAGE DIR`
 abbrev pub extract_app : App
 extract_app = with_rule
@@ -105,6 +110,11 @@ abbrev pub cuts_app : App
 cuts_app =
     with_rule (with_rule (writer (codes "cuts")) (option_of (codes "on"))) (word (codes "LISTING"))
 
+-- `diff [--times] [--block N] [--endian ORDER] A B`
+abbrev pub diff_app : App
+diff_app = with_rule (with_rule (with_rule (plain_command (codes "diff")) (flag (codes "times")))
+    (word (codes "A"))) (word (codes "B"))
+
 -- the program without its subcommands, of which one has to be named; it tells its version
 abbrev pub bare : App
 bare = let app = new_app (codes "jffs2_image") in record app
@@ -117,9 +127,11 @@ program = with_subcommand
     (with_subcommand
     (with_subcommand
     (with_subcommand
+    (with_subcommand
+    (with_subcommand
     (with_subcommand (with_subcommand (with_subcommand (with_subcommand bare
     check_app.top) ls_app.top) cat_app.top) build_app.top) append_app.top) decompress_app.top)
-    extract_app.top) listing_app.top) info_app.top) cuts_app.top
+    compress_app.top) extract_app.top) listing_app.top) info_app.top) cuts_app.top) diff_app.top
 
 -- ---- what is made
 

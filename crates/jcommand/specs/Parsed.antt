@@ -82,14 +82,17 @@ view (request.Append target decompress image listing) = AppendParsed target.opti
     target.page decompress image.now listing.now target.output.now
 view (request.Decompress options image output) = DecompressParsed options image.now output.now
 
--- the same of a task: a request of an image, one that works with a folder of the host, or what an
--- image tells of itself
+-- the same of a task: a request of an image, one that works with a folder of the host, what an
+-- image tells of itself, what stands after a stop, an image that is compressed, or what two images
+-- differ in
 pub data TaskParsed : Type 0 where
   ImageParsed : Parsed → TaskParsed
   ExtractParsed : Options → Bool → Bool → Bool → Text → Text → TaskParsed
   ListingParsed : Option Owner → Option ℕ → Bool → Text → TaskParsed
   InfoParsed : Text → TaskParsed
   CutsParsed : Options → ℕ → Page → Option Text → Text → TaskParsed
+  CompressParsed : Options → Text → Text → TaskParsed
+  DiffParsed : Options → Bool → Text → Text → TaskParsed
 
 abbrev pub task_view : Task → TaskParsed
 task_view (task.Image r) = ImageParsed (view r)
@@ -99,6 +102,8 @@ task_view (task.Listing l) = ListingParsed l.owner l.time l.quiet l.folder.now
 task_view (task.Info image) = InfoParsed image.now
 task_view (task.Cuts x) =
     CutsParsed x.options x.blocks x.page (option_map (λ name. name.now) x.on) x.listing.now
+task_view (task.Compress c) = CompressParsed c.options c.image.now c.output.now
+task_view (task.Diff d) = DiffParsed d.options d.times d.first.now d.second.now
 
 abbrev pub options_of : Request → Options
 options_of (request.Scan options image) = options
@@ -185,6 +190,15 @@ cuts_in rows = options_in rows >>= λ options. number_option (codes "blocks") ro
     first_of (codes "LISTING") rows >>= λ listing.
     Some (CutsParsed options blocks page (first_of (codes "on") rows) listing)
 
+abbrev pub compress_in : List Row → Option TaskParsed
+compress_in rows = image_in rows >>= λ p. first_of (codes "OUT") rows >>= λ output.
+    Some (CompressParsed p.0 p.1 output)
+
+abbrev pub diff_in : List Row → Option TaskParsed
+diff_in rows = options_in rows >>= λ options. first_of (codes "A") rows >>= λ first.
+    first_of (codes "B") rows >>= λ second.
+    Some (DiffParsed options (is_given (first_of (codes "times") rows)) first second)
+
 -- what the subcommand of this name asks for, with these rows; None where it is no subcommand or a
 -- value can't be read
 unfoldable pub parsed : Text → List Row → Option TaskParsed
@@ -199,6 +213,8 @@ parsed name rows =
     else if bytes_eq name (codes "listing") then listing_in rows
     else if bytes_eq name (codes "info") then info_in rows
     else if bytes_eq name (codes "cuts") then cuts_in rows
+    else if bytes_eq name (codes "compress") then compress_in rows
+    else if bytes_eq name (codes "diff") then diff_in rows
     else None
 
 abbrev pub parsed_by : Option (Text × List Row) → Option TaskParsed
@@ -243,10 +259,13 @@ abbrev pub IsOfImage : Option TaskParsed → Type 0
 IsOfImage (Some (ImageParsed p)) = Unit {0}
 IsOfImage _ = ⊥
 
--- they ask to fill or to read a folder, or for what an image tells of itself
+-- they ask to fill or to read a folder, for what an image tells of itself, for what stands after a
+-- stop, to compress one, or for what two images differ in
 abbrev pub IsNoRequest : Option TaskParsed → Type 0
 IsNoRequest (Some (ExtractParsed options decompress owners quiet image folder)) = Unit {0}
 IsNoRequest (Some (ListingParsed owner time quiet folder)) = Unit {0}
 IsNoRequest (Some (InfoParsed image)) = Unit {0}
 IsNoRequest (Some (CutsParsed options blocks page on listing)) = Unit {0}
+IsNoRequest (Some (CompressParsed options image output)) = Unit {0}
+IsNoRequest (Some (DiffParsed options times first second)) = Unit {0}
 IsNoRequest _ = ⊥

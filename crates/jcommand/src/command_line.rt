@@ -90,7 +90,8 @@ fn parsed_in<'a>(matches: &ArgMatches<'a>) -> Option<Task<'a>>
     parsed_of(name, found)
 }
 
-/// Of a subcommand that reads a folder, the first value that can't be read, its option, and what is wanted there.
+/// Of a subcommand that reads a folder, the first value that can't be read, its option, and what is
+/// wanted there.
 fn unreadable_setting<'a>(found: &ArgMatches<'a>) -> (&'a str, &'a str, &'a str) {
     let wanted = "two numbers in decimal digits, below 65536";
     for value in texts_at(found, "owner").unwrap_or(&[]) {
@@ -169,8 +170,8 @@ pub fn task<'a>(alloc: Global, args: &'a [&'a str]) -> Result<Task<'a>, RequestF
     }
 }
 
-/// The request that the words of a command line make of an image: what `task` answers, but for a command on a folder and for
-/// `info`, which are refused.
+/// The request that the words of a command line make of an image: what `task` answers, but for a
+/// command on a folder, `info`, `cuts`, `compress` and `diff`, which are refused.
 pub fn request<'a>(alloc: Global, args: &'a [&'a str]) -> Result<Request<'a>, RequestFault>
     // The subcommand and its values are clap's own function of the words.
     ensures ok { IfOk result
@@ -197,9 +198,17 @@ pub fn request<'a>(alloc: Global, args: &'a [&'a str]) -> Result<Request<'a>, Re
 {
     match task(alloc, args) {
         Ok(Task::Image(request)) => Ok(request),
-        Ok(Task::Extract(_) | Task::Listing(_) | Task::Info { .. } | Task::Cuts(_)) => Err(usage(
-            String::from_str(alloc, "error: the command makes no request of an image\n"),
-        )),
+        Ok(
+            Task::Extract(_)
+            | Task::Listing(_)
+            | Task::Info { .. }
+            | Task::Cuts(_)
+            | Task::Compress(_)
+            | Task::Diff(_),
+        ) => Err(usage(String::from_str(
+            alloc,
+            "error: the command makes no request of an image\n",
+        ))),
         Err(fault) => Err(fault),
     }
 }

@@ -1,7 +1,8 @@
-//! The command line, built with clap: the program, its subcommands, and the words that each one takes.
+//! The command line, built with clap: the program, its subcommands, and the words that each one
+//! takes.
 ghost use Rattle.std.specs.Prelude.{◌≡◌, Ok};
 ghost use Rattle.clap.specs.Words.{App, Rule, new_app, with_rule, with_subcommand};
-ghost use Rattle.jcommand.specs.Commands.{IsApp, IsRule, MakesApp, word, optional_word, option_or, required_option, option_of, option_of_two, flag, plain_command, writer, check_app, ls_app, cat_app, build_app, append_app, decompress_app, extract_app, listing_app, info_app, cuts_app, bare, program};
+ghost use Rattle.jcommand.specs.Commands.{IsApp, IsRule, MakesApp, word, optional_word, option_or, required_option, option_of, option_of_two, flag, plain_command, writer, check_app, ls_app, cat_app, build_app, append_app, decompress_app, compress_app, extract_app, listing_app, info_app, cuts_app, diff_app, bare, program};
 
 use crate::help;
 use clap::{Arg, ArgAction, Command};
@@ -192,6 +193,15 @@ fn make_decompress<'a>(alloc: Global) -> Made<'a>
     add_arg(add_arg(command, image), output)
 }
 
+fn make_compress<'a>(alloc: Global) -> Made<'a>
+    ensures { MakesApp result compress_app }
+{
+    let image = make_word(alloc, "IMAGE", help::IMAGE);
+    let output = make_word(alloc, "OUT", help::OUT);
+    let command = make_plain(alloc, "compress", help::COMPRESS, help::COMPRESS_EPILOGUE);
+    add_arg(add_arg(command, image), output)
+}
+
 fn make_extract<'a>(alloc: Global) -> Made<'a>
     ensures { MakesApp result extract_app }
 {
@@ -236,6 +246,16 @@ fn make_cuts<'a>(alloc: Global) -> Made<'a>
     add_arg(add_arg(command, on), listing)
 }
 
+fn make_diff<'a>(alloc: Global) -> Made<'a>
+    ensures { MakesApp result diff_app }
+{
+    let times = make_flag(alloc, "times", help::TIMES);
+    let first = make_word(alloc, "A", help::FIRST);
+    let second = make_word(alloc, "B", help::SECOND);
+    let command = make_plain(alloc, "diff", help::DIFF, help::DIFF_EPILOGUE);
+    add_arg(add_arg(add_arg(command, times), first), second)
+}
+
 /// The program without its subcommands.
 fn make_bare<'a>(alloc: Global) -> Command<'a>
     ensures { IsApp result bare }
@@ -255,8 +275,10 @@ pub(crate) fn make_program<'a>(alloc: Global) -> Made<'a>
     let command = add_subcommand(command, make_build(alloc));
     let command = add_subcommand(command, make_append(alloc));
     let command = add_subcommand(command, make_decompress(alloc));
+    let command = add_subcommand(command, make_compress(alloc));
     let command = add_subcommand(command, make_extract(alloc));
     let command = add_subcommand(command, make_listing(alloc));
     let command = add_subcommand(command, make_info(alloc));
-    add_subcommand(command, make_cuts(alloc))
+    let command = add_subcommand(command, make_cuts(alloc));
+    add_subcommand(command, make_diff(alloc))
 }

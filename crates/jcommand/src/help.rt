@@ -17,15 +17,19 @@ pub(crate) const APPEND: &str = "Copy an image, and extend the copy by a listing
 
 pub(crate) const DECOMPRESS: &str = "Copy an image, and decompress the data in the copy";
 
+pub(crate) const COMPRESS: &str = "Copy an image, and compress the data in the copy";
+
 pub(crate) const EXTRACT: &str = "Write the tree of an image into a new folder of this host";
 
 pub(crate) const LISTING_OF: &str = "Print the listing that builds a folder of this host";
 
 pub(crate) const INFO: &str = "Print what an image shows of its byte order, blocks and nodes";
 
-pub(crate) const CUTS: &str = "Print from which byte on each step of a listing stands after a stop";
+pub(crate) const CUTS: &str = "Print from which byte on each step of a listing survives a stop";
 
 pub(crate) const ON: &str = "Image that is gone on from, as by append";
+
+pub(crate) const DIFF: &str = "Print where the trees of two images differ";
 
 pub(crate) const BLOCK: &str = "Erase block size: 4096 to 4194304 bytes";
 
@@ -40,6 +44,12 @@ pub(crate) const SCAN: &str = "Print the report alone, and do not mount";
 pub(crate) const SHAPE: &str = "Print last whether the directories make a tree";
 
 pub(crate) const IMAGE: &str = "File with the bytes of the flash";
+
+pub(crate) const FIRST: &str = "File with the bytes of the first image";
+
+pub(crate) const SECOND: &str = "File with the bytes of the second image";
+
+pub(crate) const TIMES: &str = "Compare times of change too, and print them";
 
 pub(crate) const DECOMPRESSED: &str = "Take the image as decompress would write it";
 
@@ -72,7 +82,8 @@ listing is, 'jffs2_image help check' what check prints, and so for the others.
 
 The data of an image that Linux or mkfs.jffs2 wrote are often compressed. ls,
 cat, append and extract take them with --decompress, and decompress makes an
-image without them.
+image without them. What build writes is not compressed: compress makes an image
+of it that is shorter.
 
 Examples:
   jffs2_image info flash.img
@@ -83,15 +94,17 @@ Examples:
   jffs2_image append --blocks 64 flash.img more.txt new.img
   jffs2_image cuts --blocks 64 --on flash.img more.txt
   jffs2_image decompress dump.img flash.img
+  jffs2_image compress flash.img small.img
   jffs2_image extract --decompress dump.img tree
   jffs2_image listing tree > tree.txt
+  jffs2_image diff old.img new.img
 
 Exit status:
   0  done, and nothing was found
   1  a fault, which standard error names
   2  the command line is wrong
-  3  check found something, info no node, cuts a weak node, or extract or
-     listing left something out
+  3  check found something, diff a difference, info no node, cuts a weak
+     node, or extract or listing left something out
 
 A fault is one line, as 'jffs2_image: M6 RootKind'. Its letter says what gave
 up: C the report, L reading a file, M the mount, Z compressed data, S the
@@ -278,6 +291,33 @@ Exit status:
   1  a fault, which standard error names
   2  the command line is wrong";
 
+pub(crate) const COMPRESS_EPILOGUE: &str = "\
+OUT has the nodes of IMAGE in the order of their addresses, from the first block
+on. The data of regular files are compressed there, by ZLIB, where the node then
+is shorter; all else stands as it does in IMAGE, since Linux reads symlinks and
+devices as they stand. decompress gives the nodes of IMAGE back. What makes no
+part of the file system is left out: markers, padding, obsolete and damaged
+nodes, extended attributes and dirt. A note on standard error counts damage and
+dirt in IMAGE, as for ls.
+
+'compressed C nodes N bytes B' is printed: OUT has N nodes and B bytes, and C of
+the nodes are compressed. All else is judged before OUT is made. M4 Compressed:
+a node of IMAGE is compressed already; give the image to decompress first. Z2
+TooLong: a node does not fit into a block after a marker.
+
+IMAGE and OUT can be one file, since IMAGE is held in memory before OUT is made.
+But if the power, the host or the disk fails while OUT is written, the old bytes
+are gone.
+
+Examples:
+  jffs2_image build --blocks 64 tree.txt flash.img
+  jffs2_image compress flash.img small.img
+
+Exit status:
+  0  done
+  1  a fault, which standard error names
+  2  the command line is wrong";
+
 pub(crate) const EXTRACT_EPILOGUE: &str = "\
 DIR is made, and in it each directory, regular file and symlink of the image,
 with its permissions and times; --owners gives owners too, for which this host
@@ -304,16 +344,16 @@ pub(crate) const LISTING_EPILOGUE: &str = "\
 The listing goes to standard output. 'jffs2_image build' reads it, and
 'jffs2_image help build' tells what it means. Names are in byte order, so one
 folder has one listing, which can be edited and kept. The content of a file is
-not in it: a line 'part' names the file, from the working directory where DIR is
-no path from /. A file whose path has a space or a line feed, which no such line
-can name, has its bytes in lines 'write'.
+not in it: a line 'file' names the file, from the working directory where DIR is
+no path from /.
 
-Hard links become lines 'link'. Symlinks are never followed. --owner and --time
-take the place of those of the folder: with them the listing is the same whoever
-makes it and whenever. What a listing can't say is left out, each with a line
-'left out PATH: REASON' on standard error: sockets, FIFOs and devices, names
-above 254 bytes or that are no text, files above 268435456 bytes, owners above
-65535 and times that 32 bits do not hold. The rest goes on.
+Hard links become lines 'link', FIFOs and sockets lines 'fifo' and 'socket'.
+Symlinks are never followed. --owner and --time take the place of those of the
+folder: with them the listing is the same whoever makes it and whenever. What a
+listing can't say is left out, each with a line 'left out PATH: REASON' on
+standard error: devices, names above 254 bytes or that are no text, files above
+268435456 bytes, owners above 65535 and times that 32 bits do not hold. The rest
+goes on.
 
 Examples:
   jffs2_image listing tree > tree.txt
@@ -387,3 +427,27 @@ Exit status:
   1  a fault, which standard error names
   2  the command line is wrong
   3  a node is weak";
+
+pub(crate) const DIFF_EPILOGUE: &str = "\
+Both images are mounted with the same --block and --endian. It prints a line for
+each path at which their trees differ; a directory stands before what lies in
+it, and names are in byte order:
+
+  - LINE            only A has the path
+  + LINE            only B has it
+  - LINE, + LINE    both have it, and kind, permissions, owner, group, size or
+                    target differ, or with --times the time of change
+  * PATH at OFFSET  only the bytes differ, from this offset on
+
+LINE is that of ls without the inode number, and without the time of change
+unless --times is given: 'jffs2_image help ls' tells what it is. A directory
+that was met before is not entered again.
+
+Example:
+  jffs2_image diff --block 131072 old.img new.img
+
+Exit status:
+  0  done, and nothing was printed
+  1  a fault, which standard error names
+  2  the command line is wrong
+  3  a difference was printed";

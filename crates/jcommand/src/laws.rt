@@ -3,7 +3,7 @@ ghost use Rattle.std.specs.Prelude.{◌≡◌, true, false, [], ◌∷◌, Some,
 ghost use Rattle.clap.specs.Words.{fault_of};
 ghost use Rattle.clap.specs.declared.error.ErrorKind.TheVariants.{DisplayHelp, DisplayVersion, MissingSubcommand, MissingRequiredArgument, UnknownArgument, WrongNumberOfValues};
 ghost use Rattle.jnode.specs.declared.order.Endian.TheVariants.{Little, Big};
-ghost use Rattle.jcommand.specs.Parsed.{ScanParsed, CheckParsed, ListParsed, CatParsed, BuildParsed, AppendParsed, DecompressParsed, ImageParsed, ExtractParsed, ListingParsed, InfoParsed, CutsParsed, parsed_from, endian_of, decimal_number, owner_of, page_of};
+ghost use Rattle.jcommand.specs.Parsed.{ScanParsed, CheckParsed, ListParsed, CatParsed, BuildParsed, AppendParsed, DecompressParsed, ImageParsed, ExtractParsed, ListingParsed, InfoParsed, CompressParsed, CutsParsed, DiffParsed, parsed_from, endian_of, decimal_number, owner_of, page_of};
 ghost use Rattle.jsteps.specs.declared.page.Page.TheVariants.{P4096, P8192, P16384};
 ghost use Rattle.jcommand.specs.Commands.{program};
 
@@ -95,6 +95,20 @@ pub fn known_requests()
         ∷ codes "--blocks=2" ∷ codes "a" ∷ [])
         ≡ Some (CutsParsed (record { geometry = record { block = 65536 }; endian = Little }) 2 P8192
         None (codes "a")) }
+    ensures compressed { parsed_from
+        (codes "jffs2_image" ∷ codes "compress" ∷ codes "a" ∷ codes "--endian=big" ∷ codes "b"
+        ∷ [])
+        ≡ Some (CompressParsed (record { geometry = record { block = 65536 }; endian = Big })
+        (codes "a") (codes "b")) }
+    ensures compared { parsed_from
+        (codes "jffs2_image" ∷ codes "diff" ∷ codes "a" ∷ codes "--block=8192" ∷ codes "b" ∷ [])
+        ≡ Some (DiffParsed (record { geometry = record { block = 8192 }; endian = Little }) false
+        (codes "a") (codes "b")) }
+    ensures compared_with_times { parsed_from
+        (codes "jffs2_image" ∷ codes "diff" ∷ codes "--times" ∷ codes "--endian=big" ∷ codes "a"
+        ∷ codes "b" ∷ [])
+        ≡ Some (DiffParsed (record { geometry = record { block = 65536 }; endian = Big }) true
+        (codes "a") (codes "b")) }
 {}
 
 /// Words that ask for nothing.
@@ -125,9 +139,13 @@ pub fn known_refusals()
         ∷ codes "--decompress" ∷ codes "a" ∷ []) ≡ UnknownArgument ∷ [] }
     ensures not_decompressed { fault_of program
         (codes "jffs2_image" ∷ codes "decompress" ∷ codes "a" ∷ []) ≡ MissingRequiredArgument ∷ [] }
+    ensures not_compressed { fault_of program
+        (codes "jffs2_image" ∷ codes "compress" ∷ codes "a" ∷ []) ≡ MissingRequiredArgument ∷ [] }
     ensures not_of_info { fault_of program (codes "jffs2_image" ∷ codes "info"
         ∷ codes "--block=4096" ∷ codes "a" ∷ []) ≡ UnknownArgument ∷ [] }
     ensures no_flash { fault_of program (codes "jffs2_image" ∷ codes "cuts" ∷ codes "a" ∷ [])
+        ≡ MissingRequiredArgument ∷ [] }
+    ensures no_second { fault_of program (codes "jffs2_image" ∷ codes "diff" ∷ codes "a" ∷ [])
         ≡ MissingRequiredArgument ∷ [] }
     ensures no_folder { fault_of program (codes "jffs2_image" ∷ codes "extract" ∷ codes "a" ∷ [])
         ≡ MissingRequiredArgument ∷ [] }

@@ -1,15 +1,16 @@
-//! The command line of `jffs2_image`: the words that it takes, what they ask for, and how a run ends.
+//! The command line of `jffs2_image`: the words that it takes, what they ask for, and how a run
+//! ends.
 //!
-//! It is built on clap, whose matches are a function of the command and the words, on `jnode` for the byte order of an
-//! image and on `jscan` for its geometry. Its promise to the program: what a request asks for is that function of the
-//! words, and each refusal is due.
+//! It is built on clap, whose matches are a function of the command and the words, on `jnode` for
+//! the byte order of an image and on `jscan` for its geometry. Its promise to the program: what a
+//! request asks for is that function of the words, and each refusal is due.
 //!
-//! - `commands`: the program, its subcommands, and the words that each one takes; `specs/Commands.antt` has the same as
-//!   clap sees it.
+//! - `commands`: the program, its subcommands, and the words that each one takes;
+//!   `specs/Commands.antt` has the same as clap sees it.
 //! - `help`: the texts of the help.
 //! - `parsed`: what clap's matches ask for, `specs/Parsed.antt`.
-//! - `command_line`: `task`, which takes the words to a `Task` or to the text that answers them, and `request`, the same of
-//!   an image alone; `specs/Refused.antt`.
+//! - `command_line`: `task`, which takes the words to a `Task` or to the text that answers them,
+//!   and `request`, the same of an image alone; `specs/Refused.antt`.
 //! - `outcome`: how the program ends, and its exit status; `specs/Status.antt`.
 //! - `laws`: worked command lines.
 #![tactic(auto)]
@@ -23,4 +24,6 @@ mod parsed;
 
 pub use crate::command_line::{RequestFault, request, task};
 pub use crate::outcome::{Outcome, status};
-pub use crate::parsed::{Cuts, Extraction, FolderListing, Options, Owner, Request, Target, Task};
+pub use crate::parsed::{
+    Comparison, Compression, Cuts, Extraction, FolderListing, Options, Owner, Request, Target, Task,
+};

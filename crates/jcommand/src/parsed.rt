@@ -1,7 +1,7 @@
 //! What the matches of the program's command line ask for.
 ghost use Rattle.std.specs.Prelude.{◌≡◌, IfSome, codes, map, option_map};
 ghost use Rattle.clap.specs.Words.{found_of, rows_of, all_of, first_of};
-ghost use Rattle.jcommand.specs.Parsed.{decimal_number, endian_of, page_of, number_option, options_in, image_in, is_given, check_in, is_decompressed, ls_in, cat_in, writing_in, build_in, append_in, decompress_in, extract_in, listing_in, info_in, cuts_in, owner_number, owner_of, if_given, parsed, options_of, task_view, view};
+ghost use Rattle.jcommand.specs.Parsed.{decimal_number, endian_of, page_of, number_option, options_in, image_in, is_given, check_in, is_decompressed, ls_in, cat_in, writing_in, build_in, append_in, decompress_in, extract_in, listing_in, info_in, compress_in, cuts_in, diff_in, owner_number, owner_of, if_given, parsed, options_of, task_view, view};
 
 use clap::ArgMatches;
 use jnode::Endian;
@@ -45,8 +45,8 @@ pub enum Request<'a> {
         shape: bool,
         image: &'a str,
     },
-    /// `ls`: a line for each object of the tree, or of the part of it that a path names; with `--decompress`, of what
-    /// `decompress` makes of the image.
+    /// `ls`: a line for each object of the tree, or of the part of it that a path names; with
+    /// `--decompress`, of what `decompress` makes of the image.
     List {
         options: Options,
         decompress: bool,
@@ -65,7 +65,8 @@ pub enum Request<'a> {
         target: Target<'a>,
         listing: &'a str,
     },
-    /// `append`: the image with what the listing makes of its file system; with `--decompress` in the same way.
+    /// `append`: the image with what the listing makes of its file system; with `--decompress` in
+    /// the same way.
     Append {
         target: Target<'a>,
         decompress: bool,
@@ -96,8 +97,8 @@ impl Request<'_> {
     }
 }
 
-/// The tree of an image in a new folder of the host; with `--owners`, its owners too, and with `--decompress` that of
-/// what `decompress` makes of the image.
+/// The tree of an image in a new folder of the host; with `--owners`, its owners too, and with
+/// `--decompress` that of what `decompress` makes of the image.
 #[derive(Clone, Copy)]
 pub struct Extraction<'a> {
     pub options: Options,
@@ -108,7 +109,8 @@ pub struct Extraction<'a> {
     pub folder: &'a str,
 }
 
-/// The listing that builds a folder of the host, with one owner or one time for all of it where they are given.
+/// The listing that builds a folder of the host, with one owner or one time for all of it where
+/// they are given.
 #[derive(Clone, Copy)]
 pub struct FolderListing<'a> {
     pub owner: Option<Owner>,
@@ -128,6 +130,23 @@ pub struct Cuts<'a> {
     pub listing: &'a str,
 }
 
+/// An image of the same nodes, of which those of regular files are compressed.
+#[derive(Clone, Copy)]
+pub struct Compression<'a> {
+    pub options: Options,
+    pub image: &'a str,
+    pub output: &'a str,
+}
+
+/// What the trees of two images differ in; with `--times`, in times of change too.
+#[derive(Clone, Copy)]
+pub struct Comparison<'a> {
+    pub options: Options,
+    pub times: bool,
+    pub first: &'a str,
+    pub second: &'a str,
+}
+
 /// What is asked for.
 #[derive(Clone, Copy)]
 pub enum Task<'a> {
@@ -141,6 +160,10 @@ pub enum Task<'a> {
     Info { image: &'a str },
     /// `cuts`: what stands after a stop of writing.
     Cuts(Cuts<'a>),
+    /// `compress`.
+    Compress(Compression<'a>),
+    /// `diff`.
+    Diff(Comparison<'a>),
 }
 
 /// A number below 2^32 in decimal digits.
@@ -429,6 +452,34 @@ fn cuts_at<'a>(found: &ArgMatches<'a>) -> Option<Task<'a>>
     }))
 }
 
+fn compress_at<'a>(found: &ArgMatches<'a>) -> Option<Task<'a>>
+    ensures { option_map task_view result ≡ compress_in (rows_of (found_of found.now)) }
+{
+    let (options, image) = image_at(found)?;
+    match text_at(found, "OUT") {
+        Some(output) => Some(Task::Compress(Compression {
+            options,
+            image,
+            output,
+        })),
+        None => None,
+    }
+}
+
+fn diff_at<'a>(found: &ArgMatches<'a>) -> Option<Task<'a>>
+    ensures { option_map task_view result ≡ diff_in (rows_of (found_of found.now)) }
+{
+    let options = options_at(found)?;
+    let first = text_at(found, "A")?;
+    let second = text_at(found, "B")?;
+    Some(Task::Diff(Comparison {
+        options,
+        times: is_given(found, "times"),
+        first,
+        second,
+    }))
+}
+
 /// What the subcommand asks for, or nothing where a value can't be read.
 #[tactic(auto, unfolding(crate::specs::Parsed::parsed))]
 pub(crate) fn parsed_of<'a>(name: &str, found: &ArgMatches<'a>) -> Option<Task<'a>>
@@ -445,6 +496,8 @@ pub(crate) fn parsed_of<'a>(name: &str, found: &ArgMatches<'a>) -> Option<Task<'
         "listing" => listing_at(found),
         "info" => info_at(found),
         "cuts" => cuts_at(found),
+        "compress" => compress_at(found),
+        "diff" => diff_at(found),
         _ => None,
     }
 }

@@ -1,10 +1,10 @@
-//! Command lines with what they ask for or are answered. The words of a line are between spaces, and the first is the
-//! program's own name.
+//! Command lines with what they ask for or are answered. The words of a line are between spaces,
+//! and the first is the program's own name.
 
 use crate::checks::{equal, equal_at, expect, expect_at};
 use jcommand::{
-    Cuts, Extraction, FolderListing, Options, Outcome, Owner, Request, RequestFault, Target, Task,
-    status, task,
+    Comparison, Compression, Cuts, Extraction, FolderListing, Options, Outcome, Owner, Request,
+    RequestFault, Target, Task, status, task,
 };
 use jnode::Endian;
 use std::alloc::{AllocError, Global};
@@ -15,20 +15,24 @@ fn written(target: Target<'_>) -> (u32, u32, &str) {
     (target.blocks, target.page.size(), target.output)
 }
 
+fn order_name(endian: Endian) -> &'static str {
+    match endian {
+        Endian::Little => "little",
+        Endian::Big => "big",
+    }
+}
+
 /// What follows the values where the image is to be decompressed.
 fn mark(decompress: bool) -> &'static str {
     if decompress { " decompressed" } else { "" }
 }
 
-/// A request as the name of its kind, the size of a block, the byte order, and its other values in the order of the
-/// command's help.
+/// A request as the name of its kind, the size of a block, the byte order, and its other values in
+/// the order of the command's help.
 fn shown(alloc: Global, request: Request<'_>) -> Result<String, AllocError> {
     let Options { geometry, endian } = request.options();
     let block = geometry.block;
-    let order = match endian {
-        Endian::Little => "little",
-        Endian::Big => "big",
-    };
+    let order = order_name(endian);
     match request {
         Request::Scan { image, .. } => format!(in alloc; "scan {block} {order} {image}"),
         Request::Check {
@@ -94,7 +98,19 @@ fn shown_cuts(alloc: Global, asked: Cuts<'_>) -> Result<String, AllocError> {
     format!(in alloc; "cuts {block} {is_big} {blocks} {page} {on} {listing}")
 }
 
-/// A task of a folder in the same way.
+fn shown_comparison(alloc: Global, asked: Comparison<'_>) -> Result<String, AllocError> {
+    let Comparison {
+        options,
+        times,
+        first,
+        second,
+    } = asked;
+    let block = options.geometry.block;
+    let is_big = options.endian == Endian::Big;
+    format!(in alloc; "diff {block} {is_big} {times} {first} {second}")
+}
+
+/// A task in the same way.
 fn shown_task(alloc: Global, task: Task<'_>) -> Result<String, AllocError> {
     match task {
         Task::Image(request) => shown(alloc, request),
@@ -127,6 +143,19 @@ fn shown_task(alloc: Global, task: Task<'_>) -> Result<String, AllocError> {
         }
         Task::Info { image } => format!(in alloc; "info {image}"),
         Task::Cuts(asked) => shown_cuts(alloc, asked),
+        Task::Compress(
+            Compression {
+                options,
+                image,
+                output,
+            },
+        ) => {
+            let Options { geometry, endian } = options;
+            let order = order_name(endian);
+            let block = geometry.block;
+            format!(in alloc; "compress {block} {order} {image} {output}")
+        }
+        Task::Diff(asked) => shown_comparison(alloc, asked),
     }
 }
 
@@ -160,7 +189,7 @@ pub(crate) fn is_wrong(text: &str, part: &str) -> bool {
 }
 
 /// Lines that ask to read, and what they ask for.
-const READING: [(&str, &str); 18] = [
+const READING: [(&str, &str); 20] = [
     ("t check --scan a.img", "scan 65536 little a.img"),
     ("t check a.img", "check 65536 little a.img"),
     ("t check --shape a.img", "check 65536 little a.img shape"),
@@ -194,6 +223,11 @@ const READING: [(&str, &str); 18] = [
     ),
     ("t info a.img", "info a.img"),
     ("t info -- --block", "info --block"),
+    ("t diff a.img b.img", "diff 65536 false false a.img b.img"),
+    (
+        "t diff b.img --times --block 8192 --endian=big a.img",
+        "diff 8192 true true b.img a.img",
+    ),
 ];
 
 #[test]
@@ -272,7 +306,7 @@ fn args_that_ask_to_write(rt: HostRuntime) -> Result<(), Fail> {
 }
 
 /// Lines that ask for nothing, and a part of the text that says why.
-const WRONG: [(&str, &str); 32] = [
+const WRONG: [(&str, &str); 37] = [
     ("", "requires a subcommand"),
     ("t", "requires a subcommand"),
     ("t paint", "unrecognized subcommand 'paint'"),
@@ -286,6 +320,11 @@ const WRONG: [(&str, &str); 32] = [
     ("t info", "<IMAGE>"),
     ("t info --endian big a.img", "--endian"),
     ("t info a.img b.img", "'b.img'"),
+    ("t diff", "<A>"),
+    ("t diff a.img", "<B>"),
+    ("t diff a.img b.img c.img", "'c.img'"),
+    ("t diff --decompress a.img b.img", "--decompress"),
+    ("t diff --block=x a.img b.img", "'x' for '--block <N>'"),
     ("t cat", "<IMAGE>"),
     ("t cat a.img", "<PATH>"),
     ("t cat --scan a.img /a", "--scan"),
@@ -421,7 +460,7 @@ fn args_that_are_wrong_to_write(rt: HostRuntime) -> Result<(), Fail> {
 }
 
 /// Lines that ask for help, and a part of it.
-const HELP: [(&str, &str); 20] = [
+const HELP: [(&str, &str); 22] = [
     ("t --help", "Usage: t <COMMAND>"),
     ("t -h", "Usage: t <COMMAND>"),
     ("t help", "Usage: t <COMMAND>"),
@@ -433,6 +472,8 @@ const HELP: [(&str, &str); 20] = [
     ("t ls --help", "Usage: t ls [OPTIONS] <IMAGE>"),
     ("t help ls", "KIND MODE UID GID SIZE MTIME INO PATH"),
     ("t info --help", "Usage: t info <IMAGE>"),
+    ("t diff --help", "Usage: t diff [OPTIONS] <A> <B>"),
+    ("t help diff", "only the bytes differ, from this offset on"),
     ("t cat --help", "Usage: t cat [OPTIONS] <IMAGE> <PATH>"),
     (
         "t build --help",

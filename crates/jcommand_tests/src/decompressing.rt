@@ -5,7 +5,7 @@ use crate::command_lines::{answer_to, is_text, is_wrong};
 use std::test::Fail;
 
 /// Lines, and what they ask for.
-const ASKED: [(&str, &str); 8] = [
+const ASKED: [(&str, &str); 9] = [
     (
         "t decompress a.img b.img",
         "decompress 65536 little a.img b.img",
@@ -13,6 +13,10 @@ const ASKED: [(&str, &str); 8] = [
     (
         "t decompress --block 8192 a.img a.img --endian=big",
         "decompress 8192 big a.img a.img",
+    ),
+    (
+        "t compress a.img --endian big b.img --block=8192",
+        "compress 8192 big a.img b.img",
     ),
     (
         "t ls --decompress a.img /b",
@@ -50,9 +54,11 @@ fn args_that_decompress(rt: HostRuntime) -> Result<(), Fail> {
 }
 
 /// Lines that ask for nothing, and a part of the text that says why.
-const WRONG: [(&str, &str); 10] = [
+const WRONG: [(&str, &str); 12] = [
     ("t decompress", "<IMAGE>"),
     ("t decompress a.img", "<OUT>"),
+    ("t compress a.img", "<OUT>"),
+    ("t compress --decompress a.img b.img", "--decompress"),
     ("t decompress a.img b.img c.img", "'c.img'"),
     ("t decompress --decompress a.img b.img", "--decompress"),
     ("t decompress --blocks 8 a.img b.img", "--blocks"),

@@ -84,6 +84,8 @@ fn a_request_is_of_an_image(rt: HostRuntime) {
         (["t", "extract", "a.img", "b"], "wrong"),
         (["t", "listing", "a", "--quiet"], "wrong"),
         (["t", "info", "--", "a.img"], "wrong"),
+        (["t", "compress", "a.img", "b"], "wrong"),
+        (["t", "diff", "a.img", "b.img"], "wrong"),
         (["t", "check", "a.img", "b"], "wrong"),
         (["t", "check", "a.img", "--help"], "help"),
     ];

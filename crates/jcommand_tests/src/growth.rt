@@ -5,7 +5,7 @@ use jcommand::{Request, RequestFault, Task, task};
 use std::alloc::Global;
 
 /// Words, and what they ask for.
-const LINES: [(&[&str], &str); 12] = [
+const LINES: [(&[&str], &str); 14] = [
     (&["t", "check", "--scan", "--block=4096", "a.img"], "scan"),
     (&["t", "check", "--endian", "big", "a.img"], "check"),
     (&["t", "ls", "a.img"], "ls"),
@@ -22,6 +22,8 @@ const LINES: [(&[&str], &str); 12] = [
     ),
     (&["t", "info", "a.img"], "info"),
     (&["t", "cuts", "--blocks=8", "--on", "a.img", "b"], "cuts"),
+    (&["t", "compress", "a.img", "b.img"], "compress"),
+    (&["t", "diff", "--times", "a.img", "b.img"], "diff"),
     (&["t", "check", "--help"], "help"),
     (&["t", "check", "--block", "x", "a.img"], "wrong"),
 ];
@@ -40,13 +42,16 @@ fn asked(alloc: Global, words: &[&str]) -> &'static str {
         Ok(Task::Listing(_)) => "listing",
         Ok(Task::Info { .. }) => "info",
         Ok(Task::Cuts(_)) => "cuts",
+        Ok(Task::Compress(_)) => "compress",
+        Ok(Task::Diff(_)) => "diff",
         Err(RequestFault::Help { .. }) => "help",
         Err(RequestFault::Usage { .. }) => "wrong",
         Err(RequestFault::OutOfMemory) => "no memory",
     }
 }
 
-/// Passes with each allocation failing in turn too: memory is then blamed, and the same words ask for what they ask for.
+/// Passes with each allocation failing in turn too: memory is then blamed, and the same words ask
+/// for what they ask for.
 #[test]
 fn refused_growth_is_want_of_memory(rt: HostRuntime) {
     for (words, want) in LINES {

@@ -1,4 +1,5 @@
-//! Tests of `jcommand`: what command lines ask for, what is answered to the others, and the exit statuses.
+//! Tests of `jcommand`: what command lines ask for, what is answered to the others, and the exit
+//! statuses.
 #![tactic(auto)]
 
 #[cfg(test)]

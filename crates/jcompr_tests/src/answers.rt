@@ -9,8 +9,9 @@ use std::process::Abort;
 /// What stands in front of each content.
 const BEFORE: &[u8] = &[0x2A, 0x3F];
 
-/// The checksum of the content that data have, or `None` where they are refused. The content stands behind what was there before,
-/// which stays as it was, and is all that is there where data are refused.
+/// The checksum of the content that data have, or `None` where they are refused. The content stands
+/// behind what was there before, which stays as it was, and is all that is there where data are
+/// refused.
 pub(crate) fn answer(
     rt: &impl Abort,
     alloc: Global,

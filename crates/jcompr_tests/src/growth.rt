@@ -30,8 +30,8 @@ fn long_copy() -> [u8; 279] {
     data
 }
 
-/// Passes with each allocation failing in turn too: memory is then blamed and not the data, nothing is appended, and the next
-/// call, with memory, answers as if there had been none before.
+/// Passes with each allocation failing in turn too: memory is then blamed and not the data, nothing
+/// is appended, and the next call, with memory, answers as if there had been none before.
 #[test]
 fn refused_growth_is_want_of_memory(rt: HostRuntime) {
     let alloc = rt.alloc();

@@ -1,4 +1,5 @@
-//! Streams and what they stand for, as zlib, liblzo2 and a model of RTIME have it. Written by tests/peers/vectors.py.
+//! Streams and what they stand for, as zlib, liblzo2 and a model of RTIME have it. Written by
+//! tests/peers/vectors.py.
 
 /// METHOD SIZE DATA CHECKSUM of streams that are refused where they are cut.
 pub(crate) const WHOLE: &str = "\

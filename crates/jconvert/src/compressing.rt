@@ -94,7 +94,8 @@ fn accept_nodes<E: Order>(
 /// How many nodes an image has that is to be compressed, or why it is refused. No byte is put.
 ///
 /// # Errors
-/// All but `Sink`, in the order of [`ConvertFault`]; `Compressed` of any node that is compressed. Out of memory at any time.
+/// All but `Sink`, in the order of [`ConvertFault`]; `Compressed` of any node that is compressed.
+/// Out of memory at any time.
 pub fn judge_plain<E: Order>(
     alloc: Global,
     image: &[u8],
@@ -136,7 +137,8 @@ fn pack_tile<E: Order>(
     }
 }
 
-/// Makes the written form that goes out for the node that a sighted tile gives: whether it gives one, and whether it is packed.
+/// Makes the written form that goes out for the node that a sighted tile gives: whether it gives
+/// one, and whether it is packed.
 fn make_packed<E: Order>(
     alloc: Global,
     image: &[u8],
@@ -161,7 +163,8 @@ fn make_packed<E: Order>(
     Ok((is_one, false))
 }
 
-/// Puts what goes out for a sighted tile, and answers where the next node may begin, and whether the node is packed.
+/// Puts what goes out for a sighted tile, and answers where the next node may begin, and whether
+/// the node is packed.
 fn put_packed<E: Order, S: Sink>(
     alloc: Global,
     image: &[u8],
@@ -192,8 +195,8 @@ fn put_packed<E: Order, S: Sink>(
     }
 }
 
-/// Puts an image of the nodes of one that `judge_plain` did not refuse, and answers how many of them are compressed, and its
-/// length.
+/// Puts an image of the nodes of one that `judge_plain` did not refuse, and answers how many of
+/// them are compressed, and its length.
 ///
 /// # Errors
 /// `Sink`: it failed after a beginning. `OutOfMemory`: after a beginning too, or before a byte.
@@ -235,11 +238,12 @@ pub fn write_packed<E: Order, S: Sink>(
     Ok((changed, u64::from(from)))
 }
 
-/// Compresses an image of the profile into a sink, which comes back in any case: nodes of regular files go out with data of
-/// ZLIB where that is shorter, and all others as they are.
+/// Compresses an image of the profile into a sink, which comes back in any case: nodes of regular
+/// files go out with data of ZLIB where that is shorter, and all others as they are.
 ///
 /// # Errors
-/// As `judge_plain`, before a byte is put. `Sink`: it failed after a beginning. `OutOfMemory` at any time.
+/// As `judge_plain`, before a byte is put. `Sink`: it failed after a beginning. `OutOfMemory` at
+/// any time.
 pub fn compress<E: Order, S: Sink>(
     alloc: Global,
     image: &[u8],

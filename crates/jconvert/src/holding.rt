@@ -25,7 +25,8 @@ fn make_room(bytes: &mut Vec<u8>, count: usize, most: usize) -> Result<(), Alloc
     Ok(())
 }
 
-/// Whether bytes were put at the end: they are where there is room for them within the limit, and memory.
+/// Whether bytes were put at the end: they are where there is room for them within the limit, and
+/// memory.
 fn is_taken(bytes: &mut Vec<u8>, content: &[u8], most: usize) -> bool
     requires { vec_len bytes.old ≤ most }
     ensures bytes { bytes.new.items

@@ -119,7 +119,8 @@ fn with_tile(
     }
 }
 
-/// What is counted with a sighted tile more, or why that is refused. What its data stand for is left in the buffer.
+/// What is counted with a sighted tile more, or why that is refused. What its data stand for is
+/// left in the buffer.
 fn count_tile<E: Order>(
     alloc: Global,
     image: &[u8],
@@ -142,8 +143,8 @@ fn count_tile<E: Order>(
     with_tile(tally, geometry, seen, len)
 }
 
-/// Counts the nodes of an image, and holds at most so many bytes of what their data stand for; or answers why its sizes or a
-/// node of it are refused.
+/// Counts the nodes of an image, and holds at most so many bytes of what their data stand for; or
+/// answers why its sizes or a node of it are refused.
 fn count_nodes<E: Order>(
     alloc: Global,
     image: &[u8],
@@ -182,9 +183,9 @@ fn count_nodes<E: Order>(
     Ok((tally, held.bytes))
 }
 
-/// What would be told of an image if it were decompressed, or why it is refused. No byte is put. It takes the memory of one
-/// node's data, and of at most `most` bytes beside, which hold what the data of the first compressed nodes stand for; where
-/// memory is wanting for these, fewer are held.
+/// What would be told of an image if it were decompressed, or why it is refused. No byte is put. It
+/// takes the memory of one node's data, and of at most `most` bytes beside, which hold what the
+/// data of the first compressed nodes stand for; where memory is wanting for these, fewer are held.
 ///
 /// # Errors
 /// All but `Sink`, in the order of [`ConvertFault`]. Out of memory at any time.

@@ -3,8 +3,8 @@
 ghost use Rattle.jconvert.specs.CompressingLaws.{CompressedAreNodes, CompressedGivesBack, CompressedMounts};
 ghost use Rattle.jconvert.specs.Laws.{ConvertedIsImage, ConvertedMounts, ConvertedHasNoRoot, ConvertedClashes};
 
-/// What goes out is an image of exactly the expanded nodes, in order; it mounts as the file system that they make, or answers
-/// that two of them clash, or that the root is no directory.
+/// What goes out is an image of exactly the expanded nodes, in order; it mounts as the file system
+/// that they make, or answers that two of them clash, or that the root is no directory.
 pub fn converted_mounts()
     ensures image { ConvertedIsImage }
     ensures mounts { ConvertedMounts }
@@ -12,7 +12,8 @@ pub fn converted_mounts()
     ensures clashes { ConvertedClashes }
 {}
 
-/// What went out compressed is decompressed to the nodes of the image that went in, each and in order; so it mounts as that one.
+/// What went out compressed is decompressed to the nodes of the image that went in, each and in
+/// order; so it mounts as that one.
 pub fn compressed_gives_back()
     ensures nodes { CompressedAreNodes }
     ensures back { CompressedGivesBack }

@@ -1,12 +1,13 @@
 //! Images whose data are compressed, decompressed; and images compressed.
 //!
-//! It is built on `jexpand` (the expanded nodes of an image), `jlog` (where nodes go, and what goes out for them) and `jpack`
-//! (bytes compressed). Its promise to the program: what goes out are exactly the nodes of the image, compressed ones expanded,
-//! in the order of their addresses, or nodes that expand to them; and all that can be refused is refused before a byte is put.
-//! What is decompressed to judge an image is held, up to a limit, and not decompressed again to write it.
+//! It is built on `jexpand` (the expanded nodes of an image), `jlog` (where nodes go, and what goes
+//! out for them) and `jpack` (bytes compressed). Its promise to the program: what goes out are
+//! exactly the nodes of the image, compressed ones expanded, in the order of their addresses, or
+//! nodes that expand to them; and all that can be refused is refused before a byte is put. What is
+//! decompressed to judge an image is held, up to a limit, and not decompressed again to write it.
 //!
-//! `specs/Converting.antt` says which image goes out decompressed, and why none does, `specs/Compressing.antt` which goes out
-//! compressed.
+//! `specs/Converting.antt` says which image goes out decompressed, and why none does,
+//! `specs/Compressing.antt` which goes out compressed.
 #![tactic(auto)]
 
 mod compressing;

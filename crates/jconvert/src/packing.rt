@@ -87,7 +87,8 @@ impl Packing {
     }
 }
 
-/// Writes the compressed node that stands for a node with these bytes over the form, and answers whether there is one.
+/// Writes the compressed node that stands for a node with these bytes over the form, and answers
+/// whether there is one.
 fn pack_bytes<E: Order>(
     alloc: Global,
     inode: &InodeNode<'_>,

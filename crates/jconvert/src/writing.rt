@@ -22,7 +22,8 @@ use jnode::{Order, Seen};
 use jscan::{Geometry, Sightings};
 use std::alloc::Global;
 
-/// Puts the written form of a node at its place after `from`, and answers where the next one may begin.
+/// Puts the written form of a node at its place after `from`, and answers where the next one may
+/// begin.
 pub(crate) fn put_form<E: Order, S: Sink>(
     sink: &mut S,
     geometry: Geometry,
@@ -56,8 +57,8 @@ struct Making<'a> {
     form: Vec<u8>,
 }
 
-/// Makes the written form of the node that a sighted tile gives, and answers whether it gives one. What the data stand for is
-/// taken of what is held, if it is.
+/// Makes the written form of the node that a sighted tile gives, and answers whether it gives one.
+/// What the data stand for is taken of what is held, if it is.
 fn make_form<E: Order>(
     alloc: Global,
     image: &[u8],
@@ -131,8 +132,8 @@ fn put_tile<E: Order, S: Sink>(
     }
 }
 
-/// Puts the image of the expanded nodes of one that `judge` did not refuse. `held` is what it left, or a beginning of that, also
-/// an empty one: what is not held is decompressed.
+/// Puts the image of the expanded nodes of one that `judge` did not refuse. `held` is what it left,
+/// or a beginning of that, also an empty one: what is not held is decompressed.
 ///
 /// # Errors
 /// `Sink`: it failed after a beginning. `OutOfMemory`: after a beginning too, or before a byte.

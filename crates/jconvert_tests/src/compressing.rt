@@ -52,7 +52,8 @@ const ATTRIBUTES: Attributes = Attributes {
     mtime: 8,
 };
 
-/// Of 200 equal bytes a regular file's alone are compressed, and a few are not, since that is no shorter.
+/// Of 200 equal bytes a regular file's alone are compressed, and a few are not, since that is no
+/// shorter.
 #[test]
 fn what_is_compressed(rt: HostRuntime) -> Result<(), Fail> {
     let same = &[0x61; 200];

@@ -34,7 +34,8 @@ fn images_are_decompressed(rt: HostRuntime) {
     is_put::<BigEndian>(&rt, rt.alloc(), big_image(), big_expanded());
 }
 
-/// The same image in memory. Passes with each allocation failing in turn too: memory is then blamed.
+/// The same image in memory. Passes with each allocation failing in turn too: memory is then
+/// blamed.
 #[test]
 fn images_in_memory(rt: HostRuntime) {
     let given = decompressed::<BigEndian>(rt.alloc(), big_image(), BLOCKS_OF_8_KIB);
@@ -98,7 +99,8 @@ fn is_put_again(rt: &impl Abort, alloc: Global, most: usize, held: usize) {
     expect(rt, sink.took(0, little_expanded()));
 }
 
-/// The same goes out, however much is held of what the data stand for: 60, 20, 20, 0, 20 and 1 bytes.
+/// The same goes out, however much is held of what the data stand for: 60, 20, 20, 0, 20 and 1
+/// bytes.
 #[test]
 fn contents_that_are_held(rt: HostRuntime) {
     for (most, held) in [

@@ -159,14 +159,16 @@ fn tell_ops<E: Order, T: Sink>(
     Ok(Counts { nodes, weak })
 }
 
-/// Plans operations on a mounted image as [`jlog::Session::run`] would write them, and writes nothing of it: what is told of
-/// each one's nodes goes out, and after the last of them the line on all. Answers how many nodes are weak. Operations have the
-/// numbers of their lines. The image was mounted in `E`'s order, and with the flash's geometry. At one time the nodes of one
-/// operation are held.
+/// Plans operations on a mounted image as [`jlog::Session::run`] would write them, and writes
+/// nothing of it: what is told of each one's nodes goes out, and after the last of them the line on
+/// all. Answers how many nodes are weak. Operations have the numbers of their lines. The image was
+/// mounted in `E`'s order, and with the flash's geometry. At one time the nodes of one operation
+/// are held.
 ///
 /// # Errors
-/// `Session` without a line as [`jlog::Session::resume_paged`] answers it, and nothing is told; with one as a session answers
-/// that operation, and those before it are told. `Output`: the sink failed, and took a beginning.
+/// `Session` without a line as [`jlog::Session::resume_paged`] answers it, and nothing is told;
+/// with one as a session answers that operation, and those before it are told. `Output`: the sink
+/// failed, and took a beginning.
 #[tactic(none)]
 pub fn put_cuts<E: Order, T: Sink>(
     alloc: Global,

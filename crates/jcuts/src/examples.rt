@@ -11,8 +11,8 @@ ghost use Rattle.jcuts.specs.Lines.{node_line, weak_line, text_of_node, end_line
 ghost use Rattle.jcuts.specs.declared.lines.Telling.TheVariants.{Nodes, WeakNotes};
 ghost use Rattle.jcuts.specs.Examples.{told_of};
 
-/// The inode node and the entry node of a file that is made are whole with their last byte, and a node of three bytes of 0xFF
-/// without them.
+/// The inode node and the entry node of a file that is made are whole with their last byte, and a
+/// node of three bytes of 0xFF without them.
 #[tactic(auto, unfolding(flashbase::specs::Crc::crc_after, flashbase::specs::Crc::push_byte, flashbase::specs::Crc::push_bits, flashbase::specs::Crc::push_bit, jnode::specs::Order::bytes_in, jnode::specs::Writing::header_bytes, jnode::specs::Writing::canonical_inode, jnode::specs::Writing::object_bytes, jnode::specs::Writing::time_bytes, jnode::specs::Writing::range_bytes, jnode::specs::Writing::inode_front))]
 pub fn known_whole_lens()
     ensures inode { whole_len inode_2 ≡ 68 }

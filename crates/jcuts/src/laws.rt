@@ -2,7 +2,8 @@
 
 ghost use Rattle.jcuts.specs.Laws.{WholeLenIsLeast, WeakIsLeast, StandingsHavePlaces, StandingIsCounted, LinesAreNodes, ToldSurvives};
 
-/// A node stands whole exactly from the byte after its last one that is not 0xFF, and the weak cut that is told is the least.
+/// A node stands whole exactly from the byte after its last one that is not 0xFF, and the weak cut
+/// that is told is the least.
 pub fn standing_is_least()
     ensures whole { WholeLenIsLeast }
     ensures weak { WeakIsLeast }
@@ -19,7 +20,8 @@ pub fn standing_is_counted()
     ensures { StandingIsCounted }
 {}
 
-/// Where no node is weak, what a stop leaves mounts as the file system after the steps of these lines.
+/// Where no node is weak, what a stop leaves mounts as the file system after the steps of these
+/// lines.
 pub fn told_survives()
     ensures { ToldSurvives }
 {}

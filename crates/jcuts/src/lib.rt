@@ -1,13 +1,15 @@
-//! What stands after a stop: for each node of what operations would write, the byte from which on it stands whole.
+//! What stands after a stop: for each node of what operations would write, the byte from which on
+//! it stands whole.
 //!
-//! It is built on `jlog` (sessions that write operations, and what survives a stop of them) and `jline` (lines of text).
-//! Its promise: an operation is planned as a session writes it, and nothing of an image is written; a line goes out for each
-//! node, in order; the number of nodes that stand from the address of a stop, or from one below it, is the number that the
-//! stop leaves whole; and a node has a line on a weak cut exactly where it has one.
+//! It is built on `jlog` (sessions that write operations, and what survives a stop of them) and
+//! `jline` (lines of text). Its promise: an operation is planned as a session writes it, and
+//! nothing of an image is written; a line goes out for each node, in order; the number of nodes
+//! that stand from the address of a stop, or from one below it, is the number that the stop leaves
+//! whole; and a node has a line on a weak cut exactly where it has one.
 //!
-//! `specs/Standing.antt` says from where on a node stands, `specs/Planning.antt` what planning an operation promises,
-//! `specs/Lines.antt` what the lines are, and `specs/Telling.antt` what is told of the first operations on a base. `laws` has
-//! what follows, and `examples` has worked nodes.
+//! `specs/Standing.antt` says from where on a node stands, `specs/Planning.antt` what planning an
+//! operation promises, `specs/Lines.antt` what the lines are, and `specs/Telling.antt` what is told
+//! of the first operations on a base. `laws` has what follows, and `examples` has worked nodes.
 #![tactic(auto)]
 
 mod cuts;

@@ -17,8 +17,8 @@ pub enum Telling {
     WeakNotes,
 }
 
-/// A node, and its step: the number of its operation's line, the step's number in its operation, and how many steps that
-/// has.
+/// A node, and its step: the number of its operation's line, the step's number in its operation,
+/// and how many steps that has.
 #[derive(Clone, Copy, Debug, PartialEq, Eq)]
 pub struct StepNode {
     pub line: usize,

@@ -26,7 +26,8 @@ fn without_sink(fault: SessionFault) -> SessionFault
     }
 }
 
-/// Plans one operation after those that were planned before: the nodes that it would write, in order.
+/// Plans one operation after those that were planned before: the nodes that it would write, in
+/// order.
 ///
 /// # Errors
 /// `Refused`, `Full` and `OutOfMemory` as a session answers them. The log is not used again.

@@ -17,7 +17,8 @@ pub struct Standing {
     pub totlen: u32,
     /// It stands whole exactly where the bytes below this address were put.
     pub stands_from: u32,
-    /// The least number of its first bytes that pass every check with 0xFF after them and are not the node, if any do.
+    /// The least number of its first bytes that pass every check with 0xFF after them and are not
+    /// the node, if any do.
     pub weak: Option<usize>,
 }
 

@@ -38,7 +38,8 @@ fn is_written(sink: &Taker) -> bool {
     sink.bytes.len() == 72 && sink.bytes.ends_with(b"\xFF\xFF\xFF\xFF")
 }
 
-/// Whether the file's nodes are in the first sink and those of its bytes in the second, and the session goes on behind each.
+/// Whether the file's nodes are in the first sink and those of its bytes in the second, and the
+/// session goes on behind each.
 fn is_apart(alloc: Global) -> Result<bool, Fail> {
     let mounted = mount::<LittleEndian>(alloc, &[], GEOMETRY)?;
     let sink = Taker::new(alloc);

@@ -28,7 +28,8 @@ fn first_in(left: &[u8], right: &[u8]) -> Option<usize>
     }
 }
 
-/// The first place at which the bytes of two objects differ, neither of which has more than `size`. Takes no memory.
+/// The first place at which the bytes of two objects differ, neither of which has more than `size`.
+/// Takes no memory.
 pub(crate) fn first_difference(
     left: &Mounted<'_>,
     left_ino: u32,

@@ -124,7 +124,8 @@ fn put_tail<T: Sink>(mounted: &Mounted<'_>, found: &Found, sink: &mut T) -> Resu
     }
 }
 
-/// Puts a sign, and the line of an object. Takes no memory, however long the path and the names are.
+/// Puts a sign, and the line of an object. Takes no memory, however long the path and the names
+/// are.
 pub(crate) fn put_entry<T: Sink>(
     mounted: &Mounted<'_>,
     times: bool,

@@ -68,8 +68,8 @@ struct Walk<'m, 'a> {
 }
 
 impl<'m, 'a> Walk<'m, 'a> {
-    /// Visits what the next name leads to, or goes up where there is none. Answers how many lines went out, or `None` where
-    /// the walk is at its end.
+    /// Visits what the next name leads to, or goes up where there is none. Answers how many lines
+    /// went out, or `None` where the walk is at its end.
     fn step<T: Sink>(
         &mut self,
         trees: &Trees<'m, 'a>,
@@ -111,11 +111,12 @@ impl<'m, 'a> Walk<'m, 'a> {
     }
 }
 
-/// Puts a line for each path at which two trees differ, in order of their paths, name by name and each in byte order, a
-/// directory before what lies in it: `- ` and a line as of `ls` where only the left one has it, `+ ` where only the right one
-/// does, both where kind, permissions, owner, group, size or target differ, or with `times` the time of change, and `* ` where
-/// only the bytes do. A directory that was met before is not entered. Answers how many lines there are, or the greatest u64.
-/// Takes memory for the way to an object and for the directories that were met.
+/// Puts a line for each path at which two trees differ, in order of their paths, name by name and
+/// each in byte order, a directory before what lies in it: `- ` and a line as of `ls` where only
+/// the left one has it, `+ ` where only the right one does, both where kind, permissions, owner,
+/// group, size or target differ, or with `times` the time of change, and `* ` where only the bytes
+/// do. A directory that was met before is not entered. Answers how many lines there are, or the
+/// greatest u64. Takes memory for the way to an object and for the directories that were met.
 pub fn put_differences<'m, 'a, T: Sink>(
     alloc: Global,
     left: &'m Mounted<'a>,

@@ -2,8 +2,8 @@
 
 use thiserror::Error;
 
-/// Why an image is not converted. Each stands before those after it: of several the first is answered, and of those that
-/// name an address the one of least address.
+/// Why an image is not converted. Each stands before those after it: of several the first is
+/// answered, and of those that name an address the one of least address.
 #[derive(Clone, Copy, Debug, PartialEq, Eq, Error)]
 pub enum ConvertFault {
     /// The block size is not read.

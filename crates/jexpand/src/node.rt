@@ -102,8 +102,9 @@ fn compressed_len(
     }
 }
 
-/// The length of the written form of the node that a sighted tile gives, if it gives one. A compressed node's data are
-/// decompressed, to see that they have content, which is then in the buffer; for another tile the buffer is empty.
+/// The length of the written form of the node that a sighted tile gives, if it gives one. A
+/// compressed node's data are decompressed, to see that they have content, which is then in the
+/// buffer; for another tile the buffer is empty.
 ///
 /// # Errors
 /// `Incompatible`, `Compressed`, `Data` and `TooLong`, at the tile's address; else out of memory.
@@ -191,8 +192,8 @@ fn put_compressed<E: Order>(
     }
 }
 
-/// Writes the node that a sighted tile gives over the bytes of `out`, and answers whether it gives one. The buffer is used
-/// for the bytes that a compressed node stands for.
+/// Writes the node that a sighted tile gives over the bytes of `out`, and answers whether it gives
+/// one. The buffer is used for the bytes that a compressed node stands for.
 ///
 /// # Errors
 /// Only memory can be wanting.
@@ -236,7 +237,8 @@ pub fn content_len<E: Order>(image: &[u8], geometry: Geometry, addr: u32, seen: 
     }
 }
 
-/// The same as `write_expanded`, with the bytes that the data of the tile stand for, which are not decompressed again.
+/// The same as `write_expanded`, with the bytes that the data of the tile stand for, which are not
+/// decompressed again.
 ///
 /// # Errors
 /// Only memory can be wanting.

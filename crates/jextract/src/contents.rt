@@ -34,7 +34,8 @@ fn put_hole<W: FilledFile>(file: &mut W, hole: u64) -> Result<(), FolderFault>
     file.skip(hole)
 }
 
-/// Writes a block after a hole, or makes the hole longer by a block of zeros. Answers how long the hole is that is not left yet.
+/// Writes a block after a hole, or makes the hole longer by a block of zeros. Answers how long the
+/// hole is that is not left yet.
 fn put_block<W: FilledFile>(file: &mut W, hole: u64, block: &[u8]) -> Result<u64, FolderFault>
     requires room { hole + length block.now < 2 ^ 64 }
     requires block { length block.now ≤ 4096 }

@@ -213,7 +213,8 @@ impl<'m, 'a> Walk<'m, 'a> {
         true
     }
 
-    /// Visits what the next name leads to, or leaves the directory where there is none. Answers whether the walk goes on.
+    /// Visits what the next name leads to, or leaves the directory where there is none. Answers
+    /// whether the walk goes on.
     fn step<F: Folder, N: Sink>(
         &mut self,
         alloc: Global,
@@ -420,18 +421,21 @@ fn fill_part<F: Folder, N: Sink>(
     }
 }
 
-/// Makes the folder, and in it the tree of a mounted image: a directory before what lies in it, and names in byte order.
-/// Answers how many objects were left out, each of which is told as a line of the notes, and how many lost a set-id bit.
+/// Makes the folder, and in it the tree of a mounted image: a directory before what lies in it, and
+/// names in byte order. Answers how many objects were left out, each of which is told as a line of
+/// the notes, and how many lost a set-id bit.
 ///
-/// A directory gets its attributes after all that lies in it, and one that was made before is not made again. A further name
-/// of a file or symlink is made as a link to the first. Where 4,096 bytes of a file are all zero, a hole is left. Owners are given
-/// only where `owners` asks for them, and without them no set-id bit of a mode. What the host refuses is left out, with all below
-/// it, and so are devices, FIFOs, sockets, names that lead nowhere, and names and targets that no host takes.
-/// Takes memory for the way to an object and for a path for each object, and for no file's bytes.
+/// A directory gets its attributes after all that lies in it, and one that was made before is not
+/// made again. A further name of a file or symlink is made as a link to the first. Where 4,096
+/// bytes of a file are all zero, a hole is left. Owners are given only where `owners` asks for
+/// them, and without them no set-id bit of a mode. What the host refuses is left out, with all
+/// below it, and so are devices, FIFOs, sockets, names that lead nowhere, and names and targets
+/// that no host takes. Takes memory for the way to an object and for a path for each object, and
+/// for no file's bytes.
 ///
 /// # Errors
-/// `Folder`: the folder itself is refused, and nothing is done. `Notes`: the notes failed; `NoSpace`: the host has no room left;
-/// `OutOfMemory`: out of memory; what was made so far stays.
+/// `Folder`: the folder itself is refused, and nothing is done. `Notes`: the notes failed;
+/// `NoSpace`: the host has no room left; `OutOfMemory`: out of memory; what was made so far stays.
 pub fn extract<F: Folder, N: Sink>(
     alloc: Global,
     mounted: &Mounted<'_>,
@@ -452,8 +456,8 @@ pub fn extract<F: Folder, N: Sink>(
     }
 }
 
-/// The same of a part of the tree: a directory with all that lies below it, at the path that it has in the whole tree, by
-/// the directories on the way; or another object alone, by its last name.
+/// The same of a part of the tree: a directory with all that lies below it, at the path that it has
+/// in the whole tree, by the directories on the way; or another object alone, by its last name.
 pub fn extract_part<F: Folder, N: Sink>(
     alloc: Global,
     mounted: &Mounted<'_>,

@@ -17,8 +17,8 @@ pub struct Owner {
 /// What an object has beside its bytes.
 #[derive(Clone, Copy, Debug, PartialEq, Eq)]
 pub struct Attributes {
-    /// The low 12 bits of a mode: the permissions, and what `chmod` sets beside them. Where there is no owner, no bit of
-    /// octal 6000 is set.
+    /// The low 12 bits of a mode: the permissions, and what `chmod` sets beside them. Where there
+    /// is no owner, no bit of octal 6000 is set.
     pub mode: u32,
     /// The time of the last change, in seconds since 1970.
     pub mtime: u32,
@@ -45,7 +45,8 @@ pub enum FolderFault {
 /// A place is written, or it is in a hole, which takes no room of the host's and reads as 0.
 ///
 /// # Errors
-/// As those of a folder. Nothing is known of the file then, but what it failed with: it is to be given up.
+/// As those of a folder. Nothing is known of the file then, but what it failed with: it is to be
+/// given up.
 pub trait FilledFile: Drop {
     /// What lies at each place so far, where it reports that.
     ghost cells: { Self → Option Cells };
@@ -67,12 +68,14 @@ pub trait FilledFile: Drop {
 
 /// A folder of the host that is filled.
 ///
-/// A path is that of an object below it: names with a slash between two, and none in front. The empty path is the folder
-/// itself. A call makes its object anew, and is refused where something has that name.
+/// A path is that of an object below it: names with a slash between two, and none in front. The
+/// empty path is the folder itself. A call makes its object anew, and is refused where something
+/// has that name.
 ///
 /// # Errors
-/// `Refused`: the host did not do it, and nothing is counted as made. `NoSpace`: the same, for want of room, which the next
-/// call would not find either. `OutOfMemory`: nothing is made, and the host was not at fault.
+/// `Refused`: the host did not do it, and nothing is counted as made. `NoSpace`: the same, for want
+/// of room, which the next call would not find either. `OutOfMemory`: nothing is made, and the host
+/// was not at fault.
 pub trait Folder: Drop {
     /// A file that was made and takes its bytes.
     type File: FilledFile;

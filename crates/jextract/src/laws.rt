@@ -7,7 +7,8 @@ pub fn whole_is_first()
     ensures { law.WholeIsFirst }
 {}
 
-/// Whatever an image says, each path at which something is made has names that lead into the folder.
+/// Whatever an image says, each path at which something is made has names that lead into the
+/// folder.
 pub fn makes_inside()
     ensures { law.MakesInside }
 {}
@@ -17,12 +18,14 @@ pub fn makes_below()
     ensures { law.MakesBelow }
 {}
 
-/// At no path is more than one object made, and what was made is completed once at most, also where a fault ends it.
+/// At no path is more than one object made, and what was made is completed once at most, also where
+/// a fault ends it.
 pub fn makes_once()
     ensures { law.MakesOnce }
 {}
 
-/// Nothing is made through a symlink: all that is done on the way to what is made, before or after, is done to directories.
+/// Nothing is made through a symlink: all that is done on the way to what is made, before or after,
+/// is done to directories.
 pub fn makes_through_directories()
     ensures { law.MakesThroughDirectories }
 {}
@@ -32,7 +35,8 @@ pub fn holes_read_back()
     ensures { law.HolesReadBack }
 {}
 
-/// A further name is of a file or a symlink that was made in the folder before, if the root is a directory.
+/// A further name is of a file or a symlink that was made in the folder before, if the root is a
+/// directory.
 pub fn links_back()
     ensures { law.LinksLeadBack }
 {}

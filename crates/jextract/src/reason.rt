@@ -17,7 +17,8 @@ pub enum Reason {
     Socket,
     /// Its mode has bits that name no kind.
     UnknownKind,
-    /// It is a symlink whose target is empty, has more than 4,095 bytes or a zero byte, or is not UTF-8.
+    /// It is a symlink whose target is empty, has more than 4,095 bytes or a zero byte, or is not
+    /// UTF-8.
     BadTarget,
     /// The image has no inode node of its number: the name leads nowhere.
     Missing,

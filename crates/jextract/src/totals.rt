@@ -5,6 +5,7 @@
 pub struct Totals {
     /// How many were left out. Each of them is told.
     pub left_out: u64,
-    /// How many lost the set-user-id or the set-group-id bit of their modes, as all do that are made without their owners.
+    /// How many lost the set-user-id or the set-group-id bit of their modes, as all do that are
+    /// made without their owners.
     pub lost_bits: u64,
 }

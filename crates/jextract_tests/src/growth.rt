@@ -118,8 +118,8 @@ fn fault(alloc: Global, image: &[u8]) -> Option<ExtractFault> {
     }
 }
 
-/// Passes with each allocation failing in turn too: memory is then blamed, and the same call answers as if there had been
-/// none before.
+/// Passes with each allocation failing in turn too: memory is then blamed, and the same call
+/// answers as if there had been none before.
 #[test]
 fn refused_growth_of_a_tree(rt: HostRuntime) {
     let Ok(image) = image_of(rt.alloc(), PLAIN) else {

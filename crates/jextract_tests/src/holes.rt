@@ -28,7 +28,8 @@ fn made(
     Ok((folder.lines, totals))
 }
 
-/// A block of 4,096 zeros is a hole, also at the end, where it is as short as the file; a zero beside another byte is written.
+/// A block of 4,096 zeros is a hole, also at the end, where it is as short as the file; a zero
+/// beside another byte is written.
 #[test]
 fn blocks_of_zeros(rt: HostRuntime) -> Result<(), Fail> {
     let mut bytes = [0u8; 12290];

@@ -7,7 +7,8 @@ ghost use Rattle.jextract.specs.Folders.{Counts, counted_fault};
 use jextract::{Attributes, FilledFile, Folder, FolderFault};
 use std::alloc::{AllocError, Global};
 
-/// A file that keeps its bytes, and each hole as its length in brackets. It fails once, after `calls` others.
+/// A file that keeps its bytes, and each hole as its length in brackets. It fails once, after
+/// `calls` others.
 #[derive(Drop)]
 pub(crate) struct RecordedFile {
     text: Vec<u8>,

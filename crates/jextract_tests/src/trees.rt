@@ -11,7 +11,8 @@ use std::alloc::Global;
 use std::test::Fail;
 use test_support::{DIRECTORY, FILE, Node, SYMLINK};
 
-/// What is made of an image, how many objects are left out and how many lose bits, and what is told.
+/// What is made of an image, how many objects are left out and how many lose bits, and what is
+/// told.
 fn extracted(
     alloc: Global,
     nodes: &[Node<'_>],
@@ -28,7 +29,8 @@ fn extracted(
     Ok((folder.lines, counted, notes.into_writer()))
 }
 
-/// Nodes, what is made of them, how many objects are left out and how many lose bits, and what is told.
+/// Nodes, what is made of them, how many objects are left out and how many lose bits, and what is
+/// told.
 type Row = (
     &'static [Node<'static>],
     &'static str,
@@ -186,7 +188,8 @@ fn owners_where_they_are_asked_for(rt: HostRuntime) -> Result<(), Fail> {
     Ok(())
 }
 
-/// Set-id bits, and no others, are dropped with the owners, of each object once; a sticky bit stays.
+/// Set-id bits, and no others, are dropped with the owners, of each object once; a sticky bit
+/// stays.
 #[test]
 fn bits_that_go_with_owners(rt: HostRuntime) -> Result<(), Fail> {
     let nodes = [

@@ -1,8 +1,8 @@
 //! Images of JFFS2, the Journalling Flash File System 2: read, checked, built and extended.
 //!
-//! This crate is the front door. It has no code of its own: it names, in one place, the calls and types
-//! of the crates below it that a program needs. `docs/PROOFS.md` says what is proved of each call,
-//! `docs/FORMAT.md` describes the medium byte by byte.
+//! This crate is the front door. It has no code of its own: it names, in one place, the calls and
+//! types of the crates below it that a program needs. `docs/PROOFS.md` says what is proved of each
+//! call, `docs/FORMAT.md` describes the medium byte by byte.
 //!
 //! | I want to | Call |
 //! |---|---|
@@ -19,14 +19,15 @@
 //! | write to an image | [`Session::resume`], then [`Session::run`] with a list of [`Op`] |
 //! | put the old image and new operations out as one | [`emit`] |
 //! | read an image with compressed data | [`decompressed`], then [`mount`]; [`decompress`] writes it |
+//! | write an image with compressed data | [`compress`], of one that is not |
 //! | read operations from a text | [`listing`], then [`operations`] |
 //! | know whether a power cut inside a node would be seen | [`weak_cut`] |
 //!
-//! The byte order of an image is a type parameter, [`LittleEndian`] or [`BigEndian`]; the size of its
-//! erase blocks is the [`Geometry`]. Both have to be known: an image does not tell them.
+//! The byte order of an image is a type parameter, [`LittleEndian`] or [`BigEndian`]; the size of
+//! its erase blocks is the [`Geometry`]. Both have to be known: an image does not tell them.
 //!
-//! What allocates takes the allocator and may answer that memory is out; no call panics. An image is
-//! at most [`GREATEST_IMAGE`] bytes long, and is lent to [`mount`], not copied.
+//! What allocates takes the allocator and may answer that memory is out; no call panics. An image
+//! is at most [`GREATEST_IMAGE`] bytes long, and is lent to [`mount`], not copied.
 //!
 //! The programs `example_read` and `example_write` use these calls.
 #![tactic(auto)]
@@ -36,7 +37,7 @@ pub use flashbase::{
     DeviceFault, FromReader, FromWriter, LoadFault, PutFault, Sink, Source, load, put_all,
 };
 pub use jbuild::{Parts, emit, operations};
-pub use jconvert::{ConvertFault, Converted, decompress, decompressed};
+pub use jconvert::{ConvertFault, Converted, compress, decompress, decompressed};
 pub use jlisting::{Action, Line, ListingFault, listing};
 pub use jlog::{Applied, Place, RunReport, Session, SessionFault};
 pub use jmount::{FindFault, Kind, MountFault, Mounted, Object, mount};

@@ -2,7 +2,9 @@ mod CommandLemmas
 mod TakenLemmas
 mod ExtractingLemmas
 pub mod DecompressingLemmas
+pub mod DiffLemmas
 pub mod WritingLemmas
 pub mod HostLemmas
 pub mod RunLemmas
 pub mod CutRunLemmas
+pub mod CompressingLemmas

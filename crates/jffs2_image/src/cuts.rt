@@ -25,7 +25,8 @@ use jreport::ProgramFault;
 use jsteps::Op;
 use std::alloc::Global;
 
-/// Tells operations on a mounted image, with the numbers of their lines. Answers how many nodes are weak.
+/// Tells operations on a mounted image, with the numbers of their lines. Answers how many nodes are
+/// weak.
 #[tactic(none)]
 fn tell_ops<E: Order, T: Sink>(
     alloc: Global,

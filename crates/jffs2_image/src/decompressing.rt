@@ -28,7 +28,7 @@ pub struct Taken {
 }
 
 /// What the program gives up for where an image is not converted.
-fn conversion_fault(fault: ConvertFault) -> ProgramFault<'static>
+pub(crate) fn conversion_fault(fault: ConvertFault) -> ProgramFault<'static>
     ensures { result ≡ fault_of_conversion fault }
 {
     match fault {
@@ -159,8 +159,9 @@ fn make_converted<'a, E: Order, M: Maker>(
     }
 }
 
-/// What `decompress` makes of an image goes to a file of this name, which is made only after all was judged that can be
-/// before a byte is written, and is told in a line. Answers how many findings of the image to note.
+/// What `decompress` makes of an image goes to a file of this name, which is made only after all
+/// was judged that can be before a byte is written, and is told in a line. Answers how many
+/// findings of the image to note.
 pub fn decompress_into<'a, E: Order, M: Maker, T: Sink>(
     alloc: Global,
     maker: &mut M,

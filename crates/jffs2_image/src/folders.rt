@@ -26,7 +26,8 @@ use jreport::{ProgramFault, attribute_count, noted, put_notes};
 use jscan::Geometry;
 use std::alloc::{AllocError, Global};
 
-/// What an extraction came to: what it counted, and how many findings and nodes of extended attributes the image has.
+/// What an extraction came to: what it counted, and how many findings and nodes of extended
+/// attributes the image has.
 #[derive(Clone, Copy)]
 pub struct Extracted {
     pub totals: Totals,
@@ -146,7 +147,8 @@ fn extract_decompressed<'a, E: Order, X: Folder, N: Sink>(
     }
 }
 
-/// `extract`: the tree of the image of a name is made in a folder, whose name is told where it can't be made.
+/// `extract`: the tree of the image of a name is made in a folder, whose name is told where it
+/// can't be made.
 pub fn extract_image<'a, E: Order, L: Loader, X: Folder, N: Sink>(
     alloc: Global,
     loader: &mut L,
@@ -308,7 +310,8 @@ fn note_extraction<E: Sink>(done: Extracted, errors: &mut E)
     }
 }
 
-/// How an extraction ends: something is found where an object was left out, or where the image has findings.
+/// How an extraction ends: something is found where an object was left out, or where the image has
+/// findings.
 fn outcome_of_extracted(done: Extracted) -> Outcome
     ensures { result ≡ outcome_of (found_by_extraction done) }
 {

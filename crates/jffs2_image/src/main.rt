@@ -1,17 +1,21 @@
 //! Reads and writes flash images of JFFS2: the program `jffs2_image`.
 //!
-//! `jcommand` reads the command line, `program` opens files and lets `jreport` do the work over them, and `writing` makes
-//! images by `jbuild`. `main` hands over the process's arguments and streams.
+//! `jcommand` reads the command line, `program` runs it, `looking` opens images and lets `jreport`
+//! do the work over them, and `writing` makes images by `jbuild`. `main` hands over the process's
+//! arguments and streams.
 #![tactic(auto)]
 
 ghost use Rattle.std.specs.Prelude.{◌≡◌, IfOk, map, string_bytes};
 ghost use Rattle.std.specs.Vec.Iter.{into_iter_items};
 
+pub mod compressing;
 pub mod cuts;
 pub mod decompressing;
+pub mod diff;
 mod folders;
 pub mod host;
 pub mod info;
+mod looking;
 pub mod output;
 pub mod program;
 pub mod system;

@@ -27,7 +27,8 @@ pub trait Output: Sink {
         ensures count { CountsErr (Self.failures self.old) (Self.failures self.new) result };
 }
 
-/// A writer after a buffer. A call that was interrupted, or that takes nothing of a nonempty slice, is a failure.
+/// A writer after a buffer. A call that was interrupted, or that takes nothing of a nonempty slice,
+/// is a failure.
 #[derive(Drop)]
 pub struct BufferedOutput<W: Write + Drop> {
     writer: BufWriter<W>,

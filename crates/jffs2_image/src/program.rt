@@ -1,31 +1,33 @@
-//! The program on its arguments: it opens the image, lets `jreport` do the work, and says how that ended.
-ghost use Rattle.std.specs.Prelude.{◌≡◌, true, IfErr, IfOk, None, OnOk, Some, map, option_map};
+//! The program on its arguments: it opens the image, lets `jreport` do the work, and says how that
+//! ended.
+ghost use Rattle.std.specs.Prelude.{◌≡◌, true, IfErr, OnOk, map};
 ghost use Rattle.std.specs.Io.KnownBytes.{Appends};
-ghost use Rattle.jcommand.specs.Parsed.{Parsed, ScanParsed, CheckParsed, ListParsed, CatParsed, BuildParsed, AppendParsed, DecompressParsed, options_of, view};
+ghost use Rattle.jcommand.specs.Parsed.{BuildParsed, AppendParsed, DecompressParsed, options_of, view};
 ghost use Rattle.jreport.specs.Advice.{fault_lines_of};
-ghost use Rattle.flashbase.specs.Device.{CountsErr};
-ghost use Rattle.jffs2_image.specs.Host.{Blames, BlamesCommand, BlamesDecompress, BlamesFor, GivesFile, HasFailed, MakesFile, ReadsFile};
+ghost use Rattle.jffs2_image.specs.Host.{Blames, BlamesCommand, BlamesDecompress, BlamesFor, HasFailed, MakesFile};
+ghost use Rattle.jffs2_image.specs.DiffRuns.{RunsDiff};
 ghost use Rattle.jffs2_image.specs.FolderRuns.{RunsExtract, RunsListing, RunsTask};
+ghost use Rattle.jffs2_image.specs.Compressing.{RunsCompress};
 ghost use Rattle.jffs2_image.specs.CutRuns.{RunsCuts};
 ghost use Rattle.jffs2_image.specs.InfoRuns.{RunsInfo};
 ghost use Rattle.jffs2_image.specs.Writes.{GivesText};
-ghost use Rattle.jffs2_image.specs.Runs.{IsCommand, IsSaid, Meets, MeetsCommand, MeetsWhole, RunsCommand, Says, note_after, success_of};
+ghost use Rattle.jffs2_image.specs.Runs.{IsSaid, Meets, MeetsCommand, MeetsWhole, RunsCommand, Says, note_after, success_of};
 
+use crate::compressing::run_compress;
 use crate::cuts::run_cuts;
 use crate::decompressing::{decompress_into, take_file};
+use crate::diff::run_diff;
 use crate::folders::{Folders, run_extract, run_listing};
 use crate::host::{Loader, Maker};
 use crate::info::run_info;
+use crate::looking::{cat, check, list, scan};
 use crate::output::Output;
 use crate::writing::{Texts, load_file, write_image};
 use byteorder::{BigEndian, LittleEndian};
 use flashbase::{Sink, put_all};
 use jcommand::{Options, Outcome, Request, RequestFault, Target, Task, task};
 use jnode::{Endian, Order};
-use jreport::{
-    ProgramFault, check_lines, fault_lines, file_bytes, image_file, image_tree, list_lines,
-    note_line, path_word, stream_lines,
-};
+use jreport::{ProgramFault, fault_lines, note_line};
 use std::alloc::Global;
 
 /// What a run comes to that went well.
@@ -44,243 +46,8 @@ pub enum Stop<'a> {
     Fault(ProgramFault<'a>),
 }
 
-/// The file of an image.
-fn open<'a, L: Loader>(loader: &mut L, image: &'a str) -> Result<L::Opened, ProgramFault<'a>>
-    ensures fault { IfErr result (λ fault. fault ≡ ProgramFault.File image.entry) }
-    ensures opened { IfOk result
-        (λ source. GivesFile (L.told loader.old image.entry.now) (L.Opened.rest source)) }
-    ensures counting { IfOk result (λ source. L.Opened.failures source ≡ L.failures loader.old) }
-    ensures count { CountsErr (L.failures loader.old) (L.failures loader.new) result }
-{
-    match loader.open(image) {
-        Ok(source) => Ok(source),
-        Err(_) => Err(ProgramFault::File(image)),
-    }
-}
-
-/// `check --scan`: answers how much was found.
-fn scan<'a, E: Order, L: Loader, T: Sink>(
-    alloc: Global,
-    loader: &mut L,
-    options: Options,
-    image: &'a str,
-    sink: &mut T,
-) -> Result<u64, ProgramFault<'a>>
-    ensures meets { Meets (L.told loader.old) (None, None) E.order (ScanParsed options image.now)
-        (T.taken sink.old) (T.taken sink.new) (T.failures sink.old) (T.failures sink.new) result }
-    ensures host { ReadsFile (L.told loader.old image.now) (L.failures loader.old)
-        (L.failures loader.new) result }
-{
-    let source = open(loader, image)?;
-    let (answer, read) = stream_lines::<E, _, _>(alloc, source, options.geometry, sink);
-    if let Some(source) = read {
-        loader.close(source);
-    }
-    answer
-}
-
-/// `check`: answers whether anything was found, as a number.
-fn check<'a, E: Order, L: Loader, T: Sink>(
-    alloc: Global,
-    loader: &mut L,
-    options: Options,
-    shape: bool,
-    image: &'a str,
-    sink: &mut T,
-) -> Result<u64, ProgramFault<'a>>
-    ensures meets { Meets (L.told loader.old) (None, None) E.order
-        (CheckParsed options shape image.now) (T.taken sink.old) (T.taken sink.new)
-        (T.failures sink.old) (T.failures sink.new) result }
-    ensures host { ReadsFile (L.told loader.old image.now) (L.failures loader.old)
-        (L.failures loader.new) result }
-{
-    let mut source = open(loader, image)?;
-    let answer = check_lines::<E, _, _>(alloc, &mut source, options.geometry, shape, sink);
-    loader.close(source);
-    Ok(u64::from(answer?))
-}
-
-/// `ls --decompress`: answers how many findings of the image that was read to note.
-fn list_decompressed<'a, E: Order, L: Loader, T: Sink>(
-    alloc: Global,
-    loader: &mut L,
-    options: Options,
-    image: &'a str,
-    sink: &mut T,
-) -> Result<u64, ProgramFault<'a>>
-    ensures meets { Meets (L.told loader.old) (None, None) E.order
-        (ListParsed options true image.now None) (T.taken sink.old) (T.taken sink.new)
-        (T.failures sink.old) (T.failures sink.new) result }
-    ensures host { ReadsFile (L.told loader.old image.now) (L.failures loader.old)
-        (L.failures loader.new) result }
-{
-    let taken = match take_file::<E, L>(alloc, loader, options.geometry, image) {
-        Ok(taken) => taken,
-        Err(fault) => return Err(fault),
-    };
-    match image_tree::<E, T>(alloc, taken.image.as_slice(), options.geometry, None, sink) {
-        Ok(_) => Ok(taken.found.noted),
-        Err(fault) => Err(fault),
-    }
-}
-
-/// `ls` of the whole tree: answers how many findings to note.
-fn list_whole<'a, E: Order, L: Loader, T: Sink>(
-    alloc: Global,
-    loader: &mut L,
-    options: Options,
-    decompress: bool,
-    image: &'a str,
-    sink: &mut T,
-) -> Result<u64, ProgramFault<'a>>
-    ensures meets { Meets (L.told loader.old) (None, None) E.order
-        (ListParsed options decompress image.now None) (T.taken sink.old) (T.taken sink.new)
-        (T.failures sink.old) (T.failures sink.new) result }
-    ensures host { ReadsFile (L.told loader.old image.now) (L.failures loader.old)
-        (L.failures loader.new) result }
-{
-    if decompress {
-        return list_decompressed::<E, L, T>(alloc, loader, options, image, sink);
-    }
-    let mut source = open(loader, image)?;
-    let answer = list_lines::<E, _, _>(alloc, &mut source, options.geometry, None, sink);
-    loader.close(source);
-    answer
-}
-
-/// `ls --decompress` of a path, whose word is judged before the image is opened.
-fn part_decompressed<'a, E: Order, L: Loader, T: Sink>(
-    alloc: Global,
-    loader: &mut L,
-    options: Options,
-    image: &'a str,
-    path: &str,
-    sink: &mut T,
-) -> Result<u64, ProgramFault<'a>>
-    ensures meets { Meets (L.told loader.old) (None, None) E.order
-        (ListParsed options true image.now (Some path.now)) (T.taken sink.old) (T.taken sink.new)
-        (T.failures sink.old) (T.failures sink.new) result }
-    ensures host { ReadsFile (L.told loader.old image.now) (L.failures loader.old)
-        (L.failures loader.new) result }
-{
-    let path = path_word(alloc, path.as_bytes())?;
-    let taken = match take_file::<E, L>(alloc, loader, options.geometry, image) {
-        Ok(taken) => taken,
-        Err(fault) => return Err(fault),
-    };
-    let bytes = taken.image.as_slice();
-    match image_tree::<E, T>(alloc, bytes, options.geometry, Some(path.as_slice()), sink) {
-        Ok(_) => Ok(taken.found.noted),
-        Err(fault) => Err(fault),
-    }
-}
-
-/// `ls` of a path, whose word is judged before the image is opened.
-fn list_part<'a, E: Order, L: Loader, T: Sink>(
-    alloc: Global,
-    loader: &mut L,
-    options: Options,
-    decompress: bool,
-    image: &'a str,
-    path: &str,
-    sink: &mut T,
-) -> Result<u64, ProgramFault<'a>>
-    ensures meets { Meets (L.told loader.old) (None, None) E.order
-        (ListParsed options decompress image.now (Some path.now)) (T.taken sink.old)
-        (T.taken sink.new) (T.failures sink.old) (T.failures sink.new) result }
-    ensures host { ReadsFile (L.told loader.old image.now) (L.failures loader.old)
-        (L.failures loader.new) result }
-{
-    if decompress {
-        return part_decompressed::<E, L, T>(alloc, loader, options, image, path, sink);
-    }
-    let path = path_word(alloc, path.as_bytes())?;
-    let mut source = open(loader, image)?;
-    let part = Some(path.as_slice());
-    let answer = list_lines::<E, _, _>(alloc, &mut source, options.geometry, part, sink);
-    loader.close(source);
-    answer
-}
-
-/// `ls`: answers how many findings to note.
-fn list<'a, E: Order, L: Loader, T: Sink>(
-    alloc: Global,
-    loader: &mut L,
-    options: Options,
-    decompress: bool,
-    image: &'a str,
-    path: Option<&str>,
-    sink: &mut T,
-) -> Result<u64, ProgramFault<'a>>
-    ensures meets { Meets (L.told loader.old) (None, None) E.order
-        (ListParsed options decompress image.now (option_map (λ p. p.now) path.entry))
-        (T.taken sink.old) (T.taken sink.new) (T.failures sink.old) (T.failures sink.new) result }
-    ensures host { ReadsFile (L.told loader.old image.now) (L.failures loader.old)
-        (L.failures loader.new) result }
-{
-    match path {
-        Some(path) => {
-            list_part::<E, L, T>(alloc, loader, options, decompress, image, path, sink)
-        }
-        None => list_whole::<E, L, T>(alloc, loader, options, decompress, image, sink),
-    }
-}
-
-/// `cat --decompress`: answers how many findings of the image that was read to note. The word of the path is judged before
-/// the image is opened.
-fn cat_decompressed<'a, E: Order, L: Loader, T: Sink>(
-    alloc: Global,
-    loader: &mut L,
-    options: Options,
-    image: &'a str,
-    path: &str,
-    sink: &mut T,
-) -> Result<u64, ProgramFault<'a>>
-    ensures meets { Meets (L.told loader.old) (None, None) E.order
-        (CatParsed options true image.now path.now) (T.taken sink.old) (T.taken sink.new)
-        (T.failures sink.old) (T.failures sink.new) result }
-    ensures host { ReadsFile (L.told loader.old image.now) (L.failures loader.old)
-        (L.failures loader.new) result }
-{
-    let path = path_word(alloc, path.as_bytes())?;
-    let taken = match take_file::<E, L>(alloc, loader, options.geometry, image) {
-        Ok(taken) => taken,
-        Err(fault) => return Err(fault),
-    };
-    match image_file::<E, T>(alloc, taken.image.as_slice(), options.geometry, &path, sink) {
-        Ok(_) => Ok(taken.found.noted),
-        Err(fault) => Err(fault),
-    }
-}
-
-/// `cat`: answers how many findings to note. The word of the path is judged before the image is opened.
-fn cat<'a, E: Order, L: Loader, T: Sink>(
-    alloc: Global,
-    loader: &mut L,
-    options: Options,
-    decompress: bool,
-    image: &'a str,
-    path: &str,
-    sink: &mut T,
-) -> Result<u64, ProgramFault<'a>>
-    ensures meets { Meets (L.told loader.old) (None, None) E.order
-        (CatParsed options decompress image.now path.now) (T.taken sink.old) (T.taken sink.new)
-        (T.failures sink.old) (T.failures sink.new) result }
-    ensures host { ReadsFile (L.told loader.old image.now) (L.failures loader.old)
-        (L.failures loader.new) result }
-{
-    if decompress {
-        return cat_decompressed::<E, L, T>(alloc, loader, options, image, path, sink);
-    }
-    let path = path_word(alloc, path.as_bytes())?;
-    let mut source = open(loader, image)?;
-    let answer = file_bytes::<E, _, _>(alloc, &mut source, options.geometry, &path, sink);
-    loader.close(source);
-    answer
-}
-
-/// `build`: an image of what a listing makes of an empty file system. The listing's text is kept, since a fault may name a
-/// part of it. There is no finding to note.
+/// `build`: an image of what a listing makes of an empty file system. The listing's text is kept,
+/// since a fault may name a part of it. There is no finding to note.
 fn build<'a, E: Order, L: Loader, M: Maker, T: Sink>(
     alloc: Global,
     loader: &mut L,
@@ -312,8 +79,8 @@ fn build<'a, E: Order, L: Loader, M: Maker, T: Sink>(
     Ok(0)
 }
 
-/// `append --decompress`: the same of what `decompress` makes of the image. Answers how many findings of the image that was
-/// read to note.
+/// `append --decompress`: the same of what `decompress` makes of the image. Answers how many
+/// findings of the image that was read to note.
 fn append_decompressed<'a, E: Order, L: Loader, M: Maker, T: Sink>(
     alloc: Global,
     loader: &mut L,
@@ -358,8 +125,8 @@ fn append_decompressed<'a, E: Order, L: Loader, M: Maker, T: Sink>(
     }
 }
 
-/// `decompress`: answers how many findings of the image to note. It is held in memory before the file is made, so the two
-/// may be one.
+/// `decompress`: answers how many findings of the image to note. It is held in memory before the
+/// file is made, so the two may be one.
 fn decompress<'a, E: Order, L: Loader, M: Maker, T: Sink>(
     alloc: Global,
     loader: &mut L,
@@ -390,9 +157,9 @@ fn decompress<'a, E: Order, L: Loader, M: Maker, T: Sink>(
     )
 }
 
-/// `append`: an image with what a listing makes of its file system. It is held in memory before the file is made, so the two
-/// may be one. The listing's text is kept, since a fault may name a part of it. Answers how many
-/// findings of the image to note.
+/// `append`: an image with what a listing makes of its file system. It is held in memory before the
+/// file is made, so the two may be one. The listing's text is kept, since a fault may name a part
+/// of it. Answers how many findings of the image to note.
 fn append<'a, E: Order, L: Loader, M: Maker, T: Sink>(
     alloc: Global,
     loader: &mut L,
@@ -644,8 +411,8 @@ fn run_image<L: Loader, M: Maker, T: Output, E: Sink>(
     output: &mut T,
     errors: &mut E,
 ) -> Outcome
-    // A fault is one that is due, and is told in one line, which a note may follow; `ls` and `cat` note what they passed over. What is told of the
-    // host's files is so.
+    // A fault is one that is due, and is told in one line, which a note may follow; `ls` and `cat`
+    // note what they passed over. What is told of the host's files is so.
     ensures { (ran : RunsCommand (output.new ≡ output.old) (L.told loader.old)
         (M.held maker.old, M.held maker.new) command.entry (T.taken output.old)
         (T.given output.new) (T.failures output.old) (T.failures output.new)
@@ -675,8 +442,9 @@ pub fn run<L: Loader, M: Maker, D: Folders, T: Output, E: Sink>(
     output: &mut T,
     errors: &mut E,
 ) -> Outcome
-    // The words make a request, whose answer goes out, or are answered by a text; or they ask to fill or to read a folder,
-    // or for what an image tells of itself, or for what stands after a stop of writing one.
+    // The words make a request, whose answer goes out, or are answered by a text; or they ask to
+    // fill or to read a folder, for what an image tells of itself, for what stands after a stop of
+    // writing one, to compress one, or for what the trees of two images differ in.
     ensures { RunsTask (map (λ w. w.now) args.now)
         (λ command. (ran : RunsCommand (output.new ≡ output.old) (L.told loader.old)
         (M.held maker.old, M.held maker.new) command (T.taken output.old)
@@ -736,6 +504,50 @@ pub fn run<L: Loader, M: Maker, D: Folders, T: Output, E: Sink>(
           new = E.taken errors.new;
           before = E.failures errors.old;
           now = E.failures errors.new;
+        }) result)
+        ((folders.new ≡ folders.old)
+        × RunsCompress (map (λ w. w.now) args.now)
+        (record {
+          told = L.told loader.old;
+          before = L.failures loader.old;
+          now = L.failures loader.new;
+        }) (record {
+          names_old = M.names maker.old;
+          names_new = M.names maker.new;
+          held = (M.held maker.old, M.held maker.new);
+          before = M.failures maker.old;
+          now = M.failures maker.new;
+        }) (maker.new ≡ maker.old)
+        (record {
+          old = T.taken output.old;
+          new = T.given output.new;
+          before = T.failures output.old;
+          now = T.failures output.new;
+        })
+        (record {
+          old = E.taken errors.old;
+          new = E.taken errors.new;
+          before = E.failures errors.old;
+          now = E.failures errors.new;
+        }) result)
+        ((maker.new ≡ maker.old) × (folders.new ≡ folders.old)
+        × RunsDiff (map (λ w. w.now) args.now)
+        (record {
+          told = L.told loader.old;
+          before = L.failures loader.old;
+          now = L.failures loader.new;
+        }) (output.new ≡ output.old)
+        (record {
+          old = T.taken output.old;
+          new = T.given output.new;
+          before = T.failures output.old;
+          now = T.failures output.new;
+        })
+        (record {
+          old = E.taken errors.old;
+          new = E.taken errors.new;
+          before = E.failures errors.old;
+          now = E.failures errors.new;
         }) result) }
 {
     match task(alloc, args) {
@@ -744,6 +556,8 @@ pub fn run<L: Loader, M: Maker, D: Folders, T: Output, E: Sink>(
         Ok(Task::Listing(asked)) => run_listing(alloc, folders, asked, output, errors),
         Ok(Task::Info { image }) => run_info(loader, image, output, errors),
         Ok(Task::Cuts(asked)) => run_cuts(alloc, loader, asked, output, errors),
+        Ok(Task::Compress(asked)) => run_compress(alloc, loader, maker, asked, output, errors),
+        Ok(Task::Diff(asked)) => run_diff(alloc, loader, asked, output, errors),
         Err(fault) => run_image(alloc, loader, maker, Err(fault), output, errors),
     }
 }

@@ -21,7 +21,8 @@ use jscan::GREATEST_IMAGE;
 use jsteps::Op;
 use std::alloc::{AllocError, Global};
 
-/// What a fault may name a part of: the text of a listing, and the name of a file that a line of it names.
+/// What a fault may name a part of: the text of a listing, and the name of a file that a line of it
+/// names.
 #[derive(Drop)]
 pub struct Texts {
     pub listing: Vec<u8>,
@@ -58,7 +59,8 @@ pub fn load_file<'a, L: Loader>(loader: &mut L, name: &'a str) -> Result<Vec<u8>
     }
 }
 
-/// The files that a listing names, each of which is read once. The name of one that can't be opened is kept in `unread`.
+/// The files that a listing names, each of which is read once. The name of one that can't be opened
+/// is kept in `unread`.
 pub fn load_parts<'a, L: Loader>(
     alloc: Global,
     loader: &mut L,
@@ -176,7 +178,8 @@ fn put_image<E: Order, S: Output>(
     }
 }
 
-/// Makes the file of an image, and puts out a base and what operations on it make. Answers what was done.
+/// Makes the file of an image, and puts out a base and what operations on it make. Answers what was
+/// done.
 fn make_image<'a, E: Order, M: Maker>(
     alloc: Global,
     maker: &mut M,
@@ -223,8 +226,8 @@ fn make_image<'a, E: Order, M: Maker>(
     }
 }
 
-/// Writes an image: the operations of a listing's lines, on a base. What they did is told in a line.
-/// Answers how many findings of the base to note.
+/// Writes an image: the operations of a listing's lines, on a base. What they did is told in a
+/// line. Answers how many findings of the base to note.
 fn write_lines<'a, 'p, 'b: 'p, E: Order, M: Maker, T: Sink>(
     alloc: Global,
     maker: &mut M,
@@ -262,9 +265,10 @@ fn write_lines<'a, 'p, 'b: 'p, E: Order, M: Maker, T: Sink>(
     Ok(noted(&mounted))
 }
 
-/// Writes an image: the operations of a listing's text, on a base. What they did is told in a line. The file is made only
-/// after all was judged that can be before a byte is written. Answers how many findings of the base
-/// to note. The name of a file that a line names, and that can't be opened, is kept in `unread`.
+/// Writes an image: the operations of a listing's text, on a base. What they did is told in a line.
+/// The file is made only after all was judged that can be before a byte is written. Answers how
+/// many findings of the base to note. The name of a file that a line names, and that can't be
+/// opened, is kept in `unread`.
 pub fn write_image<'a, E: Order, L: Loader, M: Maker, T: Sink>(
     alloc: Global,
     loader: &mut L,

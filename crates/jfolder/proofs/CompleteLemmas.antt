@@ -129,8 +129,12 @@ opens known path what.Directory (Some names) fit = record {
   gives = append-nil (children path (named_of names));
 }
 opens known path what.Directory None fit = absurd fit
-opens known path (what.Regular bytes) (Some names) fit = absurd fit
-opens known path (what.Regular bytes) None fit = record { opened = []; each = refl; told = All-nil (IsNamed known); gives = refl }
+opens known path (what.Regular file) (Some names) fit = absurd fit
+opens known path (what.Regular file) None fit = record { opened = []; each = refl; told = All-nil (IsNamed known); gives = refl }
+opens known path what.Fifo (Some names) fit = absurd fit
+opens known path what.Fifo None fit = record { opened = []; each = refl; told = All-nil (IsNamed known); gives = refl }
+opens known path what.Socket (Some names) fit = absurd fit
+opens known path what.Socket None fit = record { opened = []; each = refl; told = All-nil (IsNamed known); gives = refl }
 opens known path (what.Symlink target) (Some names) fit = absurd fit
 opens known path (what.Symlink target) None fit = record { opened = []; each = refl; told = All-nil (IsNamed known); gives = refl }
 opens known path (what.Link first) (Some names) fit = absurd fit

@@ -1,87 +1,35 @@
 -- The text of a tree, read as the actions that make it.
-use Rattle.std.proofs.Common.{◌≡◌, ℕ, zero, suc, ◌*◌, ◌^◌, ◌<◌, ◌≤◌, ◌==◌, ◌&&◌, Bool, true, false, cond, List, [], ◌∷◌, ◌++◌, map, drop, length, sym, ap, ◌∙◌, subst, refl, arith, codes, length-take, length-drop, Option, Some}
+use Rattle.std.proofs.Common.{◌≡◌, ℕ, ◌^◌, ◌<◌, ◌≤◌, ◌==◌, ◌&&◌, Bool, true, false, cond, List, [], ◌∷◌, ◌++◌, length, sym, ap, ◌∙◌, subst, refl, arith, codes, Option, Some}
 use Rattle.std.specs.List.{All, flat_map}
 use Rattle.std.specs.Str.{IsUtf8}
 use Rattle.std.specs.String.{string_bytes}
 use Rattle.std.specs.Fmt.{decimal}
 use Rattle.std.proofs.lemmas.Grind.{flat_map-append}
-use Rattle.std.proofs.lemmas.List.Elements.{All-nil, All-drop, All-head, All-push, All-tail, All-take, All-weaker}
+use Rattle.std.proofs.lemmas.List.Elements.{All-head, All-tail}
 use Rattle.std.proofs.lemmas.Bool.Decides.{nat_tests}
 use Rattle.std.proofs.lemmas.Str.{IsUtf8-string_bytes, is_utf8-from_IsUtf8}
-use Rattle.flashbase.specs.Lists.{below}
-use Rattle.jline.specs.Words.{hex_of, octal, word_of}
+use Rattle.jline.specs.Words.{octal, word_of}
 use Rattle.jsteps.specs.declared.op.Op.TheVariants as op
 use Rattle.jword.specs.Words.{◌>>=◌}
 use Rattle.jlisting.specs.Listing.{lines_in, lines_of, six_operands, statement_of_words, operation, owner_word, number}
 use Rattle.jlisting.specs.declared.line.Action.{Action}
 use Rattle.jlisting.specs.declared.line.Action.TheVariants as action
 use Rattle.jlisting.specs.declared.statement.Statement.TheVariants as kind
-use Rattle.jfolder.specs.Text.{content_words, is_link, item_words, items_words, words_line, lines_text, listing_text, object_words, owner_words, written_piece, piece_count, root_words, settings_of_root, settings_with, time_words, write_words}
-use Rattle.jfolder.specs.Actions.{AttributesFit, ContentFits, IsRooted, ItemFits, WhatFits, actions_of, content_actions, item_actions, object_actions, write_of}
+use Rattle.jfolder.specs.Text.{is_link, item_words, items_words, words_line, lines_text, listing_text, object_words, owner_words, root_words, settings_of_root, settings_with, time_words}
+use Rattle.jfolder.specs.Actions.{AttributesFit, IsRooted, ItemFits, WhatFits, actions_of, item_actions, object_actions}
 use Rattle.jfolder.specs.Laws.{ListingIsReadBack}
 use Rattle.jfolder.specs.declared.settings.Settings.{Settings}
 use Rattle.jfolder.specs.declared.tree.Attributes.{Attributes}
-use Rattle.jfolder.specs.declared.tree.Content.{Content}
-use Rattle.jfolder.specs.declared.tree.Content.TheVariants as content
 use Rattle.jfolder.specs.declared.tree.Item.{Item}
 use Rattle.jfolder.specs.declared.tree.What.{What}
 use Rattle.jfolder.specs.declared.tree.What.TheVariants as what
-use Rattle.jfolder.proofs.SeenLemmas.{IsByte, IsPlain, hex_of_seen, seen_plain, text_bytes, word_plain}
-use Rattle.jfolder.proofs.WordLemmas.{file_read_back, mode_read_back, number_read_back, owner_read_back}
+use Rattle.jfolder.proofs.SeenLemmas.{IsPlain, text_bytes}
+use Rattle.jfolder.proofs.WordLemmas.{mode_read_back, name_read_back, number_read_back, owner_read_back}
 use Rattle.jfolder.proofs.LineLemmas.{Reads, reads_nothing}
-use Rattle.jfolder.proofs.ReadLemmas.{IsText, Set, create_means, decimal_plain, lines_append, link_means, mkdir_means, mode_plain, none_plain, owner_means, part_means, path_plain, symlink_means, then_action, then_settings, time_means, verb_plain, with, write_means}
+use Rattle.jfolder.proofs.ReadLemmas.{IsText, Set, decimal_plain, fifo_means, file_means, lines_append, link_means, mkdir_means, mode_plain, none_plain, owner_means, path_plain, socket_means, symlink_means, then_action, then_settings, time_means, verb_plain, with}
 
 four_plain : (v w x y : List ℕ) → IsPlain v → IsPlain w → IsPlain x → IsPlain y → All IsPlain (v ∷ w ∷ x ∷ y ∷ [])
 four_plain v w x y a b c d = with v (w ∷ x ∷ y ∷ []) a (with w (x ∷ y ∷ []) b (with x (y ∷ []) c (with y [] d none_plain)))
-
--- ---- pieces of a file
-
-piece_some : (bytes : List ℕ) (k : ℕ) → 4096 * k < length bytes → 0 < length (written_piece bytes k)
-piece_some bytes k within = omega (arith, length-take 4096 (drop (4096 * k) bytes), length-drop (4096 * k) bytes)
-
-piece_text : (bytes : List ℕ) (k : ℕ) → All IsByte bytes → 4096 * k < length bytes → IsText (written_piece bytes k)
-piece_text bytes k all within = record {
-  bytes_fit = All-take IsByte 4096 (drop (4096 * k) bytes) (All-drop IsByte (4096 * k) bytes all);
-  some = piece_some bytes k within;
-}
-
-abbrev Within : List ℕ → ℕ → Type 0
-Within bytes k = 4096 * k < length bytes
-
-reads_pieces : (s : Set) (path bytes : List ℕ) (ks : List ℕ) (rest : List ℕ) (actions : List Action) → IsText path → All IsByte bytes
-    → length bytes < 2 ^ 31 → All (Within bytes) ks → Reads s rest actions
-    → Reads s (lines_text (map (write_words path bytes) ks) ++ rest) (map (write_of s.time path bytes) ks ++ actions)
-reads_pieces s path bytes [] rest actions is all short within next = next
-reads_pieces s path bytes (k ∷ ks) rest actions is all short within next =
-    let here : 4096 * k < length bytes = All-head (Within bytes) k ks within in
-    then_action s 119 (codes "rite") (word_of path ∷ decimal (4096 * k) ∷ hex_of (written_piece bytes k) ∷ []) (map (write_words path bytes) ks) rest
-    (write_of s.time path bytes k) (map (write_of s.time path bytes) ks ++ actions) refl
-    (four_plain (codes "write") (word_of path) (decimal (4096 * k)) (hex_of (written_piece bytes k)) (verb_plain (codes "write") refl) (path_plain path)
-    (decimal_plain (4096 * k) (omega arith)) (seen_plain (hex_of (written_piece bytes k)) (hex_of_seen (written_piece bytes k))))
-    (write_means s path (4096 * k) (written_piece bytes k) is (omega arith) (piece_text bytes k all here))
-    (reads_pieces s path bytes ks rest actions is all short (All-tail (Within bytes) k ks within) next)
-
-below_within : (n m : ℕ) → n ≤ m → All (λ k. k < m) (below n)
-below_within zero m few = All-nil (λ k. k < m)
-below_within (suc n) m few = All-push (λ k. k < m) (below n) n (below_within n m (omega arith)) (omega arith)
-
-pieces_within : (bytes : List ℕ) → All (Within bytes) (below (piece_count bytes))
-pieces_within bytes = All-weaker (λ k. k < piece_count bytes) (Within bytes) (λ k fits. omega arith) (below (piece_count bytes)) (below_within (piece_count bytes) (piece_count bytes) (omega arith))
-
--- ---- what gives a file its bytes
-
-reads_content : (s : Set) (path : List ℕ) (c : Content) (rest : List ℕ) (actions : List Action) → IsText path → ContentFits c → Reads s rest actions
-    → Reads s (lines_text (content_words path c) ++ rest) (content_actions s.time path c ++ actions)
-reads_content s path content.Empty rest actions is fits next = next
-reads_content s path (content.File file) rest actions is fits next =
-    let name = string_bytes file in
-    let text = file_read_back name (is_utf8-from_IsUtf8 name (IsUtf8-string_bytes file)) fits.0 in
-    then_action s 112 (codes "art") (word_of path ∷ codes "0" ∷ name ∷ []) [] rest (action.Part s.time path 0 name) actions refl
-    (four_plain (codes "part") (word_of path) (codes "0") name (verb_plain (codes "part") refl) (path_plain path)
-    (verb_plain (codes "0") refl) (word_plain name fits.1 fits.2))
-    (part_means s path name is text) next
-reads_content s path (content.Bytes bytes) rest actions is fits next =
-    reads_pieces s path bytes.items (below (piece_count bytes.items)) rest actions is fits.0 fits.1 (pieces_within bytes.items) next
 
 -- ---- an object, where its settings are set
 
@@ -106,14 +54,24 @@ reads_directory path a rest actions fit is next =
     then_action (set_of a) 109 (codes "kdir") (octal a.mode ∷ word_of path ∷ []) [] rest (action.Op (op.Mkdir a.time path a.mode a.uid a.gid)) actions refl
     (moded_plain (codes "mkdir") a.mode path (verb_plain (codes "mkdir") refl) fit.mode) (mkdir_means (set_of a) a.mode path fit.mode is) next
 
-reads_regular : (path : List ℕ) (a : Attributes) (c : Content) (rest : List ℕ) (actions : List Action) → AttributesFit a → IsText path → ContentFits c
-    → Reads (set_of a) rest actions
-    → Reads (set_of a) (lines_text (object_words path a (what.Regular c)) ++ rest) (object_actions path a (what.Regular c) ++ actions)
-reads_regular path a c rest actions fit is fits next =
-    then_action (set_of a) 99 (codes "reate") (octal a.mode ∷ word_of path ∷ []) (content_words path c) rest
-    (action.Op (op.Create a.time path a.mode a.uid a.gid)) (content_actions a.time path c ++ actions) refl
-    (moded_plain (codes "create") a.mode path (verb_plain (codes "create") refl) fit.mode) (create_means (set_of a) a.mode path fit.mode is)
-    (reads_content (set_of a) path c rest actions is fits next)
+reads_fifo : (path : List ℕ) (a : Attributes) (rest : List ℕ) (actions : List Action) → AttributesFit a → IsText path → Reads (set_of a) rest actions
+    → Reads (set_of a) (lines_text (object_words path a what.Fifo) ++ rest) (object_actions path a what.Fifo ++ actions)
+reads_fifo path a rest actions fit is next =
+    then_action (set_of a) 102 (codes "ifo") (octal a.mode ∷ word_of path ∷ []) [] rest (action.Op (op.Fifo a.time path a.mode a.uid a.gid)) actions refl
+    (moded_plain (codes "fifo") a.mode path (verb_plain (codes "fifo") refl) fit.mode) (fifo_means (set_of a) a.mode path fit.mode is) next
+
+reads_socket : (path : List ℕ) (a : Attributes) (rest : List ℕ) (actions : List Action) → AttributesFit a → IsText path → Reads (set_of a) rest actions
+    → Reads (set_of a) (lines_text (object_words path a what.Socket) ++ rest) (object_actions path a what.Socket ++ actions)
+reads_socket path a rest actions fit is next =
+    then_action (set_of a) 115 (codes "ocket") (octal a.mode ∷ word_of path ∷ []) [] rest (action.Op (op.Socket a.time path a.mode a.uid a.gid)) actions refl
+    (moded_plain (codes "socket") a.mode path (verb_plain (codes "socket") refl) fit.mode) (socket_means (set_of a) a.mode path fit.mode is) next
+
+reads_file : (s : Set) (mode : ℕ) (path file rest : List ℕ) (actions : List Action) → mode ≤ 0o7777 → IsText path → IsText file → IsUtf8 file → Reads s rest actions
+    → Reads s (lines_text ((codes "file" ∷ octal mode ∷ word_of path ∷ word_of file ∷ []) ∷ []) ++ rest) (action.File s.time path mode s.uid s.gid file ∷ actions)
+reads_file s mode path file rest actions fits is named text next =
+    then_action s 102 (codes "ile") (octal mode ∷ word_of path ∷ word_of file ∷ []) [] rest (action.File s.time path mode s.uid s.gid file) actions refl
+    (four_plain (codes "file") (octal mode) (word_of path) (word_of file) (verb_plain (codes "file") refl) (mode_plain mode fits) (path_plain path) (path_plain file))
+    (file_means s mode path file fits is (name_read_back file named.bytes_fit named.some (is_utf8-from_IsUtf8 file text))) next
 
 reads_symlink : (s : Set) (path target rest : List ℕ) (actions : List Action) → IsText path → IsText target → Reads s rest actions
     → Reads s (lines_text ((codes "symlink" ∷ word_of path ∷ word_of target ∷ []) ∷ []) ++ rest) (action.Op (op.Symlink s.time path target s.uid s.gid) ∷ actions)
@@ -191,9 +149,16 @@ reads_item s i rest actions fits next = by i.what fits.what next
     by what.Directory fit next =
         reads_owned s i.attributes (object_words (string_bytes i.path) i.attributes what.Directory) rest _ fits.attributes
         (reads_directory (string_bytes i.path) i.attributes rest actions fits.attributes path next)
-    by (what.Regular c) fit next =
-        reads_owned s i.attributes (object_words (string_bytes i.path) i.attributes (what.Regular c)) rest _ fits.attributes
-        (reads_regular (string_bytes i.path) i.attributes c rest actions fits.attributes path fit next)
+    by (what.Regular file) fit next =
+        reads_owned s i.attributes (object_words (string_bytes i.path) i.attributes (what.Regular file)) rest _ fits.attributes
+        (reads_file (set_of i.attributes) i.attributes.mode (string_bytes i.path) (string_bytes file) rest actions fits.attributes.mode path
+        (utf8_text (string_bytes file) (IsUtf8-string_bytes file) fit) (IsUtf8-string_bytes file) next)
+    by what.Fifo fit next =
+        reads_owned s i.attributes (object_words (string_bytes i.path) i.attributes what.Fifo) rest _ fits.attributes
+        (reads_fifo (string_bytes i.path) i.attributes rest actions fits.attributes path next)
+    by what.Socket fit next =
+        reads_owned s i.attributes (object_words (string_bytes i.path) i.attributes what.Socket) rest _ fits.attributes
+        (reads_socket (string_bytes i.path) i.attributes rest actions fits.attributes path next)
     by (what.Symlink target) fit next =
         reads_owned s i.attributes (object_words (string_bytes i.path) i.attributes (what.Symlink target)) rest _ fits.attributes
         (reads_symlink (set_of i.attributes) (string_bytes i.path) (string_bytes target) rest actions path (utf8_text (string_bytes target) (IsUtf8-string_bytes target) fit) next)

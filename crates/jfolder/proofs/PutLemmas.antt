@@ -1,18 +1,15 @@
 -- Lines that go out one after another.
-use Rattle.std.proofs.Common.{◌≡◌, ℕ, suc, ◌-◌, ◌+◌, ◌*◌, ◌<◌, ◌≤◌, List, [], ◌∷◌, ◌++◌, length, take, drop, map, min, sym, ap, ◌∙◌, subst, arith, append_assoc, append-nil, take_all, length-drop, get_or, zero, Option}
-use Rattle.std.proofs.lemmas.List.{drop_all, map-append}
+use Rattle.std.proofs.Common.{◌≡◌, ℕ, suc, ◌+◌, ◌<◌, ◌≤◌, List, ◌∷◌, ◌++◌, length, drop, sym, ap, ◌∙◌, subst, arith, append_assoc, append-nil, get_or, Option}
+use Rattle.std.proofs.lemmas.List.{drop_all}
 use Rattle.std.proofs.Math.Seq.{drop-cons}
-use Rattle.std.proofs.Math.Logic.{⊎_elim}
-use Rattle.std.proofs.lemmas.Bool.{cases_lt}
 use Rattle.std.specs.Prelude.{Result, IsErr}
 use Rattle.std.proofs.lemmas.Grind.{flat_map-append}
 use Rattle.std.proofs.KnownBytes.{Appends-trans}
 use Rattle.std.specs.Io.KnownBytes.{Appends}
 use Rattle.flashbase.specs.Device.{Puts, PutsPart, next_count}
-use Rattle.flashbase.specs.Lists.{below}
 use Rattle.flashbase.proofs.DeviceLemmas.{part_behind}
 use Rattle.flashbase.proofs.DeviceLemmas.{first_failed, then_puts}
-use Rattle.jfolder.specs.Text.{item_words, items_words, words_line, lines_text, written_piece, settings_with}
+use Rattle.jfolder.specs.Text.{item_words, items_words, words_line, lines_text, settings_with}
 use Rattle.jfolder.specs.declared.settings.Settings.{Settings}
 use Rattle.jfolder.specs.declared.tree.Item.{Item}
 
@@ -27,52 +24,6 @@ pub lines_then_put : {T E : Type 0} (a b c : Option (List ℕ)) (before mid now 
     → Appends a b (lines_text xs) → mid ≡ before → Puts b c mid now (lines_text ys) r → Puts a c before now (lines_text (xs ++ ys)) r
 lines_then_put a b c before mid now xs ys r put same next =
     subst (λ (l : List ℕ). Puts a c before now l r) (sym (flat_map-append words_line xs ys)) (then_puts a b c before mid now (lines_text xs) (lines_text ys) r put same next)
-
--- the bytes from a place on, up to an end that is not past the last
-take_upto : (bytes : List ℕ) (start n end : ℕ) → end ≡ min (length bytes) (start + n) → take (end - start) (drop start bytes) ≡ take n (drop start bytes)
-take_upto bytes start n end is = ⊎_elim past within (cases_lt (start + n) (length bytes))
-  where
-    within : length bytes ≤ start + n → take (end - start) (drop start bytes) ≡ take n (drop start bytes)
-    within short =
-        let left = length-drop start bytes in
-        take_all (end - start) (drop start bytes) (omega arith) ∙ sym (take_all n (drop start bytes) (omega arith))
-
-    past : start + n < length bytes → take (end - start) (drop start bytes) ≡ take n (drop start bytes)
-    past long = ap (λ (m : ℕ). take m (drop start bytes)) (omega arith)
-
-pub piece_slice : (bytes : List ℕ) (k end : ℕ) → end ≡ min (length bytes) (4096 * k + 4096) → take (end - 4096 * k) (drop (4096 * k) bytes) ≡ written_piece bytes k
-piece_slice bytes k end is = take_upto bytes (4096 * k) 4096 end is
-
--- ---- a line for each number below another
-
-below_more : (k : ℕ) → below (k + 1) ≡ below k ++ k ∷ []
-below_more k = ap below {x = k + 1} {y = suc k} (omega arith)
-
-pub below_next : (f : ℕ → List (List ℕ)) (k : ℕ) → lines_text (map f (below k)) ++ words_line (f k) ≡ lines_text (map f (below (k + 1)))
-below_next f k =
-    ap (λ (l : List ℕ). lines_text (map f (below k)) ++ l) (sym (append-nil (words_line (f k))))
-    ∙ sym (flat_map-append words_line (map f (below k)) (f k ∷ []))
-    ∙ ap lines_text (sym (map-append f (below k) (k ∷ [])) ∙ ap (map f) (sym (below_more k)))
-
-below_split : (k n : ℕ) → k < n → (more : List ℕ) × (below n ≡ below (k + 1) ++ more)
-below_split k zero less = absurd (omega arith)
-below_split k (suc n) less = ⊎_elim
-    (λ lower. let rest = below_split k n lower in
-    (rest.0 ++ n ∷ [], ap (λ (l : List ℕ). l ++ n ∷ []) rest.1 ∙ append_assoc (below (k + 1)) rest.0 (n ∷ [])))
-    (λ high. ([], ap below {x = suc n} {y = k + 1} (omega arith) ∙ sym (append-nil (below (k + 1)))))
-    (cases_lt k n)
-
--- the lines before one went out, and then a beginning of its own
-pub below_failed : {T E : Type 0} (f : ℕ → List (List ℕ)) (k n : ℕ) (a b c : Option (List ℕ)) (before mid now : ℕ) (r : Result T E) → IsErr r → k < n
-    → Appends a b (lines_text (map f (below k))) → mid ≡ before → PutsPart b c (words_line (f k)) → now ≡ next_count mid
-    → Puts a c before now (lines_text (map f (below n))) r
-below_failed f k n a b c before mid now r err less put same part failed =
-    let split = below_split k n less in
-    let whole : lines_text (map f (below (k + 1))) ++ lines_text (map f split.0) ≡ lines_text (map f (below n)) =
-    sym (flat_map-append words_line (map f (below (k + 1))) (map f split.0)) ∙ ap lines_text (sym (map-append f (below (k + 1)) split.0) ∙ ap (map f) (sym split.1)) in
-    subst (λ (l : List ℕ). Puts a c before now l r) whole
-    (first_failed a c before now (lines_text (map f (below (k + 1)))) (lines_text (map f split.0)) r err
-    (subst (PutsPart a c) (below_next f k) (part_behind a b c (lines_text (map f (below k))) (words_line (f k)) put part)) (failed ∙ ap next_count same))
 
 -- ---- the items of a tree
 

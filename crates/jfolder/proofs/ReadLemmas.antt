@@ -5,18 +5,18 @@ use Rattle.std.specs.Fmt.{decimal}
 use Rattle.std.proofs.lemmas.Grind.{flat_map-append}
 use Rattle.std.proofs.lemmas.List.Elements.{All-nil, All-cons}
 use Rattle.std.proofs.lemmas.Bool.Decides.{nat_tests}
-use Rattle.jline.specs.Words.{hex_of, octal, word_of}
+use Rattle.jline.specs.Words.{octal, word_of}
 use Rattle.jsteps.specs.declared.op.Op.TheVariants as op
 use Rattle.jword.specs.Words.{◌>>=◌}
-use Rattle.jlisting.specs.Listing.{number, one_operand, operation, owner_word, statement_of_words, three_operands, two_operands}
-use Rattle.jlisting.specs.Words.{hex_data_of, file_name_of, text_of}
+use Rattle.jlisting.specs.Listing.{one_operand, operation, owner_word, statement_of_words, three_operands, two_operands}
+use Rattle.jlisting.specs.Words.{escaped_name_of, text_of}
 use Rattle.jlisting.specs.declared.line.Action.{Action}
 use Rattle.jlisting.specs.declared.line.Action.TheVariants as action
 use Rattle.jlisting.specs.declared.statement.Settings as theirs
 use Rattle.jlisting.specs.declared.statement.Statement.TheVariants as kind
 use Rattle.jfolder.specs.Text.{words_line, lines_text}
 use Rattle.jfolder.proofs.SeenLemmas.{IsByte, IsPlain, IsSeen, Seen, decimal_seen, octal_seen, seen_plain, word_of_seen}
-use Rattle.jfolder.proofs.WordLemmas.{data_read_back, mode_read_back, number_read_back, owner_read_back, text_read_back}
+use Rattle.jfolder.proofs.WordLemmas.{mode_read_back, number_read_back, owner_read_back, text_read_back}
 use Rattle.jfolder.proofs.LineLemmas.{Reads, reads_action, reads_settings}
 
 abbrev pub Set : Type 0
@@ -104,13 +104,6 @@ mkdir_means s mode path fits is =
     ap (λ (o : Option ℕ). o >>= λ mode. text_of (word_of path) >>= λ path. operation (op.Mkdir s.time path mode s.uid s.gid)) (mode_read_back mode fits)
     ∙ ap (λ (o : Option (List ℕ)). o >>= λ path. operation (op.Mkdir s.time path mode s.uid s.gid)) (text_read path is)
 
-pub create_means : (s : Set) (mode : ℕ) (path : List ℕ) → mode ≤ 0o7777 → IsText path
-    → statement_of_words s (codes "create" ∷ octal mode ∷ word_of path ∷ []) ≡ Some (kind.Action (action.Op (op.Create s.time path mode s.uid s.gid)))
-unfolding two_operands
-create_means s mode path fits is =
-    ap (λ (o : Option ℕ). o >>= λ mode. text_of (word_of path) >>= λ path. operation (op.Create s.time path mode s.uid s.gid)) (mode_read_back mode fits)
-    ∙ ap (λ (o : Option (List ℕ)). o >>= λ path. operation (op.Create s.time path mode s.uid s.gid)) (text_read path is)
-
 pub symlink_means : (s : Set) (path target : List ℕ) → IsText path → IsText target
     → statement_of_words s (codes "symlink" ∷ word_of path ∷ word_of target ∷ []) ≡ Some (kind.Action (action.Op (op.Symlink s.time path target s.uid s.gid)))
 unfolding two_operands
@@ -125,17 +118,24 @@ link_means s old new is to =
     ap (λ (o : Option (List ℕ)). o >>= λ old. text_of (word_of new) >>= λ new. operation (op.Link s.time old new)) (text_read old is)
     ∙ ap (λ (o : Option (List ℕ)). o >>= λ new. operation (op.Link s.time old new)) (text_read new to)
 
-pub part_means : (s : Set) (path file : List ℕ) → IsText path → file_name_of file ≡ Some file
-    → statement_of_words s (codes "part" ∷ word_of path ∷ codes "0" ∷ file ∷ []) ≡ Some (kind.Action (action.Part s.time path 0 file))
-unfolding three_operands
-part_means s path file is name =
-    ap (λ (o : Option (List ℕ)). o >>= λ path. number (codes "0") >>= λ offset. file_name_of file >>= λ file. Some (kind.Action (action.Part s.time path offset file))) (text_read path is)
-    ∙ ap (λ (o : Option (List ℕ)). o >>= λ file. Some (kind.Action (action.Part s.time path 0 file))) name
+pub fifo_means : (s : Set) (mode : ℕ) (path : List ℕ) → mode ≤ 0o7777 → IsText path
+    → statement_of_words s (codes "fifo" ∷ octal mode ∷ word_of path ∷ []) ≡ Some (kind.Action (action.Op (op.Fifo s.time path mode s.uid s.gid)))
+unfolding two_operands
+fifo_means s mode path fits is =
+    ap (λ (o : Option ℕ). o >>= λ mode. text_of (word_of path) >>= λ path. operation (op.Fifo s.time path mode s.uid s.gid)) (mode_read_back mode fits)
+    ∙ ap (λ (o : Option (List ℕ)). o >>= λ path. operation (op.Fifo s.time path mode s.uid s.gid)) (text_read path is)
 
-pub write_means : (s : Set) (path : List ℕ) (offset : ℕ) (bytes : List ℕ) → IsText path → offset < 2 ^ 32 → IsText bytes
-    → statement_of_words s (codes "write" ∷ word_of path ∷ decimal offset ∷ hex_of bytes ∷ []) ≡ Some (kind.Action (action.Op (op.Write s.time path offset bytes)))
+pub socket_means : (s : Set) (mode : ℕ) (path : List ℕ) → mode ≤ 0o7777 → IsText path
+    → statement_of_words s (codes "socket" ∷ octal mode ∷ word_of path ∷ []) ≡ Some (kind.Action (action.Op (op.Socket s.time path mode s.uid s.gid)))
+unfolding two_operands
+socket_means s mode path fits is =
+    ap (λ (o : Option ℕ). o >>= λ mode. text_of (word_of path) >>= λ path. operation (op.Socket s.time path mode s.uid s.gid)) (mode_read_back mode fits)
+    ∙ ap (λ (o : Option (List ℕ)). o >>= λ path. operation (op.Socket s.time path mode s.uid s.gid)) (text_read path is)
+
+pub file_means : (s : Set) (mode : ℕ) (path file : List ℕ) → mode ≤ 0o7777 → IsText path → escaped_name_of (word_of file) ≡ Some file
+    → statement_of_words s (codes "file" ∷ octal mode ∷ word_of path ∷ word_of file ∷ []) ≡ Some (kind.Action (action.File s.time path mode s.uid s.gid file))
 unfolding three_operands
-write_means s path offset bytes is small some =
-    ap (λ (o : Option (List ℕ)). o >>= λ path. number (decimal offset) >>= λ offset. hex_data_of (hex_of bytes) >>= λ bytes. operation (op.Write s.time path offset bytes)) (text_read path is)
-    ∙ ap (λ (o : Option ℕ). o >>= λ offset. hex_data_of (hex_of bytes) >>= λ bytes. operation (op.Write s.time path offset bytes)) (number_read_back offset small)
-    ∙ ap (λ (o : Option (List ℕ)). o >>= λ bytes. operation (op.Write s.time path offset bytes)) (data_read_back bytes some.bytes_fit some.some)
+file_means s mode path file fits is name =
+    ap (λ (o : Option ℕ). o >>= λ mode. text_of (word_of path) >>= λ path. escaped_name_of (word_of file) >>= λ file. Some (kind.Action (action.File s.time path mode s.uid s.gid file))) (mode_read_back mode fits)
+    ∙ ap (λ (o : Option (List ℕ)). o >>= λ path. escaped_name_of (word_of file) >>= λ file. Some (kind.Action (action.File s.time path mode s.uid s.gid file))) (text_read path is)
+    ∙ ap (λ (o : Option (List ℕ)). o >>= λ file. Some (kind.Action (action.File s.time path mode s.uid s.gid file))) name

@@ -106,7 +106,9 @@ unlisted_right : (known : Known) (options : Options) (items : List Item) (path :
     → NamesFit (known.names (inside path)) w names → IsUnlistedIn path names left → IsRight known options items left
 unlisted_right known options items path w None left fit unlisted = absurd unlisted
 unlisted_right known options items path what.Directory (Some names) left fit unlisted = inl (path, named_of names, fit, unlisted)
-unlisted_right known options items path (what.Regular bytes) (Some names) left fit unlisted = absurd fit
+unlisted_right known options items path (what.Regular file) (Some names) left fit unlisted = absurd fit
+unlisted_right known options items path what.Fifo (Some names) left fit unlisted = absurd fit
+unlisted_right known options items path what.Socket (Some names) left fit unlisted = absurd fit
 unlisted_right known options items path (what.Symlink target) (Some names) left fit unlisted = absurd fit
 unlisted_right known options items path (what.Link first) (Some names) left fit unlisted = absurd fit
 

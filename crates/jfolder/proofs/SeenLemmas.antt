@@ -1,5 +1,5 @@
 -- Which bytes the words of a listing have.
-use Rattle.std.proofs.Common.{◌≡◌, ◌≢◌, ℕ, zero, suc, ◌+◌, ◌/◌, ◌%◌, ◌^◌, ◌<◌, ◌≤◌, ◌==◌, Bool, true, false, cond, ◌&&◌, nat_lt, List, [], ◌∷◌, sym, subst, refl, arith}
+use Rattle.std.proofs.Common.{◌≡◌, ℕ, zero, suc, ◌+◌, ◌/◌, ◌%◌, ◌^◌, ◌<◌, ◌≤◌, ◌==◌, Bool, true, false, cond, ◌&&◌, nat_lt, List, [], ◌∷◌, sym, subst, refl, arith}
 use Rattle.std.specs.List.{All, flat_map}
 use Rattle.std.proofs.lemmas.List.Elements.{All-nil, All-cons, All-append, All-from_recursion, All-weaker}
 use Rattle.std.proofs.lemmas.Bool.Decides.{nat_tests}
@@ -10,7 +10,7 @@ use Rattle.std.specs.Str.{IsUtf8}
 use Rattle.std.specs.Str.Parse.{AllDigits}
 use Rattle.std.specs.Fmt.{decimal}
 use Rattle.std.proofs.lemmas.Fmt.{decimal_is_IsNumeral}
-use Rattle.jline.specs.Words.{escaped_byte, hex, hex_digit, hex_of, is_plain, octal, word_byte, word_of}
+use Rattle.jline.specs.Words.{escaped_byte, hex_digit, is_plain, octal, word_byte, word_of}
 use Rattle.jline.proofs.WordLemmas.{octal_one_digit, octal_more}
 
 -- a word: neither a space nor a line feed
@@ -29,12 +29,6 @@ pub seen_plain : (w : List ℕ) → Seen w → IsPlain w
 seen_plain w all = record {
   spaces = All-weaker IsSeen (λ b. (b == 32) ≡ false) (λ b seen. ne_eqb b 32 (λ e. omega arith)) w all;
   feeds = All-weaker IsSeen (λ b. (b == 10) ≡ false) (λ b seen. ne_eqb b 10 (λ e. omega arith)) w all;
-}
-
-pub word_plain : (w : List ℕ) → All (λ b. b ≢ 32) w → All (λ b. b ≢ 10) w → IsPlain w
-word_plain w spaces feeds = record {
-  spaces = All-weaker (λ b. b ≢ 32) (λ b. (b == 32) ≡ false) (λ b other. ne_eqb b 32 other) w spaces;
-  feeds = All-weaker (λ b. b ≢ 10) (λ b. (b == 10) ≡ false) (λ b other. ne_eqb b 10 other) w feeds;
 }
 
 -- ---- digits
@@ -70,13 +64,6 @@ octal_seen n small = octal_seen_within 10 n (omega arith) small
 flat_map_seen : (f : ℕ → List ℕ) → ((b : ℕ) → Seen (f b)) → (bytes : List ℕ) → Seen (flat_map f bytes)
 flat_map_seen f each [] = All-nil IsSeen
 flat_map_seen f each (b ∷ bytes) = All-append IsSeen (f b) (flat_map f bytes) (each b) (flat_map_seen f each bytes)
-
-hex_seen : (b : ℕ) → Seen (hex 2 b)
-unfolding hex
-hex_seen b = All-cons IsSeen (hex_digit ((b / 16) % 16)) (hex_digit (b % 16) ∷ []) (hex_digit_seen ((b / 16) % 16)) (one_seen (hex_digit (b % 16)) (hex_digit_seen (b % 16)))
-
-pub hex_of_seen : (bytes : List ℕ) → Seen (hex_of bytes)
-hex_of_seen bytes = flat_map_seen (hex 2) hex_seen bytes
 
 escape_seen : (b : ℕ) → Seen (92 ∷ 120 ∷ hex_digit (b / 16) ∷ hex_digit (b % 16) ∷ [])
 escape_seen b =

@@ -70,7 +70,9 @@ directory_more before more way has = ⊎_elim (λ root. inl root) (λ there. inr
 
 pub links_more : (before more : List Item) (w : What) → LinksBack before w → LinksBack (before ++ more) w
 links_more before more what.Directory back = tt
-links_more before more (what.Regular bytes) back = tt
+links_more before more (what.Regular file) back = tt
+links_more before more what.Fifo back = tt
+links_more before more what.Socket back = tt
 links_more before more (what.Symlink target) back = tt
 links_more before more (what.Link first) back = (back.0, Contains-append_left before more back.0 back.1, back.2, back.3)
 

@@ -17,7 +17,6 @@ use Rattle.jfolder.specs.declared.found.Options.{Options}
 use Rattle.jfolder.specs.declared.found.Skip.{Skip}
 use Rattle.jfolder.specs.declared.host.Looked.{Looked}
 use Rattle.jfolder.specs.declared.tree.Attributes.{Attributes}
-use Rattle.jfolder.specs.declared.tree.Content.{Content}
 use Rattle.jfolder.specs.declared.tree.Item.{Item}
 use Rattle.jfolder.specs.declared.tree.What.{What}
 use Rattle.jfolder.specs.declared.tree.What.TheVariants as what
@@ -57,9 +56,9 @@ link_object known path it (Err e) first text same one seen is link = tt
 link_object known path it (Ok found) first text same one seen is link =
     subst (HasObject known path) (sym link) (subst (LinkLeadsTo known path) (sym is) (leads_at (known.looked path) (known.looked (inside text)) it same one, seen))
 
-pub file_of : (items given : List Item) (k : ℕ) (i : Item) (bytes : Content) (text : List ℕ) → given ≡ items → k < length given → i ≡ get_or given k i
-    → i.what ≡ what.Regular bytes → text ≡ path_of i → IsFileOf items text
-file_of items given k i bytes text same within at kind is =
+pub file_of : (items given : List Item) (k : ℕ) (i : Item) (file : String Global) (text : List ℕ) → given ≡ items → k < length given → i ≡ get_or given k i
+    → i.what ≡ what.Regular file → text ≡ path_of i → IsFileOf items text
+file_of items given k i file text same within at kind is =
     (i, (k, subst (λ (l : List Item). k < length l) same within, sym (at ∙ ap (λ (l : List Item). get_or l k i) same)), sym is, subst IsRegular (sym kind) tt)
 
 pub link_found : (options : Options) (before : List Item) (r : Result Found Skip) (first : String Global) → All ItemFits before

@@ -1,16 +1,16 @@
 -- The words of a listing, and what is read of them.
-use Rattle.std.proofs.Common.{◌≡◌, ℕ, zero, suc, ◌+◌, ◌-◌, ◌*◌, ◌/◌, ◌%◌, ◌^◌, ◌<◌, ◌≤◌, Bool, true, false, cond, List, [], ◌∷◌, ◌++◌, length, ap, sym, ◌∙◌, subst, Option, Some, None, arith, codes, append_assoc, append-nil, length-append, ◌==◌}
+use Rattle.std.proofs.Common.{◌≡◌, ℕ, zero, suc, ◌+◌, ◌-◌, ◌*◌, ◌/◌, ◌%◌, ◌^◌, ◌<◌, ◌≤◌, Bool, true, cond, List, [], ◌∷◌, ◌++◌, length, ap, sym, ◌∙◌, subst, Option, Some, None, arith, append_assoc, append-nil, length-append, ◌==◌}
 use Rattle.std.specs.List.{All}
 use Rattle.std.proofs.lemmas.Bool.Decides.{nat_tests}
 use Rattle.std.proofs.Math.Logic.{⊎_elim}
 use Rattle.std.proofs.lemmas.Bool.{cases_lt}
-use Rattle.std.specs.Str.{bytes_eq, is_utf8}
+use Rattle.std.specs.Str.{is_utf8}
 use Rattle.std.specs.Fmt.{decimal}
-use Rattle.jline.specs.Words.{hex, hex_digit, hex_of, octal, word_byte, word_of}
-use Rattle.jline.proofs.EscapeLemmas.{pairs_read_back, word_unescaped}
+use Rattle.jline.specs.Words.{hex_digit, octal, word_byte, word_of}
+use Rattle.jline.proofs.EscapeLemmas.{word_unescaped}
 use Rattle.jline.proofs.WordLemmas.{length_octal_more, octal_one_digit, octal_more}
-use Rattle.jword.specs.Words.{pairs_of, unescaped}
-use Rattle.jlisting.specs.Words.{hex_data_of, decimal_of, digits_from, file_name_of, mode_of, text_of}
+use Rattle.jword.specs.Words.{◌>>=◌, unescaped}
+use Rattle.jlisting.specs.Words.{as_name, decimal_of, digits_from, escaped_name_of, mode_of, text_of}
 use Rattle.jlisting.proofs.NumberLemmas.{decimals_are_read_back}
 
 -- ---- paths and targets
@@ -28,24 +28,6 @@ word_some (b ∷ bytes) some = subst (λ (n : ℕ). 0 < n) (sym (length-append (
 
 pub text_read_back : (bytes : List ℕ) → All (λ b. b < 256) bytes → 0 < length bytes → text_of (word_of bytes) ≡ Some bytes
 text_read_back bytes all some = read_of_some (word_of bytes) (unescaped (word_of bytes)) (word_some bytes some) ∙ word_unescaped bytes all
-
--- ---- bytes
-
--- two digits are no dash
-pair_is_no_dash : (b : ℕ) (rest : List ℕ) → bytes_eq (hex 2 b ++ rest) (codes "-") ≡ false
-unfolding hex
-pair_is_no_dash b rest = grind (arith, nat_tests)
-
-pair_some : (b : ℕ) (rest : List ℕ) → 0 < length (hex 2 b ++ rest)
-unfolding hex
-pair_some b rest = omega arith
-
-pub data_read_back : (bytes : List ℕ) → All (λ b. b < 256) bytes → 0 < length bytes → hex_data_of (hex_of bytes) ≡ Some bytes
-data_read_back [] all some = absurd (omega arith)
-data_read_back (b ∷ bytes) all some =
-    read_of_some (hex_of (b ∷ bytes)) _ (pair_some b (hex_of bytes))
-    ∙ ap (λ (t : Bool). cond t (Some []) (pairs_of (hex_of (b ∷ bytes)))) (pair_is_no_dash b (hex_of bytes))
-    ∙ pairs_read_back (b ∷ bytes) all
 
 -- ---- numbers
 
@@ -96,6 +78,6 @@ mode_read_back n fits =
 
 -- ---- names of files of the host
 
-pub file_read_back : (file : List ℕ) → is_utf8 file ≡ true → 0 < length file → file_name_of file ≡ Some file
-file_read_back file text some =
-    read_of_some file (cond (is_utf8 file) (Some file) None) some ∙ ap (λ (t : Bool). cond t (Some file) None) text
+pub name_read_back : (file : List ℕ) → All (λ b. b < 256) file → 0 < length file → is_utf8 file ≡ true → escaped_name_of (word_of file) ≡ Some file
+name_read_back file all some text =
+    ap (λ (o : Option (List ℕ)). o >>= as_name) (text_read_back file all some) ∙ ap (λ (t : Bool). cond t (Some file) None) text

@@ -1,5 +1,5 @@
 -- What is known of what the host tells of a folder.
-use Rattle.std.specs.Prelude.{◌≡◌, ◌≤◌, ◌<◌, ℕ, Bool, List, drop, map, length, IfSome, Option, None}
+use Rattle.std.specs.Prelude.{◌≡◌, ℕ, Bool, List, drop, map, IfSome, Option, None}
 use Rattle.std.specs.String.{string_bytes}
 use Rattle.jfolder.specs.declared.host.Looked.{Looked}
 use Rattle.jfolder.specs.declared.host.Names.{Names}
@@ -18,13 +18,12 @@ abbrev pub named_of : Names → Named
 named_of names = record { texts = map string_bytes names.texts.items; others = names.others }
 
 -- what the host tells at each path, where that is known: of the object, of the names in a
--- directory, of the target of a symlink, of the bytes of a regular file, and of the name by which
--- another program opens it; whether it tells of the object at all, and whether it opens the file
+-- directory, of the target of a symlink, and of the name by which another program opens a regular
+-- file; whether it tells of the object at all, and whether it opens the file
 pub record Known : Type 0 where
   pub looked : List ℕ → Option Looked
   pub names : List ℕ → Option Named
   pub target : List ℕ → Option (List ℕ)
-  pub bytes : List ℕ → Option (List ℕ)
   pub host_path : List ℕ → Option (List ℕ)
   pub is_told : List ℕ → Option Bool
   pub is_opened : List ℕ → Option Bool
@@ -34,7 +33,6 @@ nothing = record {
   looked = λ _. None;
   names = λ _. None;
   target = λ _. None;
-  bytes = λ _. None;
   host_path = λ _. None;
   is_told = λ _. None;
   is_opened = λ _. None;
@@ -43,8 +41,3 @@ nothing = record {
 -- no other answer is known
 abbrev pub MayAnswer : Option Bool → Bool → Type 0
 MayAnswer known answer = IfSome known (λ is. is ≡ answer)
-
--- the bytes of a file, or more than the limit if the file has more
-pub record AreBytesOf (file : List ℕ) (limit : ℕ) (bytes : List ℕ) : Type 0 where
-  pub whole : length file ≤ limit → bytes ≡ file
-  pub more : limit < length file → limit < length bytes

@@ -1,10 +1,9 @@
 -- Why a path is left out: each reason is right by what is known of what the host tells.
 use Rattle.std.specs.Prelude.{◌≡◌, ◌≢◌, ◌≤◌, ◌<◌, ◌^◌, ◌⊎◌, ◌∷◌, ℕ, false, List, [], length, All, Contains, Bool, IfSome, Option, None, Some, ⊤, pos}
 use Rattle.jmount.specs.Find.{is_name}
-use Rattle.jfolder.specs.Actions.{IsFileWord}
 use Rattle.jfolder.specs.Complete.{IsNamed, LeftOut, child, item_paths}
 use Rattle.jfolder.specs.Known.{Known, MayAnswer, Named, inside, named_of}
-use Rattle.jfolder.specs.Objects.{HasNoWord, kind_bits, kind_number}
+use Rattle.jfolder.specs.Objects.{kind_bits, kind_number}
 use Rattle.jfolder.specs.declared.fault.FolderFault.{FolderFault}
 use Rattle.jfolder.specs.declared.fault.FolderFault.TheVariants as folder
 use Rattle.jfolder.specs.declared.found.HostKind.{HostKind}
@@ -64,10 +63,6 @@ IsUntold known fault = Refuses (known ≡ None) fault
 abbrev pub IsUnseen : Option Bool → FolderFault → Type 0
 IsUnseen known fault = Refuses (MayAnswer known false) fault
 
--- the bytes of a file are not known, or more than the limit
-abbrev pub BytesAreUnread : Option (List ℕ) → ℕ → FolderFault → Type 0
-BytesAreUnread known limit fault = Refuses (IfSome known (λ told. limit < length told)) fault
-
 -- a refusal is right where this holds
 abbrev pub IsRefusal : Type 0 → Reason → Type 0
 IsRefusal says reason.Refused = says
@@ -78,10 +73,8 @@ IsRefusal says _ = ⊥
 -- ---- what an object is
 
 abbrev pub IsKindWhy : ℕ → Reason → Type 0
-IsKindWhy kind reason.Fifo = kind ≡ 1
 IsKindWhy kind reason.CharacterDevice = kind ≡ 2
 IsKindWhy kind reason.BlockDevice = kind ≡ 6
-IsKindWhy kind reason.Socket = kind ≡ 12
 IsKindWhy kind reason.UnknownKind = All (λ k. kind ≢ k) (1 ∷ 2 ∷ 4 ∷ 6 ∷ 8 ∷ 10 ∷ 12 ∷ [])
 IsKindWhy kind _ = ⊥
 
@@ -97,26 +90,12 @@ IsAttributesWhy options told reason.Time =
     (options.time ≡ None) × ((t : ℕ) → t < 2 ^ 32 → pos t ≢ told.time)
 IsAttributesWhy options told _ = ⊥
 
--- the bytes of a file are asked for, since the name of the file is no word
-abbrev pub AsksBytes : Known → List ℕ → ℕ → Type 0
-AsksBytes known path size = (0 < size) × (size ≤ 67108864) × HasNoWord known path
-
--- it has more bytes than may be written out
-abbrev pub IsLong : Known → List ℕ → Type 0
-IsLong known path = IfSome (known.bytes path) (λ told. 67108864 < length told)
-
--- the name of the file is a word, but the host does not open it
-abbrev pub IsNotOpened : Known → List ℕ → Type 0
-IsNotOpened known path =
-    IfSome (known.host_path path) IsFileWord × MayAnswer (known.is_opened path) false
-
-abbrev pub IsContentWhy : Known → List ℕ → ℕ → Reason → Type 0
-IsContentWhy known path size reason.Large = 268435456 < size
-IsContentWhy known path size reason.LargeWritten =
-    HasNoWord known path × ((67108864 < size) ⊎ IsLong known path)
-IsContentWhy known path size why = IsRefusal ((0 < size)
-    × ((known.host_path path ≡ None)
-    ⊎ (IsNotOpened known path ⊎ (AsksBytes known path size × IsLong known path)))) why
+-- the file is too large, or it is not known to have a name that is not empty, or to be opened
+abbrev pub IsFileWhy : Known → List ℕ → ℕ → Reason → Type 0
+IsFileWhy known path size reason.Large = 268435456 < size
+IsFileWhy known path size why = IsRefusal ((size ≤ 268435456)
+    × (IfSome (known.host_path path) (λ name. length name ≡ 0)
+    ⊎ MayAnswer (known.is_opened path) false)) why
 
 -- the target is not known, or none that an image can have
 abbrev pub IsTargetWhy : Known → List ℕ → Reason → Type 0
@@ -127,7 +106,7 @@ IsTargetWhy known path why = IsRefusal (known.target path ≡ None) why
 abbrev pub IsObjectWhy : Known → List ℕ → Looked → Reason → Type 0
 IsObjectWhy known path told why =
     ((kind_bits told.mode ≡ 4) × IsRefusal (known.names path ≡ None) why)
-    ⊎ (((kind_bits told.mode ≡ 8) × IsContentWhy known path told.size why)
+    ⊎ (((kind_bits told.mode ≡ 8) × IsFileWhy known path told.size why)
     ⊎ ((kind_bits told.mode ≡ 10) × IsTargetWhy known path why))
 
 -- of an object of which this is told

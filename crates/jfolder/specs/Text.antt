@@ -1,13 +1,10 @@
 -- The listing of a tree, as text.
-use Rattle.std.specs.Prelude.{ℕ, ◌+◌, ◌*◌, ◌/◌, ◌==◌, ◌&&◌, Bool, true, false, List, [], ◌∷◌, ◌++◌, map, length, take, drop, codes, decimal, if◌then◌else◌}
+use Rattle.std.specs.Prelude.{ℕ, ◌==◌, ◌&&◌, Bool, true, false, List, [], ◌∷◌, ◌++◌, codes, decimal, if◌then◌else◌}
 use Rattle.std.specs.List.{flat_map}
 use Rattle.std.specs.String.{string_bytes}
-use Rattle.flashbase.specs.Lists.{below}
-use Rattle.jline.specs.Words.{hex_of, octal, word_of}
+use Rattle.jline.specs.Words.{octal, word_of}
 use Rattle.jfolder.specs.declared.settings.Settings.{Settings}
 use Rattle.jfolder.specs.declared.tree.Attributes.{Attributes}
-use Rattle.jfolder.specs.declared.tree.Content.{Content}
-use Rattle.jfolder.specs.declared.tree.Content.TheVariants as content
 use Rattle.jfolder.specs.declared.tree.Item.{Item}
 use Rattle.jfolder.specs.declared.tree.What.{What}
 use Rattle.jfolder.specs.declared.tree.What.TheVariants as what
@@ -28,29 +25,13 @@ abbrev pub owner_words : Settings → Attributes → List (List (List ℕ))
 owner_words s a = if (a.uid == s.uid)
     && (a.gid == s.gid) then [] else (codes "owner" ∷ decimal a.uid ∷ decimal a.gid ∷ []) ∷ []
 
--- Bytes go by pieces of at most 4,096: the k-th, and the pieces of all.
-abbrev pub written_piece : List ℕ → ℕ → List ℕ
-written_piece bytes k = take 4096 (drop (4096 * k) bytes)
-
-abbrev pub write_words : List ℕ → List ℕ → ℕ → List (List ℕ)
-write_words path bytes k =
-    codes "write" ∷ word_of path ∷ decimal (4096 * k) ∷ hex_of (written_piece bytes k) ∷ []
-
-abbrev pub piece_count : List ℕ → ℕ
-piece_count bytes = (length bytes + 4095) / 4096
-
-abbrev pub content_words : List ℕ → Content → List (List (List ℕ))
-content_words path content.Empty = []
-content_words path (content.File file) =
-    (codes "part" ∷ word_of path ∷ codes "0" ∷ string_bytes file ∷ []) ∷ []
-content_words path (content.Bytes bytes) =
-    map (write_words path bytes.items) (below (piece_count bytes.items))
-
 -- what makes an object, after its settings
 abbrev pub object_words : List ℕ → Attributes → What → List (List (List ℕ))
 object_words path a what.Directory = (codes "mkdir" ∷ octal a.mode ∷ word_of path ∷ []) ∷ []
-object_words path a (what.Regular bytes) =
-    (codes "create" ∷ octal a.mode ∷ word_of path ∷ []) ∷ content_words path bytes
+object_words path a (what.Regular file) =
+    (codes "file" ∷ octal a.mode ∷ word_of path ∷ word_of (string_bytes file) ∷ []) ∷ []
+object_words path a what.Fifo = (codes "fifo" ∷ octal a.mode ∷ word_of path ∷ []) ∷ []
+object_words path a what.Socket = (codes "socket" ∷ octal a.mode ∷ word_of path ∷ []) ∷ []
 object_words path a (what.Symlink target) =
     (codes "symlink" ∷ word_of path ∷ word_of (string_bytes target) ∷ []) ∷ []
 object_words path a (what.Link first) =

@@ -14,7 +14,7 @@ HasDirectory before way = (way ≡ []) ⊎ ((i : Item) × Contains before i
     × (string_bytes i.path ≡ path_text way) × (i.what ≡ what.Directory))
 
 abbrev pub IsRegular : What → Type 0
-IsRegular (what.Regular bytes) = Unit {0}
+IsRegular (what.Regular file) = Unit {0}
 IsRegular _ = ⊥
 
 -- a link is a further name of an earlier regular file

@@ -1,26 +1,23 @@
 //! What lies at a path of a folder of the host.
 
-ghost use Rattle.std.specs.Prelude.{◌≡◌, ◌<◌, [], pos, All, IfErr, IfNone, IfOk, IfSome, IsSome, IsTrue};
+ghost use Rattle.std.specs.Prelude.{◌≡◌, ◌≤◌, ◌<◌, [], length, pos, IfErr, IfNone, IfOk, IfSome, IsSome};
 ghost use Rattle.std.specs.String.{string_bytes};
-ghost use Rattle.jfolder.specs.Actions.{AttributesFit, ContentFits, IsFileWord, WhatFits};
+ghost use Rattle.jfolder.specs.Actions.{AttributesFit, WhatFits};
 ghost use Rattle.jfolder.specs.Complete.{NamesFit};
 ghost use Rattle.jfolder.specs.Links.{IsIdentity};
-ghost use Rattle.jfolder.specs.Objects.{HasContent, HasNoWord, HasObject, IsOfKind, SizeFits, kind_bits, kind_number};
-ghost use Rattle.jfolder.specs.Reasons.{IsAttributesWhy, IsContentWhy, IsKindWhy, IsNoDirectory, IsObjectWhy, IsTargetWhy, IsWhy, SkipsFor};
+ghost use Rattle.jfolder.specs.Objects.{HasObject, IsOfKind, HasHostFile, kind_bits, kind_number};
+ghost use Rattle.jfolder.specs.Reasons.{IsAttributesWhy, IsFileWhy, IsKindWhy, IsNoDirectory, IsObjectWhy, IsTargetWhy, IsWhy, SkipsFor};
 ghost use Rattle.jfolder.specs.Trees.{HasTarget, LinksBack};
 ghost use Rattle.jfolder.specs.Walking.{FoundFits, HasOptions, IsTold};
 
 use crate::fault::FolderFault;
 use crate::host::{HostFolder, Looked, Names};
 use crate::reason::Reason;
-use crate::tree::{Attributes, Content, What};
+use crate::tree::{Attributes, What};
 use std::alloc::{AllocError, AllocFailed};
 
 /// The most bytes of a regular file: `build` takes no file of more.
-const MAX_SIZE: usize = 268_435_456;
-
-/// The most bytes of a regular file that are written out, each in two digits. `build` takes no listing of more than `MAX_SIZE`.
-const MAX_WRITTEN: usize = MAX_SIZE / 4;
+const MAX_SIZE: u64 = 268_435_456;
 
 /// The most bytes of a symlink's target.
 const MAX_TARGET: usize = 4095;
@@ -96,6 +93,8 @@ impl<T: Drop> From<AllocFailed<T>> for Skip {
 pub enum HostKind {
     Directory,
     Regular,
+    Fifo,
+    Socket,
     Symlink,
 }
 
@@ -107,11 +106,11 @@ pub fn kind_of(mode: u32) -> Result<HostKind, Reason>
     match (mode >> 12) & 0xF {
         4 => Ok(HostKind::Directory),
         8 => Ok(HostKind::Regular),
+        1 => Ok(HostKind::Fifo),
+        12 => Ok(HostKind::Socket),
         10 => Ok(HostKind::Symlink),
-        1 => Err(Reason::Fifo),
         2 => Err(Reason::CharacterDevice),
         6 => Err(Reason::BlockDevice),
-        12 => Err(Reason::Socket),
         _ => Err(Reason::UnknownKind),
     }
 }
@@ -180,62 +179,24 @@ pub fn attributes_of(looked: &Looked, options: &Options) -> Result<Attributes, R
     })
 }
 
-/// Whether a listing can have the name of a file of the host.
-fn is_file_word(name: &[u8]) -> bool
-    ensures word { IsTrue result → IsFileWord name.now }
-    ensures every { IsFileWord name.now → IsTrue result }
-{
-    !name.is_empty() && name.iter().all(|byte| *byte != b' ' && *byte != b'\n')
-}
-
-/// Each byte has the width of its type, which a caller's contract wants to know.
-fn known(bytes: &[u8])
-    ensures { All (λ b. b < 256) bytes.now }
-{
-    let _ = bytes;
-}
-
-/// The bytes of a regular file whose name is no word.
-fn bytes_of<F: HostFolder>(folder: &mut F, path: &str, size: u64) -> Result<Content, Skip>
-    requires some { 0 < size }
-    requires unnamed { HasNoWord (F.known folder.old) path.now }
-    ensures fits { IfOk result ContentFits }
-    ensures size { IfOk result (SizeFits size) }
-    ensures told { IfOk result (HasContent (F.known folder.old) path.now) }
-    ensures why { IfErr result (SkipsFor (IsContentWhy (F.known folder.old) path.now size)) }
+/// The name of a regular file on the host, which opens it.
+pub fn file_of<F: HostFolder>(folder: &mut F, path: &str, size: u64) -> Result<String, Skip>
+    ensures some { IfOk result (λ file. 0 < length (string_bytes file)) }
+    ensures size { IfOk result (λ _. size ≤ 268435456) }
+    ensures told { IfOk result
+        (λ file. HasHostFile (F.known folder.old) path.now (string_bytes file)) }
+    ensures why { IfErr result (SkipsFor (IsFileWhy (F.known folder.old) path.now size)) }
     ensures kept { F.known folder.new ≡ F.known folder.old }
 {
-    if size > MAX_WRITTEN as u64 {
-        return Err(Skip::LeftOut(Reason::LargeWritten));
-    }
-    let bytes = folder.bytes(path, MAX_WRITTEN)?;
-    if bytes.len() > MAX_WRITTEN {
-        return Err(Skip::LeftOut(Reason::LargeWritten));
-    }
-    known(bytes.as_slice());
-    Ok(Content::Bytes(bytes))
-}
-
-/// Where the bytes of a regular file come from: from the file of its name wherever a line can have that name.
-pub fn content_of<F: HostFolder>(folder: &mut F, path: &str, size: u64) -> Result<Content, Skip>
-    ensures fits { IfOk result ContentFits }
-    ensures size { IfOk result (SizeFits size) }
-    ensures told { IfOk result (HasContent (F.known folder.old) path.now) }
-    ensures why { IfErr result (SkipsFor (IsContentWhy (F.known folder.old) path.now size)) }
-    ensures kept { F.known folder.new ≡ F.known folder.old }
-{
-    if size > MAX_SIZE as u64 {
+    if size > MAX_SIZE {
         return Err(Skip::LeftOut(Reason::Large));
     }
-    if size == 0 {
-        return Ok(Content::Empty);
-    }
     let name = folder.host_path(path)?;
-    if !is_file_word(name.as_bytes()) {
-        return bytes_of(folder, path, size);
+    if name.is_empty() {
+        return Err(Skip::LeftOut(Reason::Refused));
     }
     folder.open(path)?;
-    Ok(Content::File(name))
+    Ok(name)
 }
 
 /// The target of a symlink.
@@ -295,7 +256,14 @@ fn object_of<F: HostFolder>(
 {
     match kind {
         HostKind::Directory => Ok((What::Directory, Some(folder.names(path)?))),
-        HostKind::Regular => Ok((What::Regular(content_of(folder, path, looked.size)?), None)),
+        HostKind::Regular => Ok((
+            What::Regular {
+                file: file_of(folder, path, looked.size)?,
+            },
+            None,
+        )),
+        HostKind::Fifo => Ok((What::Fifo, None)),
+        HostKind::Socket => Ok((What::Socket, None)),
         HostKind::Symlink => Ok((
             What::Symlink {
                 target: target_of(folder, path)?,

@@ -2,13 +2,14 @@
 
 ghost use Rattle.std.specs.Prelude.{◌≡◌, true, IfErr, IfOk, IfSome, OnOk};
 ghost use Rattle.std.specs.String.{string_bytes};
-ghost use Rattle.jfolder.specs.Known.{AreBytesOf, Known, MayAnswer, named_of};
-ghost use Rattle.jfolder.specs.Reasons.{BytesAreUnread, IsUnseen, IsUntold};
+ghost use Rattle.jfolder.specs.Known.{Known, MayAnswer, named_of};
+ghost use Rattle.jfolder.specs.Reasons.{IsUnseen, IsUntold};
 
 use crate::fault::FolderFault;
 
-/// What the host tells of an object, as `lstat` does. The bits 12 to 15 of the mode are its kind, and the time is that of the
-/// last change of its bytes, in seconds since 1970. Names of one object have the same device and number.
+/// What the host tells of an object, as `lstat` does. The bits 12 to 15 of the mode are its kind,
+/// and the time is that of the last change of its bytes, in seconds since 1970. Names of one object
+/// have the same device and number.
 #[derive(Clone, Copy)]
 pub struct Looked {
     pub mode: u32,
@@ -21,15 +22,17 @@ pub struct Looked {
     pub number: u64,
 }
 
-/// The names in a directory, without `.` and `..`: those that are UTF-8, in any order, and how many others there are.
+/// The names in a directory, without `.` and `..`: those that are UTF-8, in any order, and how many
+/// others there are.
 #[derive(Drop)]
 pub struct Names {
     pub texts: Vec<String>,
     pub others: u64,
 }
 
-/// A folder of the host that is read. A path is that of an object in it, names with a slash between two; the empty path is the
-/// folder itself. No call follows a symlink that a path ends in. A call that refuses has nothing that is known to tell.
+/// A folder of the host that is read. A path is that of an object in it, names with a slash between
+/// two; the empty path is the folder itself. No call follows a symlink that a path ends in. A call
+/// that refuses has nothing that is known to tell.
 pub trait HostFolder {
     /// What is known of what it tells at each path. No call changes it.
     ghost known: { Self → Known };
@@ -57,15 +60,6 @@ pub trait HostFolder {
             (λ it. IfSome ((known self.old).target path.now) (λ told. string_bytes it ≡ told)) }
         ensures untold { IfErr result (IsUntold ((known self.old).target path.now)) };
 
-    /// The bytes of a regular file. One that has more than `limit` is refused, or gives more than
-    /// `limit` bytes. It is asked only where the name of the file is no word of a listing.
-    fn bytes(&mut self, path: &str, limit: usize) -> Result<Vec<u8>, FolderFault>
-        ensures kept { known self.new ≡ known self.old }
-        ensures told { IfOk result
-            (λ it. IfSome ((known self.old).bytes path.now)
-            (λ told. AreBytesOf told limit it.items)) }
-        ensures untold { IfErr result (BytesAreUnread ((known self.old).bytes path.now) limit) };
-
     /// The name by which another program opens the file.
     fn host_path(&mut self, path: &str) -> Result<String, FolderFault>
         ensures kept { known self.new ≡ known self.old }
@@ -73,8 +67,7 @@ pub trait HostFolder {
             (λ it. IfSome ((known self.old).host_path path.now) (λ told. string_bytes it ≡ told)) }
         ensures untold { IfErr result (IsUntold ((known self.old).host_path path.now)) };
 
-    /// Opens a regular file to be read, and closes it. It is asked only where the name of the file
-    /// is a word of a listing.
+    /// Opens a regular file to be read, and closes it.
     fn open(&mut self, path: &str) -> Result<(), FolderFault>
         ensures kept { known self.new ≡ known self.old }
         ensures opened { OnOk result (MayAnswer ((known self.old).is_opened path.now) true) }

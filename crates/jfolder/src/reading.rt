@@ -31,7 +31,8 @@ use std::collections::BTreeMap;
 /// The most bytes of a name.
 const MAX_NAME: usize = 254;
 
-/// A folder that was read: its own attributes, what lies in it, and how many lines tell what was left out, modulo 2^64.
+/// A folder that was read: its own attributes, what lies in it, and how many lines tell what was
+/// left out, modulo 2^64.
 #[derive(Drop)]
 pub struct Folder {
     pub root: Attributes,
@@ -84,8 +85,8 @@ fn inside(path: &str) -> Option<&str>
     path.strip_prefix("/")
 }
 
-/// Whether the host tells at the first path of an object what it told at another one: names of one object. Where it refuses to
-/// tell, they are not.
+/// Whether the host tells at the first path of an object what it told at another one: names of one
+/// object. Where it refuses to tell, they are not.
 fn is_one<F: HostFolder>(folder: &mut F, first: &str, looked: &Looked) -> Result<bool, Skip>
     ensures one { IfOk result (λ one. IsTrue one → IfSome
         ((F.known folder.old).looked (inside first.now)) (λ told. AreOne told looked.now)) }
@@ -139,7 +140,8 @@ fn add_child<N: Sink>(
     }
 }
 
-/// Tells that so many names in a directory are left out, since they are no text. One line is for all of them.
+/// Tells that so many names in a directory are left out, since they are no text. One line is for
+/// all of them.
 fn leave_out_others<N: Sink>(
     alloc: Global,
     directory: &str,
@@ -187,7 +189,8 @@ fn paths_of<N: Sink>(
     Ok(paths)
 }
 
-/// The paths of the names in a directory, in byte order. Names that a listing cannot have are left out.
+/// The paths of the names in a directory, in byte order. Names that a listing cannot have are left
+/// out.
 fn children<N: Sink>(
     alloc: Global,
     directory: &str,
@@ -244,12 +247,13 @@ impl Walk {
         let index = self.firsts.get(&identity_of(looked)?)?;
         let item = self.items.as_slice().get(*index)?;
         match &item.what {
-            What::Regular(_) => Some(item.path.as_str()),
+            What::Regular { .. } => Some(item.path.as_str()),
             _ => None,
         }
     }
 
-    /// What the host tells of a path that comes after those of all items. `rest` is the path as the host is asked for it.
+    /// What the host tells of a path that comes after those of all items. `rest` is the path as the
+    /// host is asked for it.
     fn look<F: HostFolder>(&self, folder: &mut F, path: &str, rest: &str) -> Result<Looked, Skip>
         requires { IsInTurn self.now.items.items path.now }
         ensures next { IfOk result (λ _. IsTrue (comes_next self.now.items.items path.now)) }
@@ -499,14 +503,16 @@ fn root_of<F: HostFolder>(folder: &mut F, options: &Options) -> Result<(Attribut
     Ok((attributes, folder.names("")?))
 }
 
-/// Reads a folder: a directory before what lies in it, and the names in it in byte order. A regular file that was met before is
-/// a link to its first path. Symlinks are not followed. What a listing cannot say is left out, with a line of the notes for each
-/// path, which says why by what the host tells; names in a directory that are no text have one line. `options` say what takes the
-/// place of all owners and times.
+/// Reads a folder: a directory before what lies in it, and the names in it in byte order. A regular
+/// file that was met before is a link to its first path. Symlinks are not followed. What a listing
+/// cannot say is left out, with a line of the notes for each path, which says why by what the host
+/// tells; names in a directory that are no text have one line. `options` say what takes the place
+/// of all owners and times.
 ///
 /// # Errors
-/// `Folder`: the folder itself can't be read, is no directory, or has an owner or a time that a listing cannot say; a line of the
-/// notes says which. `Notes`: the notes failed. `OutOfMemory`, also after 2^64 - 1 paths.
+/// `Folder`: the folder itself can't be read, is no directory, or has an owner or a time that a
+/// listing cannot say; a line of the notes says which. `Notes`: the notes failed. `OutOfMemory`,
+/// also after 2^64 - 1 paths.
 pub fn read_folder<F: HostFolder, N: Sink>(
     alloc: Global,
     folder: &mut F,

@@ -20,15 +20,11 @@ pub enum Reason {
     LongName,
     /// Its name was told before.
     Repeated,
-    Socket,
-    Fifo,
     CharacterDevice,
     BlockDevice,
     UnknownKind,
     /// It has more than 268435456 bytes, as many as `build` takes of a file.
     Large,
-    /// It has more than 67108864 bytes, and its name on the host is no word of a listing.
-    LargeWritten,
     /// Its owner or its group is above 65535.
     Owner,
     /// Its time is before 1970 or after 2106.
@@ -55,15 +51,10 @@ impl Reason {
             Reason::BadName => "a name that no file has",
             Reason::LongName => "a name of more than 254 bytes",
             Reason::Repeated => "a name that was told before",
-            Reason::Socket => "socket",
-            Reason::Fifo => "FIFO",
             Reason::CharacterDevice => "character device",
             Reason::BlockDevice => "block device",
             Reason::UnknownKind => "a kind that is not known",
             Reason::Large => "more than 268435456 bytes",
-            Reason::LargeWritten => {
-                "more than 67108864 bytes, and a space or a line feed in its path"
-            }
             Reason::Owner => "an owner above 65535",
             Reason::Time => "a time before 1970 or after 2106",
             Reason::Target => "a target of no bytes, of more than 4095, or with a zero byte",

@@ -1,18 +1,15 @@
 //! The listing of a tree.
 
-ghost use Rattle.std.specs.Prelude.{◌≡◌, ◌*◌, ◌<◌, length};
+ghost use Rattle.std.specs.Prelude.{◌≡◌};
 ghost use Rattle.std.specs.String.{string_bytes};
 ghost use Rattle.flashbase.specs.Device.{Puts};
-ghost use Rattle.jfolder.specs.Pieces.{bytes_text, moded_line, own_owner_text, part_text, paths_line, regular_text, write_text};
-ghost use Rattle.jfolder.specs.Text.{attr_words, content_words, is_link, item_words, words_line, lines_text, listing_text, object_words, owner_words, root_words, setting_words, settings_with, time_words, write_words};
+ghost use Rattle.jfolder.specs.Pieces.{file_text, moded_line, own_owner_text, paths_line};
+ghost use Rattle.jfolder.specs.Text.{attr_words, is_link, item_words, lines_text, listing_text, object_words, owner_words, root_words, setting_words, settings_with, time_words};
 
 use crate::settings::Settings;
-use crate::tree::{Attributes, Content, Item, What};
+use crate::tree::{Attributes, Item, What};
 use crate::words::{Piece, put_pieces};
 use flashbase::{DeviceFault, Sink};
-
-/// A line has at most so many bytes of a file.
-const PAGE: usize = 4096;
 
 /// `time T`, where it is another than before.
 fn put_time<T: Sink>(sink: &mut T, before: u32, time: u32) -> Result<(), DeviceFault>
@@ -129,99 +126,28 @@ fn put_two<'a, T: Sink>(
     )
 }
 
-/// `part PATH 0 FILE`
-fn put_part<'a, T: Sink>(sink: &mut T, path: &'a [u8], file: &'a [u8]) -> Result<(), DeviceFault>
-    ensures { Puts (T.taken sink.old) (T.taken sink.new) (T.failures sink.old) (T.failures sink.new)
-        (part_text path.now file.now) result }
-{
-    put_pieces(
-        sink,
-        &[
-            Piece::Plain(b"part "),
-            Piece::Escaped(path),
-            Piece::Plain(b" 0 "),
-            Piece::Plain(file),
-            Piece::Plain(b"\n"),
-        ],
-    )
-}
-
-/// `write PATH OFFSET HEX`
-fn put_write<'a, T: Sink>(
+/// `file MODE PATH FILE`
+fn put_file<'a, T: Sink>(
     sink: &mut T,
-    path: &'a [u8],
-    offset: u64,
-    bytes: &'a [u8],
-) -> Result<(), DeviceFault>
-    ensures { Puts (T.taken sink.old) (T.taken sink.new) (T.failures sink.old) (T.failures sink.new)
-        (write_text path.now offset bytes.now) result }
-{
-    put_pieces(
-        sink,
-        &[
-            Piece::Plain(b"write "),
-            Piece::Escaped(path),
-            Piece::Plain(b" "),
-            Piece::Decimal(offset),
-            Piece::Plain(b" "),
-            Piece::Hex(bytes),
-            Piece::Plain(b"\n"),
-        ],
-    )
-}
-
-/// The k-th piece of a file.
-fn put_piece_at<T: Sink>(
-    sink: &mut T,
-    path: &[u8],
-    bytes: &[u8],
-    k: usize,
-) -> Result<(), DeviceFault>
-    requires { PAGE * k < length bytes.now }
-    ensures { Puts (T.taken sink.old) (T.taken sink.new) (T.failures sink.old) (T.failures sink.new)
-        (words_line (write_words path.now bytes.now k)) result }
-{
-    let start = PAGE * k;
-    let end = bytes.len().min(start + PAGE);
-    put_write(sink, path, start as u64, &bytes[start..end])
-}
-
-/// The bytes of a file, by pieces.
-fn put_bytes<T: Sink>(sink: &mut T, path: &[u8], bytes: &[u8]) -> Result<(), DeviceFault>
-    ensures { Puts (T.taken sink.old) (T.taken sink.new) (T.failures sink.old) (T.failures sink.new)
-        (bytes_text path.now bytes.now) result }
-{
-    let count = (bytes.len() + (PAGE - 1)) / PAGE;
-    for k in 0..count {
-        put_piece_at(sink, path, bytes, k)?;
-    }
-    Ok(())
-}
-
-/// What gives a regular file its bytes.
-fn put_content<T: Sink>(sink: &mut T, path: &[u8], content: &Content) -> Result<(), DeviceFault>
-    ensures { Puts (T.taken sink.old) (T.taken sink.new) (T.failures sink.old) (T.failures sink.new)
-        (lines_text (content_words path.now content.now)) result }
-{
-    match content {
-        Content::Empty => Ok(()),
-        Content::File(file) => put_part(sink, path, file.as_bytes()),
-        Content::Bytes(bytes) => put_bytes(sink, path, bytes.as_slice()),
-    }
-}
-
-/// A regular file.
-fn put_regular<T: Sink>(
-    sink: &mut T,
-    path: &[u8],
     mode: u32,
-    content: &Content,
+    path: &'a [u8],
+    file: &'a [u8],
 ) -> Result<(), DeviceFault>
     ensures { Puts (T.taken sink.old) (T.taken sink.new) (T.failures sink.old) (T.failures sink.new)
-        (regular_text path.now mode content.now) result }
+        (file_text mode path.now file.now) result }
 {
-    put_moded(sink, b"create", mode, path)?;
-    put_content(sink, path, content)
+    put_pieces(
+        sink,
+        &[
+            Piece::Plain(b"file "),
+            Piece::Octal(mode),
+            Piece::Plain(b" "),
+            Piece::Escaped(path),
+            Piece::Plain(b" "),
+            Piece::Escaped(file),
+            Piece::Plain(b"\n"),
+        ],
+    )
 }
 
 /// What makes an object.
@@ -233,7 +159,9 @@ fn put_object<T: Sink>(sink: &mut T, item: &Item) -> Result<(), DeviceFault>
     let path = item.path.as_bytes();
     match &item.what {
         What::Directory => put_moded(sink, b"mkdir", item.attributes.mode, path),
-        What::Regular(content) => put_regular(sink, path, item.attributes.mode, content),
+        What::Regular { file } => put_file(sink, item.attributes.mode, path, file.as_bytes()),
+        What::Fifo => put_moded(sink, b"fifo", item.attributes.mode, path),
+        What::Socket => put_moded(sink, b"socket", item.attributes.mode, path),
         What::Symlink { target } => put_two(sink, b"symlink", path, target.as_bytes()),
         What::Link { first } => put_two(sink, b"link", first.as_bytes(), path),
     }
@@ -295,7 +223,8 @@ fn put_root<T: Sink>(sink: &mut T, root: &Attributes) -> Result<(), DeviceFault>
     put_attr(sink, root)
 }
 
-/// Puts the listing of a tree: its root's attributes, and then its items in their order. Takes no memory.
+/// Puts the listing of a tree: its root's attributes, and then its items in their order. Takes no
+/// memory.
 pub fn put_listing<T: Sink>(
     root: &Attributes,
     items: &[Item],

@@ -4,7 +4,7 @@ ghost use Rattle.flashbase.specs.Device.{Puts};
 ghost use Rattle.jfolder.specs.Pieces.{piece_text, pieces_text};
 
 use flashbase::{DeviceFault, Sink};
-use jline::{LineBuffer, put_hex, put_text, put_word};
+use jline::{LineBuffer, put_text, put_word};
 
 /// A piece of a line.
 #[derive(Clone, Copy)]
@@ -13,10 +13,8 @@ pub enum Piece<'a> {
     Plain(&'a [u8]),
     Decimal(u64),
     Octal(u32),
-    /// Bytes of a path or a target, escaped.
+    /// Bytes of a path, a target or a name, escaped.
     Escaped(&'a [u8]),
-    /// Bytes, as pairs of hexadecimal digits.
-    Hex(&'a [u8]),
 }
 
 /// Puts a number.
@@ -49,7 +47,6 @@ fn put_piece<T: Sink>(sink: &mut T, piece: &Piece<'_>) -> Result<(), DeviceFault
         Piece::Decimal(number) => put_decimal(sink, *number),
         Piece::Octal(mode) => put_octal(sink, *mode),
         Piece::Escaped(bytes) => put_word(sink, bytes),
-        Piece::Hex(bytes) => put_hex(sink, bytes),
     }
 }
 

@@ -6,8 +6,8 @@ use crate::memory::Memory;
 use jfolder::{ReadFault, read_folder};
 use test_support::Matcher;
 
-/// Passes with each allocation failing in turn too: memory is then blamed and nothing else, and the next call answers as if there
-/// had been none before.
+/// Passes with each allocation failing in turn too: memory is then blamed and nothing else, and the
+/// next call answers as if there had been none before.
 #[test]
 fn refused_growth_is_no_listing(rt: HostRuntime) {
     let alloc = rt.alloc();

@@ -1,5 +1,5 @@
-//! Tests of `jfolder`, by a folder in memory: listings written out by hand, what is left out, a host that refuses each call in
-//! turn, notes and sinks that fail, and refused growth.
+//! Tests of `jfolder`, by a folder in memory: listings written out by hand, what is left out, a
+//! host that refuses each call in turn, notes and sinks that fail, and refused growth.
 #![tactic(auto)]
 
 #[cfg(test)]

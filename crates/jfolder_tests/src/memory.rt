@@ -118,12 +118,6 @@ impl HostFolder for Memory<'_> {
         Ok(text_of(self.alloc, target)?)
     }
 
-    fn bytes(&mut self, path: &str, limit: usize) -> Result<Vec<u8>, FolderFault> {
-        let bytes = self.find(path)?.text.as_bytes();
-        let end = bytes.len().min(limit.saturating_add(1));
-        Ok(Vec::from_slice(self.alloc, &bytes[..end])?)
-    }
-
     fn host_path(&mut self, path: &str) -> Result<String, FolderFault> {
         let mut name = text_of(self.alloc, "host/")?;
         name.push_str(self.find(path)?.path)?;

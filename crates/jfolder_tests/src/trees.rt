@@ -3,12 +3,8 @@
 use crate::checks::{equal, expect};
 use crate::folders::{AS_TOLD, GIVEN, GIVEN_TEXT, TREE_NOTES, TREE_TEXT, fault_of, is_read, tree};
 use crate::memory::{Memory, Object, UNREADABLE, make_object};
-use jfolder::{
-    Attributes, Content, Item, Looked, ReadFault, Reason, What, put_listing, read_folder,
-};
-use jlisting::{Action, listing};
-use jsteps::Op;
-use std::alloc::Global;
+use jfolder::{ReadFault, Reason, put_listing, read_folder};
+use jlisting::listing;
 use test_support::Taker;
 
 #[test]
@@ -20,7 +16,14 @@ fn a_folder_is_listed(rt: HostRuntime) {
     );
     expect(
         &rt,
-        is_read(alloc, &tree(), &GIVEN, GIVEN_TEXT, "left out /d: FIFO\n", 1),
+        is_read(
+            alloc,
+            &tree(),
+            &GIVEN,
+            GIVEN_TEXT,
+            "left out /c: character device\n",
+            1,
+        ),
     );
 }
 
@@ -36,7 +39,6 @@ const ROOT_TEXT: &str = "attr 755 0 0 0 0 /\n";
 #[test]
 fn kinds_that_no_listing_has_are_left_out(rt: HostRuntime) {
     let rows = [
-        (0o140000, "left out /o: socket\n"),
         (0o020000, "left out /o: character device\n"),
         (0o060000, "left out /o: block device\n"),
         (0o150000, "left out /o: a kind that is not known\n"),
@@ -77,7 +79,7 @@ fn times_and_sizes_have_an_end(rt: HostRuntime) {
     let rows = [
         (
             (0, 268435456, "abc"),
-            "attr 755 0 0 0 0 /\ncreate 0 /o\npart /o 0 host/o\n",
+            "attr 755 0 0 0 0 /\nfile 0 /o host/o\n",
             "",
         ),
         (
@@ -87,7 +89,7 @@ fn times_and_sizes_have_an_end(rt: HostRuntime) {
         ),
         (
             (4294967295, 0, ""),
-            "attr 755 0 0 0 0 /\ntime 4294967295\ncreate 0 /o\n",
+            "attr 755 0 0 0 0 /\ntime 4294967295\nfile 0 /o host/o\n",
             "",
         ),
         ((4294967296, 0, ""), ROOT_TEXT, NO_TIME),
@@ -120,36 +122,40 @@ fn names_that_are_none_are_left_out(rt: HostRuntime) {
     ];
     let notes =
         "left out /: names that are no text: 3\nleft out /..: a name that no file has\nleft out /a\\x00: a name that no file has\nleft out /b: a name that was told before\nleft out /d/: names that are no text: 1\n";
-    let text = "attr 755 0 0 0 0 /\ncreate 644 /b\nmkdir 755 /d\n";
+    let text = "attr 755 0 0 0 0 /\nfile 644 /b host/b\nmkdir 755 /d\n";
     expect(&rt, is_read(alloc, &objects, &AS_TOLD, text, notes, 5));
 }
 
-/// A file that is not opened, of this size and by this name.
-fn not_opened(path: &'static str, size: u64) -> [Object; 2] {
-    let mut other = make_object(path, 0o100644, (0, 0), 0, UNREADABLE);
-    other.looked.size = size;
-    [make_object("", 0o040755, (0, 0), 0, ""), other]
-}
-
-/// A file that can't be read has no line `part`, and one that is written out is not too long.
+/// A file that can't be read has no line, whatever its size; one of any name has one, which may be
+/// of any characters.
 #[test]
 fn files_that_are_not_listed(rt: HostRuntime) {
     let rows = [
-        (("o", 1), ROOT_TEXT, "left out /o: the host refused it\n"),
-        (("o", 0), "attr 755 0 0 0 0 /\ncreate 644 /o\n", ""),
         (
-            ("o o", 67108864),
-            "attr 755 0 0 0 0 /\ncreate 644 /o\\x20o\nwrite /o\\x20o 0 2d\n",
+            ("o", 1, UNREADABLE),
+            ROOT_TEXT,
+            "left out /o: the host refused it\n",
+        ),
+        (
+            ("o", 0, UNREADABLE),
+            ROOT_TEXT,
+            "left out /o: the host refused it\n",
+        ),
+        (
+            ("o o\n\\\u{e9}", 268435456, "o"),
+            "attr 755 0 0 0 0 /\nfile 644 /o\\x20o\\x0a\\x5c\\xc3\\xa9 host/o\\x20o\\x0a\\x5c\\xc3\\xa9\n",
             "",
         ),
         (
-            ("o o", 67108865),
+            ("o o", 268435457, "o"),
             ROOT_TEXT,
-            "left out /o\\x20o: more than 67108864 bytes, and a space or a line feed in its path\n",
+            "left out /o\\x20o: more than 268435456 bytes\n",
         ),
     ];
-    for ((path, size), text, notes) in rows {
-        let objects = not_opened(path, size);
+    for ((path, size, text_in), text, notes) in rows {
+        let mut other = make_object(path, 0o100644, (0, 0), 0, text_in);
+        other.looked.size = size;
+        let objects = [make_object("", 0o040755, (0, 0), 0, ""), other];
         let left_out = u64::from(!notes.is_empty());
         expect(
             &rt,
@@ -161,9 +167,9 @@ fn files_that_are_not_listed(rt: HostRuntime) {
 /// An owner and a kind that no listing has: the kind is told.
 #[test]
 fn a_kind_goes_before_an_owner(rt: HostRuntime) {
-    let mut objects = with_other(0o140000, -1, 0, "");
+    let mut objects = with_other(0o060000, -1, 0, "");
     objects[1].looked.uid = 65536;
-    let notes = "left out /o: socket\n";
+    let notes = "left out /o: block device\n";
     expect(
         &rt,
         is_read(rt.alloc(), &objects, &AS_TOLD, ROOT_TEXT, notes, 1),
@@ -277,45 +283,4 @@ fn a_sink_that_fails(rt: HostRuntime) {
             expect(&rt, sink.took(1, &TREE_TEXT.as_bytes()[..limit]));
         }
     }
-}
-
-/// Whether a line is a write of so many bytes 7 from an offset on.
-fn is_write(action: &Action<'_>, from: u32, count: usize) -> bool {
-    match action {
-        Action::Op(Op::Write { offset, bytes, .. }) => {
-            *offset == from
-                && bytes.as_slice().len() == count
-                && bytes.as_slice().iter().all(|byte| *byte == 7)
-        }
-        _ => false,
-    }
-}
-
-/// Whether 5,000 bytes are two lines, of 4,096 and 904.
-fn are_pieces(alloc: Global) -> Option<bool> {
-    let attributes = Attributes {
-        mode: 0o600,
-        uid: 0,
-        gid: 0,
-        time: 0,
-    };
-    let item = Item {
-        path: String::from_str(alloc, "/a").ok()?,
-        attributes,
-        what: What::Regular(Content::Bytes(Vec::from_slice(alloc, &[7; 5000]).ok()?)),
-    };
-    let mut sink = Taker::new(alloc);
-    put_listing(&attributes, &[item], &mut sink).ok()?;
-    let lines = listing(alloc, sink.bytes.as_slice()).ok()?;
-    let lines = lines.as_slice();
-    Some(
-        lines.len() == 4
-            && is_write(&lines[2].action, 0, 4096)
-            && is_write(&lines[3].action, 4096, 904),
-    )
-}
-
-#[test]
-fn bytes_go_by_pieces(rt: HostRuntime) {
-    equal(&rt, are_pieces(rt.alloc()), Some(true));
 }

@@ -8,10 +8,10 @@ use super::overlays::Overlay;
 use super::piece::Piece;
 use std::alloc::{AllocError, Global};
 
-/// All of the pieces overlaid on one another: at each place the highest version that covers it is visible.
-/// Pieces are overlaid in the order of their versions, so that n of them take O(n log n) in any order
-/// of arrival, if those of one version are equal or lie apart. (Else each takes a step more for each
-/// interval of its own version in its range.)
+/// All of the pieces overlaid on one another: at each place the highest version that covers it is
+/// visible. Pieces are overlaid in the order of their versions, so that n of them take O(n log n)
+/// in any order of arrival, if those of one version are equal or lie apart. (Else each takes a step
+/// more for each interval of its own version in its range.)
 ///
 /// # Errors
 /// Out of memory.
@@ -36,8 +36,8 @@ fn copies<'a>(alloc: Global, pieces: &[Piece<'a>]) -> Result<Vec<Piece<'a>>, All
     Ok(copies)
 }
 
-// The pieces overlaid on one another in the order of the list, which is that of their versions: in any other order it would take
-// a step for each piece that one covers.
+// The pieces overlaid on one another in the order of the list, which is that of their versions: in
+// any other order it would take a step for each piece that one covers.
 fn overlay_in_turn<'a, O: Overlay<'a>>(alloc: Global, pieces: &[Piece<'a>]) -> Result<O, AllocError>
     requires within { All (λ piece. end_of piece < 2 ^ 32) pieces.now }
     requires by_version { IsNonDecreasingBy (λ piece. piece.version) pieces.now }

@@ -8,8 +8,8 @@ use super::overlays::Overlay;
 use super::piece::Piece;
 use std::alloc::{AllocError, Global};
 
-/// Intervals in the order of their places, in each of which one piece is visible: no two overlap, and no
-/// two that touch show one piece.
+/// Intervals in the order of their places, in each of which one piece is visible: no two overlap,
+/// and no two that touch show one piece.
 #[derive(Drop)]
 pub struct FragOverlay<'a> {
     layout: Layout<'a>,
@@ -36,7 +36,8 @@ impl<'a> Overlay<'a> for FragOverlay<'a> {
     }
 
     /// In the order of versions n pieces take O(n log n) in all. A piece that is older than k
-    /// intervals in its range takes k steps more: `overlay` sorts first. The first piece takes no memory.
+    /// intervals in its range takes k steps more: `overlay` sorts first. The first piece takes no
+    /// memory.
     fn add(&mut self, piece: Piece<'a>) -> Result<(), AllocError>
         requires { end_of piece < 2 ^ 32 }
         ensures taken { OnOk result ((place : ℕ) → piece_at self.new place

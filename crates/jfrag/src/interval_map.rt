@@ -53,7 +53,8 @@ fn is_under(version: u32, interval: &Option<Piece<'_>>) -> bool
     }
 }
 
-// Makes `at` a key, where it is wanted and it is none, and answers whether that was so. What is visible stays.
+// Makes `at` a key, where it is wanted and it is none, and answers whether that was so. What is
+// visible stays.
 fn split(intervals: &mut Intervals<'_>, at: u32, wanted: bool) -> Result<bool, AllocError>
     ensures key { OnOk result (wanted ≡ true → ContainsKey nat_cmp intervals.new at) }
     ensures same { (i : ℕ)
@@ -100,9 +101,9 @@ fn put<'a>(intervals: &mut Intervals<'a>, at: u32, piece: Piece<'a>)
     }
 }
 
-// Overlays a piece on the one interval that begins at `at`, or that `at` lies in where it doesn't win there.
-// Answers where the interval ends, `end` at most, and whether the piece won. `joined` says that it
-// is visible right before `at`.
+// Overlays a piece on the one interval that begins at `at`, or that `at` lies in where it doesn't
+// win there. Answers where the interval ends, `end` at most, and whether the piece won. `joined`
+// says that it is visible right before `at`.
 fn overwrite_step<'a>(
     intervals: &mut Intervals<'a>,
     piece: &Piece<'a>,
@@ -144,7 +145,8 @@ fn overwrite_step<'a>(
     (next, won)
 }
 
-// Overlays a piece on the intervals from its offset up to its end, where both are keys if it wins there.
+// Overlays a piece on the intervals from its offset up to its end, where both are keys if it wins
+// there.
 fn overwrite<'a>(intervals: &mut Intervals<'a>, piece: &Piece<'a>, end: u32)
     requires end { end ≡ end_of piece.now }
     requires room { piece.now.offset < end }
@@ -242,7 +244,8 @@ fn walk(intervals: &Intervals<'_>, from: u32, out: &mut [u8])
     show_part(&interval, from, done, count, out);
 }
 
-// Shows an interval at the indices `done` up to `upto` of a slice whose first byte is the file's byte `from`.
+// Shows an interval at the indices `done` up to `upto` of a slice whose first byte is the file's
+// byte `from`.
 pub(crate) fn show_part(
     interval: &Option<Piece<'_>>,
     from: u32,

@@ -4,8 +4,8 @@ ghost use Rattle.jfrag.specs.Laws as law;
 ghost use Rattle.jfrag.specs.Overlays.{visible, content};
 ghost use Rattle.jfrag.specs.Examples.{three_pieces};
 
-/// What is visible is computed as a maximum by version; where pieces of one version agree, it is the
-/// only answer that is of the highest version.
+/// What is visible is computed as a maximum by version; where pieces of one version agree, it is
+/// the only answer that is of the highest version.
 pub fn visibility_laws()
     ensures highest { law.VisibleIsHighest }
     ensures only { law.OnlyOneIsHighest }
@@ -20,7 +20,8 @@ pub fn piece_laws()
     ensures idle { law.IdleIsNotTaken }
 {}
 
-/// The worked example: version 3 over places 0 to 9, version 2 over 50 to 59, version 1 over 0 to 99.
+/// The worked example: version 3 over places 0 to 9, version 2 over 50 to 59, version 1 over 0 to
+/// 99.
 pub fn worked_example()
     ensures newest { visible three_pieces 9 ≡ Some (3, 33) }
     ensures oldest { visible three_pieces 10 ≡ Some (1, 11) }

@@ -7,10 +7,11 @@ ghost use Rattle.jfrag.specs.Overlays.{Visible, overlaid, byte_at};
 use super::piece::Piece;
 use std::alloc::{AllocError, Global};
 
-/// Pieces of one file overlaid on one another: at each place the highest version that covers it is visible.
+/// Pieces of one file overlaid on one another: at each place the highest version that covers it is
+/// visible.
 ///
-/// Contracts see what is visible at each place (a version and a byte, or nothing) and a number of ends:
-/// places where an interval begins or ends, at most.
+/// Contracts see what is visible at each place (a version and a byte, or nothing) and a number of
+/// ends: places where an interval begins or ends, at most.
 pub trait Overlay<'a>: Drop {
     /// The version and the byte that are visible at each place, or nothing.
     ghost visible_at: { Self → ℕ → Visible };

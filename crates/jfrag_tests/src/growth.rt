@@ -7,7 +7,8 @@ use std::alloc::{AllocError, Global};
 use std::process::Abort;
 use std::test::Fail;
 
-/// Lays one piece. Where that is refused, what was visible still is visible, and it can be laid then.
+/// Lays one piece. Where that is refused, what was visible still is visible, and it can be laid
+/// then.
 fn is_added_or_stays<'a, O: Overlay<'a>>(
     rt: &impl Abort,
     overlaid: &mut O,
@@ -47,7 +48,8 @@ fn a_refused_plain_add_changes_nothing(rt: HostRuntime) -> Result<(), Fail> {
     grows_or_stays::<PlainOverlay>(&rt, rt.alloc())
 }
 
-/// All of the pieces at once: where a growth is refused there is no overlay, and asked again it is right.
+/// All of the pieces at once: where a growth is refused there is no overlay, and asked again it is
+/// right.
 #[test]
 fn a_refused_overlay_is_asked_for_again(rt: HostRuntime) -> Result<(), Fail> {
     let pieces = [worked_piece(1), worked_piece(3), worked_piece(2)];

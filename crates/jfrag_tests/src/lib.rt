@@ -1,4 +1,5 @@
-//! Tests of `jfrag`: what is visible after pieces in any order of arrival, in both kinds of overlay.
+//! Tests of `jfrag`: what is visible after pieces in any order of arrival, in both kinds of
+//! overlay.
 #![tactic(auto)]
 
 #[cfg(test)]

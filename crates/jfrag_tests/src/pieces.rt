@@ -52,7 +52,8 @@ pub(crate) fn zeros_at(version: u32, offset: u32, count: u32) -> Piece<'static>
     }
 }
 
-/// Bytes 0 to 9 of version 3, 10 to 49 of version 1, 50 to 59 of version 2, 60 to 99 of version 1, then 0.
+/// Bytes 0 to 9 of version 3, 10 to 49 of version 1, 50 to 59 of version 2, 60 to 99 of version 1,
+/// then 0.
 pub(crate) fn worked_bytes() -> [u8; 101] {
     let mut bytes = [0u8; 101];
     bytes[..100].fill(11);

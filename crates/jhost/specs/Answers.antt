@@ -4,8 +4,6 @@ use Rattle.std.specs.IoError.{error_kind}
 use Rattle.std.specs.declared.io.Error.{Error}
 use Rattle.std.specs.declared.io.ErrorKind.{ErrorKind}
 use Rattle.std.specs.declared.io.ErrorKind.TheVariants as kind
-use Rattle.flashbase.specs.declared.source.LoadFault.{LoadFault}
-use Rattle.flashbase.specs.declared.source.LoadFault.TheVariants as load
 use Rattle.jfolder.specs.declared.fault.FolderFault.{FolderFault}
 use Rattle.jfolder.specs.declared.fault.FolderFault.TheVariants as folder
 
@@ -18,7 +16,3 @@ fault_of_kind _ = folder.Refused
 abbrev pub answer_of : {T : Type 0} → Result T Error → Result T FolderFault
 answer_of (Ok answer) = Ok answer
 answer_of (Err error) = Err (fault_of_kind (error_kind error))
-
-abbrev pub fault_of_load : LoadFault → FolderFault
-fault_of_load load.OutOfMemory = folder.OutOfMemory
-fault_of_load _ = folder.Refused

@@ -10,7 +10,8 @@ use std::fs::OpenFile;
 use std::io;
 use std::io::{ErrorKind, Seek, SeekFrom, Write};
 
-/// A file of the system that is filled. A hole is a place that the system's own position passes over.
+/// A file of the system that is filled. A hole is a place that the system's own position passes
+/// over.
 #[derive(Drop)]
 pub struct HostFile<F: Write + Seek + OpenFile + Drop> {
     file: F,

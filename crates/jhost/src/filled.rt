@@ -68,7 +68,8 @@ fn numbers_of(owner: Owner) -> (Option<u32>, Option<u32>)
     (Some(owner.uid), Some(owner.gid))
 }
 
-/// Gives a path its owner, where there is one. A change of the owner may clear bits of the mode, so the mode comes after it.
+/// Gives a path its owner, where there is one. A change of the owner may clear bits of the mode, so
+/// the mode comes after it.
 fn set_owner<R: Files>(rt: &R, path: &str, attributes: &Attributes) -> io::Result<()> {
     match attributes.owner {
         Some(owner) => {

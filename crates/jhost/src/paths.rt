@@ -5,7 +5,8 @@ ghost use Rattle.jhost.specs.JoinedPaths.{joined_path};
 
 use std::alloc::AllocError;
 
-/// The path of the host for one below a folder: that of the folder, a slash, and the path; the empty path is the folder itself.
+/// The path of the host for one below a folder: that of the folder, a slash, and the path; the
+/// empty path is the folder itself.
 pub fn joined<R: AllocGlobal>(rt: &R, root: &str, path: &str) -> Result<String, AllocError>
     ensures { IfOk result (λ whole. string_bytes whole ≡ joined_path root.now path.now) }
 {

@@ -7,7 +7,8 @@ use std::io::Eprint;
 use std::rt::Clock;
 use std::time::Duration;
 
-/// Counts objects, and tells each second how many they are, after the first second. What is told next is written over it.
+/// Counts objects, and tells each second how many they are, after the first second. What is told
+/// next is written over it.
 #[derive(Drop)]
 pub struct Progress<'r, R: Clock + Eprint> {
     rt: &'r R,

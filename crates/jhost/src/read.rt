@@ -4,7 +4,7 @@ ghost use Rattle.std.specs.Prelude.{◌≡◌, ◌++◌, ◌∷◌, [], IfErr, I
 ghost use Rattle.std.specs.Fs.{IsFile, file_type, metadata_len, metadata_mode};
 ghost use Rattle.std.specs.IoError.{error_kind};
 ghost use Rattle.jfolder.specs.Known.{named_of, nothing};
-ghost use Rattle.jhost.specs.Answers.{answer_of, fault_of_kind, fault_of_load};
+ghost use Rattle.jhost.specs.Answers.{answer_of, fault_of_kind};
 ghost use Rattle.jhost.specs.NamesRead.{AddsEntry};
 ghost use Rattle.jhost.specs.JoinedPaths.{joined_path};
 ghost use Rattle.jhost.specs.ReadFolders.{read_root};
@@ -12,7 +12,6 @@ ghost use Rattle.jhost.specs.Silence.{ReadsInSilence};
 
 use crate::paths::joined;
 use crate::progress::Progress;
-use flashbase::{FromReader, LoadFault, load};
 use jfolder::{FolderFault, HostFolder, Looked, Names};
 use std::alloc::AllocError;
 use std::fs::{DirEntry, Metadata};
@@ -52,16 +51,6 @@ fn answered<T: Drop>(done: io::Result<T>) -> Result<T, FolderFault>
     match done {
         Ok(answer) => Ok(answer),
         Err(error) => Err(fault_of(&error)),
-    }
-}
-
-/// What a file that was not read whole comes to.
-fn unread(fault: LoadFault) -> FolderFault
-    ensures { result ≡ fault_of_load fault }
-{
-    match fault {
-        LoadFault::OutOfMemory => FolderFault::OutOfMemory,
-        _ => FolderFault::Refused,
     }
 }
 
@@ -115,7 +104,8 @@ fn push_name<R: AllocGlobal>(rt: &R, names: &mut Names, name: &str) -> Result<()
     Ok(())
 }
 
-/// Adds the name of an entry. One that is no text comes as an error of its own kind, and is counted.
+/// Adds the name of an entry. One that is no text comes as an error of its own kind, and is
+/// counted.
 fn add_name<R: Files + AllocGlobal>(
     rt: &R,
     names: &mut Names,
@@ -151,7 +141,8 @@ fn names_in<R: Files + AllocGlobal>(rt: &R, path: &str) -> io::Result<Names> {
 }
 
 impl<'r, R: Files + AllocGlobal + Clock + Eprint> ReadFolder<'r, R> {
-    /// The folder of a path. It tells how far it is only where `tells`. The file that standard output is written to is not told.
+    /// The folder of a path. It tells how far it is only where `tells`. The file that standard
+    /// output is written to is not told.
     pub fn new(rt: &'r R, path: &str, tells: bool) -> Result<Self, AllocError>
         ensures root { IfOk result (λ folder. read_root folder ≡ path.now) }
         ensures silent { IsFalse tells → IfOk result (λ folder. ReadsInSilence folder) }
@@ -210,15 +201,6 @@ impl<'r, R: Files + AllocGlobal + Clock + Eprint> HostFolder for ReadFolder<'r, 
         let path = self.joined(path)?;
         let target = answered(fs::read_link(self.rt, path.as_str()))?;
         Ok(target.into_string())
-    }
-
-    fn bytes(&mut self, path: &str, limit: usize) -> Result<Vec<u8>, FolderFault> {
-        let path = self.joined(path)?;
-        let file = answered(fs::open(self.rt, path.as_str()))?;
-        match load(self.rt.alloc(), &mut FromReader::new(file), limit) {
-            Ok(bytes) => Ok(bytes),
-            Err(fault) => Err(unread(fault)),
-        }
     }
 
     fn host_path(&mut self, path: &str) -> Result<String, FolderFault> {

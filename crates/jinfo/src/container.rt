@@ -93,8 +93,8 @@ fn write_container(line: &mut LineBuffer, container: Container)
     line.push_text(b" does\n");
 }
 
-/// Puts the note that the file begins as this does, as it is on standard error; where it begins as nothing known, puts
-/// nothing.
+/// Puts the note that the file begins as this does, as it is on standard error; where it begins as
+/// nothing known, puts nothing.
 pub fn put_container_note<S: Sink>(
     container: Option<Container>,
     sink: &mut S,

@@ -8,16 +8,16 @@ use flashbase::Part;
 use jnode::{Order, Seen};
 use jscan::{Extent, ExtentKind};
 
-/// The greatest inode number that a sound entry or inode node names, and the greatest version of one; 0 where there is
-/// none.
+/// The greatest inode number that a sound entry or inode node names, and the greatest version of
+/// one; 0 where there is none.
 #[derive(Clone, Copy, Debug, PartialEq, Eq)]
 pub struct Highest {
     pub ino: u32,
     pub version: u32,
 }
 
-/// Where an inode node's number and version are, in bytes from its start (Linux, include/uapi/linux/jffs2.h: `struct
-/// jffs2_raw_inode`).
+/// Where an inode node's number and version are, in bytes from its start (Linux,
+/// include/uapi/linux/jffs2.h: `struct jffs2_raw_inode`).
 const INO: usize = 12;
 
 const VERSION: usize = 16;

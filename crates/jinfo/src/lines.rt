@@ -173,8 +173,8 @@ fn put_lines<S: Sink>(info: &Info, sink: &mut S) -> Result<(), DeviceFault>
     put_text(sink, line.as_slice())
 }
 
-/// Puts what an image tells of itself, a line each, and answers its byte order; none where no header is good. It takes
-/// no memory, and time linear in the bytes.
+/// Puts what an image tells of itself, a line each, and answers its byte order; none where no
+/// header is good. It takes no memory, and time linear in the bytes.
 pub fn put_info<S: Sink>(image: &[u8], sink: &mut S) -> Result<Option<Endian>, InfoFault>
     ensures { PutsInfo image.now (S.taken sink.old) (S.taken sink.new) (S.failures sink.old)
         (S.failures sink.new) result }

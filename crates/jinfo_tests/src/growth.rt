@@ -7,7 +7,8 @@ use jinfo::{InfoFault, put_info};
 use std::alloc::Global;
 use test_support::Matcher;
 
-/// Why the lines of a row are not told; none where they are, or where there is no memory for its image.
+/// Why the lines of a row are not told; none where they are, or where there is no memory for its
+/// image.
 fn fault(alloc: Global, row: &Row) -> Option<InfoFault> {
     let image = image_of(alloc, row).ok()?;
     let mut sink = Matcher {

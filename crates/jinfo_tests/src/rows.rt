@@ -1,4 +1,5 @@
-//! Images, with what is told of each by `tests/info_model.py`, which shares nothing with the crates.
+//! Images, with what is told of each by `tests/info_model.py`, which shares nothing with the
+//! crates.
 
 use crate::vectors::{
     BIG_BAD_DATA, BIG_BAD_NAME, BIG_BAD_NODE, BIG_ENTRY, BIG_LONG, BIG_LZO, BIG_MARKER,
@@ -9,7 +10,8 @@ use crate::vectors::{
     LITTLE_ZEROS, LITTLE_ZLIB,
 };
 
-/// An image: how long it is, and nodes with their addresses; all else is erased. `text` is what is told of it.
+/// An image: how long it is, and nodes with their addresses; all else is erased. `text` is what is
+/// told of it.
 pub(crate) struct Row {
     pub name: &'static str,
     pub len: usize,

@@ -54,8 +54,8 @@ pub fn put_in_line<T: Sink>(sink: &mut T, bytes: &[u8]) -> Result<(), DeviceFaul
     put_spelled(sink, Spelling::InLine, bytes)
 }
 
-/// Puts the bytes of a path or a target: a slash as it is, and each other byte that is not plain as `\x` and two hexadecimal
-/// digits. Takes no memory.
+/// Puts the bytes of a path or a target: a slash as it is, and each other byte that is not plain as
+/// `\x` and two hexadecimal digits. Takes no memory.
 pub fn put_word<T: Sink>(sink: &mut T, bytes: &[u8]) -> Result<(), DeviceFault>
     ensures { Puts (T.taken sink.old) (T.taken sink.new) (T.failures sink.old) (T.failures sink.new)
         (word_of bytes.now) result }

@@ -1,4 +1,5 @@
-//! The line forms of `check --scan`, written into a line buffer. Each takes the place of what the buffer had.
+//! The line forms of `check --scan`, written into a line buffer. Each takes the place of what the
+//! buffer had.
 
 ghost use Rattle.std.specs.Prelude.{◌≡◌, ◌≤◌, length};
 ghost use Rattle.jline.specs.Forms.{block_line, line_start, plain_line, typed_line, entry_line, fill_name, inode_line, compressed_line, damage_name, damaged_line, total_line, seen_line, kind_line, extent_line, shown_name};

@@ -9,7 +9,8 @@ use itoa::Buffer;
 use jnode::Part;
 use std::marker::Model;
 
-/// The most bytes of a line: an entry's with a name of 255 bytes, each of them escaped, takes 1,168.
+/// The most bytes of a line: an entry's with a name of 255 bytes, each of them escaped, takes
+/// 1,168.
 pub const MAX_LINE: usize = 1200;
 
 /// A line as far as it is written. Contracts see its bytes.

@@ -28,7 +28,8 @@ fn put_names<T: Sink>(sink: &mut T, path: &[&[u8]]) -> Result<(), DeviceFault>
     Ok(())
 }
 
-/// Puts a path, from its names: a slash before each, and the names escaped; of no names a slash alone. Takes no memory.
+/// Puts a path, from its names: a slash before each, and the names escaped; of no names a slash
+/// alone. Takes no memory.
 pub fn put_path<T: Sink>(sink: &mut T, path: &[&[u8]]) -> Result<(), DeviceFault>
     ensures { Puts (T.taken sink.old) (T.taken sink.new) (T.failures sink.old) (T.failures sink.new)
         (path_shown (map (λ name. name.now) path.now)) result }

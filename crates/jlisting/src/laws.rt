@@ -2,7 +2,8 @@
 
 ghost use Rattle.jlisting.specs.Laws as law;
 
-/// A word is read as a number exactly where it is a numeral of its base, short enough, and within the limit.
+/// A word is read as a number exactly where it is a numeral of its base, short enough, and within
+/// the limit.
 pub fn numbers_are_numerals()
     ensures { law.NumbersAreNumerals }
 {}

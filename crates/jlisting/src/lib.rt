@@ -1,15 +1,18 @@
-//! The listing of operations that `build` and `append` read: a text, one operation a line, such as `mkdir 0755 /etc`.
+//! The listing of operations that `build` and `append` read: a text, one operation a line, such as
+//! `mkdir 0755 /etc`.
 //!
-//! The section LISTINGS of the manual page `docs/jffs2_image.5` has all lines, and what their words stand for.
+//! The section LISTINGS of the manual page `docs/jffs2_image.5` has all lines, and what their words
+//! stand for.
 //!
-//! A listing is read in one pass, in time linear in its bytes. Its words are lent and not copied, but for those with an
-//! escape and for HEX.
+//! A listing is read in one pass, in time linear in its bytes. Its words are lent and not copied,
+//! but for those with an escape and for HEX.
 //!
-//! It is built on `jsteps` (operations) and `jword` (words that stand for bytes). Its promise to the program: `listing`
-//! answers the actions of the text with their lines, or the number of the first line that means nothing.
+//! It is built on `jsteps` (operations) and `jword` (words that stand for bytes). Its promise to
+//! the program: `listing` answers the actions of the text with their lines, or the number of the
+//! first line that means nothing.
 //!
-//! `specs/Words.antt` says what a word stands for, `specs/Listing.antt` what a line means and which actions a text has.
-//! `laws` has what holds of numbers, and `examples` has worked listings.
+//! `specs/Words.antt` says what a word stands for, `specs/Listing.antt` what a line means and which
+//! actions a text has. `laws` has what holds of numbers, and `examples` has worked listings.
 #![tactic(auto)]
 
 pub mod examples;

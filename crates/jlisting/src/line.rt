@@ -93,7 +93,8 @@ impl<'a> Action<'a> {
         }
     }
 
-    /// The operation, where that file has these bytes. They are lent; without a file they have no use.
+    /// The operation, where that file has these bytes. They are lent; without a file they have no
+    /// use.
     pub fn op(self, bytes: &'a [u8]) -> Op<'a>
         ensures { result ≡ op_of self.entry bytes.entry.now }
     {

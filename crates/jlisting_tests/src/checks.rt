@@ -1,5 +1,5 @@
-//! What tests assert, each proved once: an `assert_eq!` is proved anew, with the text that it would print, in each test that
-//! has one. A failure names the line of the call.
+//! What tests assert, each proved once: an `assert_eq!` is proved anew, with the text that it would
+//! print, in each test that has one. A failure names the line of the call.
 
 ghost use Rattle.std.specs.Prelude.{◌≡◌, true};
 

@@ -16,8 +16,8 @@ fn fault(alloc: Global) -> Option<ListingFault> {
     }
 }
 
-/// Passes with each allocation failing in turn too: memory is then blamed and no line, and the next call, with memory,
-/// answers as if there had been none before.
+/// Passes with each allocation failing in turn too: memory is then blamed and no line, and the next
+/// call, with memory, answers as if there had been none before.
 #[test]
 fn refused_growth_is_no_wrong_line(rt: HostRuntime) {
     let first = fault(rt.alloc());

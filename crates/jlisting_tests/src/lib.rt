@@ -1,5 +1,6 @@
-//! Tests of `jlisting`: each form of a line, the lines that are none with their numbers, settings, escapes, the limits of
-//! numbers, and refused growth. Expected values come from the format of a listing and not from the program's output.
+//! Tests of `jlisting`: each form of a line, the lines that are none with their numbers, settings,
+//! escapes, the limits of numbers, and refused growth. Expected values come from the format of a
+//! listing and not from the program's output.
 #![tactic(auto)]
 
 #[cfg(test)]

@@ -12,7 +12,8 @@ fn wrong_line(alloc: Global, text: &[u8]) -> Option<usize> {
     }
 }
 
-/// Lines are counted from 1, empty ones and comments with the others; the first that means nothing is answered.
+/// Lines are counted from 1, empty ones and comments with the others; the first that means nothing
+/// is answered.
 const NUMBERS: [(&[u8], usize); 14] = [
     (b"# a\n\ncreate  0644 /a\n", 3),
     (b"# a\n\ncreate  0644 /a", 3),

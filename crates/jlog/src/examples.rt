@@ -68,7 +68,8 @@ pub fn page_does_not_fit()
     ensures small { fit 8192 1 4288 (of_lengths (68 ∷ [])) ≡ true }
 {}
 
-/// Two blocks: a node goes over into the second one, and three more do not fit although as many bytes are free.
+/// Two blocks: a node goes over into the second one, and three more do not fit although as many
+/// bytes are free.
 #[tactic(auto, unfolding(flashbase::specs::Bytes::pad4_of))]
 pub fn two_blocks()
     ensures places { places 8192 0 (of_lengths (68 ∷ 41 ∷ 4164 ∷ 4164 ∷ []))

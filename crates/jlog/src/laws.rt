@@ -28,7 +28,8 @@ pub fn room_goes_on()
     ensures end { EndIsWithin }
 {}
 
-/// The nodes that are intact after a cut are the first ones, as many as are intact; without a cut all are.
+/// The nodes that are intact after a cut are the first ones, as many as are intact; without a cut
+/// all are.
 pub fn intact_is_counted()
     ensures counted { IntactIsCounted }
     ensures beginning { WholeIsBeginning }
@@ -45,7 +46,8 @@ pub fn placed_are_new()
     ensures { PlacedAreNew }
 {}
 
-/// What a stop leaves has the base's blocks below the address where writing went on, and no more blocks than the flash.
+/// What a stop leaves has the base's blocks below the address where writing went on, and no more
+/// blocks than the flash.
 pub fn base_stays()
     ensures blocks { BaseStays }
     ensures within { LeftIsWithin }
@@ -57,7 +59,8 @@ pub fn some_are_left()
     ensures marker { MarkerIsLeft }
 {}
 
-/// After a cut there stands what was in the base, and the new nodes that are intact, but for markers and damage.
+/// After a cut there stands what was in the base, and the new nodes that are intact, but for
+/// markers and damage.
 pub fn left_sightings()
     ensures { LeftSightings }
 {}
@@ -72,7 +75,8 @@ pub fn left_refuses()
     ensures { LeftRefuses }
 {}
 
-/// Without a cut the nodes are the base's and all new ones, weak or not and of any length, and the same refuses.
+/// Without a cut the nodes are the base's and all new ones, weak or not and of any length, and the
+/// same refuses.
 pub fn left_whole()
     ensures nodes { WholeNodes }
     ensures refuses { WholeRefuses }
@@ -83,21 +87,22 @@ pub fn sound_nodes_are_apart()
     ensures { SoundNodesAreApart }
 {}
 
-/// On a base without a fault, what is left has none where no new node clashes; and it has the base's nodes and the new ones
-/// that stand whole.
+/// On a base without a fault, what is left has none where no new node clashes; and it has the
+/// base's nodes and the new ones that stand whole.
 pub fn left_is_sound()
     ensures cut { LeftIsSound }
     ensures whole { WholeIsSound }
 {}
 
-/// Whatever the base that mounts, the accepted operations and the byte where writing stops: what is left mounts as the file
-/// system after the steps whose nodes stand whole.
+/// Whatever the base that mounts, the accepted operations and the byte where writing stops: what is
+/// left mounts as the file system after the steps whose nodes stand whole.
 pub fn accepted_survives()
     ensures { AcceptedSurvives }
 {}
 
-/// What goes out for any nodes from the start of an erased flash on is an image of these nodes, at their places, that nothing
-/// refuses; and where no two clash and the root is a directory, it mounts as the file system that they make.
+/// What goes out for any nodes from the start of an erased flash on is an image of these nodes, at
+/// their places, that nothing refuses; and where no two clash and the root is a directory, it
+/// mounts as the file system that they make.
 pub fn output_mounts()
     ensures image { OutputIsImage }
     ensures sound { OutputIsSound }

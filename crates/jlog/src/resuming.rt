@@ -27,12 +27,14 @@ fn holds(geometry: Geometry, blocks: u32, len: usize) -> bool
         && len as u64 <= bytes
 }
 
-/// The address where writing goes on in a mounted image on a flash of so many blocks: that of the block from which on the
-/// flash is blank. It is in `E`'s order and of the geometry that the image was mounted with. Takes no memory.
+/// The address where writing goes on in a mounted image on a flash of so many blocks: that of the
+/// block from which on the flash is blank. It is in `E`'s order and of the geometry that the image
+/// was mounted with. Takes no memory.
 ///
 /// # Errors
-/// `ReadOnly`: a node of the image says that it may not be written. Else `Geometry`: blocks of this size are not written
-/// (from 8 KiB to 4 MiB are), there is no block, the flash is larger than 256 MiB, or the image is larger than the flash.
+/// `ReadOnly`: a node of the image says that it may not be written. Else `Geometry`: blocks of this
+/// size are not written (from 8 KiB to 4 MiB are), there is no block, the flash is larger than 256
+/// MiB, or the image is larger than the flash.
 pub fn resume_at<E: Order>(
     mounted: &Mounted<'_>,
     geometry: Geometry,
@@ -51,7 +53,8 @@ pub fn resume_at<E: Order>(
     Ok(blank_from::<E>(image, geometry, blocks) * geometry.block)
 }
 
-/// Whether a block of this size holds its marker and a node of a page's bytes: it is at least 80 bytes larger.
+/// Whether a block of this size holds its marker and a node of a page's bytes: it is at least 80
+/// bytes larger.
 pub fn page_fits(geometry: Geometry, page: Page) -> bool
     ensures { result ≡ page_fits geometry.block page }
 {

@@ -1,4 +1,5 @@
-//! What mounts after writing stopped, at each byte: the plain file system after the steps whose nodes are whole.
+//! What mounts after writing stopped, at each byte: the plain file system after the steps whose
+//! nodes are whole.
 
 use crate::checks::{equal_at, expect, expect_at};
 use crate::plain::{Change, Plain};
@@ -188,8 +189,9 @@ fn states_of(alloc: Global, case: &Case<'_>) -> Result<Vec<Plain>, Fail> {
     Ok(states)
 }
 
-/// Which pairs of lengths are tried of the markers of blocks that were not written past them: all inside the first marker
-/// and after every 61st byte, and one in turn after the others. 13 pairs have the same length of the second.
+/// Which pairs of lengths are tried of the markers of blocks that were not written past them: all
+/// inside the first marker and after every 61st byte, and one in turn after the others. 13 pairs
+/// have the same length of the second.
 fn marker_lens(blocks: u32, k: usize) -> (usize, usize) {
     if k <= 12 || k % 61 == 0 {
         (0, if blocks == 1 { 13 } else { 169 })
@@ -198,7 +200,8 @@ fn marker_lens(blocks: u32, k: usize) -> (usize, usize) {
     }
 }
 
-/// The first number of bytes after which an image mounts otherwise than as the steps whose nodes are whole say.
+/// The first number of bytes after which an image mounts otherwise than as the steps whose nodes
+/// are whole say.
 fn first_wrong<E: Order>(
     alloc: Global,
     case: &Case<'_>,
@@ -232,7 +235,8 @@ fn survives<E: Order>(alloc: Global, case: &Case<'_>, len: usize) -> Result<bool
 
 const TEN: [u8; 10] = [1, 2, 3, 4, 5, 6, 7, 8, 9, 10];
 
-/// The file is cut and written past its end, so that zeros fill the gap. The last byte is that of erased flash.
+/// The file is cut and written past its end, so that zeros fill the gap. The last byte is that of
+/// erased flash.
 #[test]
 fn a_file_that_is_cut_and_written(rt: HostRuntime) -> Result<(), Fail> {
     let ops = [
@@ -292,8 +296,8 @@ fn a_directory_that_is_renamed(rt: HostRuntime) -> Result<(), Fail> {
     Ok(())
 }
 
-/// A file in the place of another: its name stands for the whole old file up to the node that sets it, and for the whole
-/// new one from there on.
+/// A file in the place of another: its name stands for the whole old file up to the node that sets
+/// it, and for the whole new one from there on.
 #[test]
 fn a_file_that_is_replaced(rt: HostRuntime) -> Result<(), Fail> {
     let ops = [
@@ -330,7 +334,8 @@ fn a_file_that_is_replaced(rt: HostRuntime) -> Result<(), Fail> {
     Ok(())
 }
 
-/// A new file with bytes that takes the place of another: no name stands for a part of them. And one without bytes.
+/// A new file with bytes that takes the place of another: no name stands for a part of them. And
+/// one without bytes.
 #[test]
 fn a_file_that_is_there_whole_or_not_at_all(rt: HostRuntime) -> Result<(), Fail> {
     let ops = [
@@ -468,7 +473,8 @@ fn goes_on<E: Order>(alloc: Global) -> Result<bool, Fail> {
     survives::<E>(alloc, &case, 124)
 }
 
-/// The image of a file that was made, without the last bytes of its name's node: writing goes on in the next block.
+/// The image of a file that was made, without the last bytes of its name's node: writing goes on in
+/// the next block.
 #[test]
 fn a_base_that_was_cut(rt: HostRuntime) -> Result<(), Fail> {
     expect(&rt, goes_on::<LittleEndian>(rt.alloc())?);
@@ -506,7 +512,8 @@ fn goes_on_in_turn<E: Order>(alloc: Global) -> Result<bool, Fail> {
     Ok(run.output.len() == 524 && first_wrong::<E>(alloc, &case, run)?.is_none())
 }
 
-/// Two runs and an operation between them, in one session: where a later call stops, what the earlier ones put stands.
+/// Two runs and an operation between them, in one session: where a later call stops, what the
+/// earlier ones put stands.
 #[test]
 fn a_session_of_three_calls(rt: HostRuntime) -> Result<(), Fail> {
     expect(&rt, goes_on_in_turn::<LittleEndian>(rt.alloc())?);
@@ -516,8 +523,8 @@ fn a_session_of_three_calls(rt: HostRuntime) -> Result<(), Fail> {
 
 const ONES: [u8; 8192] = [1; 8192];
 
-/// Two nodes of data, each in its block: some 100,000 mounts, which take a second as LLVM builds them and many minutes by
-/// `rt try`.
+/// Two nodes of data, each in its block: some 100,000 mounts, which take a second as LLVM builds
+/// them and many minutes by `rt try`.
 #[test]
 fn a_file_over_two_blocks(rt: HostRuntime) -> Result<(), Fail> {
     let case = Case {
@@ -541,8 +548,8 @@ fn a_file_over_two_blocks(rt: HostRuntime) -> Result<(), Fail> {
 
 const SEVENS: [u8; 16_384] = [7; 16_384];
 
-/// The first piece is two nodes, since its length would spell the magic; the second write lies in two pages. A new file has
-/// the same pieces.
+/// The first piece is two nodes, since its length would spell the magic; the second write lies in
+/// two pages. A new file has the same pieces.
 #[test]
 fn a_file_by_pages_of_8192(rt: HostRuntime) -> Result<(), Fail> {
     let case = Case {
@@ -620,7 +627,8 @@ fn a_file_that_ends_in_erased_bytes(rt: HostRuntime) -> Result<(), Fail> {
     Ok(())
 }
 
-/// Why nodes must have no weak cut: five erased bytes have the checksum of these five, so they mount as the data.
+/// Why nodes must have no weak cut: five erased bytes have the checksum of these five, so they
+/// mount as the data.
 #[test]
 fn a_weak_cut(rt: HostRuntime) -> Result<(), Fail> {
     let alloc = rt.alloc();

@@ -47,8 +47,9 @@ fn end_of(places: &[Place], end: u64) -> u64 {
     }
 }
 
-/// Applies operations. One whose growth is refused is applied again: it does what it did not, in the same bytes, or, where a
-/// byte of it went out, the session is broken. Whether that is so of all.
+/// Applies operations. One whose growth is refused is applied again: it does what it did not, in
+/// the same bytes, or, where a byte of it went out, the session is broken. Whether that is so of
+/// all.
 fn are_applied(alloc: Global, mut log: Log<'_, '_>, ops: &[Op<'_>], len: usize) -> bool {
     let mut end = 0;
     for op in ops {
@@ -78,7 +79,8 @@ fn are_run(alloc: Global, mut log: Log<'_, '_>, ops: &[Op<'_>], len: usize) -> b
     }
 }
 
-/// A session on an empty flash puts these bytes for these operations. One that is refused its memory is asked for again.
+/// A session on an empty flash puts these bytes for these operations. One that is refused its
+/// memory is asked for again.
 fn are_put(alloc: Global, ops: &[Op<'_>], whole: &[u8], in_one_run: bool) -> bool {
     let Ok(mounted) = mount::<LittleEndian>(alloc, &[], GEOMETRY) else {
         return true;
@@ -98,8 +100,8 @@ fn are_put(alloc: Global, ops: &[Op<'_>], whole: &[u8], in_one_run: bool) -> boo
     }
 }
 
-/// Passes with each allocation failing in turn too. Where the memory for the operations or for what they are to put is refused,
-/// nothing is run.
+/// Passes with each allocation failing in turn too. Where the memory for the operations or for what
+/// they are to put is refused, nothing is run.
 #[test]
 fn refused_growth_of_sessions(rt: HostRuntime) {
     let Ok(ops) = ops_of(rt.alloc(), &LINES, BY) else {

@@ -1,9 +1,10 @@
-//! Worked logs: what sessions put, where they refuse, and what mounts after a cut, from the rules of the format and not from
-//! the program's output.
+//! Worked logs: what sessions put, where they refuse, and what mounts after a cut, from the rules
+//! of the format and not from the program's output.
 //!
-//! `sessions` runs operations onto an image, `cut_tests` mounts what a stop at each byte leaves (`stopped`) and compares it with
-//! a plain file system (`plain`), `sink_tests` lets a sink fail, `refusal_tests` has where a session may begin, `place_tests`
-//! single nodes, and `growth` memory that is refused. Where nodes go, byte for byte, tests/listings.py shows.
+//! `sessions` runs operations onto an image, `cut_tests` mounts what a stop at each byte leaves
+//! (`stopped`) and compares it with a plain file system (`plain`), `sink_tests` lets a sink fail,
+//! `refusal_tests` has where a session may begin, `place_tests` single nodes, and `growth` memory
+//! that is refused. Where nodes go, byte for byte, tests/listings.py shows.
 #![tactic(auto)]
 
 #[cfg(test)]

@@ -55,7 +55,8 @@ struct File {
     bytes: Vec<u8>,
 }
 
-/// The root's attributes, files whose numbers are 2, 3 and so on, and the names that these tests use, in byte order.
+/// The root's attributes, files whose numbers are 2, 3 and so on, and the names that these tests
+/// use, in byte order.
 #[derive(Drop)]
 pub struct Plain {
     root: Object,
@@ -171,7 +172,8 @@ impl Plain {
         Ok(())
     }
 
-    /// Whether a mounted image shows these files and names, and no others. `room` has place for the bytes of each file.
+    /// Whether a mounted image shows these files and names, and no others. `room` has place for the
+    /// bytes of each file.
     pub fn is_shown(&self, mounted: &Mounted<'_>, room: &mut [u8]) -> bool {
         self.are_files_shown(mounted, room) && self.are_names_shown(mounted)
     }

@@ -24,7 +24,8 @@ pub const BY: By = By {
     gid: 0,
 };
 
-/// A file is made, written, cut, and written behind its end: its nodes go to `test_support::CUT_PLACES`.
+/// A file is made, written, cut, and written behind its end: its nodes go to
+/// `test_support::CUT_PLACES`.
 pub const CUT_LINES: [&str; 4] = [
     "create /a 644",
     "write /a 0 10",
@@ -111,7 +112,8 @@ fn run_parts<E: Order>(
     Ok(report)
 }
 
-/// Runs operations onto an image in three calls of one session: the first two, the next one alone, and the others.
+/// Runs operations onto an image in three calls of one session: the first two, the next one alone,
+/// and the others.
 pub fn run_in_turn<E: Order>(
     alloc: Global,
     image: &[u8],

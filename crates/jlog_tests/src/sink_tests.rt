@@ -16,7 +16,8 @@ const GEOMETRY: Geometry = Geometry { block: 8192 };
 /// Where the bytes of each operation of `CUT_LINES` end.
 const ENDS: [usize; 4] = [124, 204, 272, 412];
 
-/// What a run onto an empty flash reports, and its sink. A session that the run broke puts nothing more.
+/// What a run onto an empty flash reports, and its sink. A session that the run broke puts nothing
+/// more.
 fn run_onto(alloc: Global, sink: Taker) -> Result<(RunReport, Taker), Fail> {
     let ops = ops_of(alloc, &CUT_LINES, BY)?;
     let mounted = mount::<LittleEndian>(alloc, &[], GEOMETRY)?;
@@ -60,7 +61,8 @@ fn a_session_breaks_with_its_sink(rt: HostRuntime) -> Result<(), Fail> {
     Ok(())
 }
 
-/// Whether a sink that failed once holds a beginning of the bytes, and the report tells of the nodes and operations in it.
+/// Whether a sink that failed once holds a beginning of the bytes, and the report tells of the
+/// nodes and operations in it.
 fn is_broken_off(report: &RunReport, sink: &Taker, whole: &[u8]) -> bool {
     let taken = sink.bytes.len();
     let nodes = CUT_PLACES.iter().filter(|(addr, totlen)| addr.wrapping_add(*totlen) as usize
@@ -75,7 +77,8 @@ fn is_broken_off(report: &RunReport, sink: &Taker, whole: &[u8]) -> bool {
         && whole.starts_with(&sink.bytes)
 }
 
-/// The sink takes one byte a call, and fails once, at each of its calls in turn: by an Err, or by taking nothing.
+/// The sink takes one byte a call, and fails once, at each of its calls in turn: by an Err, or by
+/// taking nothing.
 #[test]
 fn a_sink_that_fails_once(rt: HostRuntime) -> Result<(), Fail> {
     let (report, whole) = run_onto(rt.alloc(), Taker::limited(rt.alloc(), 1, usize::MAX))?;
@@ -98,8 +101,8 @@ fn is_halted(report: &RunReport, stopped: Option<SessionFault>) -> bool {
     report.accepted == 0 && report.places.is_empty() && report.stopped == stopped
 }
 
-/// Whether a session whose sink failed runs nothing more, though the sink would take it: neither operations nor none. Its sink
-/// holds so many bytes.
+/// Whether a session whose sink failed runs nothing more, though the sink would take it: neither
+/// operations nor none. Its sink holds so many bytes.
 fn stays_broken(alloc: Global, sink: Taker, taken: usize) -> Result<bool, Fail> {
     let ops = ops_of(alloc, &CUT_LINES, BY)?;
     let mounted = mount::<LittleEndian>(alloc, &[], GEOMETRY)?;

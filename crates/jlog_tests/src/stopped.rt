@@ -26,8 +26,9 @@ fn mark<E: Order>(image: &mut [u8], start: usize, len: usize) {
 }
 
 impl Log {
-    /// Makes the image that is left where the flash was written up to `end`. A block that was not written past its marker
-    /// holds as much of the marker as `markers` says, or as went out if that is more.
+    /// Makes the image that is left where the flash was written up to `end`. A block that was not
+    /// written past its marker holds as much of the marker as `markers` says, or as went out if
+    /// that is more.
     pub fn leave<E: Order>(
         &self,
         image: &mut Vec<u8>,

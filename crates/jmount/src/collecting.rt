@@ -18,8 +18,8 @@ use jname::{NameFault, Names};
 use jnode::{Dirent, InodeNode, NodeRef};
 use std::alloc::Global;
 
-/// What is collected of nodes: their entries, their inode nodes, and the greatest number that they name, the root's
-/// among them.
+/// What is collected of nodes: their entries, their inode nodes, and the greatest number that they
+/// name, the root's among them.
 #[derive(Drop)]
 pub struct NodeTables<'a> {
     pub names: Names<'a>,

@@ -19,8 +19,8 @@ pub fn cut_and_written()
     ensures next { (state_of five_versions).next ≡ 3 }
 {}
 
-/// Three versions that lie over one another: the size is the newest one's, and each byte that of the highest version
-/// that covers it.
+/// Three versions that lie over one another: the size is the newest one's, and each byte that of
+/// the highest version that covers it.
 pub fn three_pieces()
     ensures { option_map (λ o. o.body) (object (state_of three_versions) 2)
         ≡ Some (replicate 10 33 ++ replicate 40 11 ++ replicate 10 22 ++ replicate 40 11 ++ 0

@@ -57,8 +57,8 @@ impl<'a> Inodes<'a> {
 
     /// Adds a node. One that was added already changes nothing. O(log n) for n nodes.
     ///
-    /// `Clash`: a node of the same number and version, with other contents, was added before. After a fault the nodes
-    /// are those from before.
+    /// `Clash`: a node of the same number and version, with other contents, was added before. After
+    /// a fault the nodes are those from before.
     pub fn add(&mut self, node: InodeNode<'a>) -> Result<(), InodeFault>
         ensures ok { OnOk result (GainsInode self.old self.new node.entry) }
         ensures alone { OnOk result (NoInodeClashesWith self.old node.entry) }
@@ -68,8 +68,8 @@ impl<'a> Inodes<'a> {
         add_node(self.alloc, &mut self.numbers, node)
     }
 
-    /// The objects that the nodes make, by their numbers, and the root, which every image has. O(n log n) for n
-    /// nodes of which no two clash.
+    /// The objects that the nodes make, by their numbers, and the root, which every image has. O(n
+    /// log n) for n nodes of which no two clash.
     pub fn into_objects(self) -> Result<BTreeMap<u32, Stored<'a>>, AllocError>
         requires ends { All (λ node. end_of (piece_of node) < 2 ^ 32) self }
         ensures each { IfOk result

@@ -2,7 +2,8 @@
 
 ghost use Rattle.jmount.specs.Laws as law;
 
-/// An object depends on which inode nodes there are, and not on their order or how often each is there.
+/// An object depends on which inode nodes there are, and not on their order or how often each is
+/// there.
 pub fn objects_depend_on_nodes()
     ensures one { law.ObjectDependsOnNodes }
     ensures all { law.ObjectsDependOnNodes }
@@ -20,19 +21,22 @@ pub fn state_depends_on_nodes()
     ensures { law.StateDependsOnNodes }
 {}
 
-/// The file system has at each number the object that its nodes make, and at each name what the name stands for.
+/// The file system has at each number the object that its nodes make, and at each name what the
+/// name stands for.
 pub fn state_has_each()
     ensures objects { law.ObjectsHaveEach }
     ensures object { law.StateHasObjects }
     ensures name { law.StateHasNames }
 {}
 
-/// The map of the greatest versions has at each number the greatest version, or nothing where that is 0.
+/// The map of the greatest versions has at each number the greatest version, or nothing where that
+/// is 0.
 pub fn tops_have_each()
     ensures { law.TopsHaveEach }
 {}
 
-/// An object has the attributes and the size of its highest version, and each byte of the highest version that covers it.
+/// An object has the attributes and the size of its highest version, and each byte of the highest
+/// version that covers it.
 pub fn objects_are_of_highest()
     ensures range { law.PieceIsRange }
     ensures attributes { law.ObjectIsOfLatest }
@@ -40,7 +44,8 @@ pub fn objects_are_of_highest()
     ensures bytes { law.ByteIsOfHighest }
 {}
 
-/// A name stands for what its entry of highest version says, and for nothing where that says that it is gone.
+/// A name stands for what its entry of highest version says, and for nothing where that says that
+/// it is gone.
 pub fn names_are_of_newest()
     ensures some { law.NameIsOfNewest }
     ensures none { law.NoNameIsOfNone }
@@ -92,7 +97,8 @@ pub fn outline_keeps_find()
     ensures find { law.FindIsOfOutline }
 {}
 
-/// The shape of a tree: computed, kept by an outline, and what it gives: one path at most to each directory.
+/// The shape of a tree: computed, kept by an outline, and what it gives: one path at most to each
+/// directory.
 pub fn shape_is_decided()
     ensures computed { law.ShapeIsDecided }
     ensures outline { law.ShapeIsOfOutline }

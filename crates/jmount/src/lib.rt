@@ -1,11 +1,13 @@
 //! The file system that the nodes of an image make.
 //!
-//! It is built on `jscan` (the nodes of an image), `jfrag` (the bytes of a file) and `jname` (what a name stands for).
-//! Its promise to the layers above: `mount` answers the state of the image's nodes, or the fault of least address.
+//! It is built on `jscan` (the nodes of an image), `jfrag` (the bytes of a file) and `jname` (what
+//! a name stands for). Its promise to the layers above: `mount` answers the state of the image's
+//! nodes, or the fault of least address.
 //!
-//! `specs/Tree.antt` says what a file system is, `specs/StateOf.antt` which one nodes make, `specs/Find.antt` what a path
-//! names, `specs/Clash.antt` which nodes contradict each other, and `specs/Mounts.antt` what a mount answers. `laws` has
-//! what follows from them, many of them once more as relations, and `examples` has worked examples.
+//! `specs/Tree.antt` says what a file system is, `specs/StateOf.antt` which one nodes make,
+//! `specs/Find.antt` what a path names, `specs/Clash.antt` which nodes contradict each other, and
+//! `specs/Mounts.antt` what a mount answers. `laws` has what follows from them, many of them once
+//! more as relations, and `examples` has worked examples.
 #![tactic(auto)]
 
 mod collecting;

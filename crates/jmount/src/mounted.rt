@@ -122,12 +122,14 @@ impl<'a> Mounted<'a> {
 
     /// The number of the object that a path names: `/` the root, else `/` before each name.
     ///
-    /// The whole text is judged first. Symlinks are not followed. Takes O(log n) a name and no memory.
+    /// The whole text is judged first. Symlinks are not followed. Takes O(log n) a name and no
+    /// memory.
     ///
     /// # Errors
-    /// `BadPath`: the text is no path: it does not begin with `/`, or a name in it is empty, `.` or `..`, or has a zero
-    /// byte. Else the fault of the first name that has one. `NotDirectory`: what is before the name is no directory.
-    /// `NotFound`: the name stands for nothing there, or for an object that is missing.
+    /// `BadPath`: the text is no path: it does not begin with `/`, or a name in it is empty, `.` or
+    /// `..`, or has a zero byte. Else the fault of the first name that has one. `NotDirectory`:
+    /// what is before the name is no directory. `NotFound`: the name stands for nothing there, or
+    /// for an object that is missing.
     pub fn find(&self, text: &[u8]) -> Result<u32, FindFault>
         ensures { result ≡ walk.find self.now.state text.now }
     {
@@ -189,7 +191,8 @@ impl<'a> Mounted<'a> {
         self.names.of(dir)
     }
 
-    /// All names, each with its directory's number and its own, in order of the directory's number and then in byte order.
+    /// All names, each with its directory's number and its own, in order of the directory's number
+    /// and then in byte order.
     pub fn names(&self) -> All<'_, 'a>
         ensures { result ≡ tree.all_entries self.now.state }
     {
@@ -203,8 +206,8 @@ impl<'a> Mounted<'a> {
         Objects::new(&self.objects)
     }
 
-    /// The names whose objects are missing, each with its directory's number and its own, in order of the directory's
-    /// number and then in byte order. Takes memory for the answer alone.
+    /// The names whose objects are missing, each with its directory's number and its own, in order
+    /// of the directory's number and then in byte order. Takes memory for the answer alone.
     ///
     /// # Errors
     /// Out of memory.
@@ -217,8 +220,9 @@ impl<'a> Mounted<'a> {
             .collect(alloc)
     }
 
-    /// Whether the tree has its shape: no directory but the root has two names, and none is reached from itself by names of
-    /// directories. Takes O(n log n) for n names and objects, and memory for the directories.
+    /// Whether the tree has its shape: no directory but the root has two names, and none is reached
+    /// from itself by names of directories. Takes O(n log n) for n names and objects, and memory
+    /// for the directories.
     ///
     /// # Errors
     /// Out of memory.
@@ -228,8 +232,9 @@ impl<'a> Mounted<'a> {
         has_shape(alloc, self)
     }
 
-    /// Reads the bytes of a regular file or a symlink from an offset on: as many as the slice and the size allow, at the
-    /// front of the slice. Answers how many; 0 for what is neither of the two. Takes no memory.
+    /// Reads the bytes of a regular file or a symlink from an offset on: as many as the slice and
+    /// the size allow, at the front of the slice. Answers how many; 0 for what is neither of the
+    /// two. Takes no memory.
     pub fn read_at(&self, ino: u32, offset: u64, out: &mut [u8]) -> usize
         ensures count { result
             ≡ min (length out.old) (length (readable self.now.state ino) - offset) }
@@ -242,7 +247,8 @@ impl<'a> Mounted<'a> {
         }
     }
 
-    /// Puts all bytes of a regular file or a symlink, and none of what is neither of the two. Takes no memory.
+    /// Puts all bytes of a regular file or a symlink, and none of what is neither of the two. Takes
+    /// no memory.
     ///
     /// # Errors
     /// The sink failed. A beginning of the bytes went out.
@@ -257,7 +263,8 @@ impl<'a> Mounted<'a> {
         }
     }
 
-    /// The greatest version of a number, over its inode nodes and the entries of its directory; 0 where there is none.
+    /// The greatest version of a number, over its inode nodes and the entries of its directory; 0
+    /// where there is none.
     pub fn top(&self, ino: u32) -> u32
         ensures { result ≡ top_at self.now.tops ino }
     {

@@ -12,12 +12,14 @@ use jnode::Order;
 use jscan::{Geometry, PartialScan, scan_to_refusal};
 use std::alloc::Global;
 
-/// Mounts an image: the file system that its nodes make. The missing tail of the last block counts as erased. Each byte
-/// of the nodes' data is checked once and none is copied; n nodes take O(n log n).
+/// Mounts an image: the file system that its nodes make. The missing tail of the last block counts
+/// as erased. Each byte of the nodes' data is checked once and none is copied; n nodes take O(n log
+/// n).
 ///
 /// # Errors
-/// `BlockSize` or `TooLarge`, before any byte is read. Else of the nodes that no image may have, as `Incompatible`,
-/// `Compressed` or `Clash`, the one of least address; else `RootKind`. `OutOfMemory` may come at any time.
+/// `BlockSize` or `TooLarge`, before any byte is read. Else of the nodes that no image may have, as
+/// `Incompatible`, `Compressed` or `Clash`, the one of least address; else `RootKind`.
+/// `OutOfMemory` may come at any time.
 pub fn mount<'a, E: Order>(
     alloc: Global,
     image: &'a [u8],
@@ -29,7 +31,8 @@ pub fn mount<'a, E: Order>(
     mount_scanned(alloc, image, partial)
 }
 
-/// Mounts an image that was scanned, up to its first refusal if it has one: the nodes are not read again.
+/// Mounts an image that was scanned, up to its first refusal if it has one: the nodes are not read
+/// again.
 ///
 /// # Errors
 /// As `mount`, but for those that come before any byte is read.
@@ -48,8 +51,8 @@ pub fn mount_scanned<'a>(
         read_only,
         refused,
     } = partial;
-    // The partial scan stops at the first node that is refused: all nodes that it gives lie below that one, so a clash of
-    // theirs is the fault of least address, and is looked for first.
+    // The partial scan stops at the first node that is refused: all nodes that it gives lie below
+    // that one, so a clash of theirs is the fault of least address, and is looked for first.
     let NodeTables {
         names,
         inodes,

@@ -16,8 +16,9 @@ use jnode::{Fill, InodeNode};
 use std::alloc::{AllocError, Global};
 use std::boxed::Box;
 
-/// Nodes of one number in the order in which they came. Where each version stands is made up when one comes that is not the
-/// greatest: where versions rise, as in a log that was never cleaned, that is never.
+/// Nodes of one number in the order in which they came. Where each version stands is made up when
+/// one comes that is not the greatest: where versions rise, as in a log that was never cleaned,
+/// that is never.
 #[derive(Drop)]
 pub struct Older<'a> {
     pub nodes: Vec<InodeNode<'a>>,

@@ -5,8 +5,8 @@ ghost use Rattle.std.specs.List.{list_all};
 ghost use Rattle.jmount.specs.Find.{is_name, parts, path_names};
 ghost use Rattle.jmount.specs.Paths.{names_after};
 
-/// What a path has after its first slash, which is nothing or names with a slash between any two; `None` of a text that
-/// is no path.
+/// What a path has after its first slash, which is nothing or names with a slash between any two;
+/// `None` of a text that is no path.
 pub fn after_slash(text: &[u8]) -> Option<&[u8]>
     ensures { option_map (λ names. names_after names.now) result ≡ path_names text.now }
 {
@@ -22,7 +22,8 @@ fn are_names(names: &[u8]) -> bool
     names.split(|b| *b == b'/').all(is_name)
 }
 
-/// Whether a path may have this name: it is not empty, `.` or `..`, and has neither a slash nor a zero byte.
+/// Whether a path may have this name: it is not empty, `.` or `..`, and has neither a slash nor a
+/// zero byte.
 pub fn is_name(name: &[u8]) -> bool
     ensures { result ≡ is_name name.now }
 {

@@ -13,7 +13,8 @@ use jfrag::Overlay;
 /// An object's bytes go out in pieces of this many.
 const PIECE: usize = 4096;
 
-/// Fills the front of the slice with an object's bytes from an offset on, and says how many there were.
+/// Fills the front of the slice with an object's bytes from an offset on, and says how many there
+/// were.
 pub fn read_stored(stored: &Stored<'_>, offset: u64, out: &mut [u8]) -> usize
     ensures count { result
         ≡ min (length out.old) (length (bytes_if (Some (stored_object stored.now))) - offset) }

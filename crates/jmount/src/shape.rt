@@ -1,7 +1,7 @@
 //! The shape of the tree: no directory has two names, and none lies below itself.
 //!
-//! Directories are taken out one after the other: those that have no name in a directory, and what lies below them. What is
-//! left holds each other in loops.
+//! Directories are taken out one after the other: those that have no name in a directory, and what
+//! lies below them. What is left holds each other in loops.
 
 ghost use Rattle.std.specs.Prelude.{◌≡◌, ℕ, not, List, [], Decides, IfOk, OnOk, Bool};
 ghost use Rattle.std.specs.Ordering.{nat_cmp};

@@ -10,8 +10,8 @@ use jname::{NameFault, Names};
 use jnode::{Dirent, NodeRef};
 use std::alloc::{AllocError, Global};
 
-/// What entries are sorted by: a directory, and the first bytes of a name, whose rest lies in the image, where each look
-/// waits for memory.
+/// What entries are sorted by: a directory, and the first bytes of a name, whose rest lies in the
+/// image, where each look waits for memory.
 type Key = (u32, u64);
 
 /// An entry that is to be added.
@@ -36,8 +36,9 @@ pub fn are_in_order(nodes: &[(u32, NodeRef<'_>)]) -> bool {
     true
 }
 
-/// The entries of nodes, of which no two clash. They are added in order of directory and name, so that one finds in the
-/// caches what the one before it looked at: in no order, each looks far and wide.
+/// The entries of nodes, of which no two clash. They are added in order of directory and name, so
+/// that one finds in the caches what the one before it looked at: in no order, each looks far and
+/// wide.
 ///
 /// # Errors
 /// `Clash`: it is not told where.

@@ -2,8 +2,8 @@
 
 use jfrag::FragOverlay;
 
-/// An object: the attributes and the size that its node of highest version gives, and what its nodes overlay on one
-/// another.
+/// An object: the attributes and the size that its node of highest version gives, and what its
+/// nodes overlay on one another.
 #[derive(Drop)]
 pub struct Stored<'a> {
     pub version: u32,

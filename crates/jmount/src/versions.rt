@@ -35,7 +35,8 @@ impl<T: Drop> From<AllocFailed<T>> for InodeFault {
     }
 }
 
-/// The nodes of one number. That of the greatest version is apart, since most numbers have no other.
+/// The nodes of one number. That of the greatest version is apart, since most numbers have no
+/// other.
 #[derive(Drop)]
 pub struct Versions<'a> {
     pub newest: InodeNode<'a>,

@@ -1,6 +1,6 @@
-//! Every call on one file system: `/d` (2), which holds `x`, the root again, and `f` (3), `g` (4) and `s` (5); in the root
-//! `q`, which stands for the missing 57, and `gone`, which was removed; and a FIFO (9) that no name stands for. Object 6 has
-//! a hundred bytes, in three versions.
+//! Every call on one file system: `/d` (2), which holds `x`, the root again, and `f` (3), `g` (4)
+//! and `s` (5); in the root `q`, which stands for the missing 57, and `gone`, which was removed;
+//! and a FIFO (9) that no name stands for. Object 6 has a hundred bytes, in three versions.
 
 use crate::checks::equal_at;
 use crate::facts::{Fact, first_wrong};

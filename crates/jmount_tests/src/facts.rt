@@ -27,7 +27,8 @@ pub enum Fact {
     ReadOnly(bool),
 }
 
-/// Which of the facts is the first that is wrong of the mounted image. 0 is that it shows its bytes.
+/// Which of the facts is the first that is wrong of the mounted image. 0 is that it shows its
+/// bytes.
 pub fn first_wrong<E: Order>(
     alloc: Global,
     items: &[Item],

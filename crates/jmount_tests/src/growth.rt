@@ -24,7 +24,8 @@ const ITEMS: &[Item] = &[
     Item::Run(4, 0),
 ];
 
-/// Whether the image shows all of it. Where the memory for the names that dangle is refused, nothing changes.
+/// Whether the image shows all of it. Where the memory for the names that dangle is refused,
+/// nothing changes.
 fn is_shown(alloc: Global, mounted: &Mounted<'_>) -> bool {
     let dangling = mounted.dangling(alloc).or_else(|_| mounted.dangling(alloc));
     let mut bytes = [0; 8];
@@ -53,7 +54,8 @@ const CLASHING: &[Item] = &[
     Item::Data(Version(2, 1, DIRECTORY, 0), 0, b""),
 ];
 
-/// Two entries of one name and version that contradict one another, and one between them that is not in order.
+/// Two entries of one name and version that contradict one another, and one between them that is
+/// not in order.
 const CLASHING_NAMES: &[Item] = &[
     Item::Data(Version(2, 1, FILE, 0), 0, b""),
     Item::Entry(1, 1, 2, b"b"),
@@ -61,8 +63,8 @@ const CLASHING_NAMES: &[Item] = &[
     Item::Entry(1, 1, 3, b"b"),
 ];
 
-/// Passes with each allocation failing in turn too: memory is then blamed, also of an image that does not mount, and the same
-/// call answers as if there had been none before.
+/// Passes with each allocation failing in turn too: memory is then blamed, also of an image that
+/// does not mount, and the same call answers as if there had been none before.
 #[test]
 fn refused_mounts_are_want_of_memory(rt: HostRuntime) {
     for (items, want) in [
@@ -94,7 +96,8 @@ const fn chain(last: u32) -> [Item; 7] {
     ]
 }
 
-/// Passes with each allocation failing in turn too: then there is no answer, and asked again it is right.
+/// Passes with each allocation failing in turn too: then there is no answer, and asked again it is
+/// right.
 #[test]
 fn refused_shapes_are_no_answer(rt: HostRuntime) {
     let alloc = rt.alloc();

@@ -1,8 +1,9 @@
-//! Tests of `jmount` through its public calls: worked images, what they mount as, and why others do not mount.
+//! Tests of `jmount` through its public calls: worked images, what they mount as, and why others do
+//! not mount.
 //!
-//! `images` has how an image is written down, `facts` what is asked of a mounted one. The tests are the tables of the other
-//! modules: `mounts` has small images, `calls` every call on one file system, `refusals` the images that do not mount,
-//! `shapes` trees with their shape and without it.
+//! `images` has how an image is written down, `facts` what is asked of a mounted one. The tests are
+//! the tables of the other modules: `mounts` has small images, `calls` every call on one file
+//! system, `refusals` the images that do not mount, `shapes` trees with their shape and without it.
 #![tactic(auto)]
 
 #[cfg(test)]

@@ -149,8 +149,8 @@ fn images_mount_in_either_order(rt: HostRuntime) -> Result<(), Fail> {
     Ok(())
 }
 
-/// Headers of an attribute, a summary, an obsolete node of an unknown type, and an inode node of 109 bytes whose data are
-/// an entry's and whose data_crc is wrong.
+/// Headers of an attribute, a summary, an obsolete node of an unknown type, and an inode node of
+/// 109 bytes whose data are an entry's and whose data_crc is wrong.
 const OTHERS: [u8; 148] = [
     0x85, 0x19, 0x08, 0xe0, 0x0c, 0x00, 0x00, 0x00, 0xa9, 0xa8, 0xcc, 0x67, 0x85, 0x19, 0x06, 0x20,
     0x0c, 0x00, 0x00, 0x00, 0x02, 0x21, 0xd3, 0xb4, 0x85, 0x19, 0xf7, 0xc0, 0x0c, 0x00, 0x00, 0x00,
@@ -166,7 +166,8 @@ const OTHERS: [u8; 148] = [
 
 /// Images with bytes of little order.
 const LITTLE_IMAGES: [(&[Item], &[Fact]); 2] = [
-    // What is no node changes nothing: the name of the first entry has another first byte, and zeros are dirt.
+    // What is no node changes nothing: the name of the first entry has another first byte, and
+    // zeros are dirt.
     (
         &[
             Item::Marker,

@@ -28,7 +28,8 @@ const MADE_ELSE: Item = Item::Data(Version(2, 1, 0o100600, 0), 0, b"");
 
 /// Images after a clean marker, with their block sizes.
 const IMAGES: [(u32, &[Item], Option<MountFault>); 12] = [
-    // Nodes of one version clash where they differ: in the mode, in the data, in the number that a name stands for.
+    // Nodes of one version clash where they differ: in the mode, in the data, in the number that a
+    // name stands for.
     (
         4096,
         &[Item::Marker, MADE, MADE_ELSE],

@@ -13,7 +13,8 @@ use std::alloc::{AllocError, Global};
 use std::borrow::CowSlice;
 use std::boxed::Box;
 
-/// A directory in memory of its own: a map's leaf has room for fifteen values, and about half of it is used.
+/// A directory in memory of its own: a map's leaf has room for fifteen values, and about half of it
+/// is used.
 #[derive(Drop)]
 pub struct Apart<'a> {
     pub directory: Box<Directory<'a>>,

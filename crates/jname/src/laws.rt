@@ -11,7 +11,8 @@ pub fn live_names_are_live()
     ensures { (given : List Dirent) (key : Key) → get (live_names given) key ≡ live given key }
 {}
 
-/// What a name stands for depends on which entries there are, and not on their order or how often each is there.
+/// What a name stands for depends on which entries there are, and not on their order or how often
+/// each is there.
 pub fn live_depends_on_entries()
     ensures { (a b : List Dirent) (key : Key) → SameEntries a b → NoEntriesClash a
         → live a key ≡ live b key }

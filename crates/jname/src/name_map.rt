@@ -24,8 +24,9 @@ pub type ByName<'a> = BTreeMap<CowSlice<'a, u8>, Versions>;
 /// The most names that are held without a map.
 const FEW: usize = 8;
 
-/// The names of a directory, each with its versions. A few are held in a row, since most directories have no more: a map
-/// takes room for fifteen at once. Between the two they may be in both, those of the row before those of the map.
+/// The names of a directory, each with its versions. A few are held in a row, since most
+/// directories have no more: a map takes room for fifteen at once. Between the two they may be in
+/// both, those of the row before those of the map.
 #[derive(Drop)]
 pub struct NameMap<'a> {
     pub few: Few<'a>,

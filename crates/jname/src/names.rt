@@ -25,8 +25,8 @@ type DirectoriesByNumber<'a> = BTreeMap<u32, Apart<'a>>;
 
 /// The entries of the directories of an image, by directory, name and version.
 ///
-/// Every entry that was added is stored, with inode number 0 or not, since a clash is judged against all of them.
-/// Contracts see the list of these entries; its order says nothing.
+/// Every entry that was added is stored, with inode number 0 or not, since a clash is judged
+/// against all of them. Contracts see the list of these entries; its order says nothing.
 #[derive(Drop)]
 pub struct Names<'a> {
     directories: DirectoriesByNumber<'a>,
@@ -68,8 +68,8 @@ impl<'a> Names<'a> {
 
     /// Adds an entry. One that was added already changes nothing. O(log n) for n entries.
     ///
-    /// `Clash`: an entry of the same directory, name and version, with other contents, was added before. After a fault
-    /// the entries are those from before.
+    /// `Clash`: an entry of the same directory, name and version, with other contents, was added
+    /// before. After a fault the entries are those from before.
     pub fn add(&mut self, entry: &Dirent<'a>) -> Result<(), NameFault>
         ensures ok { OnOk result (Gains self.old self.new entry.now) }
         ensures alone { OnOk result (NoEntryClashesWith self.old entry.now) }
@@ -109,8 +109,8 @@ impl<'a> Names<'a> {
         }
     }
 
-    /// All live names, each with its directory and inode number, in order of the directory's number and then in
-    /// byte order.
+    /// All live names, each with its directory and inode number, in order of the directory's number
+    /// and then in byte order.
     pub fn all(&self) -> All<'_, 'a>
         ensures { result ≡ all_names self.now }
     {

@@ -16,7 +16,8 @@ pub struct Content {
     pub kind: u8,
 }
 
-/// The contents of the entries of one name, by version. Most names have one, which takes no memory of its own.
+/// The contents of the entries of one name, by version. Most names have one, which takes no memory
+/// of its own.
 #[derive(Drop)]
 pub enum Versions {
     One { version: u32, content: Content },

@@ -55,8 +55,8 @@ impl<'n, 'a> Iterator for Of<'n, 'a> {
     }
 }
 
-/// The live names of all directories, each with its directory and inode number, in order of the directory's
-/// number and then in byte order.
+/// The live names of all directories, each with its directory and inode number, in order of the
+/// directory's number and then in byte order.
 #[derive(Drop)]
 pub struct All<'n, 'a> {
     directories: Iter<'n, u32, Apart<'a>>,

@@ -1,5 +1,5 @@
-//! Tests of `jname`: removed and made again names, orders, clashes, a name that an image holds in part, and refused
-//! growth.
+//! Tests of `jname`: removed and made again names, orders, clashes, a name that an image holds in
+//! part, and refused growth.
 #![tactic(auto)]
 
 #[cfg(test)]

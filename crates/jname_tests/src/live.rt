@@ -72,7 +72,8 @@ fn directories_are_apart(rt: HostRuntime) {
 /// Names of the directory 9 in byte order.
 const ORDERED: [&[u8]; 7] = [b"\0", b"/", b"a", b"a\0", b"aa", b"b", b"\xFF"];
 
-/// The directory 9 holds these names under the numbers 4, 6, 8, 3, 7, 5 and 2, and one that was removed.
+/// The directory 9 holds these names under the numbers 4, 6, 8, 3, 7, 5 and 2, and one that was
+/// removed.
 fn directory_9(rt: &impl Abort, alloc: Global) -> Names<'static> {
     let mut names = Names::new(alloc);
     for (ino, name) in [

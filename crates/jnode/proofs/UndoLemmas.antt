@@ -1,10 +1,12 @@
 -- The checksum run backwards: a byte that was pushed can be taken off again, in one way.
-use Rattle.std.proofs.Common.{◌≡◌, ◌≤◌, ◌<◌, ◌+◌, ◌*◌, ◌/◌, ◌%◌, ◌^◌, ℕ, zero, suc, List, [], ◌∷◌, length, bit_xor, refl, sym, ap, ap₂, ◌∙◌, arith, inl, inr}
+use Rattle.std.proofs.Common.{◌≡◌, ◌≤◌, ◌<◌, ◌+◌, ◌*◌, ◌/◌, ◌%◌, ◌^◌, ◌==◌, ◌&&◌, ℕ, zero, suc, Bool, true, List, [], ◌∷◌, length, slice_index, bit_xor, refl, sym, ap, ap₂, ◌∙◌, arith, inl, inr}
+use Rattle.std.proofs.lemmas.Bool.{and_parts, eqb-true}
 use Rattle.std.proofs.lemmas.Nat.{xor_comm, xor_lt, xor_shr}
-use lib.Bits.{xor_assoc, xor_zero_r, xor_zero_l, xor_self}
+use lib.Bits.{xor_assoc, xor_zero_r, xor_zero_l, xor_self, xor_shifted}
 use Rattle.flashbase.specs.Bytes.{erased}
 use Rattle.flashbase.specs.Crc.{push_bit, push_byte, crc_after}
-use Rattle.flashbase.proofs.CrcLemmas.{places_on, digit, push_bits-at_once, places_on-xor, crc_after-lt}
+use Rattle.flashbase.proofs.CrcLemmas.{places_on, digit, push_bits-at_once, places_on-above, places_on-xor, crc_after-lt}
+use Rattle.jnode.specs.declared.undo.TheConstants.{POPPED}
 
 -- ---- one bit
 
@@ -15,28 +17,8 @@ top r h =
     let high : bit_xor r 0xEDB88320 / 2 ^ 31 ≡ 1 = xor_shr r 0xEDB88320 31 ∙ ap (λ (q : ℕ). bit_xor q 1) none in
     omega arith
 
-pub no_top : (r : ℕ) → 2 ^ 31 ≤ r → r < 2 ^ 32 → bit_xor r 0xEDB88320 < 2 ^ 31
-no_top r l h =
-    let one : r / 2 ^ 31 ≡ 1 = omega arith in
-    let high : bit_xor r 0xEDB88320 / 2 ^ 31 ≡ 0 = xor_shr r 0xEDB88320 31 ∙ ap (λ (q : ℕ). bit_xor q 1) one in
-    omega arith
-
 off : (a p : ℕ) → bit_xor (bit_xor a p) p ≡ a
 off a p = xor_assoc a p p ∙ ap (bit_xor a) (xor_self p) ∙ xor_zero_r a
-
-pub pop_even : (r : ℕ) → push_bit (r * 2) 0 ≡ r
-unfolding push_bit
-pop_even r =
-    let even : r * 2 % 2 ≡ 0 = omega arith in
-    let half : r * 2 / 2 ≡ r = omega arith in
-    rw (even, half) refl
-
-pub pop_odd : (r : ℕ) → push_bit (bit_xor r 0xEDB88320 * 2 + 1) 0 ≡ r
-unfolding push_bit
-pop_odd r =
-    let odd : (bit_xor r 0xEDB88320 * 2 + 1) % 2 ≡ 1 = omega arith in
-    let half : (bit_xor r 0xEDB88320 * 2 + 1) / 2 ≡ bit_xor r 0xEDB88320 = omega arith in
-    rw (odd, half) (off r 0xEDB88320)
 
 even_step : (r : ℕ) → r % 2 ≡ 0 → push_bit r 0 ≡ r / 2
 unfolding push_bit
@@ -89,12 +71,6 @@ places_on-injective (suc n) a b ha hb same =
 
 -- ---- one byte
 
-pub pop_more : (n state popped remainder : ℕ) → push_bit popped 0 ≡ state → places_on n state ≡ remainder → places_on (n + 1) popped ≡ remainder
-unfolding places_on
-pop_more n state popped remainder is done =
-    let more : n + 1 ≡ suc n = omega arith in
-    ap (λ (k : ℕ). places_on k popped) more ∙ ap (places_on n) is ∙ done
-
 pub no_byte : (x : ℕ) → push_byte x 0 ≡ places_on 8 x
 unfolding push_byte
 no_byte x = push_bits-at_once 8 x 0 (omega arith) ∙ ap (places_on 8) (xor_zero_r x)
@@ -102,6 +78,47 @@ no_byte x = push_bits-at_once 8 x 0 (omega arith) ∙ ap (places_on 8) (xor_zero
 byte_at_once : (x b : ℕ) → b < 256 → push_byte x b ≡ places_on 8 (bit_xor x b)
 unfolding push_byte
 byte_at_once x b h = push_bits-at_once 8 x b h
+
+-- ---- the table
+
+-- the entries from place k on lead to the bytes from k on, moved up by three bytes
+abbrev are_popped : ℕ → List ℕ → Bool
+are_popped k [] = true
+are_popped k (entry ∷ entries) = (places_on 8 entry == k * 0x1000000) && are_popped (suc k) entries
+
+popped_from : (k i : ℕ) (entries : List ℕ) → are_popped k entries ≡ true → i < length entries
+    → places_on 8 (slice_index entries i) ≡ (k + i) * 0x1000000
+popped_from k i [] h within = absurd (omega arith)
+popped_from k zero (entry ∷ entries) h within =
+    let here = (and_parts (places_on 8 entry == k * 0x1000000) (are_popped (suc k) entries) h).0 in
+    let same : k ≡ k + 0 = omega arith in
+    eqb-true (places_on 8 entry) (k * 0x1000000) here ∙ ap (λ (n : ℕ). n * 0x1000000) same
+popped_from k (suc i) (entry ∷ entries) h within =
+    let there = (and_parts (places_on 8 entry == k * 0x1000000) (are_popped (suc k) entries) h).1 in
+    let moved : suc k + i ≡ k + suc i = omega arith in
+    popped_from (suc k) i entries there (omega arith) ∙ ap (λ (n : ℕ). n * 0x1000000) moved
+
+-- the table is computed once, here
+are_popped-POPPED : are_popped 0 POPPED ≡ true
+unfolding places_on push_bit
+are_popped-POPPED = refl
+
+popped_at : (b : ℕ) → b < 256 → places_on 8 (slice_index POPPED b) ≡ b * 0x1000000
+popped_at b small =
+    let same : 0 + b ≡ b = omega arith in
+    popped_from 0 b POPPED are_popped-POPPED small ∙ ap (λ (n : ℕ). n * 0x1000000) same
+
+-- the low bytes moved up, and what is looked up for the highest one
+pub pop_by_table : (r : ℕ) → r < 2 ^ 32
+    → push_byte (bit_xor (r % 0x1000000 * 256) (slice_index POPPED (r / 0x1000000))) 0 ≡ r
+pop_by_table r word =
+    let low = r % 0x1000000 in
+    let highest = r / 0x1000000 in
+    let small : low < 2 ^ 24 = omega arith in
+    let back : highest * 2 ^ 24 + low ≡ r = omega arith in
+    no_byte _ ∙ places_on-above 8 low (slice_index POPPED highest)
+    ∙ ap (bit_xor low) (popped_at highest (omega arith))
+    ∙ xor_comm low (highest * 2 ^ 24) ∙ xor_shifted highest 24 low small ∙ back
 
 -- ---- the bytes of a tail, and erased ones in their place
 

@@ -2,9 +2,9 @@
 
 use flashbase::Part;
 
-/// An entry of a directory: in the directory `pino` the name stands for the object `ino`, or for none
-/// where `ino` is 0. `mctime` is in seconds; `kind` is bits 12 to 15 of the object's mode, and decides
-/// nothing.
+/// An entry of a directory: in the directory `pino` the name stands for the object `ino`, or for
+/// none where `ino` is 0. `mctime` is in seconds; `kind` is bits 12 to 15 of the object's mode, and
+/// decides nothing.
 #[derive(Drop)]
 pub struct Dirent<'a> {
     pub pino: u32,
@@ -22,8 +22,8 @@ pub enum Fill<'a> {
     Data(Part<'a>),
 }
 
-/// A version of a file, directory or other object, and of its bytes from `offset` to `offset + dsize`.
-/// `isize` is the size of the whole object in bytes; the three times are in seconds.
+/// A version of a file, directory or other object, and of its bytes from `offset` to `offset +
+/// dsize`. `isize` is the size of the whole object in bytes; the three times are in seconds.
 #[derive(Drop)]
 pub struct InodeNode<'a> {
     pub ino: u32,
@@ -40,8 +40,8 @@ pub struct InodeNode<'a> {
     pub fill: Fill<'a>,
 }
 
-/// A version of an object as `InodeNode` is, whose `data` hold the bytes of its range compressed, by
-/// the method of number `compr`; 0 and 1 are none.
+/// A version of an object as `InodeNode` is, whose `data` hold the bytes of its range compressed,
+/// by the method of number `compr`; 0 and 1 are none.
 #[derive(Drop)]
 pub struct CompressedNode<'a> {
     pub ino: u32,

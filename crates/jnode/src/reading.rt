@@ -253,8 +253,8 @@ fn rest_seen<'a, E: Order>(rest: &Part<'a>) -> Seen<'a>
     tile_seen::<E>(&rest.slice(0, end))
 }
 
-/// What the node with a good header at the start of a part, the rest of a block, is seen as. Its name
-/// and its data are handed out as parts of that part.
+/// What the node with a good header at the start of a part, the rest of a block, is seen as. Its
+/// name and its data are handed out as parts of that part.
 pub fn read_part<'a, E: Order>(rest: &Part<'a>) -> Seen<'a>
     requires good { IsGood E.order rest.now }
     requires words { length rest.now % 4 ≡ 0 }

@@ -13,9 +13,9 @@ use flashbase::{Part, erased_run, pad4};
 
 /// The least cut of these bytes that changes them and not their checksum.
 ///
-/// One pass, from the last byte to the first. `gap` is the difference (by exclusive or) of two remainders: one before the
-/// bytes from `place` on, one before as many erased bytes, that end in the same remainder. Where it is 0, a cut at `place`
-/// leaves the checksum as it was.
+/// One pass, from the last byte to the first. `gap` is the difference (by exclusive or) of two
+/// remainders: one before the bytes from `place` on, one before as many erased bytes, that end in
+/// the same remainder. Where it is 0, a cut at `place` leaves the checksum as it was.
 fn least_hidden(bytes: &[u8]) -> Option<usize>
     ensures least { IsLeastHidden bytes.now result }
     ensures within { IfSome result (λ cut. cut < length bytes.now) }
@@ -86,13 +86,14 @@ fn stored_at<E: Order>(bytes: &[u8]) -> usize
     }
 }
 
-/// The least weak cut of an entry or inode node, or `None` where it has none: how many of its bytes are on the flash
-/// when power fails, so that what is left of it differs from it and no check shows that. What is left is these bytes and then
-/// 0xFF; the checks show it unless its header is the node's and all its checksums are right, or its header is another one
-/// with a right checksum and length.
+/// The least weak cut of an entry or inode node, or `None` where it has none: how many of its bytes
+/// are on the flash when power fails, so that what is left of it differs from it and no check shows
+/// that. What is left is these bytes and then 0xFF; the checks show it unless its header is the
+/// node's and all its checksums are right, or its header is another one with a right checksum and
+/// length.
 ///
-/// `bytes` is the node as `write_entry` or `write_inode` wrote it, without padding. It takes no memory, and time
-/// proportional to the length.
+/// `bytes` is the node as `write_entry` or `write_inode` wrote it, without padding. It takes no
+/// memory, and time proportional to the length.
 pub fn weak_cut<E: Order>(bytes: &[u8]) -> Option<usize>
     requires { IsWrittenNode E.order bytes.now }
     ensures { IsLeastWeak E.order bytes.now result }

@@ -20,8 +20,8 @@ pub enum WriteFault {
     /// A name that does not have 1 to 254 bytes.
     #[error("N1 Name")]
     Name,
-    /// A parent or object of number 0, data that do not have the length of the range, a range that passes
-    /// 0xFFFFFFFF, or a node of more than 4,194,304 bytes or fewer than its header.
+    /// A parent or object of number 0, data that do not have the length of the range, a range that
+    /// passes 0xFFFFFFFF, or a node of more than 4,194,304 bytes or fewer than its header.
     #[error("N2 Data")]
     Data,
     #[error("N3 OutOfMemory")]

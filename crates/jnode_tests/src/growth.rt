@@ -26,7 +26,8 @@ fn write(out: &mut Vec<u8>, what: What) -> Result<(), WriteFault> {
     }
 }
 
-/// Passes with each allocation failing in turn too: memory is then blamed, nothing was appended, and the same write succeeds.
+/// Passes with each allocation failing in turn too: memory is then blamed, nothing was appended,
+/// and the same write succeeds.
 #[test]
 fn refused_writes_append_nothing(rt: HostRuntime) {
     let entry = entry_a();

@@ -1,4 +1,5 @@
-//! Tests of `jnode`: the vectors of the format, read and written, nodes that break one rule each, and cuts that no check shows.
+//! Tests of `jnode`: the vectors of the format, read and written, nodes that break one rule each,
+//! and cuts that no check shows.
 #![tactic(auto)]
 
 #[cfg(test)]

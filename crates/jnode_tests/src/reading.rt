@@ -157,7 +157,8 @@ fn zeros_are_read(rt: HostRuntime) {
     expect(&rt, matches!(zeros.fill, Fill::Zero));
 }
 
-/// Whether the header of a node that is put together says this length, and its node fails this check.
+/// Whether the header of a node that is put together says this length, and its node fails this
+/// check.
 fn is_damaged(rt: &impl Abort, node: &[u8], totlen: u32, which: u32) {
     let header = header_at::<LittleEndian>(node);
     equal(rt, header.map(|header| header.totlen), Some(totlen));

@@ -1,5 +1,6 @@
-//! Nodes byte by byte: the vectors of the format, and others that zlib's `crc32` sealed. They are functions, so that
-//! no goal of a test carries their bytes, and lend them, since an array that is moved out is proved byte by byte.
+//! Nodes byte by byte: the vectors of the format, and others that zlib's `crc32` sealed. They are
+//! functions, so that no goal of a test carries their bytes, and lend them, since an array that is
+//! moved out is proved byte by byte.
 
 /// The clean marker.
 pub(crate) fn little_marker() -> &'static [u8] {

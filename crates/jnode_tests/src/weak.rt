@@ -1,4 +1,5 @@
-//! The least weak cut of written nodes: values from a model of the format in another language, with zlib's checksum.
+//! The least weak cut of written nodes: values from a model of the format in another language, with
+//! zlib's checksum.
 
 use crate::checks::equal;
 use crate::nodes::{entry_of, new_file, zeros_of_96};

@@ -57,8 +57,8 @@ fn scan_extent<'a>(partial: &mut Option<PartialScan<'a>>, extent: Extent<'a>)
     }
 }
 
-/// Puts the lines of the next block, whose bytes begin at the address `start`, and counts what they report. A scan, if one is
-/// made, takes in its extents; it ends where memory runs out.
+/// Puts the lines of the next block, whose bytes begin at the address `start`, and counts what they
+/// report. A scan, if one is made, takes in its extents; it ends where memory runs out.
 #[tactic(auto, using(crate::proofs::ExtentLemmas::length_extents))]
 pub fn put_part<'a, E: Order, T: Sink>(
     sink: &mut T,

@@ -87,7 +87,8 @@ fn put_attributes<T: Sink>(nodes: u64, sink: &mut T) -> Result<(), DeviceFault>
     put_text(sink, line.as_slice())
 }
 
-/// Puts a note each on so many findings, objects that lost bits of their modes, and nodes of extended attributes; none on none.
+/// Puts a note each on so many findings, objects that lost bits of their modes, and nodes of
+/// extended attributes; none on none.
 pub fn put_notes<T: Sink>(
     findings: u64,
     lost_bits: u64,

@@ -30,7 +30,8 @@ pub enum ProgramFault<'a> {
     Listing {
         line: usize,
     },
-    /// Nothing was written, or writing stopped, at the operation of a line of the listing if it came to one.
+    /// Nothing was written, or writing stopped, at the operation of a line of the listing if it
+    /// came to one.
     Session {
         fault: SessionFault,
         line: Option<usize>,
@@ -321,8 +322,8 @@ fn put_both<T: Sink>(sink: &mut T, first: &[u8], second: &[u8]) -> Result<(), Pu
     }
 }
 
-/// Puts the text of a fault: its number and name, and then its parts. There is no line feed after it, and no memory is
-/// taken.
+/// Puts the text of a fault: its number and name, and then its parts. There is no line feed after
+/// it, and no memory is taken.
 pub fn fault_text<T: Sink>(fault: &ProgramFault<'_>, sink: &mut T) -> Result<(), PutFault>
     ensures ok { OnOk result
         (Appends (T.taken sink.old) (T.taken sink.new) (fault_text_of fault.now)) }
@@ -349,8 +350,8 @@ fn put_fault<T: Sink>(fault: &ProgramFault<'_>, sink: &mut T) -> Result<(), Devi
     put_in_line(sink, name.as_bytes())
 }
 
-/// Puts the line of a fault, as it is on standard error. It is one line: a control byte of a file's name goes out
-/// escaped.
+/// Puts the line of a fault, as it is on standard error. It is one line: a control byte of a file's
+/// name goes out escaped.
 pub fn fault_line<T: Sink>(fault: &ProgramFault<'_>, sink: &mut T) -> Result<(), DeviceFault>
     ensures { Puts (T.taken sink.old) (T.taken sink.new) (T.failures sink.old) (T.failures sink.new)
         (fault_line_of fault.now) result }

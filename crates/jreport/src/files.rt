@@ -32,7 +32,8 @@ fn regular_at(mounted: &Mounted<'_>, path: &[u8]) -> Result<u32, ProgramFault<'s
     Ok(ino)
 }
 
-/// Puts the content of the regular file that a path names. Takes no memory, however long the file is.
+/// Puts the content of the regular file that a path names. Takes no memory, however long the file
+/// is.
 pub fn content<T: Sink>(
     mounted: &Mounted<'_>,
     path: &[u8],

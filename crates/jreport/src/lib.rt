@@ -1,15 +1,17 @@
-//! What is reported of an image: its report, the verdict on its mount, the listing of its tree, and the content of its
-//! files.
+//! What is reported of an image: its report, the verdict on its mount, the listing of its tree, and
+//! the content of its files.
 //!
-//! It is built on `jline` (lines of text), `jscan` (the extents of an image) and `jmount` (the file system that its nodes
-//! make); faults of `jlog` and `jlisting` are among those that it spells. Its promise to the program: what goes to a sink is
-//! the text of the bytes that were read, and a fault says why no more of it did.
+//! It is built on `jline` (lines of text), `jscan` (the extents of an image) and `jmount` (the file
+//! system that its nodes make); faults of `jlog` and `jlisting` are among those that it spells. Its
+//! promise to the program: what goes to a sink is the text of the bytes that were read, and a fault
+//! says why no more of it did.
 //!
-//! `specs/Report.antt` says what the report of an image is, `specs/Verdict.antt` what is said of its mount,
-//! `specs/TreeText.antt` what the listing is, `specs/Content.antt` which bytes a path names, `specs/Notes.antt` what is
-//! told of findings beside them, and `specs/Faults.antt` how faults are spelled. `specs/Puts.antt` (of an image in
-//! memory), `specs/Stream.antt` (block by block) and `specs/WholeImage.antt` (read as a whole) say what the calls do.
-//! `report_examples` and `fault_examples` have worked examples, and `tree_laws` laws of the listing.
+//! `specs/Report.antt` says what the report of an image is, `specs/Verdict.antt` what is said of
+//! its mount, `specs/TreeText.antt` what the listing is, `specs/Content.antt` which bytes a path
+//! names, `specs/Notes.antt` what is told of findings beside them, and `specs/Faults.antt` how
+//! faults are spelled. `specs/Puts.antt` (of an image in memory), `specs/Stream.antt` (block by
+//! block) and `specs/WholeImage.antt` (read as a whole) say what the calls do. `report_examples`
+//! and `fault_examples` have worked examples, and `tree_laws` laws of the listing.
 #![tactic(auto)]
 
 mod advice;
@@ -35,7 +37,7 @@ mod verdict;
 mod whole_image;
 
 pub use crate::advice::fault_lines;
-pub use crate::converted::put_decompressed;
+pub use crate::converted::{put_compressed, put_decompressed};
 pub use crate::extraction_notes::{attribute_count, put_notes};
 pub use crate::faults::{ProgramFault, fault_line, fault_text};
 pub use crate::files::content;

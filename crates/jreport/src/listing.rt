@@ -16,7 +16,8 @@ use std::mem;
 
 const ROOT: u32 = 1;
 
-/// Puts the line of an object, if there is one. Answers whether it is a directory that is met for the first time.
+/// Puts the line of an object, if there is one. Answers whether it is a directory that is met for
+/// the first time.
 fn visit<T: Sink>(
     mounted: &Mounted<'_>,
     path: &[&[u8]],
@@ -53,7 +54,8 @@ struct Walk<'m, 'a> {
 }
 
 impl<'m, 'a> Walk<'m, 'a> {
-    /// Visits what the next name leads to, or goes up where there is none. Answers whether the walk goes on.
+    /// Visits what the next name leads to, or goes up where there is none. Answers whether the walk
+    /// goes on.
     fn step<T: Sink>(
         &mut self,
         mounted: &'m Mounted<'a>,
@@ -114,9 +116,9 @@ fn lines_from<'m, T: Sink>(
     Ok(())
 }
 
-/// Puts a line for each object that a path leads to, a directory before what lies in it and each name in byte order. A
-/// directory that was met before is put again, but not what lies in it. Takes memory for the way to an object and for the
-/// directories that were met.
+/// Puts a line for each object that a path leads to, a directory before what lies in it and each
+/// name in byte order. A directory that was met before is put again, but not what lies in it. Takes
+/// memory for the way to an object and for the directories that were met.
 pub fn tree_lines<T: Sink>(
     alloc: Global,
     mounted: &Mounted<'_>,
@@ -128,7 +130,8 @@ pub fn tree_lines<T: Sink>(
     lines_from(alloc, mounted, Vec::new(alloc), ROOT, sink)
 }
 
-/// The same of the object that a path names, and of what lies below it: the lines that they have in the whole tree.
+/// The same of the object that a path names, and of what lies below it: the lines that they have in
+/// the whole tree.
 ///
 /// # Errors
 /// `Path`: the path names nothing, and nothing was put.

@@ -73,8 +73,8 @@ fn put_blocks<'a, E: Order, T: Sink>(
     Ok(counts)
 }
 
-/// Puts the report, as `put_report`. A scan, if one is made, takes in the extents that it shows; it ends where memory runs
-/// out, and the report goes on.
+/// Puts the report, as `put_report`. A scan, if one is made, takes in the extents that it shows; it
+/// ends where memory runs out, and the report goes on.
 #[tactic(auto, unfolding(crate::specs::Report::scan_text))]
 pub fn report_and_scan<'a, E: Order, T: Sink>(
     image: &'a [u8],
@@ -99,7 +99,8 @@ pub fn report_and_scan<'a, E: Order, T: Sink>(
     Ok(counts.findings)
 }
 
-/// Puts the report of `check --scan` line after line, and answers the number of findings. It takes no memory.
+/// Puts the report of `check --scan` line after line, and answers the number of findings. It takes
+/// no memory.
 pub fn put_report<E: Order, T: Sink>(
     image: &[u8],
     geometry: Geometry,

@@ -1,4 +1,5 @@
-//! Worked reports, in blocks of 96 bytes. Each function's contract is an image and its text, and its body is empty.
+//! Worked reports, in blocks of 96 bytes. Each function's contract is an image and its text, and
+//! its body is empty.
 
 ghost use Rattle.std.specs.Prelude.{◌≡◌, ◌++◌, [], ◌∷◌, codes};
 ghost use Rattle.jnode.specs.Vectors.{little_marker, entry_a, inode_2};

@@ -15,16 +15,18 @@ use jnode::Order;
 use jscan::{BlockReader, Geometry, ScanFault};
 use std::alloc::Global;
 
-/// Puts the report of `check --scan` of a source's bytes line after line, and answers the number of findings. It takes
-/// the memory of one block, however long the image is. The source is handed back after what was read; it is gone where
-/// nothing is, since the size of a block is refused or there is no memory for one.
+/// Puts the report of `check --scan` of a source's bytes line after line, and answers the number of
+/// findings. It takes the memory of one block, however long the image is. The source is handed back
+/// after what was read; it is gone where nothing is, since the size of a block is refused or there
+/// is no memory for one.
 pub fn stream_lines<E: Order, S: Source, T: Sink>(
     alloc: Global,
     source: S,
     geometry: Geometry,
     sink: &mut T,
 ) -> (Result<u64, ProgramFault<'static>>, Option<S>)
-    // The report is that of all the source's bytes. At a fault a beginning of it went out, and the sink failed only if it is blamed.
+    // The report is that of all the source's bytes. At a fault a beginning of it went out, and the
+    // sink failed only if it is blamed.
     ensures put { OfSomeImage (S.rest source) (λ image. PutsStream E.order geometry.block image
         (T.taken sink.old) (T.taken sink.new) (T.failures sink.old) (T.failures sink.new)
         result.0) }

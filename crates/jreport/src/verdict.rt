@@ -1,4 +1,5 @@
-//! The verdict of `check`: whether the image mounts, which entries dangle, and whether its tree has its shape.
+//! The verdict of `check`: whether the image mounts, which entries dangle, and whether its tree has
+//! its shape.
 
 ghost use Rattle.std.specs.Prelude.{◌≡◌, ◌||◌, ℕ, List, [], ◌++◌, ◌∷◌, IfOk, IfSome};
 ghost use Rattle.std.specs.List.{flat_map};
@@ -129,7 +130,8 @@ fn is_wrong(dangles: bool, shape: Option<bool>) -> bool
     dangles || matches!(shape, Some(false))
 }
 
-/// Puts what a mount says, and answers whether an entry dangles or the shape, where it is asked for, is broken.
+/// Puts what a mount says, and answers whether an entry dangles or the shape, where it is asked
+/// for, is broken.
 fn put_mounted<T: Sink>(
     alloc: Global,
     mounted: &Mounted<'_>,
@@ -168,11 +170,11 @@ fn put_verdict<T: Sink>(
     }
 }
 
-/// Puts the verdict on an image, with its shape where `shape` asks for it. Answers whether the mount was refused, an entry
-/// dangles, or the shape is broken.
+/// Puts the verdict on an image, with its shape where `shape` asks for it. Answers whether the
+/// mount was refused, an entry dangles, or the shape is broken.
 ///
-/// `Mount(OutOfMemory)`: memory ran out in the mount, which is no verdict. `OutOfMemory`: for the list of the dangling
-/// entries, or for the shape. Nothing was put then.
+/// `Mount(OutOfMemory)`: memory ran out in the mount, which is no verdict. `OutOfMemory`: for the
+/// list of the dangling entries, or for the shape. Nothing was put then.
 pub fn verdict_lines<E: Order, T: Sink>(
     alloc: Global,
     image: &[u8],

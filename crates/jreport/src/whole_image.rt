@@ -23,8 +23,8 @@ fn is_any(findings: u64, bad: bool) -> bool
     findings > 0 || bad
 }
 
-/// Reads an image and puts its report, and then the verdict on its mount, with the shape of its tree where `shape` asks for
-/// it. Answers whether anything was found.
+/// Reads an image and puts its report, and then the verdict on its mount, with the shape of its
+/// tree where `shape` asks for it. Answers whether anything was found.
 pub fn check_lines<E: Order, S: Source, T: Sink>(
     alloc: Global,
     source: &mut S,
@@ -75,7 +75,8 @@ pub fn image_file<E: Order, T: Sink>(
     Ok(noted(&mounted))
 }
 
-/// Puts a line for each object of an image's tree, or of the part of it that a path names, as `list_lines`.
+/// Puts a line for each object of an image's tree, or of the part of it that a path names, as
+/// `list_lines`.
 pub fn image_tree<E: Order, T: Sink>(
     alloc: Global,
     image: &[u8],
@@ -93,8 +94,8 @@ pub fn image_tree<E: Order, T: Sink>(
     Ok(noted(&tree))
 }
 
-/// Reads an image, and puts the content of the regular file that a path names there. Answers how many findings of damage,
-/// dirt or the other byte order the image has.
+/// Reads an image, and puts the content of the regular file that a path names there. Answers how
+/// many findings of damage, dirt or the other byte order the image has.
 pub fn file_bytes<E: Order, S: Source, T: Sink>(
     alloc: Global,
     source: &mut S,
@@ -102,7 +103,8 @@ pub fn file_bytes<E: Order, S: Source, T: Sink>(
     path: &[u8],
     sink: &mut T,
 ) -> Result<u64, ProgramFault<'static>>
-    // All that the source had left is read before the size of a block is judged. Nothing is put of an image that was not.
+    // All that the source had left is read before the size of a block is judged. Nothing is put of
+    // an image that was not.
     ensures read { ReadsWhole (S.rest source.old) (S.rest source.new) (S.failures source.old)
         (S.failures source.new) result }
     ensures load { IfErr result (λ fault. IsFaultOfLoad fault → sink.new ≡ sink.old) }
@@ -114,8 +116,8 @@ pub fn file_bytes<E: Order, S: Source, T: Sink>(
     image_file::<E, T>(alloc, image.as_slice(), geometry, path, sink)
 }
 
-/// Reads an image, and puts a line for each object of its tree, or of the part of it that a path names. Answers how many
-/// findings of damage, dirt or the other byte order the image has.
+/// Reads an image, and puts a line for each object of its tree, or of the part of it that a path
+/// names. Answers how many findings of damage, dirt or the other byte order the image has.
 pub fn list_lines<E: Order, S: Source, T: Sink>(
     alloc: Global,
     source: &mut S,
@@ -123,7 +125,8 @@ pub fn list_lines<E: Order, S: Source, T: Sink>(
     path: Option<&[u8]>,
     sink: &mut T,
 ) -> Result<u64, ProgramFault<'static>>
-    // All that the source had left is read before the size of a block is judged. Nothing is put of an image that was not.
+    // All that the source had left is read before the size of a block is judged. Nothing is put of
+    // an image that was not.
     ensures read { ReadsWhole (S.rest source.old) (S.rest source.new) (S.failures source.old)
         (S.failures source.new) result }
     ensures load { IfErr result (λ fault. IsFaultOfLoad fault → sink.new ≡ sink.old) }

@@ -1,4 +1,5 @@
-//! Devices that fail once, at each of their calls in turn, and devices that give or take one byte a call.
+//! Devices that fail once, at each of their calls in turn, and devices that give or take one byte a
+//! call.
 
 use crate::checks::{equal, expect};
 use crate::images::{GEOMETRY, TREE, TWO_BLOCKS, image_of, raw_image};
@@ -11,13 +12,14 @@ use std::alloc::Global;
 use std::test::Fail;
 use test_support::{Giver, MADE, Taker};
 
-/// Whether a sink that failed once is told of, and nothing went out after the beginning that it took.
+/// Whether a sink that failed once is told of, and nothing went out after the beginning that it
+/// took.
 fn is_told(answer: &Result<u64, ProgramFault<'static>>, sink: &Taker, text: &[u8]) -> bool {
     *answer == Err(ProgramFault::Output) && sink.failures == 1 && text.starts_with(&sink.bytes)
 }
 
-/// After how many calls the sink of a call on `image` fails no more, since there are no more. At each one before, its failure is
-/// told of.
+/// After how many calls the sink of a call on `image` fails no more, since there are no more. At
+/// each one before, its failure is told of.
 fn count_of_puts(
     alloc: Global,
     image: &[u8],
@@ -59,7 +61,8 @@ fn sinks_that_fail_once(rt: HostRuntime) -> Result<(), Fail> {
     Ok(())
 }
 
-/// The image is 456 bytes long, which are given in five calls, and a sixth tells that there are no more.
+/// The image is 456 bytes long, which are given in five calls, and a sixth tells that there are no
+/// more.
 #[test]
 fn sources_that_fail_once(rt: HostRuntime) -> Result<(), Fail> {
     let image = image_of(rt.alloc(), TREE)?;
@@ -115,7 +118,8 @@ fn streams_that_fail_once(rt: HostRuntime) {
     }
 }
 
-/// Where the sink fails, the source was read through the block whose lines it did not take, and no further.
+/// Where the sink fails, the source was read through the block whose lines it did not take, and no
+/// further.
 #[test]
 fn a_source_is_read_as_far_as_its_lines_go(rt: HostRuntime) -> Result<(), Fail> {
     let image = raw_image(rt.alloc(), TWO_BLOCKS)?;

@@ -37,8 +37,8 @@ fn fault(
     }
 }
 
-/// Passes with each allocation failing in turn too: memory is then blamed, by the number of the step that wanted it, and the same
-/// call answers as if there had been none before.
+/// Passes with each allocation failing in turn too: memory is then blamed, by the number of the
+/// step that wanted it, and the same call answers as if there had been none before.
 #[test]
 fn refused_growth_of_whole_calls(rt: HostRuntime) {
     let Ok(image) = image_of(rt.alloc(), TREE) else {
@@ -82,7 +82,8 @@ const VERDICTS: [(&[Node<'static>], &[u8]); 2] = [
     (CIRCLE, b"mount ok\nshape broken\n"),
 ];
 
-/// Why the verdict on an image is not put; none where it is. Where memory ran out, nothing of it was.
+/// Why the verdict on an image is not put; none where it is. Where memory ran out, nothing of it
+/// was.
 fn verdict_fault(alloc: Global, image: &[u8], text: &[u8]) -> Option<ProgramFault<'static>> {
     let mut sink = Matcher {
         rest: text,
@@ -95,8 +96,8 @@ fn verdict_fault(alloc: Global, image: &[u8], text: &[u8]) -> Option<ProgramFaul
     }
 }
 
-/// Passes with each allocation failing in turn too: memory is then blamed, of the mount or of what is asked of it, and the same
-/// call answers as if there had been none before.
+/// Passes with each allocation failing in turn too: memory is then blamed, of the mount or of what
+/// is asked of it, and the same call answers as if there had been none before.
 #[test]
 fn refused_growth_of_verdicts(rt: HostRuntime) {
     for (nodes, text) in VERDICTS {

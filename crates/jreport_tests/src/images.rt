@@ -35,8 +35,8 @@ pub(crate) const COMPRESSED: &[u8] = &[
     0x20, 0x97, 0x85, 0x37, 0x01, 0x02, 0x03, 0x04,
 ];
 
-/// An image of raw bytes: `start` bytes 0xFF, these nodes one after another, and 0xFF up to `end`; then the nodes of `tail`, and
-/// 0xFF up to `len`.
+/// An image of raw bytes: `start` bytes 0xFF, these nodes one after another, and 0xFF up to `end`;
+/// then the nodes of `tail`, and 0xFF up to `len`.
 #[derive(Clone, Copy)]
 pub(crate) struct Raw {
     pub(crate) start: usize,

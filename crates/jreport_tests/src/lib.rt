@@ -1,5 +1,5 @@
-//! Tests of `jreport`: worked images with what is printed of them, and sources and sinks that fail. More images are in
-//! tests/hostile.py.
+//! Tests of `jreport`: worked images with what is printed of them, and sources and sinks that fail.
+//! More images are in tests/hostile.py.
 #![tactic(auto)]
 
 #[cfg(test)]

@@ -1,4 +1,5 @@
-//! Images that are read as a whole: what `check`, `cat` and `ls` write of them, and what they answer.
+//! Images that are read as a whole: what `check`, `cat` and `ls` write of them, and what they
+//! answer.
 
 use crate::checks::{equal, expect};
 use crate::images::{

@@ -1,4 +1,5 @@
-//! Sinks that fail once, at each byte of a text, and then work again: what each call that writes text answers, and what went out.
+//! Sinks that fail once, at each byte of a text, and then work again: what each call that writes
+//! text answers, and what went out.
 
 use crate::checks::{equal, expect, expect_at};
 use crate::images::{BLOCK, GEOMETRY, TREE, image_of};
@@ -8,7 +9,8 @@ use jline::{put_escaped, put_hex, put_in_line, put_text, put_word};
 use jmount::{FindFault, MountFault, mount};
 use jreport::{
     ProgramFault, content, fault_line, fault_lines, fault_text, note_line, part_lines,
-    put_decompressed, put_object, put_report, stream_lines, tree_lines, verdict_lines,
+    put_compressed, put_decompressed, put_object, put_report, stream_lines, tree_lines,
+    verdict_lines,
 };
 use std::alloc::Global;
 use std::test::Fail;
@@ -29,6 +31,7 @@ enum Text {
     FaultLine,
     FaultLines,
     Decompressed,
+    Compressed,
     Plain,
     Escaped,
     InLine,
@@ -36,7 +39,7 @@ enum Text {
     Hex,
 }
 
-const TEXTS: [Text; 17] = [
+const TEXTS: [Text; 18] = [
     Text::Report,
     Text::Stream,
     Text::Verdict,
@@ -49,6 +52,7 @@ const TEXTS: [Text; 17] = [
     Text::FaultLine,
     Text::FaultLines,
     Text::Decompressed,
+    Text::Compressed,
     Text::Plain,
     Text::Escaped,
     Text::InLine,
@@ -121,6 +125,7 @@ fn put(
         Text::FaultLine => fault_line(&FAULT, sink)?,
         Text::FaultLines => fault_lines(&NOTED_FAULT, sink)?,
         Text::Decompressed => put_decompressed(7, 29, 30168, sink)?,
+        Text::Compressed => put_compressed(5, 31, 20416, sink)?,
         Text::Plain => put_text(sink, BYTES)?,
         Text::Escaped => put_escaped(sink, BYTES)?,
         Text::InLine => put_in_line(sink, BYTES)?,
@@ -130,8 +135,8 @@ fn put(
     Ok(())
 }
 
-/// Whether a sink that takes one byte a call, and fails once after so many, is told of, and takes nothing more. The same call then
-/// puts all.
+/// Whether a sink that takes one byte a call, and fails once after so many, is told of, and takes
+/// nothing more. The same call then puts all.
 fn is_told(
     alloc: Global,
     text: Text,

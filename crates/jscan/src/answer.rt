@@ -36,8 +36,8 @@ impl<'a> PartialScan<'a> {
         }
     }
 
-    /// Scans the next extent of an image. What comes after a refusal is passed over. Where memory runs out, the scan may lack
-    /// a part of the extent, and is of no more use.
+    /// Scans the next extent of an image. What comes after a refusal is passed over. Where memory
+    /// runs out, the scan may lack a part of the extent, and is of no more use.
     pub fn take(&mut self, extent: Extent<'a>) -> Result<(), AllocError>
         ensures { (ss : List Extent) → HasScanned ss self.old
             → OnOk result (HasScanned (ss ++ extent.entry ∷ []) self.new) }

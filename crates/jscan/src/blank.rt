@@ -40,7 +40,8 @@ fn is_marked(block: &Part<'_>, marker: &[u8], len: usize) -> bool
     begins_with(block, &marker[..len]) && is_erased(&block.slice(len, block.len() - len))
 }
 
-/// Whether a block is blank: it holds a beginning of the clean marker, or nothing, and is erased after it.
+/// Whether a block is blank: it holds a beginning of the clean marker, or nothing, and is erased
+/// after it.
 fn is_blank<E: Order>(block: &Part<'_>) -> bool
     requires { 12 ≤ length block.now }
     ensures { result ≡ is_blank E.order (length block.now) block.now }
@@ -54,8 +55,8 @@ fn is_blank<E: Order>(block: &Part<'_>) -> bool
     false
 }
 
-/// The least block of a flash of so many blocks from which on all are blank. What the image lacks is erased, so the
-/// blocks past it are blank.
+/// The least block of a flash of so many blocks from which on all are blank. What the image lacks
+/// is erased, so the blocks past it are blank.
 pub fn blank_from<E: Order>(image: &[u8], geometry: Geometry, blocks: u32) -> u32
     requires readable { is_block_size geometry.block ≡ true }
     requires within { length image.now ≤ blocks * geometry.block }

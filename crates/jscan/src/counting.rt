@@ -12,9 +12,9 @@ use flashbase::Source;
 use jnode::Order;
 use std::alloc::Global;
 
-/// Counts what the source's blocks contain, through one block of memory. At a fault the counts are those of
-/// the blocks before it. The source is handed back after what was read; it is gone where nothing is, since the size of
-/// a block is refused or there is no memory for one.
+/// Counts what the source's blocks contain, through one block of memory. At a fault the counts are
+/// those of the blocks before it. The source is handed back after what was read; it is gone where
+/// nothing is, since the size of a block is refused or there is no memory for one.
 pub fn scan_stream<E: Order, S: Source>(
     alloc: Global,
     source: S,

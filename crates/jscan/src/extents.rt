@@ -98,7 +98,8 @@ fn first_extent<'a, E: Order>(rest: &Part<'a>) -> (ExtentKind<'a>, usize)
     }
 }
 
-/// The first extent of what a block has left, where the tile at its front, of `len` bytes, is no node.
+/// The first extent of what a block has left, where the tile at its front, of `len` bytes, is no
+/// node.
 fn first_run<'a, E: Order>(rest: &Part<'_>, len: usize) -> (ExtentKind<'a>, usize)
     requires whole_words { length rest.now % 4 ≡ 0 }
     requires words { len % 4 ≡ 0 }

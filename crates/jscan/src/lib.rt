@@ -1,20 +1,21 @@
 //! How an image of a JFFS2 flash falls into blocks, tiles and extents, and what a scan of it gives.
 //!
-//! A block falls into tiles: a node's whole tile where there is a good header, and words between (Woodhouse
-//! 2001; Linux, fs/jffs2/scan.c). `Tiles` goes over them. `Extents` goes over what a report shows of a
-//! block: its nodes' tiles, each with what it is seen as, and the longest runs of words of one kind.
-//! `Sightings` goes over the nodes' tiles of a whole image. None of them takes memory, and all take time
-//! linear in their bytes. `scan` collects the nodes and findings of an image, or answers its first refusal;
-//! `scan_to_refusal` gives the nodes in front of that refusal too. `BlockReader` and `scan_stream` read a source block by
-//! block. `blank_from` finds the block from which on a flash is blank, where writing may go on.
+//! A block falls into tiles: a node's whole tile where there is a good header, and words between
+//! (Woodhouse 2001; Linux, fs/jffs2/scan.c). `Tiles` goes over them. `Extents` goes over what a
+//! report shows of a block: its nodes' tiles, each with what it is seen as, and the longest runs of
+//! words of one kind. `Sightings` goes over the nodes' tiles of a whole image. None of them takes
+//! memory, and all take time linear in their bytes. `scan` collects the nodes and findings of an
+//! image, or answers its first refusal; `scan_to_refusal` gives the nodes in front of that refusal
+//! too. `BlockReader` and `scan_stream` read a source block by block. `blank_from` finds the block
+//! from which on a flash is blank, where writing may go on.
 //!
-//! It is built on `flashbase` (padding, erased runs, parts) and `jnode` (headers, and what a node is seen as).
-//! Its promise to the crates above: the tiles given are the block's one tiling, the extents are those
-//! tiles with each longest run as one, and the sightings are the nodes' tiles of all blocks in the order of
-//! their addresses.
+//! It is built on `flashbase` (padding, erased runs, parts) and `jnode` (headers, and what a node
+//! is seen as). Its promise to the crates above: the tiles given are the block's one tiling, the
+//! extents are those tiles with each longest run as one, and the sightings are the nodes' tiles of
+//! all blocks in the order of their addresses.
 //!
-//! `laws` has what holds of every tiling, of all extents of a block and of whole images, `examples` has worked
-//! blocks.
+//! `laws` has what holds of every tiling, of all extents of a block and of whole images, `examples`
+//! has worked blocks.
 #![tactic(auto)]
 
 mod answer;

@@ -1,5 +1,5 @@
-//! Parts of a block: what an image has of it, and the missing tail, which counts as erased. A part that the
-//! image has whole is read as the slice it is.
+//! Parts of a block: what an image has of it, and the missing tail, which counts as erased. A part
+//! that the image has whole is read as the slice it is.
 
 ghost use Rattle.std.specs.Prelude.{◌≡◌, ◌↔◌, ◌==◌, ◌*◌, ◌^◌, ◌<◌, ◌≤◌, ℕ, IfSome, IsSome, length, slice_index};
 ghost use Rattle.std.specs.List.{list_all};
@@ -17,7 +17,8 @@ pub(crate) fn whole(bytes: &[u8]) -> Part<'_>
     Part::new(bytes, 0)
 }
 
-/// The block of `size` bytes of an image that begins at `start`. The missing tail of the last block counts as erased.
+/// The block of `size` bytes of an image that begins at `start`. The missing tail of the last block
+/// counts as erased.
 pub fn block_at(image: &[u8], start: usize, size: usize) -> Part<'_>
     requires within { start ≤ length image.now }
     requires small { size < 2 ^ 32 }

@@ -10,8 +10,8 @@ use crate::image::ImageExtents;
 use jnode::Order;
 use std::alloc::Global;
 
-/// What an image contains, in the order of the addresses, up to the first node that no image may have.
-/// The missing tail of the last block counts as erased.
+/// What an image contains, in the order of the addresses, up to the first node that no image may
+/// have. The missing tail of the last block counts as erased.
 pub fn scan_to_refusal<'a, E: Order>(
     alloc: Global,
     image: &'a [u8],
@@ -45,9 +45,9 @@ pub fn scan_to_refusal<'a, E: Order>(
     Ok(partial)
 }
 
-/// What an image that nothing refuses contains, in the order of the addresses. A node that may not be
-/// skipped is refused as `Incompatible`, a sound one whose data are compressed as `Compressed`: of
-/// these the one of least address.
+/// What an image that nothing refuses contains, in the order of the addresses. A node that may not
+/// be skipped is refused as `Incompatible`, a sound one whose data are compressed as `Compressed`:
+/// of these the one of least address.
 pub fn scan<'a, E: Order>(
     alloc: Global,
     image: &'a [u8],

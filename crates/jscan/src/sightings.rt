@@ -5,8 +5,8 @@ use crate::geometry::{Geometry, ScanFault};
 use crate::image::ImageExtents;
 use jnode::{Order, Seen};
 
-/// The nodes' tiles of an image, in the order of their addresses: the address of each, and what it is seen
-/// as. The missing tail of the last block counts as erased. It takes no memory.
+/// The nodes' tiles of an image, in the order of their addresses: the address of each, and what it
+/// is seen as. The missing tail of the last block counts as erased. It takes no memory.
 #[derive(Drop)]
 pub struct Sightings<'a, E: Order> {
     extents: ImageExtents<'a, E>,

@@ -91,8 +91,8 @@ impl<S: Source> BlockReader<S> {
         })
     }
 
-    /// The next block, or None after the last. Once it has answered a fault it answers that fault again,
-    /// and then, as after None, reads nothing.
+    /// The next block, or None after the last. Once it has answered a fault it answers that fault
+    /// again, and then, as after None, reads nothing.
     pub fn next(&mut self) -> Result<Option<&[u8]>, StreamFault>
         ensures* after { sem 𝓛 (Rests (the_row S.row S.Source) self.entry (λ new. Gives self.old new result)) }
     {
@@ -141,7 +141,8 @@ impl<S: Source> BlockReader<S> {
     }
 }
 
-/// Fills the block from the source, with 0xFF where the source ends, and answers how many bytes the source gave.
+/// Fills the block from the source, with 0xFF where the source ends, and answers how many bytes the
+/// source gave.
 fn fill_block<S: Source>(
     source: &mut S,
     block: &mut [u8],

@@ -12,7 +12,8 @@ use test_support::{ENTRY_A, INODE_2, LITTLE_MARKER};
 /// The clean marker, and a new file that an entry of the root names.
 const NEW_FILE: Pieces = &[(0, &LITTLE_MARKER), (12, &INODE_2), (80, &ENTRY_A)];
 
-/// What a flash of two blocks of 8,192 bytes has at its beginning, and the block from which on it is blank.
+/// What a flash of two blocks of 8,192 bytes has at its beginning, and the block from which on it
+/// is blank.
 const FLASHES: [(Endian, usize, Pieces, u32); 24] = [
     (Endian::Little, 124, NEW_FILE, 1),
     (Endian::Little, 100, NEW_FILE, 1),

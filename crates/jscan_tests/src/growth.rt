@@ -28,7 +28,8 @@ fn refusal_fault(alloc: Global) -> Option<ScanFault> {
     }
 }
 
-/// Passes with each allocation failing in turn too: memory is then blamed, and the same call succeeds. Sightings take none.
+/// Passes with each allocation failing in turn too: memory is then blamed, and the same call
+/// succeeds. Sightings take none.
 #[test]
 fn refused_scans_are_want_of_memory(rt: HostRuntime) {
     if let Some(fault) = scan_fault(rt.alloc()) {
@@ -60,7 +61,8 @@ fn stream_fault(alloc: Global) -> Option<StreamFault> {
     }
 }
 
-/// Why the blocks of a source are not given. The source is read only once the reader has its one buffer.
+/// Why the blocks of a source are not given. The source is read only once the reader has its one
+/// buffer.
 fn reader_fault(alloc: Global) -> Option<StreamFault> {
     match BlockReader::new(alloc, Giver::failing(&MADE, 1, usize::MAX), GEOMETRY) {
         Ok(mut reader) => match reader.next() {

@@ -17,7 +17,8 @@ const GEOMETRY: Geometry = Geometry { block: 4096 };
 /// A node as address, kind, number of its object, version, and length of its name or data.
 type Row = (u32, &'static str, u32, u32, usize);
 
-/// Images of a length, with these bytes; their nodes, their findings, and whether nothing may be written.
+/// Images of a length, with these bytes; their nodes, their findings, and whether nothing may be
+/// written.
 const IMAGES: [(usize, Pieces, &[Row], &[(u32, FindingKind)], bool); 10] = [
     (
         4137,

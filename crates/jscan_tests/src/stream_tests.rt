@@ -17,7 +17,8 @@ const CUTS: [usize; 4] = [1, 3, 4095, usize::MAX];
 /// A block with the clean marker and the entry node, and the entry node again after it.
 const TWO_ENTRIES: Pieces = &[(0, &LITTLE_MARKER), (12, &ENTRY_A), (4096, &ENTRY_A)];
 
-/// Sources of a length, with these bytes, and how many blocks, entries, inode nodes and findings are counted.
+/// Sources of a length, with these bytes, and how many blocks, entries, inode nodes and findings
+/// are counted.
 const SOURCES: [(usize, Pieces, [u64; 4]); 5] = [
     (4137, TWO_ENTRIES, [2, 2, 0, 0]),
     (4140, TWO_ENTRIES, [2, 2, 0, 0]),
@@ -36,7 +37,8 @@ fn counts(counted: [u64; 4]) -> Counts {
     }
 }
 
-/// What is answered of a source, what is counted, and of the source that comes back its failures and how many bytes it has left.
+/// What is answered of a source, what is counted, and of the source that comes back its failures
+/// and how many bytes it has left.
 fn streamed(
     alloc: Global,
     source: Giver<'_>,
@@ -107,7 +109,8 @@ fn a_device_fails_in_the_second_block(rt: HostRuntime) -> Result<(), Fail> {
     Ok(())
 }
 
-/// The first block is given in two calls, the second in one, and a fourth tells that there are no more.
+/// The first block is given in two calls, the second in one, and a fourth tells that there are no
+/// more.
 #[test]
 fn a_device_fails_once(rt: HostRuntime) -> Result<(), Fail> {
     let image = flash(rt.alloc(), 4137, TWO_ENTRIES)?;

@@ -28,7 +28,8 @@ pub fn few_steps()
     ensures smaller { resize_steps 0 2 9 4 ≡ step.Cut 0 2 4 ∷ [] }
 {}
 
-/// Larger pages cut the same bytes elsewhere, and a piece whose node would be 0x1985 bytes long becomes two puts.
+/// Larger pages cut the same bytes elsewhere, and a piece whose node would be 0x1985 bytes long
+/// becomes two puts.
 pub fn larger_page()
     ensures one { write_steps 8192 0 2 4000 4000 (replicate 200 1)
         ≡ step.Put 0 2 4000 (replicate 200 1) ∷ [] }
@@ -56,7 +57,8 @@ pub fn plain_refusals()
     ensures no_data { is_too_large (op.Write 0 (codes "/a") 2147483647 []) ≡ false }
 {}
 
-/// Plans that are refused, of a tree that has the file "/a" and the name "/q" of an object that is missing.
+/// Plans that are refused, of a tree that has the file "/a" and the name "/q" of an object that is
+/// missing.
 pub fn refused_plans()
     ensures root { planned small (op.Remove 0 (codes "/")) ≡ Err refused.BadPath }
     ensures below_file { planned small (op.Create 0 (codes "/a/b") 0o644 0 0)
@@ -95,7 +97,8 @@ pub fn small_plans()
     ensures same { planned small (op.Truncate 7 (codes "/a") 4) ≡ Ok [] }
 {}
 
-/// The pieces of a new file's bytes, by pages of two sizes: those that a write of them at the beginning has.
+/// The pieces of a new file's bytes, by pages of two sizes: those that a write of them at the
+/// beginning has.
 pub fn file_pieces()
     ensures none { bytes_steps plain_page 58 7 0o100644 5 6 []
         ≡ step.MakeObject 7 0o100644 5 6 [] ∷ [] }
@@ -108,7 +111,8 @@ pub fn file_pieces()
         ∷ [] }
 {}
 
-/// A new file with bytes, which is named last, of the tree with "/a" and "/q"; and where it is refused.
+/// A new file with bytes, which is named last, of the tree with "/a" and "/q"; and where it is
+/// refused.
 pub fn file_plans()
     ensures bytes { planned small (op.File 7 (codes "/r") 0o644 5 6 (8 ∷ 9 ∷ []))
         ≡ Ok (step.MakeObject 7 0o100644 5 6 (8 ∷ 9 ∷ []) ∷ step.SetName 7 1 (codes "r") 58 ∷ []) }
@@ -118,8 +122,8 @@ pub fn file_plans()
     ensures mode { planned small (op.File 7 (codes "/r") 0o10000 5 6 []) ≡ Err refused.BadMode }
 {}
 
-/// A name in the place of another, of a tree that has the file "/a" and the name "/q" of an object that is missing, and of
-/// one that has the directory "/d". Nothing is done where both are one.
+/// A name in the place of another, of a tree that has the file "/a" and the name "/q" of an object
+/// that is missing, and of one that has the directory "/d". Nothing is done where both are one.
 pub fn replaced_names()
     ensures over { planned small (op.Replace 7 (codes "/a") (codes "/q"))
         ≡ Ok (step.SetName 7 1 (codes "q") 2 ∷ step.ClearName 7 1 (codes "a") ∷ []) }

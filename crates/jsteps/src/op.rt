@@ -4,8 +4,8 @@ ghost use Rattle.jsteps.specs.Laws.{GivenFit, OpFits};
 
 use crate::text::Text;
 
-/// The attributes that an object gets: the permission bits of its mode, at most 0o7777, its owners, and the times in seconds
-/// of its last access and of the last change of its bytes.
+/// The attributes that an object gets: the permission bits of its mode, at most 0o7777, its owners,
+/// and the times in seconds of its last access and of the last change of its bytes.
 #[derive(Clone, Copy)]
 pub struct Attributes {
     pub mode: u32,
@@ -31,8 +31,9 @@ impl Attributes {
     }
 }
 
-/// An operation, with its time in seconds. Paths are bytes that begin with a slash and name what they lead to from the root
-/// on; `mode` has the permission bits alone, at most 0o7777; `uid` and `gid` own the new object.
+/// An operation, with its time in seconds. Paths are bytes that begin with a slash and name what
+/// they lead to from the root on; `mode` has the permission bits alone, at most 0o7777; `uid` and
+/// `gid` own the new object.
 #[derive(Drop)]
 pub enum Op<'a> {
     /// A new directory.
@@ -51,7 +52,8 @@ pub enum Op<'a> {
         uid: u16,
         gid: u16,
     },
-    /// A new regular file with bytes, at most 2,147,483,647 of them. It is named last, so the name stands for all of them.
+    /// A new regular file with bytes, at most 2,147,483,647 of them. It is named last, so the name
+    /// stands for all of them.
     File {
         time: u32,
         path: Text<'a>,
@@ -84,7 +86,8 @@ pub enum Op<'a> {
         uid: u16,
         gid: u16,
     },
-    /// Bytes of a regular file, from `offset` on; zeros fill what lies between its end and there. No bytes change nothing.
+    /// Bytes of a regular file, from `offset` on; zeros fill what lies between its end and there.
+    /// No bytes change nothing.
     Write {
         time: u32,
         path: Text<'a>,
@@ -103,7 +106,8 @@ pub enum Op<'a> {
         old: Text<'a>,
         new: Text<'a>,
     },
-    /// A name is taken away, that of a directory only where it has no names. The object stays, whatever else names it.
+    /// A name is taken away, that of a directory only where it has no names. The object stays,
+    /// whatever else names it.
     Remove {
         time: u32,
         path: Text<'a>,
@@ -114,15 +118,16 @@ pub enum Op<'a> {
         old: Text<'a>,
         new: Text<'a>,
     },
-    /// The new name stands for what `old` names, which is no directory, whatever it stood for; then the old name goes. It
-    /// does not replace a directory. Where both paths lead to one name, nothing changes.
+    /// The new name stands for what `old` names, which is no directory, whatever it stood for; then
+    /// the old name goes. It does not replace a directory. Where both paths lead to one name,
+    /// nothing changes.
     Replace {
         time: u32,
         old: Text<'a>,
         new: Text<'a>,
     },
-    /// Other attributes of a directory, the root too, a regular file, a FIFO or a socket. Its bytes stay, and the operation's
-    /// time is that of the last change of its attributes.
+    /// Other attributes of a directory, the root too, a regular file, a FIFO or a socket. Its bytes
+    /// stay, and the operation's time is that of the last change of its attributes.
     SetAttributes {
         time: u32,
         path: Text<'a>,
@@ -131,7 +136,8 @@ pub enum Op<'a> {
 }
 
 impl Op<'_> {
-    /// The time and the owners have the widths of their types, which a caller's contract may want to know.
+    /// The time and the owners have the widths of their types, which a caller's contract may want
+    /// to know.
     pub fn known(&self)
         ensures { OpFits self.now }
     {

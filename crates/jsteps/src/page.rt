@@ -3,8 +3,9 @@
 ghost use Rattle.std.specs.Prelude.{◌≡◌};
 ghost use Rattle.jsteps.specs.Planning.{IsPage, page_size};
 
-/// The page of a file: the bytes of one node lie in one page. Linux takes that of the device's memory
-/// (`jffs2_write_inode_range` of `fs/jffs2/write.c`), most often of 4,096 bytes, and `mkfs.jffs2` what `-s` says.
+/// The page of a file: the bytes of one node lie in one page. Linux takes that of the device's
+/// memory (`jffs2_write_inode_range` of `fs/jffs2/write.c`), most often of 4,096 bytes, and
+/// `mkfs.jffs2` what `-s` says.
 #[derive(Clone, Copy, Debug, PartialEq, Eq)]
 pub enum Page {
     P4096,

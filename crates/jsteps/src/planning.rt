@@ -329,7 +329,8 @@ fn make<'a>(
     Ok(two(alloc, made, set)?)
 }
 
-/// Whether there is no number for a new object, or no version for its name. The object's own next version is 2.
+/// Whether there is no number for a new object, or no version for its name. The object's own next
+/// version is 2.
 fn is_full(index: &Index, directory: u32) -> bool
     ensures { result ≡ full_by index.now directory }
 {
@@ -375,7 +376,8 @@ fn create<'a>(
     )
 }
 
-/// What a new file has besides its path and its bytes: the permission bits of its mode, and its owners.
+/// What a new file has besides its path and its bytes: the permission bits of its mode, and its
+/// owners.
 #[derive(Clone, Copy)]
 struct NewFile {
     time: u32,
@@ -538,7 +540,8 @@ fn set_attributes<'a>(
     Ok(one(alloc, set)?)
 }
 
-/// The steps of an operation, or why it is refused, with bytes cut where a page of this size of the file ends.
+/// The steps of an operation, or why it is refused, with bytes cut where a page of this size of the
+/// file ends.
 ///
 /// # Errors
 /// As those of [`plan`].
@@ -629,8 +632,8 @@ pub fn plan_paged<'a>(
     }
 }
 
-/// The steps of an operation, or why it is refused. Each step is to be written as one node; bytes are cut where a page of
-/// 4,096 bytes of the file ends, and borrowed.
+/// The steps of an operation, or why it is refused. Each step is to be written as one node; bytes
+/// are cut where a page of 4,096 bytes of the file ends, and borrowed.
 ///
 /// # Errors
 /// The first fault that applies, in the order of [`OpFault`], or out of memory in its place.

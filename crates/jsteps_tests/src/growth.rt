@@ -1,5 +1,5 @@
-//! Operations of each kind, to which a growth may be refused: the call leaves all as it was, and called again it does what it did
-//! not.
+//! Operations of each kind, to which a growth may be refused: the call leaves all as it was, and
+//! called again it does what it did not.
 
 use crate::checks::equal;
 use crate::lines::BY;
@@ -11,7 +11,8 @@ use std::alloc::{AllocError, Global};
 use test_operations::{is_ready, op_of};
 use test_support::image_of;
 
-/// Those at the end make names enough for a directory, and objects enough for an index, that are no longer one node of a map.
+/// Those at the end make names enough for a directory, and objects enough for an index, that are no
+/// longer one node of a map.
 const LINES: [&str; 24] = [
     "mkdir /m 755",
     "create /d/e/f 600",
@@ -81,7 +82,8 @@ struct Pair {
     other: Index,
 }
 
-/// How a removal of a path is answered: the directory that loses the name, or the refusal. None where a growth is refused.
+/// How a removal of a path is answered: the directory that loses the name, or the refusal. None
+/// where a growth is refused.
 fn removal(alloc: Global, index: &Index, path: &str) -> Option<(u32, Option<OpFault>)> {
     let op = Op::Remove {
         time: 0,
@@ -130,7 +132,8 @@ impl Pair {
         Some(same)
     }
 
-    /// The steps of an operation. Where a growth is refused, the index is as it was, and they are asked for again.
+    /// The steps of an operation. Where a growth is refused, the index is as it was, and they are
+    /// asked for again.
     fn steps<'a>(&self, alloc: Global, op: &'a Op<'_>) -> Option<Vec<Step<'a>>> {
         match plan(alloc, &self.tried, op) {
             Ok(steps) => Some(steps),
@@ -141,7 +144,8 @@ impl Pair {
         }
     }
 
-    /// Takes a step. Where a growth is refused, the index is as it was, and the step is taken again.
+    /// Takes a step. Where a growth is refused, the index is as it was, and the step is taken
+    /// again.
     fn take(&mut self, alloc: Global, step: &Step<'_>) -> Option<()> {
         if take_once(&mut self.tried, step)?.is_err() {
             if !self.is_same(alloc)? {
@@ -156,7 +160,8 @@ impl Pair {
     }
 }
 
-/// Takes all operations, and tells how many steps there were; none where something is not as it should be.
+/// Takes all operations, and tells how many steps there were; none where something is not as it
+/// should be.
 fn steps_taken(alloc: Global, mounted: &Mounted<'_>) -> Option<usize> {
     let tried = index_of(alloc, mounted)?;
     let other = index_of(alloc, mounted)?;
@@ -178,7 +183,8 @@ fn steps_taken(alloc: Global, mounted: &Mounted<'_>) -> Option<usize> {
     }
 }
 
-/// Passes with each allocation failing in turn too. Where the memory for the image or its mount is refused, nothing is taken.
+/// Passes with each allocation failing in turn too. Where the memory for the image or its mount is
+/// refused, nothing is taken.
 #[test]
 fn refused_growth_of_operations(rt: HostRuntime) {
     let alloc = rt.alloc();

@@ -1,8 +1,9 @@
-//! Worked operations: the steps or the refusal of each, from the rules of the format and not from the program's output.
+//! Worked operations: the steps or the refusal of each, from the rules of the format and not from
+//! the program's output.
 //!
-//! `trees` has the file systems that they work on, `lines` writes operations and answers as lines of text, `plan_tests` has
-//! the tables, `page_tests` those by larger pages, `index_tests` what an index shows and how it goes on, and `growth` what
-//! stands after a growth that is refused.
+//! `trees` has the file systems that they work on, `lines` writes operations and answers as lines
+//! of text, `plan_tests` has the tables, `page_tests` those by larger pages, `index_tests` what an
+//! index shows and how it goes on, and `growth` what stands after a growth that is refused.
 #![tactic(auto)]
 
 #[cfg(test)]

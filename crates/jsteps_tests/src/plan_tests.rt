@@ -236,7 +236,8 @@ const FILES: [(&str, &str); 19] = [
     ("file /x 77777 9000", "O10 BadMode"),
 ];
 
-/// A name in the place of another, which may be none, or stand for nothing; and nothing where both are one.
+/// A name in the place of another, which may be none, or stand for nothing; and nothing where both
+/// are one.
 const REPLACED: [(&str, &str); 26] = [
     ("replace /a /b", "set 1 b 2, clear 1 a"),
     ("replace /a /d/f", "set 3 f 2, clear 1 a"),

@@ -14,7 +14,8 @@ pub const FILE: u32 = 0o100644;
 
 pub const DIRECTORY: u32 = 0o040755;
 
-/// Directories four deep, a file of ten bytes, a symlink, a device, and names of numbers that have no object.
+/// Directories four deep, a file of ten bytes, a symlink, a device, and names of numbers that have
+/// no object.
 pub const SMALL: Tree = Tree {
     objects: &[
         (2, 1, FILE, 10),

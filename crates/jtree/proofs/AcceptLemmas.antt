@@ -1,5 +1,5 @@
 -- Operations that are accepted, by where their paths lead.
-use Rattle.std.proofs.Common.{◌≡◌, ◌≢◌, ℕ, ◌+◌, ◌<◌, ◌≤◌, Bool, true, false, cond, List, [], ◌∷◌, length, Option, Some, None, Result, Ok, Err, refl, ap, ◌∙◌, arith}
+use Rattle.std.proofs.Common.{◌≡◌, ◌≢◌, ℕ, ◌<◌, ◌≤◌, Bool, true, false, cond, List, [], ◌∷◌, length, Option, Some, None, Result, Ok, Err, refl, ap, ◌∙◌, arith}
 use Rattle.std.specs.Prelude.{◌||◌, ◌&&◌, not, nat_lt, ◌==◌, is_some, option_and_then, All}
 use Rattle.std.specs.List.{list_any, AllByRecursion}
 use Rattle.std.proofs.lemmas.Bool.{ne_eqb}
@@ -74,10 +74,44 @@ mkdir_free page x time path mode uid gid dir name p none fits = record {
   link = refl;
 }
 
-pub create_free : (page : ℕ) (x : Indexed) (time : ℕ) (path : List ℕ) (mode uid gid dir : ℕ) (name : List ℕ) → IsPlaced x.tree path dir name
+pub file_free : (page : ℕ) (x : Indexed) (time : ℕ) (path : List ℕ) (mode uid gid : ℕ) (bytes : List ℕ) (dir : ℕ) (name : List ℕ) → IsPlaced x.tree path dir name
     → named x.tree dir name ≡ None
-    → mode ≤ 0o7777 → IsFree page x (op.Create time path mode uid gid)
-create_free page x time path mode uid gid dir name p none fits = record {
+    → mode ≤ 0o7777 → length bytes ≤ 2147483647 → IsFree page x (op.File time path mode uid gid bytes)
+file_free page x time path mode uid gid bytes dir name p none fits short = record {
+  bad = ap (λ b. b || false) p.good;
+  long = ap (λ b. b || false) p.short;
+  found = made_found x.tree path dir name p;
+  directory = made_directory x.tree path dir name p;
+  fresh = made_fresh x.tree path dir name p none;
+  kind = refl;
+  empty = refl;
+  into = refl;
+  large = not_above greatest_size (length bytes) short;
+  mode = not_above 0o7777 mode fits;
+  link = refl;
+}
+
+pub fifo_free : (page : ℕ) (x : Indexed) (time : ℕ) (path : List ℕ) (mode uid gid dir : ℕ) (name : List ℕ) → IsPlaced x.tree path dir name
+    → named x.tree dir name ≡ None
+    → mode ≤ 0o7777 → IsFree page x (op.Fifo time path mode uid gid)
+fifo_free page x time path mode uid gid dir name p none fits = record {
+  bad = ap (λ b. b || false) p.good;
+  long = ap (λ b. b || false) p.short;
+  found = made_found x.tree path dir name p;
+  directory = made_directory x.tree path dir name p;
+  fresh = made_fresh x.tree path dir name p none;
+  kind = refl;
+  empty = refl;
+  into = refl;
+  large = refl;
+  mode = not_above 0o7777 mode fits;
+  link = refl;
+}
+
+pub socket_free : (page : ℕ) (x : Indexed) (time : ℕ) (path : List ℕ) (mode uid gid dir : ℕ) (name : List ℕ) → IsPlaced x.tree path dir name
+    → named x.tree dir name ≡ None
+    → mode ≤ 0o7777 → IsFree page x (op.Socket time path mode uid gid)
+socket_free page x time path mode uid gid dir name p none fits = record {
   bad = ap (λ b. b || false) p.good;
   long = ap (λ b. b || false) p.short;
   found = made_found x.tree path dir name p;
@@ -120,7 +154,7 @@ make_steps_are t time path mode uid gid bytes dir name p =
     ap (λ (r : Result ℕ FindFault). step.MakeObject time mode uid gid bytes ∷ step.SetName time (number_or_none r) (last_name path) t.next ∷ []) p.above_is
     ∙ ap (λ n. step.MakeObject time mode uid gid bytes ∷ step.SetName time dir n t.next ∷ []) p.last
 
--- ---- a further name, and other bytes, of a regular file that is there
+-- ---- a further name of a regular file that is there
 
 pub record IsFile (t : Outline) (dir : ℕ) (name : List ℕ) (ino : ℕ) (o : ObjectOf ℕ) : Type 0 where
   pub number : named t dir name ≡ Some ino
@@ -160,26 +194,6 @@ link_free page x time old new dir name ino o to last p f q none =
       empty = refl;
       into = refl;
       large = refl;
-      mode = refl;
-      link = refl;
-    }
-
-pub write_free : (page : ℕ) (x : Indexed) (time : ℕ) (path : List ℕ) (offset : ℕ) (bytes : List ℕ) (dir : ℕ) (name : List ℕ) (ino : ℕ) (o : ObjectOf ℕ)
-    → IsPlaced x.tree path dir name → IsFile x.tree dir name ino o → offset + length bytes ≤ 2147483647 → IsFree page x (op.Write time path offset bytes)
-write_free page x time path offset bytes dir name ino o p f fits =
-    let t = x.tree in
-    let there = named_object t path dir name ino o p f in
-    record {
-      bad = ap (λ b. b || false) p.good;
-      long = ap (λ b. b || false) p.short;
-      found = ap (λ (r : Result ℕ FindFault). ((meets_nothing r || false) || (is_missing t path || false)) || false) p.above_is
-          ∙ ap (λ b. (b || false) || false) (not_missing t path o there);
-      directory = made_directory t path dir name p;
-      fresh = refl;
-      kind = ap (λ o. not (has_bits regular_bits o)) there ∙ ap not f.regular;
-      empty = refl;
-      into = refl;
-      large = ap (λ b. nat_lt 0 (length bytes) && b) (not_above greatest_size (offset + length bytes) fits) ∙ and_false (nat_lt 0 (length bytes));
       mode = refl;
       link = refl;
     }

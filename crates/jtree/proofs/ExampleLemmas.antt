@@ -7,10 +7,9 @@ use Rattle.std.specs.declared.alloc.Global.{Global}
 use Rattle.std.specs.declared.string.String.{String}
 use Rattle.std.proofs.lemmas.List.Elements.{All-nil, All-cons, All-contains, Contains-append_left, Contains-push}
 use Rattle.jmount.specs.Find.{IsPath, is_name, path_text}
-use Rattle.jfolder.specs.Actions.{AttributesFit, FitsListing, IsFileWord, IsRooted, ItemFits}
+use Rattle.jfolder.specs.Actions.{AttributesFit, FitsListing, IsRooted, ItemFits}
 use Rattle.jfolder.specs.Trees.{IsTree, MayFollow}
 use Rattle.jfolder.specs.declared.tree.Item.{Item}
-use Rattle.jfolder.specs.declared.tree.Content.TheVariants as content
 use Rattle.jfolder.specs.declared.tree.What.{What}
 use Rattle.jfolder.specs.declared.tree.What.TheVariants as what
 use Rattle.jtree.specs.Making.{bytes_of_what}
@@ -37,20 +36,14 @@ small_fits : (t : Texts) → AreTexts t → FitsListing plain_attributes (small_
 small_fits t are =
     let one : length (string_bytes t.source) ≡ 1 = ap (λ (xs : List ℕ). length xs) are.source in
     let d = item t.directory what.Directory in
-    let f = item t.file (what.Regular (content.File t.source)) in
+    let f = item t.file (what.Regular t.source) in
     let l = item t.symlink (what.Symlink t.source) in
     let k = item t.link (what.Link t.file) in
-    let word : IsFileWord (string_bytes t.source) = (
-      omega arith,
-      no_byte (string_bytes t.source) 102 32 are.source (λ e. omega arith),
-      no_byte
-          (string_bytes t.source) 102 10 are.source (λ e. omega arith),
-    ) in
     record {
       root_fits = plain_fits;
       items_fit = All-cons ItemFits d (f ∷ l ∷ k ∷ [])
           (record { path = rooted (string_bytes t.directory) (codes "d") are.directory; attributes = plain_fits; what = tt })
-          (All-cons ItemFits f (l ∷ k ∷ []) (record { path = rooted (string_bytes t.file) (codes "d/f") are.file; attributes = plain_fits; what = word })
+          (All-cons ItemFits f (l ∷ k ∷ []) (record { path = rooted (string_bytes t.file) (codes "d/f") are.file; attributes = plain_fits; what = omega arith })
           (All-cons ItemFits l (k ∷ []) (record {
             path = rooted (string_bytes t.symlink) (codes "d/l") are.symlink;
             attributes = plain_fits;
@@ -89,7 +82,7 @@ small_tree : (t : Texts) → AreTexts t → IsTree (small_items t)
 small_tree t are =
     let one : length (string_bytes t.source) ≡ 1 = ap (λ (xs : List ℕ). length xs) are.source in
     let d = item t.directory what.Directory in
-    let f = item t.file (what.Regular (content.File t.source)) in
+    let f = item t.file (what.Regular t.source) in
     let l = item t.symlink (what.Symlink t.source) in
     let k = item t.link (what.Link t.file) in
     let first : MayFollow [] d =
@@ -160,7 +153,7 @@ pub small_is_made : SmallIsMade
 small_is_made t are =
     let one : length (string_bytes t.source) ≡ 1 = ap (λ (xs : List ℕ). length xs) are.source in
     let d = item t.directory what.Directory in
-    let f = item t.file (what.Regular (content.File t.source)) in
+    let f = item t.file (what.Regular t.source) in
     let l = item t.symlink (what.Symlink t.source) in
     let k = item t.link (what.Link t.file) in
     record {

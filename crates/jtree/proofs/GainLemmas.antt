@@ -1,8 +1,8 @@
 -- A new object and its name, and a further name of one that is there.
-use Rattle.std.proofs.Common.{◌≡◌, ◌≢◌, ℕ, ◌+◌, ◌<◌, Bool, true, false, cond, List, [], ◌∷◌, ◌++◌, Option, Some, None, Ok, refl, ap, sym, ◌∙◌, inl, inr, ◌⊎◌, ⊎_elim, arith}
+use Rattle.std.proofs.Common.{◌≡◌, ◌≢◌, ℕ, ◌+◌, ◌<◌, Bool, true, false, cond, List, [], ◌∷◌, ◌++◌, Option, Some, None, Ok, refl, ap, sym, ◌∙◌, subst, inl, inr, ◌⊎◌, ⊎_elim, arith}
 use Rattle.std.specs.Prelude.{Contains, is_some}
-use Rattle.std.specs.Ordering.{eq_by_cmp, nat_cmp}
-use Rattle.std.specs.Cmp.{nat_cmp_total, eq_by_cmp_equiv}
+use Rattle.std.specs.Ordering.{eq_by_cmp}
+use Rattle.std.specs.Cmp.{eq_by_cmp_equiv}
 use Rattle.std.specs.FinMap.{FinMap, get, insert, get-insert}
 use Rattle.std.proofs.lemmas.Bool.{cases_eq, cond-true, true≢false}
 use Rattle.std.proofs.lemmas.Map.Views.{tells_apart}
@@ -13,7 +13,6 @@ use Rattle.jmount.specs.Find.{walk}
 use Rattle.jmount.proofs.ShapeLemmas.{there_of_directory}
 use Rattle.jsteps.proofs.ConsistentLemmas.{cond_some_cases}
 use Rattle.jtree.proofs.WayLemmas.{has_long, walk_extends, walk_push}
-use Rattle.jtree.proofs.RewriteLemmas.{insert_other, itself, untied}
 use Rattle.jtree.proofs.StandLemmas.{Made, Stands, Gains, one_number, gains_stands}
 
 same_key : (k l : Key) → eq_by_cmp key_cmp k l ≡ true → k ≡ l
@@ -47,17 +46,19 @@ one_more names dir name i none = record {
 
 -- ---- a new object
 
-abbrev pub with_new : State → ℕ → List ℕ → ObjectOf (List ℕ) → State
-with_new s dir name o = record { objects = insert s.objects s.next o; names = insert s.names (dir, name) s.next; next = s.next + 1 }
+-- one object was made, under the next number, and a name of it, and nothing else was changed
+pub record Makes (s t : State) (dir : ℕ) (name : List ℕ) (o : ObjectOf (List ℕ)) : Type 0 where
+  pub names : t.names ≡ insert s.names (dir, name) s.next
+  pub next : t.next ≡ s.next + 1
+  pub now : object t s.next ≡ Some o
+  pub others : (k : ℕ) → k ≢ s.next → object t k ≡ object s k
 
-new_gains : (s : State) (dir : ℕ) (name : List ℕ) (o : ObjectOf (List ℕ)) → ((k : ℕ) → is_there s k ≡ true → k < s.next) → named s dir name ≡ None
-    → Gains s (with_new s dir name o) dir name s.next
-new_gains s dir name o numbered none =
-    let t = with_new s dir name o in
-    let names = one_more s.names dir name s.next none in
-    let objects : (k : ℕ) → k < s.next → object t k ≡ object s k =
-    λ k less. get-insert nat_cmp_total s.objects s.next o k ∙ insert_other (eq_by_cmp nat_cmp k s.next) o (get s.objects k)
-    (untied k s.next (λ e. omega arith)) in
+new_gains : (s t : State) (dir : ℕ) (name : List ℕ) (o : ObjectOf (List ℕ)) → Makes s t dir name o → ((k : ℕ) → is_there s k ≡ true → k < s.next)
+    → named s dir name ≡ None → Gains s t dir name s.next
+new_gains s t dir name o makes numbered none =
+    let names = subst (λ all. OneMore s.names all dir name s.next) (sym makes.names) (one_more s.names dir name s.next none) in
+    let after : t.next ≡ s.next + 1 = makes.next in
+    let objects : (k : ℕ) → k < s.next → object t k ≡ object s k = λ k less. makes.others k (λ e. omega arith) in
     record {
       extends = record {
         directories = λ k e. ap (has_bits directory_bits) (objects k (numbered k (there_of_directory s k e))) ∙ e;
@@ -66,17 +67,14 @@ new_gains s dir name o numbered none =
       };
       objects = objects;
       entry = names.entry;
-      there = ap is_some (get-insert nat_cmp_total s.objects s.next o s.next ∙ cond-true (eq_by_cmp nat_cmp s.next s.next) (Some o) (get s.objects s.next)
-          (itself s.next));
+      there = ap is_some makes.now;
       entries = names.entries;
       next = omega arith;
       below = omega arith;
       no_more = λ k e.
           ⊎_elim
           (λ (is : k ≡ s.next). inr is)
-          (λ (other : k ≢ s.next).
-          inl (sym (ap is_some (get-insert nat_cmp_total s.objects s.next o k ∙ insert_other (eq_by_cmp nat_cmp k s.next) o (get s.objects k)
-          (untied k s.next other))) ∙ e))
+          (λ (other : k ≢ s.next). inl (sym (ap is_some (makes.others k other)) ∙ e))
           (cases_eq k s.next);
     }
 
@@ -90,14 +88,13 @@ gained_leads s t way name dir i gains leads there =
 abbrev pub own : List (List ℕ) → ObjectOf (List ℕ) → Made
 own names o = record { names = names; origin = names; object_is = o }
 
-pub new_stands : (root : ObjectOf (List ℕ)) (made : List Made) (s : State) (way : List (List ℕ)) (name : List ℕ) (dir : ℕ) (o : ObjectOf (List ℕ))
-    → Stands root made s → 1 < s.next
+pub new_stands : (root : ObjectOf (List ℕ)) (made : List Made) (s t : State) (way : List (List ℕ)) (name : List ℕ) (dir : ℕ) (o : ObjectOf (List ℕ))
+    → Stands root made s → 1 < s.next → Makes s t dir name o
     → ((k : ℕ) → is_there s k ≡ true → k < s.next) → walk s way (Ok 1) ≡ Ok dir → is_directory s dir ≡ true → named s dir name ≡ None
     → has_long (way ++ name ∷ []) ≡ false
-    → Stands root (made ++ own (way ++ name ∷ []) o ∷ []) (with_new s dir name o)
-new_stands root made s way name dir o stands some numbered leads there none short =
-    let t = with_new s dir name o in
-    let gains = new_gains s dir name o numbered none in
+    → Stands root (made ++ own (way ++ name ∷ []) o ∷ []) t
+new_stands root made s t way name dir o stands some makes numbered leads there none short =
+    let gains = new_gains s t dir name o makes numbered none in
     gains_stands root made s t way name dir s.next (own (way ++ name ∷ []) o) stands some gains
     (record {
       leads = leads;
@@ -106,8 +103,7 @@ new_stands root made s way name dir o stands some numbered leads there none shor
       below_root = some;
       short = short;
       first = gained_leads s t way name dir s.next gains leads there;
-      object_there = λ e. get-insert nat_cmp_total s.objects s.next o s.next ∙ cond-true (eq_by_cmp nat_cmp s.next s.next) (Some o) (get s.objects s.next)
-          (itself s.next);
+      object_there = λ e. makes.now;
       alone = λ m among e.
           let h = stands.held m among in
           let used : h.number < s.next = h.used in

@@ -8,7 +8,6 @@ pub mod RunLemmas
 pub mod GainLemmas
 pub mod ItemLemmas
 pub mod MakeLemmas
-pub mod WriteLemmas
 pub mod LinkLemmas
 pub mod ObjectLemmas
 pub mod BeginLemmas
@@ -18,3 +17,4 @@ pub mod ExampleLemmas
 pub mod EmptyLemmas
 pub mod UpdateLemmas
 pub mod WholeFilesLemmas
+mod ListingUpdateLemmas

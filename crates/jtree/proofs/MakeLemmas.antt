@@ -1,21 +1,35 @@
 -- The operation of a new object, and what it reaches.
-use Rattle.std.proofs.Common.{◌≡◌, ℕ, ◌+◌, ◌<◌, ◌≤◌, true, false, List, [], ◌∷◌, ◌++◌, None, Ok, ap, ◌∙◌, arith}
-use Rattle.std.specs.List.{list_any}
-use Rattle.jmount.specs.Tree.{ObjectOf, State, named, is_directory}
+use Rattle.std.proofs.Common.{◌≡◌, ℕ, suc, ◌+◌, ◌-◌, ◌*◌, ◌/◌, ◌<◌, ◌≤◌, Bool, true, false, cond, List, [], ◌∷◌, ◌++◌, length, take, drop, Some, None, Result, Ok, refl, ap, sym, ◌∙◌, subst, length-append, length-drop, arith}
+use Rattle.std.specs.Prelude.{◌==◌, flat_map, nat_lt}
+use Rattle.std.specs.List.{list_any, AllByRecursion}
+use Rattle.std.specs.Ordering.{eq_by_cmp, nat_cmp}
+use Rattle.std.specs.Cmp.{nat_cmp_total}
+use Rattle.std.specs.FinMap.{get, insert, get-insert}
+use Rattle.std.proofs.lemmas.Bool.{cond-true}
+use Rattle.std.proofs.lemmas.List.{take-append-drop}
+use Rattle.jmount.specs.Tree.{ObjectOf, State, named, object, is_directory}
 use Rattle.jmount.specs.Find.{walk}
+use Rattle.jmount.specs.declared.fault.FindFault.{FindFault}
 use Rattle.jmount.proofs.ShapeLemmas.{there_of_directory}
 use Rattle.jsteps.specs.Nodes.{Indexed, nodes_of}
-use Rattle.jsteps.specs.Planning.{IsPage, steps_of}
+use Rattle.jsteps.specs.Planning.{IsPage, bytes_steps, first_len, page_puts, piece_puts, plain_page, puts, spelling_len, steps_of, write_steps, zeros_to}
 use Rattle.jsteps.specs.Refusals.{is_past}
 use Rattle.jsteps.specs.Laws.{OpFits}
+use Rattle.jsteps.specs.Steps.{bytes, do_step, after}
+use Rattle.jsteps.specs.Where.{last_name, number_or_none}
 use Rattle.jsteps.specs.declared.op.Op.{Op}
+use Rattle.jsteps.specs.declared.op.Op.TheVariants as op
+use Rattle.jsteps.specs.declared.step.Step.{Step}
 use Rattle.jsteps.specs.declared.step.Step.TheVariants as step
 use Rattle.jsteps.proofs.ConsistentLemmas.{root_below}
+use Rattle.jsteps.proofs.PlanLemmas.{first_taken_len}
 use Rattle.jtree.proofs.AcceptLemmas.{IsFree, accept}
-use Rattle.jtree.proofs.CountLemmas.{none_past}
-use Rattle.jtree.proofs.WayLemmas.{has_long}
+use Rattle.jtree.proofs.AppendLemmas.{after-append, write_appends, write_few}
+use Rattle.jtree.proofs.CountLemmas.{HasOwner, none_past}
+use Rattle.jtree.proofs.RewriteLemmas.{insert_other, itself, untied}
+use Rattle.jtree.proofs.WayLemmas.{IsPlaced, has_long}
 use Rattle.jtree.proofs.StandLemmas.{Made, Stands}
-use Rattle.jtree.proofs.GainLemmas.{own, new_stands}
+use Rattle.jtree.proofs.GainLemmas.{Makes, own, new_stands}
 use Rattle.jtree.proofs.RunLemmas.{IsAt, Reaches, at_next, at_numbered, reaches_one}
 
 pub some_numbers : (n : ℕ) (x : Indexed) (s : State) → IsAt n x s → 1 < s.next
@@ -34,6 +48,36 @@ few_numbers n x s at i below few =
 abbrev pub new_object : ℕ → ℕ → ℕ → ℕ → List ℕ → ObjectOf (List ℕ)
 new_object time mode uid gid target = record { mode = mode; uid = uid; gid = gid; atime = time; mtime = time; ctime = time; body = target }
 
+-- an operation that makes one object and its name, by as many steps as it takes
+pub made_reaches : (page n : ℕ) (x : Indexed) (s : State) (o : Op) (steps : List Step) (new : ObjectOf (List ℕ)) (way : List (List ℕ)) (name : List ℕ)
+    (dir : ℕ) (root : ObjectOf (List ℕ)) (made : List Made) (most : ℕ)
+    → IsPage page → IsAt n x s → Stands root made s → OpFits o → IsFree page x o
+    → steps_of page x.tree o ≡ steps → AllByRecursion HasOwner steps → Makes s (after bytes s steps) dir name new → length steps ≤ most
+    → walk s way (Ok 1) ≡ Ok dir → is_directory s dir ≡ true → named s dir name ≡ None → has_long (way ++ name ∷ []) ≡ false → n + most + 2 ≤ 0xFFFFFFFF
+    → Reaches page n x s (o ∷ []) root (made ++ own (way ++ name ∷ []) new ∷ []) most
+made_reaches page n x s o steps new way name dir root made most is_page at stands fits is_free are owners makes short leads there free few_names few =
+    let room : list_any is_past (nodes_of x (steps_of page x.tree o)) ≡ false =
+    ap (λ ss. list_any is_past (nodes_of x ss)) are ∙ none_past n x steps at.counted owners (omega arith) in
+    reaches_one page n x s o steps root (made ++ own (way ++ name ∷ []) new ∷ []) most is_page at fits
+    (accept page x o steps is_free are room)
+    (new_stands root made s (after bytes s steps) way name dir new stands (some_numbers n x s at) makes (at_numbered n x s at) leads there free few_names)
+    short
+
+-- ---- an object whose bytes are all in its first node
+
+make_makes : (s : State) (time mode uid gid : ℕ) (target : List ℕ) (dir : ℕ) (name : List ℕ)
+    → Makes s (after bytes s (step.MakeObject time mode uid gid target ∷ step.SetName time dir name s.next ∷ [])) dir name (new_object time mode uid gid target)
+make_makes s time mode uid gid target dir name =
+    let o = new_object time mode uid gid target in
+    record {
+      names = refl;
+      next = refl;
+      now = get-insert nat_cmp_total s.objects s.next o s.next
+          ∙ cond-true (eq_by_cmp nat_cmp s.next s.next) (Some o) (get s.objects s.next) (itself s.next);
+      others = λ k other. get-insert nat_cmp_total s.objects s.next o k
+          ∙ insert_other (eq_by_cmp nat_cmp k s.next) o (get s.objects k) (untied k s.next other);
+    }
+
 pub make_reaches : (page n : ℕ) (x : Indexed) (s : State) (o : Op) (time mode uid gid : ℕ) (target : List ℕ) (way : List (List ℕ)) (name : List ℕ)
     (dir : ℕ) (root : ObjectOf (List ℕ)) (made : List Made)
     → IsPage page → IsAt n x s → Stands root made s → OpFits o → IsFree page x o
@@ -45,9 +89,96 @@ make_reaches page n x s o time mode uid gid target way name dir root made is_pag
     let all : steps_of page x.tree o ≡ steps = are ∙ ap (λ i. step.MakeObject time mode uid gid target ∷ step.SetName time dir name i ∷ [])
     (at_next n x s at) in
     let owner : dir ≤ 0xFFFFFFFF = few_numbers n x s at dir (at_numbered n x s at dir (there_of_directory s dir there)) (omega arith) in
-    let room : list_any is_past (nodes_of x (steps_of page x.tree o)) ≡ false =
-    ap (λ ss. list_any is_past (nodes_of x ss)) all ∙ none_past n x steps at.counted (tt, (owner, tt)) (omega arith) in
-    reaches_one page n x s o steps root (made ++ own (way ++ name ∷ []) (new_object time mode uid gid target) ∷ []) 2 is_page at fits
-    (accept page x o steps is_free all room)
-    (new_stands root made s way name dir (new_object time mode uid gid target) stands (some_numbers n x s at) (at_numbered n x s at) leads there free short)
-    (omega arith)
+    made_reaches page n x s o steps (new_object time mode uid gid target) way name dir root made 2 is_page at stands fits is_free all (tt, (owner, tt))
+    (make_makes s time mode uid gid target dir name) (omega arith) leads there free short (omega arith)
+
+-- ---- a file, whose further bytes are put after it
+
+file_makes : (page : ℕ) (s : State) (time mode uid gid : ℕ) (all : List ℕ) (dir : ℕ) (name : List ℕ) → IsPage page
+    → Makes s (after bytes s (bytes_steps page s.next time mode uid gid all ++ step.SetName time dir name s.next ∷ [])) dir name (new_object time mode uid gid all)
+file_makes page s time mode uid gid all dir name is_page =
+    let first = first_len page (length all) in
+    let part = take first all in
+    let rest = drop first all in
+    let o = new_object time mode uid gid part in
+    let begun = do_step bytes s (step.MakeObject time mode uid gid part) in
+    let puts = write_steps page time s.next first first rest in
+    let set = step.SetName time dir name s.next in
+    let there : object begun s.next ≡ Some o =
+    get-insert nat_cmp_total s.objects s.next o s.next ∙ cond-true (eq_by_cmp nat_cmp s.next s.next) (Some o) (get s.objects s.next) (itself s.next) in
+    let re = write_appends page begun time s.next first rest o part is_page there (sym (first_taken_len page all is_page)) in
+    let last : after bytes s (bytes_steps page s.next time mode uid gid all ++ set ∷ []) ≡ do_step bytes (after bytes begun puts) set =
+    after-append begun puts (set ∷ []) in
+    subst (λ t. Makes s t dir name (new_object time mode uid gid all)) (sym last)
+    (record {
+      names = ap (λ names. insert names (dir, name) s.next) re.names;
+      next = re.next;
+      now = re.now ∙ ap (λ body. Some (new_object time mode uid gid body)) (take-append-drop first all);
+      others = λ k other. re.others k other ∙ get-insert nat_cmp_total s.objects s.next o k
+          ∙ insert_other (eq_by_cmp nat_cmp k s.next) o (get s.objects k) (untied k s.next other);
+    })
+
+-- ---- the numbers that a write works on
+
+owners_cond : (b : Bool) (xs ys : List Step) → AllByRecursion HasOwner xs → AllByRecursion HasOwner ys → AllByRecursion HasOwner (cond b xs ys)
+owners_cond true xs ys h k = h
+owners_cond false xs ys h k = k
+
+owners_append : (xs ys : List Step) → AllByRecursion HasOwner xs → AllByRecursion HasOwner ys → AllByRecursion HasOwner (xs ++ ys)
+owners_append [] ys h k = k
+owners_append (x ∷ xs) ys h k = (h.0, owners_append xs ys h.1 k)
+
+owners_flat : (f : ℕ → List Step) → ((n : ℕ) → AllByRecursion HasOwner (f n)) → (ns : List ℕ) → AllByRecursion HasOwner (flat_map f ns)
+owners_flat f h [] = tt
+owners_flat f h (n ∷ ns) = owners_append (f n) (flat_map f ns) (h n) (owners_flat f h ns)
+
+piece_owners : (time ino start : ℕ) (piece : List ℕ) → ino ≤ 0xFFFFFFFF → AllByRecursion HasOwner (piece_puts time ino start piece)
+piece_owners time ino start piece le =
+    owners_cond (length piece == spelling_len) (step.Put time ino start (take plain_page piece) ∷ step.Put time ino (start + plain_page) (drop plain_page piece) ∷ [])
+    (step.Put time ino start piece ∷ []) (le, (le, tt)) (le, tt)
+
+write_owners : (page time ino size offset : ℕ) (new : List ℕ) → ino ≤ 0xFFFFFFFF → AllByRecursion HasOwner (write_steps page time ino size offset new)
+write_owners page time ino size offset [] le = tt
+write_owners page time ino size offset (b ∷ new) le =
+    owners_append (zeros_to time ino size offset) (puts page time ino offset (b ∷ new))
+    (owners_cond (nat_lt size offset) (step.Zero time ino (offset - size) ∷ []) [] (le, tt) tt)
+    (owners_flat (λ n. page_puts page time ino offset (b ∷ new) (offset / page + n)) (λ n. piece_owners time ino _ _ le) _)
+
+file_few : (page ino time mode uid gid : ℕ) (all : List ℕ) (last : Step) → IsPage page
+    → length (bytes_steps page ino time mode uid gid all ++ last ∷ []) ≤ 8 + length all / 512
+file_few page ino time mode uid gid all last is_page =
+    let first = first_len page (length all) in
+    let rest = drop first all in
+    let puts = write_steps page time ino first first rest in
+    let left : length rest ≤ length all = omega (arith, length-drop first all) in
+    let few : length puts ≤ 4 + 2 * (length rest / 4096) = write_few page time ino first rest is_page in
+    let both : length (bytes_steps page ino time mode uid gid all ++ last ∷ []) ≡ length (bytes_steps page ino time mode uid gid all) + length (last ∷ []) =
+    length-append (bytes_steps page ino time mode uid gid all) (last ∷ []) in
+    let one : length (bytes_steps page ino time mode uid gid all) ≡ suc (length puts) = refl in
+    omega arith
+
+pub file_reaches : (page n : ℕ) (x : Indexed) (s : State) (time : ℕ) (path : List ℕ) (mode uid gid : ℕ) (all : List ℕ) (way : List (List ℕ))
+    (name : List ℕ) (dir : ℕ) (root : ObjectOf (List ℕ)) (made : List Made)
+    → IsPage page → IsAt n x s → Stands root made s → OpFits (op.File time path mode uid gid all) → IsFree page x (op.File time path mode uid gid all)
+    → IsPlaced x.tree path dir name
+    → walk s way (Ok 1) ≡ Ok dir → is_directory s dir ≡ true → named s dir name ≡ None → has_long (way ++ name ∷ []) ≡ false
+    → n + (8 + length all / 512) + 4 ≤ 0xFFFFFFFF
+    → Reaches page n x s (op.File time path mode uid gid all ∷ []) root
+    (made ++ own (way ++ name ∷ []) (new_object time (0o100000 + mode) uid gid all) ∷ []) (8 + length all / 512)
+file_reaches page n x s time path mode uid gid all way name dir root made is_page at stands fits is_free p leads there free short few =
+    let whole = 0o100000 + mode in
+    let o = op.File time path mode uid gid all in
+    let set = step.SetName time dir name s.next in
+    let steps = bytes_steps page s.next time whole uid gid all ++ set ∷ [] in
+    let are : steps_of page x.tree o ≡ steps =
+    ap (λ (r : Result ℕ FindFault). bytes_steps page x.tree.next time whole uid gid all ++ step.SetName time (number_or_none r) (last_name path) x.tree.next ∷ []) p.above_is
+    ∙ ap (λ l. bytes_steps page x.tree.next time whole uid gid all ++ step.SetName time dir l x.tree.next ∷ []) p.last
+    ∙ ap (λ i. bytes_steps page i time whole uid gid all ++ step.SetName time dir name i ∷ []) (at_next n x s at) in
+    let owner : dir ≤ 0xFFFFFFFF = few_numbers n x s at dir (at_numbered n x s at dir (there_of_directory s dir there)) (omega arith) in
+    let most : x.tree.next ≤ n + 2 = at.counted.next in
+    let next : x.tree.next ≡ s.next = at_next n x s at in
+    let first = first_len page (length all) in
+    let owners : AllByRecursion HasOwner steps =
+    (tt, owners_append (write_steps page time s.next first first (drop first all)) (set ∷ []) (write_owners page time s.next first first (drop first all) (omega arith)) (owner, tt)) in
+    made_reaches page n x s o steps (new_object time whole uid gid all) way name dir root made (8 + length all / 512) is_page at stands fits is_free are owners
+    (file_makes page s time whole uid gid all dir name is_page) (file_few page s.next time whole uid gid all set is_page) leads there free short (omega arith)

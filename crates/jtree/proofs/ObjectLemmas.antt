@@ -7,26 +7,23 @@ use Rattle.jmount.specs.Find.{IsPath, path_text}
 use Rattle.jmount.specs.Tree.{ObjectOf, State, type_bits, regular_bits, directory_bits}
 use Rattle.jsteps.specs.Nodes.{Indexed}
 use Rattle.jsteps.specs.Planning.{IsPage}
-use Rattle.jsteps.specs.Steps.{bytes, after}
 use Rattle.jsteps.specs.Where.{names_on_path}
 use Rattle.jsteps.specs.declared.op.Op.TheVariants as op
-use Rattle.jfolder.specs.Actions.{AttributesFit, content_actions, object_actions}
+use Rattle.jfolder.specs.Actions.{AttributesFit, object_actions}
 use Rattle.jfolder.specs.Trees.{HasTarget, IsRegular, LinksBack}
 use Rattle.jfolder.specs.declared.tree.Attributes.{Attributes}
-use Rattle.jfolder.specs.declared.tree.Content.{Content}
 use Rattle.jfolder.specs.declared.tree.Item.{Item}
 use Rattle.jfolder.specs.declared.tree.What.{What}
 use Rattle.jfolder.specs.declared.tree.What.TheVariants as what
-use Rattle.jtree.specs.Making.{Files, bytes_of_what, content_bytes, ops_with}
+use Rattle.jtree.specs.Making.{Files, bytes_of_what, ops_with}
 use Rattle.jtree.specs.Holding.{first_path, object_of_what, object_with}
-use Rattle.jtree.proofs.AcceptLemmas.{create_free, make_steps_are, mkdir_free, symlink_free}
+use Rattle.jtree.proofs.AcceptLemmas.{fifo_free, file_free, make_steps_are, mkdir_free, socket_free, symlink_free}
 use Rattle.jtree.proofs.GainLemmas.{own}
 use Rattle.jtree.proofs.ItemLemmas.{IsAhead, IsBuilt, Contains-from_map, Contains-mapped, ahead_placed, made_of, names_are, names_of}
 use Rattle.jtree.proofs.LinkLemmas.{IsTarget, link_reaches}
-use Rattle.jtree.proofs.MakeLemmas.{make_reaches, new_object}
-use Rattle.jtree.proofs.RunLemmas.{IsAt, Reaches, at_named, reaches_then, reaches_weaker}
+use Rattle.jtree.proofs.MakeLemmas.{file_reaches, make_reaches}
+use Rattle.jtree.proofs.RunLemmas.{IsAt, Reaches, at_named, reaches_weaker}
 use Rattle.jtree.proofs.StandLemmas.{Made, Stands}
-use Rattle.jtree.proofs.WriteLemmas.{content_reaches}
 
 abbrev pub made_at : Files → List ℕ → Attributes → What → Made
 made_at files path a w = record { names = names_on_path path; origin = names_on_path (first_path path w); object_is = object_of_what files a w }
@@ -55,6 +52,34 @@ directory_reaches page n x s files path a root made is_page at stands ahead fits
     (make_steps_are x.tree a.time path (0o040000 + a.mode) a.uid a.gid [] ahead.dir ahead.name p)
     ahead.leads ahead.directory ahead.free ahead.short few)
 
+fifo_reaches : (page n : ℕ) (x : Indexed) (s : State) (files : Files) (path : List ℕ) (a : Attributes) (root : ObjectOf (List ℕ)) (made : List Made)
+    → IsPage page → IsAt n x s → Stands root made s → IsAhead path s → AttributesFit a → n + 4 ≤ 0xFFFFFFFF
+    → Reaches page n x s (ops_with files (object_actions path a what.Fifo)) root (made ++ made_at files path a what.Fifo ∷ []) 2
+fifo_reaches page n x s files path a root made is_page at stands ahead fits few =
+    let p = ahead_placed n x s path at ahead in
+    subst (λ ns. Reaches page n x s (op.Fifo a.time path a.mode a.uid a.gid ∷ []) root (made ++ own ns (object_of_what files a what.Fifo) ∷ []) 2)
+    (sym (names_are path (ahead.way ++ ahead.name ∷ []) ahead.path_is))
+    (make_reaches page n x s (op.Fifo a.time path a.mode a.uid a.gid) a.time (0o010000 + a.mode) a.uid a.gid [] ahead.way ahead.name ahead.dir root made
+    is_page at stands
+    (fits.time, fits.uid, fits.gid)
+    (fifo_free page x a.time path a.mode a.uid a.gid ahead.dir ahead.name p (at_named n x s at ahead.dir ahead.name ∙ ahead.free) fits.mode)
+    (make_steps_are x.tree a.time path (0o010000 + a.mode) a.uid a.gid [] ahead.dir ahead.name p)
+    ahead.leads ahead.directory ahead.free ahead.short few)
+
+socket_reaches : (page n : ℕ) (x : Indexed) (s : State) (files : Files) (path : List ℕ) (a : Attributes) (root : ObjectOf (List ℕ)) (made : List Made)
+    → IsPage page → IsAt n x s → Stands root made s → IsAhead path s → AttributesFit a → n + 4 ≤ 0xFFFFFFFF
+    → Reaches page n x s (ops_with files (object_actions path a what.Socket)) root (made ++ made_at files path a what.Socket ∷ []) 2
+socket_reaches page n x s files path a root made is_page at stands ahead fits few =
+    let p = ahead_placed n x s path at ahead in
+    subst (λ ns. Reaches page n x s (op.Socket a.time path a.mode a.uid a.gid ∷ []) root (made ++ own ns (object_of_what files a what.Socket) ∷ []) 2)
+    (sym (names_are path (ahead.way ++ ahead.name ∷ []) ahead.path_is))
+    (make_reaches page n x s (op.Socket a.time path a.mode a.uid a.gid) a.time (0o140000 + a.mode) a.uid a.gid [] ahead.way ahead.name ahead.dir root made
+    is_page at stands
+    (fits.time, fits.uid, fits.gid)
+    (socket_free page x a.time path a.mode a.uid a.gid ahead.dir ahead.name p (at_named n x s at ahead.dir ahead.name ∙ ahead.free) fits.mode)
+    (make_steps_are x.tree a.time path (0o140000 + a.mode) a.uid a.gid [] ahead.dir ahead.name p)
+    ahead.leads ahead.directory ahead.free ahead.short few)
+
 symlink_reaches : (page n : ℕ) (x : Indexed) (s : State) (files : Files) (path : List ℕ) (a : Attributes) (target : List ℕ) (root : ObjectOf (List ℕ))
     (made : List Made)
     → IsPage page → IsAt n x s → Stands root made s → IsAhead path s → AttributesFit a → 0 < length target → length target ≤ 4095
@@ -71,42 +96,29 @@ symlink_reaches page n x s files path a target root made is_page at stands ahead
     (make_steps_are x.tree a.time path 0o120777 a.uid a.gid target ahead.dir ahead.name p)
     ahead.leads ahead.directory ahead.free ahead.short few)
 
-regular_reaches : (page n : ℕ) (x : Indexed) (s : State) (files : Files) (path : List ℕ) (a : Attributes) (c : Content) (root : ObjectOf (List ℕ))
-    (made : List Made)
-    → IsPage page → IsAt n x s → Stands root made s → (ahead : IsAhead path s) → ((p : Made) → Contains made p → p.names ≢ ahead.way ++ ahead.name ∷ [])
-    → AttributesFit a
-    → length (content_bytes files c) ≤ 2147483647 → n + (8 + length (content_bytes files c) / 512) + 4 ≤ 0xFFFFFFFF
-    → Reaches page n x s (ops_with files (object_actions path a (what.Regular c))) root (made ++ made_at files path a (what.Regular c) ∷ [])
-    (2 + (6 + length (content_bytes files c) / 512))
-regular_reaches page n x s files path a c root made is_page at stands ahead fresh fits short few =
+regular_reaches : (page n : ℕ) (x : Indexed) (s : State) (path : List ℕ) (a : Attributes) (all : List ℕ) (root : ObjectOf (List ℕ)) (made : List Made)
+    → IsPage page → IsAt n x s → Stands root made s → IsAhead path s → AttributesFit a
+    → length all ≤ 2147483647 → n + (8 + length all / 512) + 4 ≤ 0xFFFFFFFF
+    → Reaches page n x s (op.File a.time path a.mode a.uid a.gid all ∷ []) root (made ++ own (names_on_path path) (object_with (0o100000 + a.mode) a all) ∷ [])
+    (8 + length all / 512)
+regular_reaches page n x s path a all root made is_page at stands ahead fits short few =
     let p = ahead_placed n x s path at ahead in
-    let names = ahead.way ++ ahead.name ∷ [] in
-    let o = new_object a.time (0o100000 + a.mode) a.uid a.gid [] in
-    let create = op.Create a.time path a.mode a.uid a.gid in
-    let one = make_reaches page n x s create a.time (0o100000 + a.mode) a.uid a.gid [] ahead.way ahead.name ahead.dir root made is_page at stands
+    subst (λ ns. Reaches page n x s (op.File a.time path a.mode a.uid a.gid all ∷ []) root (made ++ own ns (object_with (0o100000 + a.mode) a all) ∷ [])
+    (8 + length all / 512))
+    (sym (names_are path (ahead.way ++ ahead.name ∷ []) ahead.path_is))
+    (file_reaches page n x s a.time path a.mode a.uid a.gid all ahead.way ahead.name ahead.dir root made is_page at stands
     (fits.time, fits.uid, fits.gid)
-    (create_free page x a.time path a.mode a.uid a.gid ahead.dir ahead.name p (at_named n x s at ahead.dir ahead.name ∙ ahead.free) fits.mode)
-    (make_steps_are x.tree a.time path (0o100000 + a.mode) a.uid a.gid [] ahead.dir ahead.name p)
-    ahead.leads ahead.directory ahead.free ahead.short (omega arith) in
-    let used : length one.steps ≤ 2 = one.few in
-    let two = content_reaches page (n + length one.steps) _ (after bytes s one.steps) files a.time path c ahead.way ahead.name o root made is_page
-    one.is_at one.stands
-    (record { path_is = ahead.path_is; regular = regular_mode a.mode fits.mode; plain = plain_mode a.mode fits.mode; fresh = fresh; time_fits = fits.time })
-    short (omega arith) in
-    subst (λ ns. Reaches page n x s (ops_with files (object_actions path a (what.Regular c))) root
-    (made ++ own ns (object_of_what files a (what.Regular c)) ∷ []) (2 + (6 + length (content_bytes files c) / 512)))
-    (sym (names_are path names ahead.path_is))
-    (reaches_then page n x s (create ∷ []) (ops_with files (content_actions a.time path c)) root (made ++ own names o ∷ [])
-    (made ++ own names (object_of_what files a (what.Regular c)) ∷ []) 2 (6 + length (content_bytes files c) / 512) one two)
+    (file_free page x a.time path a.mode a.uid a.gid all ahead.dir ahead.name p (at_named n x s at ahead.dir ahead.name ∙ ahead.free) fits.mode short)
+    p ahead.leads ahead.directory ahead.free ahead.short few)
 
 -- a regular file that stands may have further names
 target_of : (files : Files) (root : ObjectOf (List ℕ)) (before : List Item) (n : ℕ) (x : Indexed) (s : State) (i : Item) (first : List ℕ)
     → IsBuilt files root before n x s → Contains before i
     → string_bytes i.path ≡ first → (w : What) → i.what ≡ w → IsRegular w → IsTarget (map (made_of files) before) first (made_of files i)
-target_of files root before n x s i first built among path (what.Regular c) is regular =
+target_of files root before n x s i first built among path (what.Regular file) is regular =
     let known = built.known i among in
     let mode : i.attributes.mode ≤ 0o7777 = known.fits.attributes.mode in
-    let object : object_of_what files i.attributes i.what ≡ object_of_what files i.attributes (what.Regular c) = ap (object_of_what files i.attributes) is in
+    let object : object_of_what files i.attributes i.what ≡ object_of_what files i.attributes (what.Regular file) = ap (object_of_what files i.attributes) is in
     record {
       among = Contains-mapped (made_of files) before i among;
       way = known.way;
@@ -118,6 +130,8 @@ target_of files root before n x s i first built among path (what.Regular c) is r
       plain = ap (λ (o : ObjectOf (List ℕ)). type_bits o.mode == directory_bits) object ∙ plain_mode i.attributes.mode mode;
     }
 target_of files root before n x s i first built among path what.Directory is regular = absurd regular
+target_of files root before n x s i first built among path what.Fifo is regular = absurd regular
+target_of files root before n x s i first built among path what.Socket is regular = absurd regular
 target_of files root before n x s i first built among path (what.Symlink target) is regular = absurd regular
 target_of files root before n x s i first built among path (what.Link old) is regular = absurd regular
 
@@ -140,12 +154,16 @@ object_reaches page n x s files path a what.Directory root before is_page built 
     reaches_weaker page n x s (ops_with files (object_actions path a what.Directory)) root
     (map (made_of files) before ++ made_at files path a what.Directory ∷ []) 2 (8 + length (bytes_of_what files what.Directory) / 512) (omega arith)
     (directory_reaches page n x s files path a root (map (made_of files) before) is_page built.is_at built.stands ahead fits (omega arith))
-object_reaches page n x s files path a (what.Regular c) root before is_page built ahead fresh links target fits short few =
-    let size = length (content_bytes files c) in
-    reaches_weaker page n x s (ops_with files (object_actions path a (what.Regular c))) root
-    (map (made_of files) before ++ made_at files path a (what.Regular c) ∷ []) (2 + (6 + size / 512)) (8 + size / 512) (omega arith)
-    (regular_reaches page n x s files path a c root (map (made_of files) before) is_page built.is_at built.stands ahead
-    (fresh_names files root before n x s path (ahead.way ++ ahead.name ∷ []) built ahead.path_is fresh) fits short few)
+object_reaches page n x s files path a (what.Regular file) root before is_page built ahead fresh links target fits short few =
+    regular_reaches page n x s path a (files (string_bytes file)) root (map (made_of files) before) is_page built.is_at built.stands ahead fits short few
+object_reaches page n x s files path a what.Fifo root before is_page built ahead fresh links target fits short few =
+    reaches_weaker page n x s (ops_with files (object_actions path a what.Fifo)) root
+    (map (made_of files) before ++ made_at files path a what.Fifo ∷ []) 2 (8 + length (bytes_of_what files what.Fifo) / 512) (omega arith)
+    (fifo_reaches page n x s files path a root (map (made_of files) before) is_page built.is_at built.stands ahead fits (omega arith))
+object_reaches page n x s files path a what.Socket root before is_page built ahead fresh links target fits short few =
+    reaches_weaker page n x s (ops_with files (object_actions path a what.Socket)) root
+    (map (made_of files) before ++ made_at files path a what.Socket ∷ []) 2 (8 + length (bytes_of_what files what.Socket) / 512) (omega arith)
+    (socket_reaches page n x s files path a root (map (made_of files) before) is_page built.is_at built.stands ahead fits (omega arith))
 object_reaches page n x s files path a (what.Symlink t) root before is_page built ahead fresh links target fits short few =
     reaches_weaker page n x s (ops_with files (object_actions path a (what.Symlink t))) root
     (map (made_of files) before ++ made_at files path a (what.Symlink t) ∷ []) 2 (8 + length (bytes_of_what files (what.Symlink t)) / 512) (omega arith)

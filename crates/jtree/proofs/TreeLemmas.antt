@@ -76,7 +76,21 @@ holds_object s files path a what.Directory h is first = record {
       h.below_root;
   object = h.there refl;
 }
-holds_object s files path a (what.Regular c) h is first = record {
+holds_object s files path a (what.Regular file) h is first = record {
+  number = h.number;
+  found = found_is s path (names_on_path path) is ∙ h.leads;
+  below_root =
+      h.below_root;
+  object = h.there refl;
+}
+holds_object s files path a what.Fifo h is first = record {
+  number = h.number;
+  found = found_is s path (names_on_path path) is ∙ h.leads;
+  below_root =
+      h.below_root;
+  object = h.there refl;
+}
+holds_object s files path a what.Socket h is first = record {
   number = h.number;
   found = found_is s path (names_on_path path) is ∙ h.leads;
   below_root =
@@ -189,14 +203,16 @@ same_lines : (a b : List Line) → ◌≡◌ {A = Result (List Line) ℕ} (Ok a)
 same_lines a b e = cc
 
 -- whatever lines the text is read as
+pub lines_ops : (files : Files) (root : Attributes) (items : List Item) (lines : List Line) → FitsListing root items → lines_of (listing_text root items) ≡ Ok lines
+    → ops_in files lines ≡ ops_with files (actions_of root items)
+lines_ops files root items lines fits is =
+    let read = listing_is_read_back root items fits in
+    ap (ops_in files) (same_lines lines read.0 (sym is ∙ read.1)) ∙ ops_of_lines files read.0 ∙ ap (ops_with files) read.2
+
 lines_lawful : (page : ℕ) (files : Files) (root : Attributes) (items : List Item) (lines : List Line) → IsPage page → FitsListing root items → IsTree items
     → FilesFit files items → AreFew files items → lines_of (listing_text root items) ≡ Ok lines → IsLawful page files root items (ops_in files lines)
 lines_lawful page files root items lines is_page fits tree short few is =
-    let read = listing_is_read_back root items fits in
-    let same : lines ≡ read.0 = same_lines lines read.0 (sym is ∙ read.1) in
-    let ops : ops_in files lines ≡ ops_with files (actions_of root items) =
-    ap (ops_in files) same ∙ ops_of_lines files read.0 ∙ ap (ops_with files) read.2 in
-    subst (IsLawful page files root items) (sym ops) (lawful page files root items is_page fits tree short few)
+    subst (IsLawful page files root items) (sym (lines_ops files root items lines fits is)) (lawful page files root items is_page fits tree short few)
 
 pub text_makes_tree : law.TextMakesTree
 text_makes_tree page files root items is_page fits tree short few =

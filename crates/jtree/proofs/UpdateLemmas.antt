@@ -1,11 +1,11 @@
 -- Each name of a regular file stands for a whole one, from step to step of an update.
-use Rattle.std.proofs.Common.{◌≡◌, ◌≢◌, ℕ, zero, suc, ◌+◌, ◌-◌, ◌/◌, ◌<◌, ◌≤◌, Bool, true, false, cond, List, [], ◌∷◌, ◌++◌, length, take, drop, Option, Some, None, Result, Ok, Err, refl, ap, sym, ◌∙◌, subst, ⊎_elim, arith}
-use Rattle.std.specs.Prelude.{is_some, unwrap_or, option_and_then, nat_lt, max, min, flat_map, ◌==◌}
+use Rattle.std.proofs.Common.{◌≡◌, ◌≢◌, ℕ, zero, suc, ◌+◌, ◌/◌, ◌<◌, ◌≤◌, Bool, true, false, cond, List, [], ◌∷◌, ◌++◌, length, take, drop, Option, Some, None, Result, Ok, Err, refl, ap, sym, ◌∙◌, subst, ⊎_elim, arith}
+use Rattle.std.specs.Prelude.{is_some, unwrap_or, option_and_then, nat_lt, flat_map, ◌==◌}
 use Rattle.std.specs.List.{AllByRecursion}
 use Rattle.std.specs.Ordering.{eq_by_cmp, nat_cmp}
 use Rattle.std.specs.Cmp.{nat_cmp_total}
 use Rattle.std.specs.FinMap.{FinMap, get, insert, remove, get-insert, get-remove}
-use Rattle.std.proofs.lemmas.Bool.{cases_eq, cond-true, cond_both, ltb-false, false≢true, true≢false}
+use Rattle.std.proofs.lemmas.Bool.{cases_eq, cond-true, cond_both, ltb-false, false≢true}
 use Rattle.std.proofs.lemmas.List.{take-append-drop}
 use Rattle.std.proofs.lemmas.Option.{same_Some}
 use Rattle.jname.specs.Live.{key_cmp}
@@ -14,8 +14,7 @@ use Rattle.jmount.specs.Tree.{ObjectOf, State, Outline, outline, object, named, 
 use Rattle.jmount.specs.declared.fault.FindFault.{FindFault}
 use Rattle.jsteps.specs.Steps.{bytes, do_step, after, renamed, rewritten, with_body, with_attributes, reattributed}
 use Rattle.jsteps.specs.Nodes.{Indexed}
-use Rattle.jsteps.specs.Planning.{IsPage, plain_page, spelling_len, first_len, piece_puts, page_puts, puts, zeros_to, write_steps, make_steps, file_steps, move_steps, steps_of}
-use Rattle.jsteps.specs.Refusals.{greatest_size}
+use Rattle.jsteps.specs.Planning.{IsPage, spelling_len, first_len, piece_puts, page_puts, puts, zeros_to, write_steps, make_steps, file_steps, move_steps, steps_of}
 use Rattle.jsteps.specs.Where.{above, last_name, named_there, number_or_zero, object_named, parent, is_one_entry}
 use Rattle.jsteps.specs.Laws.{IsConsistent}
 use Rattle.jsteps.specs.declared.op.Attributes.{Attributes}
@@ -23,11 +22,11 @@ use Rattle.jsteps.specs.declared.op.Op.{Op}
 use Rattle.jsteps.specs.declared.op.Op.TheVariants as op
 use Rattle.jsteps.specs.declared.step.Step.{Step}
 use Rattle.jsteps.specs.declared.step.Step.TheVariants as step
-use Rattle.jsteps.proofs.ConsistentLemmas.{cond_some_cases, tied}
+use Rattle.jsteps.proofs.ConsistentLemmas.{cond_some_cases}
 use Rattle.jsteps.proofs.StepsLemmas.{kind_stays}
 use Rattle.jsteps.proofs.PlanLemmas.{IsAccepted, first_taken_len, led_both}
 use Rattle.jtree.specs.Updates.{IsUpdate, MakesFileWith}
-use Rattle.jtree.proofs.AppendLemmas.{after-append, write_appends}
+use Rattle.jtree.proofs.AppendLemmas.{write_appends}
 use Rattle.jtree.proofs.RewriteLemmas.{insert_other, itself, untied}
 
 -- ---- whole files, and steps after each of which they are

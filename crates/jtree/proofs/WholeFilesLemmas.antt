@@ -5,9 +5,9 @@ use Rattle.std.specs.List.{AllByRecursion}
 use Rattle.std.proofs.lemmas.Bool.{eqb-true, false≢true}
 use Rattle.flashbase.proofs.MemberLemmas.{Contains-here, Contains-there}
 use Rattle.jmount.specs.Find.{find_names, path_names, step, walk}
-use Rattle.jmount.specs.Mounts.{plain_nodes, state}
+use Rattle.jmount.specs.Mounts.{plain_nodes}
 use Rattle.jmount.specs.StateOf.{state_of}
-use Rattle.jmount.specs.Tree.{ObjectOf, State, outline, object, named, is_directory, has_bits, directory_bits, regular_bits, type_bits}
+use Rattle.jmount.specs.Tree.{State, outline, named, is_directory, has_bits, directory_bits, regular_bits, type_bits}
 use Rattle.jmount.proofs.ShapeLemmas.{walk_begins, same_ok}
 use Rattle.jsteps.specs.Steps.{bytes, after}
 use Rattle.jsteps.specs.Nodes.{Indexed, index_of, advanced_all}

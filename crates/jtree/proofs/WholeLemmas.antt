@@ -28,7 +28,7 @@ map_push : {X Y : Type 0} (f : X → Y) (xs : List X) (x : X) → map f (xs ++ x
 map_push f [] x = refl
 map_push f (y ∷ xs) x = ap (λ ys. f y ∷ ys) (map_push f xs x)
 
-ops_append : (files : Files) (xs ys : List Action) → ops_with files (xs ++ ys) ≡ ops_with files xs ++ ops_with files ys
+pub ops_append : (files : Files) (xs ys : List Action) → ops_with files (xs ++ ys) ≡ ops_with files xs ++ ops_with files ys
 ops_append files [] ys = refl
 ops_append files (x ∷ xs) ys = ap (λ ops. op_with files x ∷ ops) (ops_append files xs ys)
 
@@ -36,7 +36,9 @@ ops_append files (x ∷ xs) ys = ap (λ ops. op_with files x ∷ ops) (ops_appen
 origin_of : (before : List Item) (path : List ℕ) (w : What) → ((j : Item) → Contains before j → IsKnown j) → LinksBack before w → IsPath path (names_on_path path)
     → IsPath (first_path path w) (names_on_path (first_path path w))
 origin_of before path what.Directory known links is = is
-origin_of before path (what.Regular c) known links is = is
+origin_of before path (what.Regular file) known links is = is
+origin_of before path what.Fifo known links is = is
+origin_of before path what.Socket known links is = is
 origin_of before path (what.Symlink target) known links is = is
 origin_of before path (what.Link first) known links is = subst (λ text. IsPath text (names_on_path text)) links.2 (known links.0 links.1).path
 

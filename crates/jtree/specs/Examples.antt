@@ -6,7 +6,6 @@ use Rattle.std.specs.String.{string_bytes}
 use Rattle.jfolder.specs.Actions.{FitsListing}
 use Rattle.jfolder.specs.Trees.{IsTree}
 use Rattle.jfolder.specs.declared.tree.Attributes.{Attributes}
-use Rattle.jfolder.specs.declared.tree.Content.TheVariants as content
 use Rattle.jfolder.specs.declared.tree.Item.{Item}
 use Rattle.jfolder.specs.declared.tree.What.TheVariants as what
 use Rattle.jtree.specs.Making.{Files, FilesFit, AreFew}
@@ -32,11 +31,7 @@ plain_attributes = record { mode = 0o755; uid = 0; gid = 0; time = 1 }
 abbrev pub small_items : Texts → List Item
 small_items t =
     record { path = t.directory; attributes = plain_attributes; what = what.Directory }
-    ∷ record {
-      path = t.file;
-      attributes = plain_attributes;
-      what = what.Regular (content.File t.source);
-    }
+    ∷ record { path = t.file; attributes = plain_attributes; what = what.Regular t.source }
     ∷ record { path = t.symlink; attributes = plain_attributes; what = what.Symlink t.source }
     ∷ record { path = t.link; attributes = plain_attributes; what = what.Link t.file }
     ∷ []

@@ -12,6 +12,8 @@ use Rattle.jtree.specs.Making.{Files, bytes_of_what}
 -- the mode of an object: its kind's bits with its permissions, and a symlink has all permissions
 abbrev pub mode_of_what : ℕ → What → ℕ
 mode_of_what permissions what.Directory = 0o040000 + permissions
+mode_of_what permissions what.Fifo = 0o010000 + permissions
+mode_of_what permissions what.Socket = 0o140000 + permissions
 mode_of_what permissions (what.Symlink target) = 0o120777
 mode_of_what permissions _ = 0o100000 + permissions
 

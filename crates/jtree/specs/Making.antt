@@ -5,8 +5,6 @@ use Rattle.jlisting.specs.Listing.{file_of, op_of}
 use Rattle.jlisting.specs.declared.line.Action.{Action}
 use Rattle.jsteps.specs.declared.op.Op.{Op}
 use Rattle.jbuild.specs.Operations.{bytes_of_file}
-use Rattle.jfolder.specs.declared.tree.Content.{Content}
-use Rattle.jfolder.specs.declared.tree.Content.TheVariants as content
 use Rattle.jfolder.specs.declared.tree.Item.{Item}
 use Rattle.jfolder.specs.declared.tree.What.{What}
 use Rattle.jfolder.specs.declared.tree.What.TheVariants as what
@@ -23,13 +21,8 @@ abbrev pub ops_with : Files → List Action → List Op
 ops_with files actions = map (op_with files) actions
 
 -- the bytes of an item
-abbrev pub content_bytes : Files → Content → List ℕ
-content_bytes files content.Empty = []
-content_bytes files (content.File file) = files (string_bytes file)
-content_bytes files (content.Bytes bytes) = bytes.items
-
 abbrev pub bytes_of_what : Files → What → List ℕ
-bytes_of_what files (what.Regular bytes) = content_bytes files bytes
+bytes_of_what files (what.Regular file) = files (string_bytes file)
 bytes_of_what files (what.Symlink target) = string_bytes target
 bytes_of_what files _ = []
 

@@ -20,6 +20,14 @@ use Rattle.jlog.specs.Headline.{IsBase, AreAccepted, index_of_image, new_nodes, 
 use Rattle.jlog.specs.Left.{IsLeft}
 use Rattle.jlog.specs.LeftLaws.{NoneWeak}
 use Rattle.jlog.specs.Output.{output}
+use Rattle.jlisting.specs.Listing.{lines_of}
+use Rattle.jlisting.specs.declared.line.Line.{Line}
+use Rattle.jbuild.specs.Operations.{ops_in}
+use Rattle.jfolder.specs.Actions.{FitsListing}
+use Rattle.jfolder.specs.Text.{listing_text}
+use Rattle.jfolder.specs.declared.tree.Attributes.{Attributes}
+use Rattle.jfolder.specs.declared.tree.Item.{Item}
+use Rattle.jtree.specs.Making.{Files}
 
 -- an operation that makes no regular file without its bytes, and neither writes nor cuts one
 abbrev pub IsUpdate : Op → Type 0
@@ -81,3 +89,9 @@ UpdatesAreWhole = (page : ℕ) (e : Endian) (size blocks n : ℕ) (base : List �
     NoneWeak e new
     → (k : ℕ) (image : List ℕ) → k ≤ length out → IsLeft e size blocks base from out k image
     → (s : State) × MountsAs e size image s × FilesAreWhole (state e size base) ops s
+
+-- What a tree's text is read as are updates, whatever bytes the files of the host have.
+abbrev pub ListingIsUpdate : Type 0
+ListingIsUpdate = (files : Files) (root : Attributes) (items : List Item) (lines : List Line)
+    → FitsListing root items → lines_of (listing_text root items) ≡ Ok lines
+    → AllByRecursion IsUpdate (ops_in files lines)

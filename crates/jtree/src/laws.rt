@@ -4,24 +4,26 @@ ghost use Rattle.jtree.specs.Image as image;
 ghost use Rattle.jtree.specs.Laws as law;
 ghost use Rattle.jtree.specs.Updates as update;
 
-/// The operations of a tree are all accepted on the empty file system, and make the tree and nothing else. So are those that
-/// the tree's text is read as.
+/// The operations of a tree are all accepted on the empty file system, and make the tree and
+/// nothing else. So are those that the tree's text is read as.
 pub fn listing_makes_tree()
     ensures actions { law.ListingMakesTree }
     ensures text { law.TextMakesTree }
 {}
 
-/// The image that is written for a tree's text on a base without nodes mounts, and holds the tree and nothing else. The empty
-/// image is such a base.
+/// The image that is written for a tree's text on a base without nodes mounts, and holds the tree
+/// and nothing else. The empty image is such a base.
 pub fn image_holds_tree()
     ensures image { image.ImageHoldsTree }
     ensures empty { image.EmptyIsBare }
 {}
 
-/// Where no operation makes a regular file without its bytes, or writes or cuts one, each path that leads to a regular file
-/// leads to one with all bytes of a file that the base had, or of one that an operation makes: after any number of steps, and so
-/// in what mounts after a stop at any byte.
+/// Where no operation makes a regular file without its bytes, or writes or cuts one, each path that
+/// leads to a regular file leads to one with all bytes of a file that the base had, or of one that
+/// an operation makes: after any number of steps, and so in what mounts after a stop at any byte.
+/// The operations that a tree's text is read as are such.
 pub fn updates_are_whole()
     ensures steps { update.StepsKeepFilesWhole }
     ensures stopped { update.UpdatesAreWhole }
+    ensures listing { update.ListingIsUpdate }
 {}

@@ -40,7 +40,8 @@ fn next_byte(word: &[u8]) -> Option<(u8, &[u8])>
     Some((*first, rest))
 }
 
-/// The bytes that a word stands for: `\x` and two hexadecimal digits are one byte, and any other byte is itself.
+/// The bytes that a word stands for: `\x` and two hexadecimal digits are one byte, and any other
+/// byte is itself.
 ///
 /// # Errors
 /// `Invalid`: another use of `\`. `OutOfMemory`.

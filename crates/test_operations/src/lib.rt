@@ -1,4 +1,5 @@
-//! What the tests and benchmarks of operations share: operations as lines of text, and whether a step can be taken.
+//! What the tests and benchmarks of operations share: operations as lines of text, and whether a
+//! step can be taken.
 #![tactic(auto)]
 
 mod lines;

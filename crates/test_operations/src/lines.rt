@@ -25,8 +25,9 @@ fn words(line: &str) -> (&str, &str, &str, &str) {
     (verb, path, second, third)
 }
 
-/// The operation of a line. A write has an offset and a count of bytes, which are 0x5A, and 0xFF under the verb `erase`; a
-/// file has a mode and such a count. Attributes have owners 5 and 6 and the times 1 and 2.
+/// The operation of a line. A write has an offset and a count of bytes, which are 0x5A, and 0xFF
+/// under the verb `erase`; a file has a mode and such a count. Attributes have owners 5 and 6 and
+/// the times 1 and 2.
 pub fn op_of<'a>(line: &'a str, by: By) -> Option<Op<'a>> {
     let (verb, path, second, third) = words(line);
     match verb {

@@ -3,7 +3,8 @@
 use flashbase::{DeviceFault, Sink, Source};
 use std::alloc::Global;
 
-/// Keeps what it takes. It fails once after `calls` calls, and at each call that finds `limit` bytes taken.
+/// Keeps what it takes. It fails once after `calls` calls, and at each call that finds `limit`
+/// bytes taken.
 #[derive(Drop)]
 pub struct Taker {
     pub bytes: Vec<u8>,
@@ -34,8 +35,8 @@ impl Taker {
         }
     }
 
-    /// Takes at most `most` bytes a call, and fails once after so many calls: by taking nothing where it is silent, and else by an
-    /// Err.
+    /// Takes at most `most` bytes a call, and fails once after so many calls: by taking nothing
+    /// where it is silent, and else by an Err.
     pub fn failing(alloc: Global, most: usize, calls: usize, is_silent: bool) -> Taker {
         Taker {
             calls,
@@ -125,7 +126,8 @@ impl Sink for Counter {
     }
 }
 
-/// Gives its bytes in pieces. It fails once after `calls` calls, and at each call from `limit` bytes on.
+/// Gives its bytes in pieces. It fails once after `calls` calls, and at each call from `limit`
+/// bytes on.
 #[derive(Drop)]
 pub struct Giver<'a> {
     pub rest: &'a [u8],

@@ -3,7 +3,8 @@
 use jnode::{Dirent, Fill, InodeNode, Order, Part, WriteFault, write_entry, write_inode};
 use std::alloc::{AllocError, Global};
 
-/// Objects, each with its number, version, mode and size, and names, each with its directory, version, number and text.
+/// Objects, each with its number, version, mode and size, and names, each with its directory,
+/// version, number and text.
 #[derive(Clone, Copy)]
 pub struct Tree {
     pub objects: &'static [(u32, u32, u32, u32)],
@@ -22,7 +23,8 @@ pub fn entry(pino: u32, version: u32, ino: u32, name: &[u8]) -> Dirent<'_> {
     }
 }
 
-/// A version of an object whose bytes are all zeros, of owner 3 and group 4 and with the times 1 and 2.
+/// A version of an object whose bytes are all zeros, of owner 3 and group 4 and with the times 1
+/// and 2.
 pub fn object(ino: u32, version: u32, mode: u32, size: u32) -> InodeNode<'static> {
     InodeNode {
         ino,
@@ -135,7 +137,8 @@ fn write_node<E: Order>(
     }
 }
 
-/// The image of these nodes, each filled up to whole words. What is not owned otherwise has these attributes.
+/// The image of these nodes, each filled up to whole words. What is not owned otherwise has these
+/// attributes.
 pub fn image_of_nodes<E: Order>(
     alloc: Global,
     nodes: &[Node<'_>],

@@ -1,7 +1,9 @@
-//! What the tests of several crates share: devices that fail or take little, nodes as raw bytes, and small images.
+//! What the tests of several crates share: devices that fail or take little, nodes as raw bytes,
+//! and small images.
 //!
-//! `devices` keeps the contracts of `flashbase::Source` and `Sink`, so what a test sees of a call over one of them is what
-//! the call's own contract says of it. The bytes in `nodes` are known from outside, and not from a writer of this repository.
+//! `devices` keeps the contracts of `flashbase::Source` and `Sink`, so what a test sees of a call
+//! over one of them is what the call's own contract says of it. The bytes in `nodes` are known from
+//! outside, and not from a writer of this repository.
 #![tactic(auto)]
 
 mod devices;

@@ -33,7 +33,8 @@ pub const INODE_2: [u8; 68] = [
     0x14, 0xd0, 0xc4, 0x71,
 ];
 
-/// The image that a file `/a` of mode 644 makes of an empty flash, in little order: marker, inode node, entry and padding.
+/// The image that a file `/a` of mode 644 makes of an empty flash, in little order: marker, inode
+/// node, entry and padding.
 pub const MADE: [u8; 124] = [
     0x85, 0x19, 0x03, 0x20, 0x0c, 0, 0, 0, 0xb1, 0xb0, 0x1e, 0xe4, // marker
     0x85, 0x19, 0x02, 0xe0, 0x44, 0, 0, 0, 0x1d, 0xfb, 0xf7, 0x98, 2, 0, 0, 0, 1, 0, 0, 0, 0xa4,
@@ -44,8 +45,8 @@ pub const MADE: [u8; 124] = [
     0xff, 0xff, 0xff,
 ];
 
-/// Where the nodes of a file go, and how long they are, that is made on an empty flash, written with ten bytes, cut to four, and
-/// written with one byte at 8.
+/// Where the nodes of a file go, and how long they are, that is made on an empty flash, written
+/// with ten bytes, cut to four, and written with one byte at 8.
 pub const CUT_PLACES: [(u32, u32); 6] = [
     (12, 68),
     (80, 41),

@@ -10,7 +10,9 @@ returns c =
     let build = c.add_subcommand-command-4.ensures _ _ cat c.make_build.ensures in
     let append = c.add_subcommand-command-5.ensures _ _ build c.make_append.ensures in
     let decompress = c.add_subcommand-command-6.ensures _ _ append c.make_decompress.ensures in
-    let extract = c.add_subcommand-command-7.ensures _ _ decompress c.make_extract.ensures in
-    let listing = c.add_subcommand-command-8.ensures _ _ extract c.make_listing.ensures in
-    let info = c.add_subcommand-command-9.ensures _ _ listing c.make_info.ensures in
-    c.add_subcommand.ensures _ _ info c.make_cuts.ensures
+    let compress = c.add_subcommand-command-7.ensures _ _ decompress c.make_compress.ensures in
+    let extract = c.add_subcommand-command-8.ensures _ _ compress c.make_extract.ensures in
+    let listing = c.add_subcommand-command-9.ensures _ _ extract c.make_listing.ensures in
+    let info = c.add_subcommand-command-10.ensures _ _ listing c.make_info.ensures in
+    let cuts = c.add_subcommand-command-11.ensures _ _ info c.make_cuts.ensures in
+    c.add_subcommand.ensures _ _ cuts c.make_diff.ensures

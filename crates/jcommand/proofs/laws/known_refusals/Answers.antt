@@ -71,3 +71,11 @@ returns-clause-not_of_info c = refl
 pub returns-clause-no_flash : goal.returns-clause-no_flash
 unfolding clap_on_literals program parsed parsed_from
 returns-clause-no_flash c = refl
+
+pub returns-clause-not_compressed : goal.returns-clause-not_compressed
+unfolding clap_on_literals program parsed parsed_from
+returns-clause-not_compressed c = refl
+
+pub returns-clause-no_second : goal.returns-clause-no_second
+unfolding clap_on_literals program parsed parsed_from
+returns-clause-no_second c = refl

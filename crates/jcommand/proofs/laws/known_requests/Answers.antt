@@ -63,3 +63,15 @@ returns-clause-cut c = refl
 pub returns-clause-cut_alone : goal.returns-clause-cut_alone
 unfolding clap_on_literals program parsed parsed_from
 returns-clause-cut_alone c = refl
+
+pub returns-clause-compressed : goal.returns-clause-compressed
+unfolding clap_on_literals program parsed parsed_from
+returns-clause-compressed c = refl
+
+pub returns-clause-compared : goal.returns-clause-compared
+unfolding clap_on_literals program parsed parsed_from
+returns-clause-compared c = refl
+
+pub returns-clause-compared_with_times : goal.returns-clause-compared_with_times
+unfolding clap_on_literals program parsed parsed_from
+returns-clause-compared_with_times c = refl

@@ -1,4 +1,4 @@
-use Rattle.std.proofs.Common.{inl, refl, rules, ℕ, List, Ok, Err}
+use Rattle.std.proofs.Common.{inl, inr, refl, rules, ℕ, List, Ok, Err}
 use Rattle.std.specs.Prelude.{◌⊎◌}
 use Rattle.jcommand.specs.Parsed.{IsHelpRequested, IsRefusedByClap, IsUnreadable}
 use Rattle.jcommand.specs.Refused.{IsHelp, IsUsage}
@@ -18,3 +18,15 @@ returns-in-Ok-Image g c = inl (Ok c.in-Ok-Image.request, (search rules, c.in-Ok-
 
 pub returns-in-Err : goal.returns-in-Err
 returns-in-Err g c = inl (Err c.in-Err.fault, refusal _ c.in-Err.fault c.in-Err.ensures.help c.in-Err.ensures.usage, (c.run_image-in-Err.ensures.0, refl, c.run_image-in-Err.ensures.1))
+
+pub returns-in-Ok-Compress : goal.returns-in-Ok-Compress
+returns-in-Ok-Compress g c =
+    inr (inr (inr (inr (inr (inl (
+      refl,
+      record {
+        asked = record { options = c.in-Ok-Compress.asked.options; image = c.in-Ok-Compress.asked.image.now; output = c.in-Ok-Compress.asked.output.now };
+        parsed = search rules;
+        faultless = c.in-Ok-Compress.ensures.faultless;
+        ends = c.run_compress.ensures;
+      },
+    ))))))

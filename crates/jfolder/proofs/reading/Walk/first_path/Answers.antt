@@ -10,7 +10,7 @@ use Rattle.jfolder.proofs.reading.Walk.first_path.Goals as goal
 pub returns-in-Regular-clause-file : goal.returns-in-Regular-clause-file
 returns-in-Regular-clause-file c =
     let found = c.in_ok-item.ensures.lookup in
-    file_of c.args.self.now.items.items c.as_slice.result.now c.in_ok-index.index.now c.in_ok-item.item.now c.in-Regular.field-0 c.as_str.result.now
+    file_of c.args.self.now.items.items c.as_slice.result.now c.in_ok-index.index.now c.in_ok-item.item.now c.in-Regular.file c.as_str.result.now
     c.as_slice.ensures.value (ltb-true _ _ (sym found.0)) found.1 c.in-Regular.is c.as_str.ensures.value
 
 pub returns-in_err-item-clause-every : goal.returns-in_err-item-clause-every

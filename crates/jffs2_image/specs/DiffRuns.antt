@@ -1,0 +1,128 @@
+-- What a run of the program does that tells what the trees of two images differ in.
+use Rattle.std.specs.Prelude.{◌≡◌, ◌⊎◌, ℕ, Bool, List, Option, Some, None, Result, Ok, Err}
+use Rattle.jnode.specs.declared.order.Endian.{Endian}
+use Rattle.jmount.specs.Mount.{Mount}
+use Rattle.jmount.specs.Mounts.{Answers}
+use Rattle.jmount.specs.declared.fault.MountFault.{MountFault}
+use Rattle.jdiff.specs.Differing.{PutsDifferences}
+use Rattle.jreport.specs.Advice.{fault_lines_of}
+use Rattle.jreport.specs.declared.faults.ProgramFault.{ProgramFault}
+use Rattle.jreport.specs.declared.faults.ProgramFault.TheVariants as program
+use Rattle.jcommand.specs.Parsed.{DiffParsed, IsFaultless, parsed_from}
+use Rattle.jcommand.specs.Status.{outcome_of}
+use Rattle.jcommand.specs.declared.parsed.Options.{Options}
+use Rattle.jcommand.specs.declared.outcome.Outcome.{Outcome}
+use Rattle.jcommand.specs.declared.outcome.Outcome.TheVariants as outcome
+use Rattle.jffs2_image.specs.Host.{AreLoaded, ReadsFile}
+use Rattle.jffs2_image.specs.InfoRuns.{FileReads, Passage}
+use Rattle.jffs2_image.specs.Runs.{Finishes, Says, answer_finished}
+use Rattle.jffs2_image.specs.Writes.{IsUnreadFile}
+
+-- how two images are compared
+pub record Comparing : Type 0 where
+  pub options : Options
+  pub times : Bool
+
+-- of two images the first that does not mount, and why
+abbrev pub IsUnmounted : Comparing → List ℕ → List ℕ → MountFault → Type 0
+IsUnmounted by first second fault =
+    Answers by.options.endian by.options.geometry.block first (Err fault)
+    ⊎ ((m : Mount) × Answers by.options.endian by.options.geometry.block first (Ok m)
+    × Answers by.options.endian by.options.geometry.block second (Err fault))
+
+-- the lines on the trees of two mounts are put
+pub record DiffersAsMounts (by : Comparing) (first second : List ℕ) (output : Passage)
+    (result : Result ℕ ProgramFault) : Type 0 where
+  pub left : Mount
+  pub right : Mount
+  pub of_first : Answers by.options.endian by.options.geometry.block first (Ok left)
+  pub of_second : Answers by.options.endian by.options.geometry.block second (Ok right)
+  pub put : PutsDifferences by.times left.state right.state output.old output.new output.before
+      output.now result
+
+-- Both images mount, and the lines on their trees are put, or a beginning of them and why no more
+-- of them are; or one does not mount, and nothing is put.
+abbrev pub DiffersOf : Comparing → List ℕ → List ℕ → Passage → Result ℕ ProgramFault → Type 0
+DiffersOf by first second output result =
+    DiffersAsMounts by first second output result
+    ⊎ ((fault : MountFault) × (result ≡ Err (program.Mount fault))
+    × IsUnmounted by first second fault
+    × (output.new ≡ output.old) × (output.now ≡ output.before))
+
+-- the same, and all that was put is given on
+pub record FinishesDiff (by : Comparing) (first second : List ℕ) (output : Passage)
+    (result : Result ℕ ProgramFault) : Type 0 where
+  pub taken : Option (List ℕ)
+  pub count : ℕ
+  pub answer : Result ℕ ProgramFault
+  pub finished : Bool
+  pub differs : DiffersOf by first second (record {
+    old = output.old;
+    new = taken;
+    before = output.before;
+    now = count;
+  }) answer
+  pub finishes : Finishes taken output.new count output.now finished
+  pub comes_to : result ≡ answer_finished answer finished
+
+-- ---- the files of two names
+
+-- a file is not read to its end, and is blamed for what it did
+pub record IsBlamedFile (file : List ℕ) (reading : FileReads) (fault : ProgramFault) : Type 0 where
+  pub unread : IsUnreadFile file (reading.told file) fault
+  pub reads : ReadsFile {T = ℕ} (reading.told file) reading.before reading.now (Err fault)
+
+-- of two files the first that is not read
+abbrev pub IsFirstUnread : List ℕ → List ℕ → FileReads → ProgramFault → Type 0
+IsFirstUnread first second reading fault =
+    IsBlamedFile first reading fault
+    ⊎ ((bytes : List ℕ) × AreLoaded (reading.told first) bytes
+    × IsBlamedFile second reading fault)
+
+-- both files were read, and their images are compared; no file failed
+pub record DiffersAsFiles (by : Comparing) (first second : List ℕ) (reading : FileReads)
+    (output : Passage) (result : Result ℕ ProgramFault) : Type 0 where
+  pub image : List ℕ
+  pub other : List ℕ
+  pub of_first : AreLoaded (reading.told first) image
+  pub of_second : AreLoaded (reading.told second) other
+  pub differs : FinishesDiff by image other output result
+  pub reads : reading.now ≡ reading.before
+
+-- the same; or one of them can't be read to its end, and `untouched` holds, the output is as it was
+abbrev pub DiffersOfFiles : Comparing → List ℕ → List ℕ → FileReads → Type 0 → Passage
+    → Result ℕ ProgramFault → Type 0
+DiffersOfFiles by first second reading untouched output result =
+    DiffersAsFiles by first second reading output result
+    ⊎ ((fault : ProgramFault) × (result ≡ Err fault)
+    × IsFirstUnread first second reading fault × untouched)
+
+-- ---- the command
+
+abbrev pub said_after_diff : Result ℕ ProgramFault → Option (List ℕ)
+said_after_diff (Ok lines) = None
+said_after_diff (Err fault) = Some (fault_lines_of fault)
+
+-- a line that was put is found
+abbrev pub outcome_of_diff : Result ℕ ProgramFault → Outcome
+outcome_of_diff (Ok lines) = outcome_of lines
+outcome_of_diff (Err fault) = outcome.Fault
+
+-- The trees of the files of two names are compared, and how that ends.
+pub record EndsDiff (by : Comparing) (first second : List ℕ) (reading : FileReads)
+    (untouched : Type 0) (output errors : Passage) (result : Outcome) : Type 0 where
+  pub answer : Result ℕ ProgramFault
+  pub differs : DiffersOfFiles by first second reading untouched output answer
+  pub said : Says ((errors.new ≡ errors.old) × (errors.now ≡ errors.before)) errors.old errors.new
+      errors.before errors.now (said_after_diff answer)
+  pub ends : result ≡ outcome_of_diff answer
+
+-- `diff`, of what is given
+pub record RunsDiff (args : List (List ℕ)) (reading : FileReads) (untouched : Type 0)
+    (output errors : Passage) (result : Outcome) : Type 0 where
+  pub by : Comparing
+  pub first : List ℕ
+  pub second : List ℕ
+  pub parsed : parsed_from args ≡ Some (DiffParsed by.options by.times first second)
+  pub faultless : IsFaultless args
+  pub ends : EndsDiff by first second reading untouched output errors result

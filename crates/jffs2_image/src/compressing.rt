@@ -1,0 +1,282 @@
+//! `compress`: an image of the same nodes, compressed, goes to a file.
+ghost use Rattle.std.specs.Prelude.{◌≡◌, ◌⊎◌, ℕ, List, None, IfOk, IfErr, OnOk, length};
+ghost use Rattle.std.specs.Io.KnownBytes.{Appends};
+ghost use Rattle.jconvert.specs.Converting.{convert_fault};
+ghost use Rattle.jconvert.specs.Compressing.{IsPackedImage};
+ghost use Rattle.jffs2_image.specs.Compressing.{CompressesFile, CompressesNamed, EndsCompression, FinishesCompression, GivesPacked};
+ghost use Rattle.jffs2_image.specs.Decompressing.{HoldsMade, IsNotWritten};
+ghost use Rattle.jffs2_image.specs.Host.{BlamesDecompress, HasFailed, MakesFile};
+ghost use Rattle.jffs2_image.specs.Writes.{IsFaultOfMaking};
+
+use crate::decompressing::conversion_fault;
+use crate::host::{Loader, MakeFault, Maker};
+use crate::output::Output;
+use crate::program::{note, report_fault};
+use crate::writing::load_file;
+use byteorder::{BigEndian, LittleEndian};
+use flashbase::{DeviceFault, Sink};
+use jcommand::{Compression, Options, Outcome};
+use jconvert::{ConvertFault, judge_plain, write_packed};
+use jlog::SessionFault;
+use jnode::{Endian, Order};
+use jreport::{ProgramFault, found_in, put_compressed};
+use jscan::Geometry;
+use std::alloc::Global;
+
+/// Puts out an image of the nodes of one that is not refused, to the last byte. Answers how many of
+/// them are compressed, and its length.
+fn put_packed<E: Order, S: Output>(
+    alloc: Global,
+    image: &[u8],
+    geometry: Geometry,
+    output: &mut S,
+) -> Result<(u64, u64), SessionFault>
+    requires { convert_fault E.order geometry.block image.now ≡ None }
+    ensures given { IfOk result (λ done. (out : List ℕ)
+        × IsPackedImage E.order geometry.block image.now out done.0 × (done.1 ≡ length out)
+        × Appends (S.taken output.old) (S.given output.new) out) }
+    ensures count { OnOk result (S.failures output.new ≡ S.failures output.old) }
+    ensures part { IfErr result (λ _. GivesPacked E.order geometry.block image.now
+        (S.taken output.old) (S.given output.new)) }
+    ensures fault { IfErr result IsFaultOfMaking }
+    ensures failed { IfErr result (λ fault. fault ≡ SessionFault.Sink
+        → HasFailed (S.failures output.old) (S.failures output.new)) }
+{
+    let put = write_packed::<E, S>(alloc, image, geometry, output);
+    let finished = output.finish();
+    match (put, finished) {
+        (Ok(done), Ok(())) => Ok(done),
+        (Err(ConvertFault::OutOfMemory), _) => Err(SessionFault::OutOfMemory),
+        _ => Err(SessionFault::Sink),
+    }
+}
+
+/// Makes the file, and puts such an image out to it.
+fn make_packed<'a, E: Order, M: Maker>(
+    alloc: Global,
+    maker: &mut M,
+    image: &[u8],
+    geometry: Geometry,
+    name: &'a str,
+) -> Result<(u64, u64), ProgramFault<'a>>
+    requires { convert_fault E.order geometry.block image.now ≡ None }
+    ensures made { IfOk result (λ done. (out : List ℕ)
+        × IsPackedImage E.order geometry.block image.now out done.0 × (done.1 ≡ length out)
+        × HoldsMade (M.held maker.old, M.held maker.new) out) }
+    ensures fault { IfErr result (λ fault. (out : List ℕ) × (changed : ℕ)
+        × IsPackedImage E.order geometry.block image.now out changed
+        × IsNotWritten (M.held maker.old, M.held maker.new) name.entry.now out fault) }
+    ensures host { (read : ℕ) → BlamesDecompress (maker.new ≡ maker.old)
+        (MakesFile name.entry.now (M.names maker.old) (M.names maker.new))
+        read read (M.failures maker.old) (M.failures maker.new) result }
+{
+    let mut output = match maker.make(name) {
+        Ok(output) => output,
+        Err(MakeFault::NotMade) => return Err(ProgramFault::File(name)),
+        Err(MakeFault::OutOfMemory) => return Err(ProgramFault::OutOfMemory),
+    };
+    let answer = put_packed::<E, M::Made>(alloc, image, geometry, &mut output);
+    maker.take_back(output);
+    match answer {
+        Ok(done) => Ok(done),
+        Err(fault) => Err(ProgramFault::from(fault)),
+    }
+}
+
+/// An image of the nodes of one goes to a file of this name, which is made only after all was
+/// judged that can be before a byte is written, and is told in a line. Answers how many findings of
+/// the image to note.
+pub fn compress_into<'a, E: Order, M: Maker, T: Sink>(
+    alloc: Global,
+    maker: &mut M,
+    image: &[u8],
+    geometry: Geometry,
+    name: &'a str,
+    sink: &mut T,
+) -> Result<u64, ProgramFault<'a>>
+    ensures compresses { CompressesFile (M.held maker.old, M.held maker.new) E.order
+        geometry.block name.entry.now image.now (record {
+          old = T.taken sink.old;
+          new = T.taken sink.new;
+          before = T.failures sink.old;
+          now = T.failures sink.new;
+        }) result }
+    ensures host { (read : ℕ) → BlamesDecompress (maker.new ≡ maker.old)
+        (MakesFile name.entry.now (M.names maker.old) (M.names maker.new))
+        read read (M.failures maker.old) (M.failures maker.new) result }
+{
+    let nodes = match judge_plain::<E>(alloc, image, geometry) {
+        Ok(nodes) => nodes,
+        Err(fault) => return Err(conversion_fault(fault)),
+    };
+    let (changed, bytes) = match make_packed::<E, M>(alloc, maker, image, geometry, name) {
+        Ok(done) => done,
+        Err(fault) => return Err(fault),
+    };
+    match put_compressed(changed, nodes, bytes, sink) {
+        Ok(()) => Ok(found_in::<E>(image, geometry).noted),
+        Err(DeviceFault) => Err(ProgramFault::Output),
+    }
+}
+
+/// The same of the file of a name.
+pub fn compress_file<'a, E: Order, L: Loader, M: Maker, T: Sink>(
+    alloc: Global,
+    loader: &mut L,
+    maker: &mut M,
+    options: Options,
+    image: &'a str,
+    output: &'a str,
+    sink: &mut T,
+) -> Result<u64, ProgramFault<'a>>
+    ensures compresses { CompressesNamed (M.held maker.old, M.held maker.new) E.order
+        (record {
+          options = options;
+          image = image.entry.now;
+          output = output.entry.now;
+        }) (L.told loader.old image.entry.now) (record {
+          old = T.taken sink.old;
+          new = T.taken sink.new;
+          before = T.failures sink.old;
+          now = T.failures sink.new;
+        }) result }
+    ensures host { BlamesDecompress (maker.new ≡ maker.old)
+        (MakesFile output.entry.now (M.names maker.old) (M.names maker.new))
+        (L.failures loader.old) (L.failures loader.new)
+        (M.failures maker.old) (M.failures maker.new) result }
+{
+    let bytes = match load_file(loader, image) {
+        Ok(bytes) => bytes,
+        Err(fault) => return Err(fault),
+    };
+    compress_into::<E, M, T>(
+        alloc,
+        maker,
+        bytes.as_slice(),
+        options.geometry,
+        output,
+        sink,
+    )
+}
+
+/// The same in the byte order that is asked for.
+fn compress_in_order<'a, L: Loader, M: Maker, T: Sink>(
+    alloc: Global,
+    loader: &mut L,
+    maker: &mut M,
+    options: Options,
+    image: &'a str,
+    output: &'a str,
+    sink: &mut T,
+) -> Result<u64, ProgramFault<'a>>
+    ensures compresses { CompressesNamed (M.held maker.old, M.held maker.new) options.endian
+        (record {
+          options = options;
+          image = image.entry.now;
+          output = output.entry.now;
+        }) (L.told loader.old image.entry.now) (record {
+          old = T.taken sink.old;
+          new = T.taken sink.new;
+          before = T.failures sink.old;
+          now = T.failures sink.new;
+        }) result }
+    ensures host { BlamesDecompress (maker.new ≡ maker.old)
+        (MakesFile output.entry.now (M.names maker.old) (M.names maker.new))
+        (L.failures loader.old) (L.failures loader.new)
+        (M.failures maker.old) (M.failures maker.new) result }
+{
+    match options.endian {
+        Endian::Little => compress_file::<LittleEndian, L, M, T>(
+            alloc, loader, maker, options, image, output, sink,
+        ),
+        Endian::Big => compress_file::<BigEndian, L, M, T>(
+            alloc, loader, maker, options, image, output, sink,
+        ),
+    }
+}
+
+/// The same to the last byte of what is told.
+fn compress_whole<'a, L: Loader, M: Maker, T: Output>(
+    alloc: Global,
+    loader: &mut L,
+    maker: &mut M,
+    options: Options,
+    image: &'a str,
+    made: &'a str,
+    output: &mut T,
+) -> Result<u64, ProgramFault<'a>>
+    ensures { FinishesCompression (record {
+      options = options;
+      image = image.entry.now;
+      output = made.entry.now;
+    }) (record {
+      told = L.told loader.old;
+      before = L.failures loader.old;
+      now = L.failures loader.new;
+    }) (record {
+      names_old = M.names maker.old;
+      names_new = M.names maker.new;
+      held = (M.held maker.old, M.held maker.new);
+      before = M.failures maker.old;
+      now = M.failures maker.new;
+    }) (maker.new ≡ maker.old) (record {
+      old = T.taken output.old;
+      new = T.given output.new;
+      before = T.failures output.old;
+      now = T.failures output.new;
+    }) result }
+{
+    let answer = compress_in_order(alloc, loader, maker, options, image, made, output);
+    let finished = output.finish();
+    let findings = answer?;
+    match finished {
+        Ok(()) => Ok(findings),
+        Err(_) => Err(ProgramFault::Output),
+    }
+}
+
+/// `compress` as a command.
+pub fn run_compress<L: Loader, M: Maker, T: Output, E: Sink>(
+    alloc: Global,
+    loader: &mut L,
+    maker: &mut M,
+    asked: Compression<'_>,
+    output: &mut T,
+    errors: &mut E,
+) -> Outcome
+    ensures { EndsCompression (record {
+      options = asked.entry.options;
+      image = asked.entry.image.now;
+      output = asked.entry.output.now;
+    }) (record {
+      told = L.told loader.old;
+      before = L.failures loader.old;
+      now = L.failures loader.new;
+    }) (record {
+      names_old = M.names maker.old;
+      names_new = M.names maker.new;
+      held = (M.held maker.old, M.held maker.new);
+      before = M.failures maker.old;
+      now = M.failures maker.new;
+    }) (maker.new ≡ maker.old) (record {
+      old = T.taken output.old;
+      new = T.given output.new;
+      before = T.failures output.old;
+      now = T.failures output.new;
+    }) (record {
+      old = E.taken errors.old;
+      new = E.taken errors.new;
+      before = E.failures errors.old;
+      now = E.failures errors.new;
+    }) result }
+{
+    let Compression {
+        options,
+        image,
+        output: made,
+    } = asked;
+    match compress_whole(alloc, loader, maker, options, image, made, output) {
+        Ok(findings) => note(findings, errors),
+        Err(fault) => report_fault(&fault, errors),
+    }
+}

@@ -1,0 +1,162 @@
+//! `diff`: what the trees of two images differ in.
+ghost use Rattle.std.specs.Prelude.{◌≡◌, ◌≤◌, length};
+ghost use Rattle.jscan.specs.Image.{greatest_image};
+ghost use Rattle.jffs2_image.specs.DiffRuns.{DiffersOf, DiffersOfFiles, EndsDiff, FinishesDiff};
+
+use crate::host::Loader;
+use crate::output::Output;
+use crate::program::report_fault;
+use crate::writing::load_file;
+use byteorder::{BigEndian, LittleEndian};
+use flashbase::Sink;
+use jcommand::{Comparison, Options, Outcome};
+use jdiff::put_differences;
+use jmount::mount;
+use jnode::{Endian, Order};
+use jreport::ProgramFault;
+use std::alloc::Global;
+
+/// Mounts two images, and puts the lines on their trees. Answers how many there are, or the
+/// greatest u64.
+fn put_lines<E: Order, T: Sink>(
+    alloc: Global,
+    options: Options,
+    times: bool,
+    first: &[u8],
+    second: &[u8],
+    sink: &mut T,
+) -> Result<u64, ProgramFault<'static>>
+    requires { options.endian ≡ E.order }
+    ensures { DiffersOf (record { options = options; times = times }) first.now second.now (record {
+      old = T.taken sink.old;
+      new = T.taken sink.new;
+      before = T.failures sink.old;
+      now = T.failures sink.new;
+    }) result }
+{
+    let left = mount::<E>(alloc, first, options.geometry)?;
+    let right = mount::<E>(alloc, second, options.geometry)?;
+    put_differences(alloc, &left, &right, times, sink)
+}
+
+/// The same in the byte order that is given.
+fn put_in_order<T: Sink>(
+    alloc: Global,
+    options: Options,
+    times: bool,
+    first: &[u8],
+    second: &[u8],
+    sink: &mut T,
+) -> Result<u64, ProgramFault<'static>>
+    ensures { DiffersOf (record { options = options; times = times }) first.now second.now (record {
+      old = T.taken sink.old;
+      new = T.taken sink.new;
+      before = T.failures sink.old;
+      now = T.failures sink.new;
+    }) result }
+{
+    match options.endian {
+        Endian::Little => put_lines::<LittleEndian, T>(alloc, options, times, first, second, sink),
+        Endian::Big => put_lines::<BigEndian, T>(alloc, options, times, first, second, sink),
+    }
+}
+
+/// The same to the last byte. What was put goes out, also before a fault.
+fn put_whole<T: Output>(
+    alloc: Global,
+    options: Options,
+    times: bool,
+    first: &[u8],
+    second: &[u8],
+    output: &mut T,
+) -> Result<u64, ProgramFault<'static>>
+    ensures { FinishesDiff (record { options = options; times = times }) first.now second.now
+        (record {
+          old = T.taken output.old;
+          new = T.given output.new;
+          before = T.failures output.old;
+          now = T.failures output.new;
+        }) result }
+{
+    let answer = put_in_order(alloc, options, times, first, second, output);
+    let finished = output.finish();
+    let lines = answer?;
+    match finished {
+        Ok(()) => Ok(lines),
+        Err(_) => Err(ProgramFault::Output),
+    }
+}
+
+/// The same of the files of two names.
+fn compare_files<'a, L: Loader, T: Output>(
+    alloc: Global,
+    loader: &mut L,
+    asked: Comparison<'a>,
+    output: &mut T,
+) -> Result<u64, ProgramFault<'a>>
+    ensures { DiffersOfFiles
+        (record { options = asked.entry.options; times = asked.entry.times })
+        asked.entry.first.now asked.entry.second.now
+        (record {
+          told = L.told loader.old;
+          before = L.failures loader.old;
+          now = L.failures loader.new;
+        }) (output.new ≡ output.old)
+        (record {
+          old = T.taken output.old;
+          new = T.given output.new;
+          before = T.failures output.old;
+          now = T.failures output.new;
+        }) result }
+{
+    let first = match load_file(loader, asked.first) {
+        Ok(image) => image,
+        Err(fault) => return Err(fault),
+    };
+    let second = match load_file(loader, asked.second) {
+        Ok(image) => image,
+        Err(fault) => return Err(fault),
+    };
+    put_whole(
+        alloc,
+        asked.options,
+        asked.times,
+        first.as_slice(),
+        second.as_slice(),
+        output,
+    )
+}
+
+/// `diff` as a command: a line that was put is found.
+pub fn run_diff<L: Loader, T: Output, E: Sink>(
+    alloc: Global,
+    loader: &mut L,
+    asked: Comparison<'_>,
+    output: &mut T,
+    errors: &mut E,
+) -> Outcome
+    ensures { EndsDiff (record { options = asked.entry.options; times = asked.entry.times })
+        asked.entry.first.now asked.entry.second.now
+        (record {
+          told = L.told loader.old;
+          before = L.failures loader.old;
+          now = L.failures loader.new;
+        }) (output.new ≡ output.old)
+        (record {
+          old = T.taken output.old;
+          new = T.given output.new;
+          before = T.failures output.old;
+          now = T.failures output.new;
+        })
+        (record {
+          old = E.taken errors.old;
+          new = E.taken errors.new;
+          before = E.failures errors.old;
+          now = E.failures errors.new;
+        }) result }
+{
+    match compare_files(alloc, loader, asked, output) {
+        Ok(lines) => Outcome::of(lines),
+        Err(fault) => report_fault(&fault, errors),
+    }
+}

@@ -1,0 +1,255 @@
+//! The commands that look at an image alone: `check --scan`, `check`, `ls`, `cat`. Each opens the
+//! file, lets `jreport` do the work, and closes it.
+
+ghost use Rattle.std.specs.Prelude.{◌≡◌, true, IfErr, IfOk, None, Some, option_map};
+ghost use Rattle.flashbase.specs.Device.{CountsErr};
+ghost use Rattle.jcommand.specs.Parsed.{ScanParsed, CheckParsed, ListParsed, CatParsed};
+ghost use Rattle.jffs2_image.specs.Host.{GivesFile, ReadsFile};
+ghost use Rattle.jffs2_image.specs.Runs.{Meets};
+
+use crate::decompressing::take_file;
+use crate::host::Loader;
+use flashbase::Sink;
+use jcommand::Options;
+use jnode::Order;
+use jreport::{
+    ProgramFault, check_lines, file_bytes, image_file, image_tree, list_lines, path_word,
+    stream_lines,
+};
+use std::alloc::Global;
+
+/// The file of an image.
+fn open<'a, L: Loader>(loader: &mut L, image: &'a str) -> Result<L::Opened, ProgramFault<'a>>
+    ensures fault { IfErr result (λ fault. fault ≡ ProgramFault.File image.entry) }
+    ensures opened { IfOk result
+        (λ source. GivesFile (L.told loader.old image.entry.now) (L.Opened.rest source)) }
+    ensures counting { IfOk result (λ source. L.Opened.failures source ≡ L.failures loader.old) }
+    ensures count { CountsErr (L.failures loader.old) (L.failures loader.new) result }
+{
+    match loader.open(image) {
+        Ok(source) => Ok(source),
+        Err(_) => Err(ProgramFault::File(image)),
+    }
+}
+
+/// `check --scan`: answers how much was found.
+pub(crate) fn scan<'a, E: Order, L: Loader, T: Sink>(
+    alloc: Global,
+    loader: &mut L,
+    options: Options,
+    image: &'a str,
+    sink: &mut T,
+) -> Result<u64, ProgramFault<'a>>
+    ensures meets { Meets (L.told loader.old) (None, None) E.order (ScanParsed options image.now)
+        (T.taken sink.old) (T.taken sink.new) (T.failures sink.old) (T.failures sink.new) result }
+    ensures host { ReadsFile (L.told loader.old image.now) (L.failures loader.old)
+        (L.failures loader.new) result }
+{
+    let source = open(loader, image)?;
+    let (answer, read) = stream_lines::<E, _, _>(alloc, source, options.geometry, sink);
+    if let Some(source) = read {
+        loader.close(source);
+    }
+    answer
+}
+
+/// `check`: answers whether anything was found, as a number.
+pub(crate) fn check<'a, E: Order, L: Loader, T: Sink>(
+    alloc: Global,
+    loader: &mut L,
+    options: Options,
+    shape: bool,
+    image: &'a str,
+    sink: &mut T,
+) -> Result<u64, ProgramFault<'a>>
+    ensures meets { Meets (L.told loader.old) (None, None) E.order
+        (CheckParsed options shape image.now) (T.taken sink.old) (T.taken sink.new)
+        (T.failures sink.old) (T.failures sink.new) result }
+    ensures host { ReadsFile (L.told loader.old image.now) (L.failures loader.old)
+        (L.failures loader.new) result }
+{
+    let mut source = open(loader, image)?;
+    let answer = check_lines::<E, _, _>(alloc, &mut source, options.geometry, shape, sink);
+    loader.close(source);
+    Ok(u64::from(answer?))
+}
+
+/// `ls --decompress`: answers how many findings of the image that was read to note.
+fn list_decompressed<'a, E: Order, L: Loader, T: Sink>(
+    alloc: Global,
+    loader: &mut L,
+    options: Options,
+    image: &'a str,
+    sink: &mut T,
+) -> Result<u64, ProgramFault<'a>>
+    ensures meets { Meets (L.told loader.old) (None, None) E.order
+        (ListParsed options true image.now None) (T.taken sink.old) (T.taken sink.new)
+        (T.failures sink.old) (T.failures sink.new) result }
+    ensures host { ReadsFile (L.told loader.old image.now) (L.failures loader.old)
+        (L.failures loader.new) result }
+{
+    let taken = match take_file::<E, L>(alloc, loader, options.geometry, image) {
+        Ok(taken) => taken,
+        Err(fault) => return Err(fault),
+    };
+    match image_tree::<E, T>(alloc, taken.image.as_slice(), options.geometry, None, sink) {
+        Ok(_) => Ok(taken.found.noted),
+        Err(fault) => Err(fault),
+    }
+}
+
+/// `ls` of the whole tree: answers how many findings to note.
+fn list_whole<'a, E: Order, L: Loader, T: Sink>(
+    alloc: Global,
+    loader: &mut L,
+    options: Options,
+    decompress: bool,
+    image: &'a str,
+    sink: &mut T,
+) -> Result<u64, ProgramFault<'a>>
+    ensures meets { Meets (L.told loader.old) (None, None) E.order
+        (ListParsed options decompress image.now None) (T.taken sink.old) (T.taken sink.new)
+        (T.failures sink.old) (T.failures sink.new) result }
+    ensures host { ReadsFile (L.told loader.old image.now) (L.failures loader.old)
+        (L.failures loader.new) result }
+{
+    if decompress {
+        return list_decompressed::<E, L, T>(alloc, loader, options, image, sink);
+    }
+    let mut source = open(loader, image)?;
+    let answer = list_lines::<E, _, _>(alloc, &mut source, options.geometry, None, sink);
+    loader.close(source);
+    answer
+}
+
+/// `ls --decompress` of a path, whose word is judged before the image is opened.
+fn part_decompressed<'a, E: Order, L: Loader, T: Sink>(
+    alloc: Global,
+    loader: &mut L,
+    options: Options,
+    image: &'a str,
+    path: &str,
+    sink: &mut T,
+) -> Result<u64, ProgramFault<'a>>
+    ensures meets { Meets (L.told loader.old) (None, None) E.order
+        (ListParsed options true image.now (Some path.now)) (T.taken sink.old) (T.taken sink.new)
+        (T.failures sink.old) (T.failures sink.new) result }
+    ensures host { ReadsFile (L.told loader.old image.now) (L.failures loader.old)
+        (L.failures loader.new) result }
+{
+    let path = path_word(alloc, path.as_bytes())?;
+    let taken = match take_file::<E, L>(alloc, loader, options.geometry, image) {
+        Ok(taken) => taken,
+        Err(fault) => return Err(fault),
+    };
+    let bytes = taken.image.as_slice();
+    match image_tree::<E, T>(alloc, bytes, options.geometry, Some(path.as_slice()), sink) {
+        Ok(_) => Ok(taken.found.noted),
+        Err(fault) => Err(fault),
+    }
+}
+
+/// `ls` of a path, whose word is judged before the image is opened.
+fn list_part<'a, E: Order, L: Loader, T: Sink>(
+    alloc: Global,
+    loader: &mut L,
+    options: Options,
+    decompress: bool,
+    image: &'a str,
+    path: &str,
+    sink: &mut T,
+) -> Result<u64, ProgramFault<'a>>
+    ensures meets { Meets (L.told loader.old) (None, None) E.order
+        (ListParsed options decompress image.now (Some path.now)) (T.taken sink.old)
+        (T.taken sink.new) (T.failures sink.old) (T.failures sink.new) result }
+    ensures host { ReadsFile (L.told loader.old image.now) (L.failures loader.old)
+        (L.failures loader.new) result }
+{
+    if decompress {
+        return part_decompressed::<E, L, T>(alloc, loader, options, image, path, sink);
+    }
+    let path = path_word(alloc, path.as_bytes())?;
+    let mut source = open(loader, image)?;
+    let part = Some(path.as_slice());
+    let answer = list_lines::<E, _, _>(alloc, &mut source, options.geometry, part, sink);
+    loader.close(source);
+    answer
+}
+
+/// `ls`: answers how many findings to note.
+pub(crate) fn list<'a, E: Order, L: Loader, T: Sink>(
+    alloc: Global,
+    loader: &mut L,
+    options: Options,
+    decompress: bool,
+    image: &'a str,
+    path: Option<&str>,
+    sink: &mut T,
+) -> Result<u64, ProgramFault<'a>>
+    ensures meets { Meets (L.told loader.old) (None, None) E.order
+        (ListParsed options decompress image.now (option_map (λ p. p.now) path.entry))
+        (T.taken sink.old) (T.taken sink.new) (T.failures sink.old) (T.failures sink.new) result }
+    ensures host { ReadsFile (L.told loader.old image.now) (L.failures loader.old)
+        (L.failures loader.new) result }
+{
+    match path {
+        Some(path) => {
+            list_part::<E, L, T>(alloc, loader, options, decompress, image, path, sink)
+        }
+        None => list_whole::<E, L, T>(alloc, loader, options, decompress, image, sink),
+    }
+}
+
+/// `cat --decompress`: answers how many findings of the image that was read to note. The word of
+/// the path is judged before the image is opened.
+fn cat_decompressed<'a, E: Order, L: Loader, T: Sink>(
+    alloc: Global,
+    loader: &mut L,
+    options: Options,
+    image: &'a str,
+    path: &str,
+    sink: &mut T,
+) -> Result<u64, ProgramFault<'a>>
+    ensures meets { Meets (L.told loader.old) (None, None) E.order
+        (CatParsed options true image.now path.now) (T.taken sink.old) (T.taken sink.new)
+        (T.failures sink.old) (T.failures sink.new) result }
+    ensures host { ReadsFile (L.told loader.old image.now) (L.failures loader.old)
+        (L.failures loader.new) result }
+{
+    let path = path_word(alloc, path.as_bytes())?;
+    let taken = match take_file::<E, L>(alloc, loader, options.geometry, image) {
+        Ok(taken) => taken,
+        Err(fault) => return Err(fault),
+    };
+    match image_file::<E, T>(alloc, taken.image.as_slice(), options.geometry, &path, sink) {
+        Ok(_) => Ok(taken.found.noted),
+        Err(fault) => Err(fault),
+    }
+}
+
+/// `cat`: answers how many findings to note. The word of the path is judged before the image is
+/// opened.
+pub(crate) fn cat<'a, E: Order, L: Loader, T: Sink>(
+    alloc: Global,
+    loader: &mut L,
+    options: Options,
+    decompress: bool,
+    image: &'a str,
+    path: &str,
+    sink: &mut T,
+) -> Result<u64, ProgramFault<'a>>
+    ensures meets { Meets (L.told loader.old) (None, None) E.order
+        (CatParsed options decompress image.now path.now) (T.taken sink.old) (T.taken sink.new)
+        (T.failures sink.old) (T.failures sink.new) result }
+    ensures host { ReadsFile (L.told loader.old image.now) (L.failures loader.old)
+        (L.failures loader.new) result }
+{
+    if decompress {
+        return cat_decompressed::<E, L, T>(alloc, loader, options, image, path, sink);
+    }
+    let path = path_word(alloc, path.as_bytes())?;
+    let mut source = open(loader, image)?;
+    let answer = file_bytes::<E, _, _>(alloc, &mut source, options.geometry, &path, sink);
+    loader.close(source);
+    answer
+}

@@ -1,0 +1,42 @@
+-- The operations of a tree's listing are updates.
+use Rattle.std.proofs.Common.{List, [], ◌∷◌, ◌++◌, ℕ, sym, subst}
+use Rattle.std.specs.List.{AllByRecursion, flat_map}
+use Rattle.std.specs.String.{string_bytes}
+use Rattle.jsteps.specs.declared.op.Op.{Op}
+use Rattle.jfolder.specs.Actions.{actions_of, item_actions, object_actions}
+use Rattle.jfolder.specs.declared.tree.Attributes.{Attributes}
+use Rattle.jfolder.specs.declared.tree.Item.{Item}
+use Rattle.jfolder.specs.declared.tree.What.{What}
+use Rattle.jfolder.specs.declared.tree.What.TheVariants as what
+use Rattle.jtree.specs.Making.{Files, ops_with}
+use Rattle.jtree.specs.Updates as law
+use Rattle.jtree.specs.Updates.{IsUpdate}
+use Rattle.jtree.proofs.TreeLemmas.{lines_ops}
+use Rattle.jtree.proofs.WholeLemmas.{ops_append}
+
+updates_append : (xs ys : List Op) → AllByRecursion IsUpdate xs → AllByRecursion IsUpdate ys → AllByRecursion IsUpdate (xs ++ ys)
+updates_append [] ys front back = back
+updates_append (x ∷ xs) ys front back = (front.0, updates_append xs ys front.1 back)
+
+object_updates : (files : Files) (path : List ℕ) (a : Attributes) (w : What) → AllByRecursion IsUpdate (ops_with files (object_actions path a w))
+object_updates files path a what.Directory = (tt, tt)
+object_updates files path a (what.Regular file) = (tt, tt)
+object_updates files path a what.Fifo = (tt, tt)
+object_updates files path a what.Socket = (tt, tt)
+object_updates files path a (what.Symlink target) = (tt, tt)
+object_updates files path a (what.Link first) = (tt, tt)
+
+items_updates : (files : Files) (items : List Item) → AllByRecursion IsUpdate (ops_with files (flat_map item_actions items))
+items_updates files [] = tt
+items_updates files (i ∷ items) =
+    subst (AllByRecursion IsUpdate) (sym (ops_append files (item_actions i) (flat_map item_actions items)))
+    (updates_append (ops_with files (item_actions i)) (ops_with files (flat_map item_actions items))
+    (object_updates files (string_bytes i.path) i.attributes i.what) (items_updates files items))
+
+all_updates : (files : Files) (root : Attributes) (items : List Item) → AllByRecursion IsUpdate (ops_with files (actions_of root items))
+unfolding actions_of
+all_updates files root items = (tt, items_updates files items)
+
+pub listing_is_update : law.ListingIsUpdate
+listing_is_update files root items lines fits is =
+    subst (AllByRecursion IsUpdate) (sym (lines_ops files root items lines fits is)) (all_updates files root items)
