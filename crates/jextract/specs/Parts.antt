@@ -1,10 +1,11 @@
 -- A part of a file system: what a path names and what lies below it, by the paths of the whole.
-use Rattle.std.specs.Prelude.{ℕ, map, ◌==◌, ◌&&◌, ◌||◌, not, bytes_eq, Bool, List, [], ◌∷◌, filter, Option, Some, None, if◌then◌else◌}
+use Rattle.std.specs.Prelude.{◌≡◌, ℕ, map, ◌==◌, ◌&&◌, ◌||◌, not, bytes_eq, Bool, List, [], ◌∷◌, filter, Option, Some, None, Ok, if◌then◌else◌}
 use Rattle.std.specs.List.{list_any}
 use Rattle.std.specs.FinMap.{FinMap, entries, from_sorted}
 use Rattle.jname.specs.Live.{Key, key_cmp}
 use denote.Ref.{Bor}
 use Rattle.jmount.specs.Tree.{State, named, is_directory}
+use Rattle.jmount.specs.Find.{find, path_names}
 
 -- the file system with other names
 abbrev pub with_names : State → FinMap key_cmp ℕ → State
@@ -39,18 +40,23 @@ part_along way s =
 abbrev pub part_alone : List ℕ → ℕ → State → State
 part_alone name i s = with_names s (from_sorted (((1, name), i) ∷ []))
 
--- the last of these names
-abbrev pub last_name : List (List ℕ) → List ℕ
-last_name [] = []
-last_name (name ∷ []) = name
-last_name (name ∷ other ∷ names) = last_name (other ∷ names)
+-- the last of these names, of which `name` is the first
+abbrev pub end_name : List ℕ → List (List ℕ) → List ℕ
+end_name name [] = name
+end_name name (other ∷ names) = end_name other names
 
--- the part of a file system that these names lead to: a directory on its way, and any other object
--- by its last name
+-- the part that names lead to, where they lead from the root to this object: of no names the whole,
+-- a directory on its way, and any other object by its last name
 abbrev pub part_at : List (List ℕ) → ℕ → State → State
-part_at names i s =
-    if is_directory s i then part_along (way_from s (Some 1) names) s
-    else part_alone (last_name names) i s
+part_at [] i s = s
+part_at (name ∷ names) i s =
+    if is_directory s i then part_along (way_from s (Some 1) (name ∷ names)) s
+    else part_alone (end_name name names) i s
+
+-- the part that a path names
+abbrev pub IsPartAt : State → List ℕ → State → Type 0
+IsPartAt s path part = (names : List (List ℕ)) × (i : ℕ) × (path_names path ≡ Some names)
+    × (find s path ≡ Ok i) × (part ≡ part_at names i s)
 
 -- the way as the program has it
 abbrev pub keys_of : List (ℕ × Bor (List ℕ)) → List Key

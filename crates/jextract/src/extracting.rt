@@ -26,7 +26,7 @@ use std::alloc::Global;
 use std::collections::BTreeMap;
 use std::mem;
 
-const ROOT: u32 = 1;
+pub(crate) const ROOT: u32 = 1;
 
 impl Totals {
     fn none() -> Totals
@@ -103,7 +103,7 @@ fn is_in_part(way: &[(u32, &[u8])], dir: u32, name: &[u8]) -> bool
 }
 
 /// Whether this number is that of a directory.
-fn is_directory(mounted: &Mounted<'_>, ino: u32) -> bool
+pub(crate) fn is_directory(mounted: &Mounted<'_>, ino: u32) -> bool
     ensures { result ≡ tree.is_directory mounted.now.state ino }
 {
     match mounted.object(ino) {

@@ -28,6 +28,6 @@ mod totals;
 pub use crate::extracting::{extract, extract_part};
 pub use crate::fault::ExtractFault;
 pub use crate::folder::{Attributes, FilledFile, Folder, FolderFault, Owner};
-pub use crate::parts::Part;
+pub use crate::parts::{Part, PartFault, part_at};
 pub use crate::reason::Reason;
 pub use crate::totals::Totals;
