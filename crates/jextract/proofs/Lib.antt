@@ -10,3 +10,4 @@ pub mod PartLemmas
 pub mod PathLemmas
 pub mod StepLemmas
 pub mod WalkLemmas
+pub mod WayLemmas

@@ -58,6 +58,11 @@ abbrev pub IsPartAt : State → List ℕ → State → Type 0
 IsPartAt s path part = (names : List (List ℕ)) × (i : ℕ) × (path_names path ≡ Some names)
     × (find s path ≡ Ok i) × (part ≡ part_at names i s)
 
+-- the part that is asked for: that of a path, where one is given, and else the whole
+abbrev pub IsPartAsked : State → Option (List ℕ) → State → Type 0
+IsPartAsked s None part = part ≡ s
+IsPartAsked s (Some path) part = IsPartAt s path part
+
 -- the way as the program has it
 abbrev pub keys_of : List (ℕ × Bor (List ℕ)) → List Key
 keys_of way = map (λ key. (key.0, key.1.now)) way

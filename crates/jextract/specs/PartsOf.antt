@@ -3,7 +3,7 @@ use Rattle.std.specs.Prelude.{◌≡◌, ℕ, false, List, [], ◌∷◌, map, S
 use Rattle.jname.specs.Live.{Key}
 use Rattle.jmount.specs.Tree.{State, is_directory}
 use Rattle.jmount.specs.Find.{find, path_names}
-use Rattle.jextract.specs.Parts.{keys_of, end_name, part_along, part_alone, way_from}
+use Rattle.jextract.specs.Parts.{IsPartAt, keys_of, end_name, part_along, part_alone, way_from}
 use Rattle.jextract.specs.declared.parts.Part.{Part}
 use Rattle.jextract.specs.declared.parts.Part.TheVariants as part
 use Rattle.jextract.specs.declared.parts.PartFault.{PartFault}
@@ -18,10 +18,10 @@ abbrev pub IsPart : State → Part → Type 0
 IsPart s (part.Along way) = Unit {0}
 IsPart s (part.Alone name ino) = is_directory s ino ≡ false
 
--- no part is made of a path that names nothing, or where memory runs out
+-- a path names nothing; or it names a part, and memory runs out
 abbrev pub IsPartFault : State → List ℕ → PartFault → Type 0
 IsPartFault s path (Path fault) = find s path ≡ Err fault
-IsPartFault s path OutOfMemory = Unit {0}
+IsPartFault s path OutOfMemory = (part : State) × IsPartAt s path part
 
 -- the way that a path leads, if it is one
 abbrev pub IsWayTo : State → List ℕ → List Key → Type 0

@@ -72,10 +72,13 @@ fn way_to<'p>(
 ) -> Result<Vec<(u32, &'p [u8])>, AllocError>
     ensures { IfOk result (λ way. IsWayTo mounted.now.state path.now (keys_of way.items)) }
 {
-    match after_slash(path) {
-        Some(names) if !names.is_empty() => way_along(alloc, mounted, names),
-        _ => Ok(Vec::new(alloc)),
+    let Some(names) = after_slash(path) else {
+        return Ok(Vec::new(alloc));
+    };
+    if names.is_empty() {
+        return Ok(Vec::new(alloc));
     }
+    way_along(alloc, mounted, names)
 }
 
 /// The part at the end of a way.
