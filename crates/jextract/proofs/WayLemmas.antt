@@ -81,10 +81,8 @@ names_after_some b bytes = refl
 
 names_stop : (s : State) (names : List (List ℕ)) (here : Option ℕ) (i : ℕ) → walk s names (step_to s here) ≡ Ok i
     → ((j : ℕ) → walk s names (Ok j) ≡ Ok i → map (λ k. k.1) (way_from s (Some j) names) ≡ names) → map (λ k. k.1) (way_from s here names) ≡ names
-names_stop s names None i leads more = absurd (no_way (sym (walk-stops s names _) ∙ leads))
-  where
-    no_way : {f : FindFault} → Err f ≡ Ok i → ⊥
-    no_way e = absurd (cc)
+names_stop s names None i leads more =
+    let none : Err fault.NotFound ≡ Ok i = sym (walk-stops s names fault.NotFound) ∙ leads in absurd (cc)
 names_stop s names (Some j) i leads more = by (is_there s j) refl
   where
     by : (b : Bool) → is_there s j ≡ b → map (λ k. k.1) (way_from s (Some j) names) ≡ names

@@ -1,11 +1,17 @@
 -- What an extraction comes to whose image is decompressed, and of which a part is asked for.
-use Rattle.std.proofs.Common.{◌≡◌, ℕ, Bool, true, List, Option, Some, None, Result, Ok, Err, inl, inr, refl, sym, ap, subst}
+use Rattle.std.proofs.Common.{◌≡◌, ℕ, Bool, true, List, [], Option, Some, None, Result, Ok, Err, inl, inr, refl, sym, ap, subst, ◌∙◌}
+use Rattle.std.proofs.KnownBytes.{Appends-nil}
+use Rattle.jmount.specs.Tree.{State}
+use Rattle.jextract.specs.declared.fault.ExtractFault.TheVariants as extract
+use Rattle.jextract.proofs.MakingLemmas.{ReportsMore-nil}
 use Rattle.jconvert.specs.Converting.{Converts}
 use Rattle.jreport.specs.Paths.{path_of}
 use Rattle.jreport.specs.declared.faults.ProgramFault.{ProgramFault}
 use Rattle.jreport.specs.declared.findings.Found.{Found}
 use Rattle.jffs2_image.specs.Decompressing.{IsTaken}
-use Rattle.jffs2_image.specs.Folders.{Extracting, ExtractsBytes, ExtractsTaken, Filling}
+use Rattle.jffs2_image.specs.Folders.{Extracting, ExtractsBytes, ExtractsTaken, ExtractsTree, FillsAsked, FillsFolder, Filling, IsPathRead}
+use Rattle.jextract.specs.Folders.{Failures, Made}
+use Rattle.jffs2_image.specs.InfoRuns.{FileReads, Passage}
 use Rattle.jffs2_image.specs.declared.decompressing.Taken.{Taken}
 use Rattle.jffs2_image.specs.declared.folders.Extracted.{Extracted}
 
@@ -39,3 +45,19 @@ pub extracted_as_asked : (d : Bool) (x : Extracting) (items present : List ℕ) 
 extracted_as_asked d x items present f r asked same extracts =
     subst (λ (b : Bool). ExtractsTaken b x items f r) (sym asked)
     (subst (λ (bytes : List ℕ). ExtractsTaken true x bytes f r) same extracts)
+
+-- memory ran out before anything was made
+pub none_extracted : (s : State) (x : Extracting) (made : Option (List Made)) (failures : Failures) (told : Option (List ℕ)) (count : ℕ)
+    → ExtractsTree s x (record { made_old = made; made_new = made; failures_old = failures; failures_new = failures; notes = record { old = told; new = told; before = count; now = count } })
+    (Err extract.OutOfMemory)
+none_extracted s x made failures told count = (([], tt {0}, (0, ReportsMore-nil made), (0, Appends-nil told)), refl, refl)
+
+-- the path that a word stands for, as it was read
+pub filled_as_read : (d : Bool) (x : Extracting) (word items now image : List ℕ) (reading : FileReads) (old new : List ℕ → Option (List Made)) (notes : Passage)
+    (r : Result Extracted ProgramFault) → x.path ≡ Some word → path_of word ≡ Some items → now ≡ items
+    → FillsFolder d (record x { path = Some now }) image reading old new notes r → FillsAsked d x image reading old new notes r
+filled_as_read d x word items now image reading old new notes r is read same fills = inl (
+  Some now,
+  subst (λ (asked : Option (List ℕ)). IsPathRead asked (Some now)) (sym is) (now, read ∙ ap Some (sym same), refl),
+  fills,
+)
