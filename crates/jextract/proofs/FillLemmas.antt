@@ -24,6 +24,7 @@ use Rattle.jextract.specs.declared.fault.ExtractFault.{ExtractFault}
 use Rattle.jextract.specs.declared.fault.ExtractFault.TheVariants as fault
 use Rattle.jextract.specs.declared.totals.Totals.{Totals}
 use Rattle.jextract.proofs.PartLemmas.{entries_along}
+use Rattle.std.proofs.KnownBytes.{Appends-nil}
 use Rattle.jextract.proofs.StepLemmas.{failures-full}
 use Rattle.jextract.proofs.WalkLemmas.{had_none}
 
@@ -96,27 +97,33 @@ reaches_end s part owners w n old now next far step =
     let way = advances_more (part_along part s) owners root_alone (firsts_of w.firsts) (firsts_of n.firsts) (tasks_in (part_along part s) [] 1) (extraction_todo part w) [] far.0 step.0 far.2 step.2 in
     (all, subst (AreTreeOutcomes (part_along part s) owners) (append-nil all) (way.0 [] refl), had_more old now next far.0 step.0 far.1 step.1)
 
-stopped_more : (s : State) (part : List Key) (owners : Bool) (w : Walk) (old now next : Sight) → Reached s part owners w old now → Stopped (part_along part s) owners (firsts_of w.firsts) (extraction_todo part w) now next
-    → Stopped (part_along part s) owners root_alone (tasks_in (part_along part s) [] 1) old next
-stopped_more s part owners w old now next far stop = (
-  far.0 ++ stop.0,
-  far.2.1 stop.0 stop.1,
-  subst (ReportsMore old.made next.made) (sym (flat_map-append (λ (o : Outcome). o.deeds) far.0 stop.0)) (ReportsMore-trans old.made now.made next.made (flat_map (λ o. o.deeds) far.0) (flat_map (λ o. o.deeds) stop.0) far.1.0 stop.2),
-  subst (PutsPart old.told next.told) (sym (flat_map-append outcome_line far.0 stop.0)) (part_behind old.told now.told next.told (all_lines far.0) (all_lines stop.0) far.1.2 stop.3),
+-- it stopped, after what was had
+stopped_more : (s : State) (owners : Bool) (f h : FirstPaths) (x y : List Task) (xs : List Outcome) (old now next : Sight) → Had old now xs → Advances s owners f x h y xs
+    → Stopped s owners h y now next → Stopped s owners f x old next
+stopped_more s owners f h x y xs old now next had advances stop = (
+  xs ++ stop.0,
+  advances.1 stop.0 stop.1,
+  subst (ReportsMore old.made next.made) (sym (flat_map-append (λ (o : Outcome). o.deeds) xs stop.0)) (ReportsMore-trans old.made now.made next.made (flat_map (λ o. o.deeds) xs) (flat_map (λ o. o.deeds) stop.0) had.0 stop.2),
+  subst (PutsPart old.told next.told) (sym (flat_map-append outcome_line xs stop.0)) (part_behind old.told now.told next.told (all_lines xs) (all_lines stop.0) had.2 stop.3),
 )
 
-full_reached : (s : State) (part : List Key) (owners : Bool) (w : Walk) (old now : Sight) → Reached s part owners w old now → now.failures.full ≡ old.failures.full
-full_reached s part owners w old now far = ap (λ (f : Failures). f.full) far.1.1 ∙ failures-full old.failures far.0
+pub stops_later : (s : State) (owners : Bool) (f h : FirstPaths) (x y : List Task) (xs : List Outcome) (old now next : Sight) (why : ExtractFault) → Had old now xs
+    → Advances s owners f x h y xs → StopsBy s owners h y now next why → StopsBy s owners f x old next why
+stops_later s owners f h x y xs old now next why had advances = by why
+  where
+    full : now.failures.full ≡ old.failures.full
+    full = ap (λ (n : Failures). n.full) had.1 ∙ failures-full old.failures xs
+
+    by : (why : ExtractFault) → StopsBy s owners h y now next why → StopsBy s owners f x old next why
+    by fault.Folder stop = stop
+    by fault.Notes stop = (stopped_more s owners f h x y xs old now next had advances stop.0, stop.1 ∙ ap next_count had.3, stop.2 ∙ full)
+    by fault.NoSpace stop = (stopped_more s owners f h x y xs old now next had advances stop.0, stop.1 ∙ had.3, stop.2 ∙ ap next_count full)
+    by fault.OutOfMemory stop = (stopped_more s owners f h x y xs old now next had advances stop.0, stop.1 ∙ had.3, stop.2 ∙ full)
 
 pub reaches_fault : (s : State) (part : List Key) (owners : Bool) (w : Walk) (old now next : Sight) (f : ExtractFault) → Reached s part owners w old now
     → StopsBy (part_along part s) owners (firsts_of w.firsts) (extraction_todo part w) now next f → StopsBy (part_along part s) owners root_alone (tasks_in (part_along part s) [] 1) old next f
-reaches_fault s part owners w old now next fault.Folder far stop = stop
-reaches_fault s part owners w old now next fault.Notes far stop =
-    (stopped_more s part owners w old now next far stop.0, stop.1 ∙ ap next_count far.1.3, stop.2 ∙ full_reached s part owners w old now far)
-reaches_fault s part owners w old now next fault.NoSpace far stop =
-    (stopped_more s part owners w old now next far stop.0, stop.1 ∙ far.1.3, stop.2 ∙ ap next_count (full_reached s part owners w old now far))
-reaches_fault s part owners w old now next fault.OutOfMemory far stop =
-    (stopped_more s part owners w old now next far stop.0, stop.1 ∙ far.1.3, stop.2 ∙ full_reached s part owners w old now far)
+reaches_fault s part owners w old now next f far stop =
+    stops_later (part_along part s) owners root_alone (firsts_of w.firsts) (tasks_in (part_along part s) [] 1) (extraction_todo part w) far.0 old now next f far.1 far.2 stop
 
 -- ---- the folder was made, and then the tree in it
 
@@ -128,6 +135,10 @@ part_made s owners a b c told new_told outcomes first are adds part =
   where
     take_whole : (xs : List Made) → take (length xs) xs ≡ xs
     take_whole xs = grind (arith, common_steps)
+
+-- the folder was not made
+pub not_made : (s : State) (owners : Bool) (a b : Option (List Made)) (told : Option (List ℕ)) → ReportsMore a b [] → DoesPart s owners a b told told
+not_made s owners a b told adds = ([], tt {0}, (0, adds), (0, Appends-nil told))
 
 pub extracts : (s : State) (owners : Bool) (a b c : Option (List Made)) (before mid now : Failures) (told new_told : Option (List ℕ)) (told_before told_now : ℕ) (r : Result Totals ExtractFault)
     → ReportsMore a b (root_made ∷ []) → mid ≡ before

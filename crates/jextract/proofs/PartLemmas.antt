@@ -31,7 +31,7 @@ is_kept part e = is_in_part part e.0.0 e.0.1
 -- those of a directory among those that are in the part
 same_names : (part : List Key) (dir : ℕ) (es : List Named) → map as_name (filter (is_of dir) (filter (is_kept part) es)) ≡ names_in_part part dir (map as_name (filter (is_of dir) es))
 same_names part dir [] = refl
-same_names part dir (e ∷ es) = by (is_of dir e) (is_kept part e) refl refl
+same_names part dir (e ∷ es) = by (same_names part dir es) (is_of dir e) (is_kept part e) refl refl
   where
     rest : List (List ℕ × ℕ)
     rest = map as_name (filter (is_of dir) es)
@@ -39,27 +39,27 @@ same_names part dir (e ∷ es) = by (is_of dir e) (is_kept part e) refl refl
     dir_is : is_of dir e ≡ true → e.0.0 ≡ dir
     dir_is at = grind (arith, nat_tests)
 
-    by : (here inside : Bool) → is_of dir e ≡ here → is_kept part e ≡ inside
+    by : map as_name (filter (is_of dir) (filter (is_kept part) es)) ≡ names_in_part part dir rest → (here inside : Bool) → is_of dir e ≡ here → is_kept part e ≡ inside
         → map as_name (filter (is_of dir) (filter (is_kept part) (e ∷ es))) ≡ names_in_part part dir (map as_name (filter (is_of dir) (e ∷ es)))
-    by true true at is =
+    by so true true at is =
         ap (λ (l : List Named). map as_name (filter (is_of dir) l)) (taken (is_kept part) e es is)
         ∙ ap (map as_name) (taken (is_of dir) e (filter (is_kept part) es) at)
-        ∙ ap (λ (l : List (List ℕ × ℕ)). as_name e ∷ l) (same_names part dir es)
+        ∙ ap (λ (l : List (List ℕ × ℕ)). as_name e ∷ l) so
         ∙ sym (taken (λ (x : List ℕ × ℕ). is_in_part part dir x.0) (as_name e) rest (ap (λ (d : ℕ). is_in_part part d e.0.1) (sym (dir_is at)) ∙ is))
         ∙ sym (ap (λ (l : List Named). names_in_part part dir (map as_name l)) (taken (is_of dir) e es at))
-    by true false at is =
+    by so true false at is =
         ap (λ (l : List Named). map as_name (filter (is_of dir) l)) (passed (is_kept part) e es is)
-        ∙ same_names part dir es
+        ∙ so
         ∙ sym (passed (λ (x : List ℕ × ℕ). is_in_part part dir x.0) (as_name e) rest (ap (λ (d : ℕ). is_in_part part d e.0.1) (sym (dir_is at)) ∙ is))
         ∙ sym (ap (λ (l : List Named). names_in_part part dir (map as_name l)) (taken (is_of dir) e es at))
-    by false true at is =
+    by so false true at is =
         ap (λ (l : List Named). map as_name (filter (is_of dir) l)) (taken (is_kept part) e es is)
         ∙ ap (map as_name) (passed (is_of dir) e (filter (is_kept part) es) at)
-        ∙ same_names part dir es
+        ∙ so
         ∙ sym (ap (λ (l : List Named). names_in_part part dir (map as_name l)) (passed (is_of dir) e es at))
-    by false false at is =
+    by so false false at is =
         ap (λ (l : List Named). map as_name (filter (is_of dir) l)) (passed (is_kept part) e es is)
-        ∙ same_names part dir es
+        ∙ so
         ∙ sym (ap (λ (l : List Named). names_in_part part dir (map as_name l)) (passed (is_of dir) e es at))
 
 pub entries_along : (part : List Key) (s : State) (dir : ℕ) → entries_in (part_along part s) dir ≡ names_in_part part dir (entries_in s dir)

@@ -87,13 +87,13 @@ fn part_to<'p>(mounted: &Mounted<'_>, way: Vec<(u32, &'p [u8])>, ino: u32) -> Pa
     ensures part { part_of result mounted.now.state
         ≡ part_to (keys_of way.entry.items) ino mounted.now.state }
 {
-    let Some((_, name)) = way.last().copied() else {
+    let Some((last, _)) = way.as_slice().split_last() else {
         return Part::Along(way);
     };
     if is_directory(mounted, ino) {
         return Part::Along(way);
     }
-    Part::Alone { name, ino }
+    Part::Alone { name: last.1, ino }
 }
 
 /// The part that a path names: a directory with all that lies below it and the directories on the

@@ -20,7 +20,7 @@ returns-in_err-leave g c =
     let n : Walk = record { path = w.path; ino = w.ino; left = c.next.new.self; above = w.above; firsts = w.firsts; totals = c.leave.new.totals } in
     let fault = c.in_err-leave.field-0.0 in
     step_at_fault s part c.args.owners w n old new fault c.from_residual.result c.from_residual.ensures.1
-    (leave_failed s part c.args.owners w old new fault c.in_default.ensures.steps.0
+    (leave_failed (part_along part s) part c.args.owners w old new fault c.in_default.ensures.steps.0
     (subst (λ (p : List (List ℕ)). Completes (part_along part s) c.args.owners p w.ino old new (Err fault)) (ap (map (λ name. name.now)) c.deref.ensures.value) (c.in_err-leave.ensures (part_along part s).names)))
 
 pub returns-in_default : goal.returns-in_default
@@ -66,7 +66,7 @@ returns-in_err-visit g c =
     let fault = c.in_err-visit.field-0.0 in
     let visits = visit_at (part_along part s) c.args.owners (firsts_of w.firsts) (firsts_of c.visit.new.firsts) _ (extraction_way w ++ c.in-Some.name.now ∷ []) c.in-Some.ino old new (Err fault) way (c.in_err-visit.ensures.visits (part_along part s).names) in
     step_at_fault s part c.args.owners w n old new fault c.from_residual-in_err-visit.result c.from_residual-in_err-visit.ensures.1
-    (visit_failed s part c.args.owners w n c.in-Some.name.now c.in-Some.ino c.next.new.self (firsts_of c.visit.new.firsts) old new fault c.in-Some.ensures.steps inside visits)
+    (visit_failed (part_along part s) part c.args.owners w n c.in-Some.name.now c.in-Some.ino c.next.new.self (firsts_of c.visit.new.firsts) old new fault c.in-Some.ensures.steps inside visits)
 
 pub returns-in_err-enter : goal.returns-in_err-enter
 returns-in_err-enter g c =
@@ -83,7 +83,7 @@ returns-in_err-enter g c =
     let is : c.in_err-enter.field-0.0 ≡ OutOfMemory = c.in_err-enter.ensures in
     step_at_fault s part c.args.owners w c.enter.new.self old new OutOfMemory c.from_residual-in_err-enter.result
     (subst (λ (f : ExtractFault). IsErrAnd c.from_residual-in_err-enter.result (λ e. e ≡ f)) is c.from_residual-in_err-enter.ensures.1)
-    (visited_then_stops s part c.args.owners w c.in-Some.name.now c.in-Some.ino c.next.new.self (firsts_of c.visit.new.firsts) old seen entered c.in-Some.ensures.steps inside visits)
+    (visited_then_stops (part_along part s) part c.args.owners w c.in-Some.name.now c.in-Some.ino c.next.new.self (firsts_of c.visit.new.firsts) old seen entered c.in-Some.ensures.steps inside visits)
 
 pub returns-in_ok-enter : goal.returns-in_ok-enter
 returns-in_ok-enter g c =
