@@ -60,12 +60,7 @@ fn extracted(
 
 /// A path, what is made of the part there, how many objects are left out and how many lose bits,
 /// and what is told.
-type Row = (
-    &'static [u8],
-    &'static str,
-    (u64, u64),
-    &'static str,
-);
+type Row = (&'static [u8], &'static str, (u64, u64), &'static str);
 
 const DEEP: Row = (
     b"/a/b/c",
