@@ -506,6 +506,76 @@ def holes():
     verdict("a file with holes", done.status == 0 and same and os.lstat("hole/f").st_blocks * 512 <= 4096, done)
 
 
+def kept(path):
+    """Permissions and time of a folder."""
+    is_ = os.lstat(path)
+    return is_.st_mode, int(is_.st_mtime)
+
+
+def parts_of_a_tree():
+    """What is made of a path is that part of the whole: a directory at its place, any other object by its last name."""
+    os.mkdir("parts")
+    plain_tree("parts/tree")
+    write("parts/tree.txt", run("listing", "parts/tree").out)
+    run("build", "--blocks", "32", "parts/tree.txt", "parts/image")
+    run("compress", "parts/image", "parts/packed")
+    done = run("extract", "parts/image", "parts/whole")
+    verdict("the whole is extracted", done.status == 0, done)
+    for number, path in enumerate(("/etc", "/etc/deep", "/etc/deep/deeper", "/empty", "/a\\x20space")):
+        place = path.replace("\\x20", " ")
+        for words in (["parts/image"], ["--decompress", "parts/packed"]):
+            folder = f"parts/{number}-{len(words)}"
+            done = run("extract", *words, folder, path)
+            differing = subprocess.run(["diff", "-r", "--no-dereference", f"parts/whole{place}", f"{folder}{place}"], check=False).returncode
+            same = seen(f"{folder}{place}") == seen(f"parts/whole{place}")
+            verdict(f"{path} is that of the whole, {len(words)}", done.status == 0 and differing == 0 and same, done)
+            names = place.split("/")[1:]
+            way = ["/".join(names[:k]) for k in range(len(names))]
+            alone = all(os.listdir(f"{folder}/{above}") == [name] for above, name in zip(way, names))
+            verdict(f"{path} has nothing beside it, {len(words)}", alone)
+            verdict(f"the way to {path} is that of the whole, {len(words)}", all(kept(f"{folder}/{k}") == kept(f"parts/whole/{k}") for k in way))
+    for number, path in enumerate(("/etc/past", "/etc/deep/one", "/z-one", "/line\\x0afeed", "/etc/deep/link", "/to-etc")):
+        place = path.replace("\\x0a", "\n")
+        name = place.rsplit("/", 1)[1]
+        done = run("extract", "parts/image", f"parts/file{number}", path)
+        new, old = seen(f"parts/file{number}"), seen("parts/whole")
+        same = new[os.fsencode(name)][:5] == old[os.fsencode(place[1:])][:5] and new[os.fsencode(name)][5] == os.fsencode(name)
+        verdict(f"{path} is there by its last name", done.status == 0 and sorted(new) == sorted([b".", os.fsencode(name)]) and same, done)
+        verdict(f"the folder of {path} is the root", new[b"."] == old[b"."])
+    done = run("extract", "parts/image", "parts/root", "/")
+    verdict("/ is the whole", done.status == 0 and seen("parts/root") == seen("parts/whole"), done)
+
+
+def paths_of_no_part():
+    """Which fault comes, and in which order; no folder is made."""
+    write("part.img", laid([inode(2, 1, 0, 0, b"", DIRECTORY), entry(1, 1, 2, b"d"), inode(3, 1, 0, 1, b"x"), entry(2, 1, 3, b"f"), entry(1, 2, 9, b"x")]))
+    write("clash.img", laid([inode(2, 1, 0, 1, b"x"), inode(2, 1, 0, 1, b"y")]))
+    os.mkdir("there")
+    rows = (
+        ("part.img", "new", "/none", "P3 Path NotFound"),
+        ("part.img", "new", "/d/none/f", "P3 Path NotFound"),
+        ("part.img", "new", "/x", "P3 Path NotFound"),
+        ("part.img", "new", "/d/f/g", "P3 Path NotDirectory"),
+        ("part.img", "new", "d", "P3 Path BadPath"),
+        ("part.img", "new", "/d/", "P3 Path BadPath"),
+        ("part.img", "new", "/d/../d", "P3 Path BadPath"),
+        ("part.img", "there", "/none", "P3 Path NotFound"),
+        ("part.img", "there", "/d", "P1 File there"),
+        ("none.img", "new", "/d\\q", "P3 Path BadPath"),
+        ("none.img", "new", "d", "P1 File none.img"),
+        ("clash.img", "new", "/d\\x4", "P3 Path BadPath"),
+        ("clash.img", "new", "/none", "M5 Clash at 00000048"),
+    )
+    for image, folder, path, fault in rows:
+        # What `decompress` makes has its nodes at other addresses.
+        for words in ([], ["--decompress"])[:1 if "M5" in fault else 2]:
+            done = run("extract", *words, image, folder, path)
+            verdict(f"{fault} of {path} {words}", done == Done(1, b"", f"jffs2_image: {fault}\n".encode()), done)
+    verdict("no folder is made of it", not os.path.exists("new") and os.listdir("there") == [])
+    done = run("extract", "part.img", "new", "/d/f", "/d")
+    verdict("one path alone", done.status == 2 and not os.path.exists("new"), done)
+
+
 def a_full_disk():
     """It ends the work, by one line, where a small file system can be mounted."""
     os.mkdir("small_disk")
@@ -549,6 +619,8 @@ GROUPS = (
     missing_inodes,
     further_names,
     holes,
+    parts_of_a_tree,
+    paths_of_no_part,
     a_full_disk,
     extended_attributes,
 )

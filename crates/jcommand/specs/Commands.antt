@@ -88,13 +88,15 @@ abbrev pub compress_app : App
 compress_app = with_rule (with_rule (plain_command (codes "compress")) (word (codes "IMAGE")))
     (word (codes "OUT"))
 
--- `extract [--decompress] [--block N] [--endian ORDER] [--owners] [--quiet] IMAGE DIR`
+-- `extract [--decompress] [--block N] [--endian ORDER] [--owners] [--quiet] IMAGE DIR [PATH]`
 abbrev pub extract_app : App
 extract_app = with_rule
     (with_rule
+    (with_rule
     (with_rule (with_rule (decompressing (plain_command (codes "extract")))
     (flag (codes "owners"))) (flag (codes "quiet"))) (word (codes "IMAGE")))
-    (word (codes "DIR"))
+    (word (codes "DIR")))
+    (optional_word (codes "PATH"))
 
 -- `listing [--owner UID GID] [--time T] [--quiet] DIR`
 abbrev pub listing_app : App

@@ -87,7 +87,7 @@ view (request.Decompress options image output) = DecompressParsed options image.
 -- differ in, or an image that is decompressed without nodes that clash
 pub data TaskParsed : Type 0 where
   ImageParsed : Parsed → TaskParsed
-  ExtractParsed : Options → Bool → Bool → Bool → Text → Text → TaskParsed
+  ExtractParsed : Options → Bool → Bool → Bool → Text → Text → Option Text → TaskParsed
   ListingParsed : Option Owner → Option ℕ → Bool → Text → TaskParsed
   InfoParsed : Text → TaskParsed
   CutsParsed : Options → ℕ → Page → Option Text → Text → TaskParsed
@@ -99,6 +99,7 @@ abbrev pub task_view : Task → TaskParsed
 task_view (task.Image r) = ImageParsed (view r)
 task_view (task.Extract x) =
     ExtractParsed x.options x.decompress x.owners x.quiet x.image.now x.folder.now
+    (option_map (λ p. p.now) x.path)
 task_view (task.Listing l) = ListingParsed l.owner l.time l.quiet l.folder.now
 task_view (task.Info image) = InfoParsed image.now
 task_view (task.Cuts x) =
@@ -180,7 +181,7 @@ decompress_in rows = image_in rows >>= λ p. first_of (codes "OUT") rows >>= λ 
 abbrev pub extract_in : List Row → Option TaskParsed
 extract_in rows = image_in rows >>= λ p. first_of (codes "DIR") rows >>= λ folder.
     Some (ExtractParsed p.0 (is_decompressed rows) (is_given (first_of (codes "owners") rows))
-    (is_given (first_of (codes "quiet") rows)) p.1 folder)
+    (is_given (first_of (codes "quiet") rows)) p.1 folder (first_of (codes "PATH") rows))
 
 abbrev pub listing_in : List Row → Option TaskParsed
 listing_in rows = if_given (all_of (codes "owner") rows) owner_of >>= λ owner.
@@ -272,7 +273,7 @@ IsOfImage _ = ⊥
 -- stop, to compress one, for what two images differ in, or to decompress one without nodes that
 -- clash
 abbrev pub IsNoRequest : Option TaskParsed → Type 0
-IsNoRequest (Some (ExtractParsed options decompress owners quiet image folder)) = Unit {0}
+IsNoRequest (Some (ExtractParsed options decompress owners quiet image folder path)) = Unit {0}
 IsNoRequest (Some (ListingParsed owner time quiet folder)) = Unit {0}
 IsNoRequest (Some (InfoParsed image)) = Unit {0}
 IsNoRequest (Some (CutsParsed options blocks page on listing)) = Unit {0}

@@ -211,9 +211,10 @@ fn make_extract<'a>(alloc: Global) -> Made<'a>
     let quiet = make_flag(alloc, "quiet", help::QUIET);
     let image = make_word(alloc, "IMAGE", help::IMAGE);
     let folder = make_word(alloc, "DIR", help::NEW_FOLDER);
+    let path = make_optional_word(alloc, "PATH", help::PART);
     let command = make_plain(alloc, "extract", help::EXTRACT, help::EXTRACT_EPILOGUE);
     let command = add_arg(add_arg(add_arg(command, decompress), owners), quiet);
-    add_arg(add_arg(command, image), folder)
+    add_arg(add_arg(add_arg(command, image), folder), path)
 }
 
 fn make_listing<'a>(alloc: Global) -> Made<'a>

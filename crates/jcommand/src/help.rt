@@ -337,6 +337,10 @@ with its permissions and times; --owners gives owners too, for which this host
 asks a privilege. A further name of a file becomes a hard link. Symlinks are
 made and never followed.
 
+With PATH only the object there and what lies below it are made: a directory at
+its place, below the directories that lead to it, and any other object in DIR
+itself, by its last name.
+
 Whatever the image says, nothing is made outside DIR: each thing is made anew,
 below directories that were made before it. What this host can't hold is left
 out, each with a line 'left out PATH: REASON' on standard error: devices, FIFOs
@@ -344,8 +348,9 @@ and sockets, names that are no text, that are . or .. or have a slash or a zero
 byte, directories that were met before, and what the host refuses. The rest goes
 on.
 
-Example:
+Examples:
   jffs2_image extract --block 131072 flash.img tree
+  jffs2_image extract --block 131072 flash.img etc /etc
 
 Exit status:
   0  done, and nothing was left out

@@ -83,7 +83,12 @@ pub fn known_requests()
     ensures extracted { parsed_from
         (codes "jffs2_image" ∷ codes "extract" ∷ codes "--owners" ∷ codes "a" ∷ codes "b" ∷ [])
         ≡ Some (ExtractParsed (record { geometry = record { block = 65536 }; endian = Little })
-        false true false (codes "a") (codes "b")) }
+        false true false (codes "a") (codes "b") None) }
+    ensures extracted_part { parsed_from
+        (codes "jffs2_image" ∷ codes "extract" ∷ codes "a" ∷ codes "--quiet" ∷ codes "b"
+        ∷ codes "/c" ∷ [])
+        ≡ Some (ExtractParsed (record { geometry = record { block = 65536 }; endian = Little })
+        false false true (codes "a") (codes "b") (Some (codes "/c"))) }
     ensures listed { parsed_from
         (codes "jffs2_image" ∷ codes "listing" ∷ codes "--quiet" ∷ codes "a" ∷ [])
         ≡ Some (ListingParsed None None true (codes "a")) }

@@ -97,8 +97,8 @@ impl Request<'_> {
     }
 }
 
-/// The tree of an image in a new folder of the host; with `--owners`, its owners too, and with
-/// `--decompress` that of what `decompress` makes of the image.
+/// The tree of an image in a new folder of the host, or the part of it that a path names; with
+/// `--owners`, its owners too, and with `--decompress` that of what `decompress` makes of the image.
 #[derive(Clone, Copy)]
 pub struct Extraction<'a> {
     pub options: Options,
@@ -107,6 +107,7 @@ pub struct Extraction<'a> {
     pub quiet: bool,
     pub image: &'a str,
     pub folder: &'a str,
+    pub path: Option<&'a str>,
 }
 
 /// The listing that builds a folder of the host, with one owner or one time for all of it where
@@ -401,6 +402,7 @@ fn extract_at<'a>(found: &ArgMatches<'a>) -> Option<Task<'a>>
         quiet: is_given(found, "quiet"),
         image,
         folder,
+        path: text_at(found, "PATH"),
     }))
 }
 

@@ -122,12 +122,15 @@ fn shown_task(alloc: Global, task: Task<'_>) -> Result<String, AllocError> {
                 quiet,
                 image,
                 folder,
+                path,
             },
         ) => {
             let block = options.geometry.block;
             let is_big = options.endian == Endian::Big;
             let mark = mark(decompress);
-            format!(in alloc; "extract {block} {is_big} {owners} {quiet} {image} {folder}{mark}")
+            let flags = format!(in alloc; "{is_big} {owners} {quiet}")?;
+            let path = path.unwrap_or("");
+            format!(in alloc; "extract {block} {flags} {image} {folder}{path}{mark}")
         }
         Task::Listing(
             FolderListing {

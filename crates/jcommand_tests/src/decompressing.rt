@@ -5,7 +5,7 @@ use crate::command_lines::{answer_to, is_text, is_wrong};
 use std::test::Fail;
 
 /// Lines, and what they ask for.
-const ASKED: [(&str, &str); 11] = [
+const ASKED: [(&str, &str); 12] = [
     (
         "t decompress --clashes higher a.img b.img",
         "apart 65536 little a.img b.img",
@@ -49,6 +49,10 @@ const ASKED: [(&str, &str); 11] = [
     (
         "t extract --decompress --owners a.img b",
         "extract 65536 false true false a.img b decompressed",
+    ),
+    (
+        "t extract a.img b c --decompress",
+        "extract 65536 false false false a.img bc decompressed",
     ),
 ];
 

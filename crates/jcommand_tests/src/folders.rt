@@ -17,6 +17,10 @@ fn args_that_ask_for_a_folder(rt: HostRuntime) -> Result<(), Fail> {
             "t extract --owners a.img --quiet b --endian=big --block 8192",
             "extract 8192 true true true a.img b",
         ),
+        (
+            "t extract a.img b /c --owners",
+            "extract 65536 false true false a.img b/c",
+        ),
         ("t listing a", "listing 1 1 1 false a"),
         (
             "t listing --owner 0 65535 --time 4294967295 a",
@@ -51,6 +55,7 @@ fn args_that_are_wrong_of_a_folder(rt: HostRuntime) -> Result<(), Fail> {
         ("t listing --time 4294967296 a", "below 4294967296"),
         ("t listing --block 4096 a", "--block"),
         ("t extract a.img", "DIR"),
+        ("t extract a.img b /c /d", "'/d'"),
         ("t extract --owner 1 2 a.img b", "--owner"),
         (
             "t extract --block x a.img b",

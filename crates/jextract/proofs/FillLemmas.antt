@@ -15,12 +15,16 @@ use Rattle.jmount.specs.Tree.{State, entries_in}
 use Rattle.jextract.specs.Extracts.{AreTreeOutcomes, Extracts, DoesPart}
 use Rattle.jextract.specs.Folders.{Failures, Made, ReportsMore, refused_once}
 use Rattle.jextract.specs.Making.{firsts_of}
-use Rattle.jextract.specs.Outcomes.{Task, Outcome, FirstPaths, AreOutcomes, AreFirstOutcomes, all_lines, all_made, root_made, failures_after, is_refusal, outcome_line, root_alone, tasks_in}
+use Rattle.jextract.specs.Outcomes.{Task, Outcome, FirstPaths, AreOutcomes, AreFirstOutcomes, all_lines, all_made, root_made, failures_after, is_refusal, outcome_line, root_alone, tasks_in, tasks_of, Complete}
+use Rattle.jname.specs.Live.{Key}
+use Rattle.jextract.specs.Parts.{part_along}
 use Rattle.jextract.specs.Walking.{Advances, Sight, Had, Stopped, StopsBy, Steps, Fills, counted_up, no_totals, totals_up, tasks_up, extraction_todo}
 use Rattle.jextract.specs.declared.extracting.Walk.{Walk}
 use Rattle.jextract.specs.declared.fault.ExtractFault.{ExtractFault}
 use Rattle.jextract.specs.declared.fault.ExtractFault.TheVariants as fault
 use Rattle.jextract.specs.declared.totals.Totals.{Totals}
+use Rattle.jextract.proofs.PartLemmas.{entries_along}
+use Rattle.std.proofs.KnownBytes.{Appends-nil}
 use Rattle.jextract.proofs.StepLemmas.{failures-full}
 use Rattle.jextract.proofs.WalkLemmas.{had_none}
 
@@ -75,45 +79,51 @@ advances_more s owners f g h x y z xs ys one two = (
 )
 
 -- a walk that has come so far
-abbrev pub Reached : State → Bool → Walk → Sight → Sight → Type 0
-Reached s owners w old now =
-    (outcomes : List Outcome) × Had old now outcomes × Advances s owners root_alone (tasks_in s [] 1) (firsts_of w.firsts) (extraction_todo s w) outcomes
+abbrev pub Reached : State → List Key → Bool → Walk → Sight → Sight → Type 0
+Reached s part owners w old now =
+    (outcomes : List Outcome) × Had old now outcomes × Advances (part_along part s) owners root_alone (tasks_in (part_along part s) [] 1) (firsts_of w.firsts) (extraction_todo part w) outcomes
 
-pub reaches_on : (s : State) (owners : Bool) (w n : Walk) (old now next : Sight) → Reached s owners w old now → Steps s owners w n now next (Ok true) → Reached s owners n old next
-reaches_on s owners w n old now next far step = (
+pub reaches_on : (s : State) (part : List Key) (owners : Bool) (w n : Walk) (old now next : Sight) → Reached s part owners w old now → Steps s part owners w n now next (Ok true) → Reached s part owners n old next
+reaches_on s part owners w n old now next far step = (
   far.0 ++ step.0,
   had_more old now next far.0 step.0 far.1 step.1,
-  advances_more s owners root_alone (firsts_of w.firsts) (firsts_of n.firsts) (tasks_in s [] 1) (extraction_todo s w) (extraction_todo s n) far.0 step.0 far.2 step.2,
+  advances_more (part_along part s) owners root_alone (firsts_of w.firsts) (firsts_of n.firsts) (tasks_in (part_along part s) [] 1) (extraction_todo part w) (extraction_todo part n) far.0 step.0 far.2 step.2,
 )
 
-pub reaches_end : (s : State) (owners : Bool) (w n : Walk) (old now next : Sight) → Reached s owners w old now → Steps s owners w n now next (Ok false)
-    → (outcomes : List Outcome) × AreTreeOutcomes s owners outcomes × Had old next outcomes
-reaches_end s owners w n old now next far step =
+pub reaches_end : (s : State) (part : List Key) (owners : Bool) (w n : Walk) (old now next : Sight) → Reached s part owners w old now → Steps s part owners w n now next (Ok false)
+    → (outcomes : List Outcome) × AreTreeOutcomes (part_along part s) owners outcomes × Had old next outcomes
+reaches_end s part owners w n old now next far step =
     let all = far.0 ++ step.0 in
-    let way = advances_more s owners root_alone (firsts_of w.firsts) (firsts_of n.firsts) (tasks_in s [] 1) (extraction_todo s w) [] far.0 step.0 far.2 step.2 in
-    (all, subst (AreTreeOutcomes s owners) (append-nil all) (way.0 [] refl), had_more old now next far.0 step.0 far.1 step.1)
+    let way = advances_more (part_along part s) owners root_alone (firsts_of w.firsts) (firsts_of n.firsts) (tasks_in (part_along part s) [] 1) (extraction_todo part w) [] far.0 step.0 far.2 step.2 in
+    (all, subst (AreTreeOutcomes (part_along part s) owners) (append-nil all) (way.0 [] refl), had_more old now next far.0 step.0 far.1 step.1)
 
-stopped_more : (s : State) (owners : Bool) (w : Walk) (old now next : Sight) → Reached s owners w old now → Stopped s owners (firsts_of w.firsts) (extraction_todo s w) now next
-    → Stopped s owners root_alone (tasks_in s [] 1) old next
-stopped_more s owners w old now next far stop = (
-  far.0 ++ stop.0,
-  far.2.1 stop.0 stop.1,
-  subst (ReportsMore old.made next.made) (sym (flat_map-append (λ (o : Outcome). o.deeds) far.0 stop.0)) (ReportsMore-trans old.made now.made next.made (flat_map (λ o. o.deeds) far.0) (flat_map (λ o. o.deeds) stop.0) far.1.0 stop.2),
-  subst (PutsPart old.told next.told) (sym (flat_map-append outcome_line far.0 stop.0)) (part_behind old.told now.told next.told (all_lines far.0) (all_lines stop.0) far.1.2 stop.3),
+-- it stopped, after what was had
+stopped_more : (s : State) (owners : Bool) (f h : FirstPaths) (x y : List Task) (xs : List Outcome) (old now next : Sight) → Had old now xs → Advances s owners f x h y xs
+    → Stopped s owners h y now next → Stopped s owners f x old next
+stopped_more s owners f h x y xs old now next had advances stop = (
+  xs ++ stop.0,
+  advances.1 stop.0 stop.1,
+  subst (ReportsMore old.made next.made) (sym (flat_map-append (λ (o : Outcome). o.deeds) xs stop.0)) (ReportsMore-trans old.made now.made next.made (flat_map (λ o. o.deeds) xs) (flat_map (λ o. o.deeds) stop.0) had.0 stop.2),
+  subst (PutsPart old.told next.told) (sym (flat_map-append outcome_line xs stop.0)) (part_behind old.told now.told next.told (all_lines xs) (all_lines stop.0) had.2 stop.3),
 )
 
-full_reached : (s : State) (owners : Bool) (w : Walk) (old now : Sight) → Reached s owners w old now → now.failures.full ≡ old.failures.full
-full_reached s owners w old now far = ap (λ (f : Failures). f.full) far.1.1 ∙ failures-full old.failures far.0
+pub stops_later : (s : State) (owners : Bool) (f h : FirstPaths) (x y : List Task) (xs : List Outcome) (old now next : Sight) (why : ExtractFault) → Had old now xs
+    → Advances s owners f x h y xs → StopsBy s owners h y now next why → StopsBy s owners f x old next why
+stops_later s owners f h x y xs old now next why had advances = by why
+  where
+    full : now.failures.full ≡ old.failures.full
+    full = ap (λ (n : Failures). n.full) had.1 ∙ failures-full old.failures xs
 
-pub reaches_fault : (s : State) (owners : Bool) (w : Walk) (old now next : Sight) (f : ExtractFault) → Reached s owners w old now
-    → StopsBy s owners (firsts_of w.firsts) (extraction_todo s w) now next f → StopsBy s owners root_alone (tasks_in s [] 1) old next f
-reaches_fault s owners w old now next fault.Folder far stop = stop
-reaches_fault s owners w old now next fault.Notes far stop =
-    (stopped_more s owners w old now next far stop.0, stop.1 ∙ ap next_count far.1.3, stop.2 ∙ full_reached s owners w old now far)
-reaches_fault s owners w old now next fault.NoSpace far stop =
-    (stopped_more s owners w old now next far stop.0, stop.1 ∙ far.1.3, stop.2 ∙ ap next_count (full_reached s owners w old now far))
-reaches_fault s owners w old now next fault.OutOfMemory far stop =
-    (stopped_more s owners w old now next far stop.0, stop.1 ∙ far.1.3, stop.2 ∙ full_reached s owners w old now far)
+    by : (why : ExtractFault) → StopsBy s owners h y now next why → StopsBy s owners f x old next why
+    by fault.Folder stop = stop
+    by fault.Notes stop = (stopped_more s owners f h x y xs old now next had advances stop.0, stop.1 ∙ ap next_count had.3, stop.2 ∙ full)
+    by fault.NoSpace stop = (stopped_more s owners f h x y xs old now next had advances stop.0, stop.1 ∙ had.3, stop.2 ∙ ap next_count full)
+    by fault.OutOfMemory stop = (stopped_more s owners f h x y xs old now next had advances stop.0, stop.1 ∙ had.3, stop.2 ∙ full)
+
+pub reaches_fault : (s : State) (part : List Key) (owners : Bool) (w : Walk) (old now next : Sight) (f : ExtractFault) → Reached s part owners w old now
+    → StopsBy (part_along part s) owners (firsts_of w.firsts) (extraction_todo part w) now next f → StopsBy (part_along part s) owners root_alone (tasks_in (part_along part s) [] 1) old next f
+reaches_fault s part owners w old now next f far stop =
+    stops_later (part_along part s) owners root_alone (firsts_of w.firsts) (tasks_in (part_along part s) [] 1) (extraction_todo part w) far.0 old now next f far.1 far.2 stop
 
 -- ---- the folder was made, and then the tree in it
 
@@ -125,6 +135,10 @@ part_made s owners a b c told new_told outcomes first are adds part =
   where
     take_whole : (xs : List Made) → take (length xs) xs ≡ xs
     take_whole xs = grind (arith, common_steps)
+
+-- the folder was not made
+pub not_made : (s : State) (owners : Bool) (a b : Option (List Made)) (told : Option (List ℕ)) → ReportsMore a b [] → DoesPart s owners a b told told
+not_made s owners a b told adds = ([], tt {0}, (0, adds), (0, Appends-nil told))
 
 pub extracts : (s : State) (owners : Bool) (a b c : Option (List Made)) (before mid now : Failures) (told new_told : Option (List ℕ)) (told_before told_now : ℕ) (r : Result Totals ExtractFault)
     → ReportsMore a b (root_made ∷ []) → mid ≡ before
@@ -179,19 +193,21 @@ root_known empty first text none blank updates = λ t j. one j t
         ∙ ap (λ (b : Bool). option_map string_bytes (cond b (Some text) None)) (is_one j)
         ∙ by (1 == j)
 
-pub reached_first : (s : State) (owners : Bool) (w : Walk) (old : Sight) → w.path.items ≡ [] → w.ino ≡ 1 → w.left ≡ entries_in s 1 → w.above.items ≡ [] → firsts_of w.firsts ≡ root_alone
-    → Reached s owners w old old
-reached_first s owners w old path ino left above firsts =
-    let todo : extraction_todo s w ≡ tasks_in s [] 1 =
-    ap (λ (p : List (Bor (List ℕ))). tasks_up s ((w.ino, w.left) ∷ reverse w.above.items) (map (λ n. n.now) p)) path
-    ∙ ap (λ (a : List (ℕ × List (List ℕ × ℕ))). tasks_up s ((w.ino, w.left) ∷ reverse a) []) above
-    ∙ ap (λ (i : ℕ). tasks_up s ((i, w.left) ∷ []) []) ino
-    ∙ ap (λ (l : List (List ℕ × ℕ)). tasks_up s ((1, l) ∷ []) []) left in (
+pub reached_first : (s : State) (part : List Key) (owners : Bool) (w : Walk) (old : Sight) → w.path.items ≡ [] → w.ino ≡ 1 → w.left ≡ entries_in s 1 → w.above.items ≡ []
+    → firsts_of w.firsts ≡ root_alone → Reached s part owners w old old
+reached_first s part owners w old path ino left above firsts =
+    let p = part_along part s in
+    let todo : extraction_todo part w ≡ tasks_in p [] 1 =
+    ap (λ (p : List (Bor (List ℕ))). tasks_up part ((w.ino, w.left) ∷ reverse w.above.items) (map (λ n. n.now) p)) path
+    ∙ ap (λ (a : List (ℕ × List (List ℕ × ℕ))). tasks_up part ((w.ino, w.left) ∷ reverse a) []) above
+    ∙ ap (λ (i : ℕ). tasks_up part ((i, w.left) ∷ []) []) ino
+    ∙ ap (λ (l : List (List ℕ × ℕ)). tasks_up part ((1, l) ∷ []) []) left
+    ∙ ap (λ (l : List (List ℕ × ℕ)). tasks_of [] l ++ Complete [] 1 ∷ []) (sym (entries_along part s 1)) in (
       [],
       had_none old,
       (
-        λ rest are. subst (λ (f : FirstPaths). AreOutcomes s owners f (tasks_in s [] 1) rest) firsts (subst (λ (t : List Task). AreOutcomes s owners (firsts_of w.firsts) t rest) todo are),
-        λ rest are. subst (λ (f : FirstPaths). AreFirstOutcomes s owners f (tasks_in s [] 1) rest) firsts (subst (λ (t : List Task). AreFirstOutcomes s owners (firsts_of w.firsts) t rest) todo are),
+        λ rest are. subst (λ (f : FirstPaths). AreOutcomes p owners f (tasks_in p [] 1) rest) firsts (subst (λ (t : List Task). AreOutcomes p owners (firsts_of w.firsts) t rest) todo are),
+        λ rest are. subst (λ (f : FirstPaths). AreFirstOutcomes p owners f (tasks_in p [] 1) rest) firsts (subst (λ (t : List Task). AreFirstOutcomes p owners (firsts_of w.firsts) t rest) todo are),
       ),
     )
 

@@ -1,3 +1,4 @@
+pub mod AloneLemmas
 pub mod BelowLemmas
 pub mod ContentsLemmas
 pub mod FillLemmas
@@ -5,6 +6,8 @@ pub mod InsideLemmas
 pub mod LinkLemmas
 pub mod MakingLemmas
 pub mod OnceLemmas
+pub mod PartLemmas
 pub mod PathLemmas
 pub mod StepLemmas
 pub mod WalkLemmas
+pub mod WayLemmas

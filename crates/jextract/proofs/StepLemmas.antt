@@ -1,5 +1,5 @@
 -- The steps of the walk.
-use Rattle.std.proofs.Common.{◌≡◌, ℕ, ◌+◌, ◌-◌, Bool, true, false, List, [], ◌∷◌, ◌++◌, length, map, take, append_assoc, append-nil, refl, sym, ap, ◌∙◌, subst, arith, Option, Result, Ok, Err, Bor, if◌then◌else◌}
+use Rattle.std.proofs.Common.{◌≡◌, ℕ, ◌+◌, ◌-◌, ◌≤◌, Bool, true, false, List, [], ◌∷◌, ◌++◌, length, map, take, append_assoc, append-nil, refl, sym, ap, ◌∙◌, subst, arith, Option, Result, Ok, Err, Bor, if◌then◌else◌}
 use Rattle.std.specs.Prelude.{reverse, sum_by, IsErrAnd}
 use Rattle.std.specs.Io.KnownBytes.{Appends}
 use Rattle.std.proofs.KnownBytes.{Appends-nil}
@@ -12,34 +12,51 @@ use Rattle.jmount.specs.Tree.{State, entries_in}
 use Rattle.jmount.specs.Find.{way_up}
 use Rattle.jextract.specs.Folders.{Failures, refused_once}
 use Rattle.jextract.specs.Making.{firsts_of}
-use Rattle.jextract.specs.Outcomes.{Task, Make, Complete, Outcome, FirstPaths, AreFirstOutcomes, tasks_of, tasks_in, all_lines, failures_after, is_refusal}
-use Rattle.jextract.specs.Walking.{Advances, Sight, Had, StopsBy, Visits, Completes, ExtractionGoesUp, Steps, todo_then, extraction_todo, tasks_up, extraction_way, unmade}
+use Rattle.jextract.specs.Outcomes.{Task, Make, Complete, Outcome, FirstPaths, AreOutcomes, AreFirstOutcomes, tasks_of, tasks_in, all_lines, failures_after, is_refusal}
+use Rattle.jname.specs.Live.{Key}
+use Rattle.jextract.specs.Parts.{is_in_part, part_along}
+use Rattle.jextract.specs.Walking.{Advances, Sight, Had, StopsBy, Visits, Completes, ExtractionGoesUp, Steps, names_in_part, todo_then, extraction_todo, tasks_up, extraction_way, unmade}
 use Rattle.jextract.specs.declared.extracting.Walk.{Walk}
 use Rattle.jextract.specs.declared.fault.ExtractFault.{ExtractFault}
 use Rattle.jextract.specs.declared.fault.ExtractFault.TheVariants as fault
 use Rattle.jextract.specs.declared.totals.Totals.{Totals}
 use Rattle.jextract.proofs.MakingLemmas.{ReportsMore-nil}
+use Rattle.jextract.proofs.PartLemmas.{entries_along}
+use Rattle.jextract.proofs.WalkLemmas.{had_none}
 
 -- ---- the tasks of a name
 
 -- what a walk has left, beside the names of the directory that it reads
-abbrev pub more_of : State → Walk → List Task
-more_of s w = Complete (extraction_way w) w.ino ∷ tasks_up s (reverse w.above.items) (way_up (extraction_way w))
+abbrev pub more_of : List Key → Walk → List Task
+more_of part w = Complete (extraction_way w) w.ino ∷ tasks_up part (reverse w.above.items) (way_up (extraction_way w))
 
--- what it has left, where it read a name
-todo_read : (s : State) (w : Walk) (name : List ℕ) (i : ℕ) (names : List (List ℕ × ℕ)) → w.left ≡ (name, i) ∷ names
-    → Make (extraction_way w ++ name ∷ []) i ∷ (tasks_of (extraction_way w) names ++ more_of s w) ≡ extraction_todo s w
-todo_read s w name i names read = ap (λ (left : List (List ℕ × ℕ)). tasks_of (extraction_way w) left ++ more_of s w) (sym read)
+-- what it has left of the names of the directory that it reads
+abbrev pub names_left : List Key → Walk → List (List ℕ × ℕ) → List Task
+names_left part w names = tasks_of (extraction_way w) (names_in_part part w.ino names) ++ more_of part w
+
+-- the same, where it read a name that is in the part
+todo_read : (part : List Key) (w : Walk) (name : List ℕ) (i : ℕ) (names : List (List ℕ × ℕ)) → w.left ≡ (name, i) ∷ names → is_in_part part w.ino name ≡ true
+    → Make (extraction_way w ++ name ∷ []) i ∷ names_left part w names ≡ extraction_todo part w
+todo_read part w name i names read is =
+    ap (λ (b : Bool). tasks_of (extraction_way w) (if b then (name, i) ∷ names_in_part part w.ino names else names_in_part part w.ino names) ++ more_of part w) (sym is)
+    ∙ ap (names_left part w) (sym read)
+
+-- or one that is not
+todo_skipped : (part : List Key) (w : Walk) (name : List ℕ) (i : ℕ) (names : List (List ℕ × ℕ)) → w.left ≡ (name, i) ∷ names → is_in_part part w.ino name ≡ false
+    → names_left part w names ≡ extraction_todo part w
+todo_skipped part w name i names read is =
+    ap (λ (b : Bool). tasks_of (extraction_way w) (if b then (name, i) ∷ names_in_part part w.ino names else names_in_part part w.ino names) ++ more_of part w) (sym is)
+    ∙ ap (names_left part w) (sym read)
 
 -- ---- the walk goes on in the same directory, or in the one that the name leads to
 
-stays_todo : (s : State) (w n : Walk) (names : List (List ℕ × ℕ)) → n.left ≡ names → n.ino ≡ w.ino → n.above.items ≡ w.above.items → extraction_way n ≡ extraction_way w
-    → tasks_of (extraction_way w) names ++ more_of s w ≡ extraction_todo s n
-stays_todo s w n names left ino above way =
-    ap (λ (l : List (List ℕ × ℕ)). tasks_of (extraction_way w) l ++ more_of s w) (sym left)
-    ∙ ap (λ (i : ℕ). tasks_of (extraction_way w) n.left ++ Complete (extraction_way w) i ∷ tasks_up s (reverse w.above.items) (way_up (extraction_way w))) (sym ino)
-    ∙ ap (λ (a : List (ℕ × List (List ℕ × ℕ))). tasks_of (extraction_way w) n.left ++ Complete (extraction_way w) n.ino ∷ tasks_up s (reverse a) (way_up (extraction_way w))) (sym above)
-    ∙ ap (tasks_up s ((n.ino, n.left) ∷ reverse n.above.items)) (sym way)
+stays_todo : (part : List Key) (w n : Walk) (names : List (List ℕ × ℕ)) → n.left ≡ names → n.ino ≡ w.ino → n.above.items ≡ w.above.items → extraction_way n ≡ extraction_way w
+    → names_left part w names ≡ extraction_todo part n
+stays_todo part w n names left ino above way =
+    ap (names_left part w) (sym left)
+    ∙ ap (λ (i : ℕ). tasks_of (extraction_way w) (names_in_part part i n.left) ++ Complete (extraction_way w) i ∷ tasks_up part (reverse w.above.items) (way_up (extraction_way w))) (sym ino)
+    ∙ ap (λ (a : List (ℕ × List (List ℕ × ℕ))). tasks_of (extraction_way w) (names_in_part part n.ino n.left) ++ Complete (extraction_way w) n.ino ∷ tasks_up part (reverse a) (way_up (extraction_way w))) (sym above)
+    ∙ ap (tasks_up part ((n.ino, n.left) ∷ reverse n.above.items)) (sym way)
 
 advances_to : (s : State) (owners : Bool) (firsts then_ : FirstPaths) (todo other todo_ todo_other : List Task) (outcomes : List Outcome)
     → todo ≡ other → todo_ ≡ todo_other → Advances s owners firsts todo then_ todo_ outcomes → Advances s owners firsts other then_ todo_other outcomes
@@ -47,69 +64,90 @@ advances_to s owners firsts then_ todo other todo_ todo_other outcomes a c advan
     subst (λ (t : List Task). Advances s owners firsts t then_ todo_other outcomes) a
     (subst (λ (t : List Task). Advances s owners firsts todo then_ t outcomes) c advances)
 
-pub stays : (s : State) (owners : Bool) (w n : Walk) (name : List ℕ) (i : ℕ) (old new : Sight) → w.left ≡ (name, i) ∷ n.left → n.ino ≡ w.ino
-    → n.above.items ≡ w.above.items → extraction_way n ≡ extraction_way w → Visits s owners (firsts_of w.firsts) (firsts_of n.firsts) (extraction_way w ++ name ∷ []) i old new (Ok false)
-    → Steps s owners w n old new (Ok true)
-stays s owners w n name i old new read ino above way visits =
+pub stays : (s : State) (part : List Key) (owners : Bool) (w n : Walk) (name : List ℕ) (i : ℕ) (old new : Sight) → w.left ≡ (name, i) ∷ n.left → is_in_part part w.ino name ≡ true
+    → n.ino ≡ w.ino → n.above.items ≡ w.above.items → extraction_way n ≡ extraction_way w → unmade s (firsts_of n.firsts) ≤ unmade s (firsts_of w.firsts)
+    → Visits (part_along part s) owners (firsts_of w.firsts) (firsts_of n.firsts) (extraction_way w ++ name ∷ []) i old new (Ok false)
+    → Steps s part owners w n old new (Ok true)
+stays s part owners w n name i old new read is ino above way fewer visits =
     let left : length w.left ≡ length n.left + 1 = ap (λ l. length l) read ∙ omega arith in
     let sum : sum_by (λ (d : ℕ × List (List ℕ × ℕ)). length d.1) n.above.items ≡ sum_by (λ (d : ℕ × List (List ℕ × ℕ)). length d.1) w.above.items = ap (sum_by (λ d. length d.1)) above in
-    let deep : length n.above.items ≡ length w.above.items = ap (λ l. length l) above in
-    let fewer = visits.3 in (
+    let deep : length n.above.items ≡ length w.above.items = ap (λ l. length l) above in (
       visits.0,
       visits.1,
-      advances_to s owners (firsts_of w.firsts) (firsts_of n.firsts) (Make (extraction_way w ++ name ∷ []) i ∷ (tasks_of (extraction_way w) n.left ++ more_of s w)) (extraction_todo s w)
-          (tasks_of (extraction_way w) n.left ++ more_of s w) (extraction_todo s n) visits.0 (todo_read s w name i n.left read) (stays_todo s w n n.left refl ino above way)
-          (visits.2 (tasks_of (extraction_way w) n.left ++ more_of s w)),
+      advances_to (part_along part s) owners (firsts_of w.firsts) (firsts_of n.firsts) (Make (extraction_way w ++ name ∷ []) i ∷ names_left part w n.left) (extraction_todo part w)
+          (names_left part w n.left) (extraction_todo part n) visits.0 (todo_read part w name i n.left read is) (stays_todo part w n n.left refl ino above way)
+          (visits.2 (names_left part w n.left)),
       omega arith,
     )
 
-pub enters : (s : State) (owners : Bool) (w n : Walk) (name : List ℕ) (i : ℕ) (names : List (List ℕ × ℕ)) (old new : Sight) → w.left ≡ (name, i) ∷ names → n.ino ≡ i
-    → n.left ≡ entries_in s i → n.above.items ≡ w.above.items ++ (w.ino, names) ∷ [] → extraction_way n ≡ extraction_way w ++ name ∷ []
-    → Visits s owners (firsts_of w.firsts) (firsts_of n.firsts) (extraction_way w ++ name ∷ []) i old new (Ok true) → Steps s owners w n old new (Ok true)
-enters s owners w n name i names old new read ino left above way visits =
-    let rest = tasks_of (extraction_way w) names ++ more_of s w in
+-- a name that is not in the part is passed over
+pub skips : (s : State) (part : List Key) (owners : Bool) (w n : Walk) (name : List ℕ) (i : ℕ) (old : Sight) → w.left ≡ (name, i) ∷ n.left → is_in_part part w.ino name ≡ false
+    → n.ino ≡ w.ino → n.above.items ≡ w.above.items → extraction_way n ≡ extraction_way w → n.firsts ≡ w.firsts → Steps s part owners w n old old (Ok true)
+skips s part owners w n name i old read is ino above way firsts =
+    let left : length w.left ≡ length n.left + 1 = ap (λ l. length l) read ∙ omega arith in
+    let sum : sum_by (λ (d : ℕ × List (List ℕ × ℕ)). length d.1) n.above.items ≡ sum_by (λ (d : ℕ × List (List ℕ × ℕ)). length d.1) w.above.items = ap (sum_by (λ d. length d.1)) above in
+    let deep : length n.above.items ≡ length w.above.items = ap (λ l. length l) above in
+    let same : unmade s (firsts_of n.firsts) ≡ unmade s (firsts_of w.firsts) = ap (λ m. unmade s (firsts_of m)) firsts in
+    let todo : extraction_todo part n ≡ extraction_todo part w = sym (stays_todo part w n n.left refl ino above way) ∙ todo_skipped part w name i n.left read is in
+    let made : firsts_of n.firsts ≡ firsts_of w.firsts = ap firsts_of firsts in (
+      [],
+      had_none old,
+      (
+        λ rest are. subst (λ (f : FirstPaths). AreOutcomes (part_along part s) owners f (extraction_todo part w) rest) made (subst (λ (t : List Task). AreOutcomes (part_along part s) owners (firsts_of n.firsts) t rest) todo are),
+        λ rest are. subst (λ (f : FirstPaths). AreFirstOutcomes (part_along part s) owners f (extraction_todo part w) rest) made (subst (λ (t : List Task). AreFirstOutcomes (part_along part s) owners (firsts_of n.firsts) t rest) todo are),
+      ),
+      omega arith,
+    )
+
+pub enters : (s : State) (part : List Key) (owners : Bool) (w n : Walk) (name : List ℕ) (i : ℕ) (names : List (List ℕ × ℕ)) (old new : Sight) → w.left ≡ (name, i) ∷ names → is_in_part part w.ino name ≡ true
+    → n.ino ≡ i → n.left ≡ entries_in s i → n.above.items ≡ w.above.items ++ (w.ino, names) ∷ [] → extraction_way n ≡ extraction_way w ++ name ∷ []
+    → unmade s (firsts_of n.firsts) + length (entries_in s i) ≤ unmade s (firsts_of w.firsts)
+    → Visits (part_along part s) owners (firsts_of w.firsts) (firsts_of n.firsts) (extraction_way w ++ name ∷ []) i old new (Ok true) → Steps s part owners w n old new (Ok true)
+enters s part owners w n name i names old new read is ino left above way fewer visits =
+    let rest = names_left part w names in
+    let inside = entries_in (part_along part s) i in
     let back : way_up (extraction_way n) ≡ extraction_way w =
     ap way_up way
     ∙ ap (λ (k : ℕ). take k (extraction_way w ++ name ∷ [])) {x = length (extraction_way w ++ name ∷ []) - 1} {y = length (extraction_way w)} (omega (arith, length_push (extraction_way w) name))
     ∙ take-append_seam (extraction_way w) (name ∷ []) in
     let reversed : reverse n.above.items ≡ (w.ino, names) ∷ reverse w.above.items = ap reverse above ∙ reverse-append w.above.items ((w.ino, names) ∷ []) in
-    let up : rest ≡ tasks_up s (reverse n.above.items) (way_up (extraction_way n)) =
-    ap (λ (p : List (List ℕ)). tasks_up s ((w.ino, names) ∷ reverse w.above.items) p) (sym back)
-    ∙ ap (λ (l : List (ℕ × List (List ℕ × ℕ))). tasks_up s l (way_up (extraction_way n))) (sym reversed) in
-    let todo : tasks_in s (extraction_way w ++ name ∷ []) i ++ rest ≡ extraction_todo s n =
-    append_assoc (tasks_of (extraction_way w ++ name ∷ []) (entries_in s i)) (Complete (extraction_way w ++ name ∷ []) i ∷ []) rest
-    ∙ ap (λ (p : List (List ℕ)). tasks_of p (entries_in s i) ++ Complete p i ∷ rest) (sym way)
-    ∙ ap (λ (l : List (List ℕ × ℕ)). tasks_of (extraction_way n) l ++ Complete (extraction_way n) i ∷ rest) (sym left)
-    ∙ ap (λ (j : ℕ). tasks_of (extraction_way n) n.left ++ Complete (extraction_way n) j ∷ rest) (sym ino)
-    ∙ ap (λ (t : List Task). tasks_of (extraction_way n) n.left ++ Complete (extraction_way n) n.ino ∷ t) up in
+    let up : rest ≡ tasks_up part (reverse n.above.items) (way_up (extraction_way n)) =
+    ap (λ (p : List (List ℕ)). tasks_up part ((w.ino, names) ∷ reverse w.above.items) p) (sym back)
+    ∙ ap (λ (l : List (ℕ × List (List ℕ × ℕ))). tasks_up part l (way_up (extraction_way n))) (sym reversed) in
+    let todo : tasks_in (part_along part s) (extraction_way w ++ name ∷ []) i ++ rest ≡ extraction_todo part n =
+    append_assoc (tasks_of (extraction_way w ++ name ∷ []) inside) (Complete (extraction_way w ++ name ∷ []) i ∷ []) rest
+    ∙ ap (λ (p : List (List ℕ)). tasks_of p inside ++ Complete p i ∷ rest) (sym way)
+    ∙ ap (λ (l : List (List ℕ × ℕ)). tasks_of (extraction_way n) l ++ Complete (extraction_way n) i ∷ rest) (entries_along part s i ∙ ap (names_in_part part i) (sym left))
+    ∙ ap (λ (j : ℕ). tasks_of (extraction_way n) (names_in_part part j n.left) ++ Complete (extraction_way n) j ∷ rest) (sym ino)
+    ∙ ap (λ (t : List Task). tasks_of (extraction_way n) (names_in_part part n.ino n.left) ++ Complete (extraction_way n) n.ino ∷ t) up in
     let own : length n.left ≡ length (entries_in s i) = ap (λ l. length l) left in
     let one : length w.left ≡ length names + 1 = ap (λ l. length l) read ∙ omega arith in
     let sum : sum_by (λ (d : ℕ × List (List ℕ × ℕ)). length d.1) n.above.items ≡ sum_by (λ (d : ℕ × List (List ℕ × ℕ)). length d.1) w.above.items + length names =
     ap (sum_by (λ d. length d.1)) above ∙ sum_by_push (λ (d : ℕ × List (List ℕ × ℕ)). length d.1) w.above.items (w.ino, names) in
-    let deep : length n.above.items ≡ length w.above.items + 1 = ap (λ l. length l) above ∙ length_push w.above.items (w.ino, names) in
-    let fewer = visits.3 in (
+    let deep : length n.above.items ≡ length w.above.items + 1 = ap (λ l. length l) above ∙ length_push w.above.items (w.ino, names) in (
       visits.0,
       visits.1,
-      advances_to s owners (firsts_of w.firsts) (firsts_of n.firsts) (Make (extraction_way w ++ name ∷ []) i ∷ rest) (extraction_todo s w) (tasks_in s (extraction_way w ++ name ∷ []) i ++ rest) (extraction_todo s n) visits.0
-          (todo_read s w name i names read) todo (visits.2 rest),
+      advances_to (part_along part s) owners (firsts_of w.firsts) (firsts_of n.firsts) (Make (extraction_way w ++ name ∷ []) i ∷ rest) (extraction_todo part w)
+          (tasks_in (part_along part s) (extraction_way w ++ name ∷ []) i ++ rest) (extraction_todo part n) visits.0
+          (todo_read part w name i names read is) todo (visits.2 rest),
       omega arith,
     )
 
 -- ---- faults
 
-pub step_at_fault : (s : State) (owners : Bool) (w n : Walk) (old new : Sight) (f : ExtractFault) (r : Result Bool ExtractFault) → IsErrAnd r (λ e. e ≡ f)
-    → StopsBy s owners (firsts_of w.firsts) (extraction_todo s w) old new f → Steps s owners w n old new r
-step_at_fault s owners w n old new f (Ok x) err stops = absurd err
-step_at_fault s owners w n old new f (Err e) err stops = subst (λ (x : ExtractFault). StopsBy s owners (firsts_of w.firsts) (extraction_todo s w) old new x) (sym err) stops
+pub step_at_fault : (s : State) (part : List Key) (owners : Bool) (w n : Walk) (old new : Sight) (f : ExtractFault) (r : Result Bool ExtractFault) → IsErrAnd r (λ e. e ≡ f)
+    → StopsBy (part_along part s) owners (firsts_of w.firsts) (extraction_todo part w) old new f → Steps s part owners w n old new r
+step_at_fault s part owners w n old new f (Ok x) err stops = absurd err
+step_at_fault s part owners w n old new f (Err e) err stops = subst (λ (x : ExtractFault). StopsBy (part_along part s) owners (firsts_of w.firsts) (extraction_todo part w) old new x) (sym err) stops
 
 pub stops_before : (s : State) (owners : Bool) (firsts : FirstPaths) (todo : List Task) (old : Sight) → StopsBy s owners firsts todo old old fault.OutOfMemory
 stops_before s owners firsts todo old = (([], tt {0}, ReportsMore-nil old.made, (0, Appends-nil old.told)), refl, refl)
 
-pub visit_failed : (s : State) (owners : Bool) (w n : Walk) (name : List ℕ) (i : ℕ) (names : List (List ℕ × ℕ)) (firsts_then : FirstPaths) (old new : Sight) (f : ExtractFault)
-    → w.left ≡ (name, i) ∷ names → Visits s owners (firsts_of w.firsts) firsts_then (extraction_way w ++ name ∷ []) i old new (Err f)
-    → StopsBy s owners (firsts_of w.firsts) (extraction_todo s w) old new f
-visit_failed s owners w n name i names firsts_then old new f read visits =
-    subst (λ (t : List Task). StopsBy s owners (firsts_of w.firsts) t old new f) (todo_read s w name i names read) (visits (tasks_of (extraction_way w) names ++ more_of s w))
+pub visit_failed : (s : State) (part : List Key) (owners : Bool) (w n : Walk) (name : List ℕ) (i : ℕ) (names : List (List ℕ × ℕ)) (firsts_then : FirstPaths) (old new : Sight) (f : ExtractFault)
+    → w.left ≡ (name, i) ∷ names → is_in_part part w.ino name ≡ true → Visits s owners (firsts_of w.firsts) firsts_then (extraction_way w ++ name ∷ []) i old new (Err f)
+    → StopsBy s owners (firsts_of w.firsts) (extraction_todo part w) old new f
+visit_failed s part owners w n name i names firsts_then old new f read is visits =
+    subst (λ (t : List Task). StopsBy s owners (firsts_of w.firsts) t old new f) (todo_read part w name i names read is) (visits (names_left part w names))
 
 whole_part : (old new : Option (List ℕ)) (line : List ℕ) → Appends old new line → PutsPart old new line
 whole_part old new line put = (length line, subst (Appends old new) (sym (take_whole line)) put)
@@ -140,46 +178,46 @@ stops_after s owners firsts firsts_then todo todo_ outcomes old new had advances
   ap (λ (f : Failures). f.full) had.1 ∙ failures-full old.failures outcomes,
 )
 
-pub visited_then_stops : (s : State) (owners : Bool) (w : Walk) (name : List ℕ) (i : ℕ) (names : List (List ℕ × ℕ)) (firsts_then : FirstPaths) (old new : Sight) (entered : Bool)
-    → w.left ≡ (name, i) ∷ names → Visits s owners (firsts_of w.firsts) firsts_then (extraction_way w ++ name ∷ []) i old new (Ok entered)
-    → StopsBy s owners (firsts_of w.firsts) (extraction_todo s w) old new fault.OutOfMemory
-visited_then_stops s owners w name i names firsts_then old new entered read visits =
-    let rest = tasks_of (extraction_way w) names ++ more_of s w in
-    subst (λ (t : List Task). StopsBy s owners (firsts_of w.firsts) t old new fault.OutOfMemory) (todo_read s w name i names read)
+pub visited_then_stops : (s : State) (part : List Key) (owners : Bool) (w : Walk) (name : List ℕ) (i : ℕ) (names : List (List ℕ × ℕ)) (firsts_then : FirstPaths) (old new : Sight) (entered : Bool)
+    → w.left ≡ (name, i) ∷ names → is_in_part part w.ino name ≡ true → Visits s owners (firsts_of w.firsts) firsts_then (extraction_way w ++ name ∷ []) i old new (Ok entered)
+    → StopsBy s owners (firsts_of w.firsts) (extraction_todo part w) old new fault.OutOfMemory
+visited_then_stops s part owners w name i names firsts_then old new entered read is visits =
+    let rest = names_left part w names in
+    subst (λ (t : List Task). StopsBy s owners (firsts_of w.firsts) t old new fault.OutOfMemory) (todo_read part w name i names read is)
     (stops_after s owners (firsts_of w.firsts) firsts_then (Make (extraction_way w ++ name ∷ []) i ∷ rest) (todo_then s (extraction_way w ++ name ∷ []) i entered rest) visits.0 old new visits.1 (visits.2 rest))
 
 -- ---- where no name is left
 
-todo_left : (s : State) (w : Walk) → w.left ≡ [] → more_of s w ≡ extraction_todo s w
-todo_left s w none = ap (λ (left : List (List ℕ × ℕ)). tasks_of (extraction_way w) left ++ more_of s w) (sym none)
+todo_left : (part : List Key) (w : Walk) → w.left ≡ [] → more_of part w ≡ extraction_todo part w
+todo_left part w none = ap (names_left part w) (sym none)
 
-pub leave_failed : (s : State) (owners : Bool) (w : Walk) (old new : Sight) (f : ExtractFault) → w.left ≡ [] → Completes s owners (extraction_way w) w.ino old new (Err f)
-    → StopsBy s owners (firsts_of w.firsts) (extraction_todo s w) old new f
-leave_failed s owners w old new f none completes =
-    subst (λ (t : List Task). StopsBy s owners (firsts_of w.firsts) t old new f) (todo_left s w none)
-    (completes (firsts_of w.firsts) (tasks_up s (reverse w.above.items) (way_up (extraction_way w))))
+pub leave_failed : (s : State) (part : List Key) (owners : Bool) (w : Walk) (old new : Sight) (f : ExtractFault) → w.left ≡ [] → Completes s owners (extraction_way w) w.ino old new (Err f)
+    → StopsBy s owners (firsts_of w.firsts) (extraction_todo part w) old new f
+leave_failed s part owners w old new f none completes =
+    subst (λ (t : List Task). StopsBy s owners (firsts_of w.firsts) t old new f) (todo_left part w none)
+    (completes (firsts_of w.firsts) (tasks_up part (reverse w.above.items) (way_up (extraction_way w))))
 
 -- the walk went up, whatever it counts
 abbrev pub Up : Walk → Walk → Bool → Type 0
 Up w n true = (w.above.items ≡ n.above.items ++ (n.ino, n.left) ∷ []) × (extraction_way n ≡ way_up (extraction_way w)) × (n.firsts ≡ w.firsts)
 Up w n false = (w.above.items ≡ []) × (n.firsts ≡ w.firsts)
 
-pub leaves : (s : State) (owners : Bool) (w n : Walk) (old new : Sight) (done up : Bool) → w.left ≡ [] → Completes s owners (extraction_way w) w.ino old new (Ok done)
-    → Up w n up → Steps s owners w n old new (Ok up)
-leaves s owners w n old new done false none completes up =
-    let rest = tasks_up s (reverse w.above.items) (way_up (extraction_way w)) in
-    let empty : rest ≡ [] = ap (λ (above : List (ℕ × List (List ℕ × ℕ))). tasks_up s (reverse above) (way_up (extraction_way w))) up.0 in (
+pub leaves : (s : State) (part : List Key) (owners : Bool) (w n : Walk) (old new : Sight) (done up : Bool) → w.left ≡ [] → Completes (part_along part s) owners (extraction_way w) w.ino old new (Ok done)
+    → Up w n up → Steps s part owners w n old new (Ok up)
+leaves s part owners w n old new done false none completes up =
+    let rest = tasks_up part (reverse w.above.items) (way_up (extraction_way w)) in
+    let empty : rest ≡ [] = ap (λ (above : List (ℕ × List (List ℕ × ℕ))). tasks_up part (reverse above) (way_up (extraction_way w))) up.0 in (
       completes.0,
       completes.1,
-      subst (λ (f : FirstPaths). Advances s owners (firsts_of w.firsts) (extraction_todo s w) f [] completes.0) (sym (ap firsts_of up.1))
-          (advances_to s owners (firsts_of w.firsts) (firsts_of w.firsts) (more_of s w) (extraction_todo s w) rest [] completes.0 (todo_left s w none) empty (completes.2 (firsts_of w.firsts) rest)),
+      subst (λ (f : FirstPaths). Advances (part_along part s) owners (firsts_of w.firsts) (extraction_todo part w) f [] completes.0) (sym (ap firsts_of up.1))
+          (advances_to (part_along part s) owners (firsts_of w.firsts) (firsts_of w.firsts) (more_of part w) (extraction_todo part w) rest [] completes.0 (todo_left part w none) empty (completes.2 (firsts_of w.firsts) rest)),
     )
-leaves s owners w n old new done true none completes up =
-    let rest = tasks_up s (reverse w.above.items) (way_up (extraction_way w)) in
-    let todo : rest ≡ extraction_todo s n =
-    ap (λ (above : List (ℕ × List (List ℕ × ℕ))). tasks_up s (reverse above) (way_up (extraction_way w))) up.0
-    ∙ ap (λ (above : List (ℕ × List (List ℕ × ℕ))). tasks_up s above (way_up (extraction_way w))) (reverse-append n.above.items ((n.ino, n.left) ∷ []))
-    ∙ ap (tasks_up s ((n.ino, n.left) ∷ reverse n.above.items)) (sym up.1) in
+leaves s part owners w n old new done true none completes up =
+    let rest = tasks_up part (reverse w.above.items) (way_up (extraction_way w)) in
+    let todo : rest ≡ extraction_todo part n =
+    ap (λ (above : List (ℕ × List (List ℕ × ℕ))). tasks_up part (reverse above) (way_up (extraction_way w))) up.0
+    ∙ ap (λ (above : List (ℕ × List (List ℕ × ℕ))). tasks_up part above (way_up (extraction_way w))) (reverse-append n.above.items ((n.ino, n.left) ∷ []))
+    ∙ ap (tasks_up part ((n.ino, n.left) ∷ reverse n.above.items)) (sym up.1) in
     let left : length w.left ≡ 0 = ap (λ l. length l) none in
     let sum : sum_by (λ (d : ℕ × List (List ℕ × ℕ)). length d.1) w.above.items ≡ sum_by (λ (d : ℕ × List (List ℕ × ℕ)). length d.1) n.above.items + length n.left =
     ap (sum_by (λ d. length d.1)) up.0 ∙ sum_by_push (λ (d : ℕ × List (List ℕ × ℕ)). length d.1) n.above.items (n.ino, n.left) in
@@ -187,25 +225,25 @@ leaves s owners w n old new done true none completes up =
     let made : unmade s (firsts_of n.firsts) ≡ unmade s (firsts_of w.firsts) = ap (λ m. unmade s (firsts_of m)) up.2 in (
       completes.0,
       completes.1,
-      subst (λ (f : FirstPaths). Advances s owners (firsts_of w.firsts) (extraction_todo s w) f (extraction_todo s n) completes.0) (sym (ap firsts_of up.2))
-          (advances_to s owners (firsts_of w.firsts) (firsts_of w.firsts) (more_of s w) (extraction_todo s w) rest (extraction_todo s n) completes.0 (todo_left s w none) todo (completes.2 (firsts_of w.firsts) rest)),
+      subst (λ (f : FirstPaths). Advances (part_along part s) owners (firsts_of w.firsts) (extraction_todo part w) f (extraction_todo part n) completes.0) (sym (ap firsts_of up.2))
+          (advances_to (part_along part s) owners (firsts_of w.firsts) (firsts_of w.firsts) (more_of part w) (extraction_todo part w) rest (extraction_todo part n) completes.0 (todo_left part w none) todo (completes.2 (firsts_of w.firsts) rest)),
       omega arith,
     )
 
 -- a step that ends with this count
-pub step_left : (s : State) (owners : Bool) (w n : Walk) (old seen : Sight) (on : Bool) → n.totals ≡ seen.totals → Steps s owners w n old seen (Ok on)
-    → Steps s owners w n old (record { made = seen.made; failures = seen.failures; told = seen.told; told_failures = seen.told_failures; totals = n.totals }) (Ok on)
-step_left s owners w n old seen on is steps =
-    subst (λ (k : Totals). Steps s owners w n old (record { made = seen.made; failures = seen.failures; told = seen.told; told_failures = seen.told_failures; totals = k }) (Ok on)) (sym is) steps
+pub step_left : (s : State) (part : List Key) (owners : Bool) (w n : Walk) (old seen : Sight) (on : Bool) → n.totals ≡ seen.totals → Steps s part owners w n old seen (Ok on)
+    → Steps s part owners w n old (record { made = seen.made; failures = seen.failures; told = seen.told; told_failures = seen.told_failures; totals = n.totals }) (Ok on)
+step_left s part owners w n old seen on is steps =
+    subst (λ (k : Totals). Steps s part owners w n old (record { made = seen.made; failures = seen.failures; told = seen.told; told_failures = seen.told_failures; totals = k }) (Ok on)) (sym is) steps
 
 -- the same, of a walk that knows another count before it goes up
-pub leaves_as : (s : State) (owners : Bool) (w m n : Walk) (old new : Sight) (done up : Bool) → w.left ≡ [] → extraction_way m ≡ extraction_way w → m.above.items ≡ w.above.items → m.firsts ≡ w.firsts
-    → Completes s owners (extraction_way w) w.ino old new (Ok done) → ExtractionGoesUp m n up → m.totals ≡ new.totals
-    → Steps s owners w n old (record { made = new.made; failures = new.failures; told = new.told; told_failures = new.told_failures; totals = n.totals }) (Ok up)
-leaves_as s owners w m n old new done false none way above firsts completes up count =
-    step_left s owners w n old new false (up.2 ∙ count) (leaves s owners w n old new done false none completes (sym above ∙ up.0, up.1 ∙ firsts))
-leaves_as s owners w m n old new done true none way above firsts completes up count =
-    step_left s owners w n old new true (up.3 ∙ count) (leaves s owners w n old new done true none completes (sym above ∙ up.0, up.1 ∙ ap way_up way, up.2 ∙ firsts))
+pub leaves_as : (s : State) (part : List Key) (owners : Bool) (w m n : Walk) (old new : Sight) (done up : Bool) → w.left ≡ [] → extraction_way m ≡ extraction_way w → m.above.items ≡ w.above.items → m.firsts ≡ w.firsts
+    → Completes (part_along part s) owners (extraction_way w) w.ino old new (Ok done) → ExtractionGoesUp m n up → m.totals ≡ new.totals
+    → Steps s part owners w n old (record { made = new.made; failures = new.failures; told = new.told; told_failures = new.told_failures; totals = n.totals }) (Ok up)
+leaves_as s part owners w m n old new done false none way above firsts completes up count =
+    step_left s part owners w n old new false (up.2 ∙ count) (leaves s part owners w n old new done false none completes (sym above ∙ up.0, up.1 ∙ firsts))
+leaves_as s part owners w m n old new done true none way above firsts completes up count =
+    step_left s part owners w n old new true (up.3 ∙ count) (leaves s part owners w n old new done true none completes (sym above ∙ up.0, up.1 ∙ ap way_up way, up.2 ∙ firsts))
 
 -- ---- the way to an object
 

@@ -5,5 +5,7 @@ pub mod Folders
 pub mod Laws
 pub mod Making
 pub mod Outcomes
+pub mod Parts
+pub mod PartsOf
 pub mod Paths
 pub mod Walking

@@ -1,5 +1,5 @@
 -- The walk through a tree that is extracted: what is still to be done, and what a step of it does.
-use Rattle.std.specs.Prelude.{◌≡◌, ℕ, ◌+◌, ◌-◌, ◌*◌, ◌<◌, ◌≤◌, ◌^◌, ◌==◌, min, Bool, true, false, List, [], ◌∷◌, ◌++◌, length, map, reverse, sum_by, count_by, flat_map, Option, Some, is_some, is_none, Result, Ok, Err, if◌then◌else◌}
+use Rattle.std.specs.Prelude.{◌≡◌, ℕ, ◌+◌, ◌-◌, ◌*◌, ◌<◌, ◌≤◌, ◌^◌, ◌==◌, min, Bool, true, false, List, [], ◌∷◌, ◌++◌, length, map, reverse, sum_by, count_by, filter, flat_map, Option, Some, is_some, is_none, Result, Ok, Err, if◌then◌else◌}
 use Rattle.std.specs.FinMap.{entries}
 use Rattle.std.specs.Io.KnownBytes.{Appends}
 use Rattle.flashbase.specs.Device.{PutsPart, next_count}
@@ -8,6 +8,8 @@ use Rattle.jmount.specs.Find.{way_up}
 use Rattle.jextract.specs.Folders.{Failures, Made, ReportsMore}
 use Rattle.jextract.specs.Making.{firsts_of}
 use Rattle.jextract.specs.Extracts.{AreTreeOutcomes}
+use Rattle.jname.specs.Live.{Key}
+use Rattle.jextract.specs.Parts.{is_in_part, part_along}
 use Rattle.jextract.specs.Outcomes.{root_alone, Task, Make, Complete, Outcome, FirstPaths, AreOutcomes, AreFirstOutcomes, tasks_in, tasks_of, all_lines, failures_after, line_if_left_out}
 use Rattle.jextract.specs.declared.extracting.Walk.{Walk}
 use Rattle.jextract.specs.declared.making.MakeFault.{MakeFault}
@@ -58,17 +60,21 @@ Settles (Err make.OutOfMemory) path old new before now n after (Err _) = ⊥
 
 -- ---- what is still to be done at a place of the walk
 
+-- these names of a directory, those alone that are in a part
+abbrev pub names_in_part : List Key → ℕ → List (List ℕ × ℕ) → List (List ℕ × ℕ)
+names_in_part way dir names = filter (λ e. is_in_part way dir e.0) names
+
 -- what is left of these directories, where `path` leads to the first and each lies in the next
-abbrev pub tasks_up : State → List (ℕ × List (List ℕ × ℕ)) → List (List ℕ) → List Task
-tasks_up s [] path = []
-tasks_up s (directory ∷ above) path =
-    tasks_of path directory.1 ++ Complete path directory.0 ∷ tasks_up s above (way_up path)
+abbrev pub tasks_up : List Key → List (ℕ × List (List ℕ × ℕ)) → List (List ℕ) → List Task
+tasks_up way [] path = []
+tasks_up way (directory ∷ above) path = tasks_of path (names_in_part way directory.0 directory.1)
+    ++ Complete path directory.0 ∷ tasks_up way above (way_up path)
 
 abbrev pub extraction_way : Walk → List (List ℕ)
 extraction_way w = map (λ name. name.now) w.path.items
 
-abbrev pub extraction_todo : State → Walk → List Task
-extraction_todo s w = tasks_up s ((w.ino, w.left) ∷ reverse w.above.items) (extraction_way w)
+abbrev pub extraction_todo : List Key → Walk → List Task
+extraction_todo way w = tasks_up way ((w.ino, w.left) ∷ reverse w.above.items) (extraction_way w)
 
 -- ---- how far it is to the end
 
@@ -172,19 +178,20 @@ Enters s i w w_after (Ok _) = (w_after.left ≡ entries_in s i) × (w_after.ino 
     × (w_after.path ≡ w.path) × (w_after.firsts ≡ w.firsts) × (w_after.totals ≡ w.totals)
 Enters s i w w_after (Err fault) = fault ≡ OutOfMemory
 
--- `false`: nothing is still to be done.
-abbrev pub Steps : State → Bool → Walk → Walk → Sight → Sight → Result Bool ExtractFault → Type 0
-Steps s owners w w_after old new (Ok true) =
+-- A step of a walk through the part along a way. `false`: nothing is still to be done.
+abbrev pub Steps : State → List Key → Bool → Walk → Walk → Sight → Sight → Result Bool ExtractFault
+    → Type 0
+Steps s way owners w w_after old new (Ok true) =
     (outcomes : List Outcome) × Had old new outcomes
-    × Advances s owners (firsts_of w.firsts) (extraction_todo s w) (firsts_of w_after.firsts)
-    (extraction_todo s w_after) outcomes
+    × Advances (part_along way s) owners (firsts_of w.firsts) (extraction_todo way w)
+    (firsts_of w_after.firsts) (extraction_todo way w_after) outcomes
     × (extraction_steps_left s w_after < extraction_steps_left s w)
-Steps s owners w w_after old new (Ok false) =
+Steps s way owners w w_after old new (Ok false) =
     (outcomes : List Outcome) × Had old new outcomes
-    × Advances s owners (firsts_of w.firsts) (extraction_todo s w) (firsts_of w_after.firsts)
-    [] outcomes
-Steps s owners w w_after old new (Err fault) =
-    StopsBy s owners (firsts_of w.firsts) (extraction_todo s w) old new fault
+    × Advances (part_along way s) owners (firsts_of w.firsts) (extraction_todo way w)
+    (firsts_of w_after.firsts) [] outcomes
+Steps s way owners w w_after old new (Err fault) = StopsBy (part_along way s) owners
+    (firsts_of w.firsts) (extraction_todo way w) old new fault
 
 -- the tree is made in a folder that was made
 abbrev pub Fills : State → Bool → Sight → Sight → Result Totals ExtractFault → Type 0

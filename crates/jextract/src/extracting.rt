@@ -1,7 +1,14 @@
 //! The tree of a mounted image, written into a folder of the host.
 
-ghost use Rattle.std.specs.Prelude.{◌≡◌, if◌then◌else◌, map};
+ghost use Rattle.std.specs.Prelude.{◌≡◌, false, true, if◌then◌else◌, map, IfErr, IfOk};
+ghost use Rattle.std.specs.Prelude.{ℕ};
+ghost use Rattle.std.specs.FinMap.{FinMap};
+ghost use Rattle.jname.specs.Live.{key_cmp};
 ghost use Rattle.jextract.specs.Extracts.{Extracts};
+ghost use Rattle.jextract.specs.Outcomes.{root_alone};
+ghost use Rattle.jextract.specs.PartsOf.{IsPart, part_of};
+ghost use Rattle.jextract.specs.Parts.{is_in_part, is_on_way, is_way, keys_of, part_along, part_alone, with_names};
+ghost use Rattle.jextract.specs.declared.fault.ExtractFault.TheVariants.{OutOfMemory};
 ghost use Rattle.jmount.specs.Tree as tree;
 ghost use Rattle.jextract.specs.Making.{firsts_of};
 ghost use Rattle.jextract.specs.Walking.{Completes, Enters, Fills, ExtractionGoesUp, Steps, Settles, Visits, no_totals, totals_up};
@@ -10,6 +17,7 @@ use crate::fault::ExtractFault;
 use crate::folder::{Folder, FolderFault};
 use crate::making::{MakeFault, complete, make};
 use crate::notes::tell;
+use crate::parts::Part;
 use crate::totals::Totals;
 use flashbase::Sink;
 use jmount::{Kind, Mounted};
@@ -18,7 +26,7 @@ use std::alloc::Global;
 use std::collections::BTreeMap;
 use std::mem;
 
-const ROOT: u32 = 1;
+pub(crate) const ROOT: u32 = 1;
 
 impl Totals {
     fn none() -> Totals
@@ -73,8 +81,29 @@ fn settle<N: Sink>(
     }
 }
 
+/// Whether a directory is on a way.
+fn is_on_way(way: &[(u32, &[u8])], dir: u32) -> bool
+    ensures { result ≡ is_on_way (keys_of way.now) dir }
+{
+    way.iter().any(|key| key.0 == dir)
+}
+
+/// Whether a name of a directory is on a way.
+fn is_way(way: &[(u32, &[u8])], dir: u32, name: &[u8]) -> bool
+    ensures { result ≡ is_way (keys_of way.now) dir name.now }
+{
+    way.iter().any(|key| key.0 == dir && key.1 == name)
+}
+
+/// Whether a name of a directory is in the part along a way.
+fn is_in_part(way: &[(u32, &[u8])], dir: u32, name: &[u8]) -> bool
+    ensures { result ≡ is_in_part (keys_of way.now) dir name.now }
+{
+    !is_on_way(way, dir) || is_way(way, dir, name)
+}
+
 /// Whether this number is that of a directory.
-fn is_directory(mounted: &Mounted<'_>, ino: u32) -> bool
+pub(crate) fn is_directory(mounted: &Mounted<'_>, ino: u32) -> bool
     ensures { result ≡ tree.is_directory mounted.now.state ino }
 {
     match mounted.object(ino) {
@@ -95,7 +124,9 @@ fn visit<F: Folder, N: Sink>(
     folder: &mut F,
     notes: &mut N,
 ) -> Result<bool, ExtractFault>
-    ensures { Visits mounted.now.state owners (firsts_of firsts.old) (firsts_of firsts.new)
+    // Whatever the names of directories are: a part of the tree has others.
+    ensures visits { (names : FinMap key_cmp ℕ) → Visits (with_names mounted.now.state names) owners
+        (firsts_of firsts.old) (firsts_of firsts.new)
         (map (λ name. name.now) path.now) ino
         (record {
           made = F.made folder.old;
@@ -111,6 +142,8 @@ fn visit<F: Folder, N: Sink>(
           told_failures = N.failures notes.new;
           totals = totals.new;
         }) result }
+    ensures entered { IfOk result
+        (λ entered. entered ≡ true → tree.is_directory mounted.now.state ino ≡ true) }
 {
     let done = make(alloc, mounted, owners, path, ino, firsts, folder);
     let is_made = settle(done, path, totals, notes)?;
@@ -128,7 +161,8 @@ fn leave<F: Folder, N: Sink>(
     folder: &mut F,
     notes: &mut N,
 ) -> Result<bool, ExtractFault>
-    ensures { Completes mounted.now.state owners (map (λ name. name.now) path.now) ino
+    ensures { (names : FinMap key_cmp ℕ) → Completes (with_names mounted.now.state names) owners
+        (map (λ name. name.now) path.now) ino
         (record {
           made = F.made folder.old;
           failures = F.failures folder.old;
@@ -185,11 +219,12 @@ impl<'m, 'a> Walk<'m, 'a> {
         &mut self,
         alloc: Global,
         mounted: &'m Mounted<'a>,
+        way: &[(u32, &[u8])],
         owners: bool,
         folder: &mut F,
         notes: &mut N,
     ) -> Result<bool, ExtractFault>
-        ensures { Steps mounted.now.state owners self.old self.new
+        ensures { Steps mounted.now.state (keys_of way.now) owners self.old self.new
             (record {
               made = F.made folder.old;
               failures = F.failures folder.old;
@@ -218,6 +253,9 @@ impl<'m, 'a> Walk<'m, 'a> {
             )?;
             return Ok(self.go_up());
         };
+        if !is_in_part(way, self.ino, name) {
+            return Ok(true);
+        }
         self.path.push(name)?;
         if visit(
             alloc,
@@ -248,15 +286,26 @@ impl<'m, 'a> Walk<'m, 'a> {
     }
 }
 
-/// Makes the tree of a mounted image in a folder that was made.
+/// The root alone is made.
+fn firsts_of_root(alloc: Global) -> Result<BTreeMap<u32, String>, ExtractFault>
+    ensures ok { IfOk result (λ firsts. firsts_of firsts ≡ root_alone) }
+    ensures err { IfErr result (λ fault. fault ≡ OutOfMemory) }
+{
+    let mut firsts = BTreeMap::new(alloc);
+    firsts.insert(ROOT, String::new(alloc))?;
+    Ok(firsts)
+}
+
+/// Makes the part of a mounted image along a way in a folder that was made.
 fn fill<F: Folder, N: Sink>(
     alloc: Global,
     mounted: &Mounted<'_>,
+    way: &[(u32, &[u8])],
     owners: bool,
     folder: &mut F,
     notes: &mut N,
 ) -> Result<Totals, ExtractFault>
-    ensures { Fills mounted.now.state owners
+    ensures { Fills (part_along (keys_of way.now) mounted.now.state) owners
         (record {
           made = F.made folder.old;
           failures = F.failures folder.old;
@@ -272,8 +321,7 @@ fn fill<F: Folder, N: Sink>(
           totals = no_totals;
         }) result }
 {
-    let mut firsts = BTreeMap::new(alloc);
-    firsts.insert(ROOT, String::new(alloc))?;
+    let firsts = firsts_of_root(alloc)?;
     let mut walk = Walk {
         path: Vec::new(alloc),
         ino: ROOT,
@@ -282,8 +330,95 @@ fn fill<F: Folder, N: Sink>(
         firsts,
         totals: Totals::none(),
     };
-    while walk.step(alloc, mounted, owners, folder, notes)? {}
+    while walk.step(alloc, mounted, way, owners, folder, notes)? {}
     Ok(walk.totals)
+}
+
+/// Makes one object that is no directory in a folder that was made, by a name of the folder.
+fn fill_alone<F: Folder, N: Sink>(
+    alloc: Global,
+    mounted: &Mounted<'_>,
+    name: &[u8],
+    ino: u32,
+    owners: bool,
+    folder: &mut F,
+    notes: &mut N,
+) -> Result<Totals, ExtractFault>
+    requires { tree.is_directory mounted.now.state ino ≡ false }
+    ensures { Fills (part_alone name.now ino mounted.now.state) owners
+        (record {
+          made = F.made folder.old;
+          failures = F.failures folder.old;
+          told = N.taken notes.old;
+          told_failures = N.failures notes.old;
+          totals = no_totals;
+        })
+        (record {
+          made = F.made folder.new;
+          failures = F.failures folder.new;
+          told = N.taken notes.new;
+          told_failures = N.failures notes.new;
+          totals = no_totals;
+        }) result }
+{
+    let mut firsts = firsts_of_root(alloc)?;
+    let mut totals = Totals::none();
+    visit(
+        alloc,
+        mounted,
+        owners,
+        &[name],
+        ino,
+        &mut firsts,
+        &mut totals,
+        folder,
+        notes,
+    )?;
+    leave(
+        alloc,
+        mounted,
+        owners,
+        &[],
+        ROOT,
+        &mut totals,
+        folder,
+        notes,
+    )?;
+    Ok(totals)
+}
+
+/// Makes a part of a mounted image in a folder that was made.
+fn fill_part<F: Folder, N: Sink>(
+    alloc: Global,
+    mounted: &Mounted<'_>,
+    part: &Part<'_>,
+    owners: bool,
+    folder: &mut F,
+    notes: &mut N,
+) -> Result<Totals, ExtractFault>
+    requires { IsPart mounted.now.state part.now }
+    ensures { Fills (part_of part.now mounted.now.state) owners
+        (record {
+          made = F.made folder.old;
+          failures = F.failures folder.old;
+          told = N.taken notes.old;
+          told_failures = N.failures notes.old;
+          totals = no_totals;
+        })
+        (record {
+          made = F.made folder.new;
+          failures = F.failures folder.new;
+          told = N.taken notes.new;
+          told_failures = N.failures notes.new;
+          totals = no_totals;
+        }) result }
+{
+    match part {
+        Part::Along(way) => fill(alloc, mounted, way, owners, folder, notes),
+        Part::Alone { name, ino } => {
+            fill_alone(alloc, mounted, name, *ino, owners, folder, notes)
+        }
+    }
 }
 
 /// Makes the folder, and in it the tree of a mounted image: a directory before what lies in it, and
@@ -314,7 +449,31 @@ pub fn extract<F: Folder, N: Sink>(
         result }
 {
     match folder.make_directory("") {
-        Ok(()) => fill(alloc, mounted, owners, folder, notes),
+        Ok(()) => fill(alloc, mounted, &[], owners, folder, notes),
+        Err(FolderFault::Refused) => Err(ExtractFault::Folder),
+        Err(FolderFault::NoSpace) => Err(ExtractFault::NoSpace),
+        Err(FolderFault::OutOfMemory) => Err(ExtractFault::OutOfMemory),
+    }
+}
+
+/// The same of a part of the tree: a directory with all that lies below it, at the path that it has
+/// in the whole tree, by the directories on the way; or another object alone, by its last name.
+pub fn extract_part<F: Folder, N: Sink>(
+    alloc: Global,
+    mounted: &Mounted<'_>,
+    part: &Part<'_>,
+    owners: bool,
+    folder: &mut F,
+    notes: &mut N,
+) -> Result<Totals, ExtractFault>
+    requires { IsPart mounted.now.state part.now }
+    ensures { Extracts (part_of part.now mounted.now.state) owners
+        (F.made folder.old) (F.made folder.new) (F.failures folder.old) (F.failures folder.new)
+        (N.taken notes.old) (N.taken notes.new) (N.failures notes.old) (N.failures notes.new)
+        result }
+{
+    match folder.make_directory("") {
+        Ok(()) => fill_part(alloc, mounted, part, owners, folder, notes),
         Err(FolderFault::Refused) => Err(ExtractFault::Folder),
         Err(FolderFault::NoSpace) => Err(ExtractFault::NoSpace),
         Err(FolderFault::OutOfMemory) => Err(ExtractFault::OutOfMemory),

@@ -20,12 +20,14 @@ mod folder;
 pub mod laws;
 mod making;
 mod notes;
+mod parts;
 mod paths;
 mod reason;
 mod totals;
 
-pub use crate::extracting::extract;
+pub use crate::extracting::{extract, extract_part};
 pub use crate::fault::ExtractFault;
 pub use crate::folder::{Attributes, FilledFile, Folder, FolderFault, Owner};
+pub use crate::parts::{Part, PartFault, part_at};
 pub use crate::reason::Reason;
 pub use crate::totals::Totals;

@@ -5,7 +5,10 @@ ghost use Rattle.std.specs.Prelude.{◌≡◌};
 use crate::checks::equal;
 use crate::images::{LARGE, PLAIN, image_of};
 use byteorder::LittleEndian;
-use jextract::{Attributes, ExtractFault, FilledFile, Folder, FolderFault, Totals, extract};
+use jextract::{
+    Attributes, ExtractFault, FilledFile, Folder, FolderFault, PartFault, Totals, extract,
+    extract_part, part_at,
+};
 use jmount::mount;
 use std::alloc::Global;
 use test_support::Matcher;
@@ -128,5 +131,42 @@ fn refused_growth_of_a_tree(rt: HostRuntime) {
     if let Some(refused) = fault(rt.alloc(), &image) {
         equal(&rt, refused, ExtractFault::OutOfMemory);
         equal(&rt, fault(rt.alloc(), &image), None);
+    }
+}
+
+/// The same of the part at a path, which is made by so many calls.
+fn part_fault(alloc: Global, image: &[u8], path: &[u8], calls: u64) -> Option<ExtractFault> {
+    let Ok(mounted) = mount::<LittleEndian>(alloc, image, LARGE) else {
+        return Some(ExtractFault::OutOfMemory);
+    };
+    let part = match part_at(alloc, &mounted, path) {
+        Ok(part) => part,
+        Err(PartFault::Path(_)) => return Some(ExtractFault::Folder),
+        Err(PartFault::OutOfMemory) => return Some(ExtractFault::OutOfMemory),
+    };
+    let mut folder = Tally { calls: 0 };
+    let mut notes = Matcher {
+        rest: b"",
+        failures: 0,
+    };
+    match extract_part(alloc, &mounted, &part, false, &mut folder, &mut notes) {
+        Ok(_) if folder.calls == calls => None,
+        Ok(_) => Some(ExtractFault::Folder),
+        Err(fault) => Some(fault),
+    }
+}
+
+/// Passes with each allocation failing in turn too, in the same way.
+#[test]
+fn refused_growth_of_parts(rt: HostRuntime) {
+    let Ok(image) = image_of(rt.alloc(), PLAIN) else {
+        return;
+    };
+    let parts: [(&[u8], u64); 2] = [(b"/d", 6), (b"/d/f", 4)];
+    for (path, calls) in parts {
+        if let Some(refused) = part_fault(rt.alloc(), &image, path, calls) {
+            equal(&rt, refused, ExtractFault::OutOfMemory);
+            equal(&rt, part_fault(rt.alloc(), &image, path, calls), None);
+        }
     }
 }

@@ -15,7 +15,8 @@ use Rattle.jcommand.specs.declared.command_line.RequestFault.{RequestFault}
 use Rattle.jcommand.specs.Status.{outcome_of}
 use Rattle.jcommand.specs.declared.outcome.Outcome.{Outcome}
 use Rattle.jcommand.specs.declared.outcome.Outcome.TheVariants as outcome
-use Rattle.jffs2_image.specs.Folders.{FillsFolder, ListsFolder, settings}
+use Rattle.jffs2_image.specs.Folders.{Extracting, FillsAsked, ListsFolder, settings}
+use Rattle.jffs2_image.specs.InfoRuns.{FileReads, Passage}
 use Rattle.jffs2_image.specs.Runs.{Finishes, IsCommand, Says, answer_finished}
 use Rattle.jffs2_image.specs.declared.folders.Extracted.{Extracted}
 
@@ -48,18 +49,20 @@ outcome_of_extraction (Ok done) = outcome_of (found_by_extraction done)
 outcome_of_extraction (Err fault) = outcome.Fault
 
 -- The image of a name is extracted into the folder of a name, and what was left out is told before
--- what else is said. `told` are the files of the host, which failed `read_before` and then
--- `read_now` times, and `made` is what is made in the folder of each name.
-pub record EndsExtraction (options : Options) (decompress owners : Bool) (image folder : List ℕ)
-    (told : List ℕ → Option (List ℕ)) (read_before read_now : ℕ)
-    (made_old made_new : List ℕ → Option (List Made))
-    (old new : Option (List ℕ)) (before now : ℕ) (result : Outcome) : Type 0 where
+-- what else is said. `made_old` and `made_new` are what is made in the folder of each name.
+pub record EndsExtraction (decompress : Bool) (x : Extracting) (image : List ℕ)
+    (reading : FileReads) (made_old made_new : List ℕ → Option (List Made)) (notes : Passage)
+    (result : Outcome) : Type 0 where
   pub between : Option (List ℕ)
   pub count : ℕ
   pub answer : Result Extracted ProgramFault
-  pub fills : FillsFolder decompress options.endian options.geometry.block owners (told image)
-      read_before read_now image folder made_old made_new old between before count answer
-  pub said : Says ((new ≡ between) × (now ≡ count)) between new count now
+  pub fills : FillsAsked decompress x image reading made_old made_new (record {
+    old = notes.old;
+    new = between;
+    before = notes.before;
+    now = count;
+  }) answer
+  pub said : Says ((notes.new ≡ between) × (notes.now ≡ count)) between notes.new count notes.now
       (said_after_extraction answer)
   pub ends : result ≡ outcome_of_extraction answer
 
@@ -73,10 +76,18 @@ pub record RunsExtract (args : List (List ℕ)) (told : List ℕ → Option (Lis
   pub quiet : Bool
   pub image : List ℕ
   pub folder : List ℕ
-  pub parsed : parsed_from args ≡ Some (ExtractParsed options decompress owners quiet image folder)
+  pub path : Option (List ℕ)
+  pub parsed : parsed_from args
+      ≡ Some (ExtractParsed options decompress owners quiet image folder path)
   pub faultless : IsFaultless args
-  pub ends : EndsExtraction options decompress owners image folder told read_before read_now
-      made_old made_new old new before now result
+  pub ends : EndsExtraction decompress (record {
+    endian = options.endian;
+    size = options.geometry.block;
+    owners = owners;
+    folder = folder;
+    path = path;
+  }) image (record { told = told; before = read_before; now = read_now }) made_old made_new
+      (record { old = old; new = new; before = before; now = now }) result
 
 abbrev pub said_after_listing : Result ℕ ProgramFault → Option (List ℕ)
 said_after_listing (Ok n) = None

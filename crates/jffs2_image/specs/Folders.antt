@@ -1,15 +1,19 @@
 -- What the commands do that work with a folder of the host.
-use Rattle.std.specs.Prelude.{◌≡◌, ◌≢◌, ◌⊎◌, ℕ, Bool, true, false, List, [], ◌∷◌, All, map, Option, option_map, Result, Ok, Err}
+use Rattle.std.specs.Prelude.{◌≡◌, ◌≢◌, ◌⊎◌, ℕ, Bool, true, false, List, [], ◌∷◌, All, map, Option, Some, None, option_map, Result, Ok, Err}
 use Rattle.std.specs.Io.KnownBytes.{Appends}
 use Rattle.flashbase.specs.Device.{PutsPart, next_count}
 use Rattle.jnode.specs.declared.order.Endian.{Endian}
+use Rattle.jmount.specs.Find.{find}
 use Rattle.jmount.specs.Mount.{Mount}
 use Rattle.jmount.specs.Mounts.{Answers}
+use Rattle.jmount.specs.Tree.{State}
 use Rattle.jmount.specs.declared.fault.MountFault.{MountFault}
 use Rattle.jextract.specs.Folders.{Failures, Made}
 use Rattle.jextract.specs.Extracts.{Extracts}
+use Rattle.jextract.specs.Parts.{IsPartAsked}
 use Rattle.jextract.specs.declared.fault.ExtractFault.{ExtractFault}
 use Rattle.jextract.specs.declared.fault.ExtractFault.TheVariants as extract
+use Rattle.jextract.specs.declared.totals.Totals.{Totals}
 use Rattle.jfolder.specs.Actions.{FitsListing}
 use Rattle.jfolder.specs.Known.{Known}
 use Rattle.jfolder.specs.Links.{AreLinked}
@@ -19,6 +23,7 @@ use Rattle.jfolder.specs.Trees.{IsTree, Rise}
 use Rattle.jfolder.specs.Walking.{HasOptions, IsItemTold, IsToldAt}
 use Rattle.jfolder.specs.declared.found.Options.{Options}
 use Rattle.jfolder.specs.declared.found.Owner.{Owner}
+use Rattle.jcommand.specs.declared.parsed.Extraction.{Extraction}
 use Rattle.jcommand.specs.declared.parsed.Owner as command
 use Rattle.jfolder.specs.Text.{listing_text}
 use Rattle.jfolder.specs.declared.fault.ReadFault.{ReadFault}
@@ -28,10 +33,12 @@ use Rattle.jconvert.specs.Converting.{Converts}
 use Rattle.jreport.specs.ExtractionNotes.{attribute_count}
 use Rattle.jreport.specs.FoundIn.{found_in}
 use Rattle.jreport.specs.Notes.{noted}
+use Rattle.jreport.specs.Paths.{IsWordFault, path_of}
 use Rattle.jreport.specs.declared.faults.ProgramFault.{ProgramFault}
 use Rattle.jreport.specs.declared.faults.ProgramFault.TheVariants as program
 use Rattle.jffs2_image.specs.Decompressing.{IsNotConverted}
 use Rattle.jffs2_image.specs.Host.{AreOf, IsReadFault}
+use Rattle.jffs2_image.specs.InfoRuns.{FileReads, Passage}
 use Rattle.jffs2_image.specs.Writes.{IsUnreadFile}
 use Rattle.jffs2_image.specs.declared.folders.Extracted.{Extracted}
 
@@ -45,24 +52,60 @@ IsExtractFault name extract.NoSpace (program.NoSpace file) = file.now ≡ name
 IsExtractFault name extract.OutOfMemory program.OutOfMemory = Unit {0}
 IsExtractFault name _ _ = ⊥
 
+-- what is asked of an extraction: an image with blocks of this size in this byte order, with its
+-- owners or without, into the folder of this name, all of its tree or the part at a path
+pub record Extracting : Type 0 where
+  pub endian : Endian
+  pub size : ℕ
+  pub owners : Bool
+  pub folder : List ℕ
+  pub path : Option (List ℕ)
+
+-- what it does to a folder and to the notes
+pub record Filling : Type 0 where
+  pub made_old : Option (List Made)
+  pub made_new : Option (List Made)
+  pub failures_old : Failures
+  pub failures_new : Failures
+  pub notes : Passage
+
+-- nothing
+abbrev pub FillsNothing : Filling → Type 0
+FillsNothing f = (f.made_new ≡ f.made_old) × (f.failures_new ≡ f.failures_old)
+    × (f.notes.new ≡ f.notes.old) × (f.notes.now ≡ f.notes.before)
+
+-- the tree of a file system is extracted
+abbrev pub ExtractsTree : State → Extracting → Filling → Result Totals ExtractFault → Type 0
+ExtractsTree s x f result = Extracts s x.owners f.made_old f.made_new f.failures_old
+    f.failures_new f.notes.old f.notes.new f.notes.before f.notes.now result
+
+-- the path that is asked for names nothing
+abbrev pub HasNoPart : State → Option (List ℕ) → ProgramFault → Type 0
+HasNoPart s (Some path) (program.Path fault) = find s path ≡ Err fault
+HasNoPart s _ _ = ⊥
+
+-- The tree of a file system is extracted, or the part of it that is asked for; or there is no such
+-- part, and nothing is done.
+abbrev pub ExtractsPart : State → Extracting → Filling → Result Totals ProgramFault → Type 0
+ExtractsPart s x f (Ok n) =
+    (part : State) × IsPartAsked s x.path part × ExtractsTree part x f (Ok n)
+ExtractsPart s x f (Err fault) =
+    ((part : State) × (refused : ExtractFault) × IsPartAsked s x.path part
+    × ExtractsTree part x f (Err refused) × IsExtractFault x.folder refused fault)
+    ⊎ (HasNoPart s x.path fault × FillsNothing f)
+
 -- An image was extracted, if it mounts. `Ok` has what was counted, and how many findings and nodes
 -- of extended attributes the image has.
-abbrev pub ExtractsBytes : Endian → ℕ → Bool → List ℕ → List ℕ → Option (List Made)
-    → Option (List Made) → Failures → Failures → Option (List ℕ) → Option (List ℕ) → ℕ → ℕ
-    → Result Extracted ProgramFault → Type 0
-ExtractsBytes e size owners image folder old new before now told_old told_new told_before told_now
-    (Ok done) =
-    (mount : Mount) × Answers e size image (Ok mount)
-    × Extracts mount.state owners old new before now told_old told_new told_before told_now
-    (Ok done.totals)
+abbrev pub ExtractsBytes : Extracting → List ℕ → Filling → Result Extracted ProgramFault → Type 0
+ExtractsBytes x image f (Ok done) =
+    (mount : Mount) × Answers x.endian x.size image (Ok mount)
+    × ExtractsPart mount.state x f (Ok done.totals)
     × (done.findings ≡ noted mount) × (done.attributes ≡ attribute_count mount)
-ExtractsBytes e size owners image folder old new before now told_old told_new told_before told_now
-    (Err fault) =
-    ((mount : Mount) × (refused : ExtractFault) × Answers e size image (Ok mount)
-    × Extracts mount.state owners old new before now told_old told_new told_before told_now
-    (Err refused) × IsExtractFault folder refused fault)
-    ⊎ ((refused : MountFault) × (fault ≡ program.Mount refused) × Answers e size image (Err refused)
-    × (new ≡ old) × (now ≡ before) × (told_new ≡ told_old) × (told_now ≡ told_before))
+ExtractsBytes x image f (Err fault) =
+    ((mount : Mount) × Answers x.endian x.size image (Ok mount)
+    × ExtractsPart mount.state x f (Err fault))
+    ⊎ ((refused : MountFault) × (fault ≡ program.Mount refused)
+    × Answers x.endian x.size image (Err refused) × FillsNothing f)
 
 -- the same answer, with what was found in this image
 abbrev pub with_found : Endian → ℕ → List ℕ → Result Extracted ProgramFault
@@ -75,50 +118,81 @@ with_found e size image (Err fault) = Err fault
 -- The same where it may be asked to decompress the image: then that is extracted which `decompress`
 -- makes of it, and what was found in the image itself is counted; or it says why nothing is made of
 -- it.
-abbrev pub ExtractsTaken : Bool → Endian → ℕ → Bool → List ℕ → List ℕ → Option (List Made)
-    → Option (List Made) → Failures → Failures → Option (List ℕ) → Option (List ℕ) → ℕ → ℕ
-    → Result Extracted ProgramFault → Type 0
-ExtractsTaken false e size owners image folder old new before now told_old told_new told_before
-    told_now result =
-    ExtractsBytes e size owners image folder old new before now told_old told_new told_before
-    told_now result
-ExtractsTaken true e size owners image folder old new before now told_old told_new told_before
-    told_now result =
-    ((made : List ℕ) × (done : Result Extracted ProgramFault) × Converts e size image (Ok made)
-    × ExtractsBytes e size owners made folder old new before now told_old told_new told_before
-    told_now done × (result ≡ with_found e size image done))
-    ⊎ ((fault : ProgramFault) × (result ≡ Err fault) × IsNotConverted e size image fault
-    × (new ≡ old) × (now ≡ before) × (told_new ≡ told_old) × (told_now ≡ told_before))
+abbrev pub ExtractsTaken : Bool → Extracting → List ℕ → Filling → Result Extracted ProgramFault
+    → Type 0
+ExtractsTaken false x image f result = ExtractsBytes x image f result
+ExtractsTaken true x image f result =
+    ((made : List ℕ) × (done : Result Extracted ProgramFault)
+    × Converts x.endian x.size image (Ok made) × ExtractsBytes x made f done
+    × (result ≡ with_found x.endian x.size image done))
+    ⊎ ((fault : ProgramFault) × (result ≡ Err fault)
+    × IsNotConverted x.endian x.size image fault × FillsNothing f)
 
 -- `extract` of the image of a name into the folder of a name: its bytes are extracted, or it can't
 -- be read. A file that can't be opened, or failed while it was read, is blamed only where it counts
--- so, from `read_before` to `read_now`.
-abbrev pub ExtractsImage : Bool → Endian → ℕ → Bool → Option (List ℕ) → ℕ → ℕ → List ℕ → List ℕ
-    → Option (List Made) → Option (List Made) → Failures → Failures → Option (List ℕ)
-    → Option (List ℕ) → ℕ → ℕ → Result Extracted ProgramFault → Type 0
-ExtractsImage decompress e size owners told read_before read_now image folder old new before now
-    told_old told_new told_before told_now result =
-    ((bytes : List ℕ) × AreOf told bytes × (read_now ≡ read_before)
-    × ExtractsTaken decompress e size owners bytes folder old new before now told_old told_new
-    told_before told_now result)
-    ⊎ ((fault : ProgramFault) × (result ≡ Err fault) × IsUnreadFile image told fault
-    × IsReadFault read_before read_now fault
-    × (new ≡ old) × (now ≡ before) × (told_new ≡ told_old) × (told_now ≡ told_before))
+-- so.
+abbrev pub ExtractsImage : Bool → Extracting → List ℕ → FileReads → Filling
+    → Result Extracted ProgramFault → Type 0
+ExtractsImage decompress x image reading f result =
+    ((bytes : List ℕ) × AreOf (reading.told image) bytes × (reading.now ≡ reading.before)
+    × ExtractsTaken decompress x bytes f result)
+    ⊎ ((fault : ProgramFault) × (result ≡ Err fault) × IsUnreadFile image (reading.told image) fault
+    × IsReadFault reading.before reading.now fault × FillsNothing f)
+
+-- the folder of this name, of those of which this is made, and the notes
+abbrev pub filling_of : List ℕ → (List ℕ → Option (List Made)) → (List ℕ → Option (List Made))
+    → Failures → Failures → Passage → Filling
+filling_of folder old new before now notes = record {
+  made_old = old folder;
+  made_new = new folder;
+  failures_old = before;
+  failures_new = now;
+  notes = notes;
+}
 
 -- The same by a host that gives the folder of the name and takes it back: its count of refusals is
 -- that folder's own. Or there is no memory for the folder, and nothing is done. In no other folder
 -- is anything made.
-abbrev pub FillsFolder : Bool → Endian → ℕ → Bool → Option (List ℕ) → ℕ → ℕ → List ℕ → List ℕ
-    → (List ℕ → Option (List Made)) → (List ℕ → Option (List Made)) → Option (List ℕ)
-    → Option (List ℕ) → ℕ → ℕ → Result Extracted ProgramFault → Type 0
-FillsFolder decompress e size owners told read_before read_now image folder old new told_old
-    told_new told_before told_now result =
+abbrev pub FillsFolder : Bool → Extracting → List ℕ → FileReads → (List ℕ → Option (List Made))
+    → (List ℕ → Option (List Made)) → Passage → Result Extracted ProgramFault → Type 0
+FillsFolder decompress x image reading old new notes result =
     (((before : Failures) × (now : Failures)
-    × ExtractsImage decompress e size owners told read_before read_now image folder (old folder)
-    (new folder) before now told_old told_new told_before told_now result)
-    ⊎ ((result ≡ Err program.OutOfMemory) × (read_now ≡ read_before) × (new folder ≡ old folder)
-    × (told_new ≡ told_old) × (told_now ≡ told_before)))
-    × ((other : List ℕ) → other ≢ folder → new other ≡ old other)
+    × ExtractsImage decompress x image reading (filling_of x.folder old new before now notes)
+    result)
+    ⊎ ((result ≡ Err program.OutOfMemory) × (reading.now ≡ reading.before)
+    × (new x.folder ≡ old x.folder) × (notes.new ≡ notes.old) × (notes.now ≡ notes.before)))
+    × ((other : List ℕ) → other ≢ x.folder → new other ≡ old other)
+
+-- the path that a word of the command line stands for, where there is a word
+abbrev pub IsPathRead : Option (List ℕ) → Option (List ℕ) → Type 0
+IsPathRead None path = path ≡ None
+IsPathRead (Some word) path = (bytes : List ℕ) × (path_of word ≡ Some bytes) × (path ≡ Some bytes)
+
+-- the word is not read
+abbrev pub IsPathUnread : Option (List ℕ) → ProgramFault → Type 0
+IsPathUnread None fault = ⊥
+IsPathUnread (Some word) fault = IsWordFault (path_of word) fault
+
+-- The same by the words of a command line: `x.path` is the word here, and it is read before the
+-- image is opened. Where it can't be read, nothing is done.
+abbrev pub FillsAsked : Bool → Extracting → List ℕ → FileReads → (List ℕ → Option (List Made))
+    → (List ℕ → Option (List Made)) → Passage → Result Extracted ProgramFault → Type 0
+FillsAsked decompress x image reading old new notes result =
+    ((path : Option (List ℕ)) × IsPathRead x.path path
+    × FillsFolder decompress (record x { path = path }) image reading old new notes result)
+    ⊎ ((fault : ProgramFault) × (result ≡ Err fault) × IsPathUnread x.path fault
+    × (reading.now ≡ reading.before) × (new ≡ old) × (notes.new ≡ notes.old)
+    × (notes.now ≡ notes.before))
+
+-- what a request asks of an extraction, with its path
+abbrev pub extracting_of : Endian → Extraction → Option (List ℕ) → Extracting
+extracting_of e asked path = record {
+  endian = e;
+  size = asked.options.geometry.block;
+  owners = asked.owners;
+  folder = asked.folder.now;
+  path = path;
+}
 
 -- ---- listing
 

@@ -1,11 +1,11 @@
 //! The commands that work with a folder of the host: `extract` and `listing`.
-ghost use Rattle.std.specs.Prelude.{◌≡◌, ◌≢◌, ℕ, true, List, IfOk, Option};
+ghost use Rattle.std.specs.Prelude.{◌≡◌, ◌≢◌, ℕ, true, List, IfOk, Option, Some, option_map};
 ghost use Rattle.flashbase.specs.Device.{Puts};
 ghost use Rattle.jfolder.specs.Known.{Known};
 ghost use Rattle.jfolder.specs.Text.{listing_text};
 ghost use Rattle.jcommand.specs.Parsed.{ExtractParsed, ListingParsed, IsFaultless};
 ghost use Rattle.jextract.specs.Folders.{Made};
-ghost use Rattle.jffs2_image.specs.Folders.{ExtractsImage, ExtractsBytes, ExtractsTaken, FillsFolder, IsExtractFault, IsReadingFault, ListsFolder, settings};
+ghost use Rattle.jffs2_image.specs.Folders.{ExtractsImage, ExtractsBytes, ExtractsPart, ExtractsTaken, FillsAsked, FillsFolder, IsExtractFault, extracting_of, IsReadingFault, ListsFolder, settings};
 ghost use Rattle.jcommand.specs.Status.{outcome_of};
 ghost use Rattle.jffs2_image.specs.FolderRuns.{EndsExtraction, EndsListing, FinishesListing, ListsGiven, found_by_extraction, notes_after_extraction};
 ghost use Rattle.jffs2_image.specs.Runs.{Says};
@@ -18,12 +18,11 @@ use crate::writing::load_file;
 use byteorder::{BigEndian, LittleEndian};
 use flashbase::{DeviceFault, Sink};
 use jcommand::{Extraction, FolderListing, Outcome, Owner};
-use jextract::{ExtractFault, Folder, Totals, extract};
+use jextract::{ExtractFault, Folder, PartFault, Totals, extract, extract_part, part_at};
 use jfolder::{HostFolder, ReadFault, put_listing, read_folder};
-use jmount::mount;
+use jmount::{Mounted, mount};
 use jnode::{Endian, Order};
-use jreport::{ProgramFault, attribute_count, noted, put_notes};
-use jscan::Geometry;
+use jreport::{ProgramFault, attribute_count, noted, path_word, put_notes};
 use std::alloc::{AllocError, Global};
 
 /// What an extraction came to: what it counted, and how many findings and nodes of extended
@@ -81,32 +80,109 @@ fn extract_fault(fault: ExtractFault, name: &str) -> ProgramFault<'_>
     }
 }
 
-/// The tree of an image is made in the folder of a name.
+/// The part of a mounted image that a path names is made in a folder.
+fn extract_at<'a, X: Folder, N: Sink>(
+    alloc: Global,
+    mounted: &Mounted<'_>,
+    asked: Extraction<'a>,
+    path: &[u8],
+    folder: &mut X,
+    notes: &mut N,
+) -> Result<Totals, ProgramFault<'a>>
+    ensures { ExtractsPart mounted.now.state
+        (extracting_of asked.entry.options.endian asked.entry (Some path.now))
+        (record {
+          made_old = X.made folder.old;
+          made_new = X.made folder.new;
+          failures_old = X.failures folder.old;
+          failures_new = X.failures folder.new;
+          notes = record {
+            old = N.taken notes.old;
+            new = N.taken notes.new;
+            before = N.failures notes.old;
+            now = N.failures notes.new;
+          };
+        }) result }
+{
+    let part = match part_at(alloc, mounted, path) {
+        Ok(part) => part,
+        Err(PartFault::Path(fault)) => return Err(ProgramFault::Path(fault)),
+        Err(PartFault::OutOfMemory) => return Err(ProgramFault::OutOfMemory),
+    };
+    match extract_part(alloc, mounted, &part, asked.owners, folder, notes) {
+        Ok(totals) => Ok(totals),
+        Err(fault) => Err(extract_fault(fault, asked.folder)),
+    }
+}
+
+/// The tree of a mounted image, or the part of it that a path names, is made in a folder.
+fn extract_tree<'a, X: Folder, N: Sink>(
+    alloc: Global,
+    mounted: &Mounted<'_>,
+    asked: Extraction<'a>,
+    path: Option<&[u8]>,
+    folder: &mut X,
+    notes: &mut N,
+) -> Result<Totals, ProgramFault<'a>>
+    ensures { ExtractsPart mounted.now.state
+        (extracting_of asked.entry.options.endian asked.entry (option_map (λ p. p.now) path.entry))
+        (record {
+          made_old = X.made folder.old;
+          made_new = X.made folder.new;
+          failures_old = X.failures folder.old;
+          failures_new = X.failures folder.new;
+          notes = record {
+            old = N.taken notes.old;
+            new = N.taken notes.new;
+            before = N.failures notes.old;
+            now = N.failures notes.new;
+          };
+        }) result }
+{
+    if let Some(path) = path {
+        return extract_at(alloc, mounted, asked, path, folder, notes);
+    }
+    match extract(alloc, mounted, asked.owners, folder, notes) {
+        Ok(totals) => Ok(totals),
+        Err(fault) => Err(extract_fault(fault, asked.folder)),
+    }
+}
+
+/// The same of the bytes of an image.
 fn extract_bytes<'a, E: Order, X: Folder, N: Sink>(
     alloc: Global,
     image: &[u8],
-    geometry: Geometry,
-    owners: bool,
-    name: &'a str,
+    asked: Extraction<'a>,
+    path: Option<&[u8]>,
     folder: &mut X,
     notes: &mut N,
 ) -> Result<Extracted, ProgramFault<'a>>
-    ensures { ExtractsBytes E.order geometry.block owners image.now name.entry.now
-        (X.made folder.old) (X.made folder.new)
-        (X.failures folder.old) (X.failures folder.new) (N.taken notes.old) (N.taken notes.new)
-        (N.failures notes.old) (N.failures notes.new) result }
+    ensures { ExtractsBytes
+        (extracting_of E.order asked.entry (option_map (λ p. p.now) path.entry)) image.now
+        (record {
+          made_old = X.made folder.old;
+          made_new = X.made folder.new;
+          failures_old = X.failures folder.old;
+          failures_new = X.failures folder.new;
+          notes = record {
+            old = N.taken notes.old;
+            new = N.taken notes.new;
+            before = N.failures notes.old;
+            now = N.failures notes.new;
+          };
+        }) result }
 {
-    let mounted = match mount::<E>(alloc, image, geometry) {
+    let mounted = match mount::<E>(alloc, image, asked.options.geometry) {
         Ok(mounted) => mounted,
         Err(fault) => return Err(ProgramFault::Mount(fault)),
     };
-    match extract(alloc, &mounted, owners, folder, notes) {
+    match extract_tree(alloc, &mounted, asked, path, folder, notes) {
         Ok(totals) => Ok(Extracted {
             totals,
             findings: noted(&mounted),
             attributes: attribute_count(&mounted),
         }),
-        Err(fault) => Err(extract_fault(fault, name)),
+        Err(fault) => Err(fault),
     }
 }
 
@@ -114,30 +190,31 @@ fn extract_bytes<'a, E: Order, X: Folder, N: Sink>(
 fn extract_decompressed<'a, E: Order, X: Folder, N: Sink>(
     alloc: Global,
     image: &[u8],
-    geometry: Geometry,
-    owners: bool,
-    name: &'a str,
+    asked: Extraction<'a>,
+    path: Option<&[u8]>,
     folder: &mut X,
     notes: &mut N,
 ) -> Result<Extracted, ProgramFault<'a>>
-    ensures { ExtractsTaken true E.order geometry.block owners image.now name.entry.now
-        (X.made folder.old) (X.made folder.new)
-        (X.failures folder.old) (X.failures folder.new) (N.taken notes.old) (N.taken notes.new)
-        (N.failures notes.old) (N.failures notes.new) result }
+    ensures { ExtractsTaken true
+        (extracting_of E.order asked.entry (option_map (λ p. p.now) path.entry)) image.now
+        (record {
+          made_old = X.made folder.old;
+          made_new = X.made folder.new;
+          failures_old = X.failures folder.old;
+          failures_new = X.failures folder.new;
+          notes = record {
+            old = N.taken notes.old;
+            new = N.taken notes.new;
+            before = N.failures notes.old;
+            now = N.failures notes.new;
+          };
+        }) result }
 {
-    let Taken { image: made, found } = match take_image::<E>(alloc, image, geometry) {
+    let Taken { image: made, found } = match take_image::<E>(alloc, image, asked.options.geometry) {
         Ok(taken) => taken,
         Err(fault) => return Err(fault),
     };
-    match extract_bytes::<E, X, N>(
-        alloc,
-        made.as_slice(),
-        geometry,
-        owners,
-        name,
-        folder,
-        notes,
-    ) {
+    match extract_bytes::<E, X, N>(alloc, made.as_slice(), asked, path, folder, notes) {
         Ok(done) => Ok(Extracted {
             totals: done.totals,
             findings: found.noted,
@@ -147,50 +224,152 @@ fn extract_decompressed<'a, E: Order, X: Folder, N: Sink>(
     }
 }
 
-/// `extract`: the tree of the image of a name is made in a folder, whose name is told where it
-/// can't be made.
-pub fn extract_image<'a, E: Order, L: Loader, X: Folder, N: Sink>(
+/// The same of the file that is asked for.
+fn extract_image<'a, E: Order, L: Loader, X: Folder, N: Sink>(
     alloc: Global,
     loader: &mut L,
-    geometry: Geometry,
-    decompress: bool,
-    owners: bool,
-    image: &'a str,
-    name: &'a str,
+    asked: Extraction<'a>,
+    path: Option<&[u8]>,
     folder: &mut X,
     notes: &mut N,
 ) -> Result<Extracted, ProgramFault<'a>>
-    ensures { ExtractsImage decompress E.order geometry.block owners
-        (L.told loader.old image.entry.now) (L.failures loader.old) (L.failures loader.new)
-        image.entry.now name.entry.now
-        (X.made folder.old) (X.made folder.new) (X.failures folder.old) (X.failures folder.new)
-        (N.taken notes.old) (N.taken notes.new) (N.failures notes.old) (N.failures notes.new)
-        result }
+    ensures { ExtractsImage asked.entry.decompress
+        (extracting_of E.order asked.entry (option_map (λ p. p.now) path.entry))
+        asked.entry.image.now
+        (record {
+          told = L.told loader.old;
+          before = L.failures loader.old;
+          now = L.failures loader.new;
+        })
+        (record {
+          made_old = X.made folder.old;
+          made_new = X.made folder.new;
+          failures_old = X.failures folder.old;
+          failures_new = X.failures folder.new;
+          notes = record {
+            old = N.taken notes.old;
+            new = N.taken notes.new;
+            before = N.failures notes.old;
+            now = N.failures notes.new;
+          };
+        }) result }
 {
-    let bytes = match load_file(loader, image) {
+    let bytes = match load_file(loader, asked.image) {
         Ok(bytes) => bytes,
         Err(fault) => return Err(fault),
     };
-    if decompress {
-        return extract_decompressed::<E, X, N>(
-            alloc,
-            bytes.as_slice(),
-            geometry,
-            owners,
-            name,
-            folder,
-            notes,
-        );
+    let image = bytes.as_slice();
+    if asked.decompress {
+        return extract_decompressed::<E, X, N>(alloc, image, asked, path, folder, notes);
     }
-    extract_bytes::<E, X, N>(
-        alloc,
-        bytes.as_slice(),
-        geometry,
-        owners,
-        name,
-        folder,
-        notes,
-    )
+    extract_bytes::<E, X, N>(alloc, image, asked, path, folder, notes)
+}
+
+/// The same in the byte order that is asked for.
+fn extract_in_order<'a, L: Loader, X: Folder, N: Sink>(
+    alloc: Global,
+    loader: &mut L,
+    asked: Extraction<'a>,
+    path: Option<&[u8]>,
+    folder: &mut X,
+    notes: &mut N,
+) -> Result<Extracted, ProgramFault<'a>>
+    ensures { ExtractsImage asked.entry.decompress
+        (extracting_of asked.entry.options.endian asked.entry (option_map (λ p. p.now) path.entry))
+        asked.entry.image.now
+        (record {
+          told = L.told loader.old;
+          before = L.failures loader.old;
+          now = L.failures loader.new;
+        })
+        (record {
+          made_old = X.made folder.old;
+          made_new = X.made folder.new;
+          failures_old = X.failures folder.old;
+          failures_new = X.failures folder.new;
+          notes = record {
+            old = N.taken notes.old;
+            new = N.taken notes.new;
+            before = N.failures notes.old;
+            now = N.failures notes.new;
+          };
+        }) result }
+{
+    match asked.options.endian {
+        Endian::Little => {
+            extract_image::<LittleEndian, L, X, N>(alloc, loader, asked, path, folder, notes)
+        }
+        Endian::Big => {
+            extract_image::<BigEndian, L, X, N>(alloc, loader, asked, path, folder, notes)
+        }
+    }
+}
+
+/// The same into a folder that the host gives, and takes back.
+fn fill<'a, L: Loader, D: Folders, N: Sink>(
+    alloc: Global,
+    loader: &mut L,
+    folders: &mut D,
+    asked: Extraction<'a>,
+    path: Option<&[u8]>,
+    notes: &mut N,
+) -> Result<Extracted, ProgramFault<'a>>
+    ensures { FillsFolder asked.entry.decompress
+        (extracting_of asked.entry.options.endian asked.entry (option_map (λ p. p.now) path.entry))
+        asked.entry.image.now
+        (record {
+          told = L.told loader.old;
+          before = L.failures loader.old;
+          now = L.failures loader.new;
+        }) (D.made folders.old) (D.made folders.new)
+        (record {
+          old = N.taken notes.old;
+          new = N.taken notes.new;
+          before = N.failures notes.old;
+          now = N.failures notes.new;
+        }) result }
+{
+    let name = asked.folder;
+    let Ok(mut folder) = folders.filled(name, asked.quiet) else {
+        return Err(ProgramFault::OutOfMemory);
+    };
+    let answer = extract_in_order(alloc, loader, asked, path, &mut folder, notes);
+    folders.take_filled(name, folder);
+    answer
+}
+
+/// The same by the words of a command line: that of the path is judged before the image is opened.
+fn fill_asked<'a, L: Loader, D: Folders, N: Sink>(
+    alloc: Global,
+    loader: &mut L,
+    folders: &mut D,
+    asked: Extraction<'a>,
+    notes: &mut N,
+) -> Result<Extracted, ProgramFault<'a>>
+    ensures { FillsAsked asked.entry.decompress
+        (extracting_of asked.entry.options.endian asked.entry
+        (option_map (λ word. word.now) asked.entry.path))
+        asked.entry.image.now
+        (record {
+          told = L.told loader.old;
+          before = L.failures loader.old;
+          now = L.failures loader.new;
+        }) (D.made folders.old) (D.made folders.new)
+        (record {
+          old = N.taken notes.old;
+          new = N.taken notes.new;
+          before = N.failures notes.old;
+          now = N.failures notes.new;
+        }) result }
+{
+    let Some(word) = asked.path else {
+        return fill(alloc, loader, folders, asked, None, notes);
+    };
+    let path = match path_word(alloc, word.as_bytes()) {
+        Ok(path) => path,
+        Err(fault) => return Err(fault),
+    };
+    fill(alloc, loader, folders, asked, Some(path.as_slice()), notes)
 }
 
 /// What a reading of the folder of a name gives up for.
@@ -236,65 +415,6 @@ pub fn list_folder<'a, H: HostFolder, T: Sink, N: Sink>(
     }
 }
 
-/// The same in the byte order that is given.
-fn extract_in_order<'a, L: Loader, X: Folder, N: Sink>(
-    alloc: Global,
-    loader: &mut L,
-    asked: Extraction<'a>,
-    folder: &mut X,
-    notes: &mut N,
-) -> Result<Extracted, ProgramFault<'a>>
-    ensures { ExtractsImage asked.entry.decompress asked.entry.options.endian
-        asked.entry.options.geometry.block asked.entry.owners
-        (L.told loader.old asked.entry.image.now) (L.failures loader.old) (L.failures loader.new)
-        asked.entry.image.now asked.entry.folder.now
-        (X.made folder.old) (X.made folder.new) (X.failures folder.old) (X.failures folder.new)
-        (N.taken notes.old) (N.taken notes.new) (N.failures notes.old) (N.failures notes.new)
-        result }
-{
-    let Extraction {
-        options,
-        decompress,
-        owners,
-        image,
-        folder: name,
-        ..
-    } = asked;
-    let geometry = options.geometry;
-    match options.endian {
-        Endian::Little => extract_image::<LittleEndian, L, X, N>(
-            alloc, loader, geometry, decompress, owners, image, name, folder, notes,
-        ),
-        Endian::Big => extract_image::<BigEndian, L, X, N>(
-            alloc, loader, geometry, decompress, owners, image, name, folder, notes,
-        ),
-    }
-}
-
-/// The same into a folder that the host gives, and takes back.
-fn fill<'a, L: Loader, D: Folders, N: Sink>(
-    alloc: Global,
-    loader: &mut L,
-    folders: &mut D,
-    asked: Extraction<'a>,
-    notes: &mut N,
-) -> Result<Extracted, ProgramFault<'a>>
-    ensures { FillsFolder asked.entry.decompress asked.entry.options.endian
-        asked.entry.options.geometry.block asked.entry.owners
-        (L.told loader.old asked.entry.image.now) (L.failures loader.old) (L.failures loader.new)
-        asked.entry.image.now asked.entry.folder.now
-        (D.made folders.old) (D.made folders.new) (N.taken notes.old) (N.taken notes.new)
-        (N.failures notes.old) (N.failures notes.new) result }
-{
-    let name = asked.folder;
-    let Ok(mut folder) = folders.filled(name, asked.quiet) else {
-        return Err(ProgramFault::OutOfMemory);
-    };
-    let answer = extract_in_order(alloc, loader, asked, &mut folder, notes);
-    folders.take_filled(name, folder);
-    answer
-}
-
 /// The notes on what an extraction came to, if there are any.
 fn note_extraction<E: Sink>(done: Extracted, errors: &mut E)
     ensures { Says (errors.new ≡ errors.old) (E.taken errors.old) (E.taken errors.new)
@@ -330,13 +450,23 @@ pub fn run_extract<L: Loader, D: Folders, E: Sink>(
     asked: Extraction<'_>,
     errors: &mut E,
 ) -> Outcome
-    ensures { EndsExtraction asked.entry.options asked.entry.decompress asked.entry.owners
-        asked.entry.image.now asked.entry.folder.now (L.told loader.old) (L.failures loader.old)
-        (L.failures loader.new)
-        (D.made folders.old) (D.made folders.new) (E.taken errors.old) (E.taken errors.new)
-        (E.failures errors.old) (E.failures errors.new) result }
+    ensures { EndsExtraction asked.entry.decompress
+        (extracting_of asked.entry.options.endian asked.entry
+        (option_map (λ word. word.now) asked.entry.path))
+        asked.entry.image.now
+        (record {
+          told = L.told loader.old;
+          before = L.failures loader.old;
+          now = L.failures loader.new;
+        }) (D.made folders.old) (D.made folders.new)
+        (record {
+          old = E.taken errors.old;
+          new = E.taken errors.new;
+          before = E.failures errors.old;
+          now = E.failures errors.new;
+        }) result }
 {
-    match fill(alloc, loader, folders, asked, errors) {
+    match fill_asked(alloc, loader, folders, asked, errors) {
         Ok(done) => {
             note_extraction(done, errors);
             outcome_of_extracted(done)

@@ -6,4 +6,5 @@ returns c =
     let second = c.add_arg-2.ensures _ _ first c.make_flag-owners.ensures in
     let third = c.add_arg-command.ensures _ _ second c.make_flag-quiet.ensures in
     let fourth = c.add_arg-3.ensures _ _ third c.make_word-image.ensures in
-    c.add_arg-4.ensures _ _ fourth c.make_word-folder.ensures
+    let fifth = c.add_arg-4.ensures _ _ fourth c.make_word-folder.ensures in
+    c.add_arg-5.ensures _ _ fifth c.make_optional_word-path.ensures

@@ -2,25 +2,26 @@ use Rattle.std.proofs.Common.{Bool, ◌&&◌, ap, ◌∙◌, map, Ok, sym, subst
 use Rattle.jmount.specs.Tree.{is_directory}
 use Rattle.jextract.specs.Making.{firsts_of}
 use Rattle.jextract.specs.Outcomes.{Make}
+use Rattle.jextract.specs.Parts.{with_names}
 use Rattle.jextract.specs.Walking.{Sight, Visits}
 use Rattle.jextract.proofs.WalkLemmas.{stops, visit_made, visits_at_fault}
 use Rattle.jextract.proofs.extracting.visit.Goals as goal
 
-pub returns-in_err-is_made : goal.returns-in_err-is_made
-returns-in_err-is_made g c =
+pub returns-in_err-is_made-clause-visits : goal.returns-in_err-is_made-clause-visits
+returns-in_err-is_made-clause-visits g c names =
     let old : Sight = record { made = g.F.Folder.made c.args.folder.now; failures = g.F.Folder.failures c.args.folder.now; told = g.N.Sink.taken c.args.notes.now; told_failures = g.N.Sink.failures c.args.notes.now; totals = c.args.totals.now } in
     let new : Sight = record { made = g.F.Folder.made c.make-done.new.folder; failures = g.F.Folder.failures c.make-done.new.folder; told = g.N.Sink.taken c.settle.new.notes; told_failures = g.N.Sink.failures c.settle.new.notes; totals = c.settle.new.totals } in
-    let s = c.args.mounted.now.state in
+    let s = with_names c.args.mounted.now.state names in
     let path = map (λ name. name.now) c.args.path.now in
     let fault = c.in_err-is_made.field-0.0 in
     visits_at_fault s c.args.owners (firsts_of c.args.firsts.now) (firsts_of c.make-done.new.firsts) path c.args.ino old new fault c.from_residual.result c.from_residual.ensures.1
     (λ todo. stops s c.args.owners (firsts_of c.args.firsts.now) (Make path c.args.ino) todo old new c.make-done.result fault c.make-done.ensures.works c.in_err-is_made.ensures)
 
-pub returns-then-is_made : goal.returns-then-is_made
-returns-then-is_made g c =
+pub returns-then-is_made-clause-visits : goal.returns-then-is_made-clause-visits
+returns-then-is_made-clause-visits g c names =
     let old : Sight = record { made = g.F.Folder.made c.args.folder.now; failures = g.F.Folder.failures c.args.folder.now; told = g.N.Sink.taken c.args.notes.now; told_failures = g.N.Sink.failures c.args.notes.now; totals = c.args.totals.now } in
     let new : Sight = record { made = g.F.Folder.made c.make-done.new.folder; failures = g.F.Folder.failures c.make-done.new.folder; told = g.N.Sink.taken c.settle.new.notes; told_failures = g.N.Sink.failures c.settle.new.notes; totals = c.settle.new.totals } in
-    let s = c.args.mounted.now.state in
+    let s = with_names c.args.mounted.now.state names in
     let path = map (λ name. name.now) c.args.path.now in
     let done = c.in_ok-is_made.is_made in
     subst (λ (b : Bool). Visits s c.args.owners (firsts_of c.args.firsts.now) (firsts_of c.make-done.new.firsts) path c.args.ino old new (Ok b))
@@ -28,11 +29,11 @@ returns-then-is_made g c =
     (visit_made s c.args.owners (firsts_of c.args.firsts.now) (firsts_of c.make-done.new.firsts) path c.args.ino old new c.make-done.result done
     c.make-done.ensures.works c.make-done.ensures.firsts c.in_ok-is_made.ensures)
 
-pub returns-else-is_made : goal.returns-else-is_made
-returns-else-is_made g c =
+pub returns-else-is_made-clause-visits : goal.returns-else-is_made-clause-visits
+returns-else-is_made-clause-visits g c names =
     let old : Sight = record { made = g.F.Folder.made c.args.folder.now; failures = g.F.Folder.failures c.args.folder.now; told = g.N.Sink.taken c.args.notes.now; told_failures = g.N.Sink.failures c.args.notes.now; totals = c.args.totals.now } in
     let new : Sight = record { made = g.F.Folder.made c.make-done.new.folder; failures = g.F.Folder.failures c.make-done.new.folder; told = g.N.Sink.taken c.settle.new.notes; told_failures = g.N.Sink.failures c.settle.new.notes; totals = c.settle.new.totals } in
-    let s = c.args.mounted.now.state in
+    let s = with_names c.args.mounted.now.state names in
     let path = map (λ name. name.now) c.args.path.now in
     let done = c.in_ok-is_made.is_made in
     subst (λ (b : Bool). Visits s c.args.owners (firsts_of c.args.firsts.now) (firsts_of c.make-done.new.firsts) path c.args.ino old new (Ok b))
