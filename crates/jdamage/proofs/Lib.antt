@@ -1,0 +1,5 @@
+pub mod CoverageLemmas
+pub mod DamageLemmas
+pub mod LawLemmas
+pub mod NodeLemmas
+pub mod WayLemmas

@@ -1,0 +1,104 @@
+-- What `damage` prints of a mounted image.
+use Rattle.std.specs.Prelude.{◌≡◌, ℕ, ◌-◌, ◌^◌, Bool, List, [], ◌∷◌, ◌++◌, length, map, min, sum_by, Option, Some, None, option_map, Result, Ok, Err, if◌then◌else◌}
+use Rattle.std.specs.List.{flat_map}
+use Rattle.std.specs.Io.KnownBytes.{Appends}
+use Rattle.flashbase.specs.Device.{PutsPart, next_count}
+use Rattle.jnode.specs.declared.order.Endian.{Endian}
+use Rattle.jnode.specs.declared.node.Damage.{Damage}
+use Rattle.jnode.specs.declared.node.Damage.TheVariants.{NodeCrc, NameCrc, DataCrc, Length, Range}
+use Rattle.jmount.specs.Mount.{Mount}
+use Rattle.jmount.specs.Shown.{shown}
+use Rattle.jmount.specs.Tree.{State, object, dangling}
+use Rattle.jmount.specs.declared.object.Object.{Object}
+use Rattle.jdamage.specs.Coverage.{hides_nothing}
+use Rattle.jdamage.specs.Fields.{stretch_at, loss_at, damaged_nodes, stretches}
+use Rattle.jdamage.specs.Lines.{nothing_line, no_path_line, hides_line, loss_line, unknown_line, missing_line, totals_shown}
+use Rattle.jdamage.specs.Ways.{NameOf, path_below, paths_to}
+use Rattle.jdamage.specs.declared.fault.DamageFault.{DamageFault}
+use Rattle.jdamage.specs.declared.fault.DamageFault.TheVariants.{Output, OutOfMemory}
+use Rattle.jdamage.specs.declared.fields.Stretch.{Stretch}
+use Rattle.jdamage.specs.declared.totals.Totals.{Totals}
+
+-- ---- a node whose data are damaged
+
+abbrev pub size_shown : Option Object → ℕ
+size_shown None = 0
+size_shown (Some o) = o.size
+
+-- the size of the object of a number, 0 where it is missing
+abbrev pub size_at : State → ℕ → ℕ
+size_at s i = size_shown (option_map shown (object s i))
+
+-- whether the object is the same without it, beside these versions
+abbrev pub is_hidden : State → List Stretch → Stretch → Bool
+is_hidden s others lost = hides_nothing others (size_at s lost.ino) lost
+
+-- the paths whose object it takes something from
+abbrev pub hurt_paths : State → List Stretch → Stretch → List (List (List ℕ))
+hurt_paths s others lost = if is_hidden s others lost then [] else paths_to s lost.ino
+
+-- a line for each, or that no path leads there
+abbrev pub hurt_text : ℕ → Stretch → List (List (List ℕ)) → List ℕ
+hurt_text addr lost [] = no_path_line addr lost
+hurt_text addr lost (path ∷ paths) = flat_map (hides_line addr lost) (path ∷ paths)
+
+unfoldable pub data_text : State → List Stretch → ℕ → Stretch → List ℕ
+data_text s others addr lost =
+    if is_hidden s others lost then nothing_line addr lost
+    else hurt_text addr lost (paths_to s lost.ino)
+
+-- ---- the whole
+
+-- what is told of a damaged node, beside these versions
+abbrev pub node_text : Endian → Mount → List Stretch → ℕ × Damage → List ℕ
+node_text e m others (addr, DataCrc) = data_text m.state others addr (stretch_at e m.image addr)
+node_text e m others (addr, NameCrc) =
+    let lost = loss_at e m.image addr in
+    loss_line addr lost (path_below m.state lost.pino [])
+node_text e m others (addr, NodeCrc) = unknown_line addr NodeCrc
+node_text e m others (addr, Length) = unknown_line addr Length
+node_text e m others (addr, Range) = unknown_line addr Range
+
+-- how many paths it hides
+abbrev pub node_paths : Endian → Mount → List Stretch → ℕ × Damage → ℕ
+node_paths e m others (addr, DataCrc) =
+    length (hurt_paths m.state others (stretch_at e m.image addr))
+node_paths e m others (addr, _) = 0
+
+-- what is told of a name whose object is missing
+abbrev pub missing_text : State → NameOf → List ℕ
+missing_text s n = missing_line n (path_below s n.0 (n.1 ∷ []))
+
+-- How many nodes are damaged, how many lines name a path that one hides, to the greatest u64, and
+-- how many names have no object.
+abbrev pub totals_of : Endian → Mount → List Stretch → List (ℕ × Damage) → Totals
+totals_of e m others damaged = record {
+  damaged = length damaged;
+  paths = min (sum_by (node_paths e m others) damaged) (2 ^ 64 - 1);
+  missing = length (dangling m.state);
+}
+
+-- the lines: the damaged nodes in order of address, the names whose objects are missing, the totals
+abbrev pub text_of : Endian → Mount → List Stretch → List (ℕ × Damage) → List ℕ
+text_of e m others damaged = flat_map (node_text e m others) damaged
+    ++ (flat_map (missing_text m.state) (dangling m.state)
+    ++ totals_shown (totals_of e m others damaged))
+
+unfoldable pub damage_totals : Endian → ℕ → Mount → Totals
+damage_totals e size m =
+    totals_of e m (stretches e size m.image) (damaged_nodes e size m.image)
+
+unfoldable pub damage_text : Endian → ℕ → Mount → List ℕ
+damage_text e size m = text_of e m (stretches e size m.image) (damaged_nodes e size m.image)
+
+-- ---- what a call puts
+
+-- The text; the answer are the totals. Where the sink fails, a beginning of it went out, and where
+-- memory runs out, nothing.
+abbrev pub PutsDamage : Endian → ℕ → Mount → Option (List ℕ) → Option (List ℕ) → ℕ → ℕ
+    → Result Totals DamageFault → Type 0
+PutsDamage e size m old new before now (Ok totals) =
+    (totals ≡ damage_totals e size m) × Appends old new (damage_text e size m) × (now ≡ before)
+PutsDamage e size m old new before now (Err Output) =
+    PutsPart old new (damage_text e size m) × (now ≡ next_count before)
+PutsDamage e size m old new before now (Err OutOfMemory) = (new ≡ old) × (now ≡ before)

@@ -1,0 +1,7 @@
+pub mod Coverage
+pub mod Damage
+pub mod Fields
+pub mod Laws
+pub mod Lines
+pub mod Telling
+pub mod Ways

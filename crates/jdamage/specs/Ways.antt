@@ -1,0 +1,48 @@
+-- The paths that lead to a number.
+use Rattle.std.specs.Prelude.{ℕ, zero, suc, ◌+◌, ◌^◌, ◌==◌, min, Vec, List, [], ◌∷◌, ◌++◌, length, map, filter_map, Option, Some, None, option_and_then, if◌then◌else◌}
+use Rattle.std.specs.Borrow.{Bor}
+use Rattle.std.specs.declared.alloc.Global.{Global}
+use Rattle.std.specs.List.{find}
+use Rattle.jmount.specs.Tree.{State, is_directory, all_entries}
+
+-- a name: its directory's number, its bytes, and the number that it stands for
+abbrev pub NameOf : Type 0
+NameOf = ℕ × List ℕ × ℕ
+
+-- the first name that stands for a number, in order of the directory's number and then in byte
+-- order; in a tree that has its shape a directory has no other
+unfoldable pub first_name : State → ℕ → Option NameOf
+first_name s i = find (λ n. n.2 == i) (all_entries s)
+
+-- The names from the root to a directory, and after them these: the directory's first name is put
+-- in front, and then that of the directory that it is in, in at most so many steps up to the root.
+unfoldable pub climbed : State → ℕ → ℕ → List (List ℕ) → Option (List (List ℕ))
+climbed s zero dir names = None
+climbed s (suc steps) dir names = if is_directory s dir then
+    (if dir == 1 then Some names
+    else option_and_then (λ n. climbed s steps n.0 (n.1 ∷ names)) (first_name s dir)) else None
+
+-- no way up to the root has more steps: there are no more names, and no more numbers
+abbrev pub most_steps : State → ℕ
+most_steps s = min (length (all_entries s)) (2 ^ 32) + 1
+
+-- these names, below a directory, as a path
+abbrev pub path_below : State → ℕ → List (List ℕ) → Option (List (List ℕ))
+path_below s dir names = climbed s (most_steps s) dir names
+
+-- the path of a name, where it stands for this number
+abbrev pub path_if : State → ℕ → NameOf → Option (List (List ℕ))
+path_if s i n = if n.2 == i then path_below s n.0 (n.1 ∷ []) else None
+
+-- the root's path has no names
+abbrev pub root_paths : ℕ → List (List (List ℕ))
+root_paths i = if i == 1 then [] ∷ [] else []
+
+-- the paths that lead to a number, also where its object is missing
+abbrev pub paths_to : State → ℕ → List (List (List ℕ))
+paths_to s i = root_paths i ++ filter_map (path_if s i) (all_entries s)
+
+-- ---- paths as they are held
+
+abbrev pub names_of : Vec (Bor (List ℕ)) Global → List (List ℕ)
+names_of path = map (λ name. name.now) path.items

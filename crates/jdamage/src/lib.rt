@@ -1,0 +1,29 @@
+//! What the damage of an image costs: which paths a damaged node hides, and which names have no
+//! object.
+//!
+//! It is built on `jscan` (the nodes of an image, and which of them are damaged), `jmount` (mounted
+//! images) and `jline` (lines of text). Its promise to the program: what goes to a sink is a line
+//! for each path that a damaged node hides, or that it hides none, one for each name whose object
+//! is missing, and the totals.
+//!
+//! `specs/Fields.antt` says what is read of a damaged node, `specs/Coverage.antt` when it hides
+//! nothing, `specs/Ways.antt` which paths lead to a number, `specs/Lines.antt` how the lines are
+//! spelled, and `specs/Damage.antt` which lines there are. `laws` has what follows.
+#![tactic(auto)]
+
+mod coverage;
+mod damage;
+mod fault;
+mod fields;
+mod held;
+pub mod laws;
+mod lines;
+mod nodes;
+mod telling;
+mod text;
+mod totals;
+mod ways;
+
+pub use crate::damage::put_damage;
+pub use crate::fault::DamageFault;
+pub use crate::totals::Totals;

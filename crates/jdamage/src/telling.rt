@@ -1,0 +1,185 @@
+//! What is told of a damaged node, and of a name whose object is missing.
+
+ghost use Rattle.std.specs.Prelude.{◌≡◌, ◌++◌, ◌-◌, ◌^◌, ◌≤◌, [], if◌then◌else◌, IfOk, OnOk, length, min};
+ghost use Rattle.jscan.specs.Image.{greatest_image};
+ghost use Rattle.jdamage.specs.Damage.{data_text, hurt_paths, missing_text, node_paths, node_text, size_at};
+ghost use Rattle.std.specs.List.{flat_map};
+ghost use Rattle.jdamage.specs.Lines.{hides_line, loss_line};
+ghost use Rattle.jdamage.specs.Telling.{PushesHurt, PushesPath};
+ghost use Rattle.jdamage.specs.Ways.{path_below, path_if, paths_to, root_paths};
+
+use crate::coverage::hides_nothing;
+use crate::fields::{Loss, Stretch, loss_at, stretch_at};
+use crate::lines::{push_hides, push_loss, push_missing, push_no_path, push_nothing, push_unknown};
+use crate::text::Text;
+use crate::ways::Ways;
+use jmount::Mounted;
+use jnode::{Damage, Order};
+use std::alloc::{AllocError, Global};
+
+const ROOT: u32 = 1;
+
+/// The size of the object of a number.
+fn size_at(mounted: &Mounted<'_>, ino: u32) -> u32
+    ensures { result ≡ size_at mounted.now.state ino }
+{
+    match mounted.object(ino) {
+        Some(object) => object.size,
+        None => 0,
+    }
+}
+
+/// Tells that a node hides what a name leads to, where the name stands for its object. Answers
+/// whether it does.
+fn push_name(
+    alloc: Global,
+    ways: &Ways<'_, '_>,
+    addr: u32,
+    lost: &Stretch,
+    entry: (u32, &[u8], u32),
+    text: &mut Text,
+) -> Result<bool, AllocError>
+    ensures { IfOk result (λ told. PushesPath addr lost.now
+        (path_if ways.now.mounted.now.state lost.now.ino (entry.entry.0, entry.entry.1.now, entry.entry.2)) text.old
+        text.new told) }
+{
+    let (pino, name, ino) = entry;
+    if ino != lost.ino {
+        return Ok(false);
+    }
+    let Some(path) = ways.name_path(alloc, pino, name)? else {
+        return Ok(false);
+    };
+    push_hides(text, addr, lost, &path)?;
+    Ok(true)
+}
+
+/// Tells that a node hides the root, where it is of its number. Answers how many paths that is.
+fn push_root(text: &mut Text, addr: u32, lost: &Stretch) -> Result<u64, AllocError>
+    ensures text { OnOk result (text.new
+        ≡ text.old ++ flat_map (hides_line addr lost.now) (root_paths lost.now.ino)) }
+    ensures count { IfOk result (λ count. count ≡ length (root_paths lost.now.ino)) }
+    ensures few { IfOk result (λ count. count ≤ 1) }
+{
+    if lost.ino != ROOT {
+        return Ok(0);
+    }
+    push_hides(text, addr, lost, &[])?;
+    Ok(1)
+}
+
+/// One where this is so.
+fn one_if(told: bool) -> u64
+    ensures { result ≡ (if told then 1 else 0) }
+{
+    if told { 1 } else { 0 }
+}
+
+/// Tells what a node hides that is missed. Answers how many paths.
+fn push_hurt(
+    alloc: Global,
+    ways: &Ways<'_, '_>,
+    addr: u32,
+    lost: &Stretch,
+    text: &mut Text,
+) -> Result<u64, AllocError>
+    ensures { IfOk result (λ count. PushesHurt addr lost.now
+        (paths_to ways.now.mounted.now.state lost.now.ino) text.old text.new count) }
+{
+    let mut count = push_root(text, addr, lost)?;
+    for entry in ways.mounted.names() {
+        let told = push_name(alloc, ways, addr, lost, entry, text)?;
+        count = count.saturating_add(one_if(told));
+    }
+    if count == 0 {
+        push_no_path(text, addr, lost)?;
+        return Ok(0);
+    }
+    Ok(count)
+}
+
+/// Tells what a node of damaged data hides, beside these versions. Answers how many paths.
+#[tactic(auto, unfolding(crate::specs::Damage::data_text))]
+fn push_data(
+    alloc: Global,
+    ways: &Ways<'_, '_>,
+    others: &[Stretch],
+    addr: u32,
+    lost: &Stretch,
+    text: &mut Text,
+) -> Result<u64, AllocError>
+    ensures text { OnOk result (text.new
+        ≡ text.old ++ data_text ways.now.mounted.now.state others.now addr lost.now) }
+    ensures count { IfOk result (λ count. count
+        ≡ min (length (hurt_paths ways.now.mounted.now.state others.now lost.now)) (2 ^ 64 - 1)) }
+{
+    if hides_nothing(others, size_at(ways.mounted, lost.ino), lost) {
+        push_nothing(text, addr, lost)?;
+        return Ok(0);
+    }
+    push_hurt(alloc, ways, addr, lost, text)
+}
+
+/// Tells what entry a node of a damaged name was.
+fn push_lost(
+    alloc: Global,
+    ways: &Ways<'_, '_>,
+    addr: u32,
+    loss: &Loss,
+    text: &mut Text,
+) -> Result<(), AllocError>
+    ensures { OnOk result (text.new ≡ text.old ++ loss_line addr loss.now
+        (path_below ways.now.mounted.now.state loss.now.pino [])) }
+{
+    let path = ways.directory_path(alloc, loss.pino)?;
+    push_loss(text, addr, loss, path.as_deref())
+}
+
+/// Tells of a damaged node, beside these versions. Answers how many paths it hides.
+pub(crate) fn push_node<E: Order>(
+    alloc: Global,
+    ways: &Ways<'_, '_>,
+    others: &[Stretch],
+    addr: u32,
+    which: Damage,
+    text: &mut Text,
+) -> Result<u64, AllocError>
+    requires { length ways.now.mounted.now.image ≤ greatest_image }
+    ensures text { OnOk result (text.new
+        ≡ text.old ++ node_text E.order ways.now.mounted.now others.now (addr, which)) }
+    ensures count { IfOk result (λ count. count
+        ≡ min (node_paths E.order ways.now.mounted.now others.now (addr, which)) (2 ^ 64 - 1)) }
+{
+    let image = ways.mounted.image();
+    match which {
+        Damage::DataCrc => {
+            let lost = stretch_at::<E>(image, addr);
+            push_data(alloc, ways, others, addr, &lost, text)
+        }
+        Damage::NameCrc => {
+            let loss = loss_at::<E>(image, addr);
+            push_lost(alloc, ways, addr, &loss, text)?;
+            Ok(0)
+        }
+        Damage::NodeCrc | Damage::Length | Damage::Range => {
+            push_unknown(text, addr, which)?;
+            Ok(0)
+        }
+    }
+}
+
+/// Tells of a name whose object is missing.
+pub(crate) fn push_missing_name(
+    alloc: Global,
+    ways: &Ways<'_, '_>,
+    pino: u32,
+    name: &[u8],
+    ino: u32,
+    text: &mut Text,
+) -> Result<(), AllocError>
+    ensures { OnOk result (text.new
+        ≡ text.old ++ missing_text ways.now.mounted.now.state (pino, name.now, ino)) }
+{
+    let path = ways.name_path(alloc, pino, name)?;
+    push_missing(text, pino, name, ino, path.as_deref())
+}
