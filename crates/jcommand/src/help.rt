@@ -39,6 +39,8 @@ pub(crate) const BLOCKS: &str = "Blocks of the flash, of 268435456 bytes at most
 
 pub(crate) const PAGE: &str = "Page size: 4096, 8192 or 16384 bytes";
 
+pub(crate) const WEAK: &str = "Note the weak nodes, as cuts finds them, when all is written";
+
 pub(crate) const SCAN: &str = "Print the report alone, and do not mount";
 
 pub(crate) const SHAPE: &str = "Print last whether the directories make a tree";
@@ -103,8 +105,8 @@ Exit status:
   0  done, and nothing was found
   1  a fault, which standard error names
   2  the command line is wrong
-  3  check found something, diff a difference, info no node, cuts a weak
-     node, or extract or listing left something out
+  3  check found something, diff a difference, info no node, cuts or --weak
+     a weak node, or extract or listing left something out
 
 A fault is one line, as 'jffs2_image: M6 RootKind'. Its letter says what gave
 up: C the report, L reading a file, M the mount, Z compressed data, S the
