@@ -352,7 +352,7 @@ fn append_at<'a>(found: &ArgMatches<'a>) -> Option<Request<'a>>
 
 /// What writes an image, with the notes on weak nodes where they are asked for.
 fn noting<'a>(found: &ArgMatches<'a>, request: Request<'a>) -> Task<'a>
-    ensures { task_view result ≡ noting_in (rows_of (found_of found.now)) (view request) }
+    ensures { task_view result ≡ noting_in (rows_of (found_of found.now)) (view request.entry) }
 {
     if is_given(found, "weak") {
         Task::Weak(request)

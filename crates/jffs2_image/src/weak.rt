@@ -1,5 +1,5 @@
 //! `--weak`: notes on the weak nodes of what `build` and `append` write.
-ghost use Rattle.std.specs.Prelude.{◌≡◌, ◌⊎◌, IsTrue, IfOk, OnOk, length};
+ghost use Rattle.std.specs.Prelude.{◌≡◌, ◌≢◌, IsFalse, IsTrue, IfOk, OnOk, length};
 ghost use Rattle.jmount.specs.Mounts.{IsMountOf};
 ghost use Rattle.jcommand.specs.Status.{outcome_of};
 ghost use Rattle.jffs2_image.specs.Runs.{Says};
@@ -25,6 +25,16 @@ pub struct Notes {
     pub asked: bool,
     pub text: Vec<u8>,
     pub weak: u64,
+}
+
+/// Whether memory was wanting.
+fn is_of_memory(fault: SessionFault) -> bool
+    ensures { IsFalse result → fault ≢ SessionFault.OutOfMemory }
+{
+    match fault {
+        SessionFault::OutOfMemory => true,
+        _ => false,
+    }
 }
 
 /// The notes on operations on a mounted image. Where one of them is not accepted there are none,
@@ -56,14 +66,14 @@ fn notes_of<E: Order>(
             text: held.bytes,
             weak: weak as u64,
         }),
-        Err(
-            CutsFault::Output
-            | CutsFault::Session {
-                fault: SessionFault::OutOfMemory,
-                ..
-            },
-        ) => Err(AllocError),
-        Err(CutsFault::Session { .. }) => Ok(Notes::new(alloc, true)),
+        Err(CutsFault::Output) => Err(AllocError),
+        Err(CutsFault::Session { fault, .. }) => {
+            if is_of_memory(fault) {
+                Err(AllocError)
+            } else {
+                Ok(Notes::new(alloc, true))
+            }
+        }
     }
 }
 
