@@ -82,11 +82,13 @@ view (request.Append target decompress image listing) = AppendParsed target.opti
     target.page decompress image.now listing.now target.output.now
 view (request.Decompress options image output) = DecompressParsed options image.now output.now
 
--- the same of a task: a request of an image, one that works with a folder of the host, what an
--- image tells of itself, what stands after a stop, an image that is compressed, what two images
--- differ in, or an image that is decompressed without nodes that clash
+-- the same of a task: a request of an image, one that writes an image and notes weak nodes, one
+-- that works with a folder of the host, what an image tells of itself, what stands after a stop, an
+-- image that is compressed, what two images differ in, or an image that is decompressed without
+-- nodes that clash
 pub data TaskParsed : Type 0 where
   ImageParsed : Parsed → TaskParsed
+  WeakParsed : Parsed → TaskParsed
   ExtractParsed : Options → Bool → Bool → Bool → Text → Text → Option Text → TaskParsed
   ListingParsed : Option Owner → Option ℕ → Bool → Text → TaskParsed
   InfoParsed : Text → TaskParsed
@@ -97,6 +99,7 @@ pub data TaskParsed : Type 0 where
 
 abbrev pub task_view : Task → TaskParsed
 task_view (task.Image r) = ImageParsed (view r)
+task_view (task.Weak r) = WeakParsed (view r)
 task_view (task.Extract x) =
     ExtractParsed x.options x.decompress x.owners x.quiet x.image.now x.folder.now
     (option_map (λ p. p.now) x.path)
@@ -167,6 +170,10 @@ abbrev pub append_in : List Row → Option Parsed
 append_in rows = image_in rows >>= λ p. writing_in rows >>= λ w.
     Some (AppendParsed p.0 w.0 w.1 (is_decompressed rows) p.1 w.2 w.3)
 
+-- what writes an image, with the notes on weak nodes where they are asked for
+abbrev pub noting_in : List Row → Parsed → TaskParsed
+noting_in rows p = if is_given (first_of (codes "weak") rows) then WeakParsed p else ImageParsed p
+
 -- whether nodes that clash are left out; `higher` is the only rule
 abbrev pub is_apart : Option Text → Option Bool
 is_apart None = Some false
@@ -216,8 +223,8 @@ parsed name rows =
     if bytes_eq name (codes "check") then option_map ImageParsed (check_in rows)
     else if bytes_eq name (codes "ls") then option_map ImageParsed (ls_in rows)
     else if bytes_eq name (codes "cat") then option_map ImageParsed (cat_in rows)
-    else if bytes_eq name (codes "build") then option_map ImageParsed (build_in rows)
-    else if bytes_eq name (codes "append") then option_map ImageParsed (append_in rows)
+    else if bytes_eq name (codes "build") then option_map (noting_in rows) (build_in rows)
+    else if bytes_eq name (codes "append") then option_map (noting_in rows) (append_in rows)
     else if bytes_eq name (codes "decompress") then decompress_in rows
     else if bytes_eq name (codes "extract") then extract_in rows
     else if bytes_eq name (codes "listing") then listing_in rows
@@ -269,10 +276,11 @@ abbrev pub IsOfImage : Option TaskParsed → Type 0
 IsOfImage (Some (ImageParsed p)) = Unit {0}
 IsOfImage _ = ⊥
 
--- they ask to fill or to read a folder, for what an image tells of itself, for what stands after a
--- stop, to compress one, for what two images differ in, or to decompress one without nodes that
--- clash
+-- they ask for notes on weak nodes, to fill or to read a folder, for what an image tells of itself,
+-- for what stands after a stop, to compress one, for what two images differ in, or to decompress
+-- one without nodes that clash
 abbrev pub IsNoRequest : Option TaskParsed → Type 0
+IsNoRequest (Some (WeakParsed p)) = Unit {0}
 IsNoRequest (Some (ExtractParsed options decompress owners quiet image folder path)) = Unit {0}
 IsNoRequest (Some (ListingParsed owner time quiet folder)) = Unit {0}
 IsNoRequest (Some (InfoParsed image)) = Unit {0}

@@ -83,3 +83,7 @@ returns-clause-no_second c = refl
 pub returns-clause-unreadable_clashes : goal.returns-clause-unreadable_clashes
 unfolding clap_on_literals program parsed parsed_from
 returns-clause-unreadable_clashes c = refl
+
+pub returns-clause-not_noted : goal.returns-clause-not_noted
+unfolding clap_on_literals program parsed parsed_from
+returns-clause-not_noted c = refl

@@ -83,3 +83,11 @@ returns-clause-compared_with_times c = refl
 pub returns-clause-apart : goal.returns-clause-apart
 unfolding clap_on_literals program parsed parsed_from
 returns-clause-apart c = refl
+
+pub returns-clause-noted : goal.returns-clause-noted
+unfolding clap_on_literals program parsed parsed_from
+returns-clause-noted c = refl
+
+pub returns-clause-extended_and_noted : goal.returns-clause-extended_and_noted
+unfolding clap_on_literals program parsed parsed_from
+returns-clause-extended_and_noted c = refl

@@ -33,7 +33,7 @@ returns-in-Ok-Compress g c =
 
 pub returns-in-Ok-Apart : goal.returns-in-Ok-Apart
 returns-in-Ok-Apart g c =
-    inr (inr (inr (inr (inr (inr (inr (
+    inr (inr (inr (inr (inr (inr (inr (inl (
       refl,
       record {
         asked = record { options = c.in-Ok-Apart.asked.options; image = c.in-Ok-Apart.asked.image.now; output = c.in-Ok-Apart.asked.output.now };
@@ -41,4 +41,16 @@ returns-in-Ok-Apart g c =
         faultless = c.in-Ok-Apart.ensures.faultless;
         ends = c.run_apart.ensures;
       },
-    )))))))
+    ))))))))
+
+pub returns-in-Ok-Weak : goal.returns-in-Ok-Weak
+returns-in-Ok-Weak g c =
+    inr (inr (inr (inr (inr (inr (inr (inr (
+      refl,
+      record {
+        request = c.in-Ok-Weak.request;
+        parsed = search rules;
+        faultless = c.in-Ok-Weak.ensures.faultless;
+        ends = c.run_weak.ensures;
+      },
+    ))))))))
