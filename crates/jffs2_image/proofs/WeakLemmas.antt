@@ -225,7 +225,7 @@ if_ok A (Err y) is = tt
 
 -- the notes on the lines that were read
 pub lines_notes : (told : List ℕ → Option (List ℕ)) (e : Endian) (flash : Flash) (base text : List ℕ) (lines : List Line) (parts : Parts) (notes : Notes) → lines_of text ≡ Ok lines → AreRead told lines parts
-    → AreNotes e flash base (ops_in (part_contents parts) lines) notes → AreNotesOn told e flash base text notes
+    → AreNotes e flash base (ops_in e (part_contents parts) lines) notes → AreNotesOn told e flash base text notes
 lines_notes told e flash base text lines parts notes read are noted = record { lines = lines; files = part_contents parts; read = read; bytes = have_bytes told lines parts are; noted = noted }
 
 -- the notes at the flash and the operations that are meant

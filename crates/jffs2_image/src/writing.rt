@@ -276,7 +276,7 @@ fn write_lines<'a, 'p, 'b: 'p, E: Order, M: Maker, T: Sink>(
       geometry = target.entry.options.geometry;
       blocks = target.entry.blocks;
       page = target.entry.page;
-    }) base.now (ops_in (part_contents parts.entry.now) lines.entry.items) notes.new) }
+    }) base.now (ops_in E.order (part_contents parts.entry.now) lines.entry.items) notes.new) }
 {
     let numbers = numbers_of(alloc, &lines)?;
     let ops = operations::<E>(alloc, lines, parts)?;

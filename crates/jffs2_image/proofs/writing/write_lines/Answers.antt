@@ -237,10 +237,10 @@ take-requires-clause-mount g c =
 pub take-requires-clause-numbered : goal.take-requires-clause-numbered
 take-requires-clause-numbered g c =
     let lines : List Line = c.args.lines.items in
-    let ops : c.deref-2.result.now ≡ ops_in (part_contents c.args.parts.now) lines = search rules in
+    let ops : c.deref-2.result.now ≡ ops_in g.E.Order.order (part_contents c.args.parts.now) lines = search rules in
     let items : c.in_ok-numbers.numbers.items ≡ map (λ (l : Line). l.number) lines = search rules in
     let numbers : c.deref-3.result.now ≡ map (λ (l : Line). l.number) lines = c.deref-3.ensures.value ∙ items in
-    ap length numbers ∙ (length-map lines (λ (l : Line). l.number) ∙ sym (ap length ops ∙ length-map lines (op_in (part_contents c.args.parts.now))))
+    ap length numbers ∙ (length-map lines (λ (l : Line). l.number) ∙ sym (ap length ops ∙ length-map lines (op_in g.E.Order.order (part_contents c.args.parts.now))))
 
 pub returns-clause-weak : goal.returns-clause-weak
 returns-clause-weak g c = λ asked.
@@ -249,7 +249,7 @@ returns-clause-weak g c = λ asked.
     let m = c.in_ok-mounted.mounted in
     let r = c.in_ok-report.report in
     let flash : Flash = record { geometry = a.target.options.geometry; blocks = a.target.blocks; page = a.target.page } in
-    let ops : List Op = ops_in (part_contents a.parts.now) a.lines.items in
+    let ops : List Op = ops_in e (part_contents a.parts.now) a.lines.items in
     let first : c.deref-2.result.now ≡ ops = search rules in
     let same : c.deref-4.result.now ≡ ops = search rules in
     let image : m.image ≡ a.base.now = search rules in
