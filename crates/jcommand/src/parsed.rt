@@ -98,7 +98,8 @@ impl Request<'_> {
 }
 
 /// The tree of an image in a new folder of the host, or the part of it that a path names; with
-/// `--owners`, its owners too, and with `--decompress` that of what `decompress` makes of the image.
+/// `--owners`, its owners too, and with `--decompress` that of what `decompress` makes of the
+/// image.
 #[derive(Clone, Copy)]
 pub struct Extraction<'a> {
     pub options: Options,

@@ -17,7 +17,8 @@ use Rattle.jconvert.specs.Converting.{convert_fault, greatest_blocks}
 
 -- The expanded nodes stand in the order of their addresses.
 abbrev pub LocatedAreInOrder : Type 0
-LocatedAreInOrder = (e : Endian) (size : ℕ) (image : List ℕ) → AreInOrder (located_nodes e size image)
+LocatedAreInOrder =
+    (e : Endian) (size : ℕ) (image : List ℕ) → AreInOrder (located_nodes e size image)
 
 abbrev pub LocatedAreExpanded : Type 0
 LocatedAreExpanded = (e : Endian) (size : ℕ) (image : List ℕ)
