@@ -9,5 +9,5 @@ returns-then-asked g c =
       c.in-Ok.bytes.items,
       search rules,
       search rules,
-      extracted_as_asked c.args.asked.decompress _ c.in-Ok.bytes.items c.as_slice.result.now _ c.extract_decompressed.result asked c.as_slice.ensures.value c.extract_decompressed.ensures,
+      extracted_as_asked c.args.asked.decompress _ c.in-Ok.bytes.items c.as_slice-image.result.now _ c.extract_decompressed.result asked c.as_slice-image.ensures.value c.extract_decompressed.ensures,
     )

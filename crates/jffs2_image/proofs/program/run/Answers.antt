@@ -1,5 +1,5 @@
 use Rattle.std.proofs.Common.{inl, inr, refl, rules, ℕ, List, Ok, Err}
-use Rattle.std.specs.Prelude.{◌⊎◌}
+use Rattle.std.specs.Prelude.{◌⊎◌, option_map}
 use Rattle.jcommand.specs.Parsed.{IsHelpRequested, IsRefusedByClap, IsUnreadable}
 use Rattle.jcommand.specs.Refused.{IsHelp, IsUsage}
 use Rattle.jcommand.specs.declared.command_line.RequestFault.{RequestFault}
@@ -54,3 +54,22 @@ returns-in-Ok-Weak g c =
         ends = c.run_weak.ensures;
       },
     ))))))))
+
+pub returns-in-Ok-Extract : goal.returns-in-Ok-Extract
+returns-in-Ok-Extract g c =
+    inr (inl (
+      refl,
+      refl,
+      record {
+        options = c.in-Ok-Extract.asked.options;
+        decompress = c.in-Ok-Extract.asked.decompress;
+        owners = c.in-Ok-Extract.asked.owners;
+        quiet = c.in-Ok-Extract.asked.quiet;
+        image = c.in-Ok-Extract.asked.image.now;
+        folder = c.in-Ok-Extract.asked.folder.now;
+        path = option_map (λ word. word.now) c.in-Ok-Extract.asked.path;
+        parsed = search rules;
+        faultless = c.in-Ok-Extract.ensures.faultless;
+        ends = c.run_extract.ensures;
+      },
+    ))
