@@ -12,7 +12,7 @@ use Rattle.jscan.proofs.AddressLaws.{sightings_ascend}
 use Rattle.jmount.specs.StateOf.{state_of}
 use Rattle.jmount.specs.Tree.{is_directory}
 use Rattle.jmount.proofs.FaultLemmas.{Rises, rises, ascends_from_splits}
-use Rattle.jclash.specs.Parting.{AreInOrder, Parts}
+use Rattle.jclash.specs.Parting.{AreByAddress, Parts}
 use Rattle.jclash.specs.declared.parting.LeftOut.{LeftOut}
 use Rattle.jclash.proofs.PartLemmas.{staying_do_not_clash}
 use Rattle.jlog.specs.Laws.{FitsBlock}
@@ -22,7 +22,7 @@ use Rattle.jlog.proofs.IntactLemmas.{output_is_long}
 use Rattle.jlog.proofs.AnewLemmas.{output_is_image, output_is_sound, output_mounts}
 use Rattle.jexpand.specs.Expanded.{expanded_node, expanded_nodes}
 use Rattle.jconvert.specs.Apart.{located_node, located_nodes, image_of_nodes}
-use Rattle.jconvert.specs.ApartLaws.{LocatedAreInOrder, LocatedAreExpanded, IsParted, ApartIsImage, ApartMounts, ApartHasNoRoot}
+use Rattle.jconvert.specs.ApartLaws.{LocatedAreByAddress, LocatedAreExpanded, IsParted, ApartIsImage, ApartMounts, ApartHasNoRoot}
 use Rattle.jconvert.specs.Converting.{convert_fault, greatest_blocks}
 use Rattle.jconvert.proofs.JudgeLemmas.{accepted}
 use Rattle.jconvert.proofs.LawLemmas.{are_storable, greatest_small}
@@ -50,12 +50,12 @@ there : (addr : ℕ) (o : Option NodeRef) (n : ℕ × NodeRef) → option_map (�
 there addr None n is = absurd (cc)
 there addr (Some m) n is = ap (λ (k : ℕ × NodeRef). k.0) {x = (addr, m)} {y = n} cc
 
-order_option : (addr : ℕ) (o : Option NodeRef) (ns : List (ℕ × NodeRef)) → ((m : ℕ × NodeRef) → Contains ns m → addr < m.0) → AreInOrder ns
-    → AreInOrder (cons_option (option_map (λ (n : NodeRef). (addr, n)) o) ns)
+order_option : (addr : ℕ) (o : Option NodeRef) (ns : List (ℕ × NodeRef)) → ((m : ℕ × NodeRef) → Contains ns m → addr < m.0) → AreByAddress ns
+    → AreByAddress (cons_option (option_map (λ (n : NodeRef). (addr, n)) o) ns)
 order_option addr None ns below order = order
 order_option addr (Some n) ns below order = (below, order)
 
-in_order_of : (e : Endian) (size : ℕ) (image : List ℕ) (ss : List (ℕ × Seen)) → Rises ss → AreInOrder (filter_map (located_node e size image) ss)
+in_order_of : (e : Endian) (size : ℕ) (image : List ℕ) (ss : List (ℕ × Seen)) → Rises ss → AreByAddress (filter_map (located_node e size image) ss)
 in_order_of e size image [] up = tt
 in_order_of e size image (s ∷ ss) up =
     order_option s.0 (expanded_node e size image s) (filter_map (located_node e size image) ss)
@@ -65,7 +65,7 @@ in_order_of e size image (s ∷ ss) up =
     subst (λ (k : ℕ). s.0 < k) (there found.0.0 (expanded_node e size image found.0) m found.2) less)
     (in_order_of e size image ss up.1)
 
-pub located_are_in_order : LocatedAreInOrder
+pub located_are_in_order : LocatedAreByAddress
 located_are_in_order e size image =
     in_order_of e size image (sightings e size image) (rises (sightings e size image) (ascends_from_splits (sightings e size image) (sightings_ascend e size image)))
 

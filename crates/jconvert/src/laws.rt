@@ -1,6 +1,6 @@
 //! Laws of what goes out. Each function's contract is a law, and its body is empty.
 
-ghost use Rattle.jconvert.specs.ApartLaws.{LocatedAreInOrder, LocatedAreExpanded, ApartIsImage, ApartMounts, ApartHasNoRoot};
+ghost use Rattle.jconvert.specs.ApartLaws.{LocatedAreByAddress, LocatedAreExpanded, ApartIsImage, ApartMounts, ApartHasNoRoot};
 ghost use Rattle.jconvert.specs.CompressingLaws.{CompressedAreNodes, CompressedGivesBack, CompressedMounts};
 ghost use Rattle.jconvert.specs.Laws.{ConvertedIsImage, ConvertedMounts, ConvertedHasNoRoot, ConvertedClashes};
 
@@ -24,7 +24,7 @@ pub fn compressed_gives_back()
 /// What goes out without nodes that clash is an image of exactly those that stay, in order; it
 /// mounts as the file system that they make, or answers that the root is no directory.
 pub fn apart_mounts()
-    ensures order { LocatedAreInOrder }
+    ensures order { LocatedAreByAddress }
     ensures expanded { LocatedAreExpanded }
     ensures image { ApartIsImage }
     ensures mounts { ApartMounts }
