@@ -95,6 +95,24 @@ fn what_attributes_leave(rt: HostRuntime) -> Result<(), Fail> {
     Ok(())
 }
 
+/// A device has no bytes, whatever its node has.
+#[test]
+fn what_devices_leave(rt: HostRuntime) -> Result<(), Fail> {
+    let alloc = rt.alloc();
+    let mut index = index_of(alloc, SMALL)?;
+    let rows = [
+        ("char /x 600 866:411233", 58, 0o020600, 0),
+        ("block /d/y 7777 8:0", 59, 0o067777, 0),
+        ("file /z 644 300", 60, 0o100644, 300),
+    ];
+    for (line, ino, mode, size) in rows {
+        equal_at(&rt, take(alloc, &mut index, line)?, 2, line);
+        let found = index.object(ino).map(|o| (o.mode, o.size));
+        equal_at(&rt, found, Some((mode, size)), line);
+    }
+    Ok(())
+}
+
 #[test]
 fn other_permission_bits(rt: HostRuntime) {
     let rows = [

@@ -2,12 +2,15 @@
 //! the program's output.
 //!
 //! `trees` has the file systems that they work on, `lines` writes operations and answers as lines
-//! of text, `plan_tests` has the tables, `page_tests` those by larger pages, `index_tests` what an
-//! index shows and how it goes on, and `growth` what stands after a growth that is refused.
+//! of text, `plan_tests` has the tables, `page_tests` those by larger pages, `device_tests` has
+//! kinds and numbers of devices, `index_tests` what an index shows and how it goes on, and `growth`
+//! what stands after a growth that is refused.
 #![tactic(auto)]
 
 #[cfg(test)]
 mod checks;
+#[cfg(test)]
+mod device_tests;
 #[cfg(test)]
 mod growth;
 #[cfg(test)]

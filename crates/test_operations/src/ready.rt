@@ -28,6 +28,7 @@ fn size_of(index: &Index, ino: u32) -> u32
 }
 
 /// Whether a step can be taken.
+#[tactic(auto, using(jsteps::proofs::OwnLemmas::own_short))]
 pub fn is_ready(index: &Index, step: &Step<'_>) -> bool
     ensures defined { result ≡ true → IsDefined index.now.tree step.now }
     ensures room { result ≡ true → HasRoom index.now step.now }
