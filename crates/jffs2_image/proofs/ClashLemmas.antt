@@ -106,6 +106,15 @@ holds_apart held e size image stay left c accepted parts room changed nodes byte
   made = made;
 }
 
+-- the same of the slice that was put
+pub holds_slice : (held : Held) (e : Endian) (size : ℕ) (image : List ℕ) (now stay : List NodeRef) (left : List LeftOut) (c : Converted) → now ≡ stay → convert_fault e size image ≡ None
+    → Parts (located_nodes e size image) stay left → HaveRoom e size now → c.changed ≡ count_by (λ s. is_changed s.1) (sightings e size image) → c.nodes ≡ length stay
+    → c.bytes ≡ end_of_all size 0 (map (canonical e) now) → HoldsMade held (image_of_nodes e size now) → HoldsApart held e size image c left
+holds_slice held e size image now stay left c is accepted parts room changed nodes bytes made =
+    holds_apart held e size image stay left c accepted parts (subst (λ (ns : List NodeRef). HaveRoom e size ns) is room) changed nodes
+    (subst (λ (ns : List NodeRef). c.bytes ≡ end_of_all size 0 (map (canonical e) ns)) is bytes)
+    (subst (λ (ns : List NodeRef). HoldsMade held (image_of_nodes e size ns)) is made)
+
 -- no file is made of it, or not to its end
 pub apart_not_written : (held : Held) (e : Endian) (size : ℕ) (output image : List ℕ) (old : Option (List ℕ)) (n : ℕ) (stay : List NodeRef) (left : List LeftOut) (f : ProgramFault)
     → convert_fault e size image ≡ None → Parts (located_nodes e size image) stay left → IsNotWritten held output (image_of_nodes e size stay) f
