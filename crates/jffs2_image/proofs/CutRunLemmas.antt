@@ -119,6 +119,11 @@ pub told_files : (told later : List ℕ → Option (List ℕ)) (e : Endian) (fla
 told_files told later e flash on listing base text sink r same is loaded tells =
     inl (base, text, is, loaded, subst (λ (t : List ℕ → Option (List ℕ)). TellsText t e flash base text sink r) (fun_ext same) tells)
 
+-- the image was read, and the listing can't be
+pub listing_unread : (told : List ℕ → Option (List ℕ)) (e : Endian) (flash : Flash) (on : Option (List ℕ)) (listing base : List ℕ) (sink : SinkChange) (f : ProgramFault)
+    → IsBaseOf told on base → IsUnreadFile listing (told listing) f → sink.new ≡ sink.old → sink.now ≡ sink.before → TellsFiles told e flash on listing sink (Err f)
+listing_unread told e flash on listing base sink f is unread new now = inr (f, refl, inr ((base, is), unread), new, now)
+
 -- a fault stays what it is
 pub still_failed : (A E : Type 0) (told : List ℕ → Option (List ℕ)) (asked : CutsAsked) (output : SinkChange) (taken : Option (List ℕ)) (count : ℕ) (fault : ProgramFault) (finished : Result A E)
     → TellsFiles told asked.options.endian (flash_asked asked) asked.on asked.listing (record { old = output.old; new = taken; before = output.before; now = count }) (Err fault)

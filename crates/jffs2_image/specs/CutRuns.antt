@@ -87,15 +87,21 @@ abbrev pub IsBaseUnread : (List ℕ → Option (List ℕ)) → Option (List ℕ)
 IsBaseUnread told None fault = ⊥
 IsBaseUnread told (Some name) fault = IsUnreadFile name (told name) fault
 
+-- the image was read to its end, where one is given, and the listing can't be
+abbrev pub IsListingUnread : (List ℕ → Option (List ℕ)) → Option (List ℕ) → List ℕ → ProgramFault
+    → Type 0
+IsListingUnread told on listing fault =
+    ((base : List ℕ) × IsBaseOf told on base) × IsUnreadFile listing (told listing) fault
+
 -- Both files are read, and the listing's operations are told; or one of them can't be, and nothing
--- is.
+-- is. The image comes first.
 abbrev pub TellsFiles : (List ℕ → Option (List ℕ)) → Endian → Flash → Option (List ℕ) → List ℕ
     → SinkChange → Result ℕ ProgramFault → Type 0
 TellsFiles told e flash on listing sink answer =
     ((base : List ℕ) × (text : List ℕ) × IsBaseOf told on base × AreLoaded (told listing) text
     × TellsText told e flash base text sink answer)
     ⊎ ((fault : ProgramFault) × (answer ≡ Err fault)
-    × (IsBaseUnread told on fault ⊎ IsUnreadFile listing (told listing) fault)
+    × (IsBaseUnread told on fault ⊎ IsListingUnread told on listing fault)
     × (sink.new ≡ sink.old) × (sink.now ≡ sink.before))
 
 -- Files are only read. One that can't be opened, or fails while it is read, counts once; at what
