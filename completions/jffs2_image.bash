@@ -7,8 +7,8 @@ _jffs2_image_options() {
     case $1 in
         check) echo "$plain --scan --shape $help" ;;
         ls | cat) echo "$plain --decompress $help" ;;
-        build) echo "$plain $write $help" ;;
-        append) echo "$plain $write --decompress $help" ;;
+        build) echo "$plain $write --weak $help" ;;
+        append) echo "$plain $write --weak --decompress $help" ;;
         decompress | compress) echo "$plain $help" ;;
         extract) echo "$plain --decompress --owners --quiet $help" ;;
         listing) echo "--owner --time --quiet $help" ;;

@@ -37,6 +37,7 @@ complete -c jffs2_image -n '__jffs2_image_in build append cuts' -l page -x \
     -a '4096 8192 16384' -d 'Largest piece of a file in one node'
 complete -c jffs2_image -n '__jffs2_image_in ls cat append extract' -l decompress \
     -d 'Take it as decompress writes it'
+complete -c jffs2_image -n '__jffs2_image_in build append' -l weak -d 'Note the weak nodes'
 complete -c jffs2_image -n '__jffs2_image_in extract listing' -l quiet -d 'Tell no progress'
 
 # Options of one command

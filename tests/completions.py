@@ -32,7 +32,7 @@ def commands_of_the_program():
     bodies = dict(re.findall(r"^(?:pub\(crate\) )?fn (\w+)(.*?)^}", text, re.M | re.S))
     found = {}
     for body in bodies.values():
-        named = re.search(r'\bmake_(?:plain|writer|named)\(\s*alloc,\s*"(\w+)"', body)
+        named = re.search(r'\bmake_(?:plain|writer|noting|named)\(\s*alloc,\s*"(\w+)"', body)
         if named:
             name = "" if ".version(" in body else named[1]
             found[name] = Command(options_in(body, bodies) | HELP, words_in(body))
@@ -45,7 +45,7 @@ def options_in(body, bodies):
     """The options that a function makes, and those of the functions that it begins with."""
     made = r'\bmake_(?:option|required_option|optional|optional_two|flag)\(\s*alloc,\s*"(\w+)"'
     options = {f"--{name}" for name in re.findall(made, body)}
-    for below in re.findall(r"\b(make_plain|make_writer)\(", body):
+    for below in re.findall(r"\b(make_plain|make_writer|make_noting)\(", body):
         options |= options_in(bodies[below], bodies)
     return options
 

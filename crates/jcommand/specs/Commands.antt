@@ -65,15 +65,20 @@ abbrev pub writer : Text → App
 writer name = with_rule (with_rule (plain_command name) (required_option (codes "blocks")))
     (option_or (codes "page") (codes "4096"))
 
--- `build --blocks N [--page N] [--block N] [--endian ORDER] LISTING OUT`
+-- the same, with notes on weak nodes where they are asked for
+abbrev pub noting : Text → App
+noting name = with_rule (writer name) (flag (codes "weak"))
+
+-- `build --blocks N [--page N] [--weak] [--block N] [--endian ORDER] LISTING OUT`
 abbrev pub build_app : App
 build_app =
-    with_rule (with_rule (writer (codes "build")) (word (codes "LISTING"))) (word (codes "OUT"))
+    with_rule (with_rule (noting (codes "build")) (word (codes "LISTING"))) (word (codes "OUT"))
 
--- `append --blocks N [--page N] [--decompress] [--block N] [--endian ORDER] IMAGE LISTING OUT`
+-- `append --blocks N [--page N] [--weak] [--decompress] [--block N] [--endian ORDER] IMAGE LISTING
+-- OUT`
 abbrev pub append_app : App
 append_app = with_rule
-    (with_rule (with_rule (decompressing (writer (codes "append"))) (word (codes "IMAGE")))
+    (with_rule (with_rule (decompressing (noting (codes "append"))) (word (codes "IMAGE")))
     (word (codes "LISTING")))
     (word (codes "OUT"))
 

@@ -82,11 +82,12 @@ view (request.Append target decompress image listing) = AppendParsed target.opti
     target.page decompress image.now listing.now target.output.now
 view (request.Decompress options image output) = DecompressParsed options image.now output.now
 
--- the same of a task: a request of an image, one that works with a folder of the host, what an
--- image tells of itself, what stands after a stop, an image that is compressed, or what two images
--- differ in
+-- the same of a task: a request of an image, one that writes an image and notes weak nodes, one
+-- that works with a folder of the host, what an image tells of itself, what stands after a stop, an
+-- image that is compressed, or what two images differ in
 pub data TaskParsed : Type 0 where
   ImageParsed : Parsed → TaskParsed
+  WeakParsed : Parsed → TaskParsed
   ExtractParsed : Options → Bool → Bool → Bool → Text → Text → TaskParsed
   ListingParsed : Option Owner → Option ℕ → Bool → Text → TaskParsed
   InfoParsed : Text → TaskParsed
@@ -96,6 +97,7 @@ pub data TaskParsed : Type 0 where
 
 abbrev pub task_view : Task → TaskParsed
 task_view (task.Image r) = ImageParsed (view r)
+task_view (task.Weak r) = WeakParsed (view r)
 task_view (task.Extract x) =
     ExtractParsed x.options x.decompress x.owners x.quiet x.image.now x.folder.now
 task_view (task.Listing l) = ListingParsed l.owner l.time l.quiet l.folder.now
@@ -164,6 +166,10 @@ abbrev pub append_in : List Row → Option Parsed
 append_in rows = image_in rows >>= λ p. writing_in rows >>= λ w.
     Some (AppendParsed p.0 w.0 w.1 (is_decompressed rows) p.1 w.2 w.3)
 
+-- what writes an image, with the notes on weak nodes where they are asked for
+abbrev pub noting_in : List Row → Parsed → TaskParsed
+noting_in rows p = if is_given (first_of (codes "weak") rows) then WeakParsed p else ImageParsed p
+
 abbrev pub decompress_in : List Row → Option Parsed
 decompress_in rows = image_in rows >>= λ p. first_of (codes "OUT") rows >>= λ output.
     Some (DecompressParsed p.0 p.1 output)
@@ -206,8 +212,8 @@ parsed name rows =
     if bytes_eq name (codes "check") then option_map ImageParsed (check_in rows)
     else if bytes_eq name (codes "ls") then option_map ImageParsed (ls_in rows)
     else if bytes_eq name (codes "cat") then option_map ImageParsed (cat_in rows)
-    else if bytes_eq name (codes "build") then option_map ImageParsed (build_in rows)
-    else if bytes_eq name (codes "append") then option_map ImageParsed (append_in rows)
+    else if bytes_eq name (codes "build") then option_map (noting_in rows) (build_in rows)
+    else if bytes_eq name (codes "append") then option_map (noting_in rows) (append_in rows)
     else if bytes_eq name (codes "decompress") then option_map ImageParsed (decompress_in rows)
     else if bytes_eq name (codes "extract") then extract_in rows
     else if bytes_eq name (codes "listing") then listing_in rows
@@ -259,9 +265,10 @@ abbrev pub IsOfImage : Option TaskParsed → Type 0
 IsOfImage (Some (ImageParsed p)) = Unit {0}
 IsOfImage _ = ⊥
 
--- they ask to fill or to read a folder, for what an image tells of itself, for what stands after a
--- stop, to compress one, or for what two images differ in
+-- they ask for notes on weak nodes, to fill or to read a folder, for what an image tells of itself,
+-- for what stands after a stop, to compress one, or for what two images differ in
 abbrev pub IsNoRequest : Option TaskParsed → Type 0
+IsNoRequest (Some (WeakParsed p)) = Unit {0}
 IsNoRequest (Some (ExtractParsed options decompress owners quiet image folder)) = Unit {0}
 IsNoRequest (Some (ListingParsed owner time quiet folder)) = Unit {0}
 IsNoRequest (Some (InfoParsed image)) = Unit {0}

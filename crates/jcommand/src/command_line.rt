@@ -170,8 +170,8 @@ pub fn task<'a>(alloc: Global, args: &'a [&'a str]) -> Result<Task<'a>, RequestF
     }
 }
 
-/// The request that the words of a command line make of an image: what `task` answers, but for a
-/// command on a folder, `info`, `cuts`, `compress` and `diff`, which are refused.
+/// The request that the words of a command line make of an image: what `task` answers, but for one
+/// with `--weak`, a command on a folder, `info`, `cuts`, `compress` and `diff`, which are refused.
 pub fn request<'a>(alloc: Global, args: &'a [&'a str]) -> Result<Request<'a>, RequestFault>
     // The subcommand and its values are clap's own function of the words.
     ensures ok { IfOk result
@@ -199,7 +199,8 @@ pub fn request<'a>(alloc: Global, args: &'a [&'a str]) -> Result<Request<'a>, Re
     match task(alloc, args) {
         Ok(Task::Image(request)) => Ok(request),
         Ok(
-            Task::Extract(_)
+            Task::Weak(_)
+            | Task::Extract(_)
             | Task::Listing(_)
             | Task::Info { .. }
             | Task::Cuts(_)

@@ -2,7 +2,7 @@
 //! takes.
 ghost use Rattle.std.specs.Prelude.{◌≡◌, Ok};
 ghost use Rattle.clap.specs.Words.{App, Rule, new_app, with_rule, with_subcommand};
-ghost use Rattle.jcommand.specs.Commands.{IsApp, IsRule, MakesApp, word, optional_word, option_or, required_option, option_of, option_of_two, flag, plain_command, writer, check_app, ls_app, cat_app, build_app, append_app, decompress_app, compress_app, extract_app, listing_app, info_app, cuts_app, diff_app, bare, program};
+ghost use Rattle.jcommand.specs.Commands.{IsApp, IsRule, MakesApp, word, optional_word, option_or, required_option, option_of, option_of_two, flag, plain_command, writer, noting, check_app, ls_app, cat_app, build_app, append_app, decompress_app, compress_app, extract_app, listing_app, info_app, cuts_app, diff_app, bare, program};
 
 use crate::help;
 use clap::{Arg, ArgAction, Command};
@@ -156,12 +156,20 @@ fn make_writer<'a>(alloc: Global, name: &'a str, about: &'a str, after: &'a str)
     add_arg(add_arg(make_plain(alloc, name, about, after), blocks), page)
 }
 
+/// The same, with notes on weak nodes where they are asked for.
+fn make_noting<'a>(alloc: Global, name: &'a str, about: &'a str, after: &'a str) -> Made<'a>
+    ensures { MakesApp result (noting name.now) }
+{
+    let weak = make_flag(alloc, "weak", help::WEAK);
+    add_arg(make_writer(alloc, name, about, after), weak)
+}
+
 fn make_build<'a>(alloc: Global) -> Made<'a>
     ensures { MakesApp result build_app }
 {
     let listing = make_word(alloc, "LISTING", help::LISTING);
     let output = make_word(alloc, "OUT", help::OUT);
-    let command = make_writer(alloc, "build", help::BUILD, help::BUILD_EPILOGUE);
+    let command = make_noting(alloc, "build", help::BUILD, help::BUILD_EPILOGUE);
     add_arg(add_arg(command, listing), output)
 }
 
@@ -172,7 +180,7 @@ fn make_append<'a>(alloc: Global) -> Made<'a>
     let image = make_word(alloc, "IMAGE", help::IMAGE);
     let listing = make_word(alloc, "LISTING", help::LISTING);
     let output = make_word(alloc, "OUT", help::OUT);
-    let command = make_writer(alloc, "append", help::APPEND, help::APPEND_EPILOGUE);
+    let command = make_noting(alloc, "append", help::APPEND, help::APPEND_EPILOGUE);
     add_arg(
         add_arg(add_arg(add_arg(command, decompress), image), listing),
         output,

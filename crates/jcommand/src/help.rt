@@ -39,6 +39,8 @@ pub(crate) const BLOCKS: &str = "Blocks of the flash, of 268435456 bytes at most
 
 pub(crate) const PAGE: &str = "Page size: 4096, 8192 or 16384 bytes";
 
+pub(crate) const WEAK: &str = "Note the weak nodes when all is written";
+
 pub(crate) const SCAN: &str = "Print the report alone, and do not mount";
 
 pub(crate) const SHAPE: &str = "Print last whether the directories make a tree";
@@ -103,8 +105,8 @@ Exit status:
   0  done, and nothing was found
   1  a fault, which standard error names
   2  the command line is wrong
-  3  check found something, diff a difference, info no node, cuts a weak
-     node, or extract or listing left something out
+  3  check found something, diff a difference, info no node, cuts or --weak
+     a weak node, or extract or listing left something out
 
 A fault is one line, as 'jffs2_image: M6 RootKind'. Its letter says what gave
 up: C the report, L reading a file, M the mount, Z compressed data, S the
@@ -231,13 +233,18 @@ The listing and each FILE are read before OUT is made. The first operation that
 is refused, or for which there is no room, is the last: the fault has the number
 of its line, and OUT holds what was accepted before it.
 
+With --weak a note on each weak node, as 'weak A at J', goes to standard error
+when all is written: a stop after the first J bytes of the node at A may show a
+node that nobody wrote.
+
 Example:
   jffs2_image build --block 131072 --blocks 64 tree.txt flash.img
 
 Exit status:
   0  done
   1  a fault, which standard error names
-  2  the command line is wrong";
+  2  the command line is wrong
+  3  with --weak a weak node";
 
 pub(crate) const APPEND_EPILOGUE: &str = "\
 OUT begins with the bytes of IMAGE. Writing goes on at the first block from
@@ -260,7 +267,8 @@ Examples:
 Exit status:
   0  done
   1  a fault, which standard error names
-  2  the command line is wrong";
+  2  the command line is wrong
+  3  with --weak a weak node";
 
 pub(crate) const DECOMPRESS_EPILOGUE: &str = "\
 OUT has the nodes of IMAGE in the order of their addresses, from the first block

@@ -3,7 +3,7 @@ ghost use Rattle.std.specs.Prelude.{◌≡◌, true, false, [], ◌∷◌, Some,
 ghost use Rattle.clap.specs.Words.{fault_of};
 ghost use Rattle.clap.specs.declared.error.ErrorKind.TheVariants.{DisplayHelp, DisplayVersion, MissingSubcommand, MissingRequiredArgument, UnknownArgument, WrongNumberOfValues};
 ghost use Rattle.jnode.specs.declared.order.Endian.TheVariants.{Little, Big};
-ghost use Rattle.jcommand.specs.Parsed.{ScanParsed, CheckParsed, ListParsed, CatParsed, BuildParsed, AppendParsed, DecompressParsed, ImageParsed, ExtractParsed, ListingParsed, InfoParsed, CompressParsed, CutsParsed, DiffParsed, parsed_from, endian_of, decimal_number, owner_of, page_of};
+ghost use Rattle.jcommand.specs.Parsed.{ScanParsed, CheckParsed, ListParsed, CatParsed, BuildParsed, AppendParsed, DecompressParsed, ImageParsed, WeakParsed, ExtractParsed, ListingParsed, InfoParsed, CompressParsed, CutsParsed, DiffParsed, parsed_from, endian_of, decimal_number, owner_of, page_of};
 ghost use Rattle.jsteps.specs.declared.page.Page.TheVariants.{P4096, P8192, P16384};
 ghost use Rattle.jcommand.specs.Commands.{program};
 
@@ -69,6 +69,16 @@ pub fn known_requests()
         ≡ Some (ImageParsed
         (AppendParsed (record { geometry = record { block = 8192 }; endian = Big }) 3 P16384
         false (codes "a") (codes "b") (codes "c"))) }
+    ensures noted { parsed_from (codes "jffs2_image" ∷ codes "build" ∷ codes "--weak"
+        ∷ codes "--blocks=2" ∷ codes "a" ∷ codes "b" ∷ [])
+        ≡ Some (WeakParsed
+        (BuildParsed (record { geometry = record { block = 65536 }; endian = Little }) 2
+        P4096 (codes "a") (codes "b"))) }
+    ensures extended_and_noted { parsed_from (codes "jffs2_image" ∷ codes "append" ∷ codes "a"
+        ∷ codes "b" ∷ codes "--decompress" ∷ codes "c" ∷ codes "--weak" ∷ codes "--blocks=3" ∷ [])
+        ≡ Some (WeakParsed
+        (AppendParsed (record { geometry = record { block = 65536 }; endian = Little }) 3 P4096
+        true (codes "a") (codes "b") (codes "c"))) }
     ensures decompressed { parsed_from
         (codes "jffs2_image" ∷ codes "decompress" ∷ codes "--block=8192" ∷ codes "a" ∷ codes "b"
         ∷ [])
@@ -145,6 +155,8 @@ pub fn known_refusals()
         ∷ codes "--block=4096" ∷ codes "a" ∷ []) ≡ UnknownArgument ∷ [] }
     ensures no_flash { fault_of program (codes "jffs2_image" ∷ codes "cuts" ∷ codes "a" ∷ [])
         ≡ MissingRequiredArgument ∷ [] }
+    ensures not_noted { fault_of program (codes "jffs2_image" ∷ codes "cuts" ∷ codes "--weak"
+        ∷ codes "--blocks=2" ∷ codes "a" ∷ []) ≡ UnknownArgument ∷ [] }
     ensures no_second { fault_of program (codes "jffs2_image" ∷ codes "diff" ∷ codes "a" ∷ [])
         ≡ MissingRequiredArgument ∷ [] }
     ensures no_folder { fault_of program (codes "jffs2_image" ∷ codes "extract" ∷ codes "a" ∷ [])

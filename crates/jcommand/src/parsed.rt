@@ -1,7 +1,7 @@
 //! What the matches of the program's command line ask for.
 ghost use Rattle.std.specs.Prelude.{◌≡◌, IfSome, codes, map, option_map};
 ghost use Rattle.clap.specs.Words.{found_of, rows_of, all_of, first_of};
-ghost use Rattle.jcommand.specs.Parsed.{decimal_number, endian_of, page_of, number_option, options_in, image_in, is_given, check_in, is_decompressed, ls_in, cat_in, writing_in, build_in, append_in, decompress_in, extract_in, listing_in, info_in, compress_in, cuts_in, diff_in, owner_number, owner_of, if_given, parsed, options_of, task_view, view};
+ghost use Rattle.jcommand.specs.Parsed.{decimal_number, endian_of, page_of, number_option, options_in, image_in, is_given, check_in, is_decompressed, ls_in, cat_in, writing_in, build_in, append_in, noting_in, decompress_in, extract_in, listing_in, info_in, compress_in, cuts_in, diff_in, owner_number, owner_of, if_given, parsed, options_of, task_view, view};
 
 use clap::ArgMatches;
 use jnode::Endian;
@@ -152,6 +152,8 @@ pub struct Comparison<'a> {
 pub enum Task<'a> {
     /// Of an image alone.
     Image(Request<'a>),
+    /// `build` and `append` with `--weak`: the same, and then notes on weak nodes.
+    Weak(Request<'a>),
     /// `extract`.
     Extract(Extraction<'a>),
     /// `listing`.
@@ -348,6 +350,17 @@ fn append_at<'a>(found: &ArgMatches<'a>) -> Option<Request<'a>>
     })
 }
 
+/// What writes an image, with the notes on weak nodes where they are asked for.
+fn noting<'a>(found: &ArgMatches<'a>, request: Request<'a>) -> Task<'a>
+    ensures { task_view result ≡ noting_in (rows_of (found_of found.now)) (view request.entry) }
+{
+    if is_given(found, "weak") {
+        Task::Weak(request)
+    } else {
+        Task::Image(request)
+    }
+}
+
 fn decompress_at<'a>(found: &ArgMatches<'a>) -> Option<Request<'a>>
     ensures { option_map view result ≡ decompress_in (rows_of (found_of found.now)) }
 {
@@ -489,8 +502,8 @@ pub(crate) fn parsed_of<'a>(name: &str, found: &ArgMatches<'a>) -> Option<Task<'
         "check" => Some(Task::Image(check_at(found)?)),
         "ls" => Some(Task::Image(ls_at(found)?)),
         "cat" => Some(Task::Image(cat_at(found)?)),
-        "build" => Some(Task::Image(build_at(found)?)),
-        "append" => Some(Task::Image(append_at(found)?)),
+        "build" => Some(noting(found, build_at(found)?)),
+        "append" => Some(noting(found, append_at(found)?)),
         "decompress" => Some(Task::Image(decompress_at(found)?)),
         "extract" => extract_at(found),
         "listing" => listing_at(found),

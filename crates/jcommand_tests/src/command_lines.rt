@@ -114,6 +114,10 @@ fn shown_comparison(alloc: Global, asked: Comparison<'_>) -> Result<String, Allo
 fn shown_task(alloc: Global, task: Task<'_>) -> Result<String, AllocError> {
     match task {
         Task::Image(request) => shown(alloc, request),
+        Task::Weak(request) => {
+            let request = shown(alloc, request)?;
+            format!(in alloc; "weak {request}")
+        }
         Task::Extract(
             Extraction {
                 options,
@@ -240,7 +244,7 @@ fn args_that_ask_for_something(rt: HostRuntime) -> Result<(), Fail> {
 }
 
 /// Lines that ask to write, and what they ask for.
-const WRITING: [(&str, &str); 14] = [
+const WRITING: [(&str, &str); 16] = [
     ("t cuts --blocks 8 a.txt", "cuts 65536 false 8 4096 - a.txt"),
     (
         "t cuts a.txt --on b.img --page=8192 --endian big --block 8192 --blocks=7",
@@ -293,6 +297,14 @@ const WRITING: [(&str, &str); 14] = [
     (
         "t append --block=131072 --blocks=4294967295 a.img b.txt a.img",
         "append 131072 little 4294967295 4096 a.img b.txt a.img",
+    ),
+    (
+        "t build --blocks 8 --weak a.txt b.img",
+        "weak build 65536 little 8 4096 a.txt b.img",
+    ),
+    (
+        "t append --weak a.img b.txt c.img --page=8192 --blocks 8",
+        "weak append 65536 little 8 8192 a.img b.txt c.img",
     ),
 ];
 
@@ -379,7 +391,10 @@ fn args_that_are_wrong(rt: HostRuntime) -> Result<(), Fail> {
 }
 
 /// Those with the words of writing.
-const WRONG_TO_WRITE: [(&str, &str); 40] = [
+const WRONG_TO_WRITE: [(&str, &str); 43] = [
+    ("t cuts --weak --blocks 8 a", "--weak"),
+    ("t compress --weak a b", "--weak"),
+    ("t build --weak=yes --blocks 8 a b", "--weak"),
     ("t cuts a", "--blocks <N>"),
     ("t cuts --blocks 8 a b", "'b'"),
     ("t cuts --blocks 8 a --on", "--on <IMAGE>"),

@@ -5,7 +5,7 @@ use jcommand::{Request, RequestFault, Task, task};
 use std::alloc::Global;
 
 /// Words, and what they ask for.
-const LINES: [(&[&str], &str); 14] = [
+const LINES: [(&[&str], &str); 15] = [
     (&["t", "check", "--scan", "--block=4096", "a.img"], "scan"),
     (&["t", "check", "--endian", "big", "a.img"], "check"),
     (&["t", "ls", "a.img"], "ls"),
@@ -13,6 +13,10 @@ const LINES: [(&[&str], &str); 14] = [
     (
         &["t", "append", "a.img", "b.txt", "c.img", "--blocks=8"],
         "append",
+    ),
+    (
+        &["t", "build", "--weak", "a.txt", "b.img", "--blocks=8"],
+        "weak",
     ),
     (&["t", "decompress", "a.img", "b.img"], "decompress"),
     (&["t", "extract", "--owners", "a.img", "b"], "extract"),
@@ -38,6 +42,7 @@ fn asked(alloc: Global, words: &[&str]) -> &'static str {
         Ok(Task::Image(Request::Build { .. })) => "build",
         Ok(Task::Image(Request::Append { .. })) => "append",
         Ok(Task::Image(Request::Decompress { .. })) => "decompress",
+        Ok(Task::Weak(_)) => "weak",
         Ok(Task::Extract(_)) => "extract",
         Ok(Task::Listing(_)) => "listing",
         Ok(Task::Info { .. }) => "info",

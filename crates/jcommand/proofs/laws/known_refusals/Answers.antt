@@ -79,3 +79,7 @@ returns-clause-not_compressed c = refl
 pub returns-clause-no_second : goal.returns-clause-no_second
 unfolding clap_on_literals program parsed parsed_from
 returns-clause-no_second c = refl
+
+pub returns-clause-not_noted : goal.returns-clause-not_noted
+unfolding clap_on_literals program parsed parsed_from
+returns-clause-not_noted c = refl

@@ -75,3 +75,11 @@ returns-clause-compared c = refl
 pub returns-clause-compared_with_times : goal.returns-clause-compared_with_times
 unfolding clap_on_literals program parsed parsed_from
 returns-clause-compared_with_times c = refl
+
+pub returns-clause-noted : goal.returns-clause-noted
+unfolding clap_on_literals program parsed parsed_from
+returns-clause-noted c = refl
+
+pub returns-clause-extended_and_noted : goal.returns-clause-extended_and_noted
+unfolding clap_on_literals program parsed parsed_from
+returns-clause-extended_and_noted c = refl
