@@ -923,6 +923,43 @@ run build --block 8192 --blocks 1 listing weak_image; want 0 "accepted 2 nodes 3
 head -c $((0x7c + 68)) weak_image > cut_image
 run cat --block 8192 cut_image /a; want 0 "*" ""
 same out <(bytes ff ff ff ff ff)
+# `build` and `append` note it with --weak, when all is written: the same file and the same line
+weak_note="jffs2_image: note: weak 0000007c at 68"
+run build --block 8192 --blocks 1 --weak listing noted; want 3 "accepted 2 nodes 3 bytes 200" "$weak_note"
+same noted weak_image
+run build --block 8192 --blocks 1 --endian big listing weak_big; want 0 "accepted 2 nodes 3 bytes 200" ""
+run build --weak --block 8192 --blocks 1 --endian big listing noted; want 3 "accepted 2 nodes 3 bytes 200" "$weak_note"
+same noted weak_big
+run append --block 8192 --blocks 2 --weak weak_image create_b noted; want 0 "accepted 1 nodes 2 bytes 124" ""
+run append --block 8192 --blocks 2 weak_image create_b unnoted; want 0 "accepted 1 nodes 2 bytes 124" ""
+same noted unnoted
+lines weak_b "create 0644 /b" "write /b 0 bef98e24fe" "create 0644 /c" "write /c 0 bef98e24fe"
+run cuts --block 8192 --blocks 2 --on weak_image weak_b; want 3 "*weak 2" ""
+grep '^weak ' out | sed 's/^/jffs2_image: note: /' > weak_notes
+run append --block 8192 --blocks 2 --weak weak_image weak_b noted
+want 3 "accepted 4 nodes 6 bytes 388" "$(cat weak_notes)"
+run append --block 8192 --blocks 2 --weak --decompress weak_image weak_b noted
+want 3 "accepted 4 nodes 6 bytes 388" "$(cat weak_notes)"
+# no weak node is no note; findings of the base are noted before, and after a fault there is none
+lines sound_listing "create 0644 /a" "write /a 0 ffffff"
+run build --block 8192 --blocks 1 --weak sound_listing noted; want 0 "accepted 2 nodes 3 bytes 196" ""
+run build --block 8192 --blocks 1 --weak /dev/null noted; want 0 "accepted 0 nodes 0 bytes 0" ""
+head -c $((0x7c + 60)) weak_image > torn
+run append --block 8192 --blocks 2 --weak torn weak_b noted
+want 3 "accepted 4 nodes 6 bytes 388" "$(noted 1)"$'\n'"$(cat weak_notes)"
+lines refused_listing "create 0644 /a" "write /a 0 bef98e24fe" "create 0644 /a"
+run build --block 8192 --blocks 1 refused_listing refused; want 1 "" "jffs2_image: S1 Refused O5 Exists line 3"
+run build --block 8192 --blocks 1 --weak refused_listing noted; want 1 "" "jffs2_image: S1 Refused O5 Exists line 3"
+same noted refused
+run build --block 8192 --blocks 0 --weak listing noted; want 1 "" "jffs2_image: S7 Geometry"
+run build --block 8192 --blocks 1 --weak listing folder; want 1 "" "jffs2_image: P1 File folder"
+run build --block 8192 --blocks 1 --weak none noted; want 1 "" "jffs2_image: P1 File none"
+line="build --weak, standard output is full"
+"$program" build --block 8192 --blocks 1 --weak listing noted > /dev/full 2> err; got=$?; : > out; want 1 "" "jffs2_image: P5 Output"
+same noted weak_image
+line="build --weak, standard error is full"
+"$program" build --block 8192 --blocks 1 --weak listing noted > out 2> /dev/full; got=$?; : > err; want 3 "accepted 2 nodes 3 bytes 200" ""
+run cuts --block 8192 --blocks 1 --weak listing; want 2 "" "error: unexpected argument '--weak' found*"
 # on a base, from its next block on; and with no operation
 run cuts --block 8192 --blocks 2 --on weak_image create_b
 want 0 $'0000200c 68 line 1 step 1 of 2 stands from 00002050\n00002050 41 line 1 step 2 of 2 stands from 00002079\ntotal operations 1 steps 2 from 00002000 to 0000207c weak 0' ""
@@ -951,12 +988,12 @@ block_of() {
 }
 jffs2_image() { "$program" "$@"; }
 mkdir power_cuts
-for block in 1 2 3 4 5; do
+for block in 1 2 3 4 5 6; do
     line="docs/POWER-CUTS.md, commands $block"
     (cd power_cuts && set -e && eval "$(block_of sh $block)") > out 2> err; got=$?
     want 0 "$(block_of text $block)" "*"
 done
-line="docs/POWER-CUTS.md has five blocks of commands on cuts, the last of five lines"
-got="$(block_of sh 5 | wc -l) $(block_of sh 6 | wc -l)"; want "5 0" "*" "*"
+line="docs/POWER-CUTS.md has six blocks of commands on cuts, the last of two lines"
+got="$(block_of sh 6 | wc -l) $(block_of sh 7 | wc -l)"; want "2 0" "*" "*"
 
 finish

@@ -8,3 +8,4 @@ pub mod HostLemmas
 pub mod RunLemmas
 pub mod CutRunLemmas
 pub mod CompressingLemmas
+pub mod WeakLemmas

@@ -19,6 +19,7 @@ mod looking;
 pub mod output;
 pub mod program;
 pub mod system;
+mod weak;
 pub mod writing;
 
 use flashbase::FromWriter;

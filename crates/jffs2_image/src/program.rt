@@ -1,6 +1,6 @@
 //! The program on its arguments: it opens the image, lets `jreport` do the work, and says how that
 //! ended.
-ghost use Rattle.std.specs.Prelude.{◌≡◌, true, IfErr, OnOk, map};
+ghost use Rattle.std.specs.Prelude.{◌≡◌, ◌⊎◌, true, IfErr, IsTrue, OnOk, map};
 ghost use Rattle.std.specs.Io.KnownBytes.{Appends};
 ghost use Rattle.jcommand.specs.Parsed.{BuildParsed, AppendParsed, DecompressParsed, options_of, view};
 ghost use Rattle.jreport.specs.Advice.{fault_lines_of};
@@ -10,6 +10,7 @@ ghost use Rattle.jffs2_image.specs.FolderRuns.{RunsExtract, RunsListing, RunsTas
 ghost use Rattle.jffs2_image.specs.Compressing.{RunsCompress};
 ghost use Rattle.jffs2_image.specs.CutRuns.{RunsCuts};
 ghost use Rattle.jffs2_image.specs.InfoRuns.{RunsInfo};
+ghost use Rattle.jffs2_image.specs.WeakRuns.{HasNotes, RunsWeak};
 ghost use Rattle.jffs2_image.specs.Writes.{GivesText};
 ghost use Rattle.jffs2_image.specs.Runs.{IsSaid, Meets, MeetsCommand, MeetsWhole, RunsCommand, Says, note_after, success_of};
 
@@ -22,6 +23,7 @@ use crate::host::{Loader, Maker};
 use crate::info::run_info;
 use crate::looking::{cat, check, list, scan};
 use crate::output::Output;
+use crate::weak::{Notes, run_weak};
 use crate::writing::{Texts, load_file, write_image};
 use byteorder::{BigEndian, LittleEndian};
 use flashbase::{Sink, put_all};
@@ -55,6 +57,7 @@ fn build<'a, E: Order, L: Loader, M: Maker, T: Sink>(
     target: Target<'a>,
     listing: &'a str,
     texts: &'a mut Texts,
+    notes: &mut Notes,
     sink: &mut T,
 ) -> Result<u64, ProgramFault<'a>>
     ensures meets { Meets (L.told loader.old) (M.held maker.old, M.held maker.new) E.order
@@ -64,6 +67,9 @@ fn build<'a, E: Order, L: Loader, M: Maker, T: Sink>(
     ensures host { Blames (maker.new ≡ maker.old) (MakesFile target.entry.output.now
         (M.names maker.old) (M.names maker.new)) (L.failures loader.old) (L.failures loader.new)
         (M.failures maker.old) (M.failures maker.new) result }
+    ensures weak { OnOk result (IsTrue notes.old.asked
+        → HasNotes (L.told loader.old) E.order (BuildParsed target.entry.options target.entry.blocks
+        target.entry.page listing.entry.now target.entry.output.now) notes.new) }
 {
     texts.listing = load_file(loader, listing)?;
     write_image::<E, _, _, _>(
@@ -74,6 +80,7 @@ fn build<'a, E: Order, L: Loader, M: Maker, T: Sink>(
         &[],
         texts.listing.as_slice(),
         &mut texts.unread,
+        notes,
         sink,
     )?;
     Ok(0)
@@ -89,6 +96,7 @@ fn append_decompressed<'a, E: Order, L: Loader, M: Maker, T: Sink>(
     image: &'a str,
     listing: &'a str,
     texts: &'a mut Texts,
+    notes: &mut Notes,
     sink: &mut T,
 ) -> Result<u64, ProgramFault<'a>>
     ensures meets { Meets (L.told loader.old) (M.held maker.old, M.held maker.new) E.order
@@ -100,6 +108,10 @@ fn append_decompressed<'a, E: Order, L: Loader, M: Maker, T: Sink>(
         image.entry.now listing.entry.now target.entry.output.now) (maker.new ≡ maker.old)
         (M.names maker.old) (M.names maker.new) (L.failures loader.old) (L.failures loader.new)
         (M.failures maker.old) (M.failures maker.new) result }
+    ensures weak { OnOk result (IsTrue notes.old.asked
+        → HasNotes (L.told loader.old) E.order (AppendParsed target.entry.options
+        target.entry.blocks target.entry.page true image.entry.now listing.entry.now
+        target.entry.output.now) notes.new) }
 {
     let taken = match take_file::<E, L>(alloc, loader, target.options.geometry, image) {
         Ok(taken) => taken,
@@ -118,6 +130,7 @@ fn append_decompressed<'a, E: Order, L: Loader, M: Maker, T: Sink>(
         base,
         texts.listing.as_slice(),
         &mut texts.unread,
+        notes,
         sink,
     ) {
         Ok(_) => Ok(taken.found.noted),
@@ -169,6 +182,7 @@ fn append<'a, E: Order, L: Loader, M: Maker, T: Sink>(
     image: &'a str,
     listing: &'a str,
     texts: &'a mut Texts,
+    notes: &mut Notes,
     sink: &mut T,
 ) -> Result<u64, ProgramFault<'a>>
     ensures meets { Meets (L.told loader.old) (M.held maker.old, M.held maker.new) E.order
@@ -180,10 +194,14 @@ fn append<'a, E: Order, L: Loader, M: Maker, T: Sink>(
         image.entry.now listing.entry.now target.entry.output.now) (maker.new ≡ maker.old)
         (M.names maker.old) (M.names maker.new) (L.failures loader.old) (L.failures loader.new)
         (M.failures maker.old) (M.failures maker.new) result }
+    ensures weak { OnOk result (IsTrue notes.old.asked
+        → HasNotes (L.told loader.old) E.order (AppendParsed target.entry.options
+        target.entry.blocks target.entry.page decompress image.entry.now listing.entry.now
+        target.entry.output.now) notes.new) }
 {
     if decompress {
         return append_decompressed::<E, L, M, T>(
-            alloc, loader, maker, target, image, listing, texts, sink,
+            alloc, loader, maker, target, image, listing, texts, notes, sink,
         );
     }
     let base = load_file(loader, image)?;
@@ -196,6 +214,7 @@ fn append<'a, E: Order, L: Loader, M: Maker, T: Sink>(
         &base,
         texts.listing.as_slice(),
         &mut texts.unread,
+        notes,
         sink,
     )
 }
@@ -207,6 +226,7 @@ fn run_in_order<'a, E: Order, L: Loader, M: Maker, T: Sink>(
     maker: &mut M,
     request: Request<'a>,
     texts: &'a mut Texts,
+    notes: &mut Notes,
     sink: &mut T,
 ) -> Result<u64, ProgramFault<'a>>
     ensures meets { Meets (L.told loader.old) (M.held maker.old, M.held maker.new) E.order
@@ -216,6 +236,8 @@ fn run_in_order<'a, E: Order, L: Loader, M: Maker, T: Sink>(
         (maker.new ≡ maker.old) (M.names maker.old) (M.names maker.new) (L.failures loader.old)
         (L.failures loader.new)
         (M.failures maker.old) (M.failures maker.new) result }
+    ensures weak { OnOk result (IsTrue notes.old.asked
+        → HasNotes (L.told loader.old) E.order (view request.entry) notes.new) }
 {
     match request {
         Request::Scan { options, image } => scan::<E, _, _>(alloc, loader, options, image, sink),
@@ -237,7 +259,7 @@ fn run_in_order<'a, E: Order, L: Loader, M: Maker, T: Sink>(
             path,
         } => cat::<E, _, _>(alloc, loader, options, decompress, image, path, sink),
         Request::Build { target, listing } => {
-            build::<E, _, _, _>(alloc, loader, maker, target, listing, texts, sink)
+            build::<E, _, _, _>(alloc, loader, maker, target, listing, texts, notes, sink)
         }
         Request::Append {
             target,
@@ -245,7 +267,7 @@ fn run_in_order<'a, E: Order, L: Loader, M: Maker, T: Sink>(
             image,
             listing,
         } => append::<E, _, _, _>(
-            alloc, loader, maker, target, decompress, image, listing, texts, sink,
+            alloc, loader, maker, target, decompress, image, listing, texts, notes, sink,
         ),
         Request::Decompress {
             options,
@@ -262,6 +284,7 @@ fn run_request<'a, L: Loader, M: Maker, T: Sink>(
     maker: &mut M,
     request: Request<'a>,
     texts: &'a mut Texts,
+    notes: &mut Notes,
     sink: &mut T,
 ) -> Result<u64, ProgramFault<'a>>
     ensures meets { Meets (L.told loader.old) (M.held maker.old, M.held maker.new)
@@ -271,24 +294,32 @@ fn run_request<'a, L: Loader, M: Maker, T: Sink>(
         (view request.entry) (maker.new ≡ maker.old) (M.names maker.old) (M.names maker.new)
         (L.failures loader.old) (L.failures loader.new)
         (M.failures maker.old) (M.failures maker.new) result }
+    ensures weak { OnOk result (IsTrue notes.old.asked
+        → HasNotes (L.told loader.old) (options_of request.entry).endian (view request.entry)
+        notes.new) }
 {
     match request.options().endian {
         Endian::Little => {
-            run_in_order::<LittleEndian, _, _, _>(alloc, loader, maker, request, texts, sink)
+            run_in_order::<LittleEndian, _, _, _>(
+                alloc, loader, maker, request, texts, notes, sink,
+            )
         }
         Endian::Big => {
-            run_in_order::<BigEndian, _, _, _>(alloc, loader, maker, request, texts, sink)
+            run_in_order::<BigEndian, _, _, _>(
+                alloc, loader, maker, request, texts, notes, sink,
+            )
         }
     }
 }
 
 /// Runs the request. What was put goes out, also before a fault.
-fn run_whole<'a, L: Loader, M: Maker, T: Output>(
+pub(crate) fn run_whole<'a, L: Loader, M: Maker, T: Output>(
     alloc: Global,
     loader: &mut L,
     maker: &mut M,
     request: Request<'a>,
     texts: &'a mut Texts,
+    notes: &mut Notes,
     output: &mut T,
 ) -> Result<u64, ProgramFault<'a>>
     ensures meets { MeetsWhole (L.told loader.old) (M.held maker.old, M.held maker.new)
@@ -298,8 +329,11 @@ fn run_whole<'a, L: Loader, M: Maker, T: Output>(
         (view request.entry) (maker.new ≡ maker.old) (M.names maker.old) (M.names maker.new)
         (L.failures loader.old) (L.failures loader.new)
         (M.failures maker.old) (M.failures maker.new) result }
+    ensures weak { OnOk result (IsTrue notes.old.asked
+        → HasNotes (L.told loader.old) (options_of request.entry).endian (view request.entry)
+        notes.new) }
 {
-    let answer = run_request(alloc, loader, maker, request, texts, output);
+    let answer = run_request(alloc, loader, maker, request, texts, notes, output);
     let finished = output.finish();
     let findings = answer?;
     match finished {
@@ -356,8 +390,9 @@ fn run_command<'a, L: Loader, M: Maker, T: Output>(
         (L.failures loader.new)
         (M.failures maker.old) (M.failures maker.new) result }
 {
+    let mut notes = Notes::new(alloc, false);
     match command {
-        Ok(request) => match run_whole(alloc, loader, maker, request, texts, output) {
+        Ok(request) => match run_whole(alloc, loader, maker, request, texts, &mut notes, output) {
             Ok(findings) => Ok(as_success(&request, findings)),
             Err(fault) => Err(Stop::Fault(fault)),
         },
@@ -444,7 +479,8 @@ pub fn run<L: Loader, M: Maker, D: Folders, T: Output, E: Sink>(
 ) -> Outcome
     // The words make a request, whose answer goes out, or are answered by a text; or they ask to
     // fill or to read a folder, for what an image tells of itself, for what stands after a stop of
-    // writing one, to compress one, or for what the trees of two images differ in.
+    // writing one, to compress one, for what the trees of two images differ in, or to write an
+    // image with notes on its weak nodes.
     ensures { RunsTask (map (λ w. w.now) args.now)
         (λ command. (ran : RunsCommand (output.new ≡ output.old) (L.told loader.old)
         (M.held maker.old, M.held maker.new) command (T.taken output.old)
@@ -530,7 +566,7 @@ pub fn run<L: Loader, M: Maker, D: Folders, T: Output, E: Sink>(
           before = E.failures errors.old;
           now = E.failures errors.new;
         }) result)
-        ((maker.new ≡ maker.old) × (folders.new ≡ folders.old)
+        (((maker.new ≡ maker.old) × (folders.new ≡ folders.old)
         × RunsDiff (map (λ w. w.now) args.now)
         (record {
           told = L.told loader.old;
@@ -548,10 +584,36 @@ pub fn run<L: Loader, M: Maker, D: Folders, T: Output, E: Sink>(
           new = E.taken errors.new;
           before = E.failures errors.old;
           now = E.failures errors.new;
-        }) result) }
+        }) result)
+        ⊎ ((folders.new ≡ folders.old)
+        × RunsWeak (map (λ w. w.now) args.now)
+        (record {
+          told = L.told loader.old;
+          before = L.failures loader.old;
+          now = L.failures loader.new;
+        }) (record {
+          names_old = M.names maker.old;
+          names_new = M.names maker.new;
+          held = (M.held maker.old, M.held maker.new);
+          before = M.failures maker.old;
+          now = M.failures maker.new;
+        }) (maker.new ≡ maker.old)
+        (record {
+          old = T.taken output.old;
+          new = T.given output.new;
+          before = T.failures output.old;
+          now = T.failures output.new;
+        })
+        (record {
+          old = E.taken errors.old;
+          new = E.taken errors.new;
+          before = E.failures errors.old;
+          now = E.failures errors.new;
+        }) result)) }
 {
     match task(alloc, args) {
         Ok(Task::Image(request)) => run_image(alloc, loader, maker, Ok(request), output, errors),
+        Ok(Task::Weak(request)) => run_weak(alloc, loader, maker, request, output, errors),
         Ok(Task::Extract(asked)) => run_extract(alloc, loader, folders, asked, errors),
         Ok(Task::Listing(asked)) => run_listing(alloc, folders, asked, output, errors),
         Ok(Task::Info { image }) => run_info(loader, image, output, errors),

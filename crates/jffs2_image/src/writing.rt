@@ -5,13 +5,18 @@ ghost use Rattle.jscan.specs.Image.{greatest_image};
 ghost use Rattle.jlisting.specs.Listing.{lines_of};
 ghost use Rattle.jlog.specs.Resuming.{resumes_by};
 ghost use Rattle.jffs2_image.specs.Host.{AreOf, AreRead, Blames, BlamesMaker, IsHandedBack, IsMadeUntil, IsMakeFault, IsReadFault, Leaves, MakesFile, ReadsFile, RunsFiles};
+ghost use Rattle.jbuild.specs.Operations.{ops_in};
+ghost use Rattle.jbuild.specs.Parts.{part_contents};
+ghost use Rattle.jffs2_image.specs.WeakRuns.{AreNotes, AreNotesOn};
 ghost use Rattle.jffs2_image.specs.Writes.{GivesCut, HoldsCut, IsMade, IsNotGoneOn, IsNotMade, IsNotedIn, IsPartUnread, IsPut, IsUnreadFile, WritesImage};
 
 use crate::host::{FileFault, Loader, MakeFault, Maker};
 use crate::output::Output;
+use crate::weak::Notes;
 use flashbase::Sink;
 use jbuild::{Parts, emit, operations, put_accepted};
 use jcommand::Target;
+use jcuts::Flash;
 use jlisting::{Line, listing};
 use jlog::{RunReport, SessionFault, page_fits, resume_at};
 use jmount::{Mounted, mount};
@@ -226,6 +231,21 @@ fn make_image<'a, E: Order, M: Maker>(
     }
 }
 
+/// The flash that is written, and the page by which files are cut.
+fn flash_of(target: Target<'_>) -> Flash
+    ensures { result ≡ record {
+      geometry = target.entry.options.geometry;
+      blocks = target.entry.blocks;
+      page = target.entry.page;
+    } }
+{
+    Flash {
+        geometry: target.options.geometry,
+        blocks: target.blocks,
+        page: target.page,
+    }
+}
+
 /// Writes an image: the operations of a listing's lines, on a base. What they did is told in a
 /// line. Answers how many findings of the base to note.
 fn write_lines<'a, 'p, 'b: 'p, E: Order, M: Maker, T: Sink>(
@@ -235,6 +255,7 @@ fn write_lines<'a, 'p, 'b: 'p, E: Order, M: Maker, T: Sink>(
     base: &[u8],
     lines: Vec<Line<'b>>,
     parts: &'p Parts,
+    notes: &mut Notes,
     sink: &mut T,
 ) -> Result<u64, ProgramFault<'a>>
     ensures writes { (text : List ℕ) → lines_of text ≡ Ok lines.entry.items
@@ -251,11 +272,17 @@ fn write_lines<'a, 'p, 'b: 'p, E: Order, M: Maker, T: Sink>(
         (MakesFile target.entry.output.now (M.names maker.old) (M.names maker.new))
         (M.failures maker.old) (M.failures maker.new) result }
     ensures noted { IfOk result (IsNotedIn E.order target.entry.options.geometry.block base.now) }
+    ensures weak { OnOk result (IsTrue notes.old.asked → AreNotes E.order (record {
+      geometry = target.entry.options.geometry;
+      blocks = target.entry.blocks;
+      page = target.entry.page;
+    }) base.now (ops_in (part_contents parts.entry.now) lines.entry.items) notes.new) }
 {
     let numbers = numbers_of(alloc, &lines)?;
     let ops = operations(alloc, lines, parts)?;
     let mounted = mount::<E>(alloc, base, target.options.geometry)?;
     let from = resumed_from::<E>(&mounted, target)?;
+    notes.take::<E>(alloc, &mounted, flash_of(target), &ops, &numbers)?;
     let report = make_image::<E, M>(alloc, maker, target, &mounted, &ops)?;
     if let Some(fault) = report.stopped {
         let line = number_at(&numbers, report.accepted);
@@ -277,6 +304,7 @@ pub fn write_image<'a, E: Order, L: Loader, M: Maker, T: Sink>(
     base: &[u8],
     text: &'a [u8],
     unread: &'a mut String,
+    notes: &mut Notes,
     sink: &mut T,
 ) -> Result<u64, ProgramFault<'a>>
     ensures writes { WritesImage (M.held maker.old, M.held maker.new) target.entry.page E.order
@@ -293,8 +321,14 @@ pub fn write_image<'a, E: Order, L: Loader, M: Maker, T: Sink>(
         (M.names maker.old) (M.names maker.new)) (L.failures loader.old) (L.failures loader.new)
         (M.failures maker.old) (M.failures maker.new) result }
     ensures noted { IfOk result (IsNotedIn E.order target.entry.options.geometry.block base.now) }
+    ensures weak { OnOk result (IsTrue notes.old.asked → AreNotesOn (L.told loader.old) E.order
+        (record {
+          geometry = target.entry.options.geometry;
+          blocks = target.entry.blocks;
+          page = target.entry.page;
+        }) base.now text.now notes.new) }
 {
     let lines = listing(alloc, text)?;
     let parts = load_parts(alloc, loader, &lines, unread)?;
-    write_lines::<E, M, T>(alloc, maker, target, base, lines, &parts, sink)
+    write_lines::<E, M, T>(alloc, maker, target, base, lines, &parts, notes, sink)
 }

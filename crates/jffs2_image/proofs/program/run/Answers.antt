@@ -30,3 +30,15 @@ returns-in-Ok-Compress g c =
         ends = c.run_compress.ensures;
       },
     ))))))
+
+pub returns-in-Ok-Weak : goal.returns-in-Ok-Weak
+returns-in-Ok-Weak g c =
+    inr (inr (inr (inr (inr (inr (inr (
+      refl,
+      record {
+        request = c.in-Ok-Weak.request;
+        parsed = search rules;
+        faultless = c.in-Ok-Weak.ensures.faultless;
+        ends = c.run_weak.ensures;
+      },
+    )))))))

@@ -80,3 +80,8 @@ returns-in_err-findings-clause-meets g c =
     still_failed _ _ _ _ (view r) (options_of r).endian _ (g.T.Sink.taken c.run_request-answer.new.sink) _ _ (g.T.Sink.failures c.run_request-answer.new.sink) _ c.in_err-findings.field-0.0 c.finish-finished.result _
     same c.in_err-findings.ensures.meets c.finish-finished.ensures.given
     (same_behind _ _ _ c.finish-finished.ensures.taken c.finish-finished.ensures.part) c.finish-finished.ensures.count c.from_residual.ensures.1
+
+pub returns-in-Ok-clause-weak : goal.returns-in-Ok-clause-weak
+returns-in-Ok-clause-weak g c =
+    let was : c.run_request-answer.result ≡ Ok c.in_ok-findings.findings = search rules in
+    rw was at c.run_request-answer.ensures.weak

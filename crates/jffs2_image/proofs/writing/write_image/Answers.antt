@@ -1,5 +1,10 @@
 use Rattle.std.proofs.Common.{rules}
+use Rattle.jffs2_image.proofs.WeakLemmas.{lines_notes, on_ok}
 use Rattle.jffs2_image.proofs.writing.write_image.Goals as goal
 
 pub returns-clause-files : goal.returns-clause-files
 returns-clause-files g c = c.write_lines.ensures.files (g.L.Loader.told c.args.loader.now) c.args.text.now (search rules) (search rules)
+
+pub returns-clause-weak : goal.returns-clause-weak
+returns-clause-weak g c =
+    on_ok _ _ c.write_lines.result (λ are asked. lines_notes (g.L.Loader.told c.args.loader.now) _ _ _ c.args.text.now _ _ _ (search rules) (search rules) (are asked)) c.write_lines.ensures.weak

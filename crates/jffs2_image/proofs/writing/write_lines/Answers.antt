@@ -13,6 +13,14 @@ use Rattle.jsteps.specs.declared.op.Op.{Op}
 use Rattle.jreport.specs.declared.faults.ProgramFault.TheVariants as program
 use Rattle.std.proofs.Common.{refl}
 use Rattle.std.proofs.lemmas.Option.{slice_get-map}
+use Rattle.std.proofs.Common.{length}
+use Rattle.std.proofs.lemmas.List.{length-map}
+use Rattle.jmount.specs.Mounts.{IsMountOf}
+use Rattle.jlisting.specs.declared.line.Line.{Line}
+use Rattle.jbuild.specs.Operations.{op_in}
+use Rattle.jcuts.specs.declared.cuts.Flash.{Flash}
+use Rattle.jffs2_image.specs.WeakRuns.{AreNotes}
+use Rattle.jffs2_image.proofs.WeakLemmas.{all_taken, noted_at}
 use Rattle.jffs2_image.specs.Writes.{Held, HoldsCut, IsMade, IsSessionFault}
 use Rattle.jffs2_image.proofs.WritingLemmas.{not_resumed, not_made, run_on, stopped_at, told, told_in_part, writes_fault, goes_on_from}
 use Rattle.jffs2_image.specs.Host.{IsMadeUntil}
@@ -45,13 +53,13 @@ returns-in-Some-clause-writes g c = λ text read.
     let m = c.in_ok-mounted.mounted in
     let r = c.in_ok-report.report in
     let mounts : Answers e a.target.options.geometry.block a.base.now (Ok m) = search rules in
-    let same : c.deref-2.result.now ≡ ops_in (part_contents a.parts.now) a.lines.items = search rules in
+    let same : c.deref-4.result.now ≡ ops_in (part_contents a.parts.now) a.lines.items = search rules in
     let stopped : r.stopped ≡ Some c.in-Some.fault = search rules in
     let numbers : c.in_ok-numbers.numbers.items ≡ map (λ l. l.number) a.lines.items = search rules in
     let line : c.number_at-line.result ≡ slice_get c.in_ok-numbers.numbers.items r.accepted = search rules in
     let made : IsMade (g.M.Maker.held a.maker.now, g.M.Maker.held c.make_image.new.maker) a.target.page e a.target.options.geometry.block a.target.blocks m (ops_in (part_contents a.parts.now) a.lines.items) r.accepted r.places.items (Some c.in-Some.fault) =
     subst (λ (o : List Op). IsMade (g.M.Maker.held a.maker.now, g.M.Maker.held c.make_image.new.maker) a.target.page e a.target.options.geometry.block a.target.blocks m o r.accepted r.places.items (Some c.in-Some.fault)) same
-    (subst (λ s. IsMade (g.M.Maker.held a.maker.now, g.M.Maker.held c.make_image.new.maker) a.target.page e a.target.options.geometry.block a.target.blocks m c.deref-2.result.now r.accepted r.places.items s) stopped c.in_ok-report.ensures.made) in
+    (subst (λ s. IsMade (g.M.Maker.held a.maker.now, g.M.Maker.held c.make_image.new.maker) a.target.page e a.target.options.geometry.block a.target.blocks m c.deref-4.result.now r.accepted r.places.items s) stopped c.in_ok-report.ensures.made) in
     let run = run_on _ a.target.page e a.target.options.geometry.block a.target.blocks a.base.now text a.lines.items (part_contents a.parts.now) m r.accepted r.places.items (Some c.in-Some.fault) read mounts made in
     let shown = line ∙ (ap (λ (l : List ℕ). slice_get l r.accepted) numbers ∙ slice_get-map (λ l. l.number) a.lines.items r.accepted) in (
       subst (λ n. IsSessionFault (g.M.Maker.held a.maker.now, g.M.Maker.held c.make_image.new.maker) a.target.page e a.target.options.geometry.block a.target.blocks a.base.now text c.in-Some.fault n) (sym shown)
@@ -67,19 +75,19 @@ returns-in_err-put_accepted-clause-writes g c = λ text read.
     let m = c.in_ok-mounted.mounted in
     let r = c.in_ok-report.report in
     let mounts : Answers e a.target.options.geometry.block a.base.now (Ok m) = search rules in
-    let same : c.deref-2.result.now ≡ ops_in (part_contents a.parts.now) a.lines.items = search rules in
+    let same : c.deref-4.result.now ≡ ops_in (part_contents a.parts.now) a.lines.items = search rules in
     let image : m.image ≡ a.base.now = search rules in
     let at : resumes_by a.target.page e a.target.options.geometry.block a.target.blocks m ≡ Ok c.in_ok-from.from = search rules in
     let stopped : r.stopped ≡ None = search rules in
     let made : IsMade (g.M.Maker.held a.maker.now, g.M.Maker.held c.make_image.new.maker) a.target.page e a.target.options.geometry.block a.target.blocks m (ops_in (part_contents a.parts.now) a.lines.items) r.accepted r.places.items None =
     subst (λ (o : List Op). IsMade (g.M.Maker.held a.maker.now, g.M.Maker.held c.make_image.new.maker) a.target.page e a.target.options.geometry.block a.target.blocks m o r.accepted r.places.items None) same
-    (subst (λ s. IsMade (g.M.Maker.held a.maker.now, g.M.Maker.held c.make_image.new.maker) a.target.page e a.target.options.geometry.block a.target.blocks m c.deref-2.result.now r.accepted r.places.items s) stopped c.in_ok-report.ensures.made) in
+    (subst (λ s. IsMade (g.M.Maker.held a.maker.now, g.M.Maker.held c.make_image.new.maker) a.target.page e a.target.options.geometry.block a.target.blocks m c.deref-4.result.now r.accepted r.places.items s) stopped c.in_ok-report.ensures.made) in
     let run = run_on _ a.target.page e a.target.options.geometry.block a.target.blocks a.base.now text a.lines.items (part_contents a.parts.now) m r.accepted r.places.items None read mounts made in
     let from = goes_on_from a.target.page e a.target.options.geometry.block a.target.blocks m c.in_ok-from.from at ∙ ap (λ (l : List ℕ). resume_address e a.target.options.geometry.block a.target.blocks l) image in
     let put = c.in_err-put_accepted.ensures in
     writes_fault _ a.target.page e a.target.options.geometry.block a.target.blocks a.target.output.now a.base.now text _ _ _ _ program.Output _ c.from_residual-in_err-put_accepted.ensures.1
     (told_in_part _ a.target.page e a.target.options.geometry.block a.target.blocks a.target.output.now a.base.now text a.lines.items r.accepted r.places.items c.in_ok-from.from _ _ _ _ from run
-    (subst (λ (l : List Place). PutsPart (g.T.Sink.taken a.sink.now) (g.T.Sink.taken c.put_accepted.new.sink) (accepted_line c.in_ok-from.from r.accepted l)) c.deref-3.ensures.value put.0) put.1)
+    (subst (λ (l : List Place). PutsPart (g.T.Sink.taken a.sink.now) (g.T.Sink.taken c.put_accepted.new.sink) (accepted_line c.in_ok-from.from r.accepted l)) c.deref-5.ensures.value put.0) put.1)
 
 pub returns-clause-writes : goal.returns-clause-writes
 returns-clause-writes g c = λ text read.
@@ -88,18 +96,18 @@ returns-clause-writes g c = λ text read.
     let m = c.in_ok-mounted.mounted in
     let r = c.in_ok-report.report in
     let mounts : Answers e a.target.options.geometry.block a.base.now (Ok m) = search rules in
-    let same : c.deref-2.result.now ≡ ops_in (part_contents a.parts.now) a.lines.items = search rules in
+    let same : c.deref-4.result.now ≡ ops_in (part_contents a.parts.now) a.lines.items = search rules in
     let image : m.image ≡ a.base.now = search rules in
     let at : resumes_by a.target.page e a.target.options.geometry.block a.target.blocks m ≡ Ok c.in_ok-from.from = search rules in
     let stopped : r.stopped ≡ None = search rules in
     let made : IsMade (g.M.Maker.held a.maker.now, g.M.Maker.held c.make_image.new.maker) a.target.page e a.target.options.geometry.block a.target.blocks m (ops_in (part_contents a.parts.now) a.lines.items) r.accepted r.places.items None =
     subst (λ (o : List Op). IsMade (g.M.Maker.held a.maker.now, g.M.Maker.held c.make_image.new.maker) a.target.page e a.target.options.geometry.block a.target.blocks m o r.accepted r.places.items None) same
-    (subst (λ s. IsMade (g.M.Maker.held a.maker.now, g.M.Maker.held c.make_image.new.maker) a.target.page e a.target.options.geometry.block a.target.blocks m c.deref-2.result.now r.accepted r.places.items s) stopped c.in_ok-report.ensures.made) in
+    (subst (λ s. IsMade (g.M.Maker.held a.maker.now, g.M.Maker.held c.make_image.new.maker) a.target.page e a.target.options.geometry.block a.target.blocks m c.deref-4.result.now r.accepted r.places.items s) stopped c.in_ok-report.ensures.made) in
     let run = run_on _ a.target.page e a.target.options.geometry.block a.target.blocks a.base.now text a.lines.items (part_contents a.parts.now) m r.accepted r.places.items None read mounts made in
     let from = goes_on_from a.target.page e a.target.options.geometry.block a.target.blocks m c.in_ok-from.from at ∙ ap (λ (l : List ℕ). resume_address e a.target.options.geometry.block a.target.blocks l) image in
     let put = c.in_ok-put_accepted.ensures in
     told _ a.target.page e a.target.options.geometry.block a.target.blocks a.target.output.now a.base.now text a.lines.items r.accepted r.places.items c.in_ok-from.from _ _ _ _ c.noted.result from run
-    (subst (λ (l : List Place). Appends (g.T.Sink.taken a.sink.now) (g.T.Sink.taken c.put_accepted.new.sink) (accepted_line c.in_ok-from.from r.accepted l)) c.deref-3.ensures.value put.0) put.1
+    (subst (λ (l : List Place). Appends (g.T.Sink.taken a.sink.now) (g.T.Sink.taken c.put_accepted.new.sink) (accepted_line c.in_ok-from.from r.accepted l)) c.deref-5.ensures.value put.0) put.1
 
 pub returns-clause-noted : goal.returns-clause-noted
 returns-clause-noted g c =
@@ -132,8 +140,8 @@ returns-in-Some-clause-maker g c =
     let m = c.in_ok-mounted.mounted in
     let r = c.in_ok-report.report in
     let stopped : r.stopped ≡ Some c.in-Some.fault = search rules in
-    run_fault _ a.target.page e a.target.options.geometry.block a.target.blocks m c.deref-2.result.now r.accepted r.places.items _ _ _ _ c.in-Some.fault _
-    (subst (λ s. IsMade (g.M.Maker.held a.maker.now, g.M.Maker.held c.make_image.new.maker) a.target.page e a.target.options.geometry.block a.target.blocks m c.deref-2.result.now r.accepted r.places.items s) stopped c.in_ok-report.ensures.made)
+    run_fault _ a.target.page e a.target.options.geometry.block a.target.blocks m c.deref-4.result.now r.accepted r.places.items _ _ _ _ c.in-Some.fault _
+    (subst (λ s. IsMade (g.M.Maker.held a.maker.now, g.M.Maker.held c.make_image.new.maker) a.target.page e a.target.options.geometry.block a.target.blocks m c.deref-4.result.now r.accepted r.places.items s) stopped c.in_ok-report.ensures.made)
     (subst (λ s. IsMadeUntil (g.M.Maker.failures a.maker.now) (g.M.Maker.failures c.make_image.new.maker) s) stopped c.in_ok-report.ensures.stopped)
     c.in_ok-report.ensures.file
 
@@ -144,17 +152,17 @@ returns-clause-files g c = λ known text read are.
     let m = c.in_ok-mounted.mounted in
     let r = c.in_ok-report.report in
     let mounts : Answers e a.target.options.geometry.block a.base.now (Ok m) = search rules in
-    let same : c.deref-2.result.now ≡ ops_in (part_contents a.parts.now) a.lines.items = search rules in
+    let same : c.deref-4.result.now ≡ ops_in (part_contents a.parts.now) a.lines.items = search rules in
     let image : m.image ≡ a.base.now = search rules in
     let at : resumes_by a.target.page e a.target.options.geometry.block a.target.blocks m ≡ Ok c.in_ok-from.from = search rules in
     let stopped : r.stopped ≡ None = search rules in
     let made : IsMade (g.M.Maker.held a.maker.now, g.M.Maker.held c.make_image.new.maker) a.target.page e a.target.options.geometry.block a.target.blocks m (ops_in (part_contents a.parts.now) a.lines.items) r.accepted r.places.items None =
     subst (λ (o : List Op). IsMade (g.M.Maker.held a.maker.now, g.M.Maker.held c.make_image.new.maker) a.target.page e a.target.options.geometry.block a.target.blocks m o r.accepted r.places.items None) same
-    (subst (λ s. IsMade (g.M.Maker.held a.maker.now, g.M.Maker.held c.make_image.new.maker) a.target.page e a.target.options.geometry.block a.target.blocks m c.deref-2.result.now r.accepted r.places.items s) stopped c.in_ok-report.ensures.made) in
+    (subst (λ s. IsMade (g.M.Maker.held a.maker.now, g.M.Maker.held c.make_image.new.maker) a.target.page e a.target.options.geometry.block a.target.blocks m c.deref-4.result.now r.accepted r.places.items s) stopped c.in_ok-report.ensures.made) in
     let from = goes_on_from a.target.page e a.target.options.geometry.block a.target.blocks m c.in_ok-from.from at ∙ ap (λ (l : List ℕ). resume_address e a.target.options.geometry.block a.target.blocks l) image in
     let put = c.in_ok-put_accepted.ensures in
     files_of_all known _ a.target.page e a.target.options.geometry.block a.target.blocks a.base.now text a.lines.items a.parts.now m r.accepted r.places.items c.in_ok-from.from _ _ c.noted.result image from are read mounts made
-    (subst (λ (l : List Place). Appends (g.T.Sink.taken a.sink.now) (g.T.Sink.taken c.put_accepted.new.sink) (accepted_line c.in_ok-from.from r.accepted l)) c.deref-3.ensures.value put.0)
+    (subst (λ (l : List Place). Appends (g.T.Sink.taken a.sink.now) (g.T.Sink.taken c.put_accepted.new.sink) (accepted_line c.in_ok-from.from r.accepted l)) c.deref-5.ensures.value put.0)
 
 pub returns-in_err-put_accepted-clause-files : goal.returns-in_err-put_accepted-clause-files
 returns-in_err-put_accepted-clause-files g c = λ known text read are.
@@ -163,17 +171,17 @@ returns-in_err-put_accepted-clause-files g c = λ known text read are.
     let m = c.in_ok-mounted.mounted in
     let r = c.in_ok-report.report in
     let mounts : Answers e a.target.options.geometry.block a.base.now (Ok m) = search rules in
-    let same : c.deref-2.result.now ≡ ops_in (part_contents a.parts.now) a.lines.items = search rules in
+    let same : c.deref-4.result.now ≡ ops_in (part_contents a.parts.now) a.lines.items = search rules in
     let image : m.image ≡ a.base.now = search rules in
     let at : resumes_by a.target.page e a.target.options.geometry.block a.target.blocks m ≡ Ok c.in_ok-from.from = search rules in
     let stopped : r.stopped ≡ None = search rules in
     let made : IsMade (g.M.Maker.held a.maker.now, g.M.Maker.held c.make_image.new.maker) a.target.page e a.target.options.geometry.block a.target.blocks m (ops_in (part_contents a.parts.now) a.lines.items) r.accepted r.places.items None =
     subst (λ (o : List Op). IsMade (g.M.Maker.held a.maker.now, g.M.Maker.held c.make_image.new.maker) a.target.page e a.target.options.geometry.block a.target.blocks m o r.accepted r.places.items None) same
-    (subst (λ s. IsMade (g.M.Maker.held a.maker.now, g.M.Maker.held c.make_image.new.maker) a.target.page e a.target.options.geometry.block a.target.blocks m c.deref-2.result.now r.accepted r.places.items s) stopped c.in_ok-report.ensures.made) in
+    (subst (λ s. IsMade (g.M.Maker.held a.maker.now, g.M.Maker.held c.make_image.new.maker) a.target.page e a.target.options.geometry.block a.target.blocks m c.deref-4.result.now r.accepted r.places.items s) stopped c.in_ok-report.ensures.made) in
     let from = goes_on_from a.target.page e a.target.options.geometry.block a.target.blocks m c.in_ok-from.from at ∙ ap (λ (l : List ℕ). resume_address e a.target.options.geometry.block a.target.blocks l) image in
     let put = c.in_err-put_accepted.ensures in
     files_in_part known _ a.target.page e a.target.options.geometry.block a.target.blocks a.base.now text a.lines.items a.parts.now m r.accepted r.places.items c.in_ok-from.from _ _ _ c.from_residual-in_err-put_accepted.ensures.1 from are read mounts made
-    (subst (λ (l : List Place). PutsPart (g.T.Sink.taken a.sink.now) (g.T.Sink.taken c.put_accepted.new.sink) (accepted_line c.in_ok-from.from r.accepted l)) c.deref-3.ensures.value put.0)
+    (subst (λ (l : List Place). PutsPart (g.T.Sink.taken a.sink.now) (g.T.Sink.taken c.put_accepted.new.sink) (accepted_line c.in_ok-from.from r.accepted l)) c.deref-5.ensures.value put.0)
 
 pub returns-in-Some-clause-files : goal.returns-in-Some-clause-files
 returns-in-Some-clause-files g c = λ known text read are.
@@ -182,14 +190,14 @@ returns-in-Some-clause-files g c = λ known text read are.
     let m = c.in_ok-mounted.mounted in
     let r = c.in_ok-report.report in
     let mounts : Answers e a.target.options.geometry.block a.base.now (Ok m) = search rules in
-    let same : c.deref-2.result.now ≡ ops_in (part_contents a.parts.now) a.lines.items = search rules in
+    let same : c.deref-4.result.now ≡ ops_in (part_contents a.parts.now) a.lines.items = search rules in
     let image : m.image ≡ a.base.now = search rules in
     let stopped : r.stopped ≡ Some c.in-Some.fault = search rules in
     let numbers : c.in_ok-numbers.numbers.items ≡ map (λ l. l.number) a.lines.items = search rules in
     let line : c.number_at-line.result ≡ slice_get c.in_ok-numbers.numbers.items r.accepted = search rules in
     let made : IsMade (g.M.Maker.held a.maker.now, g.M.Maker.held c.make_image.new.maker) a.target.page e a.target.options.geometry.block a.target.blocks m (ops_in (part_contents a.parts.now) a.lines.items) r.accepted r.places.items (Some c.in-Some.fault) =
     subst (λ (o : List Op). IsMade (g.M.Maker.held a.maker.now, g.M.Maker.held c.make_image.new.maker) a.target.page e a.target.options.geometry.block a.target.blocks m o r.accepted r.places.items (Some c.in-Some.fault)) same
-    (subst (λ s. IsMade (g.M.Maker.held a.maker.now, g.M.Maker.held c.make_image.new.maker) a.target.page e a.target.options.geometry.block a.target.blocks m c.deref-2.result.now r.accepted r.places.items s) stopped c.in_ok-report.ensures.made) in
+    (subst (λ s. IsMade (g.M.Maker.held a.maker.now, g.M.Maker.held c.make_image.new.maker) a.target.page e a.target.options.geometry.block a.target.blocks m c.deref-4.result.now r.accepted r.places.items s) stopped c.in_ok-report.ensures.made) in
     let shown = line ∙ (ap (λ (l : List ℕ). slice_get l r.accepted) numbers ∙ slice_get-map (λ l. l.number) a.lines.items r.accepted) in
     files_until known _ a.target.page e a.target.options.geometry.block a.target.blocks a.base.now text a.lines.items a.parts.now m r.accepted r.places.items (g.T.Sink.taken a.sink.now) (g.T.Sink.taken a.sink.now) c.in-Some.fault _ shown are read mounts made
 
@@ -213,10 +221,42 @@ returns-in_err-report-clause-files g c = λ known text read are.
     let e = g.E.Order.order in
     let a = c.args in
     let m = c.in_ok-mounted.mounted in
-    let same : c.deref-2.result.now ≡ ops_in (part_contents a.parts.now) a.lines.items = search rules in
+    let same : c.deref-4.result.now ≡ ops_in (part_contents a.parts.now) a.lines.items = search rules in
     let image : m.image ≡ a.base.now = search rules in
     let held : Held = (g.M.Maker.held a.maker.now, g.M.Maker.held c.make_image.new.maker) in
     let cut : HoldsCut held a.target.page e a.target.options.geometry.block a.target.blocks m.image (ops_in (part_contents a.parts.now) a.lines.items) c.in_err-report.field-0.0 =
     subst (λ (o : List Op). HoldsCut held a.target.page e a.target.options.geometry.block a.target.blocks m.image o c.in_err-report.field-0.0) same c.in_err-report.ensures.cut in
     files_not_made known held a.target.page e a.target.options.geometry.block a.target.blocks a.target.output.now a.base.now text a.lines.items a.parts.now m _ _ c.in_err-report.field-0.0 _
     c.from_residual-in_err-report.ensures.1 image are read c.in_err-report.ensures.fault cut
+
+pub take-requires-clause-mount : goal.take-requires-clause-mount
+take-requires-clause-mount g c =
+    let is : IsMountOf g.E.Order.order c.args.target.options.geometry.block c.in_ok-mounted.mounted = search rules in
+    subst (λ (f : Flash). IsMountOf g.E.Order.order f.geometry.block c.in_ok-mounted.mounted) (sym c.flash_of.ensures) is
+
+pub take-requires-clause-numbered : goal.take-requires-clause-numbered
+take-requires-clause-numbered g c =
+    let lines : List Line = c.args.lines.items in
+    let ops : c.deref-2.result.now ≡ ops_in (part_contents c.args.parts.now) lines = search rules in
+    let items : c.in_ok-numbers.numbers.items ≡ map (λ (l : Line). l.number) lines = search rules in
+    let numbers : c.deref-3.result.now ≡ map (λ (l : Line). l.number) lines = c.deref-3.ensures.value ∙ items in
+    ap length numbers ∙ (length-map lines (λ (l : Line). l.number) ∙ sym (ap length ops ∙ length-map lines (op_in (part_contents c.args.parts.now))))
+
+pub returns-clause-weak : goal.returns-clause-weak
+returns-clause-weak g c = λ asked.
+    let e = g.E.Order.order in
+    let a = c.args in
+    let m = c.in_ok-mounted.mounted in
+    let r = c.in_ok-report.report in
+    let flash : Flash = record { geometry = a.target.options.geometry; blocks = a.target.blocks; page = a.target.page } in
+    let ops : List Op = ops_in (part_contents a.parts.now) a.lines.items in
+    let first : c.deref-2.result.now ≡ ops = search rules in
+    let same : c.deref-4.result.now ≡ ops = search rules in
+    let image : m.image ≡ a.base.now = search rules in
+    let stopped : r.stopped ≡ None = search rules in
+    let held : Held = (g.M.Maker.held a.maker.now, g.M.Maker.held c.make_image.new.maker) in
+    let made : IsMade held a.target.page e a.target.options.geometry.block a.target.blocks m ops r.accepted r.places.items None =
+    subst (λ (o : List Op). IsMade held a.target.page e a.target.options.geometry.block a.target.blocks m o r.accepted r.places.items None) same
+    (subst (λ s. IsMade held a.target.page e a.target.options.geometry.block a.target.blocks m c.deref-4.result.now r.accepted r.places.items s) stopped c.in_ok-report.ensures.made) in
+    subst (λ (l : List ℕ). AreNotes e flash l ops c.take.new.self) image
+    (noted_at e c.flash_of.result flash m c.deref-2.result.now ops c.take.new.self c.flash_of.ensures first (c.in_ok-take.ensures.noted asked) (all_taken held e flash m ops r.accepted r.places.items made))

@@ -1,0 +1,229 @@
+-- The notes on weak nodes.
+use Rattle.std.proofs.Common.{◌≡◌, ℕ, zero, suc, ◌≤◌, ⊎_elim, Bool, List, [], ◌∷◌, ◌++◌, length, map, take, refl, sym, ap, subst, ◌∙◌, arith, append_assoc, inl, inr, Option, Some, None, Result, Ok, Err}
+use Rattle.std.specs.Prelude.{◌⊎◌, IsTrue, IsFalse, IsOk, OnOk, flat_map, slice_get}
+use Rattle.std.proofs.Math.Path.{fun_ext}
+use Rattle.std.proofs.lemmas.Bool.{and_parts, false≢true}
+use Rattle.std.proofs.lemmas.List.{append-nil}
+use Rattle.jnode.specs.declared.order.Endian.{Endian}
+use Rattle.jmount.specs.Mount.{Mount}
+use Rattle.jsteps.specs.Nodes.{Indexed, advanced_all}
+use Rattle.jsteps.specs.Planning.{page_size}
+use Rattle.jsteps.specs.Refusals.{planned_by, plans_of, steps_of_first}
+use Rattle.jsteps.specs.declared.fault.OpFault.{OpFault}
+use Rattle.jsteps.specs.declared.op.Op.{Op}
+use Rattle.jsteps.specs.declared.page.Page.{Page}
+use Rattle.jsteps.specs.declared.step.Step.{Step}
+use Rattle.jsteps.proofs.TakenLemmas.{advanced_all-append}
+use Rattle.jlog.specs.Headline.{index_of_image, resume_address}
+use Rattle.jlog.specs.Places.{end_of_all, fit}
+use Rattle.jlog.specs.Resuming.{resumes_by}
+use Rattle.jlog.specs.Running.{written}
+use Rattle.jlog.specs.Session.{IsRun}
+use Rattle.jlog.specs.declared.fault.SessionFault.{SessionFault}
+use Rattle.jlog.specs.declared.fault.SessionFault.TheVariants as session
+use Rattle.jlog.specs.declared.report.Place.{Place}
+use Rattle.jlog.proofs.RoomLemmas.{room_goes_on}
+use Rattle.jlog.proofs.RunLemmas.{fit_first}
+use Rattle.jlog.proofs.RunningLemmas.{written_on}
+use Rattle.jcuts.specs.Cuts.{Asked, SinkChange, DeclinesNext, IsDeclined, IsNotResumed, PutsCuts, base_point, resumes}
+use Rattle.jcuts.specs.Lines.{text_of_nodes}
+use Rattle.jcuts.specs.Telling.{first_told}
+use Rattle.jcuts.specs.declared.cuts.CutsFault.TheVariants as told
+use Rattle.jcuts.specs.declared.cuts.Flash.{Flash}
+use Rattle.jcuts.specs.declared.lines.StepNode.{StepNode}
+use Rattle.jcuts.specs.declared.lines.Telling.TheVariants.{WeakNotes}
+use Rattle.jcuts.specs.declared.standing.Standing.{Standing}
+use Rattle.jcuts.proofs.ToldLemmas.{lines_are_nodes}
+use Rattle.jcommand.specs.Parsed.{BuildParsed, AppendParsed}
+use Rattle.jcommand.specs.declared.parsed.Options.{Options}
+use Rattle.jlisting.specs.Listing.{lines_of}
+use Rattle.jlisting.specs.declared.line.Line.{Line}
+use Rattle.jbuild.specs.Operations.{ops_in}
+use Rattle.jbuild.specs.Parts.{part_contents}
+use Rattle.jbuild.specs.declared.parts.Parts.{Parts}
+use Rattle.jffs2_image.specs.Host.{AreLoaded, AreRead}
+use Rattle.jffs2_image.proofs.CutRunLemmas.{have_bytes}
+use Rattle.jffs2_image.specs.WeakRuns.{AreAllTaken, AreNotes, AreNotesOn, HasNotes, IsGoneOnFrom, flash_given, weak_note}
+use Rattle.jffs2_image.specs.Writes.{Held, IsMade}
+use Rattle.jffs2_image.specs.declared.weak.Notes.{Notes}
+
+-- ---- the text
+
+-- notes are on the nodes alone
+notes_of_nodes : (nodes : List StepNode) → text_of_nodes WeakNotes nodes ≡ flat_map weak_note (map (λ told. told.standing) nodes)
+notes_of_nodes [] = refl
+notes_of_nodes (n ∷ nodes) = ap (λ (l : List ℕ). weak_note n.standing ++ l) (notes_of_nodes nodes)
+
+-- what is told of all operations are the notes
+pub told_notes : (e : Endian) (flash : Flash) (m : Mount) (ops : List Op) (lines : List ℕ) (notes : Notes) (old : List ℕ) (before now weak : ℕ) → length lines ≡ length ops → old ≡ [] → notes.weak ≡ weak
+    → PutsCuts e flash m (record { telling = WeakNotes; ops = ops; lines = lines }) (record { old = Some old; new = Some notes.text.items; before = before; now = now }) (Ok weak)
+    → AreNotes e flash m.image ops notes
+told_notes e flash m ops lines notes old before now weak long none same puts =
+    let size : ℕ = flash.geometry.block in
+    let all : List StepNode = first_told flash.page e size flash.blocks m.image ops lines (length ops) in
+    record {
+      text = puts.1.put ∙ (ap (λ (l : List ℕ). l ++ (text_of_nodes WeakNotes all ++ [])) none ∙ (append-nil (text_of_nodes WeakNotes all) ∙ (notes_of_nodes all ∙ ap (flat_map weak_note) (lines_are_nodes flash.page e size flash.blocks (length ops) m.image ops lines long))));
+      weak = same ∙ puts.1.counted;
+    }
+
+-- ---- an operation among those that are accepted
+
+plans_by : ℕ → Indexed → List Op → Result (List Step) OpFault → List (List Step)
+plans_by page x ops (Ok steps) = steps ∷ plans_of page (advanced_all x steps) ops
+plans_by page x ops (Err f) = []
+
+-- it has steps, and they stand among the steps of all
+abbrev pub IsOneOf : ℕ → Indexed → List Op → ℕ → Op → Type 0
+IsOneOf page x ops n o = (steps : List Step) × (rest : List Step)
+    × (planned_by page (advanced_all x (steps_of_first page x ops n)) o ≡ Ok steps)
+    × (steps_of_first page x ops (length ops) ≡ steps_of_first page x ops n ++ (steps ++ rest))
+
+first_of : (page : ℕ) (x : Indexed) (ops : List Op) (r : Result (List Step) OpFault) → suc (length ops) ≤ length (plans_by page x ops r)
+    → (steps : List Step) × (rest : List Step) × (r ≡ Ok steps) × (flat_map (λ steps. steps) (take (suc (length ops)) (plans_by page x ops r)) ≡ steps ++ rest)
+unfolding plans_by
+first_of page x ops (Ok s) long = (s, steps_of_first page (advanced_all x s) ops (length ops), refl, refl)
+first_of page x ops (Err f) long = absurd (omega arith)
+
+pub one_of : (page : ℕ) (x : Indexed) (ops : List Op) (n : ℕ) (o : Op) → slice_get ops n ≡ Some o → length ops ≤ length (plans_of page x ops) → IsOneOf page x ops n o
+unfolding plans_by
+one_of page x [] zero o at long = cc
+one_of page x [] (suc n) o at long = cc
+one_of page x (p ∷ ops) zero o at long =
+    let same : p ≡ o = cc in
+    subst (λ (q : Op). IsOneOf page x (p ∷ ops) zero q) same (first_of page x ops (planned_by page x p) (omega (arith, long)))
+one_of page x (p ∷ ops) (suc n) o at long = by (λ y more. one_of page y ops n o at more) (planned_by page x p) long
+  where
+    by : ((y : Indexed) → length ops ≤ length (plans_of page y ops) → IsOneOf page y ops n o) → (r : Result (List Step) OpFault) → suc (length ops) ≤ length (plans_by page x ops r)
+        → (steps : List Step) × (rest : List Step) × (planned_by page (advanced_all x (flat_map (λ steps. steps) (take (suc n) (plans_by page x ops r)))) o ≡ Ok steps)
+        × (flat_map (λ steps. steps) (take (suc (length ops)) (plans_by page x ops r)) ≡ flat_map (λ steps. steps) (take (suc n) (plans_by page x ops r)) ++ (steps ++ rest))
+    by rest_is (Ok s) long =
+        let y : Indexed = advanced_all x s in
+        let first : List Step = steps_of_first page y ops n in
+        let one : IsOneOf page y ops n o = rest_is y (omega arith) in
+        let on : advanced_all x (s ++ first) ≡ advanced_all y first = advanced_all-append x s first in (
+          one.0,
+          one.1,
+          ap (λ (z : Indexed). planned_by page z o) on ∙ one.2,
+          ap (λ (l : List Step). s ++ l) one.3 ∙ sym (append_assoc s first (one.0 ++ one.1)),
+        )
+    by rest_is (Err f) long = absurd (omega arith)
+
+-- its nodes fit
+fits_among : (e : Endian) (size blocks from : ℕ) (x : Indexed) (xs ys zs : List Step) → IsTrue (fit size blocks from (written e x (xs ++ (ys ++ zs))))
+    → IsTrue (fit size blocks (end_of_all size from (written e x xs)) (written e (advanced_all x xs) ys))
+fits_among e size blocks from x xs ys zs fits =
+    let end : ℕ = end_of_all size from (written e x xs) in
+    let y : Indexed = advanced_all x xs in
+    fit_first e size blocks end y ys zs
+    (and_parts (fit size blocks from (written e x xs)) (fit size blocks end (written e y (ys ++ zs)))
+    (subst IsTrue (ap (fit size blocks from) (written_on e x xs (ys ++ zs)) ∙ room_goes_on size blocks from (written e x xs) (written e y (ys ++ zs))) fits)).1
+
+-- a plan has its steps alone
+not_both : (steps : List Step) (f : OpFault) (r : Result (List Step) OpFault) → r ≡ Ok steps → r ≡ Err f → ⊥
+not_both steps f (Ok s) is not = cc
+not_both steps f (Err g) is not = cc
+
+same_steps : (steps others : List Step) (r : Result (List Step) OpFault) → r ≡ Ok steps → r ≡ Ok others → steps ≡ others
+same_steps steps others (Ok s) is was = cc
+same_steps steps others (Err g) is was = cc
+
+-- it is not declined
+not_declined : (e : Endian) (flash : Flash) (m : Mount) (asked : Asked) (n line : ℕ) (f : SessionFault) → AreAllTaken e flash m asked.ops
+    → (declines : DeclinesNext e flash asked (base_point e flash m.image) n line f) → IsDeclined e flash declines.at declines.next f → f ≡ session.OutOfMemory
+not_declined e flash m asked n line f taken declines = by f
+  where
+    page : ℕ
+    page = page_size flash.page
+    size : ℕ
+    size = flash.geometry.block
+    x : Indexed
+    x = index_of_image e size m.image
+    from : ℕ
+    from = resume_address e size flash.blocks m.image
+    one : IsOneOf page x asked.ops n declines.next
+    one = one_of page x asked.ops n declines.next declines.is_next taken.accepted.planned
+    planned : planned_by page declines.at.index declines.next ≡ Ok one.0
+    planned = ap (λ (y : Indexed). planned_by page y declines.next) declines.leads.index ∙ one.2
+    fits : IsTrue (fit size flash.blocks declines.at.address (written e declines.at.index one.0))
+    fits =
+        let first : List Step = steps_of_first page x asked.ops n in
+        let among = fits_among e size flash.blocks from x first one.0 one.1 (subst (λ (l : List Step). IsTrue (fit size flash.blocks from (written e x l))) one.3 taken.accepted.fits) in
+        subst (λ (y : Indexed). IsTrue (fit size flash.blocks declines.at.address (written e y one.0))) (sym declines.leads.index)
+        (subst (λ (a : ℕ). IsTrue (fit size flash.blocks a (written e (advanced_all x first) one.0))) (sym declines.leads.address) among)
+    by : (f : SessionFault) → IsDeclined e flash declines.at declines.next f → f ≡ session.OutOfMemory
+    by (session.Refused r) is = absurd (not_both one.0 r (planned_by page declines.at.index declines.next) planned is)
+    by (session.Full wanted left) is =
+        let same : one.0 ≡ is.0 = same_steps one.0 is.0 (planned_by page declines.at.index declines.next) planned is.1 in
+        absurd (false≢true (sym is.2 ∙ subst (λ (l : List Step). IsTrue (fit size flash.blocks declines.at.address (written e declines.at.index l))) same fits))
+    by session.OutOfMemory is = refl
+    by session.Sink is = absurd is
+    by session.Broken is = absurd is
+    by session.ReadOnly is = absurd is
+    by session.Geometry is = absurd is
+
+-- Where an image is gone on from and all operations on it are accepted, only memory is wanting.
+pub only_memory : (e : Endian) (flash : Flash) (m : Mount) (asked : Asked) (sink : SinkChange) (f : SessionFault) (line : Option ℕ) → AreAllTaken e flash m asked.ops
+    → PutsCuts e flash m asked sink (Err (told.Session f line)) → f ≡ session.OutOfMemory
+only_memory e flash m asked sink f (Some line) taken puts = not_declined e flash m asked puts.1.0 line f taken puts.1.1 puts.1.1.declines
+only_memory e flash m asked sink f None taken puts = by puts.0
+  where
+    by : IsNotResumed e flash m f → f ≡ session.OutOfMemory
+    by (inl refused) = absurd (false≢true (subst (λ (r : Result ℕ SessionFault). IsOk r) refused taken.resumes))
+    by (inr memory) = memory.1
+
+-- ---- all operations that were run
+
+-- those that nothing stopped are all accepted
+pub all_taken : (held : Held) (e : Endian) (flash : Flash) (m : Mount) (ops : List Op) (accepted : ℕ) (places : List Place)
+    → IsMade held flash.page e flash.geometry.block flash.blocks m ops accepted places None → AreAllTaken e flash m ops
+all_taken held e flash m ops accepted places made =
+    let runs = made.put.emitted.runs in
+    let run : IsRun (page_size flash.page) e flash.geometry.block flash.blocks (resume_address e flash.geometry.block flash.blocks m.image) (index_of_image e flash.geometry.block m.image) ops accepted made.put.emitted.end made.put.emitted.index made.put.emitted.between made.put.taken places = runs.2 in
+    record {
+      resumes = made.put.resumes;
+      accepted = record {
+        planned = subst (λ (n : ℕ). n ≤ length (plans_of (page_size flash.page) (index_of_image e flash.geometry.block m.image) ops)) runs.0 run.planned;
+        fits = subst (λ (n : ℕ). IsTrue (fit flash.geometry.block flash.blocks (resume_address e flash.geometry.block flash.blocks m.image)
+            (written e (index_of_image e flash.geometry.block m.image) (steps_of_first (page_size flash.page) (index_of_image e flash.geometry.block m.image) ops n)))) runs.0 run.fits;
+      };
+    }
+
+-- ---- the operations of a listing
+
+-- what holds where all went well
+pub on_ok : {X Y : Type 0} (A B : Type 0) (r : Result X Y) → (A → B) → OnOk r A → OnOk r B
+on_ok A B (Ok x) then is = then is
+on_ok A B (Err y) then is = tt
+
+-- the host tells the same of its files later
+pub notes_later : (told later : List ℕ → Option (List ℕ)) (e : Endian) (flash : Flash) (base text : List ℕ) (notes : Notes) → ((name : List ℕ) → later name ≡ told name)
+    → AreNotesOn later e flash base text notes → AreNotesOn told e flash base text notes
+notes_later told later e flash base text notes same are = subst (λ (t : List ℕ → Option (List ℕ)). AreNotesOn t e flash base text notes) (fun_ext same) are
+
+pub build_notes : (told later : List ℕ → Option (List ℕ)) (e : Endian) (options : Options) (blocks : ℕ) (page : Page) (listing output text : List ℕ) (notes : Notes)
+    → ((name : List ℕ) → later name ≡ told name) → AreLoaded (told listing) text → AreNotesOn later e (flash_given options blocks page) [] text notes
+    → HasNotes told e (BuildParsed options blocks page listing output) notes
+build_notes told later e options blocks page listing output text notes same loaded are = (text, loaded, notes_later told later e (flash_given options blocks page) [] text notes same are)
+
+pub append_notes : (told later : List ℕ → Option (List ℕ)) (e : Endian) (options : Options) (blocks : ℕ) (page : Page) (decompress : Bool) (name listing output image base text : List ℕ) (notes : Notes)
+    → ((name : List ℕ) → later name ≡ told name) → AreLoaded (told name) image → IsGoneOnFrom decompress e options.geometry.block image base → AreLoaded (told listing) text
+    → AreNotesOn later e (flash_given options blocks page) base text notes → HasNotes told e (AppendParsed options blocks page decompress name listing output) notes
+append_notes told later e options blocks page decompress name listing output image base text notes same is from loaded are =
+    (image, base, text, is, from, loaded, notes_later told later e (flash_given options blocks page) base text notes same are)
+
+-- what always holds holds where all went well
+pub if_ok : {X Y : Type 0} (A : Type 0) (r : Result X Y) → A → OnOk r A
+if_ok A (Ok x) is = is
+if_ok A (Err y) is = tt
+
+-- the notes on the lines that were read
+pub lines_notes : (told : List ℕ → Option (List ℕ)) (e : Endian) (flash : Flash) (base text : List ℕ) (lines : List Line) (parts : Parts) (notes : Notes) → lines_of text ≡ Ok lines → AreRead told lines parts
+    → AreNotes e flash base (ops_in (part_contents parts) lines) notes → AreNotesOn told e flash base text notes
+lines_notes told e flash base text lines parts notes read are noted = record { lines = lines; files = part_contents parts; read = read; bytes = have_bytes told lines parts are; noted = noted }
+
+-- the notes at the flash and the operations that are meant
+pub noted_at : (e : Endian) (other flash : Flash) (m : Mount) (others ops : List Op) (notes : Notes) → other ≡ flash → others ≡ ops
+    → (AreAllTaken e other m others → AreNotes e other m.image others notes) → AreAllTaken e flash m ops → AreNotes e flash m.image ops notes
+noted_at e other flash m others ops notes flash_is ops_are noted =
+    subst (λ (o : List Op). AreAllTaken e flash m o → AreNotes e flash m.image o notes) ops_are
+    (subst (λ (f : Flash). AreAllTaken e f m others → AreNotes e f m.image others notes) flash_is noted)

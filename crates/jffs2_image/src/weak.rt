@@ -1,0 +1,168 @@
+//! `--weak`: notes on the weak nodes of what `build` and `append` write.
+ghost use Rattle.std.specs.Prelude.{◌≡◌, ◌≢◌, IsFalse, IsTrue, IfOk, OnOk, length};
+ghost use Rattle.jmount.specs.Mounts.{IsMountOf};
+ghost use Rattle.jcommand.specs.Status.{outcome_of};
+ghost use Rattle.jffs2_image.specs.Runs.{Says};
+ghost use Rattle.jffs2_image.specs.WeakRuns.{AreAllTaken, AreNotes, EndsWeak, notes_said};
+
+use crate::host::{Loader, Maker};
+use crate::output::Output;
+use crate::program::{note, report_fault, run_whole};
+use crate::writing::Texts;
+use flashbase::{Sink, put_all};
+use jcommand::{Outcome, Request};
+use jcuts::{CutsFault, Flash, Held, Telling, put_cuts};
+use jlog::SessionFault;
+use jmount::Mounted;
+use jnode::Order;
+use jsteps::Op;
+use std::alloc::{AllocError, Global};
+
+/// The notes on weak nodes, and how many nodes these are. Where they are not asked for, there are
+/// none.
+#[derive(Drop)]
+pub struct Notes {
+    pub asked: bool,
+    pub text: Vec<u8>,
+    pub weak: u64,
+}
+
+/// Whether memory was wanting.
+fn is_of_memory(fault: SessionFault) -> bool
+    ensures { IsFalse result → fault ≢ SessionFault.OutOfMemory }
+{
+    match fault {
+        SessionFault::OutOfMemory => true,
+        _ => false,
+    }
+}
+
+/// The notes on operations on a mounted image. Where one of them is not accepted there are none,
+/// since writing them tells why.
+fn notes_of<E: Order>(
+    alloc: Global,
+    mounted: &Mounted<'_>,
+    flash: Flash,
+    ops: &[Op<'_>],
+    lines: &[usize],
+) -> Result<Notes, AllocError>
+    requires mount { IsMountOf E.order flash.geometry.block mounted.now }
+    requires numbered { length lines.now ≡ length ops.now }
+    ensures noted { IfOk result (λ notes. AreAllTaken E.order flash mounted.now ops.now
+        → AreNotes E.order flash mounted.now.image ops.now notes) }
+{
+    let mut held = Held::new(alloc);
+    match put_cuts::<E, Held>(
+        alloc,
+        mounted,
+        flash,
+        Telling::WeakNotes,
+        ops,
+        lines,
+        &mut held,
+    ) {
+        Ok(weak) => Ok(Notes {
+            asked: true,
+            text: held.bytes,
+            weak: weak as u64,
+        }),
+        Err(CutsFault::Output) => Err(AllocError),
+        Err(CutsFault::Session { fault, .. }) => {
+            if is_of_memory(fault) {
+                Err(AllocError)
+            } else {
+                Ok(Notes::new(alloc, true))
+            }
+        }
+    }
+}
+
+impl Notes {
+    /// None yet.
+    pub fn new(alloc: Global, asked: bool) -> Notes
+        ensures { result.asked ≡ asked }
+    {
+        Notes {
+            asked,
+            text: Vec::new(alloc),
+            weak: 0,
+        }
+    }
+
+    /// Takes those on operations on a mounted image, where they are asked for.
+    pub fn take<E: Order>(
+        &mut self,
+        alloc: Global,
+        mounted: &Mounted<'_>,
+        flash: Flash,
+        ops: &[Op<'_>],
+        lines: &[usize],
+    ) -> Result<(), AllocError>
+        requires mount { IsMountOf E.order flash.geometry.block mounted.now }
+        requires numbered { length lines.now ≡ length ops.now }
+        ensures noted { OnOk result (IsTrue self.old.asked
+            → AreAllTaken E.order flash mounted.now ops.now
+            → AreNotes E.order flash mounted.now.image ops.now self.new) }
+    {
+        if self.asked {
+            *self = notes_of::<E>(alloc, mounted, flash, ops, lines)?;
+        }
+        Ok(())
+    }
+}
+
+/// Puts the notes, where there are any. A weak node is found.
+fn put_notes<E: Sink>(notes: &Notes, errors: &mut E) -> Outcome
+    ensures found { result ≡ outcome_of notes.now.weak }
+    ensures said { Says (errors.new ≡ errors.old) (E.taken errors.old) (E.taken errors.new)
+        (E.failures errors.old) (E.failures errors.new) (notes_said notes.now) }
+{
+    if notes.weak > 0 {
+        let _ = put_all(errors, &notes.text);
+    }
+    Outcome::of(notes.weak)
+}
+
+/// `build` and `append` with `--weak` as a command.
+pub fn run_weak<L: Loader, M: Maker, T: Output, E: Sink>(
+    alloc: Global,
+    loader: &mut L,
+    maker: &mut M,
+    request: Request<'_>,
+    output: &mut T,
+    errors: &mut E,
+) -> Outcome
+    ensures { EndsWeak request.entry (record {
+      told = L.told loader.old;
+      before = L.failures loader.old;
+      now = L.failures loader.new;
+    }) (record {
+      names_old = M.names maker.old;
+      names_new = M.names maker.new;
+      held = (M.held maker.old, M.held maker.new);
+      before = M.failures maker.old;
+      now = M.failures maker.new;
+    }) (maker.new ≡ maker.old) (record {
+      old = T.taken output.old;
+      new = T.given output.new;
+      before = T.failures output.old;
+      now = T.failures output.new;
+    }) (record {
+      old = E.taken errors.old;
+      new = E.taken errors.new;
+      before = E.failures errors.old;
+      now = E.failures errors.new;
+    }) result }
+{
+    let mut texts = Texts::new(alloc);
+    let mut notes = Notes::new(alloc, true);
+    match run_whole(
+        alloc, loader, maker, request, &mut texts, &mut notes, output,
+    ) {
+        Ok(findings) => {
+            note(findings, errors);
+            put_notes(&notes, errors)
+        }
+        Err(fault) => report_fault(&fault, errors),
+    }
+}
