@@ -83,8 +83,8 @@ view (request.Append target decompress image listing) = AppendParsed target.opti
 view (request.Decompress options image output) = DecompressParsed options image.now output.now
 
 -- the same of a task: a request of an image, one that works with a folder of the host, what an
--- image tells of itself, what stands after a stop, an image that is compressed, or what two images
--- differ in
+-- image tells of itself, what stands after a stop, an image that is compressed, what two images
+-- differ in, or what the damage of one costs
 pub data TaskParsed : Type 0 where
   ImageParsed : Parsed → TaskParsed
   ExtractParsed : Options → Bool → Bool → Bool → Text → Text → TaskParsed
@@ -93,6 +93,7 @@ pub data TaskParsed : Type 0 where
   CutsParsed : Options → ℕ → Page → Option Text → Text → TaskParsed
   CompressParsed : Options → Text → Text → TaskParsed
   DiffParsed : Options → Bool → Text → Text → TaskParsed
+  DamageParsed : Options → Text → TaskParsed
 
 abbrev pub task_view : Task → TaskParsed
 task_view (task.Image r) = ImageParsed (view r)
@@ -104,6 +105,7 @@ task_view (task.Cuts x) =
     CutsParsed x.options x.blocks x.page (option_map (λ name. name.now) x.on) x.listing.now
 task_view (task.Compress c) = CompressParsed c.options c.image.now c.output.now
 task_view (task.Diff d) = DiffParsed d.options d.times d.first.now d.second.now
+task_view (task.Damage d) = DamageParsed d.options d.image.now
 
 abbrev pub options_of : Request → Options
 options_of (request.Scan options image) = options
@@ -199,6 +201,9 @@ diff_in rows = options_in rows >>= λ options. first_of (codes "A") rows >>= λ 
     first_of (codes "B") rows >>= λ second.
     Some (DiffParsed options (is_given (first_of (codes "times") rows)) first second)
 
+abbrev pub damage_in : List Row → Option TaskParsed
+damage_in rows = image_in rows >>= λ p. Some (DamageParsed p.0 p.1)
+
 -- what the subcommand of this name asks for, with these rows; None where it is no subcommand or a
 -- value can't be read
 unfoldable pub parsed : Text → List Row → Option TaskParsed
@@ -215,6 +220,7 @@ parsed name rows =
     else if bytes_eq name (codes "cuts") then cuts_in rows
     else if bytes_eq name (codes "compress") then compress_in rows
     else if bytes_eq name (codes "diff") then diff_in rows
+    else if bytes_eq name (codes "damage") then damage_in rows
     else None
 
 abbrev pub parsed_by : Option (Text × List Row) → Option TaskParsed
@@ -260,7 +266,7 @@ IsOfImage (Some (ImageParsed p)) = Unit {0}
 IsOfImage _ = ⊥
 
 -- they ask to fill or to read a folder, for what an image tells of itself, for what stands after a
--- stop, to compress one, or for what two images differ in
+-- stop, to compress one, for what two images differ in, or for what damage costs
 abbrev pub IsNoRequest : Option TaskParsed → Type 0
 IsNoRequest (Some (ExtractParsed options decompress owners quiet image folder)) = Unit {0}
 IsNoRequest (Some (ListingParsed owner time quiet folder)) = Unit {0}
@@ -268,4 +274,5 @@ IsNoRequest (Some (InfoParsed image)) = Unit {0}
 IsNoRequest (Some (CutsParsed options blocks page on listing)) = Unit {0}
 IsNoRequest (Some (CompressParsed options image output)) = Unit {0}
 IsNoRequest (Some (DiffParsed options times first second)) = Unit {0}
+IsNoRequest (Some (DamageParsed options image)) = Unit {0}
 IsNoRequest _ = ⊥

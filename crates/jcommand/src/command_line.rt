@@ -171,7 +171,7 @@ pub fn task<'a>(alloc: Global, args: &'a [&'a str]) -> Result<Task<'a>, RequestF
 }
 
 /// The request that the words of a command line make of an image: what `task` answers, but for a
-/// command on a folder, `info`, `cuts`, `compress` and `diff`, which are refused.
+/// command on a folder, `info`, `cuts`, `compress`, `diff` and `damage`, which are refused.
 pub fn request<'a>(alloc: Global, args: &'a [&'a str]) -> Result<Request<'a>, RequestFault>
     // The subcommand and its values are clap's own function of the words.
     ensures ok { IfOk result
@@ -204,7 +204,8 @@ pub fn request<'a>(alloc: Global, args: &'a [&'a str]) -> Result<Request<'a>, Re
             | Task::Info { .. }
             | Task::Cuts(_)
             | Task::Compress(_)
-            | Task::Diff(_),
+            | Task::Diff(_)
+            | Task::Damage(_),
         ) => Err(usage(String::from_str(
             alloc,
             "error: the command makes no request of an image\n",

@@ -1,6 +1,7 @@
 mod CommandLemmas
 mod TakenLemmas
 mod ExtractingLemmas
+pub mod DamageLemmas
 pub mod DecompressingLemmas
 pub mod DiffLemmas
 pub mod WritingLemmas

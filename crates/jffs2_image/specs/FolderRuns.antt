@@ -21,7 +21,7 @@ use Rattle.jffs2_image.specs.declared.folders.Extracted.{Extracted}
 
 -- The command line makes a request, or asks for an extraction, a listing, what an image tells of
 -- itself, what stands after a stop, an image that is compressed, or what the trees of two images
--- differ in, and that is done.
+-- differ in or the damage of one costs, and that is done.
 abbrev pub RunsTask : List (List ℕ) → (Result Request RequestFault → Type 0)
     → Type 0 → Type 0 → Type 0 → Type 0 → Type 0 → Type 0 → Type 0
 RunsTask args runs extracts lists informs tells compresses differs =

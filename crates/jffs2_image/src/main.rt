@@ -10,6 +10,7 @@ ghost use Rattle.std.specs.Vec.Iter.{into_iter_items};
 
 pub mod compressing;
 pub mod cuts;
+pub mod damage;
 pub mod decompressing;
 pub mod diff;
 mod folders;

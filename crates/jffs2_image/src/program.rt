@@ -1,10 +1,11 @@
 //! The program on its arguments: it opens the image, lets `jreport` do the work, and says how that
 //! ended.
-ghost use Rattle.std.specs.Prelude.{◌≡◌, true, IfErr, OnOk, map};
+ghost use Rattle.std.specs.Prelude.{◌≡◌, ◌⊎◌, true, IfErr, OnOk, map};
 ghost use Rattle.std.specs.Io.KnownBytes.{Appends};
 ghost use Rattle.jcommand.specs.Parsed.{BuildParsed, AppendParsed, DecompressParsed, options_of, view};
 ghost use Rattle.jreport.specs.Advice.{fault_lines_of};
 ghost use Rattle.jffs2_image.specs.Host.{Blames, BlamesCommand, BlamesDecompress, BlamesFor, HasFailed, MakesFile};
+ghost use Rattle.jffs2_image.specs.DamageRuns.{RunsDamage};
 ghost use Rattle.jffs2_image.specs.DiffRuns.{RunsDiff};
 ghost use Rattle.jffs2_image.specs.FolderRuns.{RunsExtract, RunsListing, RunsTask};
 ghost use Rattle.jffs2_image.specs.Compressing.{RunsCompress};
@@ -15,6 +16,7 @@ ghost use Rattle.jffs2_image.specs.Runs.{IsSaid, Meets, MeetsCommand, MeetsWhole
 
 use crate::compressing::run_compress;
 use crate::cuts::run_cuts;
+use crate::damage::run_damage;
 use crate::decompressing::{decompress_into, take_file};
 use crate::diff::run_diff;
 use crate::folders::{Folders, run_extract, run_listing};
@@ -530,7 +532,7 @@ pub fn run<L: Loader, M: Maker, D: Folders, T: Output, E: Sink>(
           before = E.failures errors.old;
           now = E.failures errors.new;
         }) result)
-        ((maker.new ≡ maker.old) × (folders.new ≡ folders.old)
+        (((maker.new ≡ maker.old) × (folders.new ≡ folders.old)
         × RunsDiff (map (λ w. w.now) args.now)
         (record {
           told = L.told loader.old;
@@ -548,7 +550,26 @@ pub fn run<L: Loader, M: Maker, D: Folders, T: Output, E: Sink>(
           new = E.taken errors.new;
           before = E.failures errors.old;
           now = E.failures errors.new;
-        }) result) }
+        }) result)
+        ⊎ ((maker.new ≡ maker.old) × (folders.new ≡ folders.old)
+        × RunsDamage (map (λ w. w.now) args.now)
+        (record {
+          told = L.told loader.old;
+          before = L.failures loader.old;
+          now = L.failures loader.new;
+        }) (output.new ≡ output.old)
+        (record {
+          old = T.taken output.old;
+          new = T.given output.new;
+          before = T.failures output.old;
+          now = T.failures output.new;
+        })
+        (record {
+          old = E.taken errors.old;
+          new = E.taken errors.new;
+          before = E.failures errors.old;
+          now = E.failures errors.new;
+        }) result)) }
 {
     match task(alloc, args) {
         Ok(Task::Image(request)) => run_image(alloc, loader, maker, Ok(request), output, errors),
@@ -558,6 +579,7 @@ pub fn run<L: Loader, M: Maker, D: Folders, T: Output, E: Sink>(
         Ok(Task::Cuts(asked)) => run_cuts(alloc, loader, asked, output, errors),
         Ok(Task::Compress(asked)) => run_compress(alloc, loader, maker, asked, output, errors),
         Ok(Task::Diff(asked)) => run_diff(alloc, loader, asked, output, errors),
+        Ok(Task::Damage(asked)) => run_damage(alloc, loader, asked, output, errors),
         Err(fault) => run_image(alloc, loader, maker, Err(fault), output, errors),
     }
 }

@@ -75,3 +75,7 @@ returns-clause-compared c = refl
 pub returns-clause-compared_with_times : goal.returns-clause-compared_with_times
 unfolding clap_on_literals program parsed parsed_from
 returns-clause-compared_with_times c = refl
+
+pub returns-clause-damaged : goal.returns-clause-damaged
+unfolding clap_on_literals program parsed parsed_from
+returns-clause-damaged c = refl

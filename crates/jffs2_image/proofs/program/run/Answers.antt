@@ -30,3 +30,32 @@ returns-in-Ok-Compress g c =
         ends = c.run_compress.ensures;
       },
     ))))))
+
+pub returns-in-Ok-Diff : goal.returns-in-Ok-Diff
+returns-in-Ok-Diff g c =
+    inr (inr (inr (inr (inr (inr (inl (
+      refl,
+      refl,
+      record {
+        by = record { options = c.in-Ok-Diff.asked.options; times = c.in-Ok-Diff.asked.times };
+        first = c.in-Ok-Diff.asked.first.now;
+        second = c.in-Ok-Diff.asked.second.now;
+        parsed = search rules;
+        faultless = c.in-Ok-Diff.ensures.faultless;
+        ends = c.run_diff.ensures;
+      },
+    )))))))
+
+pub returns-in-Ok-Damage : goal.returns-in-Ok-Damage
+returns-in-Ok-Damage g c =
+    inr (inr (inr (inr (inr (inr (inr (
+      refl,
+      refl,
+      record {
+        options = c.in-Ok-Damage.asked.options;
+        file = c.in-Ok-Damage.asked.image.now;
+        parsed = search rules;
+        faultless = c.in-Ok-Damage.ensures.faultless;
+        ends = c.run_damage.ensures;
+      },
+    )))))))
