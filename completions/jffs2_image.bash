@@ -16,6 +16,7 @@ _jffs2_image_options() {
         info) echo "$help" ;;
         cuts) echo "$plain $write --on $help" ;;
         diff) echo "$plain --times $help" ;;
+        damage) echo "$plain $help" ;;
         '') echo "$help -V --version" ;;
     esac
 }
@@ -43,7 +44,7 @@ _jffs2_image_values() {
 _jffs2_image_kind() {
     case $1:$2 in
         check:0 | ls:0 | cat:0 | build:[01] | append:[012] | decompress:[01] | compress:[01] | \
-            extract:0 | info:0 | cuts:0 | diff:[01])
+            extract:0 | info:0 | cuts:0 | diff:[01] | damage:0)
             echo -f
             ;;
         extract:1 | listing:0) echo -d ;;
@@ -51,7 +52,7 @@ _jffs2_image_kind() {
 }
 
 _jffs2_image() {
-    local commands='check ls cat build append decompress compress extract listing info cuts diff help'
+    local commands='check ls cat build append decompress compress extract listing info cuts diff damage help'
     local current=${COMP_WORDS[COMP_CWORD]} command='' option='' place=0 values=0 word kind
     # bash cuts --option=value into three words
     for word in "${COMP_WORDS[@]:1:COMP_CWORD-1}"; do

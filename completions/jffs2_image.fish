@@ -19,18 +19,19 @@ complete -c jffs2_image -n __fish_use_subcommand -a listing -d 'Listing of a fol
 complete -c jffs2_image -n __fish_use_subcommand -a info -d 'What it shows of order and blocks'
 complete -c jffs2_image -n __fish_use_subcommand -a cuts -d 'Which step stands from which byte on'
 complete -c jffs2_image -n __fish_use_subcommand -a diff -d 'Where the trees of two differ'
+complete -c jffs2_image -n __fish_use_subcommand -a damage -d 'What its damaged nodes hide'
 complete -c jffs2_image -n __fish_use_subcommand -a help -d 'Help of a command'
 complete -c jffs2_image -n '__jffs2_image_in help' -f \
-    -a 'check ls cat build append decompress compress extract listing info cuts diff help'
+    -a 'check ls cat build append decompress compress extract listing info cuts diff damage help'
 
 # Options of the program and of every command
 complete -c jffs2_image -n 'not __jffs2_image_in help' -s h -l help -d 'Print help'
 complete -c jffs2_image -n __fish_use_subcommand -s V -l version -d 'Print the version'
 
 # Options of several commands
-complete -c jffs2_image -n '__jffs2_image_in check ls cat build append decompress compress extract cuts diff' \
+complete -c jffs2_image -n '__jffs2_image_in check ls cat build append decompress compress extract cuts diff damage' \
     -l block -x -a '4096 8192 16384 32768 65536 131072 262144' -d 'Size of an erase block'
-complete -c jffs2_image -n '__jffs2_image_in check ls cat build append decompress compress extract cuts diff' \
+complete -c jffs2_image -n '__jffs2_image_in check ls cat build append decompress compress extract cuts diff damage' \
     -l endian -x -a 'little big' -d 'Byte order'
 complete -c jffs2_image -n '__jffs2_image_in build append cuts' -l blocks -x -d 'Number of blocks'
 complete -c jffs2_image -n '__jffs2_image_in build append cuts' -l page -x \

@@ -316,6 +316,14 @@ run diff folder none2; want 1 "" "jffs2_image: L1 Device"
 run diff "$tree" larger; want 1 "" "jffs2_image: L2 TooLarge"
 run diff --block 4097 "$tree" "$tree"; want 1 "" "jffs2_image: M1 BlockSize"
 run diff --block 8192 "$tree" "$top/tests/data/default.img"; want 1 "" "jffs2_image: M4 Compressed at *"
+run damage; want 2 "" "error: *<IMAGE>*Usage: *"
+run damage --decompress "$tree"; want 2 "" "error: unexpected argument '--decompress' found*Usage: *"
+run damage none; want 1 "" "jffs2_image: P1 File none"
+run damage --block 4097 "$tree"; want 1 "" "jffs2_image: M1 BlockSize"
+run damage "$tree"; want 0 "total damaged 0 paths 0 missing 0" ""
+for words in "damage --help" "damage -h" "help damage"; do
+    run $words; want 0 "*Usage: jffs2_image damage *<IMAGE>*hides PATH*Exit status:*" ""
+done
 for words in "diff --help" "diff -h" "help diff"; do
     run $words; want 0 "*Usage: jffs2_image diff *<A> <B>*PATH at OFFSET*Exit status:*" ""
 done

@@ -123,6 +123,10 @@ abbrev pub diff_app : App
 diff_app = with_rule (with_rule (with_rule (plain_command (codes "diff")) (flag (codes "times")))
     (word (codes "A"))) (word (codes "B"))
 
+-- `damage [--block N] [--endian ORDER] IMAGE`
+abbrev pub damage_app : App
+damage_app = with_rule (plain_command (codes "damage")) (word (codes "IMAGE"))
+
 -- the program without its subcommands, of which one has to be named; it tells its version
 abbrev pub bare : App
 bare = let app = new_app (codes "jffs2_image") in record app
@@ -137,9 +141,11 @@ program = with_subcommand
     (with_subcommand
     (with_subcommand
     (with_subcommand
+    (with_subcommand
     (with_subcommand (with_subcommand (with_subcommand (with_subcommand bare
     check_app.top) ls_app.top) cat_app.top) build_app.top) append_app.top) decompress_app.top)
-    compress_app.top) extract_app.top) listing_app.top) info_app.top) cuts_app.top) diff_app.top
+    compress_app.top) extract_app.top) listing_app.top) info_app.top) cuts_app.top) diff_app.top)
+    damage_app.top
 
 -- ---- what is made
 

@@ -84,8 +84,8 @@ view (request.Decompress options image output) = DecompressParsed options image.
 
 -- the same of a task: a request of an image, one that writes an image and notes weak nodes, one
 -- that works with a folder of the host, what an image tells of itself, what stands after a stop, an
--- image that is compressed, what two images differ in, or an image that is decompressed without
--- nodes that clash
+-- image that is compressed, what two images differ in, an image that is decompressed without nodes
+-- that clash, or what the damage of one costs
 pub data TaskParsed : Type 0 where
   ImageParsed : Parsed → TaskParsed
   WeakParsed : Parsed → TaskParsed
@@ -96,6 +96,7 @@ pub data TaskParsed : Type 0 where
   CompressParsed : Options → Text → Text → TaskParsed
   DiffParsed : Options → Bool → Text → Text → TaskParsed
   ApartParsed : Options → Text → Text → TaskParsed
+  DamageParsed : Options → Text → TaskParsed
 
 abbrev pub task_view : Task → TaskParsed
 task_view (task.Image r) = ImageParsed (view r)
@@ -110,6 +111,7 @@ task_view (task.Cuts x) =
 task_view (task.Compress c) = CompressParsed c.options c.image.now c.output.now
 task_view (task.Diff d) = DiffParsed d.options d.times d.first.now d.second.now
 task_view (task.Apart a) = ApartParsed a.options a.image.now a.output.now
+task_view (task.Damage d) = DamageParsed d.options d.image.now
 
 abbrev pub options_of : Request → Options
 options_of (request.Scan options image) = options
@@ -216,6 +218,9 @@ diff_in rows = options_in rows >>= λ options. first_of (codes "A") rows >>= λ 
     first_of (codes "B") rows >>= λ second.
     Some (DiffParsed options (is_given (first_of (codes "times") rows)) first second)
 
+abbrev pub damage_in : List Row → Option TaskParsed
+damage_in rows = image_in rows >>= λ p. Some (DamageParsed p.0 p.1)
+
 -- what the subcommand of this name asks for, with these rows; None where it is no subcommand or a
 -- value can't be read
 unfoldable pub parsed : Text → List Row → Option TaskParsed
@@ -232,6 +237,7 @@ parsed name rows =
     else if bytes_eq name (codes "cuts") then cuts_in rows
     else if bytes_eq name (codes "compress") then compress_in rows
     else if bytes_eq name (codes "diff") then diff_in rows
+    else if bytes_eq name (codes "damage") then damage_in rows
     else None
 
 abbrev pub parsed_by : Option (Text × List Row) → Option TaskParsed
@@ -277,8 +283,8 @@ IsOfImage (Some (ImageParsed p)) = Unit {0}
 IsOfImage _ = ⊥
 
 -- they ask for notes on weak nodes, to fill or to read a folder, for what an image tells of itself,
--- for what stands after a stop, to compress one, for what two images differ in, or to decompress
--- one without nodes that clash
+-- for what stands after a stop, to compress one, for what two images differ in, to decompress one
+-- without nodes that clash, or for what damage costs
 abbrev pub IsNoRequest : Option TaskParsed → Type 0
 IsNoRequest (Some (WeakParsed p)) = Unit {0}
 IsNoRequest (Some (ExtractParsed options decompress owners quiet image folder path)) = Unit {0}
@@ -288,4 +294,5 @@ IsNoRequest (Some (CutsParsed options blocks page on listing)) = Unit {0}
 IsNoRequest (Some (CompressParsed options image output)) = Unit {0}
 IsNoRequest (Some (DiffParsed options times first second)) = Unit {0}
 IsNoRequest (Some (ApartParsed options image output)) = Unit {0}
+IsNoRequest (Some (DamageParsed options image)) = Unit {0}
 IsNoRequest _ = ⊥

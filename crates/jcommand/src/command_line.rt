@@ -174,8 +174,8 @@ pub fn task<'a>(alloc: Global, args: &'a [&'a str]) -> Result<Task<'a>, RequestF
 }
 
 /// The request that the words of a command line make of an image: what `task` answers, but for one
-/// with `--weak`, a command on a folder, `info`, `cuts`, `compress`, `diff` and `decompress
-/// --clashes`, which are refused.
+/// with `--weak`, a command on a folder, `info`, `cuts`, `compress`, `diff`, `decompress --clashes`
+/// and `damage`, which are refused.
 pub fn request<'a>(alloc: Global, args: &'a [&'a str]) -> Result<Request<'a>, RequestFault>
     // The subcommand and its values are clap's own function of the words.
     ensures ok { IfOk result
@@ -210,7 +210,8 @@ pub fn request<'a>(alloc: Global, args: &'a [&'a str]) -> Result<Request<'a>, Re
             | Task::Cuts(_)
             | Task::Compress(_)
             | Task::Diff(_)
-            | Task::Apart(_),
+            | Task::Apart(_)
+            | Task::Damage(_),
         ) => Err(usage(String::from_str(
             alloc,
             "error: the command makes no request of an image\n",

@@ -2,7 +2,7 @@
 //! takes.
 ghost use Rattle.std.specs.Prelude.{◌≡◌, Ok};
 ghost use Rattle.clap.specs.Words.{App, Rule, new_app, with_rule, with_subcommand};
-ghost use Rattle.jcommand.specs.Commands.{IsApp, IsRule, MakesApp, word, optional_word, option_or, required_option, option_of, option_of_two, flag, plain_command, writer, noting, check_app, ls_app, cat_app, build_app, append_app, decompress_app, compress_app, extract_app, listing_app, info_app, cuts_app, diff_app, bare, program};
+ghost use Rattle.jcommand.specs.Commands.{IsApp, IsRule, MakesApp, word, optional_word, option_or, required_option, option_of, option_of_two, flag, plain_command, writer, noting, check_app, ls_app, cat_app, build_app, append_app, decompress_app, compress_app, extract_app, listing_app, info_app, cuts_app, diff_app, damage_app, bare, program};
 
 use crate::help;
 use clap::{Arg, ArgAction, Command};
@@ -266,6 +266,14 @@ fn make_diff<'a>(alloc: Global) -> Made<'a>
     add_arg(add_arg(add_arg(command, times), first), second)
 }
 
+fn make_damage<'a>(alloc: Global) -> Made<'a>
+    ensures { MakesApp result damage_app }
+{
+    let image = make_word(alloc, "IMAGE", help::IMAGE);
+    let command = make_plain(alloc, "damage", help::DAMAGE, help::DAMAGE_EPILOGUE);
+    add_arg(command, image)
+}
+
 /// The program without its subcommands.
 fn make_bare<'a>(alloc: Global) -> Command<'a>
     ensures { IsApp result bare }
@@ -290,5 +298,6 @@ pub(crate) fn make_program<'a>(alloc: Global) -> Made<'a>
     let command = add_subcommand(command, make_listing(alloc));
     let command = add_subcommand(command, make_info(alloc));
     let command = add_subcommand(command, make_cuts(alloc));
-    add_subcommand(command, make_diff(alloc))
+    let command = add_subcommand(command, make_diff(alloc));
+    add_subcommand(command, make_damage(alloc))
 }

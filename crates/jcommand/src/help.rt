@@ -31,6 +31,8 @@ pub(crate) const ON: &str = "Image that is gone on from, as by append";
 
 pub(crate) const DIFF: &str = "Print where the trees of two images differ";
 
+pub(crate) const DAMAGE: &str = "Print what the damaged nodes of an image cost";
+
 pub(crate) const BLOCK: &str = "Erase block size: 4096 to 4194304 bytes";
 
 pub(crate) const ENDIAN: &str = "Byte order of the image: little or big";
@@ -102,6 +104,7 @@ Examples:
   jffs2_image extract --decompress dump.img tree
   jffs2_image listing tree > tree.txt
   jffs2_image diff old.img new.img
+  jffs2_image damage flash.img
 
 Exit status:
   0  done, and nothing was found
@@ -477,3 +480,37 @@ Exit status:
   1  a fault, which standard error names
   2  the command line is wrong
   3  a difference was printed";
+
+pub(crate) const DAMAGE_EPILOGUE: &str = "\
+The image is mounted, without its damaged nodes. It prints a line for each of
+them, in order of address A (8 hexadecimal digits), by its fields where their
+checksum is right:
+
+  A data-crc ino I version V bytes O to E hides PATH
+  A data-crc ino I version V bytes O to E hides nothing
+  A data-crc ino I version V bytes O to E has no path
+  A name-crc pino P version V ino I lost in PATH
+  A WORD unknown
+
+The first stands once for each path of inode I. 'hides nothing' says that the
+object is the same whatever the node said: other nodes of V or a higher version
+have its attributes, and all bytes from O to E that it has. Of a damaged name
+PATH is the path of its directory, and 'in PATH' is left out where it has none.
+WORD is node-crc, length or range. Then comes a line for each name that has no
+object, with its directory's inode number where no path leads to it:
+
+  missing PATH ino I
+  missing pino P name NAME ino I
+
+and last 'total damaged N paths N missing N', the numbers of damaged nodes, of
+lines that hide a path, and of missing objects. A damaged header makes no node:
+'check --scan' tells it as dirt.
+
+Example:
+  jffs2_image damage --block 131072 flash.img
+
+Exit status:
+  0  done, and only the total was printed
+  1  a fault, which standard error names
+  2  the command line is wrong
+  3  damage was printed";

@@ -3,7 +3,7 @@ ghost use Rattle.std.specs.Prelude.{◌≡◌, true, false, [], ◌∷◌, Some,
 ghost use Rattle.clap.specs.Words.{fault_of};
 ghost use Rattle.clap.specs.declared.error.ErrorKind.TheVariants.{DisplayHelp, DisplayVersion, MissingSubcommand, MissingRequiredArgument, UnknownArgument, WrongNumberOfValues};
 ghost use Rattle.jnode.specs.declared.order.Endian.TheVariants.{Little, Big};
-ghost use Rattle.jcommand.specs.Parsed.{ScanParsed, CheckParsed, ListParsed, CatParsed, BuildParsed, AppendParsed, DecompressParsed, ImageParsed, WeakParsed, ExtractParsed, ListingParsed, InfoParsed, CompressParsed, CutsParsed, DiffParsed, ApartParsed, parsed_from, endian_of, decimal_number, owner_of, page_of};
+ghost use Rattle.jcommand.specs.Parsed.{ScanParsed, CheckParsed, ListParsed, CatParsed, BuildParsed, AppendParsed, DecompressParsed, ImageParsed, WeakParsed, ExtractParsed, ListingParsed, InfoParsed, CompressParsed, CutsParsed, DiffParsed, DamageParsed, ApartParsed, parsed_from, endian_of, decimal_number, owner_of, page_of};
 ghost use Rattle.jsteps.specs.declared.page.Page.TheVariants.{P4096, P8192, P16384};
 ghost use Rattle.jcommand.specs.Commands.{program};
 
@@ -129,6 +129,10 @@ pub fn known_requests()
         ∷ codes "b" ∷ [])
         ≡ Some (DiffParsed (record { geometry = record { block = 65536 }; endian = Big }) true
         (codes "a") (codes "b")) }
+    ensures damaged { parsed_from
+        (codes "jffs2_image" ∷ codes "damage" ∷ codes "--block=8192" ∷ codes "a" ∷ [])
+        ≡ Some (DamageParsed (record { geometry = record { block = 8192 }; endian = Little })
+        (codes "a")) }
 {}
 
 /// Words that ask for nothing.

@@ -1,7 +1,7 @@
 //! What the matches of the program's command line ask for.
 ghost use Rattle.std.specs.Prelude.{◌≡◌, IfSome, codes, map, option_map};
 ghost use Rattle.clap.specs.Words.{found_of, rows_of, all_of, first_of};
-ghost use Rattle.jcommand.specs.Parsed.{decimal_number, endian_of, page_of, number_option, options_in, image_in, is_given, check_in, is_decompressed, ls_in, cat_in, writing_in, build_in, append_in, noting_in, decompress_in, extract_in, listing_in, info_in, compress_in, cuts_in, diff_in, is_apart, owner_number, owner_of, if_given, parsed, options_of, task_view, view};
+ghost use Rattle.jcommand.specs.Parsed.{decimal_number, endian_of, page_of, number_option, options_in, image_in, is_given, check_in, is_decompressed, ls_in, cat_in, writing_in, build_in, append_in, noting_in, decompress_in, extract_in, listing_in, info_in, compress_in, cuts_in, diff_in, damage_in, is_apart, owner_number, owner_of, if_given, parsed, options_of, task_view, view};
 
 use clap::ArgMatches;
 use jnode::Endian;
@@ -158,6 +158,13 @@ pub struct Comparison<'a> {
     pub second: &'a str,
 }
 
+/// What the damage of an image costs.
+#[derive(Clone, Copy)]
+pub struct Examination<'a> {
+    pub options: Options,
+    pub image: &'a str,
+}
+
 /// What is asked for.
 #[derive(Clone, Copy)]
 pub enum Task<'a> {
@@ -179,6 +186,8 @@ pub enum Task<'a> {
     Diff(Comparison<'a>),
     /// `decompress --clashes higher`.
     Apart(Decompression<'a>),
+    /// `damage`.
+    Damage(Examination<'a>),
 }
 
 /// A number below 2^32 in decimal digits.
@@ -526,6 +535,13 @@ fn diff_at<'a>(found: &ArgMatches<'a>) -> Option<Task<'a>>
     }))
 }
 
+fn damage_at<'a>(found: &ArgMatches<'a>) -> Option<Task<'a>>
+    ensures { option_map task_view result ≡ damage_in (rows_of (found_of found.now)) }
+{
+    let (options, image) = image_at(found)?;
+    Some(Task::Damage(Examination { options, image }))
+}
+
 /// What the subcommand asks for, or nothing where a value can't be read.
 #[tactic(auto, unfolding(crate::specs::Parsed::parsed))]
 pub(crate) fn parsed_of<'a>(name: &str, found: &ArgMatches<'a>) -> Option<Task<'a>>
@@ -544,6 +560,7 @@ pub(crate) fn parsed_of<'a>(name: &str, found: &ArgMatches<'a>) -> Option<Task<'
         "cuts" => cuts_at(found),
         "compress" => compress_at(found),
         "diff" => diff_at(found),
+        "damage" => damage_at(found),
         _ => None,
     }
 }

@@ -20,7 +20,7 @@ use Rattle.jnode.specs.declared.node.Damage.TheVariants.{NodeCrc, NameCrc, DataC
 use Rattle.jmount.specs.Mount.{Mount}
 use Rattle.jmount.specs.Tree.{State, all_entries, dangling}
 use Rattle.jdamage.specs.Coverage.{is_not_older}
-use Rattle.jdamage.specs.Damage.{damage_text, damage_totals, data_text, hurt_text, missing_text, node_paths, node_text, size_at, is_hidden}
+use Rattle.jdamage.specs.Damage.{damage_text, damage_totals, data_text, hurt_text, missing_text, node_paths, node_text, size_at, changes_nothing}
 use Rattle.jdamage.specs.Fields.{damaged_nodes, stretch_at, stretches}
 use Rattle.jdamage.specs.Lines.{hides_line, no_path_line, nothing_line, totals_shown}
 use Rattle.jdamage.specs.Telling.{PushesHurt, path_text_if}
@@ -161,7 +161,7 @@ module _ (e : Endian) (m : Mount) (p : Stretch → Bool) (others : List Stretch)
   of_lost : (lost s : Stretch) → is_not_older lost s ≡ true → s.ino ≡ lost.ino
   of_lost lost s newer = grind (arith, nat_tests)
 
-  hidden_same : (lost : Stretch) → ((s : Stretch) → s.ino ≡ lost.ino → p s ≡ true) → is_hidden m.state (filter p others) lost ≡ is_hidden m.state others lost
+  hidden_same : (lost : Stretch) → ((s : Stretch) → s.ino ≡ lost.ino → p s ≡ true) → changes_nothing m.state (filter p others) lost ≡ changes_nothing m.state others lost
   hidden_same lost has = hidden_kept p lost (λ s newer. has s (of_lost lost s newer)) others (size_at m.state lost.ino)
 
   pub text_same : (d : ℕ × Damage) → HasNumber d → node_text e m (filter p others) d ≡ node_text e m others d

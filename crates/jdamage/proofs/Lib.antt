@@ -1,5 +1,4 @@
 pub mod CoverageLemmas
 pub mod DamageLemmas
-pub mod LawLemmas
 pub mod NodeLemmas
 pub mod WayLemmas

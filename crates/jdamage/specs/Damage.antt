@@ -30,12 +30,12 @@ abbrev pub size_at : State → ℕ → ℕ
 size_at s i = size_shown (option_map shown (object s i))
 
 -- whether the object is the same without it, beside these versions
-abbrev pub is_hidden : State → List Stretch → Stretch → Bool
-is_hidden s others lost = hides_nothing others (size_at s lost.ino) lost
+abbrev pub changes_nothing : State → List Stretch → Stretch → Bool
+changes_nothing s others lost = hides_nothing others (size_at s lost.ino) lost
 
 -- the paths whose object it takes something from
 abbrev pub hurt_paths : State → List Stretch → Stretch → List (List (List ℕ))
-hurt_paths s others lost = if is_hidden s others lost then [] else paths_to s lost.ino
+hurt_paths s others lost = if changes_nothing s others lost then [] else paths_to s lost.ino
 
 -- a line for each, or that no path leads there
 abbrev pub hurt_text : ℕ → Stretch → List (List (List ℕ)) → List ℕ
@@ -44,7 +44,7 @@ hurt_text addr lost (path ∷ paths) = flat_map (hides_line addr lost) (path ∷
 
 unfoldable pub data_text : State → List Stretch → ℕ → Stretch → List ℕ
 data_text s others addr lost =
-    if is_hidden s others lost then nothing_line addr lost
+    if changes_nothing s others lost then nothing_line addr lost
     else hurt_text addr lost (paths_to s lost.ino)
 
 -- ---- the whole
@@ -71,25 +71,25 @@ missing_text s n = missing_line n (path_below s n.0 (n.1 ∷ []))
 
 -- How many nodes are damaged, how many lines name a path that one hides, to the greatest u64, and
 -- how many names have no object.
-abbrev pub totals_of : Endian → Mount → List Stretch → List (ℕ × Damage) → Totals
-totals_of e m others damaged = record {
+abbrev pub totals_by : Endian → Mount → List Stretch → List (ℕ × Damage) → Totals
+totals_by e m others damaged = record {
   damaged = length damaged;
   paths = min (sum_by (node_paths e m others) damaged) (2 ^ 64 - 1);
   missing = length (dangling m.state);
 }
 
 -- the lines: the damaged nodes in order of address, the names whose objects are missing, the totals
-abbrev pub text_of : Endian → Mount → List Stretch → List (ℕ × Damage) → List ℕ
-text_of e m others damaged = flat_map (node_text e m others) damaged
+abbrev pub text_by : Endian → Mount → List Stretch → List (ℕ × Damage) → List ℕ
+text_by e m others damaged = flat_map (node_text e m others) damaged
     ++ (flat_map (missing_text m.state) (dangling m.state)
-    ++ totals_shown (totals_of e m others damaged))
+    ++ totals_shown (totals_by e m others damaged))
 
 unfoldable pub damage_totals : Endian → ℕ → Mount → Totals
 damage_totals e size m =
-    totals_of e m (stretches e size m.image) (damaged_nodes e size m.image)
+    totals_by e m (stretches e size m.image) (damaged_nodes e size m.image)
 
 unfoldable pub damage_text : Endian → ℕ → Mount → List ℕ
-damage_text e size m = text_of e m (stretches e size m.image) (damaged_nodes e size m.image)
+damage_text e size m = text_by e m (stretches e size m.image) (damaged_nodes e size m.image)
 
 -- ---- what a call puts
 

@@ -41,12 +41,12 @@ loss_at e image addr = record {
 -- ---- the nodes of an image
 
 -- the damaged entry and inode nodes, each with its address and the check that it fails first
-abbrev pub damage_in : ℕ → Seen → Option (ℕ × Damage)
-damage_in addr (seen.Damaged which) = Some (addr, which)
-damage_in addr _ = None
+abbrev pub damaged_if : ℕ → Seen → Option (ℕ × Damage)
+damaged_if addr (seen.Damaged which) = Some (addr, which)
+damaged_if addr _ = None
 
 abbrev pub damaged_nodes : Endian → ℕ → List ℕ → List (ℕ × Damage)
-damaged_nodes e size image = filter_map (λ s. damage_in s.0 s.1) (sightings e size image)
+damaged_nodes e size image = filter_map (λ s. damaged_if s.0 s.1) (sightings e size image)
 
 -- what an inode node that passes its checks has
 abbrev pub stretch_of : InodeNode → Stretch

@@ -1,7 +1,6 @@
 pub mod Coverage
 pub mod Damage
 pub mod Fields
-pub mod Laws
 pub mod Lines
 pub mod Telling
 pub mod Ways

@@ -23,12 +23,12 @@ climbed s (suc steps) dir names = if is_directory s dir then
     else option_and_then (λ n. climbed s steps n.0 (n.1 ∷ names)) (first_name s dir)) else None
 
 -- no way up to the root has more steps: there are no more names, and no more numbers
-abbrev pub most_steps : State → ℕ
-most_steps s = min (length (all_entries s)) (2 ^ 32) + 1
+abbrev pub steps_at_most : State → ℕ
+steps_at_most s = min (length (all_entries s)) (2 ^ 32) + 1
 
 -- these names, below a directory, as a path
 abbrev pub path_below : State → ℕ → List (List ℕ) → Option (List (List ℕ))
-path_below s dir names = climbed s (most_steps s) dir names
+path_below s dir names = climbed s (steps_at_most s) dir names
 
 -- the path of a name, where it stands for this number
 abbrev pub path_if : State → ℕ → NameOf → Option (List (List ℕ))
@@ -44,5 +44,5 @@ paths_to s i = root_paths i ++ filter_map (path_if s i) (all_entries s)
 
 -- ---- paths as they are held
 
-abbrev pub names_of : Vec (Bor (List ℕ)) Global → List (List ℕ)
-names_of path = map (λ name. name.now) path.items
+abbrev pub names_held : Vec (Bor (List ℕ)) Global → List (List ℕ)
+names_held path = map (λ name. name.now) path.items

@@ -8,7 +8,7 @@
 //!
 //! `specs/Fields.antt` says what is read of a damaged node, `specs/Coverage.antt` when it hides
 //! nothing, `specs/Ways.antt` which paths lead to a number, `specs/Lines.antt` how the lines are
-//! spelled, and `specs/Damage.antt` which lines there are. `laws` has what follows.
+//! spelled, and `specs/Damage.antt` which lines there are.
 #![tactic(auto)]
 
 mod coverage;
@@ -16,7 +16,6 @@ mod damage;
 mod fault;
 mod fields;
 mod held;
-pub mod laws;
 mod lines;
 mod nodes;
 mod telling;

@@ -4,7 +4,7 @@ ghost use Rattle.std.specs.Prelude.{◌≡◌, ◌++◌, IfOk, OnOk, filter, opt
 ghost use Rattle.std.specs.BTreeSet.{contains};
 ghost use Rattle.std.specs.Ordering.{nat_cmp};
 ghost use Rattle.jscan.specs.Scans.{IsScannable};
-ghost use Rattle.jdamage.specs.Fields.{damage_in, damaged_nodes, stretch_in, stretches};
+ghost use Rattle.jdamage.specs.Fields.{damaged_if, damaged_nodes, stretch_in, stretches};
 
 use crate::fields::{Stretch, stretch_of};
 use jnode::{Damage, Order, Seen};
@@ -19,7 +19,7 @@ fn push_damaged(
     seen: &Seen<'_>,
 ) -> Result<(), AllocError>
     ensures { OnOk result (nodes.new.items
-        ≡ nodes.old.items ++ option_to_list (damage_in addr seen.now)) }
+        ≡ nodes.old.items ++ option_to_list (damaged_if addr seen.now)) }
 {
     match seen {
         Seen::Damaged { which } => {

@@ -40,8 +40,8 @@ fn push_name(
     text: &mut Text,
 ) -> Result<bool, AllocError>
     ensures { IfOk result (λ told. PushesPath addr lost.now
-        (path_if ways.now.mounted.now.state lost.now.ino (entry.entry.0, entry.entry.1.now, entry.entry.2)) text.old
-        text.new told) }
+        (path_if ways.now.mounted.now.state lost.now.ino
+        (entry.entry.0, entry.entry.1.now, entry.entry.2)) text.old text.new told) }
 {
     let (pino, name, ino) = entry;
     if ino != lost.ino {

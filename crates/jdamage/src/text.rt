@@ -52,7 +52,8 @@ impl Text {
 
     /// A path, from its names.
     pub(crate) fn push_path(&mut self, path: &[&[u8]]) -> Result<(), AllocError>
-        ensures { OnOk result (self.new ≡ self.old ++ path_shown (map (λ name. name.now) path.now)) }
+        ensures { OnOk result
+            (self.new ≡ self.old ++ path_shown (map (λ name. name.now) path.now)) }
     {
         match put_path(&mut self.held, path) {
             Ok(()) => Ok(()),

@@ -2,7 +2,7 @@
 
 ghost use Rattle.std.specs.Prelude.{◌≡◌, ◌∷◌, [], IfOk, option_map, reverse};
 ghost use Rattle.jmount.specs.Tree as tree;
-ghost use Rattle.jdamage.specs.Ways.{climbed, first_name, most_steps, names_of, path_below};
+ghost use Rattle.jdamage.specs.Ways.{climbed, first_name, names_held, path_below, steps_at_most};
 
 use jmount::{Kind, Mounted};
 use std::alloc::{AllocError, Global};
@@ -34,7 +34,7 @@ fn first_name<'m>(mounted: &'m Mounted<'_>, ino: u32) -> Option<(u32, &'m [u8], 
 
 /// So many steps lead up to the root at most.
 fn most_steps(mounted: &Mounted<'_>) -> u64
-    ensures { result ≡ most_steps mounted.now.state }
+    ensures { result ≡ steps_at_most mounted.now.state }
 {
     let mut count = 0u64;
     for _name in mounted.names() {
@@ -48,7 +48,7 @@ fn most_steps(mounted: &Mounted<'_>) -> u64
 pub(crate) struct Ways<'m, 'a> {
     pub mounted: &'m Mounted<'a>,
     steps: u64,
-    ghost counted: { steps ≡ most_steps mounted.now.state },
+    ghost counted: { steps ≡ steps_at_most mounted.now.state },
 }
 
 impl<'m, 'a> Ways<'m, 'a> {
@@ -67,7 +67,7 @@ impl<'m, 'a> Ways<'m, 'a> {
         alloc: Global,
         dir: u32,
     ) -> Result<Option<Vec<&'m [u8]>>, AllocError>
-        ensures { IfOk result (λ path. option_map names_of path
+        ensures { IfOk result (λ path. option_map names_held path
             ≡ path_below self.now.mounted.now.state dir []) }
     {
         climb(self.mounted, self.steps, dir, Vec::new(alloc))
@@ -80,7 +80,7 @@ impl<'m, 'a> Ways<'m, 'a> {
         dir: u32,
         name: &'m [u8],
     ) -> Result<Option<Vec<&'m [u8]>>, AllocError>
-        ensures { IfOk result (λ path. option_map names_of path
+        ensures { IfOk result (λ path. option_map names_held path
             ≡ path_below self.now.mounted.now.state dir (name.now ∷ [])) }
     {
         let mut names = Vec::new(alloc);
@@ -96,8 +96,8 @@ fn climb<'m>(
     dir: u32,
     names: Vec<&'m [u8]>,
 ) -> Result<Option<Vec<&'m [u8]>>, AllocError>
-    ensures { IfOk result (λ path. option_map names_of path
-        ≡ climbed mounted.now.state steps dir (reverse (names_of names.entry))) }
+    ensures { IfOk result (λ path. option_map names_held path
+        ≡ climbed mounted.now.state steps dir (reverse (names_held names.entry))) }
 {
     let mut path = names;
     let mut left = steps;

@@ -23,17 +23,17 @@ enum Node {
 
 /// Each with its address.
 const NODES: [Node; 11] = [
-    Node::Inode(2, 1, FILE, 3, 0, b"abc"),       // 0
-    Node::Inode(2, 2, FILE, 5, 3, b"de"),        // 72
-    Node::Entry(1, 1, 2, b"a"),                  // 144
-    Node::Inode(3, 1, DIRECTORY, 0, 0, b""),     // 188
-    Node::Entry(1, 2, 3, b"d"),                  // 256
-    Node::Entry(3, 1, 2, b"b c"),                // 300
-    Node::Entry(3, 2, 9, b"gone"),               // 344
-    Node::Inode(4, 6, FILE, 7, 5, b"hi"),        // 388
-    Node::Entry(7, 11, 8, b"x y"),               // 460
-    Node::Inode(2, 3, FILE, 5, 0, b"ABC"),       // 504
-    Node::Inode(1, 5, DIRECTORY, 1, 0, b"r"),    // 576
+    Node::Inode(2, 1, FILE, 3, 0, b"abc"), // 0
+    Node::Inode(2, 2, FILE, 5, 3, b"de"), // 72
+    Node::Entry(1, 1, 2, b"a"), // 144
+    Node::Inode(3, 1, DIRECTORY, 0, 0, b""), // 188
+    Node::Entry(1, 2, 3, b"d"), // 256
+    Node::Entry(3, 1, 2, b"b c"), // 300
+    Node::Entry(3, 2, 9, b"gone"), // 344
+    Node::Inode(4, 6, FILE, 7, 5, b"hi"), // 388
+    Node::Entry(7, 11, 8, b"x y"), // 460
+    Node::Inode(2, 3, FILE, 5, 0, b"ABC"), // 504
+    Node::Inode(1, 5, DIRECTORY, 1, 0, b"r"), // 576
 ];
 
 fn write_node(image: &mut Vec<u8>, node: Node) -> Result<(), WriteFault> {
@@ -84,11 +84,7 @@ fn flipped(alloc: Global, places: &[usize]) -> Result<Vec<u8>, &'static str> {
 }
 
 /// Puts what its damage costs, and answers the totals, or nothing where the sink failed.
-fn put<T: Sink>(
-    alloc: Global,
-    image: &[u8],
-    sink: &mut T,
-) -> Result<Option<Totals>, &'static str> {
+fn put<T: Sink>(alloc: Global, image: &[u8], sink: &mut T) -> Result<Option<Totals>, &'static str> {
     let mounted = mount::<LittleEndian>(alloc, image, GEOMETRY).map_err(|_| "no mount")?;
     match put_damage::<LittleEndian, T>(alloc, &mounted, GEOMETRY, sink) {
         Ok(totals) => Ok(Some(totals)),

@@ -13,6 +13,7 @@
 //! | read its bytes | [`Mounted::read_at`], or [`Mounted::put_bytes`] into a [`Sink`] |
 //! | list a directory | [`Mounted::entries`]; [`Mounted::names`] has the names of all directories |
 //! | know what is damaged | [`Mounted::findings`], [`Mounted::dangling`], [`Mounted::shape`] |
+//! | print what the damage of an image costs | [`put_damage`], of a [`Mounted`] |
 //! | print what `ls`, `cat` and `check` print | [`tree_lines`], [`part_lines`], [`content`], [`scan_lines`], [`verdict_lines`] |
 //! | see each node, with its address | [`scan`], or [`Sightings`] one by one |
 //! | see an image that is larger than memory | [`scan_stream`], [`stream_lines`] |
@@ -40,6 +41,7 @@ pub use jbuild::{Parts, emit, operations};
 pub use jconvert::{
     Apart, ConvertFault, Converted, LeftOut, compress, decompress, decompress_apart, decompressed,
 };
+pub use jdamage::{DamageFault, Totals, put_damage};
 pub use jlisting::{Action, Line, ListingFault, listing};
 pub use jlog::{Applied, Place, RunReport, Session, SessionFault};
 pub use jmount::{FindFault, Kind, MountFault, Mounted, Object, mount};

@@ -2,6 +2,7 @@ pub mod ClashLemmas
 mod CommandLemmas
 mod TakenLemmas
 mod ExtractingLemmas
+pub mod DamageLemmas
 pub mod DecompressingLemmas
 pub mod DiffLemmas
 pub mod WritingLemmas

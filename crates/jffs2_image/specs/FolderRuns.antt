@@ -22,8 +22,8 @@ use Rattle.jffs2_image.specs.declared.folders.Extracted.{Extracted}
 
 -- The command line makes a request, or asks for an extraction, a listing, what an image tells of
 -- itself, what stands after a stop, an image that is compressed, what the trees of two images
--- differ in, an image without nodes that clash, or an image with notes on its weak nodes, and that
--- is done.
+-- differ in, an image without nodes that clash, an image with notes on its weak nodes, or what the
+-- damage of one costs, and that is done.
 abbrev pub RunsTask : List (List ℕ) → (Result Request RequestFault → Type 0) → Type 0 → Type 0
 RunsTask args runs others =
     ((command : Result Request RequestFault) × IsCommand args command × runs command) ⊎ others

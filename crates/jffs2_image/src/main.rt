@@ -11,6 +11,7 @@ ghost use Rattle.std.specs.Vec.Iter.{into_iter_items};
 pub mod clashes;
 pub mod compressing;
 pub mod cuts;
+pub mod damage;
 pub mod decompressing;
 pub mod diff;
 mod folders;

@@ -5,6 +5,7 @@ ghost use Rattle.std.specs.Io.KnownBytes.{Appends};
 ghost use Rattle.jcommand.specs.Parsed.{BuildParsed, AppendParsed, DecompressParsed, options_of, view};
 ghost use Rattle.jreport.specs.Advice.{fault_lines_of};
 ghost use Rattle.jffs2_image.specs.Host.{Blames, BlamesCommand, BlamesDecompress, BlamesFor, HasFailed, MakesFile};
+ghost use Rattle.jffs2_image.specs.DamageRuns.{RunsDamage};
 ghost use Rattle.jffs2_image.specs.DiffRuns.{RunsDiff};
 ghost use Rattle.jffs2_image.specs.FolderRuns.{RunsExtract, RunsListing, RunsTask};
 ghost use Rattle.jffs2_image.specs.Compressing.{RunsCompress};
@@ -18,6 +19,7 @@ ghost use Rattle.jffs2_image.specs.Runs.{IsSaid, Meets, MeetsCommand, MeetsWhole
 use crate::clashes::run_apart;
 use crate::compressing::run_compress;
 use crate::cuts::run_cuts;
+use crate::damage::run_damage;
 use crate::decompressing::{decompress_into, take_file};
 use crate::diff::run_diff;
 use crate::folders::{Folders, run_extract, run_listing};
@@ -478,7 +480,8 @@ pub fn run<L: Loader, M: Maker, D: Folders, T: Output, E: Sink>(
     // The words make a request, whose answer goes out, or are answered by a text; or they ask to
     // fill or to read a folder, for what an image tells of itself, for what stands after a stop of
     // writing one, to compress one, for what the trees of two images differ in, to decompress one
-    // without nodes that clash, or to write one with notes on its weak nodes.
+    // without nodes that clash, to write one with notes on its weak nodes, or for what the damage
+    // of one costs.
     ensures { RunsTask (map (λ w. w.now) args.now)
         (λ command. (ran : RunsCommand (output.new ≡ output.old) (L.told loader.old)
         (M.held maker.old, M.held maker.new) command (T.taken output.old)
@@ -608,7 +611,7 @@ pub fn run<L: Loader, M: Maker, D: Folders, T: Output, E: Sink>(
           before = E.failures errors.old;
           now = E.failures errors.new;
         }) result)
-        ⊎ ((folders.new ≡ folders.old)
+        ⊎ (((folders.new ≡ folders.old)
         × RunsWeak (map (λ w. w.now) args.now)
         (record {
           told = L.told loader.old;
@@ -632,7 +635,26 @@ pub fn run<L: Loader, M: Maker, D: Folders, T: Output, E: Sink>(
           new = E.taken errors.new;
           before = E.failures errors.old;
           now = E.failures errors.new;
-        }) result)))))))) }
+        }) result)
+        ⊎ ((maker.new ≡ maker.old) × (folders.new ≡ folders.old)
+        × RunsDamage (map (λ w. w.now) args.now)
+        (record {
+          told = L.told loader.old;
+          before = L.failures loader.old;
+          now = L.failures loader.new;
+        }) (output.new ≡ output.old)
+        (record {
+          old = T.taken output.old;
+          new = T.given output.new;
+          before = T.failures output.old;
+          now = T.failures output.new;
+        })
+        (record {
+          old = E.taken errors.old;
+          new = E.taken errors.new;
+          before = E.failures errors.old;
+          now = E.failures errors.new;
+        }) result))))))))) }
 {
     match task(alloc, args) {
         Ok(Task::Image(request)) => run_image(alloc, loader, maker, Ok(request), output, errors),
@@ -644,6 +666,7 @@ pub fn run<L: Loader, M: Maker, D: Folders, T: Output, E: Sink>(
         Ok(Task::Compress(asked)) => run_compress(alloc, loader, maker, asked, output, errors),
         Ok(Task::Diff(asked)) => run_diff(alloc, loader, asked, output, errors),
         Ok(Task::Apart(asked)) => run_apart(alloc, loader, maker, asked, output, errors),
+        Ok(Task::Damage(asked)) => run_damage(alloc, loader, asked, output, errors),
         Err(fault) => run_image(alloc, loader, maker, Err(fault), output, errors),
     }
 }

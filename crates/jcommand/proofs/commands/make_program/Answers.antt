@@ -15,4 +15,5 @@ returns c =
     let listing = c.add_subcommand-command-9.ensures _ _ extract c.make_listing.ensures in
     let info = c.add_subcommand-command-10.ensures _ _ listing c.make_info.ensures in
     let cuts = c.add_subcommand-command-11.ensures _ _ info c.make_cuts.ensures in
-    c.add_subcommand.ensures _ _ cuts c.make_diff.ensures
+    let diff = c.add_subcommand-command-12.ensures _ _ cuts c.make_diff.ensures in
+    c.add_subcommand.ensures _ _ diff c.make_damage.ensures

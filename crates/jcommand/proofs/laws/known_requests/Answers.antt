@@ -91,3 +91,7 @@ returns-clause-noted c = refl
 pub returns-clause-extended_and_noted : goal.returns-clause-extended_and_noted
 unfolding clap_on_literals program parsed parsed_from
 returns-clause-extended_and_noted c = refl
+
+pub returns-clause-damaged : goal.returns-clause-damaged
+unfolding clap_on_literals program parsed parsed_from
+returns-clause-damaged c = refl

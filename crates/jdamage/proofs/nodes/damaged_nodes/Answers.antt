@@ -1,14 +1,14 @@
 use Rattle.std.proofs.Common.{ℕ}
 use Rattle.jnode.specs.declared.node.Seen.{Seen}
 use Rattle.jdamage.specs.declared.fields.Stretch.{Stretch}
-use Rattle.jdamage.specs.Fields.{damage_in}
+use Rattle.jdamage.specs.Fields.{damaged_if}
 use Rattle.jdamage.proofs.NodeLemmas.{one_more, none_left}
 use Rattle.jdamage.proofs.nodes.damaged_nodes.Goals as goal
 
 pub loop-addr-preserved : goal.loop-addr-preserved
 loop-addr-preserved g c =
-    one_more (λ (s : ℕ × Seen). damage_in s.0 s.1) _ _ _ _ (c.in-Some.addr, c.in-Some.seen) _ c.loop-addr.invariant c.in-Some.ensures.steps c.in_ok-push_damaged.ensures
+    one_more (λ (s : ℕ × Seen). damaged_if s.0 s.1) _ _ _ _ (c.in-Some.addr, c.in-Some.seen) _ c.loop-addr.invariant c.in-Some.ensures.steps c.in_ok-push_damaged.ensures
 
 pub returns : goal.returns
 returns g c =
-    none_left (λ (s : ℕ × Seen). damage_in s.0 s.1) _ _ _ c.loop-addr.invariant c.in-None.ensures.steps.0
+    none_left (λ (s : ℕ × Seen). damaged_if s.0 s.1) _ _ _ c.loop-addr.invariant c.in-None.ensures.steps.0

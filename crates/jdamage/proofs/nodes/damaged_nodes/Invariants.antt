@@ -4,8 +4,8 @@ use Rattle.jdamage.specs.declared.fields.Stretch.{Stretch}
 use Rattle.std.proofs.Common.{◌≡◌, ◌++◌}
 use Rattle.std.specs.Prelude.{filter_map}
 use Rattle.jscan.specs.SightingsLeft.{sightings_left}
-use Rattle.jdamage.specs.Fields.{damage_in, damaged_nodes}
+use Rattle.jdamage.specs.Fields.{damaged_if, damaged_nodes}
 use Rattle.jdamage.proofs.nodes.damaged_nodes.Given as goal
 
 abbrev pub invariant-loop-addr : goal.invariant-loop-addr
-invariant-loop-addr g l = l.nodes.items ++ filter_map (λ (s : ℕ × Seen). damage_in s.0 s.1) (sightings_left l.addr-iterator) ≡ damaged_nodes g.E.Order.order l.fn.geometry.block l.image
+invariant-loop-addr g l = l.nodes.items ++ filter_map (λ (s : ℕ × Seen). damaged_if s.0 s.1) (sightings_left l.addr-iterator) ≡ damaged_nodes g.E.Order.order l.fn.geometry.block l.image

@@ -1,6 +1,6 @@
 use Rattle.std.proofs.Common.{◌≡◌, arith, List, ℕ, ◌-◌, Some, None, refl, sym, ap, ◌∙◌}
 use Rattle.std.specs.Prelude.{map, reverse, option_map}
-use Rattle.jdamage.specs.Ways.{climbed, names_of, NameOf, first_name}
+use Rattle.jdamage.specs.Ways.{climbed, names_held, NameOf, first_name}
 use Rattle.jdamage.proofs.WayLemmas.{climb_gone, climb_root, climb_nameless, climb_on, climb_none, names_turned, pushed_first}
 use Rattle.jdamage.proofs.ways.climb.Goals as goal
 
@@ -11,8 +11,8 @@ returns-then-not-is_directory c =
 
 pub returns-then-here-eq-ROOT : goal.returns-then-here-eq-ROOT
 returns-then-here-eq-ROOT c =
-    let names = names_of c.loop-left.path in
-    let turned : names_of c.reverse.new.self ≡ reverse names = ap (map (λ n. n.now)) c.reverse.ensures.items ∙ names_turned (λ n. n.now) c.loop-left.path.items in
+    let names = names_held c.loop-left.path in
+    let turned : names_held c.reverse.new.self ≡ reverse names = ap (map (λ n. n.now)) c.reverse.ensures.items ∙ names_turned (λ n. n.now) c.loop-left.path.items in
     ap Some turned
     ∙ sym (climb_root c.args.mounted.now.state c.loop-left.left c.loop-left.here (reverse names) c.loop-left-test.true (sym c.is_directory.ensures ∙ c.if-not-is_directory.false) c.if-here-eq-ROOT.true)
     ∙ c.loop-left.invariant
@@ -28,7 +28,7 @@ loop-left-preserved c =
     let n : NameOf = (c.in-Some.pino, c.in-Some.name.now, c.in-Some.field-0-2) in
     let is : first_name c.args.mounted.now.state c.loop-left.here ≡ Some n = sym c.in-Some.ensures in
     ap (climbed c.args.mounted.now.state (c.loop-left.left - 1) c.in-Some.pino) (pushed_first c.loop-left.path.items c.push.new.self.items c.in-Some.name c.in_ok-push.ensures.items)
-    ∙ sym (climb_on c.args.mounted.now.state c.loop-left.left c.loop-left.here (reverse (names_of c.loop-left.path)) c.loop-left-test.true n (sym c.is_directory.ensures ∙ c.if-not-is_directory.false) c.if-here-eq-ROOT.false is)
+    ∙ sym (climb_on c.args.mounted.now.state c.loop-left.left c.loop-left.here (reverse (names_held c.loop-left.path)) c.loop-left-test.true n (sym c.is_directory.ensures ∙ c.if-not-is_directory.false) c.if-here-eq-ROOT.false is)
     ∙ c.loop-left.invariant
 
 pub returns : goal.returns

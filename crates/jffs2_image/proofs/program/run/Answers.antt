@@ -45,7 +45,7 @@ returns-in-Ok-Apart g c =
 
 pub returns-in-Ok-Weak : goal.returns-in-Ok-Weak
 returns-in-Ok-Weak g c =
-    inr (inr (inr (inr (inr (inr (inr (inr (
+    inr (inr (inr (inr (inr (inr (inr (inr (inl (
       refl,
       record {
         request = c.in-Ok-Weak.request;
@@ -53,7 +53,7 @@ returns-in-Ok-Weak g c =
         faultless = c.in-Ok-Weak.ensures.faultless;
         ends = c.run_weak.ensures;
       },
-    ))))))))
+    )))))))))
 
 pub returns-in-Ok-Extract : goal.returns-in-Ok-Extract
 returns-in-Ok-Extract g c =
@@ -73,3 +73,32 @@ returns-in-Ok-Extract g c =
         ends = c.run_extract.ensures;
       },
     ))
+
+pub returns-in-Ok-Diff : goal.returns-in-Ok-Diff
+returns-in-Ok-Diff g c =
+    inr (inr (inr (inr (inr (inr (inl (
+      refl,
+      refl,
+      record {
+        by = record { options = c.in-Ok-Diff.asked.options; times = c.in-Ok-Diff.asked.times };
+        first = c.in-Ok-Diff.asked.first.now;
+        second = c.in-Ok-Diff.asked.second.now;
+        parsed = search rules;
+        faultless = c.in-Ok-Diff.ensures.faultless;
+        ends = c.run_diff.ensures;
+      },
+    )))))))
+
+pub returns-in-Ok-Damage : goal.returns-in-Ok-Damage
+returns-in-Ok-Damage g c =
+    inr (inr (inr (inr (inr (inr (inr (inr (inr (
+      refl,
+      refl,
+      record {
+        options = c.in-Ok-Damage.asked.options;
+        file = c.in-Ok-Damage.asked.image.now;
+        parsed = search rules;
+        faultless = c.in-Ok-Damage.ensures.faultless;
+        ends = c.run_damage.ensures;
+      },
+    )))))))))

@@ -1,0 +1,91 @@
+-- What a run of the program does that tells what the damage of an image costs.
+use Rattle.std.specs.Prelude.{◌≡◌, ◌⊎◌, ℕ, ◌+◌, ◌-◌, ◌^◌, min, Bool, List, Option, Some, None, Result, Ok, Err}
+use Rattle.jmount.specs.Mount.{Mount}
+use Rattle.jmount.specs.Mounts.{Answers}
+use Rattle.jmount.specs.declared.fault.MountFault.{MountFault}
+use Rattle.jdamage.specs.Damage.{PutsDamage}
+use Rattle.jdamage.specs.declared.fault.DamageFault.{DamageFault}
+use Rattle.jdamage.specs.declared.fault.DamageFault.TheVariants as damage
+use Rattle.jdamage.specs.declared.totals.Totals.{Totals}
+use Rattle.jreport.specs.declared.faults.ProgramFault.{ProgramFault}
+use Rattle.jreport.specs.declared.faults.ProgramFault.TheVariants as program
+use Rattle.jcommand.specs.Parsed.{DamageParsed, IsFaultless, parsed_from}
+use Rattle.jcommand.specs.declared.parsed.Options.{Options}
+use Rattle.jcommand.specs.declared.outcome.Outcome.{Outcome}
+use Rattle.jffs2_image.specs.DiffRuns.{IsBlamedFile, said_after_diff, outcome_of_diff}
+use Rattle.jffs2_image.specs.Host.{AreLoaded}
+use Rattle.jffs2_image.specs.InfoRuns.{FileReads, Passage}
+use Rattle.jffs2_image.specs.Runs.{Finishes, Says, answer_finished}
+
+-- how many damaged nodes and missing objects are told, to the greatest u64, or why not all
+abbrev pub as_told : Result Totals DamageFault → Result ℕ ProgramFault
+as_told (Ok totals) = Ok (min (totals.damaged + totals.missing) (2 ^ 64 - 1))
+as_told (Err damage.Output) = Err program.Output
+as_told (Err damage.OutOfMemory) = Err program.OutOfMemory
+
+-- what the damage of a mount costs is put
+pub record TellsMount (options : Options) (image : List ℕ) (output : Passage)
+    (result : Result ℕ ProgramFault) : Type 0 where
+  pub mount : Mount
+  pub told : Result Totals DamageFault
+  pub of_image : Answers options.endian options.geometry.block image (Ok mount)
+  pub put : PutsDamage options.endian options.geometry.block mount output.old output.new
+      output.before output.now told
+  pub comes_to : result ≡ as_told told
+
+-- The image mounts, and what its damage costs is put; or it does not mount, and nothing is put.
+abbrev pub TellsDamage : Options → List ℕ → Passage → Result ℕ ProgramFault → Type 0
+TellsDamage options image output result =
+    TellsMount options image output result
+    ⊎ ((fault : MountFault) × (result ≡ Err (program.Mount fault))
+    × Answers options.endian options.geometry.block image (Err fault)
+    × (output.new ≡ output.old) × (output.now ≡ output.before))
+
+-- the same, and all that was put is given on
+pub record FinishesDamage (options : Options) (image : List ℕ) (output : Passage)
+    (result : Result ℕ ProgramFault) : Type 0 where
+  pub taken : Option (List ℕ)
+  pub count : ℕ
+  pub answer : Result ℕ ProgramFault
+  pub finished : Bool
+  pub tells : TellsDamage options image (record {
+    old = output.old;
+    new = taken;
+    before = output.before;
+    now = count;
+  }) answer
+  pub finishes : Finishes taken output.new count output.now finished
+  pub comes_to : result ≡ answer_finished answer finished
+
+-- the file was read, and its image is told of; no file failed
+pub record TellsFile (options : Options) (file : List ℕ) (reading : FileReads) (output : Passage)
+    (result : Result ℕ ProgramFault) : Type 0 where
+  pub image : List ℕ
+  pub of_file : AreLoaded (reading.told file) image
+  pub tells : FinishesDamage options image output result
+  pub reads : reading.now ≡ reading.before
+
+-- the same; or it can't be read to its end, and `untouched` holds, the output is as it was
+abbrev pub TellsDamageOfFile : Options → List ℕ → FileReads → Type 0 → Passage
+    → Result ℕ ProgramFault → Type 0
+TellsDamageOfFile options file reading untouched output result =
+    TellsFile options file reading output result
+    ⊎ ((fault : ProgramFault) × (result ≡ Err fault) × IsBlamedFile file reading fault × untouched)
+
+-- The image of a file is told of, and how that ends: damage that was told is found.
+pub record EndsDamage (options : Options) (file : List ℕ) (reading : FileReads)
+    (untouched : Type 0) (output errors : Passage) (result : Outcome) : Type 0 where
+  pub answer : Result ℕ ProgramFault
+  pub tells : TellsDamageOfFile options file reading untouched output answer
+  pub said : Says ((errors.new ≡ errors.old) × (errors.now ≡ errors.before)) errors.old errors.new
+      errors.before errors.now (said_after_diff answer)
+  pub ends : result ≡ outcome_of_diff answer
+
+-- `damage`, of what is given
+pub record RunsDamage (args : List (List ℕ)) (reading : FileReads) (untouched : Type 0)
+    (output errors : Passage) (result : Outcome) : Type 0 where
+  pub options : Options
+  pub file : List ℕ
+  pub parsed : parsed_from args ≡ Some (DamageParsed options file)
+  pub faultless : IsFaultless args
+  pub ends : EndsDamage options file reading untouched output errors result

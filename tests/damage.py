@@ -1,0 +1,128 @@
+#!/usr/bin/env python3
+"""Flips a bit in each byte of small images, and compares what `damage` of the finished program tells with what `diff` tells.
+
+Usage: tests/damage.py [PROGRAM]. Three images, in both orders. Of each byte that is flipped: a node of damaged data hides exactly
+the paths at which `diff` of the two images has a line, or nothing where it has none; a damaged name is told by its fields, as the
+report of the sound image has them; any other damaged node is unknown; what is no part of a node, or was its header, is not told.
+The names without objects are as many as `check` has. The last line is 'N passed, M failed'.
+"""
+import re
+import sys
+
+from groups import PROGRAM, run_all, verdict, write
+
+import subprocess
+
+LISTINGS = (
+    "mkdir 0755 /etc\ncreate 0644 /etc/name\nwrite /etc/name 0 61626364\nwrite /etc/name 2 7879\n"
+    "link /etc/name /etc/n\\x20m\n",
+    "create 0644 /a\nwrite /a 0 0102030405060708\nwrite /a 0 1112\nwrite /a 6 2122232425\n"
+    "symlink a /l\nrename /a /b\n",
+    "mkdir 0700 /d\nmkdir 0700 /d/e\ncreate 0600 /d/e/f\nwrite /d/e/f 3 313233\nremove /d/e/f\n"
+    "create 0640 /g\nattr 0600 1 2 3 4 /g\nwrite /g 0 99\n",
+)
+
+
+def run(*words):
+    return subprocess.run([PROGRAM, *words], stdin=subprocess.DEVNULL, capture_output=True, check=False)
+
+
+def nodes_of(name, options):
+    """The address, the kind, the length and the line of each node of an image, by its report."""
+    nodes = []
+    for line in run("check", "--scan", *options, name).stdout.decode().splitlines():
+        found = re.match(r"([0-9a-f]{8}) (entry|inode) (\d+) (.*)", line)
+        if found:
+            nodes.append((int(found[1], 16), found[2], int(found[3]), found[4]))
+    return nodes
+
+
+def changed_paths(before, after, options):
+    """The paths at which `diff` has a line."""
+    paths = set()
+    for line in run("diff", *options, before, after).stdout.decode().splitlines():
+        if line.startswith("* "):
+            paths.add(line[2:].rpartition(" at ")[0])
+        else:
+            paths.add(line.split(" ")[6])
+    return paths
+
+
+def wanted_of(place, nodes):
+    """What is damaged where this byte is flipped: the node's address, and the check that it fails."""
+    for addr, kind, length, line in nodes:
+        at = place - addr
+        if not 0 <= at < length:
+            continue
+        if at < 12:
+            return None
+        if kind == "inode" and (at >= 68 or 60 <= at < 64):
+            data = int(re.search(r" data (\d+) ", line)[1])
+            return (addr, "data-crc", line) if data else None
+        if kind == "entry" and at >= 36:
+            return (addr, "name-crc", line)
+        return (addr, "node-crc", line)
+    return None
+
+
+def is_right(place, nodes, told, changed):
+    wanted = wanted_of(place, nodes)
+    lines = [line for line in told if not line.startswith(("missing ", "total "))]
+    if wanted is None:
+        return not lines
+    addr, check, fields = wanted
+    if check == "node-crc":
+        return lines == [f"{addr:08x} node-crc unknown"]
+    number = dict(re.findall(r"(pino|version|ino|offset|data) (\d+)", fields))
+    if check == "name-crc":
+        start = f"{addr:08x} name-crc pino {number['pino']} version {number['version']} ino {number['ino']} lost"
+        return len(lines) == 1 and re.fullmatch(re.escape(start) + r"( in /\S*)?", lines[0]) is not None
+    end = int(number["offset"]) + int(number["data"])
+    start = f"{addr:08x} data-crc ino {number['ino']} version {number['version']} bytes {number['offset']} to {end} "
+    if not all(line.startswith(start) for line in lines):
+        return False
+    ends = [line[len(start) :] for line in lines]
+    if ends in (["hides nothing"], ["has no path"]):
+        return not changed
+    return {end.removeprefix("hides ") for end in ends} == changed and len(ends) == len(changed)
+
+
+def flips(number, order):
+    options = ["--block", "8192", "--endian", order]
+    write("listing", LISTINGS[number])
+    done = run("build", "--blocks", "1", *options, "listing", "sound.img")
+    verdict(f"build of image {number}", done.returncode == 0)
+    with open("sound.img", "rb") as file:
+        sound = file.read()
+    nodes = nodes_of("sound.img", options)
+    for place, byte in enumerate(sound):
+        write("flipped.img", sound[:place] + bytes((byte ^ 1 << place % 8,)) + sound[place + 1 :])
+        done = run("damage", *options, "flipped.img")
+        told = done.stdout.decode().splitlines()
+        missing = [line for line in told if line.startswith("missing ")]
+        report = run("check", *options, "flipped.img").stdout.decode().splitlines()
+        dangling = sum(line.startswith("dangling ") for line in report)
+        right = is_right(place, nodes, told, changed_paths("sound.img", "flipped.img", options))
+        counted = len(missing) == dangling and told[-1:] == [total_of(told)]
+        status = done.returncode == (3 if len(told) > 1 else 0) and not done.stderr
+        verdict(f"image {number} {order}, byte {place}: {told}", right and counted and status)
+
+
+def total_of(told):
+    damaged = {line[:8] for line in told if not line.startswith(("missing ", "total "))}
+    paths = sum(" hides /" in line for line in told)
+    missing = sum(line.startswith("missing ") for line in told)
+    return f"total damaged {len(damaged)} paths {paths} missing {missing}"
+
+
+def little_images():
+    flips(0, "little")
+    flips(1, "little")
+
+
+def big_image():
+    flips(2, "big")
+
+
+if __name__ == "__main__":
+    sys.exit(run_all((little_images, big_image)))
