@@ -136,8 +136,7 @@ def what_a_listing_cannot_say():
     if IS_ROOT:
         write("odd/owned", b"")
         os.chown("odd/owned", 65536, 0)
-        os.mknod("odd/device", 0o600 | stat.S_IFCHR, os.makedev(1, 3))
-        wanted |= {b"/owned", b"/device"}
+        wanted.add(b"/owned")
     done = run("listing", "odd")
     told = [line.split(b": ")[0].removeprefix(b"left out ") for line in done.err.splitlines()]
     verdict("what a listing can't say", done.status == 3 and set(told) == wanted and len(told) == len(wanted), done)
@@ -180,6 +179,32 @@ def queues():
     verdict("FIFOs are in the image", done.status == 0 and found == wanted, done)
     sockets = [(words[0], words[1], words[4], words[7]) for words in told if words[0] == b"s"]
     verdict("a socket is", sockets == [(b"s", b"1711", b"0", b"/d/s\\x20x")], done)
+
+
+def devices():
+    """Devices are listed with their numbers, built in both orders, and left out by `extract`."""
+    if not IS_ROOT:
+        return
+    os.makedirs("nodes/d")
+    for name, kind, mode, major, minor in (("a", stat.S_IFCHR, 0o600, 4, 1), ("d/b", stat.S_IFBLK, 0o640, 259, 65537), ("z", stat.S_IFBLK, 0o604, 4095, 1048575)):
+        os.mknod(f"nodes/{name}", kind, os.makedev(major, minor))
+        os.chmod(f"nodes/{name}", mode)
+    done = run("listing", "--owner", "5", "6", "--time", "9", "nodes")
+    lines = [line for line in done.out.split(b"\n") if line.startswith(b"device ")]
+    wanted = [b"device c 600 4 1 /a", b"device b 640 259 65537 /d/b", b"device b 604 4095 1048575 /z"]
+    verdict("devices are listed", done.status == 0 and done.err == b"" and lines == wanted, done)
+    write("nodes.txt", done.out)
+    for order in ("little", "big"):
+        done = run("build", "--endian", order, "--blocks", "1", "nodes.txt", "nodes.img")
+        verdict(f"they are built, {order}", done.status == 0, done)
+        done = run("ls", "--endian", order, "nodes.img")
+        told = [line.split(b" ") for line in done.out.splitlines()]
+        found = [(words[0], words[1], words[2:5], words[7]) for words in told if words[0] in (b"b", b"c")]
+        wanted = [(b"c", b"0600", [b"5", b"6", b"0"], b"/a"), (b"b", b"0640", [b"5", b"6", b"0"], b"/d/b"), (b"b", b"0604", [b"5", b"6", b"0"], b"/z")]
+        verdict(f"they are in the image, {order}", done.status == 0 and found == wanted, done)
+    done = run("extract", "--endian", "big", "nodes.img", "nodes.out")
+    lines = [b"left out /a: character device", b"left out /d/b: block device", b"left out /z: block device"]
+    verdict("they are left out by extract", done.status == 3 and done.err.splitlines()[:3] == lines, done)
 
 
 def any_name():
@@ -603,6 +628,7 @@ GROUPS = (
     with_settings,
     what_a_listing_cannot_say,
     queues,
+    devices,
     any_name,
     owners_and_times,
     on_two_file_systems,

@@ -36,9 +36,10 @@ def can_come_back(path, limit):
 
 
 def is_built(path, limit):
-    """Whether an object is a FIFO or a socket that `listing` and `build` take, and `extract` leaves out."""
+    """Whether an object is a device, a FIFO or a socket that `listing` and `build` take, and `extract` leaves out."""
     is_ = os.lstat(path)
-    return is_text(os.path.basename(path)) and stat.S_IFMT(is_.st_mode) in (stat.S_IFIFO, stat.S_IFSOCK) and max(is_.st_uid, is_.st_gid) <= limit
+    kinds = (stat.S_IFCHR, stat.S_IFBLK, stat.S_IFIFO, stat.S_IFSOCK)
+    return is_text(os.path.basename(path)) and stat.S_IFMT(is_.st_mode) in kinds and max(is_.st_uid, is_.st_gid) <= limit
 
 
 def built_below(top, limit):
@@ -73,6 +74,13 @@ def facts(top, limit=1 << 32):
     return found, lost
 
 
+def devices(top):
+    """The devices below a folder: of each path kind, permissions, owner and number."""
+    paths = [os.path.join(folder, name) for folder, _, names in os.walk(top) for name in names]
+    found = {os.path.relpath(path, top): os.lstat(path) for path in paths}
+    return {path: (is_.st_mode, is_.st_uid, is_.st_gid, is_.st_rdev) for path, is_ in found.items() if stat.S_ISCHR(is_.st_mode) or stat.S_ISBLK(is_.st_mode)}
+
+
 def differences(got, wanted):
     """Where two folders differ."""
     return [f"{path!r}: {got.get(path)!r:.120}, wanted {wanted.get(path)!r:.120}" for path in sorted(got.keys() | wanted.keys()) if got.get(path) != wanted.get(path)]
@@ -98,7 +106,7 @@ def extracted(what, words, image, new, wanted, lost):
 
 
 def there_and_back(folder, place):
-    """A folder by `listing`, `build` and `extract` is the folder, but for what a listing can't say, and FIFOs and sockets."""
+    """A folder by `listing`, `build` and `extract` is the folder, but for what a listing can't say, and devices, FIFOs and sockets."""
     wanted, lost = facts(folder, 65535)
     built = built_below(folder, 65535)
     listing, image = os.path.join(place, "folder.txt"), os.path.join(place, "folder.img")

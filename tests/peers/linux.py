@@ -365,6 +365,8 @@ def judge(given, got, sources):
         if name in sources:
             wanted, seen = (without_times(folders.facts(top, 65535)[0]) for top in (sources[name], folder.encode()))
             test(f"{what}: Linux shows the folder", folders.differences(seen, wanted))
+            seen, wanted = (folders.devices(top) for top in (folder.encode(), sources[name]))
+            test(f"{what}: Linux shows {len(wanted)} devices", folders.differences(seen, wanted))
     print(f"{len(clashed)} images clash: {' '.join(clashed)}")
     print(f"{len(others)} trees have a directory whose time is another in `ls` than in Linux: {' '.join(others)}")
     for line, count in counts.most_common():

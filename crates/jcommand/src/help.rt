@@ -376,13 +376,14 @@ folder has one listing, which can be edited and kept. The content of a file is
 not in it: a line 'file' names the file, from the working directory where DIR is
 no path from /.
 
-Hard links become lines 'link', FIFOs and sockets lines 'fifo' and 'socket'.
+Hard links become lines 'link', and devices, FIFOs and sockets lines 'device',
+'fifo' and 'socket'.
 Symlinks are never followed. --owner and --time take the place of those of the
 folder: with them the listing is the same whoever makes it and whenever. What a
 listing can't say is left out, each with a line 'left out PATH: REASON' on
-standard error: devices, names above 254 bytes or that are no text, files above
-268435456 bytes, owners above 65535 and times that 32 bits do not hold. The rest
-goes on.
+standard error: names above 254 bytes or that are no text, files above 268435456
+bytes, owners above 65535, times that 32 bits do not hold and devices above 4095
+and 1048575. The rest goes on.
 
 Examples:
   jffs2_image listing tree > tree.txt

@@ -131,6 +131,8 @@ opens known path what.Directory (Some names) fit = record {
 opens known path what.Directory None fit = absurd fit
 opens known path (what.Regular file) (Some names) fit = absurd fit
 opens known path (what.Regular file) None fit = record { opened = []; each = refl; told = All-nil (IsNamed known); gives = refl }
+opens known path (what.Device device major minor) (Some names) fit = absurd fit
+opens known path (what.Device device major minor) None fit = record { opened = []; each = refl; told = All-nil (IsNamed known); gives = refl }
 opens known path what.Fifo (Some names) fit = absurd fit
 opens known path what.Fifo None fit = record { opened = []; each = refl; told = All-nil (IsNamed known); gives = refl }
 opens known path what.Socket (Some names) fit = absurd fit

@@ -9,13 +9,14 @@ use Rattle.std.proofs.lemmas.List.Elements.{All-head, All-tail}
 use Rattle.std.proofs.lemmas.Bool.Decides.{nat_tests}
 use Rattle.std.proofs.lemmas.Str.{IsUtf8-string_bytes, is_utf8-from_IsUtf8}
 use Rattle.jline.specs.Words.{octal, word_of}
+use Rattle.jsteps.specs.declared.device.DeviceKind.{DeviceKind}
 use Rattle.jsteps.specs.declared.op.Op.TheVariants as op
 use Rattle.jword.specs.Words.{◌>>=◌}
 use Rattle.jlisting.specs.Listing.{lines_in, lines_of, six_operands, statement_of_words, operation, owner_word, number}
 use Rattle.jlisting.specs.declared.line.Action.{Action}
 use Rattle.jlisting.specs.declared.line.Action.TheVariants as action
 use Rattle.jlisting.specs.declared.statement.Statement.TheVariants as kind
-use Rattle.jfolder.specs.Text.{is_link, item_words, items_words, words_line, lines_text, listing_text, object_words, owner_words, root_words, settings_of_root, settings_with, time_words}
+use Rattle.jfolder.specs.Text.{device_letter, is_link, item_words, items_words, words_line, lines_text, listing_text, object_words, owner_words, root_words, settings_of_root, settings_with, time_words}
 use Rattle.jfolder.specs.Actions.{AttributesFit, IsRooted, ItemFits, WhatFits, actions_of, item_actions, object_actions}
 use Rattle.jfolder.specs.Laws.{ListingIsReadBack}
 use Rattle.jfolder.specs.declared.settings.Settings.{Settings}
@@ -26,7 +27,7 @@ use Rattle.jfolder.specs.declared.tree.What.TheVariants as what
 use Rattle.jfolder.proofs.SeenLemmas.{IsPlain, text_bytes}
 use Rattle.jfolder.proofs.WordLemmas.{mode_read_back, name_read_back, number_read_back, owner_read_back}
 use Rattle.jfolder.proofs.LineLemmas.{Reads, reads_nothing}
-use Rattle.jfolder.proofs.ReadLemmas.{IsText, Set, decimal_plain, fifo_means, file_means, lines_append, link_means, mkdir_means, mode_plain, none_plain, owner_means, path_plain, socket_means, symlink_means, then_action, then_settings, time_means, verb_plain, with}
+use Rattle.jfolder.proofs.ReadLemmas.{IsText, Set, decimal_plain, device_means, device_plain, fifo_means, file_means, lines_append, link_means, mkdir_means, mode_plain, none_plain, owner_means, path_plain, socket_means, symlink_means, then_action, then_settings, time_means, verb_plain, with}
 
 four_plain : (v w x y : List ℕ) → IsPlain v → IsPlain w → IsPlain x → IsPlain y → All IsPlain (v ∷ w ∷ x ∷ y ∷ [])
 four_plain v w x y a b c d = with v (w ∷ x ∷ y ∷ []) a (with w (x ∷ y ∷ []) b (with x (y ∷ []) c (with y [] d none_plain)))
@@ -53,6 +54,17 @@ reads_directory : (path : List ℕ) (a : Attributes) (rest : List ℕ) (actions 
 reads_directory path a rest actions fit is next =
     then_action (set_of a) 109 (codes "kdir") (octal a.mode ∷ word_of path ∷ []) [] rest (action.Op (op.Mkdir a.time path a.mode a.uid a.gid)) actions refl
     (moded_plain (codes "mkdir") a.mode path (verb_plain (codes "mkdir") refl) fit.mode) (mkdir_means (set_of a) a.mode path fit.mode is) next
+
+reads_device : (path : List ℕ) (a : Attributes) (device : DeviceKind) (major minor : ℕ) (rest : List ℕ) (actions : List Action) → AttributesFit a → major ≤ 4095 → minor ≤ 1048575 → IsText path
+    → Reads (set_of a) rest actions → Reads (set_of a) (lines_text (object_words path a (what.Device device major minor)) ++ rest) (object_actions path a (what.Device device major minor) ++ actions)
+reads_device path a device major minor rest actions fit low small is next =
+    let numbers = with (decimal major) (decimal minor ∷ word_of path ∷ []) (decimal_plain major (omega arith))
+    (with (decimal minor) (word_of path ∷ []) (decimal_plain minor (omega arith)) (with (word_of path) [] (path_plain path) none_plain)) in
+    then_action (set_of a) 100 (codes "evice") (device_letter device ∷ octal a.mode ∷ decimal major ∷ decimal minor ∷ word_of path ∷ []) [] rest (action.Device a.time path device a.mode a.uid a.gid major minor) actions refl
+    (with (codes "device") (device_letter device ∷ octal a.mode ∷ decimal major ∷ decimal minor ∷ word_of path ∷ []) (verb_plain (codes "device") refl)
+    (with (device_letter device) (octal a.mode ∷ decimal major ∷ decimal minor ∷ word_of path ∷ []) (device_plain device)
+    (with (octal a.mode) (decimal major ∷ decimal minor ∷ word_of path ∷ []) (mode_plain a.mode fit.mode) numbers)))
+    (device_means (set_of a) device a.mode major minor path fit.mode low small is) next
 
 reads_fifo : (path : List ℕ) (a : Attributes) (rest : List ℕ) (actions : List Action) → AttributesFit a → IsText path → Reads (set_of a) rest actions
     → Reads (set_of a) (lines_text (object_words path a what.Fifo) ++ rest) (object_actions path a what.Fifo ++ actions)
@@ -153,6 +165,9 @@ reads_item s i rest actions fits next = by i.what fits.what next
         reads_owned s i.attributes (object_words (string_bytes i.path) i.attributes (what.Regular file)) rest _ fits.attributes
         (reads_file (set_of i.attributes) i.attributes.mode (string_bytes i.path) (string_bytes file) rest actions fits.attributes.mode path
         (utf8_text (string_bytes file) (IsUtf8-string_bytes file) fit) (IsUtf8-string_bytes file) next)
+    by (what.Device device major minor) fit next =
+        reads_owned s i.attributes (object_words (string_bytes i.path) i.attributes (what.Device device major minor)) rest _ fits.attributes
+        (reads_device (string_bytes i.path) i.attributes device major minor rest actions fits.attributes fit.0 fit.1 path next)
     by what.Fifo fit next =
         reads_owned s i.attributes (object_words (string_bytes i.path) i.attributes what.Fifo) rest _ fits.attributes
         (reads_fifo (string_bytes i.path) i.attributes rest actions fits.attributes path next)

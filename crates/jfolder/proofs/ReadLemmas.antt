@@ -6,17 +6,19 @@ use Rattle.std.proofs.lemmas.Grind.{flat_map-append}
 use Rattle.std.proofs.lemmas.List.Elements.{All-nil, All-cons}
 use Rattle.std.proofs.lemmas.Bool.Decides.{nat_tests}
 use Rattle.jline.specs.Words.{octal, word_of}
+use Rattle.jsteps.specs.declared.device.DeviceKind.{DeviceKind}
+use Rattle.jsteps.specs.declared.device.DeviceKind.TheVariants.{Character, Block}
 use Rattle.jsteps.specs.declared.op.Op.TheVariants as op
 use Rattle.jword.specs.Words.{◌>>=◌}
-use Rattle.jlisting.specs.Listing.{one_operand, operation, owner_word, statement_of_words, three_operands, two_operands}
-use Rattle.jlisting.specs.Words.{escaped_name_of, text_of}
+use Rattle.jlisting.specs.Listing.{five_operands, major_word, minor_word, one_operand, operation, owner_word, statement_of_words, three_operands, two_operands}
+use Rattle.jlisting.specs.Words.{device_kind_of, escaped_name_of, mode_of, text_of}
 use Rattle.jlisting.specs.declared.line.Action.{Action}
 use Rattle.jlisting.specs.declared.line.Action.TheVariants as action
 use Rattle.jlisting.specs.declared.statement.Settings as theirs
 use Rattle.jlisting.specs.declared.statement.Statement.TheVariants as kind
-use Rattle.jfolder.specs.Text.{words_line, lines_text}
+use Rattle.jfolder.specs.Text.{device_letter, words_line, lines_text}
 use Rattle.jfolder.proofs.SeenLemmas.{IsByte, IsPlain, IsSeen, Seen, decimal_seen, octal_seen, seen_plain, word_of_seen}
-use Rattle.jfolder.proofs.WordLemmas.{mode_read_back, number_read_back, owner_read_back, text_read_back}
+use Rattle.jfolder.proofs.WordLemmas.{major_read_back, minor_read_back, mode_read_back, number_read_back, owner_read_back, text_read_back}
 use Rattle.jfolder.proofs.LineLemmas.{Reads, reads_action, reads_settings}
 
 abbrev pub Set : Type 0
@@ -131,6 +133,27 @@ unfolding two_operands
 socket_means s mode path fits is =
     ap (λ (o : Option ℕ). o >>= λ mode. text_of (word_of path) >>= λ path. operation (op.Socket s.time path mode s.uid s.gid)) (mode_read_back mode fits)
     ∙ ap (λ (o : Option (List ℕ)). o >>= λ path. operation (op.Socket s.time path mode s.uid s.gid)) (text_read path is)
+
+device_read_back : (device : DeviceKind) → device_kind_of (device_letter device) ≡ Some device
+device_read_back Character = refl
+device_read_back Block = refl
+
+pub device_means : (s : Set) (device : DeviceKind) (mode major minor : ℕ) (path : List ℕ) → mode ≤ 0o7777 → major ≤ 4095 → minor ≤ 1048575 → IsText path
+    → statement_of_words s (codes "device" ∷ device_letter device ∷ octal mode ∷ decimal major ∷ decimal minor ∷ word_of path ∷ []) ≡ Some (kind.Action (action.Device s.time path device mode s.uid s.gid major minor))
+unfolding five_operands
+device_means s device mode major minor path fits low small is =
+    ap (λ (o : Option DeviceKind). o >>= λ device. mode_of (octal mode) >>= λ mode. major_word (decimal major) >>= λ major. minor_word (decimal minor) >>= λ minor. text_of (word_of path) >>= λ path.
+    Some (kind.Action (action.Device s.time path device mode s.uid s.gid major minor))) (device_read_back device)
+    ∙ ap (λ (o : Option ℕ). o >>= λ mode. major_word (decimal major) >>= λ major. minor_word (decimal minor) >>= λ minor. text_of (word_of path) >>= λ path.
+    Some (kind.Action (action.Device s.time path device mode s.uid s.gid major minor))) (mode_read_back mode fits)
+    ∙ ap (λ (o : Option ℕ). o >>= λ major. minor_word (decimal minor) >>= λ minor. text_of (word_of path) >>= λ path.
+    Some (kind.Action (action.Device s.time path device mode s.uid s.gid major minor))) (major_read_back major low)
+    ∙ ap (λ (o : Option ℕ). o >>= λ minor. text_of (word_of path) >>= λ path. Some (kind.Action (action.Device s.time path device mode s.uid s.gid major minor))) (minor_read_back minor small)
+    ∙ ap (λ (o : Option (List ℕ)). o >>= λ path. Some (kind.Action (action.Device s.time path device mode s.uid s.gid major minor))) (text_read path is)
+
+pub device_plain : (device : DeviceKind) → IsPlain (device_letter device)
+device_plain Character = verb_plain (codes "c") refl
+device_plain Block = verb_plain (codes "b") refl
 
 pub file_means : (s : Set) (mode : ℕ) (path file : List ℕ) → mode ≤ 0o7777 → IsText path → escaped_name_of (word_of file) ≡ Some file
     → statement_of_words s (codes "file" ∷ octal mode ∷ word_of path ∷ word_of file ∷ []) ≡ Some (kind.Action (action.File s.time path mode s.uid s.gid file))

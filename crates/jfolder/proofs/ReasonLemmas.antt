@@ -107,6 +107,7 @@ unlisted_right : (known : Known) (options : Options) (items : List Item) (path :
 unlisted_right known options items path w None left fit unlisted = absurd unlisted
 unlisted_right known options items path what.Directory (Some names) left fit unlisted = inl (path, named_of names, fit, unlisted)
 unlisted_right known options items path (what.Regular file) (Some names) left fit unlisted = absurd fit
+unlisted_right known options items path (what.Device device major minor) (Some names) left fit unlisted = absurd fit
 unlisted_right known options items path what.Fifo (Some names) left fit unlisted = absurd fit
 unlisted_right known options items path what.Socket (Some names) left fit unlisted = absurd fit
 unlisted_right known options items path (what.Symlink target) (Some names) left fit unlisted = absurd fit

@@ -71,6 +71,7 @@ directory_more before more way has = ⊎_elim (λ root. inl root) (λ there. inr
 pub links_more : (before more : List Item) (w : What) → LinksBack before w → LinksBack (before ++ more) w
 links_more before more what.Directory back = tt
 links_more before more (what.Regular file) back = tt
+links_more before more (what.Device device major minor) back = tt
 links_more before more what.Fifo back = tt
 links_more before more what.Socket back = tt
 links_more before more (what.Symlink target) back = tt

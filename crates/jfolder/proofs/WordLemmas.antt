@@ -34,6 +34,12 @@ text_read_back bytes all some = read_of_some (word_of bytes) (unescaped (word_of
 pub number_read_back : (n : ℕ) → n < 2 ^ 32 → decimal_of 4294967295 (decimal n) ≡ Some n
 number_read_back n small = decimals_are_read_back 4294967295 n (omega arith) (omega arith)
 
+pub major_read_back : (n : ℕ) → n ≤ 4095 → decimal_of 4095 (decimal n) ≡ Some n
+major_read_back n fits = decimals_are_read_back 4095 n fits (omega arith)
+
+pub minor_read_back : (n : ℕ) → n ≤ 1048575 → decimal_of 1048575 (decimal n) ≡ Some n
+minor_read_back n fits = decimals_are_read_back 1048575 n fits (omega arith)
+
 pub owner_read_back : (n : ℕ) → n < 2 ^ 16 → decimal_of 65535 (decimal n) ≡ Some n
 owner_read_back n small = decimals_are_read_back 65535 n (omega arith) (omega arith)
 

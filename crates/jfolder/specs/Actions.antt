@@ -16,6 +16,8 @@ abbrev pub object_actions : List ℕ → Attributes → What → List Action
 object_actions path a what.Directory = action.Op (op.Mkdir a.time path a.mode a.uid a.gid) ∷ []
 object_actions path a (what.Regular file) =
     action.File a.time path a.mode a.uid a.gid (string_bytes file) ∷ []
+object_actions path a (what.Device device major minor) =
+    action.Device a.time path device a.mode a.uid a.gid major minor ∷ []
 object_actions path a what.Fifo = action.Op (op.Fifo a.time path a.mode a.uid a.gid) ∷ []
 object_actions path a what.Socket = action.Op (op.Socket a.time path a.mode a.uid a.gid) ∷ []
 object_actions path a (what.Symlink target) =
@@ -48,10 +50,12 @@ pub record AttributesFit (a : Attributes) : Type 0 where
 abbrev pub IsRooted : List ℕ → Type 0
 IsRooted path = slice_get path 0 ≡ Some 47
 
--- the name of a file of the host and the target of a symlink are words, which are not empty
+-- the name of a file of the host and the target of a symlink are words, which are not empty, and a
+-- device has numbers of 12 and of 20 bits
 abbrev pub WhatFits : What → Type 0
 WhatFits what.Directory = Unit {0}
 WhatFits (what.Regular file) = 0 < length (string_bytes file)
+WhatFits (what.Device device major minor) = (major ≤ 4095) × (minor ≤ 1048575)
 WhatFits what.Fifo = Unit {0}
 WhatFits what.Socket = Unit {0}
 WhatFits (what.Symlink target) = 0 < length (string_bytes target)

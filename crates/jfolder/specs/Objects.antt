@@ -1,6 +1,8 @@
 -- What an object is, by what the host tells of it.
-use Rattle.std.specs.Prelude.{◌≡◌, ◌≤◌, ◌/◌, ◌%◌, ◌^◌, ℕ, true, List, IfSome, ⊤}
+use Rattle.std.specs.Prelude.{◌≡◌, ◌≤◌, ◌<◌, ◌+◌, ◌*◌, ◌/◌, ◌%◌, ◌^◌, ◌⊎◌, ℕ, true, List, IfSome, ⊤}
 use Rattle.std.specs.String.{string_bytes}
+use Rattle.jsteps.specs.declared.device.DeviceKind.{DeviceKind}
+use Rattle.jsteps.specs.declared.device.DeviceKind.TheVariants.{Character, Block}
 use Rattle.jfolder.specs.Known.{Known, MayAnswer, inside}
 use Rattle.jfolder.specs.declared.found.HostKind.{HostKind}
 use Rattle.jfolder.specs.declared.found.HostKind.TheVariants as kind
@@ -19,12 +21,32 @@ kind_number kind.Regular = 8
 kind_number kind.Fifo = 1
 kind_number kind.Socket = 12
 kind_number kind.Symlink = 10
+kind_number kind.Character = 2
+kind_number kind.Block = 6
 
--- the kind that the host tells; a link is a name of a regular file, and `build` takes no file of
--- more than 256 MiB
+abbrev pub device_bits : DeviceKind → ℕ
+device_bits Character = 2
+device_bits Block = 6
+
+-- the two numbers of a device in the one that the host tells (glibc, bits/sysmacros.h,
+-- gnu_dev_major and gnu_dev_minor)
+abbrev pub major_of : ℕ → ℕ
+major_of number = number / 2 ^ 8 % 2 ^ 12 + number / 2 ^ 44 * 2 ^ 12
+
+abbrev pub minor_of : ℕ → ℕ
+minor_of number = number % 2 ^ 8 + number / 2 ^ 20 % 2 ^ 24 * 2 ^ 8
+
+-- they are above those that an image can have
+abbrev pub IsWide : ℕ → Type 0
+IsWide number = (4095 < major_of number) ⊎ (1048575 < minor_of number)
+
+-- the kind that the host tells, and the numbers of a device; a link is a name of a regular file,
+-- and `build` takes no file of more than 256 MiB
 abbrev pub IsOfKind : Looked → What → Type 0
 IsOfKind told what.Directory = kind_bits told.mode ≡ 4
 IsOfKind told (what.Regular file) = (kind_bits told.mode ≡ 8) × (told.size ≤ 268435456)
+IsOfKind told (what.Device device major minor) = (kind_bits told.mode ≡ device_bits device)
+    × (major_of told.special ≡ major) × (minor_of told.special ≡ minor)
 IsOfKind told what.Fifo = kind_bits told.mode ≡ 1
 IsOfKind told what.Socket = kind_bits told.mode ≡ 12
 IsOfKind told (what.Symlink target) = kind_bits told.mode ≡ 10

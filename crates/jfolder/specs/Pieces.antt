@@ -2,7 +2,8 @@
 use Rattle.std.specs.Prelude.{ℕ, List, [], ◌∷◌, codes, decimal, if◌then◌else◌}
 use Rattle.std.specs.List.{flat_map}
 use Rattle.jline.specs.Words.{octal, word_of}
-use Rattle.jfolder.specs.Text.{is_link, words_line, lines_text, owner_words}
+use Rattle.jsteps.specs.declared.device.DeviceKind.{DeviceKind}
+use Rattle.jfolder.specs.Text.{device_letter, is_link, words_line, lines_text, owner_words}
 use Rattle.jfolder.specs.declared.settings.Settings.{Settings}
 use Rattle.jfolder.specs.declared.tree.Item.{Item}
 use Rattle.jfolder.specs.declared.words.Piece.{Piece}
@@ -28,6 +29,11 @@ paths_line verb first second = words_line (verb ∷ word_of first ∷ word_of se
 abbrev pub file_text : ℕ → List ℕ → List ℕ → List ℕ
 file_text mode path file =
     words_line (codes "file" ∷ octal mode ∷ word_of path ∷ word_of file ∷ [])
+
+abbrev pub device_text : DeviceKind → ℕ → ℕ → ℕ → List ℕ → List ℕ
+device_text device mode major minor path =
+    words_line (codes "device" ∷ device_letter device ∷ octal mode ∷ decimal major ∷ decimal minor
+    ∷ word_of path ∷ [])
 
 -- the owner of an item, which a link has already
 abbrev pub own_owner_text : Settings → Item → List ℕ

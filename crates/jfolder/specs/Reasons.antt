@@ -3,7 +3,7 @@ use Rattle.std.specs.Prelude.{◌≡◌, ◌≢◌, ◌≤◌, ◌<◌, ◌^◌,
 use Rattle.jmount.specs.Find.{is_name}
 use Rattle.jfolder.specs.Complete.{IsNamed, LeftOut, child, item_paths}
 use Rattle.jfolder.specs.Known.{Known, MayAnswer, Named, inside, named_of}
-use Rattle.jfolder.specs.Objects.{kind_bits, kind_number}
+use Rattle.jfolder.specs.Objects.{IsWide, kind_bits, kind_number}
 use Rattle.jfolder.specs.declared.fault.FolderFault.{FolderFault}
 use Rattle.jfolder.specs.declared.fault.FolderFault.TheVariants as folder
 use Rattle.jfolder.specs.declared.found.HostKind.{HostKind}
@@ -73,8 +73,6 @@ IsRefusal says _ = ⊥
 -- ---- what an object is
 
 abbrev pub IsKindWhy : ℕ → Reason → Type 0
-IsKindWhy kind reason.CharacterDevice = kind ≡ 2
-IsKindWhy kind reason.BlockDevice = kind ≡ 6
 IsKindWhy kind reason.UnknownKind = All (λ k. kind ≢ k) (1 ∷ 2 ∷ 4 ∷ 6 ∷ 8 ∷ 10 ∷ 12 ∷ [])
 IsKindWhy kind _ = ⊥
 
@@ -103,11 +101,17 @@ IsTargetWhy known path reason.Target = IfSome (known.target path)
     (λ told. 0 < length told → length told ≤ 4095 → All (λ b. b ≢ 0) told → ⊥)
 IsTargetWhy known path why = IsRefusal (known.target path ≡ None) why
 
+-- the numbers of a device are too large
+abbrev pub IsDeviceWhy : Looked → Reason → Type 0
+IsDeviceWhy told reason.CharacterDevice = (kind_bits told.mode ≡ 2) × IsWide told.special
+IsDeviceWhy told reason.BlockDevice = (kind_bits told.mode ≡ 6) × IsWide told.special
+IsDeviceWhy told _ = ⊥
+
 abbrev pub IsObjectWhy : Known → List ℕ → Looked → Reason → Type 0
 IsObjectWhy known path told why =
     ((kind_bits told.mode ≡ 4) × IsRefusal (known.names path ≡ None) why)
     ⊎ (((kind_bits told.mode ≡ 8) × IsFileWhy known path told.size why)
-    ⊎ ((kind_bits told.mode ≡ 10) × IsTargetWhy known path why))
+    ⊎ (((kind_bits told.mode ≡ 10) × IsTargetWhy known path why) ⊎ IsDeviceWhy told why))
 
 -- of an object of which this is told
 abbrev pub IsWhy : Known → Options → List ℕ → Looked → Reason → Type 0

@@ -3,6 +3,8 @@ use Rattle.std.specs.Prelude.{ℕ, ◌==◌, ◌&&◌, Bool, true, false, List, 
 use Rattle.std.specs.List.{flat_map}
 use Rattle.std.specs.String.{string_bytes}
 use Rattle.jline.specs.Words.{octal, word_of}
+use Rattle.jsteps.specs.declared.device.DeviceKind.{DeviceKind}
+use Rattle.jsteps.specs.declared.device.DeviceKind.TheVariants.{Character, Block}
 use Rattle.jfolder.specs.declared.settings.Settings.{Settings}
 use Rattle.jfolder.specs.declared.tree.Attributes.{Attributes}
 use Rattle.jfolder.specs.declared.tree.Item.{Item}
@@ -25,11 +27,18 @@ abbrev pub owner_words : Settings → Attributes → List (List (List ℕ))
 owner_words s a = if (a.uid == s.uid)
     && (a.gid == s.gid) then [] else (codes "owner" ∷ decimal a.uid ∷ decimal a.gid ∷ []) ∷ []
 
+abbrev pub device_letter : DeviceKind → List ℕ
+device_letter Character = codes "c"
+device_letter Block = codes "b"
+
 -- what makes an object, after its settings
 abbrev pub object_words : List ℕ → Attributes → What → List (List (List ℕ))
 object_words path a what.Directory = (codes "mkdir" ∷ octal a.mode ∷ word_of path ∷ []) ∷ []
 object_words path a (what.Regular file) =
     (codes "file" ∷ octal a.mode ∷ word_of path ∷ word_of (string_bytes file) ∷ []) ∷ []
+object_words path a (what.Device device major minor) =
+    (codes "device" ∷ device_letter device ∷ octal a.mode ∷ decimal major ∷ decimal minor
+    ∷ word_of path ∷ []) ∷ []
 object_words path a what.Fifo = (codes "fifo" ∷ octal a.mode ∷ word_of path ∷ []) ∷ []
 object_words path a what.Socket = (codes "socket" ∷ octal a.mode ∷ word_of path ∷ []) ∷ []
 object_words path a (what.Symlink target) =

@@ -1,12 +1,13 @@
 //! What lies at a path of a folder of the host.
 
-ghost use Rattle.std.specs.Prelude.{◌≡◌, ◌≤◌, ◌<◌, [], length, pos, IfErr, IfNone, IfOk, IfSome, IsSome};
+ghost use Rattle.std.specs.Prelude.{◌≡◌, ◌≤◌, ◌<◌, ℕ, List, Option, None, [], length, pos, IfErr, IfNone, IfOk, IfSome, IsSome};
 ghost use Rattle.std.specs.String.{string_bytes};
 ghost use Rattle.jfolder.specs.Actions.{AttributesFit, WhatFits};
 ghost use Rattle.jfolder.specs.Complete.{NamesFit};
 ghost use Rattle.jfolder.specs.Links.{IsIdentity};
-ghost use Rattle.jfolder.specs.Objects.{HasObject, IsOfKind, HasHostFile, kind_bits, kind_number};
-ghost use Rattle.jfolder.specs.Reasons.{IsAttributesWhy, IsFileWhy, IsKindWhy, IsNoDirectory, IsObjectWhy, IsTargetWhy, IsWhy, SkipsFor};
+ghost use Rattle.jfolder.specs.Known.{Known, Named};
+ghost use Rattle.jfolder.specs.Objects.{HasObject, IsOfKind, IsWide, HasHostFile, device_bits, kind_bits, kind_number, major_of, minor_of};
+ghost use Rattle.jfolder.specs.Reasons.{IsAttributesWhy, IsDeviceWhy, IsFileWhy, IsKindWhy, IsNoDirectory, IsObjectWhy, IsTargetWhy, IsWhy, SkipsFor};
 ghost use Rattle.jfolder.specs.Trees.{HasTarget, LinksBack};
 ghost use Rattle.jfolder.specs.Walking.{FoundFits, HasOptions, IsTold};
 
@@ -14,6 +15,7 @@ use crate::fault::FolderFault;
 use crate::host::{HostFolder, Looked, Names};
 use crate::reason::Reason;
 use crate::tree::{Attributes, What};
+use jsteps::DeviceKind;
 use std::alloc::{AllocError, AllocFailed};
 
 /// The most bytes of a regular file: `build` takes no file of more.
@@ -96,6 +98,8 @@ pub enum HostKind {
     Fifo,
     Socket,
     Symlink,
+    Character,
+    Block,
 }
 
 /// The kind that bits 12 to 15 of a mode say.
@@ -109,8 +113,8 @@ pub fn kind_of(mode: u32) -> Result<HostKind, Reason>
         1 => Ok(HostKind::Fifo),
         12 => Ok(HostKind::Socket),
         10 => Ok(HostKind::Symlink),
-        2 => Err(Reason::CharacterDevice),
-        6 => Err(Reason::BlockDevice),
+        2 => Ok(HostKind::Character),
+        6 => Ok(HostKind::Block),
         _ => Err(Reason::UnknownKind),
     }
 }
@@ -215,6 +219,21 @@ fn target_of<F: HostFolder>(folder: &mut F, path: &str) -> Result<String, Skip>
     Ok(target)
 }
 
+/// The two numbers of a device in the one that the host tells, where an image can have them.
+fn numbers_of(number: u64) -> Option<(u16, u32)>
+    ensures numbers { IfSome result
+        (λ two. (major_of number ≡ two.0) × (minor_of number ≡ two.1)) }
+    ensures limits { IfSome result (λ two. (two.0 ≤ 4095) × (two.1 ≤ 1048575)) }
+    ensures wide { IfNone result (IsWide number) }
+{
+    let major = number / 256 % 4096 + number / 17592186044416 * 4096;
+    let minor = number % 256 + number / 1048576 % 16777216 * 256;
+    if major > 4095 || minor > 1048575 {
+        return None;
+    }
+    Some((major as u16, minor as u32))
+}
+
 /// What lies at a path.
 #[derive(Drop)]
 pub struct Found {
@@ -234,6 +253,31 @@ pub fn identity_of(looked: &Looked) -> Option<(u64, u64)>
         return Some((looked.device, looked.number));
     }
     None
+}
+
+/// A device, where an image can have its numbers.
+fn device_of(looked: &Looked, device: DeviceKind) -> Result<What, Reason>
+    requires { kind_bits looked.now.mode ≡ device_bits device }
+    ensures fits { IfOk result WhatFits }
+    ensures target { IfOk result HasTarget }
+    ensures link { IfOk result (LinksBack []) }
+    ensures names { IfOk result (λ what. (known : Option Named) → NamesFit known what None) }
+    ensures kind { IfOk result (IsOfKind looked.now) }
+    ensures object { IfOk result (λ what. (known : Known) (path : List ℕ)
+        → HasObject known path what) }
+    ensures why { IfErr result (IsDeviceWhy looked.now) }
+{
+    let Some((major, minor)) = numbers_of(looked.special) else {
+        return Err(match device {
+            DeviceKind::Character => Reason::CharacterDevice,
+            DeviceKind::Block => Reason::BlockDevice,
+        });
+    };
+    Ok(What::Device {
+        device,
+        major,
+        minor,
+    })
 }
 
 /// What an object is, and the names in a directory.
@@ -262,6 +306,8 @@ fn object_of<F: HostFolder>(
             },
             None,
         )),
+        HostKind::Character => Ok((device_of(looked, DeviceKind::Character)?, None)),
+        HostKind::Block => Ok((device_of(looked, DeviceKind::Block)?, None)),
         HostKind::Fifo => Ok((What::Fifo, None)),
         HostKind::Socket => Ok((What::Socket, None)),
         HostKind::Symlink => Ok((

@@ -20,6 +20,8 @@ pub struct Looked {
     pub links: u64,
     pub device: u64,
     pub number: u64,
+    /// The number of the device that it is, where it is one.
+    pub special: u64,
 }
 
 /// The names in a directory, without `.` and `..`: those that are UTF-8, in any order, and how many

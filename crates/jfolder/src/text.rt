@@ -3,13 +3,14 @@
 ghost use Rattle.std.specs.Prelude.{◌≡◌};
 ghost use Rattle.std.specs.String.{string_bytes};
 ghost use Rattle.flashbase.specs.Device.{Puts};
-ghost use Rattle.jfolder.specs.Pieces.{file_text, moded_line, own_owner_text, paths_line};
-ghost use Rattle.jfolder.specs.Text.{attr_words, is_link, item_words, lines_text, listing_text, object_words, owner_words, root_words, setting_words, settings_with, time_words};
+ghost use Rattle.jfolder.specs.Pieces.{device_text, file_text, moded_line, own_owner_text, paths_line};
+ghost use Rattle.jfolder.specs.Text.{attr_words, device_letter, is_link, item_words, lines_text, listing_text, object_words, owner_words, root_words, setting_words, settings_with, time_words};
 
 use crate::settings::Settings;
 use crate::tree::{Attributes, Item, What};
 use crate::words::{Piece, put_pieces};
 use flashbase::{DeviceFault, Sink};
+use jsteps::DeviceKind;
 
 /// `time T`, where it is another than before.
 fn put_time<T: Sink>(sink: &mut T, before: u32, time: u32) -> Result<(), DeviceFault>
@@ -150,6 +151,46 @@ fn put_file<'a, T: Sink>(
     )
 }
 
+/// The word of a kind.
+fn device_letter(device: DeviceKind) -> &'static [u8]
+    ensures { result.now ≡ device_letter device }
+{
+    match device {
+        DeviceKind::Character => b"c",
+        DeviceKind::Block => b"b",
+    }
+}
+
+/// `device KIND MODE MAJOR MINOR PATH`
+fn put_device<'a, T: Sink>(
+    sink: &mut T,
+    device: DeviceKind,
+    mode: u32,
+    major: u16,
+    minor: u32,
+    path: &'a [u8],
+) -> Result<(), DeviceFault>
+    ensures { Puts (T.taken sink.old) (T.taken sink.new) (T.failures sink.old) (T.failures sink.new)
+        (device_text device mode major minor path.now) result }
+{
+    put_pieces(
+        sink,
+        &[
+            Piece::Plain(b"device "),
+            Piece::Plain(device_letter(device)),
+            Piece::Plain(b" "),
+            Piece::Octal(mode),
+            Piece::Plain(b" "),
+            Piece::Decimal(u64::from(major)),
+            Piece::Plain(b" "),
+            Piece::Decimal(u64::from(minor)),
+            Piece::Plain(b" "),
+            Piece::Escaped(path),
+            Piece::Plain(b"\n"),
+        ],
+    )
+}
+
 /// What makes an object.
 fn put_object<T: Sink>(sink: &mut T, item: &Item) -> Result<(), DeviceFault>
     ensures { Puts (T.taken sink.old) (T.taken sink.new) (T.failures sink.old) (T.failures sink.new)
@@ -160,6 +201,11 @@ fn put_object<T: Sink>(sink: &mut T, item: &Item) -> Result<(), DeviceFault>
     match &item.what {
         What::Directory => put_moded(sink, b"mkdir", item.attributes.mode, path),
         What::Regular { file } => put_file(sink, item.attributes.mode, path, file.as_bytes()),
+        What::Device {
+            device,
+            major,
+            minor,
+        } => put_device(sink, *device, item.attributes.mode, *major, *minor, path),
         What::Fifo => put_moded(sink, b"fifo", item.attributes.mode, path),
         What::Socket => put_moded(sink, b"socket", item.attributes.mode, path),
         What::Symlink { target } => put_two(sink, b"symlink", path, target.as_bytes()),

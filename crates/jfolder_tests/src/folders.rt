@@ -26,6 +26,13 @@ fn shared(path: &'static str) -> Object {
     object
 }
 
+/// A device whose number the host tells like this.
+pub fn device(path: &'static str, mode: u32, time: i64, special: u64) -> Object {
+    let mut object = make_object(path, mode, (0, 0), time, "");
+    object.looked.special = special;
+    object
+}
+
 /// A folder with most of what there is.
 pub fn tree() -> [Object; 12] {
     [
@@ -35,7 +42,7 @@ pub fn tree() -> [Object; 12] {
         make_object("a/x", 0o104755, (0, 0), 100, ""),
         make_object("a/l", 0o120777, (0, 0), 7, "../b c/\\"),
         shared("a.c"),
-        make_object("c", 0o020644, (0, 0), 0, ""),
+        device("c", 0o020644, 0, 0x401),
         make_object("d", 0o010644, (5, 6), 0, ""),
         make_object("e f", 0o100600, (0, 0), 0, "\0~A"),
         make_object("f", 0o140755, (0, 0), 0, ""),
@@ -45,13 +52,13 @@ pub fn tree() -> [Object; 12] {
 }
 
 pub const TREE_TEXT: &str =
-    "time 100\nattr 755 0 0 100 100 /\nmkdir 700 /a\ntime 7\nsymlink /a/l ../b\\x20c/\\x5c\ntime 100\nfile 4755 /a/x host/a/x\nowner 5 6\nfile 644 /a.c host/a.c\nlink /a.c /b\ntime 0\nfifo 644 /d\nowner 0 0\nfile 600 /e\\x20f host/e\\x20f\nsocket 755 /f\n";
+    "time 100\nattr 755 0 0 100 100 /\nmkdir 700 /a\ntime 7\nsymlink /a/l ../b\\x20c/\\x5c\ntime 100\nfile 4755 /a/x host/a/x\nowner 5 6\nfile 644 /a.c host/a.c\nlink /a.c /b\ntime 0\nowner 0 0\ndevice c 644 4 1 /c\nowner 5 6\nfifo 644 /d\nowner 0 0\nfile 600 /e\\x20f host/e\\x20f\nsocket 755 /f\n";
 
-pub const TREE_NOTES: &str = "left out /c: character device\nleft out /g: an owner above 65535\n";
+pub const TREE_NOTES: &str = "left out /g: an owner above 65535\n";
 
 /// The same folder, with one owner and one time.
 pub const GIVEN_TEXT: &str =
-    "time 3\nattr 755 1 2 3 3 /\nowner 1 2\nmkdir 700 /a\nsymlink /a/l ../b\\x20c/\\x5c\nfile 4755 /a/x host/a/x\nfile 644 /a.c host/a.c\nlink /a.c /b\nfifo 644 /d\nfile 600 /e\\x20f host/e\\x20f\nsocket 755 /f\nmkdir 755 /g\nmkdir 755 /g/h\n";
+    "time 3\nattr 755 1 2 3 3 /\nowner 1 2\nmkdir 700 /a\nsymlink /a/l ../b\\x20c/\\x5c\nfile 4755 /a/x host/a/x\nfile 644 /a.c host/a.c\nlink /a.c /b\ndevice c 644 4 1 /c\nfifo 644 /d\nfile 600 /e\\x20f host/e\\x20f\nsocket 755 /f\nmkdir 755 /g\nmkdir 755 /g/h\n";
 
 /// Whether a folder is read as this listing, with these notes.
 pub fn is_read(

@@ -22,12 +22,12 @@ fn refused_growth_is_no_listing(rt: HostRuntime) {
         &AS_TOLD,
         &mut notes,
     ) {
-        Ok(read) => equal(&rt, read.left_out, 2),
+        Ok(read) => equal(&rt, read.left_out, 1),
         Err(fault) => {
             equal(&rt, fault, ReadFault::OutOfMemory);
             expect(
                 &rt,
-                is_read(alloc, &tree(), &AS_TOLD, TREE_TEXT, TREE_NOTES, 2),
+                is_read(alloc, &tree(), &AS_TOLD, TREE_TEXT, TREE_NOTES, 1),
             );
         }
     }

@@ -34,6 +34,7 @@ pub fn make_object(
             links: 1,
             device: 8,
             number: 0,
+            special: 0,
         },
         text,
         others: 0,

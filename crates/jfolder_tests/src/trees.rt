@@ -1,10 +1,13 @@
 //! Folders as listings.
 
 use crate::checks::{equal, expect};
-use crate::folders::{AS_TOLD, GIVEN, GIVEN_TEXT, TREE_NOTES, TREE_TEXT, fault_of, is_read, tree};
+use crate::folders::{
+    AS_TOLD, GIVEN, GIVEN_TEXT, TREE_NOTES, TREE_TEXT, device, fault_of, is_read, tree,
+};
 use crate::memory::{Memory, Object, UNREADABLE, make_object};
 use jfolder::{ReadFault, Reason, put_listing, read_folder};
 use jlisting::listing;
+use std::test::Fail;
 use test_support::Taker;
 
 #[test]
@@ -12,18 +15,11 @@ fn a_folder_is_listed(rt: HostRuntime) {
     let alloc = rt.alloc();
     expect(
         &rt,
-        is_read(alloc, &tree(), &AS_TOLD, TREE_TEXT, TREE_NOTES, 2),
+        is_read(alloc, &tree(), &AS_TOLD, TREE_TEXT, TREE_NOTES, 1),
     );
     expect(
         &rt,
-        is_read(
-            alloc,
-            &tree(),
-            &GIVEN,
-            GIVEN_TEXT,
-            "left out /c: character device\n",
-            1,
-        ),
+        is_read(alloc, &tree(), &GIVEN, GIVEN_TEXT, "", 0),
     );
 }
 
@@ -38,18 +34,63 @@ const ROOT_TEXT: &str = "attr 755 0 0 0 0 /\n";
 
 #[test]
 fn kinds_that_no_listing_has_are_left_out(rt: HostRuntime) {
-    let rows = [
-        (0o020000, "left out /o: character device\n"),
-        (0o060000, "left out /o: block device\n"),
-        (0o150000, "left out /o: a kind that is not known\n"),
-    ];
-    for (kind, notes) in rows {
-        let objects = with_other(kind, 0, 0, "");
+    let objects = with_other(0o150000, 0, 0, "");
+    let notes = "left out /o: a kind that is not known\n";
+    expect(
+        &rt,
+        is_read(rt.alloc(), &objects, &AS_TOLD, ROOT_TEXT, notes, 1),
+    );
+}
+
+/// Devices, by the number that glibc has of their major and minor ones, and what is said of them.
+const DEVICES: [(u32, u64, &str, &str); 8] = [
+    (0o020600, 0x103, "device c 600 1 3 /o\n", ""),
+    (0o060640, 0x800, "device b 640 8 0 /o\n", ""),
+    (0o060000, 0x10010301, "device b 0 259 65537 /o\n", ""),
+    (0o020000, 0xfff_00, "device c 0 4095 0 /o\n", ""),
+    (
+        0o020000,
+        0xff_ff_ff_ff,
+        "device c 0 4095 1048575 /o\n",
+        "",
+    ),
+    (
+        0o020000,
+        0x1000_0000_0000,
+        "",
+        "left out /o: character device\n",
+    ),
+    (0o060000, 0x1_0000_0000, "", "left out /o: block device\n"),
+    (
+        0o060000,
+        0xffff_ffff_ffff_ffff,
+        "",
+        "left out /o: block device\n",
+    ),
+];
+
+#[test]
+fn devices_are_listed_with_their_numbers(rt: HostRuntime) -> Result<(), Fail> {
+    for (mode, special, line, notes) in DEVICES {
+        let objects = [
+            make_object("", 0o040755, (0, 0), 0, ""),
+            device("o", mode, 0, special),
+        ];
+        let text = format!(in rt.alloc(); "{ROOT_TEXT}{line}")?;
+        let left_out = if notes.is_empty() { 0 } else { 1 };
         expect(
             &rt,
-            is_read(rt.alloc(), &objects, &AS_TOLD, ROOT_TEXT, notes, 1),
+            is_read(
+                rt.alloc(),
+                &objects,
+                &AS_TOLD,
+                text.as_str(),
+                notes,
+                left_out,
+            ),
         );
     }
+    Ok(())
 }
 
 const NO_TARGET: &str =
@@ -167,9 +208,9 @@ fn files_that_are_not_listed(rt: HostRuntime) {
 /// An owner and a kind that no listing has: the kind is told.
 #[test]
 fn a_kind_goes_before_an_owner(rt: HostRuntime) {
-    let mut objects = with_other(0o060000, -1, 0, "");
+    let mut objects = with_other(0o150000, -1, 0, "");
     objects[1].looked.uid = 65536;
-    let notes = "left out /o: block device\n";
+    let notes = "left out /o: a kind that is not known\n";
     expect(
         &rt,
         is_read(rt.alloc(), &objects, &AS_TOLD, ROOT_TEXT, notes, 1),

@@ -68,6 +68,7 @@ fn looked_of(metadata: &Metadata) -> Looked
         links: metadata.nlink(),
         device: metadata.dev(),
         number: metadata.ino(),
+        special: metadata.rdev(),
     }
 }
 

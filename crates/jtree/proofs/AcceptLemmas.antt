@@ -11,6 +11,7 @@ use Rattle.jsteps.specs.Planning.{make_steps, steps_of}
 use Rattle.jsteps.specs.Refusals.{paths, has_bad_path, is_bad_path, is_long, is_not_found, meets_nothing, meets_other, is_taken, is_wrong_kind, is_not_empty, is_into_itself, is_too_large, is_bad_mode, is_bad_target, is_exhausted, greatest_size, refusals, unless_refused, planned_by}
 use Rattle.jsteps.specs.Where.{above, is_missing, ends_in_directory, last_name, number_there, number_or_none}
 use Rattle.jsteps.specs.declared.fault.OpFault.{OpFault}
+use Rattle.jsteps.specs.declared.device.DeviceKind.{DeviceKind}
 use Rattle.jsteps.specs.declared.op.Op.{Op}
 use Rattle.jsteps.specs.declared.op.Op.TheVariants as op
 use Rattle.jsteps.specs.declared.step.Step.{Step}
@@ -87,6 +88,23 @@ file_free page x time path mode uid gid bytes dir name p none fits short = recor
   empty = refl;
   into = refl;
   large = not_above greatest_size (length bytes) short;
+  mode = not_above 0o7777 mode fits;
+  link = refl;
+}
+
+pub device_free : (page : ℕ) (x : Indexed) (time : ℕ) (path : List ℕ) (kind : DeviceKind) (mode uid gid : ℕ) (number : List ℕ) (dir : ℕ) (name : List ℕ) → IsPlaced x.tree path dir name
+    → named x.tree dir name ≡ None
+    → mode ≤ 0o7777 → IsFree page x (op.Device time path kind mode uid gid number)
+device_free page x time path kind mode uid gid number dir name p none fits = record {
+  bad = ap (λ b. b || false) p.good;
+  long = ap (λ b. b || false) p.short;
+  found = made_found x.tree path dir name p;
+  directory = made_directory x.tree path dir name p;
+  fresh = made_fresh x.tree path dir name p none;
+  kind = refl;
+  empty = refl;
+  into = refl;
+  large = refl;
   mode = not_above 0o7777 mode fits;
   link = refl;
 }

@@ -22,6 +22,7 @@ updates_append (x ∷ xs) ys front back = (front.0, updates_append xs ys front.1
 object_updates : (e : Endian) (files : Files) (path : List ℕ) (a : Attributes) (w : What) → AllByRecursion IsUpdate (ops_with e files (object_actions path a w))
 object_updates e files path a what.Directory = (tt, tt)
 object_updates e files path a (what.Regular file) = (tt, tt)
+object_updates e files path a (what.Device device major minor) = (tt, tt)
 object_updates e files path a what.Fifo = (tt, tt)
 object_updates e files path a what.Socket = (tt, tt)
 object_updates e files path a (what.Symlink target) = (tt, tt)

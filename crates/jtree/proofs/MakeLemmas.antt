@@ -71,7 +71,7 @@ pub own_none : (mode : ℕ) → own_bytes mode [] ≡ []
 unfolding own_bytes
 own_none mode = none (is_device mode)
   where
-    none : (b : Bool) → cond b [] [] ≡ []
+    none : (b : Bool) → ◌≡◌ {A = List ℕ} (cond b [] []) []
     none true = refl
     none false = refl
 

@@ -1,14 +1,20 @@
 -- The operations of one item, and what they reach.
 use Rattle.std.proofs.Common.{◌≡◌, ◌≢◌, ℕ, ◌+◌, ◌/◌, ◌%◌, ◌<◌, ◌≤◌, true, false, List, [], ◌∷◌, ◌++◌, length, map, refl, ap, sym, ◌∙◌, subst, arith}
-use Rattle.std.specs.Prelude.{All, Contains, ◌==◌}
+use Rattle.std.specs.Prelude.{All, Contains, ◌==◌, ◌&&◌, ◌||◌, nat_le}
 use Rattle.std.specs.String.{string_bytes}
-use Rattle.std.proofs.lemmas.Bool.{eq-eqb, ne_eqb}
+use Rattle.std.proofs.lemmas.Bool.{cond_both, cond-true, eq-eqb, ne_eqb}
 use Rattle.jnode.specs.declared.order.Endian.{Endian}
 use Rattle.jmount.specs.Find.{IsPath, path_text}
 use Rattle.jmount.specs.Tree.{ObjectOf, State, type_bits, regular_bits, directory_bits}
 use Rattle.jsteps.specs.Nodes.{Indexed}
 use Rattle.jsteps.specs.Planning.{IsPage}
 use Rattle.jsteps.specs.Where.{names_on_path}
+use Rattle.jnode.specs.Order.{bytes_in}
+use Rattle.jnode.specs.declared.order.Endian.TheVariants.{Little, Big}
+use Rattle.jsteps.specs.Device.{device_mode, device_number, new_number, old_number}
+use Rattle.jsteps.specs.Steps.{is_device, own_bytes}
+use Rattle.jsteps.specs.declared.device.DeviceKind.{DeviceKind}
+use Rattle.jsteps.specs.declared.device.DeviceKind.TheVariants.{Character, Block}
 use Rattle.jsteps.specs.declared.op.Op.TheVariants as op
 use Rattle.jsteps.proofs.OwnLemmas.{own_of}
 use Rattle.jfolder.specs.Actions.{AttributesFit, object_actions}
@@ -19,7 +25,7 @@ use Rattle.jfolder.specs.declared.tree.What.{What}
 use Rattle.jfolder.specs.declared.tree.What.TheVariants as what
 use Rattle.jtree.specs.Making.{Files, bytes_of_what, ops_with}
 use Rattle.jtree.specs.Holding.{first_path, object_of_what, object_with}
-use Rattle.jtree.proofs.AcceptLemmas.{fifo_free, file_free, make_steps_are, mkdir_free, socket_free, symlink_free}
+use Rattle.jtree.proofs.AcceptLemmas.{device_free, fifo_free, file_free, make_steps_are, mkdir_free, socket_free, symlink_free}
 use Rattle.jtree.proofs.GainLemmas.{own}
 use Rattle.jtree.proofs.ItemLemmas.{IsAhead, IsBuilt, Contains-from_map, Contains-mapped, ahead_placed, made_of, names_are, names_of}
 use Rattle.jtree.proofs.LinkLemmas.{IsTarget, link_reaches}
@@ -52,6 +58,49 @@ directory_reaches page n e x s files path a root made is_page at stands ahead fi
     (fits.time, fits.uid, fits.gid)
     (mkdir_free page x a.time path a.mode a.uid a.gid ahead.dir ahead.name p (at_named n x s at ahead.dir ahead.name ∙ ahead.free) fits.mode)
     (make_steps_are x.tree a.time path (0o040000 + a.mode) a.uid a.gid [] ahead.dir ahead.name p)
+    ahead.leads ahead.directory ahead.free ahead.short few)
+
+-- a device has no bytes, and a number of few
+own_device : (device : DeviceKind) (mode : ℕ) (number : List ℕ) → mode ≤ 0o7777 → own_bytes (device_mode device + mode) number ≡ []
+unfolding own_bytes
+own_device Character mode number fits =
+    let is : type_bits (0o020000 + mode) ≡ 2 = omega arith in
+    cond-true (is_device (0o020000 + mode)) [] number (ap (λ (n : ℕ). (n == 2) || (n == 6)) is)
+own_device Block mode number fits =
+    let is : type_bits (0o060000 + mode) ≡ 6 = omega arith in
+    cond-true (is_device (0o060000 + mode)) [] number (ap (λ (n : ℕ). (n == 2) || (n == 6)) is)
+
+two_long : (e : Endian) (x : ℕ) → length (bytes_in e 2 x) ≡ 2
+unfolding bytes_in
+two_long Little x = refl
+two_long Big x = refl
+
+four_long : (e : Endian) (x : ℕ) → length (bytes_in e 4 x) ≡ 4
+unfolding bytes_in
+four_long Little x = refl
+four_long Big x = refl
+
+number_few : (e : Endian) (major minor : ℕ) → length (device_number e major minor) ≤ 4
+unfolding device_number
+number_few e major minor =
+    cond_both (nat_le major 255 && nat_le minor 255) (bytes_in e 2 (old_number major minor)) (bytes_in e 4 (new_number major minor)) (λ (l : List ℕ). length l ≤ 4)
+    (λ old. let two : length (bytes_in e 2 (old_number major minor)) ≡ 2 = two_long e (old_number major minor) in omega arith)
+    (λ new. let four : length (bytes_in e 4 (new_number major minor)) ≡ 4 = four_long e (new_number major minor) in omega arith)
+
+device_reaches : (page n : ℕ) (e : Endian) (x : Indexed) (s : State) (files : Files) (path : List ℕ) (a : Attributes) (device : DeviceKind) (major minor : ℕ) (root : ObjectOf (List ℕ)) (made : List Made)
+    → IsPage page → IsAt n x s → Stands root made s → IsAhead path s → AttributesFit a → n + 4 ≤ 0xFFFFFFFF
+    → Reaches page n x s (ops_with e files (object_actions path a (what.Device device major minor))) root (made ++ made_at files path a (what.Device device major minor) ∷ []) 2
+device_reaches page n e x s files path a device major minor root made is_page at stands ahead fits few =
+    let p = ahead_placed n x s path at ahead in
+    let number = device_number e major minor in
+    let o = op.Device a.time path device a.mode a.uid a.gid number in
+    subst (λ ns. Reaches page n x s (o ∷ []) root (made ++ own ns (object_of_what files a (what.Device device major minor)) ∷ []) 2)
+    (sym (names_are path (ahead.way ++ ahead.name ∷ []) ahead.path_is))
+    (make_reaches page n x s o a.time (device_mode device + a.mode) a.uid a.gid number [] (own_device device a.mode number fits.mode) ahead.way ahead.name ahead.dir root made
+    is_page at stands
+    (fits.time, fits.uid, fits.gid, number_few e major minor)
+    (device_free page x a.time path device a.mode a.uid a.gid number ahead.dir ahead.name p (at_named n x s at ahead.dir ahead.name ∙ ahead.free) fits.mode)
+    (make_steps_are x.tree a.time path (device_mode device + a.mode) a.uid a.gid number ahead.dir ahead.name p)
     ahead.leads ahead.directory ahead.free ahead.short few)
 
 fifo_reaches : (page n : ℕ) (e : Endian) (x : Indexed) (s : State) (files : Files) (path : List ℕ) (a : Attributes) (root : ObjectOf (List ℕ)) (made : List Made)
@@ -132,6 +181,7 @@ target_of files root before n x s i first built among path (what.Regular file) i
       plain = ap (λ (o : ObjectOf (List ℕ)). type_bits o.mode == directory_bits) object ∙ plain_mode i.attributes.mode mode;
     }
 target_of files root before n x s i first built among path what.Directory is regular = absurd regular
+target_of files root before n x s i first built among path (what.Device device major minor) is regular = absurd regular
 target_of files root before n x s i first built among path what.Fifo is regular = absurd regular
 target_of files root before n x s i first built among path what.Socket is regular = absurd regular
 target_of files root before n x s i first built among path (what.Symlink target) is regular = absurd regular
@@ -158,6 +208,10 @@ object_reaches page n e x s files path a what.Directory root before is_page buil
     (directory_reaches page n e x s files path a root (map (made_of files) before) is_page built.is_at built.stands ahead fits (omega arith))
 object_reaches page n e x s files path a (what.Regular file) root before is_page built ahead fresh links target fits short few =
     regular_reaches page n x s path a (files (string_bytes file)) root (map (made_of files) before) is_page built.is_at built.stands ahead fits short few
+object_reaches page n e x s files path a (what.Device device major minor) root before is_page built ahead fresh links target fits short few =
+    reaches_weaker page n x s (ops_with e files (object_actions path a (what.Device device major minor))) root
+    (map (made_of files) before ++ made_at files path a (what.Device device major minor) ∷ []) 2 (8 + length (bytes_of_what files (what.Device device major minor)) / 512) (omega arith)
+    (device_reaches page n e x s files path a device major minor root (map (made_of files) before) is_page built.is_at built.stands ahead fits (omega arith))
 object_reaches page n e x s files path a what.Fifo root before is_page built ahead fresh links target fits short few =
     reaches_weaker page n x s (ops_with e files (object_actions path a what.Fifo)) root
     (map (made_of files) before ++ made_at files path a what.Fifo ∷ []) 2 (8 + length (bytes_of_what files what.Fifo) / 512) (omega arith)

@@ -84,6 +84,13 @@ holds_object s files path a (what.Regular file) h is first = record {
       h.below_root;
   object = h.there refl;
 }
+holds_object s files path a (what.Device device major minor) h is first = record {
+  number = h.number;
+  found = found_is s path (names_on_path path) is ∙ h.leads;
+  below_root =
+      h.below_root;
+  object = h.there refl;
+}
 holds_object s files path a what.Fifo h is first = record {
   number = h.number;
   found = found_is s path (names_on_path path) is ∙ h.leads;

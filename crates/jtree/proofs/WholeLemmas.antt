@@ -38,6 +38,7 @@ origin_of : (before : List Item) (path : List ℕ) (w : What) → ((j : Item) �
     → IsPath (first_path path w) (names_on_path (first_path path w))
 origin_of before path what.Directory known links is = is
 origin_of before path (what.Regular file) known links is = is
+origin_of before path (what.Device device major minor) known links is = is
 origin_of before path what.Fifo known links is = is
 origin_of before path what.Socket known links is = is
 origin_of before path (what.Symlink target) known links is = is

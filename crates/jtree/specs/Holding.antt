@@ -3,6 +3,7 @@ use Rattle.std.specs.Prelude.{◌≡◌, ◌<◌, ◌+◌, ◌⊎◌, ℕ, List,
 use Rattle.std.specs.String.{string_bytes}
 use Rattle.jmount.specs.Find.{find}
 use Rattle.jmount.specs.Tree.{ObjectOf, State, object, is_there}
+use Rattle.jsteps.specs.Device.{device_mode}
 use Rattle.jfolder.specs.declared.tree.Attributes.{Attributes}
 use Rattle.jfolder.specs.declared.tree.Item.{Item}
 use Rattle.jfolder.specs.declared.tree.What.{What}
@@ -12,6 +13,7 @@ use Rattle.jtree.specs.Making.{Files, bytes_of_what}
 -- the mode of an object: its kind's bits with its permissions, and a symlink has all permissions
 abbrev pub mode_of_what : ℕ → What → ℕ
 mode_of_what permissions what.Directory = 0o040000 + permissions
+mode_of_what permissions (what.Device device major minor) = device_mode device + permissions
 mode_of_what permissions what.Fifo = 0o010000 + permissions
 mode_of_what permissions what.Socket = 0o140000 + permissions
 mode_of_what permissions (what.Symlink target) = 0o120777
