@@ -16,8 +16,8 @@ use Rattle.jnode.specs.declared.node.NodeRef.TheVariants.{Entry, Inode}
 use Rattle.jnode.specs.declared.node.Dirent.{Dirent}
 use Rattle.jnode.specs.declared.node.InodeNode.{InodeNode}
 use Rattle.jmount.specs.Clash.{NodesClash}
-use Rattle.jclash.specs.Parting.{AreInOrder, NoneClashesWith, IsHighestClash, IsClashAmong}
-use Rattle.jclash.specs.Keys.{NodeKey, IsKeyOf, node_key_cmp, TellsClash, KnowsNodes, AddsNode}
+use Rattle.jclash.specs.Parting.{AddressesRise, NoneClashesWith, IsHighestClash, IsClashAmong}
+use Rattle.jclash.specs.Keys.{NodeKey, IsKeyOf, node_key_cmp, TellsClash, KnowsNodes, KnowsOneMore}
 use Rattle.jclash.specs.declared.highest.Highest.{Highest}
 use Rattle.jclash.proofs.PartLemmas.{none_more, first_clash, still_highest, among_more, no_self_clash}
 
@@ -133,7 +133,7 @@ tells_first addr y ns x now at is other clash none = (
 
 -- a node of a key that is known
 tells_next : (addr : ℕ) (y : NodeRef) (ns : List (ℕ × NodeRef)) (x : NodeRef) (h now : Highest) (by : Option ℕ) → ((m : ℕ × NodeRef) → Contains ns m → addr < m.0)
-    → AddsNode (Some h) addr y (by, now) → (y ≢ x → NodesClash y x) → TellsClash ns x (Some h) → TellsClash ((addr, y) ∷ ns) x (Some now)
+    → KnowsOneMore (Some h) addr y (by, now) → (y ≢ x → NodesClash y x) → TellsClash ns x (Some h) → TellsClash ((addr, y) ∷ ns) x (Some now)
 tells_next addr y ns x h now by below adds clash tells =
     let n : ℕ × NodeRef = (addr, y) in
     let node : now.node.now ≡ h.node.now = ap (λ b. b.now) adds.1 in (
@@ -152,7 +152,7 @@ tells_next addr y ns x h now by below adds clash tells =
     )
 
 -- what a node is answered
-answer_known : (addr : ℕ) (y : NodeRef) (ns : List (ℕ × NodeRef)) (o : Option Highest) (by : Option ℕ) (now : Highest) → AddsNode o addr y (by, now) → TellsClash ns y o → IsClashAmong ns y by
+answer_known : (addr : ℕ) (y : NodeRef) (ns : List (ℕ × NodeRef)) (o : Option Highest) (by : Option ℕ) (now : Highest) → KnowsOneMore o addr y (by, now) → TellsClash ns y o → IsClashAmong ns y by
 answer_known addr y ns None by now adds tells = subst (IsClashAmong ns y) (sym adds.0) tells
 answer_known addr y ns (Some h) by now adds tells =
     ⊎_elim
@@ -161,14 +161,14 @@ answer_known addr y ns (Some h) by now adds tells =
     adds.2
 
 tells_key : (addr : ℕ) (y : NodeRef) (ns : List (ℕ × NodeRef)) (x : NodeRef) (o : Option Highest) (by : Option ℕ) (now : Highest) → ((m : ℕ × NodeRef) → Contains ns m → addr < m.0)
-    → AddsNode o addr y (by, now) → (y ≢ x → NodesClash y x) → TellsClash ns x o → TellsClash ((addr, y) ∷ ns) x (Some now)
+    → KnowsOneMore o addr y (by, now) → (y ≢ x → NodesClash y x) → TellsClash ns x o → TellsClash ((addr, y) ∷ ns) x (Some now)
 tells_key addr y ns x None by now below adds clash none = tells_first addr y ns x now adds.1 adds.2 adds.3 clash none
 tells_key addr y ns x (Some h) by now below adds clash tells = tells_next addr y ns x h now by below adds clash tells
 
 pub knows_more : (addr : ℕ) (y : NodeRef) (ns : List (ℕ × NodeRef)) (k : NodeKey) (old new : BTreeMap NodeKey Highest) (by : Option ℕ) (now : Highest)
-    → IsKeyOf y k → AddsNode (get node_key_cmp old k) addr y (by, now)
+    → IsKeyOf y k → KnowsOneMore (get node_key_cmp old k) addr y (by, now)
     → ((q : NodeKey) → get node_key_cmp new q ≡ cond (is_eq (node_key_cmp k q)) (Some now) (get node_key_cmp old q))
-    → AreInOrder ((addr, y) ∷ ns) → KnowsNodes ns old → KnowsNodes ((addr, y) ∷ ns) new × IsClashAmong ns y by
+    → AddressesRise ((addr, y) ∷ ns) → KnowsNodes ns old → KnowsNodes ((addr, y) ∷ ns) new × IsClashAmong ns y by
 knows_more addr y ns k old new by now key adds updates order knows = (
   λ x q is.
       ⊎_elim

@@ -7,7 +7,7 @@ use Rattle.jnode.specs.declared.node.NodeRef.{NodeRef}
 use Rattle.jnode.specs.declared.node.NodeRef.TheVariants.{Entry, Inode}
 use Rattle.jmount.specs.Clash.{NodesClash}
 use Rattle.jmount.proofs.ClashLemmas.{clashes_sym}
-use Rattle.jclash.specs.Parting.{AreInOrder, NoneClashesWith, IsHighestClash, IsClashAmong, Parts, PutsBehind}
+use Rattle.jclash.specs.Parting.{AddressesRise, NoneClashesWith, IsHighestClash, IsClashAmong, Parts, PutsBehind}
 use Rattle.jclash.specs.Laws.{StayingDoNotClash, AllStayWithoutClash, OneParting, StayingAreOfNodes, NoneIsLost}
 use Rattle.jclash.specs.declared.parting.LeftOut.{LeftOut}
 
@@ -167,7 +167,7 @@ parts_leaves n ns stay left by h parts = inr (by, h, (left, refl, parts))
 
 -- ---- from the last node to the first
 
-pub order_left : (ns : List (ℕ × NodeRef)) (i : ℕ) → AreInOrder ns → AreInOrder (drop i ns)
+pub order_left : (ns : List (ℕ × NodeRef)) (i : ℕ) → AddressesRise ns → AddressesRise (drop i ns)
 order_left ns zero order = order
 order_left [] (suc i) order = tt
 order_left (n ∷ ns) (suc i) order = order_left ns i order.1

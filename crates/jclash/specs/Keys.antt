@@ -44,10 +44,10 @@ KnowsNodes ns known = (node : NodeRef) (key : NodeKey) → IsKeyOf node key
 
 -- what is known of a key with one node more, below all others; and the highest address of one that
 -- clashes with it
-abbrev pub AddsNode : Option Highest → ℕ → NodeRef → Option ℕ × Highest → Type 0
-AddsNode None addr node done = (done.0 ≡ None) × (done.1.addr ≡ addr) × (done.1.node.now ≡ node)
-    × (done.1.other ≡ None)
-AddsNode (Some h) addr node done = (done.1.addr ≡ h.addr) × (done.1.node ≡ h.node)
+abbrev pub KnowsOneMore : Option Highest → ℕ → NodeRef → Option ℕ × Highest → Type 0
+KnowsOneMore None addr node done = (done.0 ≡ None) × (done.1.addr ≡ addr)
+    × (done.1.node.now ≡ node) × (done.1.other ≡ None)
+KnowsOneMore (Some h) addr node done = (done.1.addr ≡ h.addr) × (done.1.node ≡ h.node)
     × (((h.node.now ≡ node) × (done.0 ≡ h.other) × (done.1.other ≡ h.other))
     ⊎ ((h.node.now ≢ node) × (done.0 ≡ Some h.addr)
     × (done.1.other ≡ option_or h.other (Some addr))))

@@ -7,9 +7,9 @@ use Rattle.jmount.specs.Clash.{NodesClash}
 use Rattle.jclash.specs.declared.parting.LeftOut.{LeftOut}
 
 -- each node's address is below those of the nodes after it
-abbrev pub AreInOrder : List (ℕ × NodeRef) → Type 0
-AreInOrder [] = Unit {0}
-AreInOrder (n ∷ ns) = ((m : ℕ × NodeRef) → Contains ns m → n.0 < m.0) × AreInOrder ns
+abbrev pub AddressesRise : List (ℕ × NodeRef) → Type 0
+AddressesRise [] = Unit {0}
+AddressesRise (n ∷ ns) = ((m : ℕ × NodeRef) → Contains ns m → n.0 < m.0) × AddressesRise ns
 
 -- none of these clashes with a node
 abbrev pub NoneClashesWith : List (ℕ × NodeRef) → NodeRef → Type 0

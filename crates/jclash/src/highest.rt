@@ -2,8 +2,8 @@
 
 ghost use Rattle.std.specs.Prelude.{◌≡◌, ◌∷◌, ℕ, List, IfOk};
 ghost use Rattle.jnode.specs.declared.node.NodeRef.{NodeRef};
-ghost use Rattle.jclash.specs.Keys.{AddsNode, KnowsNodes};
-ghost use Rattle.jclash.specs.Parting.{AreInOrder, IsClashAmong};
+ghost use Rattle.jclash.specs.Keys.{KnowsOneMore, KnowsNodes};
+ghost use Rattle.jclash.specs.Parting.{AddressesRise, IsClashAmong};
 
 use crate::key::{Key, key_of};
 use crate::sameness::is_same;
@@ -29,7 +29,7 @@ fn with_node<'n, 'a>(
     addr: u32,
     node: &'n NodeRef<'a>,
 ) -> (Option<u32>, Highest<'n, 'a>)
-    ensures { AddsNode known.entry addr node.now result }
+    ensures { KnowsOneMore known.entry addr node.now result }
 {
     let Some(highest) = known else {
         return (
@@ -56,9 +56,9 @@ pub(crate) fn add<'n, 'a>(
     addr: u32,
     node: &'n NodeRef<'a>,
 ) -> Result<Option<u32>, AllocError>
-    ensures { IfOk result (λ by. (ns : List (ℕ × NodeRef)) → AreInOrder ((addr, node.now) ∷ ns)
-        → KnowsNodes ns known.old → KnowsNodes ((addr, node.now) ∷ ns) known.new
-        × IsClashAmong ns node.now by) }
+    ensures { IfOk result (λ by. (ns : List (ℕ × NodeRef))
+        → AddressesRise ((addr, node.now) ∷ ns) → KnowsNodes ns known.old
+        → KnowsNodes ((addr, node.now) ∷ ns) known.new × IsClashAmong ns node.now by) }
 {
     let key = key_of(alloc, node)?;
     let (by, highest) = with_node(known.get(&key).copied(), addr, node);

@@ -1,7 +1,7 @@
 //! Which nodes stay.
 
 ghost use Rattle.std.specs.Prelude.{IfOk, OnOk};
-ghost use Rattle.jclash.specs.Parting.{AreInOrder, Parts, PutsBehind};
+ghost use Rattle.jclash.specs.Parting.{AddressesRise, Parts, PutsBehind};
 
 use crate::copying::copied;
 use crate::highest::add;
@@ -49,7 +49,7 @@ pub fn without_clashing<'a>(
     alloc: Global,
     nodes: &[(u32, NodeRef<'a>)],
 ) -> Result<Parted<'a>, AllocError>
-    requires { AreInOrder nodes.now }
+    requires { AddressesRise nodes.now }
     ensures { IfOk result
         (λ parted. Parts nodes.now parted.stay.items parted.left.items) }
 {

@@ -12,7 +12,7 @@ use Rattle.jscan.proofs.AddressLaws.{sightings_ascend}
 use Rattle.jmount.specs.StateOf.{state_of}
 use Rattle.jmount.specs.Tree.{is_directory}
 use Rattle.jmount.proofs.FaultLemmas.{Rises, rises, ascends_from_splits}
-use Rattle.jclash.specs.Parting.{AreInOrder, Parts}
+use Rattle.jclash.specs.Parting.{AddressesRise, Parts}
 use Rattle.jclash.specs.declared.parting.LeftOut.{LeftOut}
 use Rattle.jclash.proofs.PartLemmas.{staying_do_not_clash}
 use Rattle.jlog.specs.Laws.{FitsBlock}
@@ -50,12 +50,12 @@ there : (addr : ℕ) (o : Option NodeRef) (n : ℕ × NodeRef) → option_map (�
 there addr None n is = absurd (cc)
 there addr (Some m) n is = ap (λ (k : ℕ × NodeRef). k.0) {x = (addr, m)} {y = n} cc
 
-order_option : (addr : ℕ) (o : Option NodeRef) (ns : List (ℕ × NodeRef)) → ((m : ℕ × NodeRef) → Contains ns m → addr < m.0) → AreInOrder ns
-    → AreInOrder (cons_option (option_map (λ (n : NodeRef). (addr, n)) o) ns)
+order_option : (addr : ℕ) (o : Option NodeRef) (ns : List (ℕ × NodeRef)) → ((m : ℕ × NodeRef) → Contains ns m → addr < m.0) → AddressesRise ns
+    → AddressesRise (cons_option (option_map (λ (n : NodeRef). (addr, n)) o) ns)
 order_option addr None ns below order = order
 order_option addr (Some n) ns below order = (below, order)
 
-in_order_of : (e : Endian) (size : ℕ) (image : List ℕ) (ss : List (ℕ × Seen)) → Rises ss → AreInOrder (filter_map (located_node e size image) ss)
+in_order_of : (e : Endian) (size : ℕ) (image : List ℕ) (ss : List (ℕ × Seen)) → Rises ss → AddressesRise (filter_map (located_node e size image) ss)
 in_order_of e size image [] up = tt
 in_order_of e size image (s ∷ ss) up =
     order_option s.0 (expanded_node e size image s) (filter_map (located_node e size image) ss)

@@ -8,7 +8,7 @@ use Rattle.jmount.specs.Mounts.{MountsAs, Answers}
 use Rattle.jmount.specs.StateOf.{state_of}
 use Rattle.jmount.specs.Tree.{is_directory}
 use Rattle.jmount.specs.declared.fault.MountFault.TheVariants as fault
-use Rattle.jclash.specs.Parting.{AreInOrder, Parts}
+use Rattle.jclash.specs.Parting.{AddressesRise, Parts}
 use Rattle.jclash.specs.declared.parting.LeftOut.{LeftOut}
 use Rattle.jlog.specs.LeftLaws.{IsImageOfNodes}
 use Rattle.jexpand.specs.Expanded.{expanded_nodes}
@@ -17,7 +17,8 @@ use Rattle.jconvert.specs.Converting.{convert_fault, greatest_blocks}
 
 -- The expanded nodes stand in the order of their addresses.
 abbrev pub LocatedAreInOrder : Type 0
-LocatedAreInOrder = (e : Endian) (size : ℕ) (image : List ℕ) → AreInOrder (located_nodes e size image)
+LocatedAreInOrder =
+    (e : Endian) (size : ℕ) (image : List ℕ) → AddressesRise (located_nodes e size image)
 
 abbrev pub LocatedAreExpanded : Type 0
 LocatedAreExpanded = (e : Endian) (size : ℕ) (image : List ℕ)

@@ -20,13 +20,13 @@ use Rattle.jffs2_image.specs.Runs.{Finishes, IsCommand, Says, answer_finished}
 use Rattle.jffs2_image.specs.declared.folders.Extracted.{Extracted}
 
 -- The command line makes a request, or asks for an extraction, a listing, what an image tells of
--- itself, what stands after a stop, an image that is compressed, what the trees of two images
--- differ in, or an image without nodes that clash, and that is done.
+-- itself, what stands after a stop, an image that is compressed, or what the trees of two images
+-- differ in (or an image without nodes that clash), and that is done.
 abbrev pub RunsTask : List (List ℕ) → (Result Request RequestFault → Type 0)
-    → Type 0 → Type 0 → Type 0 → Type 0 → Type 0 → Type 0 → Type 0 → Type 0
-RunsTask args runs extracts lists informs tells compresses differs parts =
+    → Type 0 → Type 0 → Type 0 → Type 0 → Type 0 → Type 0 → Type 0
+RunsTask args runs extracts lists informs tells compresses compares =
     ((command : Result Request RequestFault) × IsCommand args command × runs command)
-    ⊎ (extracts ⊎ (lists ⊎ (informs ⊎ (tells ⊎ (compresses ⊎ (differs ⊎ parts))))))
+    ⊎ (extracts ⊎ (lists ⊎ (informs ⊎ (tells ⊎ (compresses ⊎ compares)))))
 
 -- the notes on what an extraction came to, if there are any
 abbrev pub notes_after_extraction : Extracted → Option (List ℕ)

@@ -1,6 +1,6 @@
 //! The program on its arguments: it opens the image, lets `jreport` do the work, and says how that
 //! ended.
-ghost use Rattle.std.specs.Prelude.{◌≡◌, true, IfErr, OnOk, map};
+ghost use Rattle.std.specs.Prelude.{◌≡◌, ◌⊎◌, true, IfErr, OnOk, map};
 ghost use Rattle.std.specs.Io.KnownBytes.{Appends};
 ghost use Rattle.jcommand.specs.Parsed.{BuildParsed, AppendParsed, DecompressParsed, options_of, view};
 ghost use Rattle.jreport.specs.Advice.{fault_lines_of};
@@ -533,7 +533,7 @@ pub fn run<L: Loader, M: Maker, D: Folders, T: Output, E: Sink>(
           before = E.failures errors.old;
           now = E.failures errors.new;
         }) result)
-        ((maker.new ≡ maker.old) × (folders.new ≡ folders.old)
+        (((maker.new ≡ maker.old) × (folders.new ≡ folders.old)
         × RunsDiff (map (λ w. w.now) args.now)
         (record {
           told = L.told loader.old;
@@ -552,7 +552,7 @@ pub fn run<L: Loader, M: Maker, D: Folders, T: Output, E: Sink>(
           before = E.failures errors.old;
           now = E.failures errors.new;
         }) result)
-        ((folders.new ≡ folders.old)
+        ⊎ ((folders.new ≡ folders.old)
         × RunsApart (map (λ w. w.now) args.now)
         (record {
           told = L.told loader.old;
@@ -576,7 +576,7 @@ pub fn run<L: Loader, M: Maker, D: Folders, T: Output, E: Sink>(
           new = E.taken errors.new;
           before = E.failures errors.old;
           now = E.failures errors.new;
-        }) result) }
+        }) result)) }
 {
     match task(alloc, args) {
         Ok(Task::Image(request)) => run_image(alloc, loader, maker, Ok(request), output, errors),

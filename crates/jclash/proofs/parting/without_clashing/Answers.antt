@@ -2,7 +2,7 @@ use Rattle.std.proofs.Common.{◌≡◌, ℕ, ◌∷◌, ◌<◌, ◌-◌, List,
 use Rattle.std.specs.Prelude.{reverse}
 use Rattle.jnode.specs.declared.node.NodeRef.{NodeRef}
 use Rattle.jclash.specs.Keys.{KnowsNodes}
-use Rattle.jclash.specs.Parting.{AreInOrder, Parts}
+use Rattle.jclash.specs.Parting.{AddressesRise, Parts}
 use Rattle.jclash.specs.declared.parting.LeftOut.{LeftOut}
 use Rattle.jclash.proofs.PartLemmas.{last_left, order_left, step_parts}
 use Rattle.jclash.proofs.parting.without_clashing.Goals as goal
@@ -14,7 +14,7 @@ loop-i-preserved c =
     let some : 0 < i = c.loop-i-test.true in
     let n : ℕ × NodeRef = c.index-nodes-i.result in
     let split : drop (i - 1) ns ≡ n ∷ drop i ns = last_left ns i n some c.loop-i.invariant.within c.index-nodes-i.is in
-    let order : AreInOrder (n ∷ drop i ns) = subst AreInOrder split (order_left ns (i - 1) c.requires) in
+    let order : AddressesRise (n ∷ drop i ns) = subst AddressesRise split (order_left ns (i - 1) c.requires) in
     let added = c.in_ok-by.ensures (drop i ns) order c.loop-i.invariant.knows in
     record {
       within = omega (arith, c.loop-i.invariant.within);

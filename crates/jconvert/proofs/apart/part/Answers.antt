@@ -1,8 +1,8 @@
 use Rattle.std.proofs.Common.{◌∙◌, sym, subst}
-use Rattle.jclash.specs.Parting.{AreInOrder}
+use Rattle.jclash.specs.Parting.{AddressesRise}
 use Rattle.jconvert.proofs.ApartLemmas.{located_are_in_order}
 use Rattle.jconvert.proofs.apart.part.Goals as goal
 
 pub without_clashing-requires : goal.without_clashing-requires
 without_clashing-requires g c =
-    subst AreInOrder (sym (c.deref.ensures.value ∙ c.in-Ok.ensures.nodes)) (located_are_in_order g.E.Order.order c.args.geometry.block c.args.image.now)
+    subst AddressesRise (sym (c.deref.ensures.value ∙ c.in-Ok.ensures.nodes)) (located_are_in_order g.E.Order.order c.args.geometry.block c.args.image.now)
