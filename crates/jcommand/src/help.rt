@@ -55,7 +55,7 @@ pub(crate) const SECOND: &str = "File with the bytes of the second image";
 
 pub(crate) const TIMES: &str = "Compare times of change too, and print them";
 
-pub(crate) const CLASHES: &str = "Of nodes that clash keep the one of RULE's address: higher";
+pub(crate) const CLASHES: &str = "Of nodes that clash keep one, by its address: higher";
 
 pub(crate) const DECOMPRESSED: &str = "Take the image as decompress would write it";
 

@@ -195,8 +195,8 @@ fn apart_in_order<'a, L: Loader, M: Maker, T: Sink>(
     output: &'a str,
     sink: &mut T,
 ) -> Result<ApartDone, ProgramFault<'a>>
-    ensures decompresses { DecompressesApartNamed (M.held maker.old, M.held maker.new) options.endian
-        (record {
+    ensures decompresses { DecompressesApartNamed (M.held maker.old, M.held maker.new)
+        options.endian (record {
           options = options;
           image = image.entry.now;
           output = output.entry.now;
