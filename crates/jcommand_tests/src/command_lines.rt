@@ -3,8 +3,8 @@
 
 use crate::checks::{equal, equal_at, expect, expect_at};
 use jcommand::{
-    Comparison, Compression, Decompression, Cuts, Extraction, FolderListing, Options, Outcome, Owner, Request,
-    RequestFault, Target, Task, status, task,
+    Comparison, Compression, Cuts, Decompression, Examination, Extraction, FolderListing, Options,
+    Outcome, Owner, Request, RequestFault, Target, Task, status, task,
 };
 use jnode::Endian;
 use std::alloc::{AllocError, Global};
@@ -175,6 +175,12 @@ fn shown_task(alloc: Global, task: Task<'_>) -> Result<String, AllocError> {
             let block = geometry.block;
             format!(in alloc; "apart {block} {order} {image} {output}")
         }
+        Task::Damage(Examination { options, image }) => {
+            let Options { geometry, endian } = options;
+            let order = order_name(endian);
+            let block = geometry.block;
+            format!(in alloc; "damage {block} {order} {image}")
+        }
     }
 }
 
@@ -243,6 +249,8 @@ const READING: [(&str, &str); 20] = [
     ("t info a.img", "info a.img"),
     ("t info -- --block", "info --block"),
     ("t diff a.img b.img", "diff 65536 false false a.img b.img"),
+    ("t damage --block 8192 a.img", "damage 8192 little a.img"),
+    ("t damage a.img --endian=big", "damage 65536 big a.img"),
     (
         "t diff b.img --times --block 8192 --endian=big a.img",
         "diff 8192 true true b.img a.img",
@@ -347,6 +355,9 @@ const WRONG: [(&str, &str); 37] = [
     ("t info", "<IMAGE>"),
     ("t info --endian big a.img", "--endian"),
     ("t info a.img b.img", "'b.img'"),
+    ("t damage", "<IMAGE>"),
+    ("t damage a.img b.img", "'b.img'"),
+    ("t damage --decompress a.img", "--decompress"),
     ("t diff", "<A>"),
     ("t diff a.img", "<B>"),
     ("t diff a.img b.img c.img", "'c.img'"),
@@ -503,6 +514,8 @@ const HELP: [(&str, &str); 22] = [
     ("t help ls", "KIND MODE UID GID SIZE MTIME INO PATH"),
     ("t info --help", "Usage: t info <IMAGE>"),
     ("t diff --help", "Usage: t diff [OPTIONS] <A> <B>"),
+    ("t damage --help", "Usage: t damage [OPTIONS] <IMAGE>"),
+    ("t help damage", "'hides nothing' says that the"),
     ("t help diff", "only the bytes differ, from this offset on"),
     ("t cat --help", "Usage: t cat [OPTIONS] <IMAGE> <PATH>"),
     (

@@ -28,6 +28,7 @@ const LINES: [(&[&str], &str); 15] = [
     (&["t", "cuts", "--blocks=8", "--on", "a.img", "b"], "cuts"),
     (&["t", "compress", "a.img", "b.img"], "compress"),
     (&["t", "diff", "--times", "a.img", "b.img"], "diff"),
+    (&["t", "damage", "a.img"], "damage"),
     (&["t", "check", "--help"], "help"),
     (&["t", "check", "--block", "x", "a.img"], "wrong"),
 ];
@@ -49,6 +50,7 @@ fn asked(alloc: Global, words: &[&str]) -> &'static str {
         Ok(Task::Cuts(_)) => "cuts",
         Ok(Task::Compress(_)) => "compress",
         Ok(Task::Diff(_)) => "diff",
+        Ok(Task::Damage(_)) => "damage",
         Err(RequestFault::Help { .. }) => "help",
         Err(RequestFault::Usage { .. }) => "wrong",
         Err(RequestFault::OutOfMemory) => "no memory",
