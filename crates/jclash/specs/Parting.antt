@@ -1,6 +1,6 @@
 -- Nodes of which some clash: which of them stay, and which are left out. The medium format names no
--- winner of two nodes of one version; Linux takes the one that it meets last (fs/jffs2/readinode.c),
--- which of nodes in order of their addresses is that of the highest.
+-- winner of two nodes of one version; Linux takes the one that it meets last, which is that of the
+-- highest address (fs/jffs2/readinode.c).
 use Rattle.std.specs.Prelude.{◌≡◌, ◌⊎◌, ℕ, ◌<◌, ◌≤◌, List, [], ◌∷◌, ◌++◌, Contains, Option, Some, None}
 use Rattle.jnode.specs.declared.node.NodeRef.{NodeRef}
 use Rattle.jmount.specs.Clash.{NodesClash}
