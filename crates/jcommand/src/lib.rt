@@ -25,5 +25,6 @@ mod parsed;
 pub use crate::command_line::{RequestFault, request, task};
 pub use crate::outcome::{Outcome, status};
 pub use crate::parsed::{
-    Comparison, Compression, Cuts, Decompression, Extraction, FolderListing, Options, Owner, Request, Target, Task,
+    Comparison, Compression, Cuts, Decompression, Extraction, FolderListing, Options, Owner,
+    Request, Target, Task,
 };

@@ -3,8 +3,8 @@
 
 use crate::checks::{equal, equal_at, expect, expect_at};
 use jcommand::{
-    Comparison, Compression, Decompression, Cuts, Extraction, FolderListing, Options, Outcome, Owner, Request,
-    RequestFault, Target, Task, status, task,
+    Comparison, Compression, Cuts, Decompression, Extraction, FolderListing, Options, Outcome,
+    Owner, Request, RequestFault, Target, Task, status, task,
 };
 use jnode::Endian;
 use std::alloc::{AllocError, Global};

@@ -64,7 +64,10 @@ fn args_that_decompress(rt: HostRuntime) -> Result<(), Fail> {
 /// Lines that ask for nothing, and a part of the text that says why.
 const WRONG: [(&str, &str); 17] = [
     ("t decompress --clashes higher a.img", "<OUT>"),
-    ("t decompress --clashes lower a b", "'lower' for '--clashes <RULE>'"),
+    (
+        "t decompress --clashes lower a b",
+        "'lower' for '--clashes <RULE>'",
+    ),
     ("t decompress --clashes= a b", "'' for '--clashes <RULE>'"),
     ("t decompress a b --clashes", "--clashes <RULE>"),
     ("t ls --clashes higher a", "--clashes"),
