@@ -39,15 +39,37 @@ struct Row {
 const ROWS: [Row; 11] = [
     // None clash: another directory, another name, an entry beside an inode node.
     Row {
-        nodes: &[AB, Node::Entry(1, 2, b"a"), Node::Entry(1, 3, b"b"), Node::Entry(2, 3, b"a")],
-        stay: &[AB, Node::Entry(1, 2, b"a"), Node::Entry(1, 3, b"b"), Node::Entry(2, 3, b"a")],
+        nodes: &[
+            AB,
+            Node::Entry(1, 2, b"a"),
+            Node::Entry(1, 3, b"b"),
+            Node::Entry(2, 3, b"a"),
+        ],
+        stay: &[
+            AB,
+            Node::Entry(1, 2, b"a"),
+            Node::Entry(1, 3, b"b"),
+            Node::Entry(2, 3, b"a"),
+        ],
         left: &[],
     },
     // Twins stay both.
-    Row { nodes: &[AB, AB], stay: &[AB, AB], left: &[] },
+    Row {
+        nodes: &[AB, AB],
+        stay: &[AB, AB],
+        left: &[],
+    },
     // The higher one stays, whichever it is.
-    Row { nodes: &[AB, CD], stay: &[CD], left: &[(0, 72)] },
-    Row { nodes: &[CD, AB], stay: &[AB], left: &[(0, 72)] },
+    Row {
+        nodes: &[AB, CD],
+        stay: &[CD],
+        left: &[(0, 72)],
+    },
+    Row {
+        nodes: &[CD, AB],
+        stay: &[AB],
+        left: &[(0, 72)],
+    },
     // Entries by their numbers.
     Row {
         nodes: &[Node::Entry(1, 2, b"a"), Node::Entry(1, 3, b"a")],
@@ -60,11 +82,27 @@ const ROWS: [Row; 11] = [
         left: &[(0, 116), (44, 160)],
     },
     // Three.
-    Row { nodes: &[AB, CD, EF], stay: &[EF], left: &[(0, 144), (72, 144)] },
+    Row {
+        nodes: &[AB, CD, EF],
+        stay: &[EF],
+        left: &[(0, 144), (72, 144)],
+    },
     // The first says what the last says, and clashes with the one between.
-    Row { nodes: &[AB, CD, AB], stay: &[AB], left: &[(0, 72), (72, 144)] },
-    Row { nodes: &[AB, AB, CD], stay: &[CD], left: &[(0, 144), (72, 144)] },
-    Row { nodes: &[AB, CD, CD], stay: &[CD, CD], left: &[(0, 144)] },
+    Row {
+        nodes: &[AB, CD, AB],
+        stay: &[AB],
+        left: &[(0, 72), (72, 144)],
+    },
+    Row {
+        nodes: &[AB, AB, CD],
+        stay: &[CD],
+        left: &[(0, 144), (72, 144)],
+    },
+    Row {
+        nodes: &[AB, CD, CD],
+        stay: &[CD, CD],
+        left: &[(0, 144)],
+    },
     // A clash of times alone.
     Row {
         nodes: &[
@@ -95,8 +133,7 @@ fn is_parted<E: Order>(rt: &impl Abort, alloc: Global, row: &Row) -> Result<(), 
     let alone = image_of_nodes::<E>(alloc, row.stay, ATTRIBUTES)?;
     let wanted = decompressed::<E>(alloc, &alone, BLOCKS_OF_8_KIB);
     let sink = Taker::new(alloc);
-    let Ok((sink, done)) = decompress_apart::<E, Taker>(alloc, &image, BLOCKS_OF_8_KIB, sink)
-    else {
+    let Ok((sink, done)) = decompress_apart::<E, Taker>(alloc, &image, BLOCKS_OF_8_KIB, sink) else {
         panic!(rt; "refused");
     };
     equal(rt, done.told.changed, 0);

@@ -1,4 +1,4 @@
-use Rattle.std.proofs.Common.{arith}
+use Rattle.std.proofs.Common.{◌-◌, arith}
 use Rattle.jmount.specs.Shown.{readable}
 use Rattle.jdiff.proofs.ByteLemmas.{same_zeros}
 use Rattle.jdiff.proofs.bytes.common_hole.Goals as goal
