@@ -1,11 +1,6 @@
 -- Nodes of which some clash: which of them stay, and which are left out. The medium format names no
-<<<<<<< HEAD
 -- winner of two nodes of one version; Linux takes the one that it meets last, which of nodes in
 -- order of their addresses is that of the highest (fs/jffs2/readinode.c).
-=======
--- winner of two nodes of one version; Linux takes the one that it meets last, which is that of the
--- highest address (fs/jffs2/readinode.c).
->>>>>>> d07d88a6d4702cff4ca22959777aedf8dd383991
 use Rattle.std.specs.Prelude.{◌≡◌, ◌⊎◌, ℕ, ◌<◌, ◌≤◌, List, [], ◌∷◌, ◌++◌, Contains, Option, Some, None}
 use Rattle.jnode.specs.declared.node.NodeRef.{NodeRef}
 use Rattle.jmount.specs.Clash.{NodesClash}

@@ -25,11 +25,6 @@ mod parsed;
 pub use crate::command_line::{RequestFault, request, task};
 pub use crate::outcome::{Outcome, status};
 pub use crate::parsed::{
-<<<<<<< HEAD
     Comparison, Compression, Cuts, Decompression, Examination, Extraction, FolderListing, Options,
     Owner, Request, Target, Task,
-=======
-    Comparison, Compression, Cuts, Decompression, Extraction, FolderListing, Options, Owner,
-    Request, Target, Task,
->>>>>>> d07d88a6d4702cff4ca22959777aedf8dd383991
 };

@@ -3,13 +3,8 @@
 
 use crate::checks::{equal, equal_at, expect, expect_at};
 use jcommand::{
-<<<<<<< HEAD
     Comparison, Compression, Cuts, Decompression, Examination, Extraction, FolderListing, Options,
     Outcome, Owner, Request, RequestFault, Target, Task, status, task,
-=======
-    Comparison, Compression, Cuts, Decompression, Extraction, FolderListing, Options, Outcome,
-    Owner, Request, RequestFault, Target, Task, status, task,
->>>>>>> d07d88a6d4702cff4ca22959777aedf8dd383991
 };
 use jnode::Endian;
 use std::alloc::{AllocError, Global};
