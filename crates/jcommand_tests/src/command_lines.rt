@@ -214,7 +214,7 @@ pub(crate) fn is_wrong(text: &str, part: &str) -> bool {
 }
 
 /// Lines that ask to read, and what they ask for.
-const READING: [(&str, &str); 20] = [
+const READING: [(&str, &str); 22] = [
     ("t check --scan a.img", "scan 65536 little a.img"),
     ("t check a.img", "check 65536 little a.img"),
     ("t check --shape a.img", "check 65536 little a.img shape"),
@@ -341,7 +341,7 @@ fn args_that_ask_to_write(rt: HostRuntime) -> Result<(), Fail> {
 }
 
 /// Lines that ask for nothing, and a part of the text that says why.
-const WRONG: [(&str, &str); 37] = [
+const WRONG: [(&str, &str); 40] = [
     ("", "requires a subcommand"),
     ("t", "requires a subcommand"),
     ("t paint", "unrecognized subcommand 'paint'"),
@@ -501,7 +501,7 @@ fn args_that_are_wrong_to_write(rt: HostRuntime) -> Result<(), Fail> {
 }
 
 /// Lines that ask for help, and a part of it.
-const HELP: [(&str, &str); 22] = [
+const HELP: [(&str, &str); 24] = [
     ("t --help", "Usage: t <COMMAND>"),
     ("t -h", "Usage: t <COMMAND>"),
     ("t help", "Usage: t <COMMAND>"),
