@@ -164,7 +164,7 @@ fn nothing_is_left_out(rt: HostRuntime) {
     match decompress_apart::<LittleEndian, Taker>(rt.alloc(), image, BLOCKS_OF_8_KIB, sink) {
         Ok((sink, done)) => {
             expect(&rt, sink.bytes.as_slice() == little_expanded());
-            equal(&rt, (done.told.changed, done.left.len()), (4, 0));
+            equal(&rt, (done.told.changed, done.left.len()), (6, 0));
         }
         Err(_) => panic!(rt; "refused"),
     }
@@ -173,7 +173,7 @@ fn nothing_is_left_out(rt: HostRuntime) {
     match decompress_apart::<BigEndian, Taker>(rt.alloc(), image, BLOCKS_OF_8_KIB, sink) {
         Ok((sink, done)) => {
             expect(&rt, sink.bytes.as_slice() == big_expanded());
-            equal(&rt, (done.told.changed, done.left.len()), (4, 0));
+            equal(&rt, (done.told.changed, done.left.len()), (6, 0));
         }
         Err(_) => panic!(rt; "refused"),
     }
