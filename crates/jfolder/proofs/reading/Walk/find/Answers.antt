@@ -1,8 +1,16 @@
-use Rattle.std.proofs.Common.{◌≡◌, ℕ, List, true, sym, subst}
-use Rattle.std.specs.Prelude.{IfSome}
+use Rattle.std.proofs.Common.{◌≡◌, ℕ, List, true, sym, subst, inl, inr, Result, Ok, Err}
+use Rattle.std.specs.Prelude.{IfErr, IfSome}
+use Rattle.jfolder.specs.Reasons.{IsAttributesWhy, IsRight, SkipsFor}
+use Rattle.jfolder.specs.declared.found.Found.{Found}
+use Rattle.jfolder.specs.declared.found.HostKind.TheVariants as host
+use Rattle.jfolder.specs.declared.found.Options.{Options}
+use Rattle.jfolder.specs.declared.found.Skip.{Skip}
+use Rattle.jfolder.specs.declared.found.Skip.TheVariants as skip
+use Rattle.jfolder.specs.declared.host.Looked.{Looked}
+use Rattle.jfolder.specs.declared.tree.Item.{Item}
 use Rattle.jfolder.specs.Known.{Known, MayAnswer, inside}
 use Rattle.jfolder.specs.Links.{HasOtherNames, IsMet, id_of}
-use Rattle.jfolder.specs.Objects.{AreOne}
+use Rattle.jfolder.specs.Objects.{AreOne, kind_bits}
 use Rattle.jfolder.specs.Walking.{IsFileOf}
 use Rattle.jfolder.proofs.WalkLemmas.{link_found, link_kind, link_object, told_if}
 use Rattle.jfolder.proofs.LinkLemmas.{first_links, further_links, unmet_none, unmet_other}
@@ -58,3 +66,17 @@ returns-clause-links g c =
     ] in
     first_links known c.args.self.now.items.items c.args.path.now c.in_ok-looked.looked c.first_found.result
     (subst (λ (l : List ℕ). IfSome (known.looked l) (λ told. c.in_ok-looked.looked ≡ told)) c.in-Some.ensures.rest c.in_ok-looked.ensures.told) c.first_found.ensures.identity unmet
+
+-- a link is of a kind that a listing has, so what its attributes say against it is right
+link_right : (known : Known) (options : Options) (items : List Item) (path : List ℕ) (told : Looked) (r : Result Found Skip) → IfSome (known.looked (inside path)) (λ k. told ≡ k)
+    → kind_bits told.mode ≡ 8 → IfErr r (SkipsFor (IsAttributesWhy options told)) → IfErr r (SkipsFor (λ why. IsRight known options items (path, why)))
+link_right known options items path told (Ok found) is kind why = tt
+link_right known options items path told (Err (skip.LeftOut left)) is kind why = inr (inr (inr (told, is, inr (inl ((host.Regular, kind), why)))))
+link_right known options items path told (Err skip.OutOfMemory) is kind why = tt
+
+pub returns-then-branch-clause-why : goal.returns-then-branch-clause-why
+returns-then-branch-clause-why g c =
+    let known = g.F.HostFolder.known c.args.folder.now in
+    link_right known c.args.options.now c.args.self.now.items.items c.args.path.now c.in_ok-looked.looked c.link_to.result
+    (subst (λ (l : List ℕ). IfSome (known.looked l) (λ told. c.in_ok-looked.looked ≡ told)) c.in-Some.ensures.rest c.in_ok-looked.ensures.told)
+    c.in-Some-first_path.ensures.kind c.link_to.ensures.why
