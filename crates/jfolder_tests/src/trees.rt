@@ -17,10 +17,7 @@ fn a_folder_is_listed(rt: HostRuntime) {
         &rt,
         is_read(alloc, &tree(), &AS_TOLD, TREE_TEXT, TREE_NOTES, 1),
     );
-    expect(
-        &rt,
-        is_read(alloc, &tree(), &GIVEN, GIVEN_TEXT, "", 0),
-    );
+    expect(&rt, is_read(alloc, &tree(), &GIVEN, GIVEN_TEXT, "", 0));
 }
 
 /// An object of this kind beside the folder itself.
@@ -48,12 +45,7 @@ const DEVICES: [(u32, u64, &str, &str); 8] = [
     (0o060640, 0x800, "device b 640 8 0 /o\n", ""),
     (0o060000, 0x10010301, "device b 0 259 65537 /o\n", ""),
     (0o020000, 0xfff_00, "device c 0 4095 0 /o\n", ""),
-    (
-        0o020000,
-        0xff_ff_ff_ff,
-        "device c 0 4095 1048575 /o\n",
-        "",
-    ),
+    (0o020000, 0xff_ff_ff_ff, "device c 0 4095 1048575 /o\n", ""),
     (
         0o020000,
         0x1000_0000_0000,
