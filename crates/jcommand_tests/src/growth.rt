@@ -5,7 +5,7 @@ use jcommand::{Request, RequestFault, Task, task};
 use std::alloc::Global;
 
 /// Words, and what they ask for.
-const LINES: [(&[&str], &str); 16] = [
+const LINES: [(&[&str], &str); 17] = [
     (&["t", "check", "--scan", "--block=4096", "a.img"], "scan"),
     (&["t", "check", "--endian", "big", "a.img"], "check"),
     (&["t", "ls", "a.img"], "ls"),
@@ -29,6 +29,10 @@ const LINES: [(&[&str], &str); 16] = [
     (&["t", "compress", "a.img", "b.img"], "compress"),
     (&["t", "diff", "--times", "a.img", "b.img"], "diff"),
     (&["t", "damage", "a.img"], "damage"),
+    (
+        &["t", "decompress", "--clashes", "higher", "a.img", "b.img"],
+        "apart",
+    ),
     (&["t", "check", "--help"], "help"),
     (&["t", "check", "--block", "x", "a.img"], "wrong"),
 ];
@@ -44,6 +48,7 @@ fn asked(alloc: Global, words: &[&str]) -> &'static str {
         Ok(Task::Image(Request::Append { .. })) => "append",
         Ok(Task::Image(Request::Decompress { .. })) => "decompress",
         Ok(Task::Weak(_)) => "weak",
+        Ok(Task::Apart(_)) => "apart",
         Ok(Task::Extract(_)) => "extract",
         Ok(Task::Listing(_)) => "listing",
         Ok(Task::Info { .. }) => "info",

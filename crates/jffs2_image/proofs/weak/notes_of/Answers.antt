@@ -16,5 +16,5 @@ returns g c =
     let sink : SinkChange = record { old = Some c.new-held.result.bytes.items; new = Some c.put_cuts.new.sink.bytes.items; before = c.new-held.result.failures; now = c.put_cuts.new.sink.failures } in
     record {
       noted = λ taken. absurd (c.is_of_memory.ensures c.if-is_of_memory.false
-          (only_memory g.E.Order.order c.args.flash c.args.mounted.now asked sink c.in-Err-Session.fault c.in-Err-Session.field-0-1 taken c.in-Err-Session.ensures));
+          (only_memory g.E.Order.order c.args.flash c.args.mounted.now asked sink c.in-Err-Session.fault _ taken c.in-Err-Session.ensures));
     }
