@@ -67,7 +67,8 @@ fn notes_of<E: Order>(
             weak: weak as u64,
         }),
         Err(CutsFault::Output) => Err(AllocError),
-        Err(CutsFault::Session { fault, .. }) => {
+        Err(CutsFault::Session { fault, line }) => {
+            let _ = line;
             if is_of_memory(fault) {
                 Err(AllocError)
             } else {

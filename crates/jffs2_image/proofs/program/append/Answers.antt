@@ -21,3 +21,6 @@ returns-clause-weak g c =
     let plain : a.decompress ≡ false = search rules in
     rw plain (on_ok _ _ w.result (λ are asked. append_notes (g.L.Loader.told a.loader.now) _ g.E.Order.order a.target.options a.target.blocks a.target.page false a.image.now a.listing.now a.target.output.now c.deref.result.now c.deref.result.now
     c.as_slice.result.now _ (search rules) (search rules) refl (search rules) (are asked)) w.ensures.weak)
+
+pub returns-then-decompress-clause-weak : goal.returns-then-decompress-clause-weak
+returns-then-decompress-clause-weak g c = rw c.if-decompress.true c.append_decompressed.ensures.weak

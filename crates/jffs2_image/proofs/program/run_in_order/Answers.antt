@@ -1,7 +1,8 @@
-use Rattle.std.proofs.Common.{rules, ◌≡◌, None, subst, sym}
+use Rattle.std.proofs.Common.{rules, ◌≡◌, None, IsTrue, OnOk, subst, sym}
 use Rattle.std.specs.Prelude.{option_map}
-use Rattle.jcommand.specs.Parsed.{Parsed, ScanParsed, CheckParsed, ListParsed, CatParsed, view}
+use Rattle.jcommand.specs.Parsed.{Parsed, ScanParsed, CheckParsed, ListParsed, CatParsed, AppendParsed, view}
 use Rattle.jffs2_image.specs.Runs.{Meets}
+use Rattle.jffs2_image.specs.WeakRuns.{HasNotes}
 use Rattle.jffs2_image.proofs.WritingLemmas.{met_by_any}
 use Rattle.jffs2_image.proofs.program.run_in_order.Goals as goal
 
@@ -32,3 +33,9 @@ returns-in-Cat-clause-meets g c =
     subst (λ (p : Parsed). Meets (g.L.Loader.told c.args.loader.now) (g.M.Maker.held c.args.maker.now, g.M.Maker.held c.args.maker.now) g.E.Order.order p (g.T.Sink.taken c.args.sink.now) (g.T.Sink.taken c.cat.new.sink)
     (g.T.Sink.failures c.args.sink.now) (g.T.Sink.failures c.cat.new.sink) c.cat.result) (sym is)
     (met_by_any _ (None, None) _ g.E.Order.order (CatParsed c.in-Cat.options c.in-Cat.decompress c.in-Cat.image.now c.in-Cat.path.now) _ _ _ _ c.cat.result tt c.cat.ensures.meets)
+
+pub returns-in-Append-clause-weak : goal.returns-in-Append-clause-weak
+returns-in-Append-clause-weak g c =
+    let t = c.in-Append.target in
+    let is : view c.args.request ≡ AppendParsed t.options t.blocks t.page c.in-Append.decompress c.in-Append.image.now c.in-Append.listing.now t.output.now = search rules in
+    subst (λ (p : Parsed). OnOk c.append.result (IsTrue c.args.notes.now.asked → HasNotes (g.L.Loader.told c.args.loader.now) g.E.Order.order p c.append.new.notes)) (sym is) c.append.ensures.weak

@@ -1,7 +1,8 @@
-use Rattle.std.proofs.Common.{refl}
-use Rattle.jcuts.specs.Cuts.{Asked, SinkChange}
+use Rattle.std.proofs.Common.{◌≡◌, Err, Result, Some, ℕ, refl, subst}
+use Rattle.jcuts.specs.Cuts.{Asked, PutsCuts, SinkChange}
+use Rattle.jcuts.specs.declared.cuts.CutsFault.{CutsFault}
+use Rattle.jcuts.specs.declared.cuts.CutsFault.TheVariants as told
 use Rattle.jcuts.specs.declared.lines.Telling.TheVariants.{WeakNotes}
-use Rattle.std.proofs.Common.{Some}
 use Rattle.jffs2_image.proofs.WeakLemmas.{only_memory, told_notes}
 use Rattle.jffs2_image.proofs.weak.notes_of.Goals as goal
 
@@ -14,7 +15,10 @@ pub returns : goal.returns
 returns g c =
     let asked : Asked = record { telling = WeakNotes; ops = c.args.ops.now; lines = c.args.lines.now } in
     let sink : SinkChange = record { old = Some c.new-held.result.bytes.items; new = Some c.put_cuts.new.sink.bytes.items; before = c.new-held.result.failures; now = c.put_cuts.new.sink.failures } in
+    let is : c.put_cuts.result ≡ Err (told.Session c.in-Err-Session.fault c.in-Err-Session.line) = cc in
+    let puts : PutsCuts g.E.Order.order c.args.flash c.args.mounted.now asked sink (Err (told.Session c.in-Err-Session.fault c.in-Err-Session.line)) =
+    subst (λ (r : Result ℕ CutsFault). PutsCuts g.E.Order.order c.args.flash c.args.mounted.now asked sink r) is c.put_cuts.ensures in
     record {
       noted = λ taken. absurd (c.is_of_memory.ensures c.if-is_of_memory.false
-          (only_memory g.E.Order.order c.args.flash c.args.mounted.now asked sink c.in-Err-Session.fault _ taken c.in-Err-Session.ensures));
+          (only_memory g.E.Order.order c.args.flash c.args.mounted.now asked sink c.in-Err-Session.fault c.in-Err-Session.line taken puts));
     }

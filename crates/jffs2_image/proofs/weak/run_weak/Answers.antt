@@ -16,8 +16,8 @@ returns-in-Ok g c = record {
   ends = c.put_notes.ensures.found;
 }
 
-pub returns-in-Err : goal.returns-in-Err
-returns-in-Err g c = record {
+pub returns : goal.returns
+returns g c = record {
   answer = Err c.in-Err.fault;
   notes = c.run_whole.new.notes;
   between = g.E.Sink.taken c.report_fault.new.errors;

@@ -7,4 +7,4 @@ returns-clause-files g c = c.write_lines.ensures.files (g.L.Loader.told c.args.l
 
 pub returns-clause-weak : goal.returns-clause-weak
 returns-clause-weak g c =
-    on_ok _ _ c.write_lines.result (λ are asked. lines_notes (g.L.Loader.told c.args.loader.now) _ _ _ c.args.text.now _ _ _ (search rules) (search rules) (are asked)) c.write_lines.ensures.weak
+    on_ok _ _ c.write_lines.result (λ are asked. lines_notes (g.L.Loader.told c.args.loader.now) g.E.Order.order _ c.args.base.now c.args.text.now c.in_ok-lines.lines.items c.in_ok-parts.parts _ (search rules) (search rules) (are asked)) c.write_lines.ensures.weak

@@ -238,7 +238,7 @@ pub take-requires-clause-numbered : goal.take-requires-clause-numbered
 take-requires-clause-numbered g c =
     let lines : List Line = c.args.lines.items in
     let ops : c.deref-2.result.now ≡ ops_in g.E.Order.order (part_contents c.args.parts.now) lines = search rules in
-    let items : c.in_ok-numbers.numbers.items ≡ map (λ (l : Line). l.number) lines = search rules in
+    let items : c.in_ok-numbers.numbers.items ≡ map (λ (l : Line). l.number) lines = c.in_ok-numbers.ensures ∙ ap (map (λ (l : Line). l.number)) c.deref.ensures.value in
     let numbers : c.deref-3.result.now ≡ map (λ (l : Line). l.number) lines = c.deref-3.ensures.value ∙ items in
     ap length numbers ∙ (length-map lines (λ (l : Line). l.number) ∙ sym (ap length ops ∙ length-map lines (op_in g.E.Order.order (part_contents c.args.parts.now))))
 
