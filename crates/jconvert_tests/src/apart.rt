@@ -180,34 +180,30 @@ fn nothing_is_left_out(rt: HostRuntime) {
 }
 
 /// The calls that it is made of, of an image whose first node is left out.
-fn is_made_of_calls(rt: &impl Abort, alloc: Global, image: &[u8], held: &[u8]) -> Result<(), Fail> {
-    let nodes = located::<LittleEndian>(alloc, image, BLOCKS_OF_8_KIB, held);
-    let Ok(nodes) = nodes else {
+#[test]
+fn calls_one_after_another(rt: HostRuntime) -> Result<(), Fail> {
+    let alloc = rt.alloc();
+    let image = image_of_nodes::<LittleEndian>(alloc, &[AB, CD], ATTRIBUTES)?;
+    let Ok(judged) = judge::<LittleEndian>(alloc, &image, BLOCKS_OF_8_KIB, 100) else {
+        panic!(rt; "refused");
+    };
+    let Ok(nodes) = located::<LittleEndian>(alloc, &image, BLOCKS_OF_8_KIB, &judged.held) else {
         panic!(rt; "not located");
     };
-    expect(rt, nodes.len() == 2 && nodes[0].0 == 0 && nodes[1].0 == 72);
-    let parted = without_clashing(alloc, &nodes)?;
-    expect(rt, are_left(&parted.left, &[(0, 72)]));
-    let Ok(same) = part::<LittleEndian>(alloc, image, BLOCKS_OF_8_KIB, held) else {
+    expect(&rt, nodes.len() == 2 && nodes[0].0 == 0 && nodes[1].0 == 72);
+    let same = without_clashing(alloc, &nodes)?;
+    expect(&rt, are_left(&same.left, &[(0, 72)]));
+    let Ok(parted) = part::<LittleEndian>(alloc, &image, BLOCKS_OF_8_KIB, &judged.held) else {
         panic!(rt; "not parted");
     };
-    expect(rt, are_left(&same.left, &[(0, 72)]));
-    for node in &same.stay {
-        expect(rt, matches!(node, NodeRef::Inode(inode) if inode.uid == 5));
+    expect(&rt, are_left(&parted.left, &[(0, 72)]));
+    for node in &parted.stay {
+        expect(&rt, matches!(node, NodeRef::Inode(inode) if inode.uid == 5));
     }
     let mut sink = Taker::new(alloc);
     let end = write_nodes::<LittleEndian, Taker>(alloc, &parted.stay, BLOCKS_OF_8_KIB, &mut sink);
-    expect(rt, end == Ok(84) && sink.bytes.len() == 84);
+    expect(&rt, end == Ok(84) && sink.bytes.len() == 84);
     Ok(())
-}
-
-#[test]
-fn calls_one_after_another(rt: HostRuntime) -> Result<(), Fail> {
-    let image = image_of_nodes::<LittleEndian>(rt.alloc(), &[AB, CD], ATTRIBUTES)?;
-    let Ok(judged) = judge::<LittleEndian>(rt.alloc(), &image, BLOCKS_OF_8_KIB, 100) else {
-        panic!(rt; "refused");
-    };
-    is_made_of_calls(&rt, rt.alloc(), &image, &judged.held)
 }
 
 /// What `decompress` refuses is refused before a byte is put.
