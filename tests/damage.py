@@ -17,7 +17,7 @@ LISTINGS = (
     "mkdir 0755 /etc\ncreate 0644 /etc/name\nwrite /etc/name 0 61626364\nwrite /etc/name 2 7879\n"
     "link /etc/name /etc/n\\x20m\n",
     "create 0644 /a\nwrite /a 0 0102030405060708\nwrite /a 0 1112\nwrite /a 6 2122232425\n"
-    "symlink a /l\nrename /a /b\n",
+    "symlink /l a\nrename /a /b\n",
     "mkdir 0700 /d\nmkdir 0700 /d/e\ncreate 0600 /d/e/f\nwrite /d/e/f 3 313233\nremove /d/e/f\n"
     "create 0640 /g\nattr 0600 1 2 3 4 /g\nwrite /g 0 99\n",
 )
@@ -48,11 +48,18 @@ def changed_paths(before, after, options):
     return paths
 
 
+def length_of(kind, line):
+    """The length of a node without the bytes that fill it up to whole words."""
+    if kind == "inode":
+        return 68 + int(re.search(r" data (\d+) ", line)[1])
+    return 40 + len(re.sub(r"\\x..", "x", line.partition(" name ")[2]))
+
+
 def wanted_of(place, nodes):
     """What is damaged where this byte is flipped: the node's address, and the check that it fails."""
-    for addr, kind, length, line in nodes:
+    for addr, kind, _, line in nodes:
         at = place - addr
-        if not 0 <= at < length:
+        if not 0 <= at < length_of(kind, line):
             continue
         if at < 12:
             return None
