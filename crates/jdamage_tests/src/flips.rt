@@ -51,7 +51,7 @@ fn write_node(image: &mut Vec<u8>, node: Node) -> Result<(), WriteFault> {
                 mtime: 0,
                 ctime: 0,
                 offset,
-                dsize: data.len() as u32,
+                dsize: u32::try_from(data.len()).unwrap_or(u32::MAX),
                 fill: Fill::Data(Part::new(data, 0)),
             },
         ),
