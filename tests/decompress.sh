@@ -330,7 +330,7 @@ done
 unmade none.img
 # With --clashes higher the node below it is left out, and told; what is left mounts.
 run decompress --clashes higher clash out.img
-want 3 "decompressed 1 nodes 2 bytes 144" "left out 00000038: clashes with 00000090"
+want 3 "decompressed 2 nodes 2 bytes 144" "left out 00000038: clashes with 0000008c"
 run check out.img; want 0 $'*findings 0\nmount ok' ""
 run decompress --clashes higher good out.img; want 0 "decompressed 1 nodes 2 bytes 144" ""
 run decompress good again.img; same out.img again.img
