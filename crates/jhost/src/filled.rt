@@ -92,7 +92,8 @@ fn made_anew() -> OpenOptions
 impl<'r, R: Files + AllocGlobal + Clock + Eprint> FilledFolder<'r, R> {
     /// The folder of a path, which is not made yet. It tells how far it is only where `tells`.
     pub fn new(rt: &'r R, path: &str, tells: bool) -> Result<Self, AllocError>
-        ensures none { IfOk result (λ folder. ⟦<FilledFolder<'r, R> as Folder>⟧.failures folder ≡ record { refused = 0; full = 0 }) }
+        ensures none { IfOk result (λ folder. ⟦<FilledFolder<'r, R> as Folder>⟧.failures folder
+            ≡ record { refused = 0; full = 0 }) }
         ensures root { IfOk result (λ folder. filled_root folder ≡ path.now) }
         ensures silent { IsFalse tells → IfOk result (λ folder. FillsInSilence folder) }
     {

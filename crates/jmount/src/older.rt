@@ -25,7 +25,8 @@ pub struct Older<'a> {
     pub places: Option<Box<Places>>,
     ghost found: { (node : InodeNode) → Contains nodes.items node
         → node_of_version nodes.items node.version ≡ Some node },
-    ghost within: { (p : Box Places Global) → places ≡ Some p → p.value.listed ≤ length nodes.items },
+    ghost within: { (p : Box Places Global) → places ≡ Some p
+        → p.value.listed ≤ length nodes.items },
     ghost placed: { (p : Box Places Global) (v : ℕ) → places ≡ Some p
         → get nat_cmp p.value.map v ≡ place_of_version (take p.value.listed nodes.items) v },
 }

@@ -22,7 +22,7 @@ pub struct Pending<'n, 'a> {
 }
 
 /// Whether the entries come in order of directory and name, as far as their keys tell.
-pub fn are_in_order(nodes: &[(u32, NodeRef<'_>)]) -> bool {
+pub(crate) fn are_in_order(nodes: &[(u32, NodeRef<'_>)]) -> bool {
     let mut last = (0, 0);
     for (_, node) in nodes {
         if let NodeRef::Entry(entry) = node {

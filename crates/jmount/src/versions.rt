@@ -41,7 +41,8 @@ impl<T: Drop> From<AllocFailed<T>> for InodeFault {
 pub struct Versions<'a> {
     pub newest: InodeNode<'a>,
     pub older: Older<'a>,
-    ghost below: { (node : InodeNode) → Contains older.nodes.items node → node.version < newest.version },
+    ghost below: { (node : InodeNode) → Contains older.nodes.items node
+        → node.version < newest.version },
 }
 
 impl<'a> Versions<'a> {

@@ -17,7 +17,8 @@ use std::borrow::CowSlice;
 pub struct Directory<'a> {
     pub names: NameMap<'a>,
     pub highest: u32,
-    ghost bounds: { (name : List ℕ) (v : ℕ) → IsSome (content_in (names_in names) name v) → v ≤ highest },
+    ghost bounds: { (name : List ℕ) (v : ℕ) → IsSome (content_in (names_in names) name v)
+        → v ≤ highest },
     ghost reached: { ((name : List ℕ) → content_in (names_in names) name highest ≡ None) → ⊥ },
 }
 

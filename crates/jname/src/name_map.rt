@@ -31,7 +31,8 @@ const FEW: usize = 8;
 pub struct NameMap<'a> {
     pub few: Few<'a>,
     pub map: ByName<'a>,
-    ghost ordered: { IsStrictlySortedBy name_cmp (keys_of (few.items ++ map.entries)) } by { Prim.hlevel props },
+    ghost ordered: { IsStrictlySortedBy name_cmp
+        (keys_of (few.items ++ map.entries)) } by { Prim.hlevel props },
 }
 
 impl<'a> NameMap<'a> {
