@@ -76,8 +76,10 @@ FillsNothing f = (f.made_new ≡ f.made_old) × (f.failures_new ≡ f.failures_o
 
 -- the tree of a file system is extracted
 abbrev pub ExtractsTree : State → Extracting → Filling → Result Totals ExtractFault → Type 0
-ExtractsTree s x f result = Extracts s x.owners f.made_old f.made_new f.failures_old
-    f.failures_new f.notes.old f.notes.new f.notes.before f.notes.now result
+ExtractsTree s x f result = Extracts s x.owners
+    (record { old = f.made_old; new = f.made_new; before = f.failures_old; now = f.failures_new })
+    (record { old = f.notes.old; new = f.notes.new; before = f.notes.before; now = f.notes.now })
+    result
 
 -- the path that is asked for names nothing
 abbrev pub HasNoPart : State → Option (List ℕ) → ProgramFault → Type 0
