@@ -232,11 +232,14 @@ abbrev pub ListsFolder : Known → Options → List ℕ → Option (List ℕ) �
 ListsFolder known options name old new before now told_old told_new told_before told_now (Ok n) =
     (folder : Folder) × IsListable known options folder × (n ≡ folder.left_out)
     × Appends old new (listing_text folder.root folder.items.items) × (now ≡ before)
-    × Tells known options told_old told_new told_before told_now (Ok folder)
+    × Tells known options
+    (record { old = told_old; new = told_new; before = told_before; now = told_now }) (Ok folder)
 ListsFolder known options name old new before now told_old told_new told_before told_now
     (Err fault) =
     ((folder : Folder) × IsListable known options folder × (fault ≡ program.Output)
     × PutsPart old new (listing_text folder.root folder.items.items) × (now ≡ next_count before)
-    × Tells known options told_old told_new told_before told_now (Ok folder))
+    × Tells known options
+    (record { old = told_old; new = told_new; before = told_before; now = told_now }) (Ok folder))
     ⊎ ((refused : ReadFault) × IsReadingFault name refused fault × (new ≡ old) × (now ≡ before)
-    × Tells known options told_old told_new told_before told_now (Err refused))
+    × Tells known options
+    (record { old = told_old; new = told_new; before = told_before; now = told_now }) (Err refused))
