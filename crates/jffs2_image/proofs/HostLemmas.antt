@@ -206,7 +206,7 @@ all_read told lines n parts was all = λ name named.
 tells_on_base : (held : Held) (page : Page) (e : Endian) (size blocks : ℕ) (base : List ℕ) (ops : List Op) (m : Mount) (accepted : ℕ) (places : List Place) → m.image ≡ base
     → IsMade held page e size blocks m ops accepted places None → TellsLength page e size blocks base ops accepted places
 tells_on_base held page e size blocks base ops m accepted places same made = subst (λ (image : List ℕ). TellsLength page e size blocks image ops accepted places) same
-    (line_tells_length page e size blocks m.image ops accepted places _ _ _ _ (goes_on_flash page e size blocks m made.put.resumes) made.put.emitted)
+    (line_tells_length page e size blocks m.image ops accepted places _ (goes_on_flash page e size blocks m made.put.resumes) made.put.emitted)
 
 -- so they are those of the operations that were run
 have_bytes : (told : List ℕ → Option (List ℕ)) (lines : List Line) (parts : Parts) → AreRead told lines parts → HaveBytes told lines (part_contents parts)
@@ -376,13 +376,13 @@ put_until page e size blocks m ops accepted places (Some session.Broken) old giv
 
 -- where operations were run
 pub part_of_run : (page : Page) (e : Endian) (size blocks : ℕ) (base : List ℕ) (ops : List Op) (accepted : ℕ) (places : List Place) (stopped : Option SessionFault) (old mid taken given : Option (List ℕ)) (before now : ℕ)
-    → stopped ≢ Some session.Sink → IsEmitted page e size blocks base ops accepted places stopped old mid before now → Keeps mid taken → IsBehind given taken → GivesPart page e size blocks base ops old given
+    → stopped ≢ Some session.Sink → IsEmitted page e size blocks base ops accepted places stopped (record { old = old; new = mid; before = before; now = now }) → Keeps mid taken → IsBehind given taken → GivesPart page e size blocks base ops old given
 part_of_run page e size blocks base ops accepted places stopped old mid taken given before now other emitted kept part =
     (mid, inr (accepted, places, stopped, before, now, other, emitted), same_behind given mid taken kept part)
 
 -- and where none was
 pub part_of_front : (page : Page) (e : Endian) (size blocks : ℕ) (m : Mount) (ops : List Op) (old mid taken given : Option (List ℕ)) (before now : ℕ) (f : SessionFault)
-    → IsNotEmitted page e size blocks m old mid before now f → Keeps mid taken → IsBehind given taken → GivesCut f page e size blocks m.image ops old given
+    → IsNotEmitted page e size blocks m (record { old = old; new = mid; before = before; now = now }) f → Keeps mid taken → IsBehind given taken → GivesCut f page e size blocks m.image ops old given
 part_of_front page e size blocks m ops old mid taken given before now session.Sink not kept part = (mid, inl not.1, same_behind given mid taken kept part)
 part_of_front page e size blocks m ops old mid taken given before now session.OutOfMemory not kept part =
     (mid, not.1, same_behind given mid taken kept part)

@@ -76,8 +76,8 @@ pub record IsPut (page : Page) (e : Endian) (size blocks : ℕ) (m : Mount) (ops
   pub taken : Option (List ℕ)
   pub count : ℕ
   pub resumes : IsOk (resumes_by page e size blocks m)
-  pub emitted : IsEmitted page e size blocks m.image ops accepted places stopped old taken
-      before count
+  pub emitted : IsEmitted page e size blocks m.image ops accepted places stopped
+      (record { old = old; new = taken; before = before; now = count })
   pub given_on : IsGivenOn stopped taken given count now
 
 -- What was given to the files that were made and are lent out no more, in order, where the host
@@ -112,7 +112,8 @@ IsPutInPart page e size blocks base ops old taken =
     ⊎ ((accepted : ℕ) × (places : List Place) × (stopped : Option SessionFault) × (before : ℕ)
     × (now : ℕ)
     × (stopped ≢ Some session.Sink)
-    × IsEmitted page e size blocks base ops accepted places stopped old taken before now)
+    × IsEmitted page e size blocks base ops accepted places stopped
+    (record { old = old; new = taken; before = before; now = now }))
 
 -- of that a beginning was given on
 abbrev pub GivesPart : Page → Endian → ℕ → ℕ → List ℕ → List Op → Option (List ℕ) → Option (List ℕ)
