@@ -1,7 +1,7 @@
 -- What is told of damaged nodes, one by one.
 use Rattle.std.proofs.Common.{◌≡◌, ◌≢◌, ℕ, suc, ◌+◌, ◌-◌, ◌^◌, ◌<◌, ◌≤◌, Bool, true, List, [], ◌∷◌, ◌++◌, length, length-append, take, get_or, refl, sym, ap, ◌∙◌, arith, append_assoc, nat_lt, false, subst, append-nil, Option, Some, None}
 use Rattle.std.specs.Borrow.{Bor}
-use Rattle.std.specs.Prelude.{All, filter, filter_map, flat_map, map, min, sum_by, is_some, if◌then◌else◌}
+use Rattle.std.specs.Prelude.{All, filter, filter_map, flat_map, map, min, sum_by, is_some, if◌then◌else◌, ◌==◌, ◌&&◌, cond}
 use Rattle.std.specs.BTreeSet.{BTreeSet, contains}
 use Rattle.std.specs.List.{cons_option}
 use Rattle.std.specs.Ordering.{nat_cmp}
@@ -23,8 +23,9 @@ use Rattle.jdamage.specs.Coverage.{is_not_older}
 use Rattle.jdamage.specs.Damage.{damage_text, damage_totals, data_text, hurt_text, missing_text, node_paths, node_text, size_at, changes_nothing}
 use Rattle.jdamage.specs.Fields.{damaged_nodes, stretch_at, stretches}
 use Rattle.jdamage.specs.Lines.{hides_line, no_path_line, nothing_line, totals_shown}
-use Rattle.jdamage.specs.Telling.{PushesHurt, path_text_if}
-use Rattle.jdamage.specs.Ways.{NameOf, path_if, paths_to, root_paths}
+use Rattle.jdamage.specs.Groups.{group_of}
+use Rattle.jdamage.specs.Telling.{Kept, PushesHurt, is_kept, own_paths, own_text, path_text_if}
+use Rattle.jdamage.specs.Ways.{NameOf, name_held, named, path_if, path_of, paths_to, root_paths}
 use Rattle.jdamage.specs.declared.fields.Stretch.{Stretch}
 use Rattle.jdamage.specs.declared.totals.Totals.{Totals}
 use Rattle.jdamage.proofs.CoverageLemmas.{hidden_kept}
@@ -72,66 +73,82 @@ each_more {X} P xs i e less before here k d below = by (nat_lt k i) refl
 -- ---- one more name
 
 pub name_more : (s : State) (addr : ℕ) (lost : Stretch) (n : NameOf) (left rest : List NameOf) (whole here after : List ℕ) → left ≡ n ∷ rest
-    → here ++ flat_map (hides_line addr lost) (filter_map (path_if s lost.ino) left) ≡ whole → after ≡ here ++ path_text_if addr lost (path_if s lost.ino n)
-    → after ++ flat_map (hides_line addr lost) (filter_map (path_if s lost.ino) rest) ≡ whole
+    → here ++ flat_map (hides_line addr lost) (filter_map (path_of s) left) ≡ whole → after ≡ here ++ path_text_if addr lost (path_of s n)
+    → after ++ flat_map (hides_line addr lost) (filter_map (path_of s) rest) ≡ whole
 name_more s addr lost n left rest whole here after is so_far more =
     let f = hides_line addr lost in
-    let h = path_if s lost.ino in
+    let h = path_of s in
     ap (λ (l : List ℕ). l ++ flat_map f (filter_map h rest)) more ∙ append_assoc here (path_text_if addr lost (h n)) (flat_map f (filter_map h rest))
     ∙ ap (λ (l : List ℕ). here ++ l) (one (h n))
     ∙ ap (λ (l : List NameOf). here ++ flat_map f (filter_map h l)) (sym is) ∙ so_far
   where
-    one : (o : Option (List (List ℕ))) → path_text_if addr lost o ++ flat_map (hides_line addr lost) (filter_map (path_if s lost.ino) rest)
-        ≡ flat_map (hides_line addr lost) (cons_option o (filter_map (path_if s lost.ino) rest))
+    one : (o : Option (List (List ℕ))) → path_text_if addr lost o ++ flat_map (hides_line addr lost) (filter_map (path_of s) rest)
+        ≡ flat_map (hides_line addr lost) (cons_option o (filter_map (path_of s) rest))
     one None = refl
-    one (Some path) = sym (flat_map-cons (hides_line addr lost) path (filter_map (path_if s lost.ino) rest))
+    one (Some path) = sym (flat_map-cons (hides_line addr lost) path (filter_map (path_of s) rest))
 
-pub told_more : (s : State) (i : ℕ) (n : NameOf) (left rest : List NameOf) (whole most here after : ℕ) (told : Bool) → left ≡ n ∷ rest
-    → min (here + length (filter_map (path_if s i) left)) most ≡ min whole most → told ≡ is_some (path_if s i n)
+pub told_more : (s : State) (n : NameOf) (left rest : List NameOf) (whole most here after : ℕ) (told : Bool) → left ≡ n ∷ rest
+    → min (here + length (filter_map (path_of s) left)) most ≡ min whole most → told ≡ is_some (path_of s n)
     → after ≡ min (here + (if told then 1 else 0)) most
-    → min (after + length (filter_map (path_if s i) rest)) most ≡ min whole most
-told_more s i n left rest whole most here after told is so_far so more =
-    let first : length (filter_map (path_if s i) left) ≡ (if told then 1 else 0) + length (filter_map (path_if s i) rest) =
-    ap (λ (l : List NameOf). length (filter_map (path_if s i) l)) is ∙ one (path_if s i n) ∙ ap (λ (b : Bool). (if b then 1 else 0) + length (filter_map (path_if s i) rest)) (sym so) in
+    → min (after + length (filter_map (path_of s) rest)) most ≡ min whole most
+told_more s n left rest whole most here after told is so_far so more =
+    let first : length (filter_map (path_of s) left) ≡ (if told then 1 else 0) + length (filter_map (path_of s) rest) =
+    ap (λ (l : List NameOf). length (filter_map (path_of s) l)) is ∙ one (path_of s n) ∙ ap (λ (b : Bool). (if b then 1 else 0) + length (filter_map (path_of s) rest)) (sym so) in
     omega (arith, first, more, so_far)
   where
-    one : (o : Option (List (List ℕ))) → length (cons_option o (filter_map (path_if s i) rest)) ≡ (if is_some o then 1 else 0) + length (filter_map (path_if s i) rest)
+    one : (o : Option (List (List ℕ))) → length (cons_option o (filter_map (path_of s) rest)) ≡ (if is_some o then 1 else 0) + length (filter_map (path_of s) rest)
     one None = omega arith
     one (Some path) = omega arith
 
 -- ---- no name yet
 
-pub names_begin : (s : State) (addr : ℕ) (lost : Stretch) (left : List NameOf) (old here : List ℕ) → left ≡ all_entries s
+-- the paths of the names that stand for a number
+pub paths_of_named : (s : State) (i : ℕ) → filter_map (path_of s) (named s i) ≡ filter_map (path_if s i) (all_entries s)
+unfolding named
+paths_of_named s i = each (all_entries s)
+  where
+    each : (xs : List NameOf) → filter_map (path_of s) (filter (λ n. n.2 == i) xs) ≡ filter_map (path_if s i) xs
+    each [] = refl
+    each (n ∷ xs) = by (n.2 == i) (each xs)
+      where
+        by : (b : Bool) → filter_map (path_of s) (filter (λ n. n.2 == i) xs) ≡ filter_map (path_if s i) xs
+            → filter_map (path_of s) (cond b (n ∷ filter (λ n. n.2 == i) xs) (filter (λ n. n.2 == i) xs)) ≡ cons_option (cond b (path_of s n) None) (filter_map (path_if s i) xs)
+        by true rest = ap (cons_option (path_of s n)) rest
+        by false rest = rest
+
+pub names_begin : (s : State) (addr : ℕ) (lost : Stretch) (left : List NameOf) (old here : List ℕ) → left ≡ named s lost.ino
     → here ≡ old ++ flat_map (hides_line addr lost) (root_paths lost.ino)
-    → here ++ flat_map (hides_line addr lost) (filter_map (path_if s lost.ino) left) ≡ old ++ flat_map (hides_line addr lost) (paths_to s lost.ino)
+    → here ++ flat_map (hides_line addr lost) (filter_map (path_of s) left) ≡ old ++ flat_map (hides_line addr lost) (paths_to s lost.ino)
 names_begin s addr lost left old here all root =
     let f = hides_line addr lost in
     let rest = filter_map (path_if s lost.ino) (all_entries s) in
-    ap (λ (l : List NameOf). here ++ flat_map f (filter_map (path_if s lost.ino) l)) all ∙ ap (λ (l : List ℕ). l ++ flat_map f rest) root
+    ap (λ (l : List NameOf). here ++ flat_map f (filter_map (path_of s) l)) all ∙ ap (λ (l : List (List (List ℕ))). here ++ flat_map f l) (paths_of_named s lost.ino)
+    ∙ ap (λ (l : List ℕ). l ++ flat_map f rest) root
     ∙ append_assoc old (flat_map f (root_paths lost.ino)) (flat_map f rest) ∙ ap (λ (l : List ℕ). old ++ l) (sym (flat_map-append f (root_paths lost.ino) rest))
 
-pub count_begin : (s : State) (i : ℕ) (left : List NameOf) (count most : ℕ) → left ≡ all_entries s → count ≡ length (root_paths i)
-    → min (count + length (filter_map (path_if s i) left)) most ≡ min (length (paths_to s i)) most
+pub count_begin : (s : State) (i : ℕ) (left : List NameOf) (count most : ℕ) → left ≡ named s i → count ≡ length (root_paths i)
+    → min (count + length (filter_map (path_of s) left)) most ≡ min (length (paths_to s i)) most
 count_begin s i left count most all root =
     let whole : length (paths_to s i) ≡ length (root_paths i) + length (filter_map (path_if s i) (all_entries s)) = length-append (root_paths i) (filter_map (path_if s i) (all_entries s)) in
-    let same : length (filter_map (path_if s i) left) ≡ length (filter_map (path_if s i) (all_entries s)) = ap (λ (l : List NameOf). length (filter_map (path_if s i) l)) all in
+    let same : length (filter_map (path_of s) left) ≡ length (filter_map (path_if s i) (all_entries s)) =
+    ap (λ (l : List NameOf). length (filter_map (path_of s) l)) all ∙ ap (λ (l : List (List (List ℕ))). length l) (paths_of_named s i) in
     omega (arith, whole, same, root)
 
 -- ---- all of them
 
 module _ (s : State) (addr : ℕ) (lost : Stretch) where
-  ended_text : (left : List NameOf) (here whole : List ℕ) → left ≡ [] → here ++ flat_map (hides_line addr lost) (filter_map (path_if s lost.ino) left) ≡ whole → here ≡ whole
+  ended_text : (left : List NameOf) (here whole : List ℕ) → left ≡ [] → here ++ flat_map (hides_line addr lost) (filter_map (path_of s) left) ≡ whole → here ≡ whole
   ended_text left here whole is so_far =
-      sym (append-nil here) ∙ ap (λ (l : List NameOf). here ++ flat_map (hides_line addr lost) (filter_map (path_if s lost.ino) l)) (sym is) ∙ so_far
+      sym (append-nil here) ∙ ap (λ (l : List NameOf). here ++ flat_map (hides_line addr lost) (filter_map (path_of s) l)) (sym is) ∙ so_far
 
-  ended_count : (left : List NameOf) (count most n : ℕ) → left ≡ [] → min (count + length (filter_map (path_if s lost.ino) left)) most ≡ n → min count most ≡ n
+  ended_count : (left : List NameOf) (count most n : ℕ) → left ≡ [] → min (count + length (filter_map (path_of s) left)) most ≡ n → min count most ≡ n
   ended_count left count most n is so_far =
-      let none : length (filter_map (path_if s lost.ino) left) ≡ 0 = ap (λ (l : List NameOf). length (filter_map (path_if s lost.ino) l)) is in
+      let none : length (filter_map (path_of s) left) ≡ 0 = ap (λ (l : List NameOf). length (filter_map (path_of s) l)) is in
       omega (arith, none, so_far)
 
   pub no_paths : (paths : List (List (List ℕ))) (left : List NameOf) (old here after : List ℕ) (count : ℕ) → left ≡ []
-      → here ++ flat_map (hides_line addr lost) (filter_map (path_if s lost.ino) left) ≡ old ++ flat_map (hides_line addr lost) paths
-      → min (count + length (filter_map (path_if s lost.ino) left)) (2 ^ 64 - 1) ≡ min (length paths) (2 ^ 64 - 1)
+      → here ++ flat_map (hides_line addr lost) (filter_map (path_of s) left) ≡ old ++ flat_map (hides_line addr lost) paths
+      → min (count + length (filter_map (path_of s) left)) (2 ^ 64 - 1) ≡ min (length paths) (2 ^ 64 - 1)
       → count ≡ 0 → after ≡ here ++ no_path_line addr lost → PushesHurt addr lost paths old after 0
   no_paths [] left old here after count is text counted none more = record {
     text = more ∙ ap (λ (l : List ℕ). l ++ no_path_line addr lost) (ended_text left here (old ++ []) is text ∙ append-nil old);
@@ -142,8 +159,8 @@ module _ (s : State) (addr : ℕ) (lost : Stretch) where
       absurd (omega (arith, all, none))
 
   pub some_paths : (paths : List (List (List ℕ))) (left : List NameOf) (old here : List ℕ) (count : ℕ) → left ≡ []
-      → here ++ flat_map (hides_line addr lost) (filter_map (path_if s lost.ino) left) ≡ old ++ flat_map (hides_line addr lost) paths
-      → min (count + length (filter_map (path_if s lost.ino) left)) (2 ^ 64 - 1) ≡ min (length paths) (2 ^ 64 - 1)
+      → here ++ flat_map (hides_line addr lost) (filter_map (path_of s) left) ≡ old ++ flat_map (hides_line addr lost) paths
+      → min (count + length (filter_map (path_of s) left)) (2 ^ 64 - 1) ≡ min (length paths) (2 ^ 64 - 1)
       → count ≢ 0 → count ≤ 2 ^ 64 - 1 → PushesHurt addr lost paths old here count
   some_paths [] left old here count is text counted some most =
       let all = ended_count left count (2 ^ 64 - 1) _ is counted in
@@ -183,90 +200,115 @@ module _ (e : Endian) (m : Mount) (p : Stretch → Bool) (others : List Stretch)
   paths_same (addr, Length) has = refl
   paths_same (addr, Range) has = refl
 
-  pub texts_same : (ds : List (ℕ × Damage)) → All HasNumber ds → flat_map (node_text e m (filter p others)) ds ≡ flat_map (node_text e m others) ds
-  texts_same [] has = refl
-  texts_same (d ∷ ds) has =
-      flat_map-cons (node_text e m (filter p others)) d ds
-      ∙ ap (λ (l : List ℕ). l ++ flat_map (node_text e m (filter p others)) ds) (text_same d (All-head HasNumber d ds has))
-      ∙ ap (λ (l : List ℕ). node_text e m others d ++ l) (texts_same ds (All-tail HasNumber d ds has))
+-- ---- a node beside the versions of its object alone
+
+same_is : (a b : ℕ) → a ≡ b → (a == b) ≡ true
+same_is a b same = grind (arith, nat_tests)
+
+module _ (e : Endian) (m : Mount) (kept : Kept) (numbers : BTreeSet ℕ) (others : List Stretch) where
+  abbrev pub IsNoted : ℕ × Damage → Type 0
+  IsNoted d = d.1 ≡ DataCrc → contains nat_cmp numbers (stretch_at e m.image d.0).ino ≡ true
+
+  abbrev pub AreKept : Type 0
+  AreKept = (i : ℕ) → group_of kept i ≡ filter (is_kept numbers i) others
+
+  own_has : (d : ℕ × Damage) → IsNoted d → HasNumber e m (is_kept numbers (stretch_at e m.image d.0).ino) others d
+  own_has d noted is s same =
+      let i = (stretch_at e m.image d.0).ino in
+      ap (λ (b : Bool). b && contains nat_cmp numbers s.ino) (same_is s.ino i same) ∙ ap (contains nat_cmp numbers) same ∙ noted is
+
+  own_text_same : AreKept → (d : ℕ × Damage) → IsNoted d → own_text e m kept d ≡ node_text e m others d
+  own_text_same are d noted =
+      let i = (stretch_at e m.image d.0).ino in
+      ap (λ (l : List Stretch). node_text e m l d) (are i) ∙ text_same e m (is_kept numbers i) others d (own_has d noted)
+
+  own_paths_same : AreKept → (d : ℕ × Damage) → IsNoted d → own_paths e m kept d ≡ node_paths e m others d
+  own_paths_same are d noted =
+      let i = (stretch_at e m.image d.0).ino in
+      ap (λ (l : List Stretch). node_paths e m l d) (are i) ∙ paths_same e m (is_kept numbers i) others d (own_has d noted)
+
+  pub texts_same : AreKept → (ds : List (ℕ × Damage)) → All IsNoted ds → flat_map (own_text e m kept) ds ≡ flat_map (node_text e m others) ds
+  texts_same are [] noted = refl
+  texts_same are (d ∷ ds) noted =
+      flat_map-cons (own_text e m kept) d ds
+      ∙ ap (λ (l : List ℕ). l ++ flat_map (own_text e m kept) ds) (own_text_same are d (All-head IsNoted d ds noted))
+      ∙ ap (λ (l : List ℕ). node_text e m others d ++ l) (texts_same are ds (All-tail IsNoted d ds noted))
       ∙ sym (flat_map-cons (node_text e m others) d ds)
 
-  pub sums_same : (ds : List (ℕ × Damage)) → All HasNumber ds → sum_by (node_paths e m (filter p others)) ds ≡ sum_by (node_paths e m others) ds
-  sums_same [] has = refl
-  sums_same (d ∷ ds) has =
-      sum_cons (node_paths e m (filter p others)) d ds
-      ∙ ap (λ (n : ℕ). n + sum_by (node_paths e m (filter p others)) ds) (paths_same d (All-head HasNumber d ds has))
-      ∙ ap (λ (n : ℕ). node_paths e m others d + n) (sums_same ds (All-tail HasNumber d ds has))
+  pub sums_same : AreKept → (ds : List (ℕ × Damage)) → All IsNoted ds → sum_by (own_paths e m kept) ds ≡ sum_by (node_paths e m others) ds
+  sums_same are [] noted = refl
+  sums_same are (d ∷ ds) noted =
+      sum_cons (own_paths e m kept) d ds
+      ∙ ap (λ (n : ℕ). n + sum_by (own_paths e m kept) ds) (own_paths_same are d (All-head IsNoted d ds noted))
+      ∙ ap (λ (n : ℕ). node_paths e m others d + n) (sums_same are ds (All-tail IsNoted d ds noted))
       ∙ sym (sum_cons (node_paths e m others) d ds)
 
 -- ---- the whole
 
-abbrev pub bare : ℕ × Bor (List ℕ) × ℕ → NameOf
-bare n = (n.0, n.1.now, n.2)
-
-bare_long : (names : List (ℕ × Bor (List ℕ) × ℕ)) → length (map bare names) ≡ length names
+bare_long : (names : List (ℕ × Bor (List ℕ) × ℕ)) → length (map name_held names) ≡ length names
 bare_long [] = refl
 bare_long (n ∷ names) = ap suc (bare_long names)
 
-pub has_numbers : (e : Endian) (m : Mount) (numbers : BTreeSet ℕ) (others : List Stretch) (image : List ℕ) (ds damaged : List (ℕ × Damage)) → image ≡ m.image → ds ≡ damaged
-    → All (λ d. d.1 ≡ DataCrc → contains nat_cmp numbers (stretch_at e image d.0).ino ≡ true) ds
-    → All (HasNumber e m (λ s. contains nat_cmp numbers s.ino) others) damaged
-has_numbers e m numbers others image ds damaged same are each =
-    subst (All (HasNumber e m (λ s. contains nat_cmp numbers s.ino) others)) are
-    (λ k d less is s number. ap (contains nat_cmp numbers) (number ∙ ap (λ (im : List ℕ). (stretch_at e im (get_or ds k d).0).ino) (sym same)) ∙ each k d less is)
+pub has_numbers : (e : Endian) (m : Mount) (kept : Kept) (numbers : BTreeSet ℕ) (others : List Stretch) (image : List ℕ) (ds damaged : List (ℕ × Damage)) → image ≡ m.image → ds ≡ damaged
+    → All (λ d. d.1 ≡ DataCrc → contains nat_cmp numbers (stretch_at e image d.0).ino ≡ true) ds → All (IsNoted e m kept numbers others) damaged
+has_numbers e m kept numbers others image ds damaged same are each =
+    subst (All (IsNoted e m kept numbers others)) are
+    (subst (λ (im : List ℕ). All (λ d. d.1 ≡ DataCrc → contains nat_cmp numbers (stretch_at e im d.0).ino ≡ true) ds) same each)
 
-module _ (e : Endian) (size : ℕ) (m : Mount) (p : Stretch → Bool) where
-  all_same : (damaged : List (ℕ × Damage)) (others : List Stretch) → damaged ≡ damaged_nodes e size m.image → others ≡ filter p (stretches e size m.image) → All (HasNumber e m p (stretches e size m.image)) damaged
-      → flat_map (node_text e m others) damaged ≡ flat_map (node_text e m (stretches e size m.image)) (damaged_nodes e size m.image)
-  all_same damaged others are kept has =
-      ap (λ (l : List Stretch). flat_map (node_text e m l) damaged) kept ∙ texts_same e m p (stretches e size m.image) damaged has
-      ∙ ap (flat_map (node_text e m (stretches e size m.image))) are
+module _ (e : Endian) (size : ℕ) (m : Mount) (kept : Kept) (numbers : BTreeSet ℕ) where
+  abbrev pub Noted : List (ℕ × Damage) → Type 0
+  Noted damaged = All (IsNoted e m kept numbers (stretches e size m.image)) damaged
 
-  pub counted : (damaged : List (ℕ × Damage)) (others : List Stretch) (missing : List (ℕ × Bor (List ℕ) × ℕ)) (totals : Totals) → damaged ≡ damaged_nodes e size m.image → others ≡ filter p (stretches e size m.image)
-      → All (HasNumber e m p (stretches e size m.image)) damaged → map bare missing ≡ dangling m.state
-      → totals.damaged ≡ length damaged → totals.paths ≡ min (sum_by (node_paths e m others) damaged) (2 ^ 64 - 1) → totals.missing ≡ length missing
+  abbrev pub Kepts : Type 0
+  Kepts = AreKept e m kept numbers (stretches e size m.image)
+
+  all_same : (damaged : List (ℕ × Damage)) → damaged ≡ damaged_nodes e size m.image → Kepts → Noted damaged
+      → flat_map (own_text e m kept) damaged ≡ flat_map (node_text e m (stretches e size m.image)) (damaged_nodes e size m.image)
+  all_same damaged are kepts noted =
+      texts_same e m kept numbers (stretches e size m.image) kepts damaged noted ∙ ap (flat_map (node_text e m (stretches e size m.image))) are
+
+  pub counted : (damaged : List (ℕ × Damage)) (missing : List (ℕ × Bor (List ℕ) × ℕ)) (totals : Totals) → damaged ≡ damaged_nodes e size m.image → Kepts
+      → Noted damaged → map name_held missing ≡ dangling m.state
+      → totals.damaged ≡ length damaged → totals.paths ≡ min (sum_by (own_paths e m kept) damaged) (2 ^ 64 - 1) → totals.missing ≡ length missing
       → totals ≡ damage_totals e size m
   unfolding damage_totals
-  counted damaged others missing totals are kept has gone of_nodes of_paths of_missing =
+  counted damaged missing totals are kepts noted gone of_nodes of_paths of_missing =
       let ks = stretches e size m.image in
       let nodes : totals.damaged ≡ length (damaged_nodes e size m.image) = of_nodes ∙ ap (λ (l : List (ℕ × Damage)). length l) are in
       let paths : totals.paths ≡ min (sum_by (node_paths e m ks) (damaged_nodes e size m.image)) (2 ^ 64 - 1) =
-      of_paths ∙ ap (λ (l : List Stretch). min (sum_by (node_paths e m l) damaged) (2 ^ 64 - 1)) kept
-      ∙ ap (λ (n : ℕ). min n (2 ^ 64 - 1)) (sums_same e m p ks damaged has ∙ ap (sum_by (node_paths e m ks)) are) in
+      of_paths ∙ ap (λ (n : ℕ). min n (2 ^ 64 - 1)) (sums_same e m kept numbers ks kepts damaged noted ∙ ap (sum_by (node_paths e m ks)) are) in
       let names : totals.missing ≡ length (dangling m.state) = of_missing ∙ sym (bare_long missing) ∙ ap (λ (l : List NameOf). length l) gone in
       let made : ℕ → ℕ → ℕ → Totals = λ d h n. record { damaged = d; paths = h; missing = n } in
       ap (λ (d : ℕ). made d totals.paths totals.missing) nodes ∙ ap (λ (h : ℕ). made (length (damaged_nodes e size m.image)) h totals.missing) paths
       ∙ ap (made (length (damaged_nodes e size m.image)) (min (sum_by (node_paths e m ks) (damaged_nodes e size m.image)) (2 ^ 64 - 1))) names
 
-  pub all_told : (damaged : List (ℕ × Damage)) (others : List Stretch) (missing : List (ℕ × Bor (List ℕ) × ℕ)) (totals : Totals) (old nodes names all : List ℕ) → damaged ≡ damaged_nodes e size m.image
-      → others ≡ filter p (stretches e size m.image) → All (HasNumber e m p (stretches e size m.image)) damaged → map bare missing ≡ dangling m.state → totals ≡ damage_totals e size m
-      → nodes ≡ old ++ flat_map (node_text e m others) damaged → names ≡ nodes ++ flat_map (λ n. missing_text m.state (bare n)) missing → all ≡ names ++ totals_shown totals
+  pub all_told : (damaged : List (ℕ × Damage)) (missing : List (ℕ × Bor (List ℕ) × ℕ)) (totals : Totals) (old nodes names all : List ℕ) → damaged ≡ damaged_nodes e size m.image
+      → Kepts → Noted damaged → map name_held missing ≡ dangling m.state → totals ≡ damage_totals e size m
+      → nodes ≡ old ++ flat_map (own_text e m kept) damaged → names ≡ nodes ++ flat_map (λ n. missing_text m.state (name_held n)) missing → all ≡ names ++ totals_shown totals
       → all ≡ old ++ damage_text e size m
   unfolding damage_text damage_totals
-  all_told damaged others missing totals old nodes names all are kept has gone so first second third =
+  all_told damaged missing totals old nodes names all are kepts noted gone so first second third =
       let a = flat_map (node_text e m (stretches e size m.image)) (damaged_nodes e size m.image) in
       let b = flat_map (missing_text m.state) (dangling m.state) in
       let z = totals_shown totals in
-      let second_is : flat_map (λ n. missing_text m.state (bare n)) missing ≡ b = sym (flat_map-map (missing_text m.state) bare missing) ∙ ap (flat_map (missing_text m.state)) gone in
-      third ∙ ap (λ (l : List ℕ). l ++ z) (second ∙ ap (λ (l : List ℕ). nodes ++ l) second_is ∙ ap (λ (l : List ℕ). l ++ b) (first ∙ ap (λ (l : List ℕ). old ++ l) (all_same damaged others are kept has)))
+      let second_is : flat_map (λ n. missing_text m.state (name_held n)) missing ≡ b = sym (flat_map-map (missing_text m.state) name_held missing) ∙ ap (flat_map (missing_text m.state)) gone in
+      third ∙ ap (λ (l : List ℕ). l ++ z) (second ∙ ap (λ (l : List ℕ). nodes ++ l) second_is ∙ ap (λ (l : List ℕ). l ++ b) (first ∙ ap (λ (l : List ℕ). old ++ l) (all_same damaged are kepts noted)))
       ∙ append_assoc (old ++ a) b z ∙ append_assoc old a (b ++ z) ∙ ap (λ (t : Totals). old ++ (a ++ (b ++ totals_shown t))) so
 
 -- ---- the same of what calls saw
 
-pub nodes_told : (e : Endian) (w m : Mount) (os others : List Stretch) (ds damaged : List (ℕ × Damage)) (old new : List ℕ) → w ≡ m → os ≡ others → ds ≡ damaged
-    → new ≡ old ++ flat_map (node_text e w os) ds → new ≡ old ++ flat_map (node_text e m others) damaged
-nodes_told e w m os others ds damaged old new same these those told =
-    told ∙ ap (λ (x : Mount). old ++ flat_map (node_text e x os) ds) same ∙ ap (λ (l : List Stretch). old ++ flat_map (node_text e m l) ds) these
-    ∙ ap (λ (l : List (ℕ × Damage)). old ++ flat_map (node_text e m others) l) those
+pub nodes_told : (e : Endian) (w m : Mount) (kept : Kept) (ds damaged : List (ℕ × Damage)) (old new : List ℕ) → w ≡ m → ds ≡ damaged
+    → new ≡ old ++ flat_map (own_text e w kept) ds → new ≡ old ++ flat_map (own_text e m kept) damaged
+nodes_told e w m kept ds damaged old new same those told =
+    told ∙ ap (λ (x : Mount). old ++ flat_map (own_text e x kept) ds) same ∙ ap (λ (l : List (ℕ × Damage)). old ++ flat_map (own_text e m kept) l) those
 
-pub counted_paths : (e : Endian) (w m : Mount) (os others : List Stretch) (ds damaged : List (ℕ × Damage)) (count : ℕ) → w ≡ m → os ≡ others → ds ≡ damaged
-    → count ≡ min (sum_by (node_paths e w os) ds) (2 ^ 64 - 1) → count ≡ min (sum_by (node_paths e m others) damaged) (2 ^ 64 - 1)
-counted_paths e w m os others ds damaged count same these those told =
-    told ∙ ap (λ (x : Mount). min (sum_by (node_paths e x os) ds) (2 ^ 64 - 1)) same ∙ ap (λ (l : List Stretch). min (sum_by (node_paths e m l) ds) (2 ^ 64 - 1)) these
-    ∙ ap (λ (l : List (ℕ × Damage)). min (sum_by (node_paths e m others) l) (2 ^ 64 - 1)) those
+pub counted_paths : (e : Endian) (w m : Mount) (kept : Kept) (ds damaged : List (ℕ × Damage)) (count : ℕ) → w ≡ m → ds ≡ damaged
+    → count ≡ min (sum_by (own_paths e w kept) ds) (2 ^ 64 - 1) → count ≡ min (sum_by (own_paths e m kept) damaged) (2 ^ 64 - 1)
+counted_paths e w m kept ds damaged count same those told =
+    told ∙ ap (λ (x : Mount). min (sum_by (own_paths e x kept) ds) (2 ^ 64 - 1)) same ∙ ap (λ (l : List (ℕ × Damage)). min (sum_by (own_paths e m kept) l) (2 ^ 64 - 1)) those
 
 pub missing_told : (w m : Mount) (ns names : List (ℕ × Bor (List ℕ) × ℕ)) (old new : List ℕ) → w ≡ m → ns ≡ names
-    → new ≡ old ++ flat_map (λ n. missing_text w.state (bare n)) ns → new ≡ old ++ flat_map (λ n. missing_text m.state (bare n)) names
+    → new ≡ old ++ flat_map (λ n. missing_text w.state (name_held n)) ns → new ≡ old ++ flat_map (λ n. missing_text m.state (name_held n)) names
 missing_told w m ns names old new same these told =
-    told ∙ ap (λ (x : Mount). old ++ flat_map (λ n. missing_text x.state (bare n)) ns) same
-    ∙ ap (λ (l : List (ℕ × Bor (List ℕ) × ℕ)). old ++ flat_map (λ n. missing_text m.state (bare n)) l) these
+    told ∙ ap (λ (x : Mount). old ++ flat_map (λ n. missing_text x.state (name_held n)) ns) same
+    ∙ ap (λ (l : List (ℕ × Bor (List ℕ) × ℕ)). old ++ flat_map (λ n. missing_text m.state (name_held n)) l) these

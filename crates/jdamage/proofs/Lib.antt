@@ -1,4 +1,6 @@
 pub mod CoverageLemmas
 pub mod DamageLemmas
+pub mod GroupLemmas
+pub mod LawLemmas
 pub mod NodeLemmas
 pub mod WayLemmas

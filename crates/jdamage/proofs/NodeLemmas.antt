@@ -1,5 +1,5 @@
 -- The nodes that matter, one by one.
-use Rattle.std.proofs.Common.{◌≡◌, ℕ, Bool, List, [], ◌∷◌, ◌++◌, length, take, drop, ◌-◌, refl, sym, ap, ◌∙◌, arith, append_assoc, append-nil, subst, Option, Some, None, length-append, length-take}
+use Rattle.std.proofs.Common.{◌≡◌, ℕ, Bool, List, [], ◌∷◌, ◌++◌, length, take, drop, ◌-◌, refl, sym, ap, ◌∙◌, arith, append_assoc, append-nil, Option, Some, None, length-append, length-take}
 use Rattle.std.specs.Prelude.{filter, filter_map, min, option_to_list}
 use Rattle.std.specs.List.{cons_option}
 use Rattle.std.proofs.lemmas.List.Elements.{filter-append}

@@ -1,11 +1,16 @@
 -- The way up to the root, step by step.
-use Rattle.std.proofs.Common.{◌≡◌, ℕ, zero, suc, ◌+◌, ◌-◌, ◌<◌, ◌≢◌, Bool, true, false, cond, List, [], ◌∷◌, ◌++◌, length, refl, sym, ap, ◌∙◌, arith, Option, Some, None}
-use Rattle.std.specs.Prelude.{◌==◌, option_and_then, map, reverse}
+use Rattle.std.proofs.Common.{◌≡◌, ℕ, suc, ◌+◌, ◌-◌, ◌<◌, ◌≤◌, ◌≢◌, add-one, append_assoc, append-nil, drop, drop-cons, get_or, Bool, true, false, cond, List, [], ◌∷◌, ◌++◌, length, refl, sym, ap, ◌∙◌, arith, Some, None}
+use Rattle.std.specs.Prelude.{◌==◌, Vec, filter, option_and_then, option_map, map, reverse, slice_get}
 use Rattle.std.specs.Borrow.{Bor}
+use Rattle.std.specs.BTreeMap.{BTreeMap}
+use Rattle.std.specs.List.{find}
+use Rattle.std.specs.declared.alloc.Global.{Global}
 use Rattle.std.proofs.lemmas.Bool.Decides.{nat_tests}
-use Rattle.std.proofs.lemmas.List.{map-append, reverse-append}
-use Rattle.jmount.specs.Tree.{State, is_directory}
-use Rattle.jdamage.specs.Ways.{NameOf, climbed, first_name}
+use Rattle.std.proofs.lemmas.List.{drop_all, map-append, reverse-append}
+use Rattle.jmount.specs.Tree.{State, all_entries, is_directory}
+use Rattle.jdamage.specs.Groups.{group_of}
+use Rattle.jdamage.specs.Ways.{NameOf, climbed, first_name, name_held, named}
+use Rattle.jdamage.proofs.GroupLemmas.{no_group}
 
 -- a step, by what is met
 pub climb_step : (s : State) (left steps dir : ℕ) (names : List (List ℕ)) → left ≡ suc steps
@@ -62,3 +67,64 @@ pub names_turned : {X Y : Type 0} (f : X → Y) (xs : List X) → map f (reverse
 names_turned f [] = refl
 names_turned f (x ∷ xs) =
     ap (map f) (reverse-append (x ∷ []) xs) ∙ map-append f (reverse xs) (x ∷ []) ∙ ap (λ l. l ++ f x ∷ []) (names_turned f xs) ∙ sym (reverse-append (f x ∷ []) (map f xs))
+
+-- ---- the names of a number
+
+abbrev pub HeldName : Type 0
+HeldName = ℕ × Bor (List ℕ) × ℕ
+
+pub named_begin : (s : State) (groups : BTreeMap ℕ (Vec HeldName Global)) (left : List NameOf) → groups.entries ≡ [] → left ≡ all_entries s
+    → (i : ℕ) → map name_held (group_of groups i) ++ filter (λ n. n.2 == i) left ≡ named s i
+unfolding named
+named_begin s groups left none all i =
+    ap (λ (l : List HeldName). map name_held l ++ filter (λ n. n.2 == i) left) (no_group groups none i) ∙ ap (filter (λ n. n.2 == i)) all
+
+pub one_named : (s : State) (old new : BTreeMap ℕ (Vec HeldName Global)) (n : HeldName) (left rest : List NameOf) → left ≡ name_held n ∷ rest
+    → ((i : ℕ) → group_of new i ≡ group_of old i ++ cond (n.2 == i) (n ∷ []) [])
+    → ((i : ℕ) → map name_held (group_of old i) ++ filter (λ x. x.2 == i) left ≡ named s i)
+    → (i : ℕ) → map name_held (group_of new i) ++ filter (λ x. x.2 == i) rest ≡ named s i
+one_named s old new n left rest is added so_far i =
+    let here = map name_held (group_of old i) in
+    let after = filter (λ (x : NameOf). x.2 == i) rest in
+    ap (λ (l : List HeldName). map name_held l ++ after) (added i)
+    ∙ ap (λ (l : List NameOf). l ++ after) (map-append name_held (group_of old i) (cond (n.2 == i) (n ∷ []) []))
+    ∙ append_assoc here (map name_held (cond (n.2 == i) (n ∷ []) [])) after
+    ∙ ap (λ (l : List NameOf). here ++ l) (one (n.2 == i))
+    ∙ ap (λ (l : List NameOf). here ++ filter (λ x. x.2 == i) l) (sym is) ∙ so_far i
+  where
+    one : (b : Bool) → map name_held (cond b (n ∷ []) []) ++ filter (λ (x : NameOf). x.2 == i) rest ≡ cond b (name_held n ∷ filter (λ (x : NameOf). x.2 == i) rest) (filter (λ (x : NameOf). x.2 == i) rest)
+    one true = refl
+    one false = refl
+
+pub all_named : (s : State) (groups : BTreeMap ℕ (Vec HeldName Global)) (left : List NameOf) → left ≡ []
+    → ((i : ℕ) → map name_held (group_of groups i) ++ filter (λ x. x.2 == i) left ≡ named s i) → (i : ℕ) → map name_held (group_of groups i) ≡ named s i
+all_named s groups left is so_far i =
+    sym (append-nil (map name_held (group_of groups i)))
+    ∙ ap (λ (l : List NameOf). map name_held (group_of groups i) ++ filter (λ (x : NameOf). x.2 == i) l) (sym is) ∙ so_far i
+
+pub first_of_named : (s : State) (i : ℕ) (held : List HeldName) → map name_held held ≡ named s i → option_map name_held (slice_get held 0) ≡ first_name s i
+unfolding named first_name
+first_of_named s i held is = first held ∙ ap (λ (l : List NameOf). slice_get l 0) is ∙ found (all_entries s)
+  where
+    first : (xs : List HeldName) → option_map name_held (slice_get xs 0) ≡ slice_get (map name_held xs) 0
+    first [] = refl
+    first (x ∷ xs) = refl
+
+    found : (xs : List NameOf) → slice_get (filter (λ n. n.2 == i) xs) 0 ≡ find (λ n. n.2 == i) xs
+    found [] = refl
+    found (x ∷ xs) = by (x.2 == i) (found xs)
+      where
+        by : (b : Bool) → slice_get (filter (λ n. n.2 == i) xs) 0 ≡ find (λ n. n.2 == i) xs
+            → slice_get (cond b (x ∷ filter (λ n. n.2 == i) xs) (filter (λ n. n.2 == i) xs)) 0 ≡ cond b (Some x) (find (λ n. n.2 == i) xs)
+        by true rest = refl
+        by false rest = rest
+
+-- ---- names of a list, one by one
+
+pub names_next : (xs : List HeldName) (i : ℕ) (d x : HeldName) → i < length xs → x ≡ get_or xs i d → map name_held (drop i xs) ≡ name_held x ∷ map name_held (drop (i + 1) xs)
+names_next xs i d x less is =
+    ap (map name_held) (drop-cons xs i d less) ∙ ap (λ (y : HeldName). name_held y ∷ map name_held (drop (suc i) xs)) (sym is)
+    ∙ ap (λ (k : ℕ). name_held x ∷ map name_held (drop k xs)) (sym (add-one i))
+
+pub no_names_left : (xs : List HeldName) (i : ℕ) → length xs ≤ i → map name_held (drop i xs) ≡ []
+no_names_left xs i most = ap (map name_held) (drop_all i xs most)

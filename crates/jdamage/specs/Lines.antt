@@ -1,5 +1,5 @@
 -- The lines of `damage`.
-use Rattle.std.specs.Prelude.{ℕ, List, [], ◌∷◌, ◌++◌, codes, decimal, map, Option, Some, None}
+use Rattle.std.specs.Prelude.{ℕ, List, ◌++◌, codes, decimal, Option, Some, None}
 use Rattle.jnode.specs.declared.node.Damage.{Damage}
 use Rattle.jline.specs.Forms.{damage_name}
 use Rattle.jline.specs.Paths.{path_shown}

@@ -1,8 +1,10 @@
 -- The paths that lead to a number.
-use Rattle.std.specs.Prelude.{ℕ, zero, suc, ◌+◌, ◌^◌, ◌==◌, min, Vec, List, [], ◌∷◌, ◌++◌, length, map, filter_map, Option, Some, None, option_and_then, if◌then◌else◌}
+use Rattle.std.specs.Prelude.{◌≡◌, ℕ, zero, suc, ◌+◌, ◌^◌, ◌==◌, min, Vec, List, [], ◌∷◌, ◌++◌, length, map, filter, filter_map, Option, Some, None, option_and_then, if◌then◌else◌}
 use Rattle.std.specs.Borrow.{Bor}
+use Rattle.std.specs.BTreeMap.{BTreeMap}
 use Rattle.std.specs.declared.alloc.Global.{Global}
 use Rattle.std.specs.List.{find}
+use Rattle.jdamage.specs.Groups.{group_of}
 use Rattle.jmount.specs.Tree.{State, is_directory, all_entries}
 
 -- a name: its directory's number, its bytes, and the number that it stands for
@@ -26,13 +28,21 @@ climbed s (suc steps) dir names = if is_directory s dir then
 abbrev pub steps_at_most : State → ℕ
 steps_at_most s = min (length (all_entries s)) (2 ^ 32) + 1
 
+-- the names that stand for a number, in the same order
+unfoldable pub named : State → ℕ → List NameOf
+named s i = filter (λ n. n.2 == i) (all_entries s)
+
 -- these names, below a directory, as a path
 abbrev pub path_below : State → ℕ → List (List ℕ) → Option (List (List ℕ))
 path_below s dir names = climbed s (steps_at_most s) dir names
 
--- the path of a name, where it stands for this number
+-- the path of a name
+abbrev pub path_of : State → NameOf → Option (List (List ℕ))
+path_of s n = path_below s n.0 (n.1 ∷ [])
+
+-- the same, where it stands for this number
 abbrev pub path_if : State → ℕ → NameOf → Option (List (List ℕ))
-path_if s i n = if n.2 == i then path_below s n.0 (n.1 ∷ []) else None
+path_if s i n = if n.2 == i then path_of s n else None
 
 -- the root's path has no names
 abbrev pub root_paths : ℕ → List (List (List ℕ))
@@ -46,3 +56,10 @@ paths_to s i = root_paths i ++ filter_map (path_if s i) (all_entries s)
 
 abbrev pub names_held : Vec (Bor (List ℕ)) Global → List (List ℕ)
 names_held path = map (λ name. name.now) path.items
+
+abbrev pub name_held : ℕ × Bor (List ℕ) × ℕ → NameOf
+name_held n = (n.0, n.1.now, n.2)
+
+-- each number has its names
+abbrev pub AreNamed : State → BTreeMap ℕ (Vec (ℕ × Bor (List ℕ) × ℕ) Global) → Type 0
+AreNamed s names = (i : ℕ) → map name_held (group_of names i) ≡ named s i

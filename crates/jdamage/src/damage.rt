@@ -7,17 +7,19 @@ ghost use Rattle.std.specs.Ordering.{nat_cmp};
 ghost use Rattle.jnode.specs.declared.node.Damage.TheVariants.{DataCrc};
 ghost use Rattle.jscan.specs.Image.{greatest_image};
 ghost use Rattle.jscan.specs.Scans.{IsScannable};
-ghost use Rattle.jdamage.specs.Damage.{PutsDamage, damage_text, damage_totals, missing_text, node_paths, node_text};
+ghost use Rattle.jdamage.specs.Damage.{PutsDamage, damage_text, damage_totals, missing_text};
 ghost use Rattle.jdamage.specs.Fields.{stretch_at};
+ghost use Rattle.jdamage.specs.Telling.{own_paths, own_text};
 
 use crate::fault::DamageFault;
 use crate::fields::{Stretch, stretch_at};
+use crate::groups::Groups;
 use crate::lines::push_totals;
 use crate::nodes::{damaged_nodes, stretches_of};
 use crate::telling::{push_missing_name, push_node};
 use crate::text::Text;
 use crate::totals::Totals;
-use crate::ways::Ways;
+use crate::ways::{Name, Ways};
 use flashbase::Sink;
 use jline::put_text;
 use jmount::Mounted;
@@ -65,34 +67,34 @@ fn numbers_of<E: Order>(
     Ok(numbers)
 }
 
-/// Tells of damaged nodes, beside these versions. Answers how many paths they hide.
+/// Tells of damaged nodes, beside these versions by object. Answers how many paths they hide.
 fn push_nodes<E: Order>(
     alloc: Global,
     ways: &Ways<'_, '_>,
-    others: &[Stretch],
+    kept: &Groups<Stretch>,
     damaged: &[(u32, Damage)],
     text: &mut Text,
 ) -> Result<u64, AllocError>
     requires { length ways.now.mounted.now.image ≤ greatest_image }
     ensures text { OnOk result (text.new ≡ text.old
-        ++ flat_map (node_text E.order ways.now.mounted.now others.now) damaged.now) }
+        ++ flat_map (own_text E.order ways.now.mounted.now kept.now) damaged.now) }
     ensures count { IfOk result (λ count. count
-        ≡ min (sum_by (node_paths E.order ways.now.mounted.now others.now) damaged.now)
+        ≡ min (sum_by (own_paths E.order ways.now.mounted.now kept.now) damaged.now)
         (2 ^ 64 - 1)) }
 {
     let mut count = 0u64;
     for (addr, which) in damaged {
-        let more = push_node::<E>(alloc, ways, others, *addr, *which, text)?;
+        let more = push_node::<E>(alloc, ways, kept, *addr, *which, text)?;
         count = count.saturating_add(more);
     }
     Ok(count)
 }
 
 /// Tells of names whose objects are missing.
-fn push_all_missing(
+fn push_all_missing<'m>(
     alloc: Global,
-    ways: &Ways<'_, '_>,
-    missing: &[(u32, &[u8], u32)],
+    ways: &Ways<'m, '_>,
+    missing: &[Name<'m>],
     text: &mut Text,
 ) -> Result<(), AllocError>
     ensures { OnOk result (text.new ≡ text.old
@@ -121,10 +123,10 @@ fn push_all<E: Order>(
     let image = mounted.image();
     let damaged = damaged_nodes::<E>(alloc, image, geometry)?;
     let numbers = numbers_of::<E>(alloc, image, &damaged)?;
-    let others = stretches_of::<E>(alloc, image, geometry, &numbers)?;
+    let kept = stretches_of::<E>(alloc, image, geometry, &numbers)?;
     let missing = mounted.dangling(alloc)?;
-    let ways = Ways::new(mounted);
-    let paths = push_nodes::<E>(alloc, &ways, &others, &damaged, text)?;
+    let ways = Ways::new(alloc, mounted)?;
+    let paths = push_nodes::<E>(alloc, &ways, &kept, &damaged, text)?;
     push_all_missing(alloc, &ways, &missing, text)?;
     let totals = Totals {
         damaged: damaged.len(),
@@ -139,8 +141,8 @@ fn push_all<E: Order>(
 /// address, which paths it hides, that it hides nothing, or that what it said is not known; then a
 /// line for each name whose object is missing, and the totals, which are the answer. A damaged node
 /// hides nothing where the object is the same whatever it said. The image was mounted in `E`'s
-/// order and with this geometry. Takes memory for the text, and for the damaged nodes and the sound
-/// ones of their objects.
+/// order and with this geometry. Takes memory for the text, for the damaged nodes and the sound ones
+/// of their objects, and for an index of the names.
 ///
 /// # Errors
 /// `OutOfMemory`, and nothing was put. `Output`: the sink failed, and took a beginning.

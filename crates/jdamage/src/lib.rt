@@ -8,14 +8,16 @@
 //!
 //! `specs/Fields.antt` says what is read of a damaged node, `specs/Coverage.antt` when it hides
 //! nothing, `specs/Ways.antt` which paths lead to a number, `specs/Lines.antt` how the lines are
-//! spelled, and `specs/Damage.antt` which lines there are.
+//! spelled, and `specs/Damage.antt` which lines there are. `laws` says what follows from these.
 #![tactic(auto)]
 
 mod coverage;
 mod damage;
 mod fault;
 mod fields;
+mod groups;
 mod held;
+pub mod laws;
 mod lines;
 mod nodes;
 mod telling;

@@ -2,14 +2,15 @@
 
 ghost use Rattle.std.specs.Prelude.{◌≡◌, ◌++◌, ◌-◌, ◌^◌, ◌≤◌, [], if◌then◌else◌, IfOk, OnOk, length, min};
 ghost use Rattle.jscan.specs.Image.{greatest_image};
-ghost use Rattle.jdamage.specs.Damage.{data_text, hurt_paths, missing_text, node_paths, node_text, size_at};
+ghost use Rattle.jdamage.specs.Damage.{data_text, hurt_paths, missing_text, size_at};
 ghost use Rattle.std.specs.List.{flat_map};
 ghost use Rattle.jdamage.specs.Lines.{hides_line, loss_line};
-ghost use Rattle.jdamage.specs.Telling.{PushesHurt, PushesPath};
-ghost use Rattle.jdamage.specs.Ways.{path_below, path_if, paths_to, root_paths};
+ghost use Rattle.jdamage.specs.Telling.{PushesHurt, PushesPath, own_paths, own_text};
+ghost use Rattle.jdamage.specs.Ways.{path_below, path_of, paths_to, root_paths};
 
 use crate::coverage::hides_nothing;
 use crate::fields::{Loss, Stretch, loss_at, stretch_at};
+use crate::groups::{Groups, group};
 use crate::lines::{push_hides, push_loss, push_missing, push_no_path, push_nothing, push_unknown};
 use crate::text::Text;
 use crate::ways::Ways;
@@ -29,24 +30,20 @@ fn size_at(mounted: &Mounted<'_>, ino: u32) -> u32
     }
 }
 
-/// Tells that a node hides what a name leads to, where the name stands for its object. Answers
-/// whether it does.
-fn push_name(
+/// Tells that a node hides what a name leads to, where a path leads to the name. Answers whether it
+/// does.
+fn push_name<'m>(
     alloc: Global,
-    ways: &Ways<'_, '_>,
+    ways: &Ways<'m, '_>,
     addr: u32,
     lost: &Stretch,
-    entry: (u32, &[u8], u32),
+    pino: u32,
+    name: &'m [u8],
     text: &mut Text,
 ) -> Result<bool, AllocError>
     ensures { IfOk result (λ told. PushesPath addr lost.now
-        (path_if ways.now.mounted.now.state lost.now.ino
-        (entry.entry.0, entry.entry.1.now, entry.entry.2)) text.old text.new told) }
+        (path_of ways.now.mounted.now.state (pino, name.now, lost.now.ino)) text.old text.new told) }
 {
-    let (pino, name, ino) = entry;
-    if ino != lost.ino {
-        return Ok(false);
-    }
     let Some(path) = ways.name_path(alloc, pino, name)? else {
         return Ok(false);
     };
@@ -87,8 +84,9 @@ fn push_hurt(
         (paths_to ways.now.mounted.now.state lost.now.ino) text.old text.new count) }
 {
     let mut count = push_root(text, addr, lost)?;
-    for entry in ways.mounted.names() {
-        let told = push_name(alloc, ways, addr, lost, entry, text)?;
+    let names = ways.named(lost.ino);
+    for (pino, name, _) in names {
+        let told = push_name(alloc, ways, addr, lost, *pino, name, text)?;
         count = count.saturating_add(one_if(told));
     }
     if count == 0 {
@@ -98,7 +96,8 @@ fn push_hurt(
     Ok(count)
 }
 
-/// Tells what a node of damaged data hides, beside these versions. Answers how many paths.
+/// Tells what a node of damaged data hides, beside these versions of its object. Answers how many
+/// paths.
 #[tactic(auto, unfolding(crate::specs::Damage::data_text))]
 fn push_data(
     alloc: Global,
@@ -135,26 +134,26 @@ fn push_lost(
     push_loss(text, addr, loss, path.as_deref())
 }
 
-/// Tells of a damaged node, beside these versions. Answers how many paths it hides.
+/// Tells of a damaged node, beside these versions by object. Answers how many paths it hides.
 pub(crate) fn push_node<E: Order>(
     alloc: Global,
     ways: &Ways<'_, '_>,
-    others: &[Stretch],
+    kept: &Groups<Stretch>,
     addr: u32,
     which: Damage,
     text: &mut Text,
 ) -> Result<u64, AllocError>
     requires { length ways.now.mounted.now.image ≤ greatest_image }
     ensures text { OnOk result (text.new
-        ≡ text.old ++ node_text E.order ways.now.mounted.now others.now (addr, which)) }
+        ≡ text.old ++ own_text E.order ways.now.mounted.now kept.now (addr, which)) }
     ensures count { IfOk result (λ count. count
-        ≡ min (node_paths E.order ways.now.mounted.now others.now (addr, which)) (2 ^ 64 - 1)) }
+        ≡ min (own_paths E.order ways.now.mounted.now kept.now (addr, which)) (2 ^ 64 - 1)) }
 {
     let image = ways.mounted.image();
     match which {
         Damage::DataCrc => {
             let lost = stretch_at::<E>(image, addr);
-            push_data(alloc, ways, others, addr, &lost, text)
+            push_data(alloc, ways, group(kept, lost.ino), addr, &lost, text)
         }
         Damage::NameCrc => {
             let loss = loss_at::<E>(image, addr);
@@ -169,11 +168,11 @@ pub(crate) fn push_node<E: Order>(
 }
 
 /// Tells of a name whose object is missing.
-pub(crate) fn push_missing_name(
+pub(crate) fn push_missing_name<'m>(
     alloc: Global,
-    ways: &Ways<'_, '_>,
+    ways: &Ways<'m, '_>,
     pino: u32,
-    name: &[u8],
+    name: &'m [u8],
     ino: u32,
     text: &mut Text,
 ) -> Result<(), AllocError>

@@ -1,4 +1,4 @@
-use Rattle.std.proofs.Common.{◌≡◌, ℕ, ◌<◌, Bool, true, false, sym, ap, ◌∙◌, arith}
+use Rattle.std.proofs.Common.{sym, arith}
 use Rattle.std.specs.Prelude.{◌||◌, nat_lt}
 use Rattle.jdamage.specs.Coverage.{is_replaced, is_replaced_below}
 use Rattle.jdamage.proofs.CoverageLemmas.{all_below, not_below, in_front, further, lacks}

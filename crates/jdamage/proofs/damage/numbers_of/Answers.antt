@@ -1,4 +1,4 @@
-use Rattle.std.proofs.Common.{◌≡◌, ℕ, true, get_or, arith}
+use Rattle.std.proofs.Common.{◌≡◌, ℕ, true, arith}
 use Rattle.std.specs.BTreeSet.{contains}
 use Rattle.std.specs.Ordering.{nat_cmp}
 use Rattle.jnode.specs.declared.node.Damage.{Damage}

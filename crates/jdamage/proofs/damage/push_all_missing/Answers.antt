@@ -1,4 +1,4 @@
-use Rattle.std.proofs.Common.{◌≡◌, ℕ, List, [], refl, Bor}
+use Rattle.std.proofs.Common.{ℕ, List, [], refl, Bor}
 use Rattle.jdamage.specs.Damage.{missing_text}
 use Rattle.jdamage.proofs.DamageLemmas.{text_more}
 use Rattle.jdamage.proofs.damage.push_all_missing.Goals as goal

@@ -1,4 +1,4 @@
-use Rattle.std.proofs.Common.{◌≡◌, ap, sym, ◌∙◌, length, take, List, ℕ}
+use Rattle.std.proofs.Common.{ap, sym, ◌∙◌, length, take, List, ℕ}
 use Rattle.jdamage.proofs.NodeLemmas.{front_is_long, front_is}
 use Rattle.jdamage.specs.Fields.{node_front}
 use Rattle.jdamage.proofs.fields.node_front.Goals as goal

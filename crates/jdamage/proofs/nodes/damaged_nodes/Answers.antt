@@ -1,6 +1,5 @@
 use Rattle.std.proofs.Common.{ℕ}
 use Rattle.jnode.specs.declared.node.Seen.{Seen}
-use Rattle.jdamage.specs.declared.fields.Stretch.{Stretch}
 use Rattle.jdamage.specs.Fields.{damaged_if}
 use Rattle.jdamage.proofs.NodeLemmas.{one_more, none_left}
 use Rattle.jdamage.proofs.nodes.damaged_nodes.Goals as goal

@@ -1,6 +1,5 @@
 use Rattle.std.proofs.Common.{ℕ}
 use Rattle.jnode.specs.declared.node.Seen.{Seen}
-use Rattle.jdamage.specs.declared.fields.Stretch.{Stretch}
 use Rattle.std.proofs.Common.{◌≡◌, ◌++◌}
 use Rattle.std.specs.Prelude.{filter_map}
 use Rattle.jscan.specs.SightingsLeft.{sightings_left}

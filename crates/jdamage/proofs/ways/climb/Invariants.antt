@@ -1,10 +1,10 @@
 use Rattle.std.proofs.Common.{◌≡◌}
 use Rattle.std.specs.Prelude.{reverse}
-use Rattle.jdamage.specs.Ways.{climbed, names_held}
+use Rattle.jdamage.specs.Ways.{climbed, names_held, path_below}
 use Rattle.jdamage.proofs.ways.climb.Given as goal
 
 abbrev pub invariant-loop-left : goal.invariant-loop-left
-invariant-loop-left l = climbed l.mounted.state l.left l.here (reverse (names_held l.path)) ≡ climbed l.mounted.state l.steps l.dir (reverse (names_held l.fn.names))
+invariant-loop-left l = climbed l.ways.mounted.now.state l.left l.here (reverse (names_held l.path)) ≡ path_below l.ways.mounted.now.state l.dir (reverse (names_held l.fn.names))
 
 abbrev pub decreases-loop-left : goal.decreases-loop-left
 decreases-loop-left l = l.left

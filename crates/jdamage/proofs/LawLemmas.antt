@@ -1,0 +1,38 @@
+-- Why nothing is told of an image that is sound.
+use Rattle.std.proofs.Common.{◌≡◌, ℕ, ◌-◌, ◌^◌, List, [], ◌++◌, length, ap, ◌∙◌, arith}
+use Rattle.std.specs.Prelude.{flat_map, min, sum_by}
+use Rattle.jnode.specs.declared.node.Damage.{Damage}
+use Rattle.jmount.specs.Tree.{dangling}
+use Rattle.jdamage.specs.Damage.{damage_text, missing_text, node_paths, node_text}
+use Rattle.jdamage.specs.Fields.{damaged_nodes, stretches}
+use Rattle.jdamage.specs.Laws.{SoundHasNoLines}
+use Rattle.jdamage.specs.Lines.{totals_shown}
+use Rattle.jdamage.specs.Ways.{NameOf}
+
+min_none : (p most : ℕ) → p ≡ 0 → min p most ≡ 0
+min_none p most none = omega (arith, none)
+
+zeros : (d p n : ℕ) → d ≡ 0 → p ≡ 0 → n ≡ 0 → totals_shown (record { damaged = d; paths = p; missing = n }) ≡ totals_shown (record { damaged = 0; paths = 0; missing = 0 })
+zeros d p n zero_damaged zero_paths zero_names =
+    ap (λ (k : ℕ). totals_shown (record { damaged = k; paths = p; missing = n })) zero_damaged ∙ ap (λ (k : ℕ). totals_shown (record { damaged = 0; paths = k; missing = n })) zero_paths
+    ∙ ap (λ (k : ℕ). totals_shown (record { damaged = 0; paths = 0; missing = k })) zero_names
+
+only_last : (a b z : List ℕ) → a ≡ [] → b ≡ [] → a ++ (b ++ z) ≡ z
+only_last a b z none gone = ap (λ (l : List ℕ). l ++ (b ++ z)) none ∙ ap (λ (l : List ℕ). l ++ z) gone
+
+-- the lines of lists of which none has any, for any cap of the count
+nothing_told : (f : ℕ × Damage → List ℕ) (g : NameOf → List ℕ) (h : ℕ × Damage → ℕ) (most : ℕ) (ds : List (ℕ × Damage)) (ns : List NameOf) → ds ≡ [] → ns ≡ []
+    → flat_map f ds ++ (flat_map g ns ++ totals_shown (record { damaged = length ds; paths = min (sum_by h ds) most; missing = length ns }))
+    ≡ totals_shown (record { damaged = 0; paths = 0; missing = 0 })
+nothing_told f g h most ds ns none gone =
+    let count : length ds ≡ 0 = ap (λ (l : List (ℕ × Damage)). length l) none in
+    let sum : sum_by h ds ≡ 0 = ap (sum_by h) none in
+    let names : length ns ≡ 0 = ap (λ (l : List NameOf). length l) gone in
+    only_last (flat_map f ds) (flat_map g ns) _ (ap (flat_map f) none) (ap (flat_map g) gone)
+    ∙ zeros (length ds) (min (sum_by h ds) most) (length ns) count (min_none (sum_by h ds) most sum) names
+
+pub sound_has_no_lines : SoundHasNoLines
+unfolding damage_text
+sound_has_no_lines e size m none gone =
+    let others = stretches e size m.image in
+    nothing_told (node_text e m others) (missing_text m.state) (node_paths e m others) (2 ^ 64 - 1) (damaged_nodes e size m.image) (dangling m.state) none gone

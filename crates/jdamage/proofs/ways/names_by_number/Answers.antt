@@ -1,0 +1,23 @@
+use Rattle.std.proofs.Common.{◌≡◌, rules, ◌∷◌, ◌∙◌}
+use Rattle.jdamage.specs.Ways.{name_held}
+use Rattle.jdamage.proofs.WayLemmas.{named_begin, one_named, all_named}
+use Rattle.jdamage.proofs.ways.names_by_number.Goals as goal
+
+pub loop-name-init : goal.loop-name-init
+loop-name-init c = record {
+  can = tt;
+  finite = tt;
+  so_far = named_begin c.args.mounted.now.state c.new-names.result _ c.new-names.ensures.empty (c.into_iter-name-iterator.ensures.into_iter_gives ∙ c.names-name-items.ensures);
+}
+
+pub loop-name-preserved : goal.loop-name-preserved
+loop-name-preserved c =
+    let is : c.loop-name.name-iterator ≡ name_held c.in-Some.name ∷ c.next.new.self = search rules in
+    record {
+      can = tt;
+      finite = tt;
+      so_far = one_named c.args.mounted.now.state c.loop-name.names c.add.new.groups c.in-Some.name _ _ is c.in_ok-add.ensures c.loop-name.invariant.so_far;
+    }
+
+pub returns : goal.returns
+returns c = all_named c.args.mounted.now.state _ _ c.in-None.ensures.steps.0 c.loop-name.invariant.so_far
