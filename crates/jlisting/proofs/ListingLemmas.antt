@@ -1,6 +1,10 @@
 -- Lines, one after the other.
-use Rattle.std.proofs.Common.{◌≡◌, ℕ, ◌+◌, ◌<◌, List, [], ◌∷◌, ◌++◌, length, refl, ap, sym, ◌∙◌, append_assoc, append-nil, Option, Some, None, Result, Ok, Err, arith}
-use Rattle.jlisting.specs.Listing.{statement_of_words, prepend, or_err, action_lines, settings_after, lines_from, lines_in, statement_of}
+use Rattle.std.proofs.Common.{◌≡◌, ℕ, ◌+◌, ◌-◌, ◌<◌, List, [], ◌∷◌, ◌++◌, length, get_or, refl, ap, sym, ◌∙◌, append_assoc, append-nil, Option, Some, None, Result, Ok, Err, arith}
+use Rattle.std.proofs.lemmas.Grind.{common_steps}
+use Rattle.jlisting.specs.Listing.{statement_of_words, prepend, or_err, action_lines, settings_after, lines_from, lines_in, lines_of, statement_of}
+use Rattle.jlisting.specs.Broken.{first_broken, line_after, line_at, IsFaultOfLine, IsListingFault}
+use Rattle.jlisting.specs.declared.fault.ListingFault.{ListingFault}
+use Rattle.jlisting.specs.declared.fault.ListingFault.TheVariants as fault
 use Rattle.jlisting.specs.declared.line.Line.{Line}
 use Rattle.jlisting.specs.declared.statement.Settings.{Settings}
 use Rattle.jlisting.specs.declared.statement.Statement.{Statement}
@@ -41,3 +45,20 @@ pub lines_end : (lines : List Line) (n : ℕ) (s : Settings) (text : List ℕ) �
 unfolding statement_of
 lines_end lines n s [] none = ap (λ (l : List Line). Ok l) (append-nil lines)
 lines_end lines n s (b ∷ text) none = absurd (omega arith)
+
+-- ---- the line that is wrong
+
+pub nothing_behind : (k : ℕ) → get_or {A = List ℕ} ([] ∷ []) k [] ≡ []
+nothing_behind k = grind (arith, common_steps)
+
+pub line_is : (n : ℕ) (text line : List ℕ) → line_after n text ≡ line → line_at (n + 1) text ≡ line
+line_is n text line is =
+    let same : n + 1 - 1 ≡ n = omega arith in
+    ap (λ (k : ℕ). line_after k text) same ∙ is
+
+pub fault_is : (text line : List ℕ) (n : ℕ) (f : ListingFault) → lines_of text ≡ Err n → line_at n text ≡ line → IsFaultOfLine n line f → IsListingFault text f
+fault_is text line n (fault.Line bad) wrong at is = (
+  wrong ∙ ap (λ (k : ℕ). Err k) (sym is.0),
+  ap (λ (k : ℕ). first_broken (line_at k text)) is.0 ∙ ap first_broken at ∙ is.1,
+)
+fault_is text line n fault.OutOfMemory wrong at is = tt

@@ -12,11 +12,11 @@ use Rattle.jlisting.specs.Laws.{NumbersAreNumerals, DecimalsAreReadBack}
 digit_is : (base b : ℕ) → base ≤ 10 → digit_value b < base → (48 ≤ b) × (b < 48 + base) × (digit_value b ≡ b - 48)
 digit_is base b ten is = grind (arith, nat_tests)
 
-is_digit_value : (base b : ℕ) → base ≤ 10 → 48 ≤ b → b < 48 + base → digit_value b ≡ b - 48
+pub is_digit_value : (base b : ℕ) → base ≤ 10 → 48 ≤ b → b < 48 + base → digit_value b ≡ b - 48
 is_digit_value base b ten low high = grind (arith, nat_tests)
 
 -- a digit more is no less
-value_grows : (base n : ℕ) (ds : List ℕ) → 1 ≤ base → n ≤ digits_value_after base n ds
+pub value_grows : (base n : ℕ) (ds : List ℕ) → 1 ≤ base → n ≤ digits_value_after base n ds
 value_grows base n [] some = omega arith
 value_grows base n (c ∷ cs) some = omega (arith, le-mul_of_pos_right {m = base} n some, value_grows base (n * base + digit_value c) cs some)
 

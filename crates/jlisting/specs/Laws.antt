@@ -1,8 +1,11 @@
--- What holds of the numbers of a listing.
-use Rattle.std.specs.Prelude.{◌≡◌, ◌↔◌, ◌≤◌, ◌<◌, ◌^◌, ℕ, List, length, Some}
+-- What holds of the numbers and lines of a listing.
+use Rattle.std.specs.Prelude.{◌≡◌, ◌↔◌, ◌≤◌, ◌<◌, ◌^◌, ℕ, List, length, Some, None, IsSome}
 use Rattle.std.specs.Str.Parse.{IsNumeral, digits_value}
 use Rattle.std.specs.Fmt.{decimal}
 use Rattle.jlisting.specs.Words.{decimal_of, number_of}
+use Rattle.jlisting.specs.Listing.{statement_of}
+use Rattle.jlisting.specs.Broken.{first_broken}
+use Rattle.jlisting.specs.declared.statement.Settings.{Settings}
 
 -- A word is a number where it is a numeral of its base with so many digits at most, and the
 -- numeral's value is within the limit.
@@ -15,3 +18,8 @@ NumbersAreNumerals = (base most limit n : ℕ) (word : List ℕ) → base ≤ 10
 abbrev pub DecimalsAreReadBack : Type 0
 DecimalsAreReadBack =
     (limit n : ℕ) → n ≤ limit → n < 10 ^ 10 → decimal_of limit (decimal n) ≡ Some n
+
+-- A line breaks no rule exactly where it means something.
+abbrev pub BrokenLinesMeanNothing : Type 0
+BrokenLinesMeanNothing =
+    (s : Settings) (line : List ℕ) → (first_broken line ≡ None) ↔ IsSome (statement_of s line)

@@ -1,5 +1,5 @@
 -- What the lines of a listing mean.
-use Rattle.std.specs.Prelude.{◌≡◌, ℕ, ◌+◌, ◌==◌, ◌||◌, Bool, List, [], ◌∷◌, ◌++◌, length, slice_index, codes, Option, Some, None, option_and_then, Result, Ok, Err, if◌then◌else◌}
+use Rattle.std.specs.Prelude.{ℕ, ◌+◌, ◌==◌, ◌||◌, Bool, List, [], ◌∷◌, ◌++◌, length, slice_index, codes, Option, Some, None, Result, Ok, Err, if◌then◌else◌}
 use Rattle.std.specs.List.{slice_split}
 use Rattle.std.specs.Str.{bytes_eq}
 use Rattle.jnode.specs.declared.order.Endian.{Endian}
@@ -8,8 +8,6 @@ use Rattle.jsteps.specs.Device.{device_number}
 use Rattle.jsteps.specs.declared.op.Op.{Op}
 use Rattle.jsteps.specs.declared.op.Op.TheVariants as op
 use Rattle.jlisting.specs.Words.{decimal_of, device_kind_of, mode_of, text_of, hex_data_of, file_name_of, escaped_name_of}
-use Rattle.jlisting.specs.declared.fault.ListingFault.{ListingFault}
-use Rattle.jlisting.specs.declared.fault.ListingFault.TheVariants as fault
 use Rattle.jlisting.specs.declared.line.Action.{Action}
 use Rattle.jlisting.specs.declared.line.Action.TheVariants as action
 use Rattle.jlisting.specs.declared.line.Line.{Line}
@@ -201,11 +199,6 @@ lines_in n s text = lines_from n s (slice_split (λ b. b == 10) text)
 
 unfoldable pub lines_of : List ℕ → Result (List Line) ℕ
 lines_of text = lines_in 1 initial_settings text
-
--- why a listing is not read: the first line that means nothing, or memory runs out
-abbrev pub IsListingFault : Result (List Line) ℕ → ListingFault → Type 0
-IsListingFault lines (fault.Line n) = lines ≡ Err n
-IsListingFault lines fault.OutOfMemory = Unit {0}
 
 -- ---- a file of the host
 

@@ -5,6 +5,9 @@ ghost use Rattle.jsteps.specs.declared.device.DeviceKind.TheVariants.{Character,
 ghost use Rattle.jsteps.specs.declared.op.Op.TheVariants as op;
 ghost use Rattle.jlisting.specs.Words.{decimal_of, mode_of, text_of, hex_data_of};
 ghost use Rattle.jlisting.specs.Listing.{lines_of};
+ghost use Rattle.jlisting.specs.Broken.{first_broken};
+ghost use Rattle.jlisting.specs.declared.rule.Rule.TheVariants as rule;
+ghost use Rattle.jlisting.specs.declared.rule.WordRule.TheVariants as word;
 ghost use Rattle.jlisting.specs.declared.line.Action.TheVariants as action;
 
 /// A file that is made, written, cut and written again.
@@ -69,4 +72,30 @@ pub fn bytes_are_read()
     ensures odd { hex_data_of (codes "00a") ≡ None }
     ensures no_data { hex_data_of (codes "-") ≡ Some [] }
     ensures empty { hex_data_of [] ≡ None }
+{}
+
+/// Spaces too many, another first word, and words too few or too many.
+#[tactic(auto, unfolding(crate::specs::Broken::first_broken, crate::specs::Broken::operands_of, crate::specs::Broken::operation_operands, crate::specs::Broken::shape_rule, crate::specs::Broken::word_rule, crate::specs::Broken::operand_rule, crate::specs::Broken::number_rule, crate::specs::Broken::escape_rule, crate::specs::Broken::data_rule, crate::specs::Broken::kind_rule))]
+pub fn shapes_are_judged()
+    ensures comment { first_broken (codes "#  a ") ≡ None }
+    ensures start { first_broken (codes " remove /a") ≡ Some rule.SpaceAtStart }
+    ensures two { first_broken (codes "remove  /a ") ≡ Some rule.TwoSpaces }
+    ensures end { first_broken (codes "remov ") ≡ Some rule.SpaceAtEnd }
+    ensures carriage_return { first_broken (codes "time 1\r") ≡ Some rule.CarriageReturn }
+    ensures text { first_broken (codes "remove /a\r") ≡ None }
+    ensures name { first_broken (codes "Remove /a") ≡ Some rule.NoOperation }
+    ensures few { first_broken (codes "mkdir 9") ≡ Some (rule.TooFew 2) }
+    ensures many { first_broken (codes "mkdir 9 /a b") ≡ Some (rule.TooMany 2) }
+{}
+
+/// Words that break a rule, the first of them.
+#[tactic(auto, unfolding(crate::specs::Broken::first_broken, crate::specs::Broken::operands_of, crate::specs::Broken::operation_operands, crate::specs::Broken::shape_rule, crate::specs::Broken::word_rule, crate::specs::Broken::operand_rule, crate::specs::Broken::number_rule, crate::specs::Broken::escape_rule, crate::specs::Broken::data_rule, crate::specs::Broken::kind_rule))]
+pub fn words_are_judged()
+    ensures digit { first_broken (codes "owner 6553x 65536") ≡ Some (rule.Word 2 (word.NoDigit 9)) }
+    ensures octal { first_broken (codes "mkdir 8 \\") ≡ Some (rule.Word 2 (word.NoDigit 7)) }
+    ensures long { first_broken (codes "mkdir 0000755 /a") ≡ Some (rule.Word 2 (word.TooLong 6)) }
+    ensures above { first_broken (codes "owner 0 65536") ≡ Some (rule.Word 3 (word.Above 65535)) }
+    ensures kind { first_broken (codes "device p 8 5 1 /a") ≡ Some (rule.Word 2 word.Kind) }
+    ensures escape { first_broken (codes "link /a /\\X61") ≡ Some (rule.Word 3 word.Escape) }
+    ensures pairs { first_broken (codes "write /a 0 abc") ≡ Some (rule.Word 4 word.NoPairs) }
 {}

@@ -9,23 +9,29 @@
 //!
 //! It is built on `jsteps` (operations) and `jword` (words that stand for bytes). Its promise to
 //! the program: `listing` answers the actions of the text with their lines, or the number of the
-//! first line that means nothing.
+//! first line that means nothing and the first rule that it breaks.
 //!
 //! `specs/Words.antt` says what a word stands for, `specs/Listing.antt` what a line means and which
-//! actions a text has. `laws` has what holds of numbers, and `examples` has worked listings.
+//! actions a text has, `specs/Broken.antt` which rule a line breaks. `laws` has what holds of
+//! numbers and lines, and `examples` has worked listings.
 #![tactic(auto)]
 
+mod broken;
 pub mod examples;
 mod fault;
 mod forms;
 pub mod laws;
 mod line;
 mod lines;
+mod operands;
 mod reading;
+mod rule;
 mod split;
 mod statement;
+mod word_rules;
 mod words;
 
-pub use crate::fault::ListingFault;
+pub use crate::fault::{BadLine, ListingFault};
 pub use crate::line::{Action, FileName, Line};
 pub use crate::lines::listing;
+pub use crate::rule::{Rule, WordRule};

@@ -11,7 +11,7 @@ use jword::{WordFault, unescape, unhex};
 use std::alloc::Global;
 
 /// The number that digits of a base stand for, up to a limit.
-fn digits(word: &[u8], base: u64, limit: u64) -> Option<u64>
+pub fn digits(word: &[u8], base: u64, limit: u64) -> Option<u64>
     requires base { base ≤ 10 }
     requires limit { limit < 2 ^ 32 }
     ensures value { result ≡ digits_from base limit 0 word.now }

@@ -2,11 +2,16 @@
 
 use crate::checks::{equal, expect};
 use crate::shown::is_shown;
-use jlisting::{ListingFault, listing};
+use jlisting::{BadLine, ListingFault, Rule, WordRule, listing};
 use std::alloc::Global;
 
 const TEXT: &[u8] =
-    b"create 644 /\\x61\nwrite /a 0 0fF0\nsymlink /\\x62 \\x63\nwrite /a 2 -\npart /\\x61 2 f\nremove /b\nremov /b\n";
+    b"create 644 /\\x61\nwrite /a 0 0fF0\nsymlink /\\x62 \\x63\nwrite /a 2 -\npart /\\x61 2 f\nremove /b\nfile 644 /\\x62 f\\xff\n";
+
+const LAST_LINE: ListingFault = ListingFault::Line(BadLine {
+    line: 7,
+    rule: Rule::Word(4, WordRule::NoText),
+});
 
 /// The reason why `TEXT` is not read.
 fn fault(alloc: Global) -> Option<ListingFault> {
@@ -22,10 +27,10 @@ fn fault(alloc: Global) -> Option<ListingFault> {
 fn refused_growth_is_no_wrong_line(rt: HostRuntime) {
     let first = fault(rt.alloc());
     if first != Some(ListingFault::OutOfMemory) {
-        equal(&rt, first, Some(ListingFault::Line(7)));
+        equal(&rt, first, Some(LAST_LINE));
     }
     if first == Some(ListingFault::OutOfMemory) {
-        equal(&rt, fault(rt.alloc()), Some(ListingFault::Line(7)));
+        equal(&rt, fault(rt.alloc()), Some(LAST_LINE));
         expect(
             &rt,
             is_shown(rt.alloc(), b"remove /\\x61", "1: 0 remove /a\n"),

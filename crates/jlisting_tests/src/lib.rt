@@ -1,4 +1,5 @@
-//! Tests of `jlisting`: each form of a line, the lines that are none with their numbers, settings,
+//! Tests of `jlisting`: each form of a line, the lines that are none with their
+//! numbers and the rules that they break, settings,
 //! escapes, the limits of numbers, and refused growth. Expected values come from the format of a
 //! listing and not from the program's output.
 #![tactic(auto)]
@@ -9,6 +10,8 @@ mod checks;
 mod growth;
 #[cfg(test)]
 mod readable;
+#[cfg(test)]
+mod rules;
 #[cfg(test)]
 mod shown;
 #[cfg(test)]

@@ -7,7 +7,7 @@ use std::alloc::Global;
 /// The number of the line for which a listing is not read.
 fn wrong_line(alloc: Global, text: &[u8]) -> Option<usize> {
     match listing(alloc, text) {
-        Err(ListingFault::Line(number)) => Some(number),
+        Err(ListingFault::Line(bad)) => Some(bad.line),
         _ => None,
     }
 }
