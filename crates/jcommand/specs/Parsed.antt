@@ -13,6 +13,7 @@ use Rattle.jword.specs.Words.{◌>>=◌}
 use Rattle.jcommand.specs.Commands.{program}
 use Rattle.jcommand.specs.declared.parsed.Options.{Options}
 use Rattle.jcommand.specs.declared.parsed.Owner.{Owner}
+use Rattle.jcommand.specs.declared.parsed.Packing.{Packing}
 use Rattle.jcommand.specs.declared.parsed.Placing.{Placing}
 use Rattle.jcommand.specs.declared.parsed.Request.{Request}
 use Rattle.jcommand.specs.declared.parsed.Request.TheVariants as request
@@ -112,6 +113,19 @@ pub data TaskParsed : Type 0 where
   DamageParsed : Options → Text → TaskParsed
   PackParsed : PackingParsed → TaskParsed
 
+abbrev pub packing_view : Packing → PackingParsed
+packing_view p = record {
+  options = p.options;
+  blocks = p.blocks;
+  page = p.page;
+  weak = p.weak;
+  owner = p.owner;
+  time = p.time;
+  quiet = p.quiet;
+  folder = p.folder.now;
+  output = p.output.now;
+}
+
 abbrev pub task_view : Task → TaskParsed
 task_view (task.Image r) = ImageParsed (view r)
 task_view (task.Weak r) = WeakParsed (view r)
@@ -126,17 +140,7 @@ task_view (task.Compress c) = CompressParsed c.options c.image.now c.output.now
 task_view (task.Diff d) = DiffParsed d.options d.times d.first.now d.second.now
 task_view (task.Apart a) = ApartParsed a.options a.image.now a.output.now
 task_view (task.Damage d) = DamageParsed d.options d.image.now
-task_view (task.Pack p) = PackParsed (record {
-  options = p.options;
-  blocks = p.blocks;
-  page = p.page;
-  weak = p.weak;
-  owner = p.owner;
-  time = p.time;
-  quiet = p.quiet;
-  folder = p.folder.now;
-  output = p.output.now;
-})
+task_view (task.Pack p) = PackParsed (packing_view p)
 
 abbrev pub options_of : Request → Options
 options_of (request.Scan options image) = options
