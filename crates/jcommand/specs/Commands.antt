@@ -77,7 +77,8 @@ atomic app = with_rule app (flag (codes "atomic"))
 abbrev pub placing : App → App
 placing app = atomic (with_rule app (flag (codes "pad")))
 
--- `build --blocks N [--page N] [--weak] [--pad] [--atomic] [--block N] [--endian ORDER] LISTING OUT`
+-- `build --blocks N [--page N] [--weak] [--pad] [--atomic] [--block N] [--endian ORDER] LISTING
+-- OUT`
 abbrev pub build_app : App
 build_app = with_rule (with_rule (placing (noting (codes "build"))) (word (codes "LISTING")))
     (word (codes "OUT"))
@@ -105,8 +106,8 @@ compress_app =
     (word (codes "OUT"))
 
 -- an owner and a time for all that a folder holds, and whether its reading tells no progress
-abbrev pub settings : App → App
-settings app = with_rule
+abbrev pub folder_settings : App → App
+folder_settings app = with_rule
     (with_rule (with_rule app (option_of_two (codes "owner"))) (option_of (codes "time")))
     (flag (codes "quiet"))
 
@@ -115,7 +116,7 @@ settings app = with_rule
 abbrev pub pack_app : App
 pack_app = with_rule
     (with_rule
-    (settings
+    (folder_settings
     (placing
     (with_rule
     (with_rule (with_rule (plain_command (codes "pack")) (option_of (codes "blocks")))

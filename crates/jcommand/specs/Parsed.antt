@@ -318,8 +318,8 @@ placing_in rows = record {
 abbrev pub unplaced : Placing
 unplaced = record { pad = false; atomic = false }
 
-abbrev pub is_plain : Placing → Bool
-is_plain placing = not placing.pad && not placing.atomic
+abbrev pub is_unplaced : Placing → Bool
+is_unplaced placing = not placing.pad && not placing.atomic
 
 abbrev pub placing_by : Option (Text × List Row) → Placing
 placing_by (Some p) = placing_in p.1

@@ -2,7 +2,7 @@
 ghost use Rattle.std.specs.Prelude.{◌≡◌, ◌≢◌, ◌⊎◌, [], true, false, map, IfOk, IfErr, IfSome, IsSome, OnOk, Some, option_map};
 ghost use Rattle.clap.specs.Words.{HasKind, fault_of, kind_of, subcommand_of, subcommand_rows_of, takes};
 ghost use Rattle.jcommand.specs.Commands.{program};
-ghost use Rattle.jcommand.specs.Parsed.{ImageParsed, is_plain, placing_by, placing_from, IsNoRequest, IsOfImage, task_view, view, parsed_by, parsed_from, are_words_taken, IsFaultless, IsHelpRequested, IsHelpKind, IsRefusedByClap, IsUnreadable};
+ghost use Rattle.jcommand.specs.Parsed.{ImageParsed, is_unplaced, placing_by, placing_from, IsNoRequest, IsOfImage, task_view, view, parsed_by, parsed_from, are_words_taken, IsFaultless, IsHelpRequested, IsHelpKind, IsRefusedByClap, IsUnreadable};
 ghost use Rattle.jcommand.specs.Refused.{IsHelp, IsUsage};
 ghost use Rattle.jcommand.specs.declared.command_line.RequestFault.TheVariants.{OutOfMemory};
 
@@ -205,7 +205,7 @@ pub fn request<'a>(alloc: Global, args: &'a [&'a str]) -> Result<Request<'a>, Re
 
     // Nothing is asked for of the file that is written.
     ensures plain { OnOk result
-        (is_plain (placing_from (map (λ w. w.now) args.entry.now)) ≡ true) }
+        (is_unplaced (placing_from (map (λ w. w.now) args.entry.now)) ≡ true) }
 
     // Words that clap refuses, or answers by help, ask for nothing.
     ensures faultless { OnOk result (IsFaultless (map (λ w. w.now) args.entry.now)) }
@@ -214,7 +214,7 @@ pub fn request<'a>(alloc: Global, args: &'a [&'a str]) -> Result<Request<'a>, Re
     // of memory.
     ensures only { are_words_taken (map (λ w. w.now) args.entry.now) ≡ true
         → IsOfImage (parsed_from (map (λ w. w.now) args.entry.now))
-        → is_plain (placing_from (map (λ w. w.now) args.entry.now)) ≡ true
+        → is_unplaced (placing_from (map (λ w. w.now) args.entry.now)) ≡ true
         → IfErr result (λ e. e ≡ RequestFault.OutOfMemory) }
 
     // Help comes only where clap answers the words by help, or by the version.
@@ -226,7 +226,7 @@ pub fn request<'a>(alloc: Global, args: &'a [&'a str]) -> Result<Request<'a>, Re
     ensures usage { IfErr result (λ e. IsUsage e → IsRefusedByClap (map (λ w. w.now) args.entry.now)
         ⊎ (IsUnreadable (map (λ w. w.now) args.entry.now)
         ⊎ (IsNoRequest (parsed_from (map (λ w. w.now) args.entry.now))
-        ⊎ (is_plain (placing_from (map (λ w. w.now) args.entry.now)) ≡ false)))) }
+        ⊎ (is_unplaced (placing_from (map (λ w. w.now) args.entry.now)) ≡ false)))) }
 {
     let Asked { task, placing } = asked(alloc, args)?;
     if !placing.is_plain() {

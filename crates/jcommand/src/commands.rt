@@ -2,7 +2,7 @@
 //! takes.
 ghost use Rattle.std.specs.Prelude.{◌≡◌, Ok};
 ghost use Rattle.clap.specs.Words.{App, Rule, new_app, with_rule, with_subcommand};
-ghost use Rattle.jcommand.specs.Commands.{IsApp, IsRule, MakesApp, word, optional_word, option_or, required_option, option_of, option_of_two, flag, plain_command, writer, noting, check_app, ls_app, cat_app, build_app, append_app, decompress_app, compress_app, extract_app, listing_app, info_app, cuts_app, diff_app, damage_app, pack_app, atomic, placing, settings, bare, program};
+ghost use Rattle.jcommand.specs.Commands.{IsApp, IsRule, MakesApp, word, optional_word, option_or, required_option, option_of, option_of_two, flag, plain_command, writer, noting, check_app, ls_app, cat_app, build_app, append_app, decompress_app, compress_app, extract_app, listing_app, info_app, cuts_app, diff_app, damage_app, pack_app, atomic, placing, folder_settings, bare, program};
 
 use crate::help;
 use clap::{Arg, ArgAction, Command};
@@ -242,7 +242,7 @@ fn make_extract<'a>(alloc: Global) -> Made<'a>
 
 /// The command with an owner and a time for all that a folder holds.
 fn add_settings<'a>(alloc: Global, command: Made<'a>) -> Made<'a>
-    ensures { (app : App) → MakesApp command.entry app → MakesApp result (settings app) }
+    ensures { (app : App) → MakesApp command.entry app → MakesApp result (folder_settings app) }
 {
     let owner = make_optional_two(alloc, "owner", &["UID", "GID"], help::OWNER);
     let time = make_optional(alloc, "time", "T", help::TIME);

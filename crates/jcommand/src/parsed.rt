@@ -1,7 +1,7 @@
 //! What the matches of the program's command line ask for.
 ghost use Rattle.std.specs.Prelude.{◌≡◌, IfSome, codes, map, option_map};
 ghost use Rattle.clap.specs.Words.{found_of, rows_of, all_of, first_of};
-ghost use Rattle.jcommand.specs.Parsed.{decimal_number, endian_of, page_of, number_option, options_in, image_in, is_given, check_in, is_decompressed, ls_in, cat_in, writing_in, build_in, append_in, noting_in, decompress_in, extract_in, listing_in, info_in, compress_in, cuts_in, diff_in, damage_in, flash_in, settings_in, pack_in, placing_in, is_plain, is_apart, owner_number, owner_of, if_given, parsed, options_of, task_view, view};
+ghost use Rattle.jcommand.specs.Parsed.{decimal_number, endian_of, page_of, number_option, options_in, image_in, is_given, check_in, is_decompressed, ls_in, cat_in, writing_in, build_in, append_in, noting_in, decompress_in, extract_in, listing_in, info_in, compress_in, cuts_in, diff_in, damage_in, flash_in, settings_in, pack_in, placing_in, is_unplaced, is_apart, owner_number, owner_of, if_given, parsed, options_of, task_view, view};
 
 use clap::ArgMatches;
 use jnode::Endian;
@@ -191,7 +191,7 @@ pub struct Placing {
 impl Placing {
     /// Whether nothing is done about it.
     pub fn is_plain(self) -> bool
-        ensures { result ≡ is_plain self }
+        ensures { result ≡ is_unplaced self }
     {
         !self.pad && !self.atomic
     }
