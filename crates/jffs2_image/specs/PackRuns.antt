@@ -71,7 +71,23 @@ ReadsGiven known options name notes result = ReadsListing known options name not
 -- ---- the image
 
 -- A text is written as by `build`: the image of its operations into the file that is asked for, and
--- the line on them to the last byte. `unmade`: no file was made.
+-- the line on them; and the notes on weak nodes are kept, where they are asked for. `unmade`: no
+-- file was made.
+pub record PutsText (asked : PackingParsed) (text : List ℕ) (unmade : Type 0)
+    (reading : FileReads) (writing : FileWrites) (output : Passage) (notes : Notes)
+    (result : Result ℕ ProgramFault) : Type 0 where
+  pub writes : WritesImage writing.held asked.page asked.options.endian
+      asked.options.geometry.block (blocks_of asked) asked.output [] text output.old output.new
+      output.before output.now result
+  pub files : RunsFiles reading.told writing.held asked.page asked.options.endian
+      asked.options.geometry.block (blocks_of asked) [] text output.old output.new result
+  pub host : Blames unmade (MakesFile asked.output writing.names_old writing.names_new)
+      reading.before reading.now writing.before writing.now result
+  pub weak : IfOk result (λ _. IsTrue asked.weak
+      → AreNotesOn reading.told asked.options.endian
+      (flash_given asked.options (blocks_of asked) asked.page) [] text notes)
+
+-- the same to the last byte of the line
 pub record WritesText (asked : PackingParsed) (text : List ℕ) (unmade : Type 0)
     (reading : FileReads) (writing : FileWrites) (output : Passage) (notes : Notes)
     (result : Result ℕ ProgramFault) : Type 0 where
@@ -79,17 +95,12 @@ pub record WritesText (asked : PackingParsed) (text : List ℕ) (unmade : Type 0
   pub count : ℕ
   pub answer : Result ℕ ProgramFault
   pub finished : Bool
-  pub writes : WritesImage writing.held asked.page asked.options.endian
-      asked.options.geometry.block (blocks_of asked) asked.output [] text output.old taken
-      output.before count answer
-  pub files : RunsFiles reading.told writing.held asked.page asked.options.endian
-      asked.options.geometry.block (blocks_of asked) [] text output.old taken answer
-  pub host : Blames unmade
-      (MakesFile asked.output writing.names_old writing.names_new)
-      reading.before reading.now writing.before writing.now answer
-  pub weak : IfOk answer (λ _. IsTrue asked.weak
-      → AreNotesOn reading.told asked.options.endian
-      (flash_given asked.options (blocks_of asked) asked.page) [] text notes)
+  pub puts : PutsText asked text unmade reading writing (record {
+    old = output.old;
+    new = taken;
+    before = output.before;
+    now = count;
+  }) notes answer
   pub finishes : Finishes taken output.new count output.now finished
   pub comes_to : result ≡ answer_finished answer finished
 

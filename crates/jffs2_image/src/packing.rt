@@ -1,13 +1,10 @@
 //! `pack`: an image of a folder of the host. It is `listing` and `build` in one, and the text
 //! between them is held in memory.
-ghost use Rattle.std.specs.Prelude.{◌≡◌, ◌==◌, [], IsTrue, Ok, OnOk, if◌then◌else◌};
+ghost use Rattle.std.specs.Prelude.{◌≡◌, ◌==◌, Ok, if◌then◌else◌};
 ghost use Rattle.jcommand.specs.Parsed.{packing_view};
 ghost use Rattle.jffs2_image.specs.Folders.{settings};
-ghost use Rattle.jffs2_image.specs.Host.{Blames, MakesFile, RunsFiles};
-ghost use Rattle.jffs2_image.specs.PackRuns.{EndsPack, PacksFolder, ReadsGiven, ReadsListing, WritesText, blocks_of, most_blocks, outcome_of_packing, said_after_packing};
+ghost use Rattle.jffs2_image.specs.PackRuns.{EndsPack, PacksFolder, PutsText, ReadsGiven, ReadsListing, WritesText, blocks_of, most_blocks, outcome_of_packing, said_after_packing};
 ghost use Rattle.jffs2_image.specs.Runs.{Says};
-ghost use Rattle.jffs2_image.specs.WeakRuns.{AreNotesOn};
-ghost use Rattle.jffs2_image.specs.Writes.{WritesImage};
 
 use crate::folders::{Folders, put_read, read_fault, settings_of};
 use crate::host::{Loader, Maker};
@@ -42,6 +39,16 @@ fn most_blocks(block: u32) -> u32
     (GREATEST_IMAGE as u32 / block).max(1)
 }
 
+/// The number of blocks that is asked for, or the greatest.
+fn blocks_of(asked: Packing<'_>) -> u32
+    ensures { result ≡ blocks_of (packing_view asked.entry) }
+{
+    match asked.blocks {
+        Some(blocks) => blocks,
+        None => most_blocks(asked.options.geometry.block),
+    }
+}
+
 /// The flash that is written, and the file that holds its bytes.
 fn target_of(asked: Packing<'_>) -> Target<'_>
     ensures { result ≡ record {
@@ -53,10 +60,7 @@ fn target_of(asked: Packing<'_>) -> Target<'_>
 {
     Target {
         options: asked.options,
-        blocks: match asked.blocks {
-            Some(blocks) => blocks,
-            None => most_blocks(asked.options.geometry.block),
-        },
+        blocks: blocks_of(asked),
         page: asked.page,
         output: asked.output,
     }
@@ -116,36 +120,37 @@ fn read_given<'a, D: Folders, N: Sink>(
     answer
 }
 
-/// Writes the image of what a listing's text makes of an empty file system, in the byte order that
-/// is asked for.
-fn write_in_order<'a, L: Loader, M: Maker, T: Sink>(
+/// Writes the image of what a listing's text makes of an empty file system.
+fn put_text<'a, L: Loader, M: Maker, T: Sink>(
     alloc: Global,
     loader: &mut L,
     maker: &mut M,
-    target: Target<'a>,
+    asked: Packing<'a>,
     text: &'a [u8],
     unread: &'a mut String,
     notes: &mut Notes,
     sink: &mut T,
 ) -> Result<u64, ProgramFault<'a>>
-    ensures writes { WritesImage (M.held maker.old, M.held maker.new) target.entry.page
-        target.entry.options.endian target.entry.options.geometry.block target.entry.blocks
-        target.entry.output.now [] text.now
-        (T.taken sink.old) (T.taken sink.new) (T.failures sink.old) (T.failures sink.new) result }
-    ensures files { RunsFiles (L.told loader.old) (M.held maker.old, M.held maker.new)
-        target.entry.page target.entry.options.endian target.entry.options.geometry.block
-        target.entry.blocks [] text.now (T.taken sink.old) (T.taken sink.new) result }
-    ensures host { Blames (maker.new ≡ maker.old) (MakesFile target.entry.output.now
-        (M.names maker.old) (M.names maker.new)) (L.failures loader.old) (L.failures loader.new)
-        (M.failures maker.old) (M.failures maker.new) result }
-    ensures weak { OnOk result (IsTrue notes.old.asked
-        → AreNotesOn (L.told loader.old) target.entry.options.endian (record {
-          geometry = target.entry.options.geometry;
-          blocks = target.entry.blocks;
-          page = target.entry.page;
-        }) [] text.now notes.new) }
+    requires { notes.now.asked ≡ asked.weak }
+    ensures { PutsText (packing_view asked.entry) text.now (maker.new ≡ maker.old) (record {
+      told = L.told loader.old;
+      before = L.failures loader.old;
+      now = L.failures loader.new;
+    }) (record {
+      names_old = M.names maker.old;
+      names_new = M.names maker.new;
+      held = (M.held maker.old, M.held maker.new);
+      before = M.failures maker.old;
+      now = M.failures maker.new;
+    }) (record {
+      old = T.taken sink.old;
+      new = T.taken sink.new;
+      before = T.failures sink.old;
+      now = T.failures sink.new;
+    }) notes.new result }
 {
-    match target.options.endian {
+    let target = target_of(asked);
+    match asked.options.endian {
         Endian::Little => write_image::<LittleEndian, L, M, T>(
             alloc,
             loader,
@@ -182,7 +187,7 @@ fn write_text<'a, L: Loader, M: Maker, T: Output>(
     notes: &mut Notes,
     output: &mut T,
 ) -> Result<u64, ProgramFault<'a>>
-    requires { notes.asked ≡ asked.weak }
+    requires { notes.now.asked ≡ asked.weak }
     ensures { WritesText (packing_view asked.entry) text.now (maker.new ≡ maker.old) (record {
       told = L.told loader.old;
       before = L.failures loader.old;
@@ -200,8 +205,7 @@ fn write_text<'a, L: Loader, M: Maker, T: Output>(
       now = T.failures output.new;
     }) notes.new result }
 {
-    let target = target_of(asked);
-    let answer = write_in_order(alloc, loader, maker, target, text, unread, notes, output);
+    let answer = put_text(alloc, loader, maker, asked, text, unread, notes, output);
     let finished = output.finish();
     let findings = answer?;
     match finished {
@@ -223,7 +227,7 @@ fn pack_folder<'a, L: Loader, M: Maker, D: Folders, T: Output, E: Sink>(
     output: &mut T,
     errors: &mut E,
 ) -> Result<u64, ProgramFault<'a>>
-    requires { notes.asked ≡ asked.weak }
+    requires { notes.now.asked ≡ asked.weak }
     ensures made { D.made folders.new ≡ D.made folders.old }
     ensures packs { PacksFolder (packing_view asked.entry)
         (D.reads folders.old asked.entry.folder.now) (maker.new ≡ maker.old)
