@@ -1,5 +1,5 @@
 #!/usr/bin/env python3
-"""Runs `listing` and `extract` of the finished program on folders of this host and on images that are made to do harm.
+"""Runs `listing`, `pack` and `extract` of the finished program on folders of this host and on images that are made to do harm.
 
 Usage: tests/folders.py [PROGRAM]. A folder comes back whole by listing, build and extract; what a listing or this host can't
 hold is told, a line each; and nothing is made outside the new folder. The last line is 'N passed, M failed'.
@@ -118,6 +118,54 @@ def with_settings():
         verdict(f"no folder: {name}", done == Done(1, b"", f"not listed: {why}\njffs2_image: P1 File {name}\n".encode()), done)
 
 
+def read(path):
+    with open(path, "rb") as file:
+        return file.read()
+
+
+def by_hand(name, words, flags, image):
+    """An image of a folder by `listing` and `build`: what is told of both, and the status of the first that does not end well."""
+    listed = run("listing", *words, name)
+    write("by_hand.txt", listed.out)
+    built = run("build", *flags, "by_hand.txt", image)
+    return Done(built.status or listed.status, built.out, listed.err + built.err)
+
+
+def packed():
+    """`pack` writes what `build` makes of the listing, byte for byte, and tells what both tell."""
+    for words in ([], ["--owner", "7", "65535", "--time", "9"], ["--time", "0", "--quiet"]):
+        for flags in (["--endian", "big"], ["--block", "131072", "--page", "8192"], ["--weak"]):
+            wanted = by_hand("plain/tree", words, [*flags, "--blocks", "32"], "by_hand.img")
+            verdict(f"by hand, {words} {flags}", wanted.status in (0, 3) and os.path.getsize("by_hand.img") > 300000, wanted)
+            for blocks in (["--blocks", "32"], []):
+                done = run("pack", *words, *flags, *blocks, "plain/tree", "packed.img")
+                verdict(f"packed, {words} {flags} {blocks}", done == wanted and read("packed.img") == read("by_hand.img"), done)
+    os.remove("packed.img")
+    for name, why in (("no such folder", "the host refused it"), ("plain/tree.txt", "no directory"), ("way", "a symlink, which is not followed")):
+        done = run("pack", name, "packed.img")
+        wanted = Done(1, b"", f"not listed: {why}\njffs2_image: P1 File {name}\n".encode())
+        verdict(f"nothing is packed of {name}", done == wanted and not os.path.exists("packed.img"), done)
+    for flags in (["--block", "4100"], ["--block", "1"], ["--block", "0"], ["--block", "4294967295"], ["--block", "4096"], ["--blocks", "0"], ["--blocks", "4097"]):
+        blocks = [] if "--blocks" in flags else ["--blocks", "1"]
+        wanted = by_hand("plain/tree", [], [*flags, *blocks], "by_hand.img")
+        done = run("pack", *flags, "plain/tree", "packed.img")
+        verdict(f"no flash: {flags}", done.status == 1 and done == wanted and not os.path.exists("packed.img"), done)
+    wanted = by_hand("plain/tree", [], ["--blocks", "2"], "by_hand.img")
+    done = run("pack", "--blocks", "2", "plain/tree", "packed.img")
+    full = b"jffs2_image: S2 Full " in done.err and done.status == 1 and done == wanted
+    verdict("a flash that is full holds what was accepted", full and read("packed.img") == read("by_hand.img"), done)
+    done = run("pack", "plain/tree", "plain/tree")
+    verdict("no file can be made", done == Done(1, b"", b"jffs2_image: P1 File plain/tree\n"), done)
+    os.mkdir("nothing")
+    done = run("pack", "--owner", "0", "0", "--time", "0", "nothing", "packed.img")
+    verdict("an empty folder", done == by_hand("nothing", ["--owner", "0", "0", "--time", "0"], ["--blocks", "1"], "by_hand.img"), done)
+    with open("/dev/full", "wb") as full_disk:
+        done = run("pack", "plain/tree", "packed.img", stdout=full_disk, stderr=subprocess.PIPE)
+        verdict("a full output", (done.status, done.err) == (1, b"jffs2_image: P5 Output\n"), done)
+        done = run("pack", "no such folder", "unmade.img", stdout=subprocess.PIPE, stderr=full_disk)
+        verdict("notes on a full stream", done.status == 1 and not os.path.exists("unmade.img"), done)
+
+
 def what_a_listing_cannot_say():
     """What is left out is told in order, the rest is listed, and the status is 3."""
     os.makedirs("odd/in")
@@ -147,6 +195,9 @@ def what_a_listing_cannot_say():
     verdict("a file that no listing can have", b"left out /sparse: more than 268435456 bytes" in lines, done)
     done = run("listing", "--owner", "0", "0", "--time", "0", "odd")
     verdict("settings say what the host can't", b"/old" in done.out and b"/late" in done.out and done.status == 3, done)
+    wanted = by_hand("odd", ["--quiet"], ["--blocks", "4096"], "by_hand.img")
+    done = run("pack", "odd", "packed.img")
+    verdict("pack leaves out the same", wanted.status == 3 and done == wanted and read("packed.img") == read("by_hand.img"), done)
     shutil.rmtree("odd")
 
 
@@ -193,6 +244,9 @@ def devices():
     lines = [line for line in done.out.split(b"\n") if line.startswith(b"device ")]
     wanted = [b"device c 600 4 1 /a", b"device b 640 259 65537 /d/b", b"device b 604 4095 1048575 /z"]
     verdict("devices are listed", done.status == 0 and done.err == b"" and lines == wanted, done)
+    wanted = by_hand("nodes", ["--time", "9"], ["--blocks", "1", "--endian", "big"], "by_hand.img")
+    packed_nodes = run("pack", "--time", "9", "--endian", "big", "nodes", "packed.img")
+    verdict("devices are packed", packed_nodes == wanted and wanted.status == 0 and read("packed.img") == read("by_hand.img"), packed_nodes)
     write("nodes.txt", done.out)
     for order in ("little", "big"):
         done = run("build", "--endian", order, "--blocks", "1", "nodes.txt", "nodes.img")
@@ -626,6 +680,7 @@ def extended_attributes():
 GROUPS = (
     there_and_back,
     with_settings,
+    packed,
     what_a_listing_cannot_say,
     queues,
     devices,

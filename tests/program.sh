@@ -91,7 +91,7 @@ for words in --help "check --help"; do
 done
 
 line="the lines of help, 80 columns wide at most"
-for words in --help "check --help" "ls --help" "cat --help" "build --help" "append --help" "decompress --help" "extract --help" "listing --help" "info --help" "diff --help"; do
+for words in --help "check --help" "ls --help" "cat --help" "build --help" "append --help" "decompress --help" "extract --help" "listing --help" "info --help" "diff --help" "damage --help" "pack --help"; do
     "$program" $words > out
     awk 'length > 80 { print; wide = 1 } END { exit wide }' out
     count $?

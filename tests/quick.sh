@@ -213,6 +213,8 @@ ln -s etc/file tree/link
 jffs2_image listing --owner 0 0 --time 1000000000 tree > tree.txt
 same "status of listing" $? 0
 gives 0 "accepted 7 nodes 12 bytes 724" build --block 131072 --blocks 128 tree.txt flash.img
+gives 0 "accepted 7 nodes 12 bytes 724" pack --owner 0 0 --time 1000000000 --block 131072 tree packed.img
+same "the packed image" "$(cmp flash.img packed.img)" ""
 gives 0 "" extract --block 131072 flash.img copy
 holds tree copy
 

@@ -11,3 +11,4 @@ pub mod RunLemmas
 pub mod CutRunLemmas
 pub mod CompressingLemmas
 pub mod WeakLemmas
+pub mod PackLemmas

@@ -373,7 +373,7 @@ fn fill_asked<'a, L: Loader, D: Folders, N: Sink>(
 }
 
 /// What a reading of the folder of a name gives up for.
-fn read_fault(fault: ReadFault, name: &str) -> ProgramFault<'_>
+pub(crate) fn read_fault(fault: ReadFault, name: &str) -> ProgramFault<'_>
     ensures { IsReadingFault name.now fault result }
 {
     match fault {
@@ -384,7 +384,7 @@ fn read_fault(fault: ReadFault, name: &str) -> ProgramFault<'_>
 }
 
 /// Puts the listing of a folder that was read.
-fn put_read<T: Sink>(read: &jfolder::Folder, sink: &mut T) -> Result<(), DeviceFault>
+pub(crate) fn put_read<T: Sink>(read: &jfolder::Folder, sink: &mut T) -> Result<(), DeviceFault>
     ensures { Puts (T.taken sink.old) (T.taken sink.new) (T.failures sink.old) (T.failures sink.new)
         (listing_text read.now.root read.now.items.items) result }
 {
@@ -476,7 +476,7 @@ pub fn run_extract<L: Loader, D: Folders, E: Sink>(
 }
 
 /// What takes the place of owners and times of a folder.
-fn settings_of(owner: Option<Owner>, time: Option<u32>) -> jfolder::Options
+pub(crate) fn settings_of(owner: Option<Owner>, time: Option<u32>) -> jfolder::Options
     ensures { result ≡ settings owner time }
 {
     let owner = match owner {

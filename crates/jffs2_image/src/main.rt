@@ -19,6 +19,7 @@ pub mod host;
 pub mod info;
 mod looking;
 pub mod output;
+mod packing;
 pub mod program;
 pub mod system;
 mod weak;

@@ -113,7 +113,7 @@ impl Notes {
 }
 
 /// Puts the notes, where there are any. A weak node is found.
-fn put_notes<E: Sink>(notes: &Notes, errors: &mut E) -> Outcome
+pub(crate) fn put_notes<E: Sink>(notes: &Notes, errors: &mut E) -> Outcome
     ensures found { result ≡ outcome_of notes.now.weak }
     ensures said { Says (errors.new ≡ errors.old) (E.taken errors.old) (E.taken errors.new)
         (E.failures errors.old) (E.failures errors.new) (notes_said notes.now) }

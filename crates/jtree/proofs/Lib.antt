@@ -18,3 +18,4 @@ pub mod EmptyLemmas
 pub mod UpdateLemmas
 pub mod WholeFilesLemmas
 mod ListingUpdateLemmas
+mod WrittenLemmas

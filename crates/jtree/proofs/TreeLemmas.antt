@@ -217,7 +217,7 @@ lines_ops e files root items lines fits is =
     let read = listing_is_read_back root items fits in
     ap (ops_in e files) (same_lines lines read.0 (sym is ∙ read.1)) ∙ ops_of_lines e files read.0 ∙ ap (ops_with e files) read.2
 
-lines_lawful : (page : ℕ) (e : Endian) (files : Files) (root : Attributes) (items : List Item) (lines : List Line) → IsPage page → FitsListing root items → IsTree items
+pub lines_lawful : (page : ℕ) (e : Endian) (files : Files) (root : Attributes) (items : List Item) (lines : List Line) → IsPage page → FitsListing root items → IsTree items
     → FilesFit files items → AreFew files items → lines_of (listing_text root items) ≡ Ok lines → IsLawful page files root items (ops_in e files lines)
 lines_lawful page e files root items lines is_page fits tree short few is =
     subst (IsLawful page files root items) (sym (lines_ops e files root items lines fits is)) (lawful page e files root items is_page fits tree short few)

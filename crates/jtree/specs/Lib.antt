@@ -4,3 +4,4 @@ pub mod Laws
 pub mod Examples
 pub mod Image
 pub mod Updates
+pub mod Written

@@ -3,6 +3,7 @@
 ghost use Rattle.jtree.specs.Image as image;
 ghost use Rattle.jtree.specs.Laws as law;
 ghost use Rattle.jtree.specs.Updates as update;
+ghost use Rattle.jtree.specs.Written as written;
 
 /// The operations of a tree are all accepted on the empty file system, and make the tree and
 /// nothing else. So are those that the tree's text is read as.
@@ -16,6 +17,12 @@ pub fn listing_makes_tree()
 pub fn image_holds_tree()
     ensures image { image.ImageHoldsTree }
     ensures empty { image.EmptyIsBare }
+{}
+
+/// What is put out for the lines of a tree's text on the empty image, where nothing stops it, is
+/// such an image: it mounts, and holds the tree and nothing else.
+pub fn put_out_holds_tree()
+    ensures { written.PutOutHoldsTree }
 {}
 
 /// Where no operation makes a regular file without its bytes, or writes or cuts one, each path that

@@ -8,8 +8,9 @@
 //!
 //! `specs/Making.antt` has the operations of a tree, `specs/Holding.antt` what a file system that
 //! holds a tree is, `specs/Laws.antt` the law, and `specs/Image.antt` that of the image.
-//! `specs/Updates.antt` has the law of updates: a stop at any byte leaves whole files. `laws` has
-//! them as contracts, and `examples` a small tree.
+//! `specs/Written.antt` says the same of what goes out for a tree's text. `specs/Updates.antt` has
+//! the law of updates: a stop at any byte leaves whole files. `laws` has them as contracts, and
+//! `examples` a small tree.
 #![tactic(auto)]
 
 pub mod examples;

@@ -1,0 +1,69 @@
+-- What `pack` does, as far as it came.
+use Rattle.std.proofs.Common.{◌≡◌, ℕ, true, false, List, Option, Result, Ok, Err, ap, inl, inr, refl, subst}
+use Rattle.std.specs.Prelude.{OnOk}
+use Rattle.std.specs.Result.{IsErrAnd}
+use Rattle.std.specs.Io.KnownBytes.{Keeps}
+use Rattle.flashbase.specs.Device.{CountsErr}
+use Rattle.jcommand.specs.Parsed.{PackingParsed}
+use Rattle.jfolder.specs.Known.{Known}
+use Rattle.jfolder.specs.declared.found.Options.{Options}
+use Rattle.jreport.specs.declared.faults.ProgramFault.{ProgramFault}
+use Rattle.jffs2_image.specs.Compressing.{FileWrites}
+use Rattle.jffs2_image.specs.Folders.{settings}
+use Rattle.jffs2_image.specs.InfoRuns.{FileReads, Passage}
+use Rattle.jffs2_image.specs.PackRuns.{PackAround, PacksFolder, PutsText, ReadsGiven, ReadsListing, WritesText}
+use Rattle.jffs2_image.specs.Writes.{IsBehind}
+use Rattle.jffs2_image.specs.declared.packing.Listed.{Listed}
+use Rattle.jffs2_image.specs.declared.weak.Notes.{Notes}
+
+-- a fault stays what it is, whether the output was finished or not
+pub stays_unwritten : (A E : Type 0) (asked : PackingParsed) (text : List ℕ) (u : Type 0) (reading : FileReads) (writing : FileWrites) (output : Passage) (notes : Notes) (taken : Option (List ℕ)) (count : ℕ)
+    (fault : ProgramFault) (finished : Result A E) (result : Result ℕ ProgramFault)
+    → PutsText asked text u reading writing (record { old = output.old; new = taken; before = output.before; now = count }) notes (Err fault)
+    → OnOk finished (Keeps taken output.new) → IsBehind output.new taken → CountsErr count output.now finished → IsErrAnd result (λ is. is ≡ fault)
+    → WritesText asked text u reading writing output notes result
+stays_unwritten A E asked text u reading writing output notes taken count fault finished (Ok n) puts kept behind counts is = absurd is
+stays_unwritten A E asked text u reading writing output notes taken count fault (Ok x) (Err other) puts kept behind counts is =
+    record { taken = taken; count = count; answer = Err fault; finished = true; puts = puts; finishes = (kept, counts); comes_to = cc }
+stays_unwritten A E asked text u reading writing output notes taken count fault (Err x) (Err other) puts kept behind counts is =
+    record { taken = taken; count = count; answer = Err fault; finished = false; puts = puts; finishes = (behind, counts); comes_to = cc }
+
+-- ---- a folder whose listing was read
+
+reads_text : (known : Known) (options : Options) (name : List ℕ) (notes : Passage) (listed : Listed) → ReadsGiven known options name notes (Ok listed) → ReadsListing known options name notes (Ok listed)
+reads_text known options name notes listed (inl is) = is
+reads_text known options name notes listed (inr is) = cc
+
+pub packed : (asked : PackingParsed) (known : Known) (unmade unput : Type 0) (around : PackAround) (notes : Notes) (listed : Listed) (n : ℕ)
+    → ReadsGiven known (settings asked.owner asked.time) asked.folder around.errors (Ok listed)
+    → WritesText asked listed.text.items unmade around.reading around.writing around.output notes (Ok n)
+    → PacksFolder asked known unmade unput around notes (Ok listed.left_out)
+packed asked known unmade unput around notes listed n given writes =
+    let is = reads_text known (settings asked.owner asked.time) asked.folder around.errors listed given in
+    let folder = is.0 in
+    inl
+    (record {
+      folder = folder;
+      written = Ok n;
+      listable = is.1;
+      told = is.4;
+      writes = subst (λ (text : List ℕ). WritesText asked text unmade around.reading around.writing around.output notes (Ok n)) is.3 writes;
+      comes_to = ap (λ (left_out : ℕ). Ok left_out) is.2;
+    })
+
+pub packed_fault : (asked : PackingParsed) (known : Known) (unmade unput : Type 0) (around : PackAround) (notes : Notes) (listed : Listed) (fault : ProgramFault)
+    → ReadsGiven known (settings asked.owner asked.time) asked.folder around.errors (Ok listed)
+    → WritesText asked listed.text.items unmade around.reading around.writing around.output notes (Err fault)
+    → PacksFolder asked known unmade unput around notes (Err fault)
+packed_fault asked known unmade unput around notes listed fault given writes =
+    let is = reads_text known (settings asked.owner asked.time) asked.folder around.errors listed given in
+    let folder = is.0 in
+    inl
+    (record {
+      folder = folder;
+      written = Err fault;
+      listable = is.1;
+      told = is.4;
+      writes = subst (λ (text : List ℕ). WritesText asked text unmade around.reading around.writing around.output notes (Err fault)) is.3 writes;
+      comes_to = refl;
+    })
