@@ -5,14 +5,8 @@ ghost use Rattle.std.specs.Io.KnownBytes.{Appends};
 ghost use Rattle.jcommand.specs.Parsed.{BuildParsed, AppendParsed, DecompressParsed, options_of, view};
 ghost use Rattle.jreport.specs.Advice.{fault_lines_of};
 ghost use Rattle.jffs2_image.specs.Host.{Blames, BlamesCommand, BlamesDecompress, BlamesFor, HasFailed, MakesFile};
-ghost use Rattle.jffs2_image.specs.DamageRuns.{RunsDamage};
-ghost use Rattle.jffs2_image.specs.DiffRuns.{RunsDiff};
-ghost use Rattle.jffs2_image.specs.FolderRuns.{RunsExtract, RunsListing, RunsTask};
-ghost use Rattle.jffs2_image.specs.Compressing.{RunsCompress};
-ghost use Rattle.jffs2_image.specs.ClashRuns.{RunsApart};
-ghost use Rattle.jffs2_image.specs.CutRuns.{RunsCuts};
-ghost use Rattle.jffs2_image.specs.InfoRuns.{RunsInfo};
-ghost use Rattle.jffs2_image.specs.WeakRuns.{HasNotes, RunsWeak};
+ghost use Rattle.jffs2_image.specs.WeakRuns.{HasNotes};
+ghost use Rattle.jffs2_image.specs.Tasks.{RunsTask};
 ghost use Rattle.jffs2_image.specs.Writes.{GivesText};
 ghost use Rattle.jffs2_image.specs.Runs.{IsSaid, Meets, MeetsCommand, MeetsWhole, RunsCommand, Says, note_after, success_of};
 
@@ -477,184 +471,43 @@ pub fn run<L: Loader, M: Maker, D: Folders, T: Output, E: Sink>(
     output: &mut T,
     errors: &mut E,
 ) -> Outcome
-    // The words make a request, whose answer goes out, or are answered by a text; or they ask to
-    // fill or to read a folder, for what an image tells of itself, for what stands after a stop of
-    // writing one, to compress one, for what the trees of two images differ in, to decompress one
-    // without nodes that clash, to write one with notes on its weak nodes, or for what the damage
-    // of one costs.
-    ensures { RunsTask (map (λ w. w.now) args.now)
-        (λ command. (ran : RunsCommand (output.new ≡ output.old) (L.told loader.old)
-        (M.held maker.old, M.held maker.new) command (T.taken output.old)
-        (T.given output.new) (T.failures output.old) (T.failures output.new)
-        (Says (errors.new ≡ errors.old) (E.taken errors.old) (E.taken errors.new)
-        (E.failures errors.old) (E.failures errors.new)) result)
-        × (folders.new ≡ folders.old) × BlamesCommand (L.told loader.old) command
-        (loader.new ≡ loader.old) (maker.new ≡ maker.old) (M.names maker.old)
-        (M.names maker.new) (L.failures loader.old) (L.failures loader.new)
-        (M.failures maker.old) (M.failures maker.new) ran.answer)
-        (((output.new ≡ output.old) × (maker.new ≡ maker.old)
-        × RunsExtract (map (λ w. w.now) args.now) (L.told loader.old) (L.failures loader.old)
-        (L.failures loader.new) (D.made folders.old) (D.made folders.new)
-        (E.taken errors.old) (E.taken errors.new) (E.failures errors.old)
-        (E.failures errors.new) result)
-        ⊎ (((loader.new ≡ loader.old) × (maker.new ≡ maker.old)
-        × (D.made folders.new ≡ D.made folders.old)
-        × RunsListing (map (λ w. w.now) args.now) (output.new ≡ output.old)
-        (D.reads folders.old) (T.taken output.old) (T.given output.new)
-        (T.failures output.old) (T.failures output.new)
-        (E.taken errors.old) (E.taken errors.new) (E.failures errors.old)
-        (E.failures errors.new) result)
-        ⊎ (((maker.new ≡ maker.old) × (folders.new ≡ folders.old)
-        × RunsInfo (map (λ w. w.now) args.now)
-        (record {
-          told = L.told loader.old;
-          before = L.failures loader.old;
-          now = L.failures loader.new;
-        }) (output.new ≡ output.old)
-        (record {
-          old = T.taken output.old;
-          new = T.given output.new;
-          before = T.failures output.old;
-          now = T.failures output.new;
-        })
-        (record {
-          old = E.taken errors.old;
-          new = E.taken errors.new;
-          before = E.failures errors.old;
-          now = E.failures errors.new;
-        }) result)
-        ⊎ (((maker.new ≡ maker.old) × (folders.new ≡ folders.old)
-        × RunsCuts (map (λ w. w.now) args.now)
-        (record {
-          told = L.told loader.old;
-          before = L.failures loader.old;
-          now = L.failures loader.new;
-        })
-        (record {
-          old = T.taken output.old;
-          new = T.given output.new;
-          before = T.failures output.old;
-          now = T.failures output.new;
-        })
-        (record {
-          old = E.taken errors.old;
-          new = E.taken errors.new;
-          before = E.failures errors.old;
-          now = E.failures errors.new;
-        }) result)
-        ⊎ (((folders.new ≡ folders.old)
-        × RunsCompress (map (λ w. w.now) args.now)
-        (record {
-          told = L.told loader.old;
-          before = L.failures loader.old;
-          now = L.failures loader.new;
-        }) (record {
-          names_old = M.names maker.old;
-          names_new = M.names maker.new;
-          held = (M.held maker.old, M.held maker.new);
-          before = M.failures maker.old;
-          now = M.failures maker.new;
-        }) (maker.new ≡ maker.old)
-        (record {
-          old = T.taken output.old;
-          new = T.given output.new;
-          before = T.failures output.old;
-          now = T.failures output.new;
-        })
-        (record {
-          old = E.taken errors.old;
-          new = E.taken errors.new;
-          before = E.failures errors.old;
-          now = E.failures errors.new;
-        }) result)
-        ⊎ (((maker.new ≡ maker.old) × (folders.new ≡ folders.old)
-        × RunsDiff (map (λ w. w.now) args.now)
-        (record {
-          told = L.told loader.old;
-          before = L.failures loader.old;
-          now = L.failures loader.new;
-        }) (output.new ≡ output.old)
-        (record {
-          old = T.taken output.old;
-          new = T.given output.new;
-          before = T.failures output.old;
-          now = T.failures output.new;
-        })
-        (record {
-          old = E.taken errors.old;
-          new = E.taken errors.new;
-          before = E.failures errors.old;
-          now = E.failures errors.new;
-        }) result)
-        ⊎ (((folders.new ≡ folders.old)
-        × RunsApart (map (λ w. w.now) args.now)
-        (record {
-          told = L.told loader.old;
-          before = L.failures loader.old;
-          now = L.failures loader.new;
-        }) (record {
-          names_old = M.names maker.old;
-          names_new = M.names maker.new;
-          held = (M.held maker.old, M.held maker.new);
-          before = M.failures maker.old;
-          now = M.failures maker.new;
-        }) (maker.new ≡ maker.old)
-        (record {
-          old = T.taken output.old;
-          new = T.given output.new;
-          before = T.failures output.old;
-          now = T.failures output.new;
-        })
-        (record {
-          old = E.taken errors.old;
-          new = E.taken errors.new;
-          before = E.failures errors.old;
-          now = E.failures errors.new;
-        }) result)
-        ⊎ (((folders.new ≡ folders.old)
-        × RunsWeak (map (λ w. w.now) args.now)
-        (record {
-          told = L.told loader.old;
-          before = L.failures loader.old;
-          now = L.failures loader.new;
-        }) (record {
-          names_old = M.names maker.old;
-          names_new = M.names maker.new;
-          held = (M.held maker.old, M.held maker.new);
-          before = M.failures maker.old;
-          now = M.failures maker.new;
-        }) (maker.new ≡ maker.old)
-        (record {
-          old = T.taken output.old;
-          new = T.given output.new;
-          before = T.failures output.old;
-          now = T.failures output.new;
-        })
-        (record {
-          old = E.taken errors.old;
-          new = E.taken errors.new;
-          before = E.failures errors.old;
-          now = E.failures errors.new;
-        }) result)
-        ⊎ ((maker.new ≡ maker.old) × (folders.new ≡ folders.old)
-        × RunsDamage (map (λ w. w.now) args.now)
-        (record {
-          told = L.told loader.old;
-          before = L.failures loader.old;
-          now = L.failures loader.new;
-        }) (output.new ≡ output.old)
-        (record {
-          old = T.taken output.old;
-          new = T.given output.new;
-          before = T.failures output.old;
-          now = T.failures output.new;
-        })
-        (record {
-          old = E.taken errors.old;
-          new = E.taken errors.new;
-          before = E.failures errors.old;
-          now = E.failures errors.new;
-        }) result))))))))) }
+    ensures { RunsTask (map (λ w. w.now) args.now) (record {
+      reading = record {
+        told = L.told loader.old;
+        before = L.failures loader.old;
+        now = L.failures loader.new;
+      };
+      writing = record {
+        names_old = M.names maker.old;
+        names_new = M.names maker.new;
+        held = (M.held maker.old, M.held maker.new);
+        before = M.failures maker.old;
+        now = M.failures maker.new;
+      };
+      folders = record {
+        made_old = D.made folders.old;
+        made_new = D.made folders.new;
+        reads = D.reads folders.old;
+      };
+      output = record {
+        old = T.taken output.old;
+        new = T.given output.new;
+        before = T.failures output.old;
+        now = T.failures output.new;
+      };
+      errors = record {
+        old = E.taken errors.old;
+        new = E.taken errors.new;
+        before = E.failures errors.old;
+        now = E.failures errors.new;
+      };
+    }) (record {
+      loader = loader.new ≡ loader.old;
+      maker = maker.new ≡ maker.old;
+      folders = folders.new ≡ folders.old;
+      output = output.new ≡ output.old;
+      errors = errors.new ≡ errors.old;
+    }) result }
 {
     match task(alloc, args) {
         Ok(Task::Image(request)) => run_image(alloc, loader, maker, Ok(request), output, errors),

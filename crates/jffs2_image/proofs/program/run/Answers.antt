@@ -14,10 +14,22 @@ refusal args (refused.Usage text) help usage = usage tt
 refusal args refused.OutOfMemory help usage = tt
 
 pub returns-in-Ok-Image : goal.returns-in-Ok-Image
-returns-in-Ok-Image g c = inl (Ok c.in-Ok-Image.request, (search rules, c.in-Ok-Image.ensures.faultless), (c.run_image.ensures.0, refl, c.run_image.ensures.1))
+returns-in-Ok-Image g c = inl (record {
+  command = Ok c.in-Ok-Image.request;
+  asked = (search rules, c.in-Ok-Image.ensures.faultless);
+  ran = c.run_image.ensures.0;
+  folders = refl;
+  host = c.run_image.ensures.1;
+})
 
 pub returns-in-Err : goal.returns-in-Err
-returns-in-Err g c = inl (Err c.in-Err.fault, refusal _ c.in-Err.fault c.in-Err.ensures.help c.in-Err.ensures.usage, (c.run_image-in-Err.ensures.0, refl, c.run_image-in-Err.ensures.1))
+returns-in-Err g c = inl (record {
+  command = Err c.in-Err.fault;
+  asked = refusal _ c.in-Err.fault c.in-Err.ensures.help c.in-Err.ensures.usage;
+  ran = c.run_image-in-Err.ensures.0;
+  folders = refl;
+  host = c.run_image-in-Err.ensures.1;
+})
 
 pub returns-in-Ok-Compress : goal.returns-in-Ok-Compress
 returns-in-Ok-Compress g c =
