@@ -3,20 +3,21 @@
 
 # The options of a command; of the program where there is none.
 _jffs2_image_options() {
-    local plain='--block --endian' write='--blocks --page' help='-h --help'
+    local plain='--block --endian' write='--blocks --page' place='--pad --atomic' help='-h --help'
     case $1 in
         check) echo "$plain --scan --shape $help" ;;
         ls | cat) echo "$plain --decompress $help" ;;
-        build) echo "$plain $write --weak $help" ;;
-        append) echo "$plain $write --weak --decompress $help" ;;
-        decompress) echo "$plain --clashes $help" ;;
-        compress) echo "$plain $help" ;;
+        build) echo "$plain $write --weak $place $help" ;;
+        append) echo "$plain $write --weak $place --decompress $help" ;;
+        decompress) echo "$plain --clashes --atomic $help" ;;
+        compress) echo "$plain --atomic $help" ;;
         extract) echo "$plain --decompress --owners --quiet $help" ;;
         listing) echo "--owner --time --quiet $help" ;;
         info) echo "$help" ;;
         cuts) echo "$plain $write --on $help" ;;
         diff) echo "$plain --times $help" ;;
         damage) echo "$plain $help" ;;
+        pack) echo "$plain $write --weak $place --owner --time --quiet $help" ;;
         '') echo "$help -V --version" ;;
     esac
 }
@@ -44,15 +45,15 @@ _jffs2_image_values() {
 _jffs2_image_kind() {
     case $1:$2 in
         check:0 | ls:0 | cat:0 | build:[01] | append:[012] | decompress:[01] | compress:[01] | \
-            extract:0 | info:0 | cuts:0 | diff:[01] | damage:0)
+            extract:0 | info:0 | cuts:0 | diff:[01] | damage:0 | pack:1)
             echo -f
             ;;
-        extract:1 | listing:0) echo -d ;;
+        extract:1 | listing:0 | pack:0) echo -d ;;
     esac
 }
 
 _jffs2_image() {
-    local commands='check ls cat build append decompress compress extract listing info cuts diff damage help'
+    local commands='check ls cat build append decompress compress extract listing info cuts diff damage pack help'
     local current=${COMP_WORDS[COMP_CWORD]} command='' option='' place=0 values=0 word kind
     # bash cuts --option=value into three words
     for word in "${COMP_WORDS[@]:1:COMP_CWORD-1}"; do

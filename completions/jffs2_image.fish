@@ -20,34 +20,38 @@ complete -c jffs2_image -n __fish_use_subcommand -a info -d 'What it shows of or
 complete -c jffs2_image -n __fish_use_subcommand -a cuts -d 'Which step stands from which byte on'
 complete -c jffs2_image -n __fish_use_subcommand -a diff -d 'Where the trees of two differ'
 complete -c jffs2_image -n __fish_use_subcommand -a damage -d 'What its damaged nodes hide'
+complete -c jffs2_image -n __fish_use_subcommand -a pack -d 'Make an image of a folder'
 complete -c jffs2_image -n __fish_use_subcommand -a help -d 'Help of a command'
 complete -c jffs2_image -n '__jffs2_image_in help' -f \
-    -a 'check ls cat build append decompress compress extract listing info cuts diff damage help'
+    -a 'check ls cat build append decompress compress extract listing info cuts diff damage pack help'
 
 # Options of the program and of every command
 complete -c jffs2_image -n 'not __jffs2_image_in help' -s h -l help -d 'Print help'
 complete -c jffs2_image -n __fish_use_subcommand -s V -l version -d 'Print the version'
 
 # Options of several commands
-complete -c jffs2_image -n '__jffs2_image_in check ls cat build append decompress compress extract cuts diff damage' \
+complete -c jffs2_image -n '__jffs2_image_in check ls cat build append decompress compress extract cuts diff damage pack' \
     -l block -x -a '4096 8192 16384 32768 65536 131072 262144' -d 'Size of an erase block'
-complete -c jffs2_image -n '__jffs2_image_in check ls cat build append decompress compress extract cuts diff damage' \
+complete -c jffs2_image -n '__jffs2_image_in check ls cat build append decompress compress extract cuts diff damage pack' \
     -l endian -x -a 'little big' -d 'Byte order'
-complete -c jffs2_image -n '__jffs2_image_in build append cuts' -l blocks -x -d 'Number of blocks'
-complete -c jffs2_image -n '__jffs2_image_in build append cuts' -l page -x \
+complete -c jffs2_image -n '__jffs2_image_in build append cuts pack' -l blocks -x -d 'Number of blocks'
+complete -c jffs2_image -n '__jffs2_image_in build append cuts pack' -l page -x \
     -a '4096 8192 16384' -d 'Largest piece of a file in one node'
 complete -c jffs2_image -n '__jffs2_image_in ls cat append extract' -l decompress \
     -d 'Take it as decompress writes it'
-complete -c jffs2_image -n '__jffs2_image_in build append' -l weak -d 'Note the weak nodes'
-complete -c jffs2_image -n '__jffs2_image_in extract listing' -l quiet -d 'Tell no progress'
+complete -c jffs2_image -n '__jffs2_image_in build append pack' -l weak -d 'Note the weak nodes'
+complete -c jffs2_image -n '__jffs2_image_in build append pack' -l pad -d 'Fill OUT with 0xFF'
+complete -c jffs2_image -n '__jffs2_image_in build append decompress compress pack' -l atomic \
+    -d 'Leave an old OUT unless all goes well'
+complete -c jffs2_image -n '__jffs2_image_in extract listing pack' -l quiet -d 'Tell no progress'
+complete -c jffs2_image -n '__jffs2_image_in listing pack' -l owner -x -d 'Owner and group'
+complete -c jffs2_image -n '__jffs2_image_in listing pack' -l time -x -d 'Time of everything'
 
 # Options of one command
 complete -c jffs2_image -n '__jffs2_image_in check' -l scan -d 'Report alone, no mount'
 complete -c jffs2_image -n '__jffs2_image_in check' -l shape -d 'Whether the tree is one'
 complete -c jffs2_image -n '__jffs2_image_in cuts' -l on -r -d 'Image that is gone on from'
 complete -c jffs2_image -n '__jffs2_image_in extract' -l owners -d 'Owners of the image'
-complete -c jffs2_image -n '__jffs2_image_in listing' -l owner -x -d 'Owner and group'
-complete -c jffs2_image -n '__jffs2_image_in listing' -l time -x -d 'Time of everything'
 complete -c jffs2_image -n '__jffs2_image_in decompress' -l clashes -x -a higher \
     -d 'Which of nodes that clash goes out'
 complete -c jffs2_image -n '__jffs2_image_in diff' -l times -d 'Compare times of change too'

@@ -69,28 +69,59 @@ writer name = with_rule (with_rule (plain_command name) (required_option (codes 
 abbrev pub noting : Text → App
 noting name = with_rule (writer name) (flag (codes "weak"))
 
--- `build --blocks N [--page N] [--weak] [--block N] [--endian ORDER] LISTING OUT`
-abbrev pub build_app : App
-build_app =
-    with_rule (with_rule (noting (codes "build")) (word (codes "LISTING"))) (word (codes "OUT"))
+-- a subcommand whose output takes its name only when all is written, where that is asked for
+abbrev pub atomic : App → App
+atomic app = with_rule app (flag (codes "atomic"))
 
--- `append --blocks N [--page N] [--weak] [--decompress] [--block N] [--endian ORDER] IMAGE LISTING
--- OUT`
+-- the same, and the output is filled up to the end of the flash where that is asked for
+abbrev pub placing : App → App
+placing app = atomic (with_rule app (flag (codes "pad")))
+
+-- `build --blocks N [--page N] [--weak] [--pad] [--atomic] [--block N] [--endian ORDER] LISTING OUT`
+abbrev pub build_app : App
+build_app = with_rule (with_rule (placing (noting (codes "build"))) (word (codes "LISTING")))
+    (word (codes "OUT"))
+
+-- `append --blocks N [--page N] [--weak] [--pad] [--atomic] [--decompress] [--block N]
+-- [--endian ORDER] IMAGE LISTING OUT`
 abbrev pub append_app : App
 append_app = with_rule
-    (with_rule (with_rule (decompressing (noting (codes "append"))) (word (codes "IMAGE")))
+    (with_rule
+    (with_rule (decompressing (placing (noting (codes "append")))) (word (codes "IMAGE")))
     (word (codes "LISTING")))
     (word (codes "OUT"))
 
--- `decompress [--clashes RULE] [--block N] [--endian ORDER] IMAGE OUT`
+-- `decompress [--clashes RULE] [--atomic] [--block N] [--endian ORDER] IMAGE OUT`
 abbrev pub decompress_app : App
 decompress_app = with_rule
-    (with_rule (with_rule (plain_command (codes "decompress")) (option_of (codes "clashes")))
+    (with_rule
+    (atomic (with_rule (plain_command (codes "decompress")) (option_of (codes "clashes"))))
     (word (codes "IMAGE"))) (word (codes "OUT"))
 
--- `compress [--block N] [--endian ORDER] IMAGE OUT`
+-- `compress [--atomic] [--block N] [--endian ORDER] IMAGE OUT`
 abbrev pub compress_app : App
-compress_app = with_rule (with_rule (plain_command (codes "compress")) (word (codes "IMAGE")))
+compress_app =
+    with_rule (with_rule (atomic (plain_command (codes "compress"))) (word (codes "IMAGE")))
+    (word (codes "OUT"))
+
+-- an owner and a time for all that a folder holds, and whether its reading tells no progress
+abbrev pub settings : App → App
+settings app = with_rule
+    (with_rule (with_rule app (option_of_two (codes "owner"))) (option_of (codes "time")))
+    (flag (codes "quiet"))
+
+-- `pack [--owner UID GID] [--time T] [--quiet] [--blocks N] [--page N] [--weak] [--pad] [--atomic]
+-- [--block N] [--endian ORDER] DIR OUT`
+abbrev pub pack_app : App
+pack_app = with_rule
+    (with_rule
+    (settings
+    (placing
+    (with_rule
+    (with_rule (with_rule (plain_command (codes "pack")) (option_of (codes "blocks")))
+    (option_or (codes "page") (codes "4096")))
+    (flag (codes "weak")))))
+    (word (codes "DIR")))
     (word (codes "OUT"))
 
 -- `extract [--decompress] [--block N] [--endian ORDER] [--owners] [--quiet] IMAGE DIR [PATH]`
@@ -142,10 +173,11 @@ program = with_subcommand
     (with_subcommand
     (with_subcommand
     (with_subcommand
+    (with_subcommand
     (with_subcommand (with_subcommand (with_subcommand (with_subcommand bare
     check_app.top) ls_app.top) cat_app.top) build_app.top) append_app.top) decompress_app.top)
     compress_app.top) extract_app.top) listing_app.top) info_app.top) cuts_app.top) diff_app.top)
-    damage_app.top
+    damage_app.top) pack_app.top
 
 -- ---- what is made
 

@@ -1,5 +1,5 @@
 -- What a command line asks for, by clap's matches of its words.
-use Rattle.std.specs.Prelude.{◌≡◌, ◌≢◌, ◌⊎◌, ◌+◌, ◌-◌, ◌*◌, ◌^◌, ◌&&◌, ℕ, Bool, true, false, List, [], ◌∷◌, Option, Some, None, if◌then◌else◌, nat_lt, codes, option_and_then, option_map}
+use Rattle.std.specs.Prelude.{◌≡◌, ◌≢◌, ◌⊎◌, ◌+◌, ◌-◌, ◌*◌, ◌^◌, ◌&&◌, ℕ, Bool, true, false, List, [], ◌∷◌, Option, Some, None, if◌then◌else◌, nat_lt, not, codes, option_and_then, option_map}
 use Rattle.std.specs.Char.{is_ascii_digit}
 use Rattle.std.specs.Str.{bytes_eq}
 use Rattle.clap.specs.Words.{Row, Text, IsAmong, all_of, fault_of, first_of, subcommand_of, takes}
@@ -13,6 +13,8 @@ use Rattle.jword.specs.Words.{◌>>=◌}
 use Rattle.jcommand.specs.Commands.{program}
 use Rattle.jcommand.specs.declared.parsed.Options.{Options}
 use Rattle.jcommand.specs.declared.parsed.Owner.{Owner}
+use Rattle.jcommand.specs.declared.parsed.Packing.{Packing}
+use Rattle.jcommand.specs.declared.parsed.Placing.{Placing}
 use Rattle.jcommand.specs.declared.parsed.Request.{Request}
 use Rattle.jcommand.specs.declared.parsed.Request.TheVariants as request
 use Rattle.jcommand.specs.declared.parsed.Task.{Task}
@@ -82,10 +84,22 @@ view (request.Append target decompress image listing) = AppendParsed target.opti
     target.page decompress image.now listing.now target.output.now
 view (request.Decompress options image output) = DecompressParsed options image.now output.now
 
+-- an image of a folder of the host: of a flash of so many blocks, where they are given
+pub record PackingParsed : Type 0 where
+  pub options : Options
+  pub blocks : Option ℕ
+  pub page : Page
+  pub weak : Bool
+  pub owner : Option Owner
+  pub time : Option ℕ
+  pub quiet : Bool
+  pub folder : Text
+  pub output : Text
+
 -- the same of a task: a request of an image, one that writes an image and notes weak nodes, one
 -- that works with a folder of the host, what an image tells of itself, what stands after a stop, an
 -- image that is compressed, what two images differ in, an image that is decompressed without nodes
--- that clash, or what the damage of one costs
+-- that clash, what the damage of one costs, or an image of a folder
 pub data TaskParsed : Type 0 where
   ImageParsed : Parsed → TaskParsed
   WeakParsed : Parsed → TaskParsed
@@ -97,6 +111,20 @@ pub data TaskParsed : Type 0 where
   DiffParsed : Options → Bool → Text → Text → TaskParsed
   ApartParsed : Options → Text → Text → TaskParsed
   DamageParsed : Options → Text → TaskParsed
+  PackParsed : PackingParsed → TaskParsed
+
+abbrev pub packing_view : Packing → PackingParsed
+packing_view p = record {
+  options = p.options;
+  blocks = p.blocks;
+  page = p.page;
+  weak = p.weak;
+  owner = p.owner;
+  time = p.time;
+  quiet = p.quiet;
+  folder = p.folder.now;
+  output = p.output.now;
+}
 
 abbrev pub task_view : Task → TaskParsed
 task_view (task.Image r) = ImageParsed (view r)
@@ -112,6 +140,7 @@ task_view (task.Compress c) = CompressParsed c.options c.image.now c.output.now
 task_view (task.Diff d) = DiffParsed d.options d.times d.first.now d.second.now
 task_view (task.Apart a) = ApartParsed a.options a.image.now a.output.now
 task_view (task.Damage d) = DamageParsed d.options d.image.now
+task_view (task.Pack p) = PackParsed (packing_view p)
 
 abbrev pub options_of : Request → Options
 options_of (request.Scan options image) = options
@@ -221,6 +250,32 @@ diff_in rows = options_in rows >>= λ options. first_of (codes "A") rows >>= λ 
 abbrev pub damage_in : List Row → Option TaskParsed
 damage_in rows = image_in rows >>= λ p. Some (DamageParsed p.0 p.1)
 
+-- the flash that is written, of which the number of blocks may be left out
+abbrev pub flash_in : List Row → Option (Options × Option ℕ × Page)
+flash_in rows = options_in rows >>= λ options.
+    if_given (first_of (codes "blocks") rows) decimal_number >>= λ blocks.
+    (first_of (codes "page") rows >>= page_of) >>= λ page. Some (options, blocks, page)
+
+-- the owner and the time of all that a folder holds, where they are given
+abbrev pub settings_in : List Row → Option (Option Owner × Option ℕ)
+settings_in rows = if_given (all_of (codes "owner") rows) owner_of >>= λ owner.
+    if_given (first_of (codes "time") rows) decimal_number >>= λ time. Some (owner, time)
+
+abbrev pub pack_in : List Row → Option TaskParsed
+pack_in rows = flash_in rows >>= λ flash. settings_in rows >>= λ settings.
+    first_of (codes "DIR") rows >>= λ folder. first_of (codes "OUT") rows >>= λ output.
+    Some (PackParsed (record {
+      options = flash.0;
+      blocks = flash.1;
+      page = flash.2;
+      weak = is_given (first_of (codes "weak") rows);
+      owner = settings.0;
+      time = settings.1;
+      quiet = is_given (first_of (codes "quiet") rows);
+      folder = folder;
+      output = output;
+    }))
+
 -- what the subcommand of this name asks for, with these rows; None where it is no subcommand or a
 -- value can't be read
 unfoldable pub parsed : Text → List Row → Option TaskParsed
@@ -238,6 +293,7 @@ parsed name rows =
     else if bytes_eq name (codes "compress") then compress_in rows
     else if bytes_eq name (codes "diff") then diff_in rows
     else if bytes_eq name (codes "damage") then damage_in rows
+    else if bytes_eq name (codes "pack") then pack_in rows
     else None
 
 abbrev pub parsed_by : Option (Text × List Row) → Option TaskParsed
@@ -247,6 +303,31 @@ parsed_by None = None
 -- what the words ask for, by clap's matches of them
 unfoldable pub parsed_from : List Text → Option TaskParsed
 parsed_from args = parsed_by (subcommand_of program args)
+
+-- ---- what is done about the file that is written
+
+-- it is filled up to the end of the flash, and takes its name only when all is written, where each
+-- of these is asked for
+abbrev pub placing_in : List Row → Placing
+placing_in rows = record {
+  pad = is_given (first_of (codes "pad") rows);
+  atomic = is_given (first_of (codes "atomic") rows);
+}
+
+-- neither
+abbrev pub unplaced : Placing
+unplaced = record { pad = false; atomic = false }
+
+abbrev pub is_plain : Placing → Bool
+is_plain placing = not placing.pad && not placing.atomic
+
+abbrev pub placing_by : Option (Text × List Row) → Placing
+placing_by (Some p) = placing_in p.1
+placing_by None = unplaced
+
+-- what the words ask for of it, beside the task that `parsed_from` tells
+unfoldable pub placing_from : List Text → Placing
+placing_from args = placing_by (subcommand_of program args)
 
 -- ---- words that ask for nothing
 
@@ -284,7 +365,7 @@ IsOfImage _ = ⊥
 
 -- they ask for notes on weak nodes, to fill or to read a folder, for what an image tells of itself,
 -- for what stands after a stop, to compress one, for what two images differ in, to decompress one
--- without nodes that clash, or for what damage costs
+-- without nodes that clash, for what damage costs, or for an image of a folder
 abbrev pub IsNoRequest : Option TaskParsed → Type 0
 IsNoRequest (Some (WeakParsed p)) = Unit {0}
 IsNoRequest (Some (ExtractParsed options decompress owners quiet image folder path)) = Unit {0}
@@ -295,4 +376,5 @@ IsNoRequest (Some (CompressParsed options image output)) = Unit {0}
 IsNoRequest (Some (DiffParsed options times first second)) = Unit {0}
 IsNoRequest (Some (ApartParsed options image output)) = Unit {0}
 IsNoRequest (Some (DamageParsed options image)) = Unit {0}
+IsNoRequest (Some (PackParsed packing)) = Unit {0}
 IsNoRequest _ = ⊥

@@ -1,14 +1,15 @@
 //! The request that a command line makes.
-ghost use Rattle.std.specs.Prelude.{◌≡◌, ◌≢◌, ◌⊎◌, [], true, map, IfOk, IfErr, IsSome, OnOk, Some, option_map};
+ghost use Rattle.std.specs.Prelude.{◌≡◌, ◌≢◌, ◌⊎◌, [], true, false, map, IfOk, IfErr, IfSome, IsSome, OnOk, Some, option_map};
 ghost use Rattle.clap.specs.Words.{HasKind, fault_of, kind_of, subcommand_of, subcommand_rows_of, takes};
 ghost use Rattle.jcommand.specs.Commands.{program};
-ghost use Rattle.jcommand.specs.Parsed.{ImageParsed, IsNoRequest, IsOfImage, task_view, view, parsed_by, parsed_from, are_words_taken, IsFaultless, IsHelpRequested, IsHelpKind, IsRefusedByClap, IsUnreadable};
+ghost use Rattle.jcommand.specs.Parsed.{ImageParsed, is_plain, placing_by, placing_from, IsNoRequest, IsOfImage, task_view, view, parsed_by, parsed_from, are_words_taken, IsFaultless, IsHelpRequested, IsHelpKind, IsRefusedByClap, IsUnreadable};
 ghost use Rattle.jcommand.specs.Refused.{IsHelp, IsUsage};
 ghost use Rattle.jcommand.specs.declared.command_line.RequestFault.TheVariants.{OutOfMemory};
 
 use crate::commands::make_program;
 use crate::parsed::{
-    Request, Task, endian, number, owner_number, page, parsed_of, text_at, texts_at,
+    Asked, Request, Task, endian, number, owner_number, page, parsed_of, placing_at, text_at,
+    texts_at,
 };
 use clap::error::ErrorKind;
 use clap::{ArgMatches, Error};
@@ -83,11 +84,18 @@ fn matched<'a>(alloc: Global, args: &'a [&'a str]) -> Result<ArgMatches<'a>, Req
     }
 }
 
-fn parsed_in<'a>(matches: &ArgMatches<'a>) -> Option<Task<'a>>
-    ensures { option_map task_view result ≡ parsed_by (subcommand_rows_of matches.now) }
+fn parsed_in<'a>(matches: &ArgMatches<'a>) -> Option<Asked<'a>>
+    ensures task { option_map (λ a. task_view a.task) result
+        ≡ parsed_by (subcommand_rows_of matches.now) }
+    ensures placing { IfSome result
+        (λ a. a.placing ≡ placing_by (subcommand_rows_of matches.now)) }
 {
     let (name, found) = matches.subcommand()?;
-    parsed_of(name, found)
+    let task = parsed_of(name, found)?;
+    Some(Asked {
+        task,
+        placing: placing_at(found),
+    })
 }
 
 /// Of a subcommand that reads a folder, the first value that can't be read, its option, and what is
@@ -121,13 +129,16 @@ fn unreadable_value<'a>(name: &str, found: &ArgMatches<'a>) -> (&'a str, &'a str
     if let Some(rule) = text_at(found, "clashes") {
         return (rule, "--clashes <RULE>", "higher");
     }
-    let blocks = text_at(found, "blocks").unwrap_or("");
+    let blocks = text_at(found, "blocks").unwrap_or("0");
     if number(blocks).is_none() {
         let wanted = "a number of blocks in decimal digits, below 4294967296";
         return (blocks, "--blocks <N>", wanted);
     }
     let size = text_at(found, "page").unwrap_or("");
-    (size, "--page <N>", "4096, 8192 or 16384")
+    if page(size).is_none() {
+        return (size, "--page <N>", "4096, 8192 or 16384");
+    }
+    unreadable_setting(found)
 }
 
 /// The text about the value that can't be read.
@@ -143,11 +154,15 @@ fn unreadable(alloc: Global, matches: &ArgMatches<'_>) -> Result<String, AllocEr
 }
 
 /// What the words of a command line ask for. The first word is the program's own name.
-#[tactic(auto, unfolding(crate::specs::Parsed::parsed_from, crate::specs::Parsed::are_words_taken, crate::specs::Parsed::IsFaultless, crate::specs::Parsed::IsUnreadable))]
-pub fn task<'a>(alloc: Global, args: &'a [&'a str]) -> Result<Task<'a>, RequestFault>
+#[tactic(auto, unfolding(crate::specs::Parsed::parsed_from, crate::specs::Parsed::placing_from, crate::specs::Parsed::are_words_taken, crate::specs::Parsed::IsFaultless, crate::specs::Parsed::IsUnreadable))]
+pub fn asked<'a>(alloc: Global, args: &'a [&'a str]) -> Result<Asked<'a>, RequestFault>
     // The subcommand and its values are clap's own function of the words.
     ensures ok { IfOk result
-        (λ r. parsed_from (map (λ w. w.now) args.entry.now) ≡ Some (task_view r)) }
+        (λ a. parsed_from (map (λ w. w.now) args.entry.now) ≡ Some (task_view a.task)) }
+
+    // And so is what is done about the file that is written.
+    ensures placing { IfOk result
+        (λ a. placing_from (map (λ w. w.now) args.entry.now) ≡ a.placing) }
 
     // Words that clap refuses, or answers by help, ask for nothing.
     ensures faultless { OnOk result (IsFaultless (map (λ w. w.now) args.entry.now)) }
@@ -168,26 +183,38 @@ pub fn task<'a>(alloc: Global, args: &'a [&'a str]) -> Result<Task<'a>, RequestF
 {
     let matches = matched(alloc, args)?;
     match parsed_in(&matches) {
-        Some(task) => Ok(task),
+        Some(asked) => Ok(asked),
         None => Err(usage(unreadable(alloc, &matches))),
     }
 }
 
-/// The request that the words of a command line make of an image: what `task` answers, but for one
-/// with `--weak`, a command on a folder, `info`, `cuts`, `compress`, `diff`, `decompress --clashes`
-/// and `damage`, which are refused.
+/// Words that ask for something, but make no request of an image.
+fn no_request(alloc: Global) -> RequestFault
+    ensures { (result ≡ RequestFault.OutOfMemory) ⊎ IsUsage result }
+{
+    usage(String::from_str(alloc, "error: the command makes no request of an image\n"))
+}
+
+/// The request that the words of a command line make of an image: what `asked` answers, but for one
+/// with `--weak`, `--pad` or `--atomic`, a command on a folder, `info`, `cuts`, `compress`, `diff`,
+/// `decompress --clashes` and `damage`, which are refused.
 pub fn request<'a>(alloc: Global, args: &'a [&'a str]) -> Result<Request<'a>, RequestFault>
     // The subcommand and its values are clap's own function of the words.
     ensures ok { IfOk result
         (λ r. parsed_from (map (λ w. w.now) args.entry.now) ≡ Some (ImageParsed (view r))) }
 
+    // Nothing is asked for of the file that is written.
+    ensures plain { OnOk result
+        (is_plain (placing_from (map (λ w. w.now) args.entry.now)) ≡ true) }
+
     // Words that clap refuses, or answers by help, ask for nothing.
     ensures faultless { OnOk result (IsFaultless (map (λ w. w.now) args.entry.now)) }
 
-    // Where clap takes the words and they ask for something of an image, it can only run out of
-    // memory.
+    // Where clap takes the words and they ask for something of an image alone, it can only run out
+    // of memory.
     ensures only { are_words_taken (map (λ w. w.now) args.entry.now) ≡ true
         → IsOfImage (parsed_from (map (λ w. w.now) args.entry.now))
+        → is_plain (placing_from (map (λ w. w.now) args.entry.now)) ≡ true
         → IfErr result (λ e. e ≡ RequestFault.OutOfMemory) }
 
     // Help comes only where clap answers the words by help, or by the version.
@@ -195,27 +222,27 @@ pub fn request<'a>(alloc: Global, args: &'a [&'a str]) -> Result<Request<'a>, Re
         (λ e. IsHelp e → IsHelpRequested (map (λ w. w.now) args.entry.now)) }
 
     // A command line is wrong only where clap refuses the words, or takes them and a value can't be
-    // read, or they make no request.
+    // read, or they make no request, or ask for more of the file that is written.
     ensures usage { IfErr result (λ e. IsUsage e → IsRefusedByClap (map (λ w. w.now) args.entry.now)
         ⊎ (IsUnreadable (map (λ w. w.now) args.entry.now)
-        ⊎ IsNoRequest (parsed_from (map (λ w. w.now) args.entry.now)))) }
+        ⊎ (IsNoRequest (parsed_from (map (λ w. w.now) args.entry.now))
+        ⊎ (is_plain (placing_from (map (λ w. w.now) args.entry.now)) ≡ false)))) }
 {
-    match task(alloc, args) {
-        Ok(Task::Image(request)) => Ok(request),
-        Ok(
-            Task::Weak(_)
-            | Task::Extract(_)
-            | Task::Listing(_)
-            | Task::Info { .. }
-            | Task::Cuts(_)
-            | Task::Compress(_)
-            | Task::Diff(_)
-            | Task::Apart(_)
-            | Task::Damage(_),
-        ) => Err(usage(String::from_str(
-            alloc,
-            "error: the command makes no request of an image\n",
-        ))),
-        Err(fault) => Err(fault),
+    let Asked { task, placing } = asked(alloc, args)?;
+    if !placing.is_plain() {
+        return Err(no_request(alloc));
+    }
+    match task {
+        Task::Image(request) => Ok(request),
+        Task::Weak(_)
+        | Task::Extract(_)
+        | Task::Listing(_)
+        | Task::Info { .. }
+        | Task::Cuts(_)
+        | Task::Compress(_)
+        | Task::Diff(_)
+        | Task::Apart(_)
+        | Task::Damage(_)
+        | Task::Pack(_) => Err(no_request(alloc)),
     }
 }

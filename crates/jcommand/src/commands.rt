@@ -2,7 +2,7 @@
 //! takes.
 ghost use Rattle.std.specs.Prelude.{◌≡◌, Ok};
 ghost use Rattle.clap.specs.Words.{App, Rule, new_app, with_rule, with_subcommand};
-ghost use Rattle.jcommand.specs.Commands.{IsApp, IsRule, MakesApp, word, optional_word, option_or, required_option, option_of, option_of_two, flag, plain_command, writer, noting, check_app, ls_app, cat_app, build_app, append_app, decompress_app, compress_app, extract_app, listing_app, info_app, cuts_app, diff_app, damage_app, bare, program};
+ghost use Rattle.jcommand.specs.Commands.{IsApp, IsRule, MakesApp, word, optional_word, option_or, required_option, option_of, option_of_two, flag, plain_command, writer, noting, check_app, ls_app, cat_app, build_app, append_app, decompress_app, compress_app, extract_app, listing_app, info_app, cuts_app, diff_app, damage_app, pack_app, atomic, placing, settings, bare, program};
 
 use crate::help;
 use clap::{Arg, ArgAction, Command};
@@ -164,13 +164,29 @@ fn make_noting<'a>(alloc: Global, name: &'a str, about: &'a str, after: &'a str)
     add_arg(make_writer(alloc, name, about, after), weak)
 }
 
+/// The command whose output takes its name only when all is written, where that is asked for.
+fn add_atomic<'a>(alloc: Global, command: Made<'a>) -> Made<'a>
+    ensures { (app : App) → MakesApp command.entry app → MakesApp result (atomic app) }
+{
+    let flag = make_flag(alloc, "atomic", help::ATOMIC);
+    add_arg(command, flag)
+}
+
+/// The same, and the output is filled up to the end of the flash where that is asked for.
+fn add_placing<'a>(alloc: Global, command: Made<'a>) -> Made<'a>
+    ensures { (app : App) → MakesApp command.entry app → MakesApp result (placing app) }
+{
+    let pad = make_flag(alloc, "pad", help::PAD);
+    add_atomic(alloc, add_arg(command, pad))
+}
+
 fn make_build<'a>(alloc: Global) -> Made<'a>
     ensures { MakesApp result build_app }
 {
     let listing = make_word(alloc, "LISTING", help::LISTING);
     let output = make_word(alloc, "OUT", help::OUT);
     let command = make_noting(alloc, "build", help::BUILD, help::BUILD_EPILOGUE);
-    add_arg(add_arg(command, listing), output)
+    add_arg(add_arg(add_placing(alloc, command), listing), output)
 }
 
 fn make_append<'a>(alloc: Global) -> Made<'a>
@@ -181,10 +197,8 @@ fn make_append<'a>(alloc: Global) -> Made<'a>
     let listing = make_word(alloc, "LISTING", help::LISTING);
     let output = make_word(alloc, "OUT", help::OUT);
     let command = make_noting(alloc, "append", help::APPEND, help::APPEND_EPILOGUE);
-    add_arg(
-        add_arg(add_arg(add_arg(command, decompress), image), listing),
-        output,
-    )
+    let command = add_arg(add_placing(alloc, command), decompress);
+    add_arg(add_arg(add_arg(command, image), listing), output)
 }
 
 fn make_decompress<'a>(alloc: Global) -> Made<'a>
@@ -199,7 +213,8 @@ fn make_decompress<'a>(alloc: Global) -> Made<'a>
         help::DECOMPRESS,
         help::DECOMPRESS_EPILOGUE,
     );
-    add_arg(add_arg(add_arg(command, clashes), image), output)
+    let command = add_atomic(alloc, add_arg(command, clashes));
+    add_arg(add_arg(command, image), output)
 }
 
 fn make_compress<'a>(alloc: Global) -> Made<'a>
@@ -208,7 +223,7 @@ fn make_compress<'a>(alloc: Global) -> Made<'a>
     let image = make_word(alloc, "IMAGE", help::IMAGE);
     let output = make_word(alloc, "OUT", help::OUT);
     let command = make_plain(alloc, "compress", help::COMPRESS, help::COMPRESS_EPILOGUE);
-    add_arg(add_arg(command, image), output)
+    add_arg(add_arg(add_atomic(alloc, command), image), output)
 }
 
 fn make_extract<'a>(alloc: Global) -> Made<'a>
@@ -225,18 +240,22 @@ fn make_extract<'a>(alloc: Global) -> Made<'a>
     add_arg(add_arg(add_arg(command, image), folder), path)
 }
 
-fn make_listing<'a>(alloc: Global) -> Made<'a>
-    ensures { MakesApp result listing_app }
+/// The command with an owner and a time for all that a folder holds.
+fn add_settings<'a>(alloc: Global, command: Made<'a>) -> Made<'a>
+    ensures { (app : App) → MakesApp command.entry app → MakesApp result (settings app) }
 {
     let owner = make_optional_two(alloc, "owner", &["UID", "GID"], help::OWNER);
     let time = make_optional(alloc, "time", "T", help::TIME);
     let quiet = make_flag(alloc, "quiet", help::QUIET);
+    add_arg(add_arg(add_arg(command, owner), time), quiet)
+}
+
+fn make_listing<'a>(alloc: Global) -> Made<'a>
+    ensures { MakesApp result listing_app }
+{
     let folder = make_word(alloc, "DIR", help::FOLDER);
     let command = make_named(alloc, "listing", help::LISTING_OF, help::LISTING_EPILOGUE);
-    add_arg(
-        add_arg(add_arg(add_arg(Ok(command), owner), time), quiet),
-        folder,
-    )
+    add_arg(add_settings(alloc, Ok(command)), folder)
 }
 
 fn make_info<'a>(alloc: Global) -> Made<'a>
@@ -274,6 +293,20 @@ fn make_damage<'a>(alloc: Global) -> Made<'a>
     add_arg(command, image)
 }
 
+fn make_pack<'a>(alloc: Global) -> Made<'a>
+    ensures { MakesApp result pack_app }
+{
+    let blocks = make_optional(alloc, "blocks", "N", help::BLOCKS);
+    let page = make_option(alloc, "page", "N", "4096", help::PAGE);
+    let weak = make_flag(alloc, "weak", help::WEAK);
+    let folder = make_word(alloc, "DIR", help::FOLDER);
+    let output = make_word(alloc, "OUT", help::OUT);
+    let command = make_plain(alloc, "pack", help::PACK, help::PACK_EPILOGUE);
+    let command = add_arg(add_arg(add_arg(command, blocks), page), weak);
+    let command = add_settings(alloc, add_placing(alloc, command));
+    add_arg(add_arg(command, folder), output)
+}
+
 /// The program without its subcommands.
 fn make_bare<'a>(alloc: Global) -> Command<'a>
     ensures { IsApp result bare }
@@ -299,5 +332,6 @@ pub(crate) fn make_program<'a>(alloc: Global) -> Made<'a>
     let command = add_subcommand(command, make_info(alloc));
     let command = add_subcommand(command, make_cuts(alloc));
     let command = add_subcommand(command, make_diff(alloc));
-    add_subcommand(command, make_damage(alloc))
+    let command = add_subcommand(command, make_damage(alloc));
+    add_subcommand(command, make_pack(alloc))
 }

@@ -33,6 +33,12 @@ pub(crate) const DIFF: &str = "Print where the trees of two images differ";
 
 pub(crate) const DAMAGE: &str = "Print what the damaged nodes of an image cost";
 
+pub(crate) const PACK: &str = "Make an image of a folder of this host";
+
+pub(crate) const PAD: &str = "Fill OUT with 0xFF to the end of the flash";
+
+pub(crate) const ATOMIC: &str = "Leave an old OUT as it was unless all goes well";
+
 pub(crate) const BLOCK: &str = "Erase block size: 4096 to 4194304 bytes";
 
 pub(crate) const ENDIAN: &str = "Byte order of the image: little or big";
@@ -83,8 +89,9 @@ pub(crate) const OUT: &str = "File that is made, or written over, with the bytes
 pub(crate) const EPILOGUE: &str = "\
 Each command but listing and info takes --block, the size of an erase block,
 which is a multiple of 4, and --endian, the byte order. build, append and cuts
-need --blocks too, the number of blocks. 'jffs2_image help build' tells what a
-listing is, 'jffs2_image help check' what check prints, and so for the others.
+need --blocks too, the number of blocks; pack takes it. 'jffs2_image help build'
+tells what a listing is, 'jffs2_image help check' what check prints, and so for
+the others.
 
 The data of an image that Linux or mkfs.jffs2 wrote are often compressed. ls,
 cat, append and extract take them with --decompress, and decompress makes an
@@ -105,13 +112,15 @@ Examples:
   jffs2_image listing tree > tree.txt
   jffs2_image diff old.img new.img
   jffs2_image damage flash.img
+  jffs2_image pack tree flash.img
 
 Exit status:
   0  done, and nothing was found
   1  a fault, which standard error names
   2  the command line is wrong
-  3  check found something, diff a difference, info no node, cuts or --weak
-     a weak node, or extract or listing left something out
+  3  check found something, diff a difference, damage a loss, info no node,
+     cuts or --weak a weak node, or extract, listing, pack or decompress
+     --clashes left something out
 
 A fault is one line, as 'jffs2_image: M6 RootKind'. Its letter says what gave
 up: C the report, L reading a file, M the mount, Z compressed data, S the
@@ -244,8 +253,13 @@ With --weak a note on each weak node, as 'weak A at J', goes to standard error
 when all is written: a stop after the first J bytes of the node at A may show a
 node that nobody wrote.
 
-Example:
+With --pad 0xFF is put behind the last node, up to the end of the flash. With
+--atomic a new file beside OUT is written, which takes its place when all has
+gone well: after a fault OUT is as it was.
+
+Examples:
   jffs2_image build --block 131072 --blocks 64 tree.txt flash.img
+  jffs2_image build --blocks 64 --pad --atomic tree.txt flash.img
 
 Exit status:
   0  done
@@ -264,12 +278,13 @@ it counts for what is written. A note on standard error tells of it, as for ls.
 
 IMAGE and OUT can be one file, since IMAGE is held in memory before OUT is made.
 But if the power, the host or the disk fails while OUT is written, the old bytes
-are gone. To be safe write another file, and give it the old name when append
-has ended well.
+are gone. With --atomic they are kept until all is written, in a file beside it
+that then takes the name of OUT. --pad puts 0xFF behind the last node, up to the
+end of the flash.
 
 Examples:
   jffs2_image append --blocks 64 flash.img more.txt new.img
-  jffs2_image append --blocks 64 old.img more.txt new.img && mv new.img old.img
+  jffs2_image append --blocks 64 --atomic flash.img more.txt flash.img
 
 Exit status:
   0  done
@@ -299,7 +314,7 @@ is the highest that clashes. Then the exit status is 3.
 
 IMAGE and OUT can be one file, since IMAGE is held in memory before OUT is made.
 But if the power, the host or the disk fails while OUT is written, the old bytes
-are gone.
+are gone. With --atomic they are kept until all is written.
 
 To look only, give ls, cat or extract --decompress: they do what they do of OUT,
 which is held in memory.
@@ -308,6 +323,7 @@ Examples:
   jffs2_image decompress --block 131072 dump.img flash.img
   jffs2_image ls --block 131072 --decompress dump.img
   jffs2_image decompress --clashes higher dump.img flash.img
+  jffs2_image decompress --atomic flash.img flash.img
 
 Exit status:
   0  done
@@ -331,11 +347,11 @@ TooLong: a node does not fit into a block after a marker.
 
 IMAGE and OUT can be one file, since IMAGE is held in memory before OUT is made.
 But if the power, the host or the disk fails while OUT is written, the old bytes
-are gone.
+are gone. With --atomic they are kept until all is written.
 
 Examples:
-  jffs2_image build --blocks 64 tree.txt flash.img
   jffs2_image compress flash.img small.img
+  jffs2_image compress --atomic flash.img flash.img
 
 Exit status:
   0  done
@@ -515,3 +531,31 @@ Exit status:
   1  a fault, which standard error names
   2  the command line is wrong
   3  damage was printed";
+
+pub(crate) const PACK_EPILOGUE: &str = "\
+It writes what build makes of the listing of DIR, byte for byte, and writes no
+listing: 'jffs2_image help listing' tells what of DIR an image can hold, and
+'jffs2_image help build' what is written and what is printed. What is left out
+is told on standard error, each with a line 'left out PATH: REASON', and the
+rest goes on. --owner and --time take the place of those of the folder: with
+them the image is the same whoever makes it and whenever.
+
+OUT ends with the last node. Without --blocks the flash has as many blocks as it
+may have. --pad puts 0xFF behind the last node, up to the end of the flash, or
+without --blocks to the end of the last block that has a byte. With --atomic a
+new file beside OUT is written, which takes its place when all has gone well:
+after a fault OUT is as it was.
+
+A fault at a line, as P2 or S1, has its number in the listing that listing
+prints of DIR.
+
+Examples:
+  jffs2_image pack tree flash.img
+  jffs2_image pack --owner 0 0 --time 1000000000 --blocks 64 tree flash.img
+  jffs2_image pack --block 131072 --pad --atomic tree flash.img
+
+Exit status:
+  0  done, and nothing was left out
+  1  a fault, which standard error names
+  2  the command line is wrong
+  3  something was left out, or with --weak a weak node";

@@ -3,7 +3,7 @@ ghost use Rattle.std.specs.Prelude.{◌≡◌, true, false, [], ◌∷◌, Some,
 ghost use Rattle.clap.specs.Words.{fault_of};
 ghost use Rattle.clap.specs.declared.error.ErrorKind.TheVariants.{DisplayHelp, DisplayVersion, MissingSubcommand, MissingRequiredArgument, UnknownArgument, WrongNumberOfValues};
 ghost use Rattle.jnode.specs.declared.order.Endian.TheVariants.{Little, Big};
-ghost use Rattle.jcommand.specs.Parsed.{ScanParsed, CheckParsed, ListParsed, CatParsed, BuildParsed, AppendParsed, DecompressParsed, ImageParsed, WeakParsed, ExtractParsed, ListingParsed, InfoParsed, CompressParsed, CutsParsed, DiffParsed, DamageParsed, ApartParsed, parsed_from, endian_of, decimal_number, owner_of, page_of};
+ghost use Rattle.jcommand.specs.Parsed.{ScanParsed, CheckParsed, ListParsed, CatParsed, BuildParsed, AppendParsed, DecompressParsed, ImageParsed, WeakParsed, ExtractParsed, ListingParsed, InfoParsed, CompressParsed, CutsParsed, DiffParsed, DamageParsed, ApartParsed, PackParsed, parsed_from, placing_from, endian_of, decimal_number, owner_of, page_of};
 ghost use Rattle.jsteps.specs.declared.page.Page.TheVariants.{P4096, P8192, P16384};
 ghost use Rattle.jcommand.specs.Commands.{program};
 
@@ -133,6 +133,47 @@ pub fn known_requests()
         (codes "jffs2_image" ∷ codes "damage" ∷ codes "--block=8192" ∷ codes "a" ∷ [])
         ≡ Some (DamageParsed (record { geometry = record { block = 8192 }; endian = Little })
         (codes "a")) }
+    ensures packed { parsed_from (codes "jffs2_image" ∷ codes "pack" ∷ codes "a" ∷ codes "b" ∷ [])
+        ≡ Some (PackParsed (record {
+          options = record { geometry = record { block = 65536 }; endian = Little };
+          blocks = None;
+          page = P4096;
+          weak = false;
+          owner = None;
+          time = None;
+          quiet = false;
+          folder = codes "a";
+          output = codes "b";
+        })) }
+    ensures packed_for { parsed_from
+        (codes "jffs2_image" ∷ codes "pack" ∷ codes "--owner" ∷ codes "0" ∷ codes "7"
+        ∷ codes "--time=9" ∷ codes "--weak" ∷ codes "--blocks=2" ∷ codes "a" ∷ codes "b" ∷ [])
+        ≡ Some (PackParsed (record {
+          options = record { geometry = record { block = 65536 }; endian = Little };
+          blocks = Some 2;
+          page = P4096;
+          weak = true;
+          owner = Some (record { uid = 0; gid = 7 });
+          time = Some 9;
+          quiet = false;
+          folder = codes "a";
+          output = codes "b";
+        })) }
+{}
+
+/// What words ask for of the file that is written.
+pub fn known_placings()
+    ensures none { placing_from (codes "jffs2_image" ∷ codes "build" ∷ codes "--blocks=2"
+        ∷ codes "a" ∷ codes "b" ∷ []) ≡ record { pad = false; atomic = false } }
+    ensures padded { placing_from (codes "jffs2_image" ∷ codes "append" ∷ codes "--blocks=2"
+        ∷ codes "--pad" ∷ codes "a" ∷ codes "b" ∷ codes "c" ∷ [])
+        ≡ record { pad = true; atomic = false } }
+    ensures apart { placing_from (codes "jffs2_image" ∷ codes "decompress" ∷ codes "--atomic"
+        ∷ codes "a" ∷ codes "b" ∷ []) ≡ record { pad = false; atomic = true } }
+    ensures both { placing_from (codes "jffs2_image" ∷ codes "pack" ∷ codes "a" ∷ codes "--pad"
+        ∷ codes "b" ∷ codes "--atomic" ∷ []) ≡ record { pad = true; atomic = true } }
+    ensures of_no_output { placing_from (codes "jffs2_image" ∷ codes "ls" ∷ codes "a" ∷ [])
+        ≡ record { pad = false; atomic = false } }
 {}
 
 /// Words that ask for nothing.
@@ -173,10 +214,16 @@ pub fn known_refusals()
         ∷ codes "--blocks=2" ∷ codes "a" ∷ []) ≡ UnknownArgument ∷ [] }
     ensures no_second { fault_of program (codes "jffs2_image" ∷ codes "diff" ∷ codes "a" ∷ [])
         ≡ MissingRequiredArgument ∷ [] }
+    ensures not_packed { fault_of program (codes "jffs2_image" ∷ codes "pack" ∷ codes "a" ∷ [])
+        ≡ MissingRequiredArgument ∷ [] }
+    ensures not_padded { fault_of program (codes "jffs2_image" ∷ codes "compress" ∷ codes "--pad"
+        ∷ codes "a" ∷ codes "b" ∷ []) ≡ UnknownArgument ∷ [] }
     ensures no_folder { fault_of program (codes "jffs2_image" ∷ codes "extract" ∷ codes "a" ∷ [])
         ≡ MissingRequiredArgument ∷ [] }
     ensures unreadable_blocks { parsed_from (codes "jffs2_image" ∷ codes "build"
         ∷ codes "--blocks=x" ∷ codes "a" ∷ codes "b" ∷ []) ≡ None }
+    ensures unreadable_time { parsed_from (codes "jffs2_image" ∷ codes "pack"
+        ∷ codes "--time=x" ∷ codes "a" ∷ codes "b" ∷ []) ≡ None }
     ensures unreadable_clashes { parsed_from (codes "jffs2_image" ∷ codes "decompress"
         ∷ codes "--clashes=lower" ∷ codes "a" ∷ codes "b" ∷ []) ≡ None }
     ensures unreadable { parsed_from (codes "jffs2_image" ∷ codes "check" ∷ codes "--block=x"

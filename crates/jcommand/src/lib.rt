@@ -9,8 +9,9 @@
 //!   `specs/Commands.antt` has the same as clap sees it.
 //! - `help`: the texts of the help.
 //! - `parsed`: what clap's matches ask for, `specs/Parsed.antt`.
-//! - `command_line`: `task`, which takes the words to a `Task` or to the text that answers them,
-//!   and `request`, the same of an image alone; `specs/Refused.antt`.
+//! - `command_line`: `asked`, which takes the words to a `Task`, with what is done about the file
+//!   that it writes, or to the text that answers them, and `request`, the same of an image alone;
+//!   `specs/Refused.antt`.
 //! - `outcome`: how the program ends, and its exit status; `specs/Status.antt`.
 //! - `laws`: worked command lines.
 #![tactic(auto)]
@@ -22,9 +23,9 @@ pub mod laws;
 mod outcome;
 mod parsed;
 
-pub use crate::command_line::{RequestFault, request, task};
+pub use crate::command_line::{RequestFault, asked, request};
 pub use crate::outcome::{Outcome, status};
 pub use crate::parsed::{
-    Comparison, Compression, Cuts, Decompression, Examination, Extraction, FolderListing, Options,
-    Owner, Request, Target, Task,
+    Asked, Comparison, Compression, Cuts, Decompression, Examination, Extraction, FolderListing,
+    Options, Owner, Packing, Placing, Request, Target, Task,
 };

@@ -1,7 +1,7 @@
 //! What the matches of the program's command line ask for.
 ghost use Rattle.std.specs.Prelude.{◌≡◌, IfSome, codes, map, option_map};
 ghost use Rattle.clap.specs.Words.{found_of, rows_of, all_of, first_of};
-ghost use Rattle.jcommand.specs.Parsed.{decimal_number, endian_of, page_of, number_option, options_in, image_in, is_given, check_in, is_decompressed, ls_in, cat_in, writing_in, build_in, append_in, noting_in, decompress_in, extract_in, listing_in, info_in, compress_in, cuts_in, diff_in, damage_in, is_apart, owner_number, owner_of, if_given, parsed, options_of, task_view, view};
+ghost use Rattle.jcommand.specs.Parsed.{decimal_number, endian_of, page_of, number_option, options_in, image_in, is_given, check_in, is_decompressed, ls_in, cat_in, writing_in, build_in, append_in, noting_in, decompress_in, extract_in, listing_in, info_in, compress_in, cuts_in, diff_in, damage_in, flash_in, settings_in, pack_in, placing_in, is_plain, is_apart, owner_number, owner_of, if_given, parsed, options_of, task_view, view};
 
 use clap::ArgMatches;
 use jnode::Endian;
@@ -165,6 +165,38 @@ pub struct Examination<'a> {
     pub image: &'a str,
 }
 
+/// An image of a folder of the host: of a flash of so many blocks, where they are given.
+#[derive(Clone, Copy)]
+pub struct Packing<'a> {
+    pub options: Options,
+    pub blocks: Option<u32>,
+    pub page: Page,
+    pub weak: bool,
+    pub owner: Option<Owner>,
+    pub time: Option<u32>,
+    pub quiet: bool,
+    pub folder: &'a str,
+    pub output: &'a str,
+}
+
+/// What is done about the file that is written.
+#[derive(Clone, Copy)]
+pub struct Placing {
+    /// It is filled with erased flash, up to the end of the flash.
+    pub pad: bool,
+    /// It takes its name only when all is written.
+    pub atomic: bool,
+}
+
+impl Placing {
+    /// Whether nothing is done about it.
+    pub fn is_plain(self) -> bool
+        ensures { result ≡ is_plain self }
+    {
+        !self.pad && !self.atomic
+    }
+}
+
 /// What is asked for.
 #[derive(Clone, Copy)]
 pub enum Task<'a> {
@@ -188,6 +220,15 @@ pub enum Task<'a> {
     Apart(Decompression<'a>),
     /// `damage`.
     Damage(Examination<'a>),
+    /// `pack`.
+    Pack(Packing<'a>),
+}
+
+/// A task, and what is done about the file that it writes.
+#[derive(Clone, Copy)]
+pub struct Asked<'a> {
+    pub task: Task<'a>,
+    pub placing: Placing,
 }
 
 /// A number below 2^32 in decimal digits.
@@ -460,15 +501,22 @@ fn owner_at(found: &ArgMatches<'_>) -> Option<Option<Owner>>
     }
 }
 
+/// The number that an option has, where it is given.
+fn number_if_given(found: &ArgMatches<'_>, id: &str) -> Option<Option<u32>>
+    ensures { result ≡ if_given (first_of id.now (rows_of (found_of found.now))) decimal_number }
+{
+    match text_at(found, id) {
+        None => Some(None),
+        Some(text) => Some(Some(number(text)?)),
+    }
+}
+
 /// The time, where one is given.
 fn time_at(found: &ArgMatches<'_>) -> Option<Option<u32>>
     ensures { result
         ≡ if_given (first_of (codes "time") (rows_of (found_of found.now))) decimal_number }
 {
-    match text_at(found, "time") {
-        None => Some(None),
-        Some(text) => Some(Some(number(text)?)),
-    }
+    number_if_given(found, "time")
 }
 
 fn listing_at<'a>(found: &ArgMatches<'a>) -> Option<Task<'a>>
@@ -542,6 +590,55 @@ fn damage_at<'a>(found: &ArgMatches<'a>) -> Option<Task<'a>>
     Some(Task::Damage(Examination { options, image }))
 }
 
+/// The flash that is written, of which the number of blocks may be left out.
+fn flash_at(found: &ArgMatches<'_>) -> Option<(Options, Option<u32>, Page)>
+    ensures { result ≡ flash_in (rows_of (found_of found.now)) }
+{
+    let options = options_at(found)?;
+    let blocks = number_if_given(found, "blocks")?;
+    let page = page(text_at(found, "page")?)?;
+    Some((options, blocks, page))
+}
+
+/// The owner and the time of all that a folder holds, where they are given.
+fn settings_at(found: &ArgMatches<'_>) -> Option<(Option<Owner>, Option<u32>)>
+    ensures { result ≡ settings_in (rows_of (found_of found.now)) }
+{
+    let owner = owner_at(found)?;
+    let time = time_at(found)?;
+    Some((owner, time))
+}
+
+fn pack_at<'a>(found: &ArgMatches<'a>) -> Option<Task<'a>>
+    ensures { option_map task_view result ≡ pack_in (rows_of (found_of found.now)) }
+{
+    let (options, blocks, page) = flash_at(found)?;
+    let (owner, time) = settings_at(found)?;
+    let folder = text_at(found, "DIR")?;
+    let output = text_at(found, "OUT")?;
+    Some(Task::Pack(Packing {
+        options,
+        blocks,
+        page,
+        weak: is_given(found, "weak"),
+        owner,
+        time,
+        quiet: is_given(found, "quiet"),
+        folder,
+        output,
+    }))
+}
+
+/// What is done about the file that is written.
+pub(crate) fn placing_at(found: &ArgMatches<'_>) -> Placing
+    ensures { result ≡ placing_in (rows_of (found_of found.now)) }
+{
+    Placing {
+        pad: is_given(found, "pad"),
+        atomic: is_given(found, "atomic"),
+    }
+}
+
 /// What the subcommand asks for, or nothing where a value can't be read.
 #[tactic(auto, unfolding(crate::specs::Parsed::parsed))]
 pub(crate) fn parsed_of<'a>(name: &str, found: &ArgMatches<'a>) -> Option<Task<'a>>
@@ -561,6 +658,7 @@ pub(crate) fn parsed_of<'a>(name: &str, found: &ArgMatches<'a>) -> Option<Task<'
         "compress" => compress_at(found),
         "diff" => diff_at(found),
         "damage" => damage_at(found),
+        "pack" => pack_at(found),
         _ => None,
     }
 }

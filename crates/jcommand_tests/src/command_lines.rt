@@ -2,9 +2,10 @@
 //! and the first is the program's own name.
 
 use crate::checks::{equal, equal_at, expect, expect_at};
+use crate::packing::shown_packing;
 use jcommand::{
-    Comparison, Compression, Cuts, Decompression, Examination, Extraction, FolderListing, Options,
-    Outcome, Owner, Request, RequestFault, Target, Task, status, task,
+    Asked, Comparison, Compression, Cuts, Decompression, Examination, Extraction, FolderListing,
+    Options, Outcome, Owner, Placing, Request, RequestFault, Target, Task, asked, status,
 };
 use jnode::Endian;
 use std::alloc::{AllocError, Global};
@@ -15,7 +16,7 @@ fn written(target: Target<'_>) -> (u32, u32, &str) {
     (target.blocks, target.page.size(), target.output)
 }
 
-fn order_name(endian: Endian) -> &'static str {
+pub(crate) fn order_name(endian: Endian) -> &'static str {
     match endian {
         Endian::Little => "little",
         Endian::Big => "big",
@@ -181,13 +182,24 @@ fn shown_task(alloc: Global, task: Task<'_>) -> Result<String, AllocError> {
             let block = geometry.block;
             format!(in alloc; "damage {block} {order} {image}")
         }
+        Task::Pack(asked) => shown_packing(alloc, asked),
     }
+}
+
+/// The task with marks for what is done about the file that it writes.
+fn shown_asked(alloc: Global, asked: Asked<'_>) -> Result<String, AllocError> {
+    let Asked { task, placing } = asked;
+    let task = shown_task(alloc, task)?;
+    let Placing { pad, atomic } = placing;
+    let pad = if pad { " padded" } else { "" };
+    let atomic = if atomic { " atomic" } else { "" };
+    format!(in alloc; "{task}{pad}{atomic}")
 }
 
 /// What the words ask for, or `help` or `wrong` and the text that answers them.
 fn answer(alloc: Global, args: &[&str]) -> Result<String, AllocError> {
-    match task(alloc, args) {
-        Ok(task) => shown_task(alloc, task),
+    match asked(alloc, args) {
+        Ok(asked) => shown_asked(alloc, asked),
         Err(RequestFault::Help { text }) => format!(in alloc; "help {text}"),
         Err(RequestFault::Usage { text }) => format!(in alloc; "wrong {text}"),
         Err(RequestFault::OutOfMemory) => String::from_str(alloc, "no memory"),

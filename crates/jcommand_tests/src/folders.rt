@@ -88,6 +88,8 @@ fn a_request_is_of_an_image(rt: HostRuntime) {
         (["t", "cat", "a.img", "/b"], "another request"),
         (["t", "extract", "a.img", "b"], "wrong"),
         (["t", "listing", "a", "--quiet"], "wrong"),
+        (["t", "decompress", "a.img", "b"], "another request"),
+        (["t", "pack", "a", "b.img"], "wrong"),
         (["t", "info", "--", "a.img"], "wrong"),
         (["t", "compress", "a.img", "b"], "wrong"),
         (["t", "diff", "a.img", "b.img"], "wrong"),
@@ -96,5 +98,21 @@ fn a_request_is_of_an_image(rt: HostRuntime) {
     ];
     for (words, wanted) in &examples {
         equal(&rt, image_of(rt.alloc(), words), *wanted);
+    }
+}
+
+/// What is to be done about the file that is written is no request of an image alone.
+#[test]
+fn a_request_has_no_placing(rt: HostRuntime) {
+    let examples = [
+        (["t", "build", "--blocks=2", "a", "b"], "another request"),
+        (["t", "decompress", "a.img", "b", "--atomic"], "wrong"),
+    ];
+    for (words, wanted) in &examples {
+        equal(&rt, image_of(rt.alloc(), words), *wanted);
+    }
+    for flag in ["--pad", "--atomic"] {
+        let words = ["t", "build", "--blocks=2", flag, "a", "b"];
+        equal_at(&rt, image_of(rt.alloc(), &words), "wrong", flag);
     }
 }

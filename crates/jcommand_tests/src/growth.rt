@@ -1,11 +1,11 @@
 //! A growth that is refused is told as such.
 
 use crate::checks::equal;
-use jcommand::{Request, RequestFault, Task, task};
+use jcommand::{Asked, Request, RequestFault, Task, asked};
 use std::alloc::Global;
 
 /// Words, and what they ask for.
-const LINES: [(&[&str], &str); 17] = [
+const LINES: [(&[&str], &str); 18] = [
     (&["t", "check", "--scan", "--block=4096", "a.img"], "scan"),
     (&["t", "check", "--endian", "big", "a.img"], "check"),
     (&["t", "ls", "a.img"], "ls"),
@@ -33,29 +33,119 @@ const LINES: [(&[&str], &str); 17] = [
         &["t", "decompress", "--clashes", "higher", "a.img", "b.img"],
         "apart",
     ),
+    (
+        &["t", "pack", "--owner", "1", "2", "--pad", "a", "b.img"],
+        "pack",
+    ),
     (&["t", "check", "--help"], "help"),
     (&["t", "check", "--block", "x", "a.img"], "wrong"),
 ];
 
 /// What the words ask for.
-fn asked(alloc: Global, words: &[&str]) -> &'static str {
-    match task(alloc, words) {
-        Ok(Task::Image(Request::Scan { .. })) => "scan",
-        Ok(Task::Image(Request::Check { .. })) => "check",
-        Ok(Task::Image(Request::List { .. })) => "ls",
-        Ok(Task::Image(Request::Cat { .. })) => "cat",
-        Ok(Task::Image(Request::Build { .. })) => "build",
-        Ok(Task::Image(Request::Append { .. })) => "append",
-        Ok(Task::Image(Request::Decompress { .. })) => "decompress",
-        Ok(Task::Weak(_)) => "weak",
-        Ok(Task::Apart(_)) => "apart",
-        Ok(Task::Extract(_)) => "extract",
-        Ok(Task::Listing(_)) => "listing",
-        Ok(Task::Info { .. }) => "info",
-        Ok(Task::Cuts(_)) => "cuts",
-        Ok(Task::Compress(_)) => "compress",
-        Ok(Task::Diff(_)) => "diff",
-        Ok(Task::Damage(_)) => "damage",
+fn task_name(alloc: Global, words: &[&str]) -> &'static str {
+    match asked(alloc, words) {
+        Ok(
+            Asked {
+                task: Task::Image(Request::Scan { .. }),
+                ..
+            },
+        ) => "scan",
+        Ok(
+            Asked {
+                task: Task::Image(Request::Check { .. }),
+                ..
+            },
+        ) => "check",
+        Ok(
+            Asked {
+                task: Task::Image(Request::List { .. }),
+                ..
+            },
+        ) => "ls",
+        Ok(
+            Asked {
+                task: Task::Image(Request::Cat { .. }),
+                ..
+            },
+        ) => "cat",
+        Ok(
+            Asked {
+                task: Task::Image(Request::Build { .. }),
+                ..
+            },
+        ) => "build",
+        Ok(
+            Asked {
+                task: Task::Image(Request::Append { .. }),
+                ..
+            },
+        ) => "append",
+        Ok(
+            Asked {
+                task: Task::Image(Request::Decompress { .. }),
+                ..
+            },
+        ) => "decompress",
+        Ok(
+            Asked {
+                task: Task::Weak(_),
+                ..
+            },
+        ) => "weak",
+        Ok(
+            Asked {
+                task: Task::Apart(_),
+                ..
+            },
+        ) => "apart",
+        Ok(
+            Asked {
+                task: Task::Extract(_),
+                ..
+            },
+        ) => "extract",
+        Ok(
+            Asked {
+                task: Task::Listing(_),
+                ..
+            },
+        ) => "listing",
+        Ok(
+            Asked {
+                task: Task::Info { .. },
+                ..
+            },
+        ) => "info",
+        Ok(
+            Asked {
+                task: Task::Cuts(_),
+                ..
+            },
+        ) => "cuts",
+        Ok(
+            Asked {
+                task: Task::Compress(_),
+                ..
+            },
+        ) => "compress",
+        Ok(
+            Asked {
+                task: Task::Diff(_),
+                ..
+            },
+        ) => "diff",
+        Ok(
+            Asked {
+                task: Task::Damage(_),
+                ..
+            },
+        ) => "damage",
+        Ok(
+            Asked {
+                task: Task::Pack(_),
+                ..
+            },
+        ) => "pack",
         Err(RequestFault::Help { .. }) => "help",
         Err(RequestFault::Usage { .. }) => "wrong",
         Err(RequestFault::OutOfMemory) => "no memory",
@@ -67,9 +157,9 @@ fn asked(alloc: Global, words: &[&str]) -> &'static str {
 #[test]
 fn refused_growth_is_want_of_memory(rt: HostRuntime) {
     for (words, want) in LINES {
-        let mut first = asked(rt.alloc(), words);
+        let mut first = task_name(rt.alloc(), words);
         if first == "no memory" {
-            first = asked(rt.alloc(), words);
+            first = task_name(rt.alloc(), words);
         }
         equal(&rt, first, want);
     }

@@ -12,3 +12,5 @@ mod decompressing;
 mod folders;
 #[cfg(test)]
 mod growth;
+#[cfg(test)]
+mod packing;

@@ -25,7 +25,7 @@ use crate::weak::{Notes, run_weak};
 use crate::writing::{Texts, load_file, write_image};
 use byteorder::{BigEndian, LittleEndian};
 use flashbase::{Sink, put_all};
-use jcommand::{Options, Outcome, Request, RequestFault, Target, Task, task};
+use jcommand::{Asked, Options, Outcome, Request, RequestFault, Target, Task, asked};
 use jnode::{Endian, Order};
 use jreport::{ProgramFault, fault_lines, note_line};
 use std::alloc::Global;
@@ -509,7 +509,11 @@ pub fn run<L: Loader, M: Maker, D: Folders, T: Output, E: Sink>(
       errors = errors.new ≡ errors.old;
     }) result }
 {
-    match task(alloc, args) {
+    let task = match asked(alloc, args) {
+        Ok(Asked { task, .. }) => Ok(task),
+        Err(fault) => Err(fault),
+    };
+    match task {
         Ok(Task::Image(request)) => run_image(alloc, loader, maker, Ok(request), output, errors),
         Ok(Task::Weak(request)) => run_weak(alloc, loader, maker, request, output, errors),
         Ok(Task::Extract(asked)) => run_extract(alloc, loader, folders, asked, errors),
@@ -520,6 +524,10 @@ pub fn run<L: Loader, M: Maker, D: Folders, T: Output, E: Sink>(
         Ok(Task::Diff(asked)) => run_diff(alloc, loader, asked, output, errors),
         Ok(Task::Apart(asked)) => run_apart(alloc, loader, maker, asked, output, errors),
         Ok(Task::Damage(asked)) => run_damage(alloc, loader, asked, output, errors),
+        Ok(Task::Pack(_)) => {
+            let fault = RequestFault::OutOfMemory;
+            run_image(alloc, loader, maker, Err(fault), output, errors)
+        }
         Err(fault) => run_image(alloc, loader, maker, Err(fault), output, errors),
     }
 }

@@ -2,5 +2,6 @@ use Rattle.jcommand.proofs.commands.make_compress.Goals as goal
 
 pub returns : goal.returns
 returns c =
-    let first = c.add_arg.ensures _ _ c.make_plain-command.ensures c.make_word-image.ensures in
+    let placed = c.add_atomic.ensures _ c.make_plain-command.ensures in
+    let first = c.add_arg.ensures _ _ placed c.make_word-image.ensures in
     c.add_arg-2.ensures _ _ first c.make_word-output.ensures

@@ -16,4 +16,5 @@ returns c =
     let info = c.add_subcommand-command-10.ensures _ _ listing c.make_info.ensures in
     let cuts = c.add_subcommand-command-11.ensures _ _ info c.make_cuts.ensures in
     let diff = c.add_subcommand-command-12.ensures _ _ cuts c.make_diff.ensures in
-    c.add_subcommand.ensures _ _ diff c.make_damage.ensures
+    let damage = c.add_subcommand-command-13.ensures _ _ diff c.make_damage.ensures in
+    c.add_subcommand.ensures _ _ damage c.make_pack.ensures

@@ -87,3 +87,15 @@ returns-clause-unreadable_clashes c = refl
 pub returns-clause-not_noted : goal.returns-clause-not_noted
 unfolding clap_on_literals program parsed parsed_from
 returns-clause-not_noted c = refl
+
+pub returns-clause-not_packed : goal.returns-clause-not_packed
+unfolding clap_on_literals program parsed parsed_from
+returns-clause-not_packed c = refl
+
+pub returns-clause-not_padded : goal.returns-clause-not_padded
+unfolding clap_on_literals program parsed parsed_from
+returns-clause-not_padded c = refl
+
+pub returns-clause-unreadable_time : goal.returns-clause-unreadable_time
+unfolding clap_on_literals program parsed parsed_from
+returns-clause-unreadable_time c = refl

@@ -95,3 +95,11 @@ returns-clause-extended_and_noted c = refl
 pub returns-clause-damaged : goal.returns-clause-damaged
 unfolding clap_on_literals program parsed parsed_from
 returns-clause-damaged c = refl
+
+pub returns-clause-packed : goal.returns-clause-packed
+unfolding clap_on_literals program parsed parsed_from
+returns-clause-packed c = refl
+
+pub returns-clause-packed_for : goal.returns-clause-packed_for
+unfolding clap_on_literals program parsed parsed_from
+returns-clause-packed_for c = refl
