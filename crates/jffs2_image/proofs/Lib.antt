@@ -1,5 +1,6 @@
 pub mod ClashLemmas
 mod CommandLemmas
+pub mod PlacingLemmas
 mod TakenLemmas
 mod ExtractingLemmas
 pub mod DamageLemmas

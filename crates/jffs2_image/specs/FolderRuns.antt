@@ -10,23 +10,13 @@ use Rattle.jreport.specs.declared.faults.ProgramFault.TheVariants as program
 use Rattle.jcommand.specs.Parsed.{ExtractParsed, ListingParsed, IsFaultless, parsed_from}
 use Rattle.jcommand.specs.declared.parsed.Options.{Options}
 use Rattle.jcommand.specs.declared.parsed.Owner.{Owner}
-use Rattle.jcommand.specs.declared.parsed.Request.{Request}
-use Rattle.jcommand.specs.declared.command_line.RequestFault.{RequestFault}
 use Rattle.jcommand.specs.Status.{outcome_of}
 use Rattle.jcommand.specs.declared.outcome.Outcome.{Outcome}
 use Rattle.jcommand.specs.declared.outcome.Outcome.TheVariants as outcome
 use Rattle.jffs2_image.specs.Folders.{Extracting, FillsAsked, ListsFolder, settings}
 use Rattle.jffs2_image.specs.InfoRuns.{FileReads, Passage}
-use Rattle.jffs2_image.specs.Runs.{Finishes, IsCommand, Says, answer_finished}
+use Rattle.jffs2_image.specs.Runs.{Finishes, Says, answer_finished}
 use Rattle.jffs2_image.specs.declared.folders.Extracted.{Extracted}
-
--- The command line makes a request, or asks for an extraction, a listing, what an image tells of
--- itself, what stands after a stop, an image that is compressed, what the trees of two images
--- differ in, an image without nodes that clash, an image with notes on its weak nodes, or what the
--- damage of one costs, and that is done.
-abbrev pub RunsTask : List (List ℕ) → (Result Request RequestFault → Type 0) → Type 0 → Type 0
-RunsTask args runs others =
-    ((command : Result Request RequestFault) × IsCommand args command × runs command) ⊎ others
 
 -- the notes on what an extraction came to, if there are any
 abbrev pub notes_after_extraction : Extracted → Option (List ℕ)

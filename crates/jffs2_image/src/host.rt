@@ -1,12 +1,15 @@
 //! Files of the host: those that are read whole, and the one that is made.
-ghost use Rattle.std.specs.Prelude.{◌≡◌, ◌<◌, ◌≤◌, ◌++◌, ℕ, List, [], ◌∷◌, Option, IfOk, IfSome, None, Some, Err, length, vec_len};
+ghost use Rattle.std.specs.Prelude.{◌≡◌, ◌<◌, ◌≤◌, ◌++◌, ℕ, List, [], ◌∷◌, Option, IfOk, IfErr, IfSome, OnOk, None, Some, Err, length, vec_len};
 ghost use Rattle.flashbase.specs.Device.{CountsErr, CountsLoad, next_count};
+ghost use Rattle.jffs2_image.specs.Filling.{HoldsFilled, HoldsFilledInPart};
 ghost use Rattle.jffs2_image.specs.Host.{AreOf, CountsFile, GivesFile, HoldsBy, MakesBy};
 
+use crate::filling::{Filling, fill_output};
 use crate::output::{BufferedOutput, Output};
 use flashbase::{DeviceFault, FromReader, LoadFault, Source};
 use std::alloc::{AllocError, Global};
 use std::fs;
+use std::io::Write;
 use std::rt::Files;
 
 /// Why a file was not read whole.
@@ -91,6 +94,14 @@ pub trait Maker {
         ensures held { IfSome (held self.old) (λ files.
             IfSome (Self.Made.given made)
             (λ bytes. held self.new ≡ Some (files ++ bytes ∷ []))) };
+
+    /// Fills up the file that was taken back last with erased flash.
+    fn fill_up(&mut self, filling: Filling) -> Result<(), DeviceFault>
+        ensures names { names self.new ≡ names self.old }
+        ensures filled { OnOk result (HoldsFilled (held self.old, held self.new) filling) }
+        ensures part { IfErr result
+            (λ _. HoldsFilledInPart (held self.old, held self.new) filling) }
+        ensures count { CountsErr (failures self.old) (failures self.new) result };
 }
 
 /// How many bytes a file is asked for at once.
@@ -201,18 +212,37 @@ impl<'r, R: Files + AllocGlobal> Loader for FileLoader<'r, R> {
     }
 }
 
-/// Makes files of the system, each behind a buffer.
+/// Fills up a file that is there.
+pub(crate) fn fill_last<W: Write + Drop>(
+    last: &mut Option<BufferedOutput<W>>,
+    filling: Filling,
+) -> Result<(), DeviceFault> {
+    match last {
+        Some(output) => {
+            let length = output.length();
+            fill_output(output, filling, length)
+        }
+        None => Err(DeviceFault),
+    }
+}
+
+/// Makes files of the system, each behind a buffer. The last one stays open, to be filled up.
 #[derive(Drop)]
 pub struct FileMaker<'r, R: Files + AllocGlobal> {
-    rt: &'r R,
-    failures: u64,
+    pub(crate) rt: &'r R,
+    pub(crate) failures: u64,
+    last: Option<BufferedOutput<R::File>>,
 }
 
 impl<'r, R: Files + AllocGlobal> FileMaker<'r, R> {
     pub fn new(rt: &'r R) -> Self
         ensures { ⟦<FileMaker<'r, R> as Maker>⟧.failures result ≡ 0 }
     {
-        FileMaker { rt, failures: 0 }
+        FileMaker {
+            rt,
+            failures: 0,
+            last: None,
+        }
     }
 }
 
@@ -238,5 +268,14 @@ impl<'r, R: Files + AllocGlobal> Maker for FileMaker<'r, R> {
 
     fn take_back(&mut self, made: BufferedOutput<R::File>) {
         self.failures = made.failures();
+        self.last = Some(made);
+    }
+
+    fn fill_up(&mut self, filling: Filling) -> Result<(), DeviceFault> {
+        let filled = fill_last(&mut self.last, filling);
+        if filled.is_err() {
+            self.failures = self.failures.wrapping_add(1);
+        }
+        filled
     }
 }

@@ -14,14 +14,17 @@ pub mod cuts;
 pub mod damage;
 pub mod decompressing;
 pub mod diff;
+pub mod filling;
 mod folders;
 pub mod host;
 pub mod info;
 mod looking;
 pub mod output;
 mod packing;
+pub mod placing;
 pub mod program;
 pub mod system;
+pub mod tasks;
 mod weak;
 pub mod writing;
 

@@ -8,6 +8,7 @@ ghost use Rattle.jffs2_image.specs.Writes.{IsBehind};
 
 use flashbase::{DeviceFault, Sink, write_once};
 use std::alloc::Global;
+use std::fs::OpenFile;
 use std::io;
 use std::io::{BufWriter, ErrorKind, Write};
 
@@ -33,6 +34,7 @@ pub trait Output: Sink {
 pub struct BufferedOutput<W: Write + Drop> {
     writer: BufWriter<W>,
     failures: u64,
+    length: u64,
 }
 
 impl<W: Write + Drop> BufferedOutput<W> {
@@ -60,7 +62,11 @@ impl<W: Write + Drop> BufferedOutput<W> {
         ensures memory { IfErr result (λ error. error_kind error ≡ ErrorKind.OutOfMemory) }
     {
         let writer = BufWriter::with_capacity(alloc, BUFFER, writer)?;
-        Ok(BufferedOutput { writer, failures })
+        Ok(BufferedOutput {
+            writer,
+            failures,
+            length: 0,
+        })
     }
 
     /// How often it failed, modulo 2^64.
@@ -68,6 +74,18 @@ impl<W: Write + Drop> BufferedOutput<W> {
         ensures { result ≡ ⟦<BufferedOutput<W> as Sink>⟧.failures self.now }
     {
         self.failures
+    }
+
+    /// How many bytes it took, up to the greatest u64.
+    pub(crate) fn length(&self) -> u64 {
+        self.length
+    }
+}
+
+impl<W: Write + OpenFile + Drop> BufferedOutput<W> {
+    /// Waits until what was given on is on the disk.
+    pub(crate) fn sync(&self) -> io::Result<()> {
+        self.writer.get_ref().sync_all()
     }
 }
 
@@ -77,7 +95,11 @@ impl<W: Write + Drop> Sink for BufferedOutput<W> {
     ghost failures = { λ s. s.failures };
 
     fn put(&mut self, bytes: &[u8]) -> Result<usize, DeviceFault> {
-        write_once(&mut self.writer, &mut self.failures, bytes)
+        let put = write_once(&mut self.writer, &mut self.failures, bytes);
+        if let Ok(n) = put {
+            self.length = self.length.saturating_add(n as u64);
+        }
+        put
     }
 }
 

@@ -2,36 +2,27 @@
 //! ended.
 ghost use Rattle.std.specs.Prelude.{◌≡◌, ◌⊎◌, true, IfErr, IsTrue, OnOk, map};
 ghost use Rattle.std.specs.Io.KnownBytes.{Appends};
-ghost use Rattle.jcommand.specs.Parsed.{BuildParsed, AppendParsed, DecompressParsed, options_of, view};
+ghost use Rattle.jcommand.specs.Parsed.{BuildParsed, AppendParsed, DecompressParsed, is_plain, options_of, placing_from, view};
 ghost use Rattle.jreport.specs.Advice.{fault_lines_of};
 ghost use Rattle.jffs2_image.specs.Host.{Blames, BlamesCommand, BlamesDecompress, BlamesFor, HasFailed, MakesFile};
-ghost use Rattle.jffs2_image.specs.DamageRuns.{RunsDamage};
-ghost use Rattle.jffs2_image.specs.DiffRuns.{RunsDiff};
-ghost use Rattle.jffs2_image.specs.FolderRuns.{RunsExtract, RunsListing, RunsTask};
-ghost use Rattle.jffs2_image.specs.Compressing.{RunsCompress};
-ghost use Rattle.jffs2_image.specs.ClashRuns.{RunsApart};
-ghost use Rattle.jffs2_image.specs.CutRuns.{RunsCuts};
-ghost use Rattle.jffs2_image.specs.InfoRuns.{RunsInfo};
-ghost use Rattle.jffs2_image.specs.WeakRuns.{HasNotes, RunsWeak};
+ghost use Rattle.jffs2_image.specs.WeakRuns.{HasNotes};
+ghost use Rattle.jffs2_image.specs.Tasks.{RunsAsked, RunsTask, fills, passage, reads};
+ghost use Rattle.jffs2_image.specs.Placing.{SaysOn, telling, tellings, writes};
 ghost use Rattle.jffs2_image.specs.Writes.{GivesText};
 ghost use Rattle.jffs2_image.specs.Runs.{IsSaid, Meets, MeetsCommand, MeetsWhole, RunsCommand, Says, note_after, success_of};
 
-use crate::clashes::run_apart;
-use crate::compressing::run_compress;
-use crate::cuts::run_cuts;
-use crate::damage::run_damage;
 use crate::decompressing::{decompress_into, take_file};
-use crate::diff::run_diff;
-use crate::folders::{Folders, run_extract, run_listing};
+use crate::folders::Folders;
 use crate::host::{Loader, Maker};
-use crate::info::run_info;
 use crate::looking::{cat, check, list, scan};
 use crate::output::Output;
-use crate::weak::{Notes, run_weak};
+use crate::placing::Placer;
+use crate::tasks::run_placed;
+use crate::weak::Notes;
 use crate::writing::{Texts, load_file, write_image};
 use byteorder::{BigEndian, LittleEndian};
 use flashbase::{Sink, put_all};
-use jcommand::{Asked, Options, Outcome, Request, RequestFault, Target, Task, asked};
+use jcommand::{Options, Outcome, Request, RequestFault, Target, asked};
 use jnode::{Endian, Order};
 use jreport::{ProgramFault, fault_lines, note_line};
 use std::alloc::Global;
@@ -438,7 +429,7 @@ pub fn note<E: Sink>(findings: u64, errors: &mut E) -> Outcome
 }
 
 /// Runs a command line that asks for no folder.
-fn run_image<L: Loader, M: Maker, T: Output, E: Sink>(
+pub(crate) fn run_image<L: Loader, M: Maker, T: Output, E: Sink>(
     alloc: Global,
     loader: &mut L,
     maker: &mut M,
@@ -468,7 +459,7 @@ fn run_image<L: Loader, M: Maker, T: Output, E: Sink>(
 }
 
 /// Runs the program on its arguments, of which the first is its own name.
-pub fn run<L: Loader, M: Maker, D: Folders, T: Output, E: Sink>(
+pub fn run<L: Loader, M: Placer, D: Folders, T: Output, E: Sink>(
     alloc: Global,
     loader: &mut L,
     maker: &mut M,
@@ -477,204 +468,47 @@ pub fn run<L: Loader, M: Maker, D: Folders, T: Output, E: Sink>(
     output: &mut T,
     errors: &mut E,
 ) -> Outcome
-    // The words make a request, whose answer goes out, or are answered by a text; or they ask to
-    // fill or to read a folder, for what an image tells of itself, for what stands after a stop of
-    // writing one, to compress one, for what the trees of two images differ in, to decompress one
-    // without nodes that clash, to write one with notes on its weak nodes, or for what the damage
-    // of one costs.
-    ensures { RunsTask (map (λ w. w.now) args.now)
-        (λ command. (ran : RunsCommand (output.new ≡ output.old) (L.told loader.old)
-        (M.held maker.old, M.held maker.new) command (T.taken output.old)
-        (T.given output.new) (T.failures output.old) (T.failures output.new)
-        (Says (errors.new ≡ errors.old) (E.taken errors.old) (E.taken errors.new)
-        (E.failures errors.old) (E.failures errors.new)) result)
-        × (folders.new ≡ folders.old) × BlamesCommand (L.told loader.old) command
-        (loader.new ≡ loader.old) (maker.new ≡ maker.old) (M.names maker.old)
-        (M.names maker.new) (L.failures loader.old) (L.failures loader.new)
-        (M.failures maker.old) (M.failures maker.new) ran.answer)
-        (((output.new ≡ output.old) × (maker.new ≡ maker.old)
-        × RunsExtract (map (λ w. w.now) args.now) (L.told loader.old) (L.failures loader.old)
-        (L.failures loader.new) (D.made folders.old) (D.made folders.new)
-        (E.taken errors.old) (E.taken errors.new) (E.failures errors.old)
-        (E.failures errors.new) result)
-        ⊎ (((loader.new ≡ loader.old) × (maker.new ≡ maker.old)
-        × (D.made folders.new ≡ D.made folders.old)
-        × RunsListing (map (λ w. w.now) args.now) (output.new ≡ output.old)
-        (D.reads folders.old) (T.taken output.old) (T.given output.new)
-        (T.failures output.old) (T.failures output.new)
-        (E.taken errors.old) (E.taken errors.new) (E.failures errors.old)
-        (E.failures errors.new) result)
-        ⊎ (((maker.new ≡ maker.old) × (folders.new ≡ folders.old)
-        × RunsInfo (map (λ w. w.now) args.now)
-        (record {
-          told = L.told loader.old;
-          before = L.failures loader.old;
-          now = L.failures loader.new;
-        }) (output.new ≡ output.old)
-        (record {
-          old = T.taken output.old;
-          new = T.given output.new;
-          before = T.failures output.old;
-          now = T.failures output.new;
-        })
-        (record {
-          old = E.taken errors.old;
-          new = E.taken errors.new;
-          before = E.failures errors.old;
-          now = E.failures errors.new;
-        }) result)
-        ⊎ (((maker.new ≡ maker.old) × (folders.new ≡ folders.old)
-        × RunsCuts (map (λ w. w.now) args.now)
-        (record {
-          told = L.told loader.old;
-          before = L.failures loader.old;
-          now = L.failures loader.new;
-        })
-        (record {
-          old = T.taken output.old;
-          new = T.given output.new;
-          before = T.failures output.old;
-          now = T.failures output.new;
-        })
-        (record {
-          old = E.taken errors.old;
-          new = E.taken errors.new;
-          before = E.failures errors.old;
-          now = E.failures errors.new;
-        }) result)
-        ⊎ (((folders.new ≡ folders.old)
-        × RunsCompress (map (λ w. w.now) args.now)
-        (record {
-          told = L.told loader.old;
-          before = L.failures loader.old;
-          now = L.failures loader.new;
+    // Where nothing is asked for about the file that is written, the words say what is done.
+    ensures plain { let words = map (λ w. w.now) args.now in
+        is_plain (placing_from words) ≡ true
+        → RunsTask words (record {
+          reading = reads L.told L.failures loader.old loader.new;
+          writing = writes (telling M.names M.held M.failures) maker.old maker.new;
+          folders = fills D.made D.reads folders.old folders.new;
+          output = passage T.taken T.given T.failures output.old output.new;
+          errors = passage E.taken E.taken E.failures errors.old errors.new;
         }) (record {
-          names_old = M.names maker.old;
-          names_new = M.names maker.new;
-          held = (M.held maker.old, M.held maker.new);
-          before = M.failures maker.old;
-          now = M.failures maker.new;
-        }) (maker.new ≡ maker.old)
-        (record {
-          old = T.taken output.old;
-          new = T.given output.new;
-          before = T.failures output.old;
-          now = T.failures output.new;
-        })
-        (record {
-          old = E.taken errors.old;
-          new = E.taken errors.new;
-          before = E.failures errors.old;
-          now = E.failures errors.new;
-        }) result)
-        ⊎ (((maker.new ≡ maker.old) × (folders.new ≡ folders.old)
-        × RunsDiff (map (λ w. w.now) args.now)
-        (record {
-          told = L.told loader.old;
-          before = L.failures loader.old;
-          now = L.failures loader.new;
-        }) (output.new ≡ output.old)
-        (record {
-          old = T.taken output.old;
-          new = T.given output.new;
-          before = T.failures output.old;
-          now = T.failures output.new;
-        })
-        (record {
-          old = E.taken errors.old;
-          new = E.taken errors.new;
-          before = E.failures errors.old;
-          now = E.failures errors.new;
-        }) result)
-        ⊎ (((folders.new ≡ folders.old)
-        × RunsApart (map (λ w. w.now) args.now)
-        (record {
-          told = L.told loader.old;
-          before = L.failures loader.old;
-          now = L.failures loader.new;
+          loader = loader.new ≡ loader.old;
+          maker = maker.new ≡ maker.old;
+          folders = folders.new ≡ folders.old;
+          output = output.new ≡ output.old;
+          errors = errors.new ≡ errors.old;
+        }) result }
+    // Else it is filled up, or takes its name when all is written; or the words make no task.
+    ensures placed { let words = map (λ w. w.now) args.now in
+        RunsAsked (tellings (telling M.names M.held M.failures)
+        (telling M.Beside.names M.Beside.held M.Beside.failures))
+        (SaysOn E.taken E.failures)
+        words (λ files same last ended. RunsTask words (record {
+          reading = reads L.told L.failures loader.old loader.new;
+          writing = files;
+          folders = fills D.made D.reads folders.old folders.new;
+          output = passage T.taken T.given T.failures output.old output.new;
+          errors = passage E.taken E.taken E.failures errors.old last;
         }) (record {
-          names_old = M.names maker.old;
-          names_new = M.names maker.new;
-          held = (M.held maker.old, M.held maker.new);
-          before = M.failures maker.old;
-          now = M.failures maker.new;
-        }) (maker.new ≡ maker.old)
-        (record {
-          old = T.taken output.old;
-          new = T.given output.new;
-          before = T.failures output.old;
-          now = T.failures output.new;
-        })
-        (record {
-          old = E.taken errors.old;
-          new = E.taken errors.new;
-          before = E.failures errors.old;
-          now = E.failures errors.new;
-        }) result)
-        ⊎ (((folders.new ≡ folders.old)
-        × RunsWeak (map (λ w. w.now) args.now)
-        (record {
-          told = L.told loader.old;
-          before = L.failures loader.old;
-          now = L.failures loader.new;
-        }) (record {
-          names_old = M.names maker.old;
-          names_new = M.names maker.new;
-          held = (M.held maker.old, M.held maker.new);
-          before = M.failures maker.old;
-          now = M.failures maker.new;
-        }) (maker.new ≡ maker.old)
-        (record {
-          old = T.taken output.old;
-          new = T.given output.new;
-          before = T.failures output.old;
-          now = T.failures output.new;
-        })
-        (record {
-          old = E.taken errors.old;
-          new = E.taken errors.new;
-          before = E.failures errors.old;
-          now = E.failures errors.new;
-        }) result)
-        ⊎ ((maker.new ≡ maker.old) × (folders.new ≡ folders.old)
-        × RunsDamage (map (λ w. w.now) args.now)
-        (record {
-          told = L.told loader.old;
-          before = L.failures loader.old;
-          now = L.failures loader.new;
-        }) (output.new ≡ output.old)
-        (record {
-          old = T.taken output.old;
-          new = T.given output.new;
-          before = T.failures output.old;
-          now = T.failures output.new;
-        })
-        (record {
-          old = E.taken errors.old;
-          new = E.taken errors.new;
-          before = E.failures errors.old;
-          now = E.failures errors.new;
-        }) result))))))))) }
+          loader = loader.new ≡ loader.old;
+          maker = same;
+          folders = folders.new ≡ folders.old;
+          output = output.new ≡ output.old;
+          errors = last ≡ errors.old;
+        }) ended) (maker.old, maker.new) errors.new result }
+    // With `--atomic`, a fault leaves the files of the host as they were.
+    ensures atomic { (placing_from (map (λ w. w.now) args.now)).atomic ≡ true
+        → result ≡ Outcome.Fault → (M.names maker.new ≡ M.names maker.old)
+        × (M.held maker.new ≡ M.held maker.old) }
 {
-    let task = match asked(alloc, args) {
-        Ok(Asked { task, .. }) => Ok(task),
-        Err(fault) => Err(fault),
-    };
-    match task {
-        Ok(Task::Image(request)) => run_image(alloc, loader, maker, Ok(request), output, errors),
-        Ok(Task::Weak(request)) => run_weak(alloc, loader, maker, request, output, errors),
-        Ok(Task::Extract(asked)) => run_extract(alloc, loader, folders, asked, errors),
-        Ok(Task::Listing(asked)) => run_listing(alloc, folders, asked, output, errors),
-        Ok(Task::Info { image }) => run_info(loader, image, output, errors),
-        Ok(Task::Cuts(asked)) => run_cuts(alloc, loader, asked, output, errors),
-        Ok(Task::Compress(asked)) => run_compress(alloc, loader, maker, asked, output, errors),
-        Ok(Task::Diff(asked)) => run_diff(alloc, loader, asked, output, errors),
-        Ok(Task::Apart(asked)) => run_apart(alloc, loader, maker, asked, output, errors),
-        Ok(Task::Damage(asked)) => run_damage(alloc, loader, asked, output, errors),
-        Ok(Task::Pack(_)) => {
-            let fault = RequestFault::OutOfMemory;
-            run_image(alloc, loader, maker, Err(fault), output, errors)
-        }
+    match asked(alloc, args) {
+        Ok(asked) => run_placed(alloc, loader, maker, folders, asked, output, errors),
         Err(fault) => run_image(alloc, loader, maker, Err(fault), output, errors),
     }
 }

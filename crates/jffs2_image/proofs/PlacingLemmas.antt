@@ -1,0 +1,54 @@
+-- A command that ran by a intent.
+use Rattle.std.proofs.Common.{◌≡◌, ℕ, Bool, true, false, List, Some, None, inl, inr, refl, sym, ◌∙◌, ap}
+use Rattle.std.specs.Prelude.{◌⊎◌, ◌&&◌, not}
+use Rattle.jcommand.specs.Parsed.{TaskParsed, is_plain}
+use Rattle.jcommand.specs.declared.outcome.Outcome.{Outcome}
+use Rattle.jcommand.specs.declared.outcome.Outcome.TheVariants as outcome
+use Rattle.jcommand.specs.declared.parsed.Placing.{Placing}
+use Rattle.jffs2_image.specs.Compressing.{FileWrites}
+use Rattle.jffs2_image.specs.Placing.{IsUnplaced, Intent, RunsBeside, RunsFilled, RunsPlaced, TakesName, Telling, Tellings, is_well, intent_of, writes, written_by, if_padded}
+use Rattle.jffs2_image.specs.declared.filling.Filling.{Filling}
+
+both_off : (a b : Bool) → (not a && not b) ≡ true → (a ≡ false) × (b ≡ false)
+both_off true b h = absurd (cc)
+both_off false true h = absurd (cc)
+both_off false false h = (refl, refl)
+
+-- where nothing is asked for, nothing is done
+pub plain_intent : (placing : Placing) (task : TaskParsed) → is_plain placing ≡ true → IsUnplaced (intent_of placing task)
+plain_intent placing task h =
+    let off : (placing.pad ≡ false) × (placing.atomic ≡ false) = both_off placing.pad placing.atomic h in
+    (off.1, ap (λ b. if_padded b (written_by task).1) off.0)
+
+-- where filling is asked for, there is somewhere to fill up to
+pub some_filling : (placing : Placing) (task : TaskParsed) → placing.pad ≡ true → (intent_of placing task).filling ≡ None → ⊥
+some_filling placing task yes none =
+    let is : Some (written_by task).1 ≡ None = sym (ap (λ b. if_padded b (written_by task).1) yes) ∙ none in
+    cc
+
+module _ {M B E : Type 0} (tells : Tellings M B) (Says : E → E → List ℕ → Type 0) (intent : Intent) (Runs : FileWrites → Type 0 → E → Outcome → Type 0) (old new : M) (last : E) (result : Outcome) where
+  pub as_it_is : RunsPlaced tells Says intent Runs (old, new) last result → IsUnplaced intent → Runs (writes tells.real old new) (new ≡ old) last result
+  as_it_is (inl p) plain = p.1
+  as_it_is (inr (inl p)) plain = absurd (p.1 plain.1)
+  as_it_is (inr (inr p)) plain =
+      let yes : intent.atomic ≡ true = p.0 in
+      let no : intent.atomic ≡ false = plain.0 in
+      absurd (cc)
+
+  takes_nothing : (name : List ℕ) (beside files : FileWrites) (errors : E × E) (ended : Outcome) → TakesName Says name beside files errors ended result → result ≡ outcome.Fault → (files.names_new ≡ files.names_old) × (files.held.1 ≡ files.held.0)
+  takes_nothing name beside files errors ended (inl t) fault =
+      let is : ended ≡ outcome.Fault = sym t.4.1 ∙ fault in
+      let well : false ≡ true = sym (ap is_well is) ∙ t.0 in
+      absurd (cc)
+  takes_nothing name beside files errors ended (inr (inl t)) fault = (t.1, t.2)
+  takes_nothing name beside files errors ended (inr (inr t)) fault = (t.1, t.2)
+
+  pub stays : RunsPlaced tells Says intent Runs (old, new) last result → intent.atomic ≡ true → result ≡ outcome.Fault → (tells.real.names new ≡ tells.real.names old) × (tells.real.held new ≡ tells.real.held old)
+  stays (inl p) yes fault =
+      let no : intent.atomic ≡ false = p.0.0 in
+      absurd (cc)
+  stays (inr (inl p)) yes fault =
+      let no : intent.atomic ≡ false = p.0 in
+      absurd (cc)
+  stays (inr (inr p)) yes fault =
+      takes_nothing intent.name (writes tells.beside p.1.first p.1.made) (writes tells.real old new) (p.1.between, last) p.1.ended p.1.takes fault

@@ -1,0 +1,120 @@
+-- What a run of the program does, by the words that it is given.
+use Rattle.std.specs.Prelude.{◌≡◌, ◌⊎◌, ℕ, List, Option, Some, Result}
+use Rattle.jextract.specs.Folders.{Made}
+use Rattle.jfolder.specs.Known.{Known}
+use Rattle.jcommand.specs.Parsed.{IsFaultless, TaskParsed, parsed_from, placing_from}
+use Rattle.jcommand.specs.declared.parsed.Request.{Request}
+use Rattle.jcommand.specs.declared.command_line.RequestFault.{RequestFault}
+use Rattle.jcommand.specs.declared.outcome.Outcome.{Outcome}
+use Rattle.jcuts.specs.Cuts.{SinkChange}
+use Rattle.jffs2_image.specs.ClashRuns.{RunsApart}
+use Rattle.jffs2_image.specs.Compressing.{FileWrites, RunsCompress}
+use Rattle.jffs2_image.specs.CutRuns.{RunsCuts}
+use Rattle.jffs2_image.specs.DamageRuns.{RunsDamage}
+use Rattle.jffs2_image.specs.DiffRuns.{RunsDiff}
+use Rattle.jffs2_image.specs.FolderRuns.{RunsExtract, RunsListing}
+use Rattle.jffs2_image.specs.Host.{BlamesCommand}
+use Rattle.jffs2_image.specs.InfoRuns.{FileReads, Passage, RunsInfo}
+use Rattle.jffs2_image.specs.Placing.{RunsPlaced, Tellings, intent_of, writes}
+use Rattle.jffs2_image.specs.Runs.{IsCommand, RunsCommand, Says}
+use Rattle.jffs2_image.specs.WeakRuns.{RunsWeak}
+
+-- the folders of the host: what is made in the folder of each name, before and after, and what is
+-- known of those that are read
+pub record FolderPassage : Type 0 where
+  pub made_old : List ℕ → Option (List Made)
+  pub made_new : List ℕ → Option (List Made)
+  pub reads : List ℕ → Known
+
+-- all that a run touches, before and after
+pub record Around : Type 0 where
+  pub reading : FileReads
+  pub writing : FileWrites
+  pub folders : FolderPassage
+  pub output : Passage
+  pub errors : Passage
+
+-- for each of them, that it is as it was
+pub record Untouched : Type 1 where
+  pub loader : Type 0
+  pub maker : Type 0
+  pub folders : Type 0
+  pub output : Type 0
+  pub errors : Type 0
+
+-- each of them, of a device
+abbrev pub reads : {L : Type 0} → (L → List ℕ → Option (List ℕ)) → (L → ℕ) → L → L → FileReads
+reads told failures old new =
+    record { told = told old; before = failures old; now = failures new }
+
+abbrev pub fills : {D : Type 0} → (D → List ℕ → Option (List Made)) → (D → List ℕ → Known) → D → D
+    → FolderPassage
+fills made known old new =
+    record { made_old = made old; made_new = made new; reads = known old }
+
+abbrev pub passage : {S : Type 0} → (S → Option (List ℕ)) → (S → Option (List ℕ)) → (S → ℕ) → S → S
+    → Passage
+passage taken given failures old new =
+    record { old = taken old; new = given new; before = failures old; now = failures new }
+
+abbrev pub as_change : Passage → SinkChange
+as_change p = record { old = p.old; new = p.new; before = p.before; now = p.now }
+
+abbrev pub TellsErrors : Type 0 → Passage → Option (List ℕ) → Type 0
+TellsErrors untouched errors said =
+    Says untouched errors.old errors.new errors.before errors.now said
+
+-- A request of an image, or words that make none: what it is answered, and who is to blame.
+pub record RunsImage (args : List (List ℕ)) (a : Around) (same : Untouched) (result : Outcome) :
+    Type 0 where
+  pub command : Result Request RequestFault
+  pub asked : IsCommand args command
+  pub ran : RunsCommand same.output a.reading.told a.writing.held command a.output.old a.output.new
+      a.output.before a.output.now (TellsErrors same.errors a.errors) result
+  pub folders : same.folders
+  pub host : BlamesCommand a.reading.told command same.loader same.maker a.writing.names_old
+      a.writing.names_new a.reading.before a.reading.now a.writing.before a.writing.now ran.answer
+
+abbrev pub ExtractRuns : List (List ℕ) → Around → Outcome → Type 0
+ExtractRuns args a result =
+    RunsExtract args a.reading.told a.reading.before a.reading.now a.folders.made_old
+    a.folders.made_new a.errors.old a.errors.new a.errors.before a.errors.now result
+
+abbrev pub ListingRuns : List (List ℕ) → Around → Untouched → Outcome → Type 0
+ListingRuns args a same result =
+    RunsListing args same.output a.folders.reads a.output.old a.output.new a.output.before
+    a.output.now a.errors.old a.errors.new a.errors.before a.errors.now result
+
+-- The words make a request, whose answer goes out, or are answered by a text; or they ask to fill
+-- or to read a folder, for what an image tells of itself, for what stands after a stop of writing
+-- one, to compress one, for what the trees of two images differ in, to decompress one without nodes
+-- that clash, to write one with notes on its weak nodes, or for what the damage of one costs.
+abbrev pub RunsTask : List (List ℕ) → Around → Untouched → Outcome → Type 0
+RunsTask args a same result =
+    RunsImage args a same result
+    ⊎ same.output × same.maker × ExtractRuns args a result
+    ⊎ same.loader × same.maker × (a.folders.made_new ≡ a.folders.made_old)
+    × ListingRuns args a same result
+    ⊎ same.maker × same.folders × RunsInfo args a.reading same.output a.output a.errors result
+    ⊎ same.maker × same.folders
+    × RunsCuts args a.reading (as_change a.output) (as_change a.errors) result
+    ⊎ same.folders × RunsCompress args a.reading a.writing same.maker a.output a.errors result
+    ⊎ same.maker × same.folders × RunsDiff args a.reading same.output a.output a.errors result
+    ⊎ same.folders × RunsApart args a.reading a.writing same.maker a.output a.errors result
+    ⊎ same.folders × RunsWeak args a.reading a.writing same.maker a.output a.errors result
+    ⊎ same.maker × same.folders × RunsDamage args a.reading same.output a.output a.errors result
+
+-- ---- with what is done about the file that is written
+
+-- the words ask for a task
+abbrev pub Asks : List (List ℕ) → TaskParsed → Type 0
+Asks words task = (parsed_from words ≡ Some task) × IsFaultless words
+
+-- The words ask for a task, which ran as they intend; or for none, and no file is made.
+abbrev pub RunsAsked : {M B E : Type 0} → Tellings M B → (E → E → List ℕ → Type 0) → List (List ℕ)
+    → (FileWrites → Type 0 → E → Outcome → Type 0) → M × M → E → Outcome → Type 0
+RunsAsked tells Says words Runs maker last result =
+    ((task : TaskParsed) × Asks words task
+    × RunsPlaced tells Says (intent_of (placing_from words) task) Runs maker last result)
+    ⊎ (maker.1 ≡ maker.0)
+    × Runs (writes tells.real maker.0 maker.1) (maker.1 ≡ maker.0) last result
