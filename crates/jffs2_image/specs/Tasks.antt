@@ -15,6 +15,7 @@ use Rattle.jffs2_image.specs.DiffRuns.{RunsDiff}
 use Rattle.jffs2_image.specs.FolderRuns.{RunsExtract, RunsListing}
 use Rattle.jffs2_image.specs.Host.{BlamesCommand}
 use Rattle.jffs2_image.specs.InfoRuns.{FileReads, Passage, RunsInfo}
+use Rattle.jffs2_image.specs.PackRuns.{PackAround, RunsPack}
 use Rattle.jffs2_image.specs.Placing.{RunsPlaced, Tellings, intent_of, writes}
 use Rattle.jffs2_image.specs.Runs.{IsCommand, RunsCommand, Says}
 use Rattle.jffs2_image.specs.WeakRuns.{RunsWeak}
@@ -85,10 +86,20 @@ ListingRuns args a same result =
     RunsListing args same.output a.folders.reads a.output.old a.output.new a.output.before
     a.output.now a.errors.old a.errors.new a.errors.before a.errors.now result
 
+-- all but the folders
+abbrev pub pack_around : Around → PackAround
+pack_around a = record {
+  reading = a.reading;
+  writing = a.writing;
+  output = a.output;
+  errors = a.errors;
+}
+
 -- The words make a request, whose answer goes out, or are answered by a text; or they ask to fill
 -- or to read a folder, for what an image tells of itself, for what stands after a stop of writing
 -- one, to compress one, for what the trees of two images differ in, to decompress one without nodes
--- that clash, to write one with notes on its weak nodes, or for what the damage of one costs.
+-- that clash, to write one with notes on its weak nodes, for what the damage of one costs, or to
+-- make one of a folder.
 abbrev pub RunsTask : List (List ℕ) → Around → Untouched → Outcome → Type 0
 RunsTask args a same result =
     RunsImage args a same result
@@ -103,6 +114,8 @@ RunsTask args a same result =
     ⊎ same.folders × RunsApart args a.reading a.writing same.maker a.output a.errors result
     ⊎ same.folders × RunsWeak args a.reading a.writing same.maker a.output a.errors result
     ⊎ same.maker × same.folders × RunsDamage args a.reading same.output a.output a.errors result
+    ⊎ (a.folders.made_new ≡ a.folders.made_old)
+    × RunsPack args same.maker same.output a.folders.reads (pack_around a) result
 
 -- ---- with what is done about the file that is written
 

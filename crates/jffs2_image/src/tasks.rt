@@ -14,11 +14,12 @@ use crate::folders::{Folders, run_extract, run_listing};
 use crate::host::{Loader, Maker};
 use crate::info::run_info;
 use crate::output::Output;
+use crate::packing::run_pack;
 use crate::placing::Placer;
 use crate::program::{report_fault, run_image};
 use crate::weak::run_weak;
 use flashbase::{DeviceFault, Sink};
-use jcommand::{Asked, Options, Outcome, Placing, Request, RequestFault, Task};
+use jcommand::{Asked, Options, Outcome, Placing, Request, Task};
 use jreport::ProgramFault;
 use std::alloc::Global;
 
@@ -188,10 +189,7 @@ fn run_task<'a, L: Loader, M: Maker, D: Folders, T: Output, E: Sink>(
         Task::Diff(asked) => run_diff(alloc, loader, asked, output, errors),
         Task::Apart(asked) => run_apart(alloc, loader, maker, asked, output, errors),
         Task::Damage(asked) => run_damage(alloc, loader, asked, output, errors),
-        Task::Pack(_) => {
-            let fault = RequestFault::OutOfMemory;
-            run_image(alloc, loader, maker, Err(fault), output, errors)
-        }
+        Task::Pack(asked) => run_pack(alloc, loader, maker, folders, asked, output, errors),
     }
 }
 

@@ -1,7 +1,6 @@
-use Rattle.std.proofs.Common.{◌≡◌, ◌∙◌, ap, inl, inr, refl, List, ℕ, Ok, Err, Some}
+use Rattle.std.proofs.Common.{◌≡◌, ◌∙◌, ap, inl, inr, refl, List, ℕ, Ok, Some}
 use Rattle.std.specs.Prelude.{option_map}
-use Rattle.jcommand.specs.Parsed.{task_view, parsed_from}
-use Rattle.jcommand.specs.declared.command_line.RequestFault.TheVariants as refused
+use Rattle.jcommand.specs.Parsed.{packing_view, task_view, parsed_from}
 use Rattle.jcommand.specs.declared.parsed.Task.{Task}
 use Rattle.jcommand.specs.declared.parsed.Task.TheVariants as task
 use Rattle.jffs2_image.specs.Tasks.{Asks}
@@ -141,7 +140,7 @@ returns-in-Weak g c = λ words asks.
 
 pub returns-in-Damage : goal.returns-in-Damage
 returns-in-Damage g c = λ words asks.
-    inr (inr (inr (inr (inr (inr (inr (inr (inr ((
+    inr (inr (inr (inr (inr (inr (inr (inr (inr (inl ((
       refl,
       refl,
       record {
@@ -151,14 +150,16 @@ returns-in-Damage g c = λ words asks.
         faultless = asks.1;
         ends = c.run_damage.ensures;
       },
-    ))))))))))
+    )))))))))))
 
 pub returns-in-Pack : goal.returns-in-Pack
 returns-in-Pack g c = λ words asks.
-    inl (record {
-      command = Err refused.OutOfMemory;
-      asked = tt;
-      ran = c.run_image-in-Pack.ensures.0;
-      folders = refl;
-      host = c.run_image-in-Pack.ensures.1;
-    })
+    inr (inr (inr (inr (inr (inr (inr (inr (inr (inr ((
+      c.run_pack.ensures.made,
+      record {
+        asked = packing_view c.in-Pack.asked;
+        parsed = parsed_as words c.args.task (task.Pack c.in-Pack.asked) asks c.in-Pack.is;
+        faultless = asks.1;
+        ends = c.run_pack.ensures.ends;
+      },
+    )))))))))))
