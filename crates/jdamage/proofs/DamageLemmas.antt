@@ -25,7 +25,7 @@ use Rattle.jdamage.specs.Fields.{damaged_nodes, stretch_at, stretches}
 use Rattle.jdamage.specs.Lines.{hides_line, no_path_line, nothing_line, totals_shown}
 use Rattle.jdamage.specs.Groups.{group_of}
 use Rattle.jdamage.specs.Telling.{Kept, PushesHurt, is_kept, own_paths, own_text, path_text_if}
-use Rattle.jdamage.specs.Ways.{NameOf, name_held, names_to, path_if, path_through, paths_to, root_paths}
+use Rattle.jdamage.specs.Ways.{NameOf, name_held, names_for, path_if, path_to_name, paths_to, root_paths}
 use Rattle.jdamage.specs.declared.fields.Stretch.{Stretch}
 use Rattle.jdamage.specs.declared.totals.Totals.{Totals}
 use Rattle.jdamage.proofs.CoverageLemmas.{hidden_kept}
@@ -73,82 +73,82 @@ each_more {X} P xs i e less before here k d below = by (nat_lt k i) refl
 -- ---- one more name
 
 pub name_more : (s : State) (addr : ℕ) (lost : Stretch) (n : NameOf) (left rest : List NameOf) (whole here after : List ℕ) → left ≡ n ∷ rest
-    → here ++ flat_map (hides_line addr lost) (filter_map (path_through s) left) ≡ whole → after ≡ here ++ path_text_if addr lost (path_through s n)
-    → after ++ flat_map (hides_line addr lost) (filter_map (path_through s) rest) ≡ whole
+    → here ++ flat_map (hides_line addr lost) (filter_map (path_to_name s) left) ≡ whole → after ≡ here ++ path_text_if addr lost (path_to_name s n)
+    → after ++ flat_map (hides_line addr lost) (filter_map (path_to_name s) rest) ≡ whole
 name_more s addr lost n left rest whole here after is so_far more =
     let f = hides_line addr lost in
-    let h = path_through s in
+    let h = path_to_name s in
     ap (λ (l : List ℕ). l ++ flat_map f (filter_map h rest)) more ∙ append_assoc here (path_text_if addr lost (h n)) (flat_map f (filter_map h rest))
     ∙ ap (λ (l : List ℕ). here ++ l) (one (h n))
     ∙ ap (λ (l : List NameOf). here ++ flat_map f (filter_map h l)) (sym is) ∙ so_far
   where
-    one : (o : Option (List (List ℕ))) → path_text_if addr lost o ++ flat_map (hides_line addr lost) (filter_map (path_through s) rest)
-        ≡ flat_map (hides_line addr lost) (cons_option o (filter_map (path_through s) rest))
+    one : (o : Option (List (List ℕ))) → path_text_if addr lost o ++ flat_map (hides_line addr lost) (filter_map (path_to_name s) rest)
+        ≡ flat_map (hides_line addr lost) (cons_option o (filter_map (path_to_name s) rest))
     one None = refl
-    one (Some path) = sym (flat_map-cons (hides_line addr lost) path (filter_map (path_through s) rest))
+    one (Some path) = sym (flat_map-cons (hides_line addr lost) path (filter_map (path_to_name s) rest))
 
 pub told_more : (s : State) (n : NameOf) (left rest : List NameOf) (whole most here after : ℕ) (told : Bool) → left ≡ n ∷ rest
-    → min (here + length (filter_map (path_through s) left)) most ≡ min whole most → told ≡ is_some (path_through s n)
+    → min (here + length (filter_map (path_to_name s) left)) most ≡ min whole most → told ≡ is_some (path_to_name s n)
     → after ≡ min (here + (if told then 1 else 0)) most
-    → min (after + length (filter_map (path_through s) rest)) most ≡ min whole most
+    → min (after + length (filter_map (path_to_name s) rest)) most ≡ min whole most
 told_more s n left rest whole most here after told is so_far so more =
-    let first : length (filter_map (path_through s) left) ≡ (if told then 1 else 0) + length (filter_map (path_through s) rest) =
-    ap (λ (l : List NameOf). length (filter_map (path_through s) l)) is ∙ one (path_through s n) ∙ ap (λ (b : Bool). (if b then 1 else 0) + length (filter_map (path_through s) rest)) (sym so) in
+    let first : length (filter_map (path_to_name s) left) ≡ (if told then 1 else 0) + length (filter_map (path_to_name s) rest) =
+    ap (λ (l : List NameOf). length (filter_map (path_to_name s) l)) is ∙ one (path_to_name s n) ∙ ap (λ (b : Bool). (if b then 1 else 0) + length (filter_map (path_to_name s) rest)) (sym so) in
     omega (arith, first, more, so_far)
   where
-    one : (o : Option (List (List ℕ))) → length (cons_option o (filter_map (path_through s) rest)) ≡ (if is_some o then 1 else 0) + length (filter_map (path_through s) rest)
+    one : (o : Option (List (List ℕ))) → length (cons_option o (filter_map (path_to_name s) rest)) ≡ (if is_some o then 1 else 0) + length (filter_map (path_to_name s) rest)
     one None = omega arith
     one (Some path) = omega arith
 
 -- ---- no name yet
 
 -- the paths of the names that stand for a number
-pub paths_of_named : (s : State) (i : ℕ) → filter_map (path_through s) (names_to s i) ≡ filter_map (path_if s i) (all_entries s)
-unfolding names_to
+pub paths_of_named : (s : State) (i : ℕ) → filter_map (path_to_name s) (names_for s i) ≡ filter_map (path_if s i) (all_entries s)
+unfolding names_for
 paths_of_named s i = each (all_entries s)
   where
-    each : (xs : List NameOf) → filter_map (path_through s) (filter (λ n. n.2 == i) xs) ≡ filter_map (path_if s i) xs
+    each : (xs : List NameOf) → filter_map (path_to_name s) (filter (λ n. n.2 == i) xs) ≡ filter_map (path_if s i) xs
     each [] = refl
     each (n ∷ xs) = by (n.2 == i) (each xs)
       where
-        by : (b : Bool) → filter_map (path_through s) (filter (λ n. n.2 == i) xs) ≡ filter_map (path_if s i) xs
-            → filter_map (path_through s) (cond b (n ∷ filter (λ n. n.2 == i) xs) (filter (λ n. n.2 == i) xs)) ≡ cons_option (cond b (path_through s n) None) (filter_map (path_if s i) xs)
-        by true rest = ap (cons_option (path_through s n)) rest
+        by : (b : Bool) → filter_map (path_to_name s) (filter (λ n. n.2 == i) xs) ≡ filter_map (path_if s i) xs
+            → filter_map (path_to_name s) (cond b (n ∷ filter (λ n. n.2 == i) xs) (filter (λ n. n.2 == i) xs)) ≡ cons_option (cond b (path_to_name s n) None) (filter_map (path_if s i) xs)
+        by true rest = ap (cons_option (path_to_name s n)) rest
         by false rest = rest
 
-pub names_begin : (s : State) (addr : ℕ) (lost : Stretch) (left : List NameOf) (old here : List ℕ) → left ≡ names_to s lost.ino
+pub names_begin : (s : State) (addr : ℕ) (lost : Stretch) (left : List NameOf) (old here : List ℕ) → left ≡ names_for s lost.ino
     → here ≡ old ++ flat_map (hides_line addr lost) (root_paths lost.ino)
-    → here ++ flat_map (hides_line addr lost) (filter_map (path_through s) left) ≡ old ++ flat_map (hides_line addr lost) (paths_to s lost.ino)
+    → here ++ flat_map (hides_line addr lost) (filter_map (path_to_name s) left) ≡ old ++ flat_map (hides_line addr lost) (paths_to s lost.ino)
 names_begin s addr lost left old here all root =
     let f = hides_line addr lost in
     let rest = filter_map (path_if s lost.ino) (all_entries s) in
-    ap (λ (l : List NameOf). here ++ flat_map f (filter_map (path_through s) l)) all ∙ ap (λ (l : List (List (List ℕ))). here ++ flat_map f l) (paths_of_named s lost.ino)
+    ap (λ (l : List NameOf). here ++ flat_map f (filter_map (path_to_name s) l)) all ∙ ap (λ (l : List (List (List ℕ))). here ++ flat_map f l) (paths_of_named s lost.ino)
     ∙ ap (λ (l : List ℕ). l ++ flat_map f rest) root
     ∙ append_assoc old (flat_map f (root_paths lost.ino)) (flat_map f rest) ∙ ap (λ (l : List ℕ). old ++ l) (sym (flat_map-append f (root_paths lost.ino) rest))
 
-pub count_begin : (s : State) (i : ℕ) (left : List NameOf) (count most : ℕ) → left ≡ names_to s i → count ≡ length (root_paths i)
-    → min (count + length (filter_map (path_through s) left)) most ≡ min (length (paths_to s i)) most
+pub count_begin : (s : State) (i : ℕ) (left : List NameOf) (count most : ℕ) → left ≡ names_for s i → count ≡ length (root_paths i)
+    → min (count + length (filter_map (path_to_name s) left)) most ≡ min (length (paths_to s i)) most
 count_begin s i left count most all root =
     let whole : length (paths_to s i) ≡ length (root_paths i) + length (filter_map (path_if s i) (all_entries s)) = length-append (root_paths i) (filter_map (path_if s i) (all_entries s)) in
-    let same : length (filter_map (path_through s) left) ≡ length (filter_map (path_if s i) (all_entries s)) =
-    ap (λ (l : List NameOf). length (filter_map (path_through s) l)) all ∙ ap (λ (l : List (List (List ℕ))). length l) (paths_of_named s i) in
+    let same : length (filter_map (path_to_name s) left) ≡ length (filter_map (path_if s i) (all_entries s)) =
+    ap (λ (l : List NameOf). length (filter_map (path_to_name s) l)) all ∙ ap (λ (l : List (List (List ℕ))). length l) (paths_of_named s i) in
     omega (arith, whole, same, root)
 
 -- ---- all of them
 
 module _ (s : State) (addr : ℕ) (lost : Stretch) where
-  ended_text : (left : List NameOf) (here whole : List ℕ) → left ≡ [] → here ++ flat_map (hides_line addr lost) (filter_map (path_through s) left) ≡ whole → here ≡ whole
+  ended_text : (left : List NameOf) (here whole : List ℕ) → left ≡ [] → here ++ flat_map (hides_line addr lost) (filter_map (path_to_name s) left) ≡ whole → here ≡ whole
   ended_text left here whole is so_far =
-      sym (append-nil here) ∙ ap (λ (l : List NameOf). here ++ flat_map (hides_line addr lost) (filter_map (path_through s) l)) (sym is) ∙ so_far
+      sym (append-nil here) ∙ ap (λ (l : List NameOf). here ++ flat_map (hides_line addr lost) (filter_map (path_to_name s) l)) (sym is) ∙ so_far
 
-  ended_count : (left : List NameOf) (count most n : ℕ) → left ≡ [] → min (count + length (filter_map (path_through s) left)) most ≡ n → min count most ≡ n
+  ended_count : (left : List NameOf) (count most n : ℕ) → left ≡ [] → min (count + length (filter_map (path_to_name s) left)) most ≡ n → min count most ≡ n
   ended_count left count most n is so_far =
-      let none : length (filter_map (path_through s) left) ≡ 0 = ap (λ (l : List NameOf). length (filter_map (path_through s) l)) is in
+      let none : length (filter_map (path_to_name s) left) ≡ 0 = ap (λ (l : List NameOf). length (filter_map (path_to_name s) l)) is in
       omega (arith, none, so_far)
 
   pub no_paths : (paths : List (List (List ℕ))) (left : List NameOf) (old here after : List ℕ) (count : ℕ) → left ≡ []
-      → here ++ flat_map (hides_line addr lost) (filter_map (path_through s) left) ≡ old ++ flat_map (hides_line addr lost) paths
-      → min (count + length (filter_map (path_through s) left)) (2 ^ 64 - 1) ≡ min (length paths) (2 ^ 64 - 1)
+      → here ++ flat_map (hides_line addr lost) (filter_map (path_to_name s) left) ≡ old ++ flat_map (hides_line addr lost) paths
+      → min (count + length (filter_map (path_to_name s) left)) (2 ^ 64 - 1) ≡ min (length paths) (2 ^ 64 - 1)
       → count ≡ 0 → after ≡ here ++ no_path_line addr lost → PushesHurt addr lost paths old after 0
   no_paths [] left old here after count is text counted none more = record {
     text = more ∙ ap (λ (l : List ℕ). l ++ no_path_line addr lost) (ended_text left here (old ++ []) is text ∙ append-nil old);
@@ -159,8 +159,8 @@ module _ (s : State) (addr : ℕ) (lost : Stretch) where
       absurd (omega (arith, all, none))
 
   pub some_paths : (paths : List (List (List ℕ))) (left : List NameOf) (old here : List ℕ) (count : ℕ) → left ≡ []
-      → here ++ flat_map (hides_line addr lost) (filter_map (path_through s) left) ≡ old ++ flat_map (hides_line addr lost) paths
-      → min (count + length (filter_map (path_through s) left)) (2 ^ 64 - 1) ≡ min (length paths) (2 ^ 64 - 1)
+      → here ++ flat_map (hides_line addr lost) (filter_map (path_to_name s) left) ≡ old ++ flat_map (hides_line addr lost) paths
+      → min (count + length (filter_map (path_to_name s) left)) (2 ^ 64 - 1) ≡ min (length paths) (2 ^ 64 - 1)
       → count ≢ 0 → count ≤ 2 ^ 64 - 1 → PushesHurt addr lost paths old here count
   some_paths [] left old here count is text counted some most =
       let all = ended_count left count (2 ^ 64 - 1) _ is counted in

@@ -9,7 +9,7 @@ use Rattle.std.proofs.lemmas.Bool.Decides.{nat_tests}
 use Rattle.std.proofs.lemmas.List.{drop_all, map-append, reverse-append}
 use Rattle.jmount.specs.Tree.{State, all_entries, is_directory}
 use Rattle.jdamage.specs.Groups.{group_of}
-use Rattle.jdamage.specs.Ways.{NameOf, climbed, first_name, name_held, names_to}
+use Rattle.jdamage.specs.Ways.{NameOf, climbed, first_name, name_held, names_for}
 use Rattle.jdamage.proofs.GroupLemmas.{no_group}
 
 -- a step, by what is met
@@ -74,15 +74,15 @@ abbrev pub HeldName : Type 0
 HeldName = ℕ × Bor (List ℕ) × ℕ
 
 pub named_begin : (s : State) (groups : BTreeMap ℕ (Vec HeldName Global)) (left : List NameOf) → groups.entries ≡ [] → left ≡ all_entries s
-    → (i : ℕ) → map name_held (group_of groups i) ++ filter (λ n. n.2 == i) left ≡ names_to s i
-unfolding names_to
+    → (i : ℕ) → map name_held (group_of groups i) ++ filter (λ n. n.2 == i) left ≡ names_for s i
+unfolding names_for
 named_begin s groups left none all i =
     ap (λ (l : List HeldName). map name_held l ++ filter (λ n. n.2 == i) left) (no_group groups none i) ∙ ap (filter (λ n. n.2 == i)) all
 
 pub one_named : (s : State) (old new : BTreeMap ℕ (Vec HeldName Global)) (n : HeldName) (left rest : List NameOf) → left ≡ name_held n ∷ rest
     → ((i : ℕ) → group_of new i ≡ group_of old i ++ cond (n.2 == i) (n ∷ []) [])
-    → ((i : ℕ) → map name_held (group_of old i) ++ filter (λ x. x.2 == i) left ≡ names_to s i)
-    → (i : ℕ) → map name_held (group_of new i) ++ filter (λ x. x.2 == i) rest ≡ names_to s i
+    → ((i : ℕ) → map name_held (group_of old i) ++ filter (λ x. x.2 == i) left ≡ names_for s i)
+    → (i : ℕ) → map name_held (group_of new i) ++ filter (λ x. x.2 == i) rest ≡ names_for s i
 one_named s old new n left rest is added so_far i =
     let here = map name_held (group_of old i) in
     let after = filter (λ (x : NameOf). x.2 == i) rest in
@@ -97,13 +97,13 @@ one_named s old new n left rest is added so_far i =
     one false = refl
 
 pub all_named : (s : State) (groups : BTreeMap ℕ (Vec HeldName Global)) (left : List NameOf) → left ≡ []
-    → ((i : ℕ) → map name_held (group_of groups i) ++ filter (λ x. x.2 == i) left ≡ names_to s i) → (i : ℕ) → map name_held (group_of groups i) ≡ names_to s i
+    → ((i : ℕ) → map name_held (group_of groups i) ++ filter (λ x. x.2 == i) left ≡ names_for s i) → (i : ℕ) → map name_held (group_of groups i) ≡ names_for s i
 all_named s groups left is so_far i =
     sym (append-nil (map name_held (group_of groups i)))
     ∙ ap (λ (l : List NameOf). map name_held (group_of groups i) ++ filter (λ (x : NameOf). x.2 == i) l) (sym is) ∙ so_far i
 
-pub first_of_named : (s : State) (i : ℕ) (held : List HeldName) → map name_held held ≡ names_to s i → option_map name_held (slice_get held 0) ≡ first_name s i
-unfolding names_to first_name
+pub first_of_named : (s : State) (i : ℕ) (held : List HeldName) → map name_held held ≡ names_for s i → option_map name_held (slice_get held 0) ≡ first_name s i
+unfolding names_for first_name
 first_of_named s i held is = first held ∙ ap (λ (l : List NameOf). slice_get l 0) is ∙ found (all_entries s)
   where
     first : (xs : List HeldName) → option_map name_held (slice_get xs 0) ≡ slice_get (map name_held xs) 0

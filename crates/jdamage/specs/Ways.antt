@@ -29,20 +29,20 @@ abbrev pub steps_at_most : State → ℕ
 steps_at_most s = min (length (all_entries s)) (2 ^ 32) + 1
 
 -- the names that stand for a number, in the same order
-unfoldable pub names_to : State → ℕ → List NameOf
-names_to s i = filter (λ n. n.2 == i) (all_entries s)
+unfoldable pub names_for : State → ℕ → List NameOf
+names_for s i = filter (λ n. n.2 == i) (all_entries s)
 
 -- these names, below a directory, as a path
 abbrev pub path_below : State → ℕ → List (List ℕ) → Option (List (List ℕ))
 path_below s dir names = climbed s (steps_at_most s) dir names
 
 -- the path of a name
-abbrev pub path_through : State → NameOf → Option (List (List ℕ))
-path_through s n = path_below s n.0 (n.1 ∷ [])
+abbrev pub path_to_name : State → NameOf → Option (List (List ℕ))
+path_to_name s n = path_below s n.0 (n.1 ∷ [])
 
 -- the same, where it stands for this number
 abbrev pub path_if : State → ℕ → NameOf → Option (List (List ℕ))
-path_if s i n = if n.2 == i then path_through s n else None
+path_if s i n = if n.2 == i then path_to_name s n else None
 
 -- the root's path has no names
 abbrev pub root_paths : ℕ → List (List (List ℕ))
@@ -62,4 +62,4 @@ name_held n = (n.0, n.1.now, n.2)
 
 -- each number has its names
 abbrev pub AreNamed : State → BTreeMap ℕ (Vec (ℕ × Bor (List ℕ) × ℕ) Global) → Type 0
-AreNamed s names = (i : ℕ) → map name_held (group_of names i) ≡ names_to s i
+AreNamed s names = (i : ℕ) → map name_held (group_of names i) ≡ names_for s i

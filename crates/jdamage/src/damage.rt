@@ -141,8 +141,8 @@ fn push_all<E: Order>(
 /// address, which paths it hides, that it hides nothing, or that what it said is not known; then a
 /// line for each name whose object is missing, and the totals, which are the answer. A damaged node
 /// hides nothing where the object is the same whatever it said. The image was mounted in `E`'s
-/// order and with this geometry. Takes memory for the text, for the damaged nodes and the sound ones
-/// of their objects, and for an index of the names.
+/// order and with this geometry. Takes memory for the text, for the damaged nodes, for the sound
+/// ones of their objects, and for an index of the names.
 ///
 /// # Errors
 /// `OutOfMemory`, and nothing was put. `Output`: the sink failed, and took a beginning.

@@ -6,7 +6,7 @@ ghost use Rattle.jdamage.specs.Damage.{data_text, hurt_paths, missing_text, size
 ghost use Rattle.std.specs.List.{flat_map};
 ghost use Rattle.jdamage.specs.Lines.{hides_line, loss_line};
 ghost use Rattle.jdamage.specs.Telling.{PushesHurt, PushesPath, own_paths, own_text};
-ghost use Rattle.jdamage.specs.Ways.{path_below, path_through, paths_to, root_paths};
+ghost use Rattle.jdamage.specs.Ways.{path_below, path_to_name, paths_to, root_paths};
 
 use crate::coverage::hides_nothing;
 use crate::fields::{Loss, Stretch, loss_at, stretch_at};
@@ -42,8 +42,8 @@ fn push_name<'m>(
     text: &mut Text,
 ) -> Result<bool, AllocError>
     ensures { IfOk result (λ told. PushesPath addr lost.now
-        (path_through ways.now.mounted.now.state (pino, name.now, lost.now.ino)) text.old
-        text.new told) }
+        (path_to_name ways.now.mounted.now.state (pino, name.now, lost.now.ino))
+        text.old text.new told) }
 {
     let Some(path) = ways.name_path(alloc, pino, name)? else {
         return Ok(false);

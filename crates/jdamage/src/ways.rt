@@ -2,7 +2,7 @@
 
 ghost use Rattle.std.specs.Prelude.{◌≡◌, ◌∷◌, [], IfOk, map, option_map, reverse};
 ghost use Rattle.jmount.specs.Tree as tree;
-ghost use Rattle.jdamage.specs.Ways.{AreNamed, first_name, name_held, names_to, names_held, path_below, steps_at_most};
+ghost use Rattle.jdamage.specs.Ways.{AreNamed, first_name, name_held, names_for, names_held, path_below, steps_at_most};
 
 use crate::groups::{Groups, add, group};
 use jmount::{Kind, Mounted};
@@ -73,7 +73,7 @@ impl<'m, 'a> Ways<'m, 'a> {
 
     /// The names that stand for a number.
     pub(crate) fn named(&self, ino: u32) -> &[Name<'m>]
-        ensures { map name_held result.now ≡ names_to self.now.mounted.now.state ino }
+        ensures { map name_held result.now ≡ names_for self.now.mounted.now.state ino }
     {
         group(&self.names, ino)
     }

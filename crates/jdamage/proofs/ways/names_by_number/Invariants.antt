@@ -1,12 +1,12 @@
 use Rattle.std.proofs.Common.{◌≡◌, ℕ, ◌++◌}
 use Rattle.std.specs.Prelude.{◌==◌, filter, map}
 use Rattle.jdamage.specs.Groups.{group_of}
-use Rattle.jdamage.specs.Ways.{name_held, names_to}
+use Rattle.jdamage.specs.Ways.{name_held, names_for}
 use Rattle.jdamage.proofs.ways.names_by_number.Given as goal
 
 abbrev pub invariant-loop-name : goal.invariant-loop-name
 invariant-loop-name l = record {
   can : (goal.iterator-loop-name).can_next l.name-iterator;
   finite : (goal.iterator-loop-name).is_finite l.name-iterator;
-  so_far : (i : ℕ) → map name_held (group_of l.names i) ++ filter (λ n. n.2 == i) l.name-iterator ≡ names_to l.mounted.state i;
+  so_far : (i : ℕ) → map name_held (group_of l.names i) ++ filter (λ n. n.2 == i) l.name-iterator ≡ names_for l.mounted.state i;
 }
