@@ -27,7 +27,7 @@ todo_alone : (name : List ℕ) (i : ℕ) (s : State) → Make (name ∷ []) i �
 todo_alone name i s = ap (λ (l : List (List ℕ × ℕ)). tasks_of [] l ++ Complete [] 1 ∷ []) (sym (entries_alone name i s))
 
 pub fills_alone : (s : State) (owners : Bool) (name : List ℕ) (i : ℕ) (firsts_then : FirstPaths) (old mid new : Sight) (done : Bool)
-    → Visits (part_alone name i s) owners root_alone firsts_then (name ∷ []) i old mid (Ok false) → Completes (part_alone name i s) owners [] 1 mid new (Ok done)
+    → Visits (part_alone name i s) owners root_alone firsts_then (Make (name ∷ []) i) old mid (Ok false) → Completes (part_alone name i s) owners [] 1 mid new (Ok done)
     → Fills (part_alone name i s) owners old new (Ok new.totals)
 fills_alone s owners name i firsts_then old mid new done visits completes =
     let p = part_alone name i s in
@@ -60,7 +60,7 @@ stops_alone s owners name i firsts old new t u f are stop =
 
 -- it stopped behind the object
 pub stops_behind : (s : State) (owners : Bool) (name : List ℕ) (i : ℕ) (firsts firsts_then : FirstPaths) (old mid new : Sight) (f : ExtractFault)
-    → Visits (part_alone name i s) owners firsts firsts_then (name ∷ []) i old mid (Ok false) → Completes (part_alone name i s) owners [] 1 mid new (Err f)
+    → Visits (part_alone name i s) owners firsts firsts_then (Make (name ∷ []) i) old mid (Ok false) → Completes (part_alone name i s) owners [] 1 mid new (Err f)
     → StopsBy (part_alone name i s) owners firsts (Make (name ∷ []) i ∷ Complete [] 1 ∷ []) old new f
 stops_behind s owners name i firsts firsts_then old mid new f visits completes =
     stops_later (part_alone name i s) owners firsts firsts_then (Make (name ∷ []) i ∷ Complete [] 1 ∷ []) (Complete [] 1 ∷ []) visits.0 old mid new f visits.1 (visits.2 (Complete [] 1 ∷ []))

@@ -13,7 +13,7 @@ use Rattle.flashbase.specs.Device.{PutsPart, next_count}
 use Rattle.flashbase.proofs.DeviceLemmas.{part_behind}
 use Rattle.jmount.specs.Tree.{State, entries_in}
 use Rattle.jextract.specs.Extracts.{AreTreeOutcomes, Extracts, DoesPart}
-use Rattle.jextract.specs.Folders.{Failures, Made, ReportsMore, refused_once}
+use Rattle.jextract.specs.Folders.{Failures, FolderChange, Made, NotesChange, ReportsMore, refused_once}
 use Rattle.jextract.specs.Making.{firsts_of}
 use Rattle.jextract.specs.Outcomes.{Task, Outcome, FirstPaths, AreOutcomes, AreFirstOutcomes, all_lines, all_made, root_made, failures_after, is_refusal, outcome_line, root_alone, tasks_in, tasks_of, Complete}
 use Rattle.jname.specs.Live.{Key}
@@ -127,30 +127,35 @@ reaches_fault s part owners w old now next f far stop =
 
 -- ---- the folder was made, and then the tree in it
 
-part_made : (s : State) (owners : Bool) (a b c : Option (List Made)) (told new_told : Option (List ℕ)) (outcomes : List Outcome) → ReportsMore a b (root_made ∷ [])
-    → AreFirstOutcomes s owners root_alone (tasks_in s [] 1) outcomes → ReportsMore b c (flat_map (λ o. o.deeds) outcomes) → PutsPart told new_told (all_lines outcomes)
-    → DoesPart s owners a c told new_told
-part_made s owners a b c told new_told outcomes first are adds part =
-    (outcomes, are, (length (all_made outcomes), subst (ReportsMore a c) (sym (take_whole (all_made outcomes))) (ReportsMore-trans a b c (root_made ∷ []) (flat_map (λ o. o.deeds) outcomes) first adds)), part)
+part_made : (s : State) (owners : Bool) (folder : FolderChange) (notes : NotesChange) (made : Option (List Made)) (outcomes : List Outcome) → ReportsMore folder.old made (root_made ∷ [])
+    → AreFirstOutcomes s owners root_alone (tasks_in s [] 1) outcomes → ReportsMore made folder.new (flat_map (λ o. o.deeds) outcomes) → PutsPart notes.old notes.new (all_lines outcomes)
+    → DoesPart s owners folder notes
+part_made s owners folder notes made outcomes first are adds part = (
+  outcomes,
+  are,
+  (length (all_made outcomes), subst (ReportsMore folder.old folder.new) (sym (take_whole (all_made outcomes))) (ReportsMore-trans folder.old made folder.new (root_made ∷ []) (flat_map (λ o. o.deeds) outcomes) first adds)),
+  part,
+)
   where
     take_whole : (xs : List Made) → take (length xs) xs ≡ xs
     take_whole xs = grind (arith, common_steps)
 
 -- the folder was not made
-pub not_made : (s : State) (owners : Bool) (a b : Option (List Made)) (told : Option (List ℕ)) → ReportsMore a b [] → DoesPart s owners a b told told
-not_made s owners a b told adds = ([], tt {0}, (0, adds), (0, Appends-nil told))
+pub not_made : (s : State) (owners : Bool) (folder : FolderChange) (told : Option (List ℕ)) (count : ℕ) → ReportsMore folder.old folder.new []
+    → DoesPart s owners folder (record { old = told; new = told; before = count; now = count })
+not_made s owners folder told count adds = ([], tt {0}, (0, adds), (0, Appends-nil told))
 
-pub extracts : (s : State) (owners : Bool) (a b c : Option (List Made)) (before mid now : Failures) (told new_told : Option (List ℕ)) (told_before told_now : ℕ) (r : Result Totals ExtractFault)
-    → ReportsMore a b (root_made ∷ []) → mid ≡ before
-    → Fills s owners (record { made = b; failures = mid; told = told; told_failures = told_before; totals = no_totals })
-    (record { made = c; failures = now; told = new_told; told_failures = told_now; totals = no_totals }) r
-    → Extracts s owners a c before now told new_told told_before told_now r
-extracts s owners a b c before mid now told new_told told_before told_now (Ok n) first same fills =
+pub extracts : (s : State) (owners : Bool) (folder : FolderChange) (notes : NotesChange) (made : Option (List Made)) (mid : Failures) (r : Result Totals ExtractFault)
+    → ReportsMore folder.old made (root_made ∷ []) → mid ≡ folder.before
+    → Fills s owners (record { made = made; failures = mid; told = notes.old; told_failures = notes.before; totals = no_totals })
+    (record { made = folder.new; failures = folder.now; told = notes.new; told_failures = notes.now; totals = no_totals }) r
+    → Extracts s owners folder notes r
+extracts s owners folder notes made mid (Ok n) first same fills =
     let outcomes = fills.0 in
     let had = fills.2 in (
       outcomes,
       fills.1,
-      ReportsMore-trans a b c (root_made ∷ []) (flat_map (λ o. o.deeds) outcomes) first had.0,
+      ReportsMore-trans folder.old made folder.new (root_made ∷ []) (flat_map (λ o. o.deeds) outcomes) first had.0,
       had.1 ∙ ap (λ k. failures_after k outcomes) same,
       had.2,
       had.3,
@@ -161,13 +166,13 @@ extracts s owners a b c before mid now told new_told told_before told_now (Ok n)
   where
     from_zero : (k : ℕ) → counted_up 0 k ≡ min k (2 ^ 64 - 1)
     from_zero k = grind (arith, common_steps, nat_tests)
-extracts s owners a b c before mid now told new_told told_before told_now (Err fault.Folder) first same fills = absurd fills
-extracts s owners a b c before mid now told new_told told_before told_now (Err fault.Notes) first same fills =
-    (part_made s owners a b c told new_told fills.0.0 first fills.0.1 fills.0.2 fills.0.3, fills.1, fills.2 ∙ ap (λ (f : Failures). f.full) same)
-extracts s owners a b c before mid now told new_told told_before told_now (Err fault.NoSpace) first same fills =
-    (part_made s owners a b c told new_told fills.0.0 first fills.0.1 fills.0.2 fills.0.3, fills.1, fills.2 ∙ ap (λ (f : Failures). next_count f.full) same)
-extracts s owners a b c before mid now told new_told told_before told_now (Err fault.OutOfMemory) first same fills =
-    (part_made s owners a b c told new_told fills.0.0 first fills.0.1 fills.0.2 fills.0.3, fills.1, fills.2 ∙ ap (λ (f : Failures). f.full) same)
+extracts s owners folder notes made mid (Err fault.Folder) first same fills = absurd fills
+extracts s owners folder notes made mid (Err fault.Notes) first same fills =
+    (part_made s owners folder notes made fills.0.0 first fills.0.1 fills.0.2 fills.0.3, fills.1, fills.2 ∙ ap (λ (f : Failures). f.full) same)
+extracts s owners folder notes made mid (Err fault.NoSpace) first same fills =
+    (part_made s owners folder notes made fills.0.0 first fills.0.1 fills.0.2 fills.0.3, fills.1, fills.2 ∙ ap (λ (f : Failures). next_count f.full) same)
+extracts s owners folder notes made mid (Err fault.OutOfMemory) first same fills =
+    (part_made s owners folder notes made fills.0.0 first fills.0.1 fills.0.2 fills.0.3, fills.1, fills.2 ∙ ap (λ (f : Failures). f.full) same)
 
 -- ---- the walk from its start
 

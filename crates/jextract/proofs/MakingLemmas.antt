@@ -17,7 +17,7 @@ use Rattle.jmount.specs.Shown.{readable, shown}
 use Rattle.jmount.specs.declared.object.Object.{Object}
 use Rattle.jmount.specs.declared.object.Kind.{Kind}
 use Rattle.jmount.specs.declared.object.Kind.TheVariants as k
-use Rattle.jextract.specs.Folders.{Failures, refused_once, Made, Deed, Link, Symlink, ReportsMore, Counts}
+use Rattle.jextract.specs.Folders.{Failures, FolderChange, refused_once, Made, Deed, Link, Symlink, ReportsMore, Counts}
 use Rattle.jextract.specs.Making.{Does, DoesSome, Follows, HasBegun, IsPathOf, FirstsAfter, Works, fault_of, firsts_of}
 use Rattle.jextract.specs.Outcomes.{Plan, Do, LeaveOut, Task, Make, path_of_task, Outcome, FirstPaths, FollowsPlan, firsts_if, firsts_with, made_at, is_refusal, is_directory_kind, is_target, loses_bits, lost_at, lost_made, plan_again, plan_anew, plan_at, plan_made, plan_of, plan_symlink, attributes_of}
 use Rattle.jextract.specs.Paths.{greatest_path, host_path, relative_path, text_if}
@@ -30,21 +30,21 @@ use Rattle.jextract.specs.declared.reason.Reason.{Reason}
 use Rattle.jextract.specs.declared.reason.Reason.TheVariants as reason
 
 -- the deeds of a plan were not all done
-pub does_fail : (S : Type 0) {T : Type 0} (old new : Option (List Made)) (before now : Failures) (path : List ℕ) (plan : Plan) (deeds : List Deed) (e : FolderFault) (r : Result T MakeFault)
-    → plan ≡ Do deeds → Does {T = S} old new before now (made_at path deeds) (Err e) → IsErrAnd r (λ x. x ≡ fault_of e) → Follows old new before now path plan r
-does_fail S old new before now path plan deeds e (Ok x) is does err = absurd err
-does_fail S {T} old new before now path plan deeds Refused (Err f) is does err =
-    subst (λ (y : MakeFault). Follows {T = T} old new before now path plan (Err y)) (sym err) (inr (deeds, is, does.0, does.1, refl))
-does_fail S {T} old new before now path plan deeds NoSpace (Err f) is does err =
-    subst (λ (y : MakeFault). Follows {T = T} old new before now path plan (Err y)) (sym err) (deeds, is, does.0, does.1)
-does_fail S {T} old new before now path plan deeds OutOfMemory (Err f) is does err =
-    subst (λ (y : MakeFault). Follows {T = T} old new before now path plan (Err y)) (sym err) (deeds, is, does.0, does.1)
+pub does_fail : (S : Type 0) {T : Type 0} (change : FolderChange) (path : List ℕ) (plan : Plan) (deeds : List Deed) (e : FolderFault) (r : Result T MakeFault)
+    → plan ≡ Do deeds → Does {T = S} change (made_at path deeds) (Err e) → IsErrAnd r (λ x. x ≡ fault_of e) → Follows change path plan r
+does_fail S change path plan deeds e (Ok x) is does err = absurd err
+does_fail S {T} change path plan deeds Refused (Err f) is does err =
+    subst (λ (y : MakeFault). Follows {T = T} change path plan (Err y)) (sym err) (inr (deeds, is, does.0, does.1, refl))
+does_fail S {T} change path plan deeds NoSpace (Err f) is does err =
+    subst (λ (y : MakeFault). Follows {T = T} change path plan (Err y)) (sym err) (deeds, is, does.0, does.1)
+does_fail S {T} change path plan deeds OutOfMemory (Err f) is does err =
+    subst (λ (y : MakeFault). Follows {T = T} change path plan (Err y)) (sym err) (deeds, is, does.0, does.1)
 
 -- the one deed of a plan was not done
-pub one_fails : (S : Type 0) {T : Type 0} (old new : Option (List Made)) (before now : Failures) (path : List ℕ) (plan : Plan) (deed : Deed) (e : FolderFault) (r : Result T MakeFault)
-    → plan ≡ Do (deed ∷ []) → ReportsMore old new [] → Counts {T = S} before now (Err e) → IsErrAnd r (λ x. x ≡ fault_of e) → Follows old new before now path plan r
-one_fails S old new before now path plan deed e r is adds counts err =
-    does_fail S old new before now path plan (deed ∷ []) e r is ((0, omega arith, adds), counts) err
+pub one_fails : (S : Type 0) {T : Type 0} (change : FolderChange) (path : List ℕ) (plan : Plan) (deed : Deed) (e : FolderFault) (r : Result T MakeFault)
+    → plan ≡ Do (deed ∷ []) → ReportsMore change.old change.new [] → Counts {T = S} change.before change.now (Err e) → IsErrAnd r (λ x. x ≡ fault_of e) → Follows change path plan r
+one_fails S change path plan deed e r is adds counts err =
+    does_fail S change path plan (deed ∷ []) e r is ((0, omega arith, adds), counts) err
 
 -- ---- targets
 
@@ -66,6 +66,10 @@ symlink_planned bytes attributes is = ap (λ (b : Bool). if b then Do (Symlink b
 pub again_links : (kind : Kind) (first : List ℕ) → (kind ≡ k.Regular) ⊎ (kind ≡ k.Symlink) → plan_again kind first ≡ Do (Link first ∷ [])
 again_links kind first (inl is) = ap (λ (x : Kind). plan_again x first) is
 again_links kind first (inr is) = ap (λ (x : Kind). plan_again x first) is
+
+-- a folder to which nothing was done
+abbrev pub unchanged : Option (List Made) → Failures → FolderChange
+unchanged made count = record { old = made; new = made; before = count; now = count }
 
 -- ---- a task, from its plan
 
@@ -90,10 +94,10 @@ begun_as_planned s owners firsts task text old new deeds at is some =
       some.2,
     )
 
-pub works_as_planned : (s : State) (owners : Bool) (firsts : FirstPaths) (task : Task) (text : List ℕ) (old new : Option (List Made)) (before now : Failures) (r : Result Bool MakeFault)
-    → host_path (path_of_task task) ≡ Ok text → Follows old new before now text (plan_at s owners firsts task) r → IfOk r (λ lost. lost ≡ lost_at s owners firsts task)
-    → Works s owners firsts task old new before now r
-works_as_planned s owners firsts task text old new before now (Ok lost) at follows loses =
+pub works_as_planned : (s : State) (owners : Bool) (firsts : FirstPaths) (task : Task) (text : List ℕ) (change : FolderChange) (r : Result Bool MakeFault)
+    → host_path (path_of_task task) ≡ Ok text → Follows change text (plan_at s owners firsts task) r → IfOk r (λ lost. lost ≡ lost_at s owners firsts task)
+    → Works s owners firsts task change r
+works_as_planned s owners firsts task text change (Ok lost) at follows loses =
     let o : Outcome = record { path = path_of_task task; deeds = made_at text follows.0; left_out = None; lost = lost } in (
       o,
       (refl, follows_plan (host_path (path_of_task task)) text (plan_at s owners firsts task) (Do follows.0) o at follows.1 (inl (refl, refl)), loses),
@@ -102,16 +106,16 @@ works_as_planned s owners firsts task text old new before now (Ok lost) at follo
       follows.3,
       refl,
     )
-works_as_planned s owners firsts task text old new before now (Err (make.LeftOut why)) at (inl left) loses =
+works_as_planned s owners firsts task text change (Err (make.LeftOut why)) at (inl left) loses =
     let o : Outcome = record { path = path_of_task task; deeds = []; left_out = Some why; lost = false } in (
       o,
       (refl, follows_plan (host_path (path_of_task task)) text (plan_at s owners firsts task) (LeaveOut why) o at left.0 (refl, refl), refl),
       refl,
       left.1,
-      left.2 ∙ ap (λ (b : Bool). if b then refused_once before else before) (sym left.3),
+      left.2 ∙ ap (λ (b : Bool). if b then refused_once change.before else change.before) (sym left.3),
       refl,
     )
-works_as_planned s owners firsts task text old new before now (Err (make.LeftOut why)) at (inr refused) loses =
+works_as_planned s owners firsts task text change (Err (make.LeftOut why)) at (inr refused) loses =
     let some = refused.2 in
     let o : Outcome = record { path = path_of_task task; deeds = take some.0 (made_at text refused.0); left_out = Some why; lost = false } in (
       o,
@@ -122,22 +126,22 @@ works_as_planned s owners firsts task text old new before now (Err (make.LeftOut
       ),
       refl,
       some.2,
-      refused.3 ∙ ap (λ (x : Reason). if is_refusal (Some x) then refused_once before else before) (sym refused.4),
+      refused.3 ∙ ap (λ (x : Reason). if is_refusal (Some x) then refused_once change.before else change.before) (sym refused.4),
       refl,
     )
-works_as_planned s owners firsts task text old new before now (Err make.NoSpace) at follows loses =
-    (begun_as_planned s owners firsts task text old new follows.0 at follows.1 follows.2, follows.3)
-works_as_planned s owners firsts task text old new before now (Err make.OutOfMemory) at follows loses =
-    (begun_as_planned s owners firsts task text old new follows.0 at follows.1 follows.2, follows.3)
+works_as_planned s owners firsts task text change (Err make.NoSpace) at follows loses =
+    (begun_as_planned s owners firsts task text change.old change.new follows.0 at follows.1 follows.2, follows.3)
+works_as_planned s owners firsts task text change (Err make.OutOfMemory) at follows loses =
+    (begun_as_planned s owners firsts task text change.old change.new follows.0 at follows.1 follows.2, follows.3)
 
 -- all of a plan was done, and then memory ran out
-pub works_then_fails : (s : State) (owners : Bool) (firsts : FirstPaths) (task : Task) (text : List ℕ) (old new : Option (List Made)) (before now : Failures) (r : Result Bool MakeFault) (S : Type 0) (x : S)
-    → host_path (path_of_task task) ≡ Ok text → Follows old new before now text (plan_at s owners firsts task) (Ok x) → IsErrAnd r (λ e. e ≡ make.OutOfMemory)
-    → Works s owners firsts task old new before now r
-works_then_fails s owners firsts task text old new before now (Ok y) S x at follows err = absurd err
-works_then_fails s owners firsts task text old new before now (Err e) S x at follows err =
-    let done = works_as_planned s owners firsts task text old new before now (Ok (lost_at s owners firsts task)) at follows refl in
-    subst (λ (f : MakeFault). Works s owners firsts task old new before now (Err f)) (sym err) (inr (done.0, done.1, done.3), done.4)
+pub works_then_fails : (s : State) (owners : Bool) (firsts : FirstPaths) (task : Task) (text : List ℕ) (change : FolderChange) (r : Result Bool MakeFault) (S : Type 0) (x : S)
+    → host_path (path_of_task task) ≡ Ok text → Follows change text (plan_at s owners firsts task) (Ok x) → IsErrAnd r (λ e. e ≡ make.OutOfMemory)
+    → Works s owners firsts task change r
+works_then_fails s owners firsts task text change (Ok y) S x at follows err = absurd err
+works_then_fails s owners firsts task text change (Err e) S x at follows err =
+    let done = works_as_planned s owners firsts task text change (Ok (lost_at s owners firsts task)) at follows refl in
+    subst (λ (f : MakeFault). Works s owners firsts task change (Err f)) (sym err) (inr (done.0, done.1, done.3), done.4)
 
 -- a reason that lies in the path is no refusal of the host
 pub no_path_is_no_refusal : (path : List (List ℕ)) (why : Reason) → host_path path ≡ Err why → is_refusal (Some why) ≡ false
@@ -155,11 +159,11 @@ no_path_is_no_refusal path why is = names (list_all is_name path) is
 
 -- there is no path, or no memory for it
 pub works_without_path : (s : State) (owners : Bool) (firsts : FirstPaths) (task : Task) (made : Option (List Made)) (before : Failures) (fault : MakeFault) (r : Result Bool MakeFault)
-    → IsPathOf (host_path (path_of_task task)) (Err fault) → IsErrAnd r (λ e. e ≡ fault) → Works s owners firsts task made made before before r
+    → IsPathOf (host_path (path_of_task task)) (Err fault) → IsErrAnd r (λ e. e ≡ fault) → Works s owners firsts task (unchanged made before) r
 works_without_path s owners firsts task made before fault (Ok x) gone err = absurd err
 works_without_path s owners firsts task made before (make.LeftOut why) (Err e) gone err =
     let o : Outcome = record { path = path_of_task task; deeds = []; left_out = Some why; lost = false } in
-    subst (λ (f : MakeFault). Works s owners firsts task made made before before (Err f)) (sym err) (
+    subst (λ (f : MakeFault). Works s owners firsts task (unchanged made before) (Err f)) (sym err) (
       o,
       (refl, subst (λ (p : Result (List ℕ) Reason). FollowsPlan p (plan_at s owners firsts task) o) (sym gone) (refl, refl), refl),
       refl,
@@ -169,11 +173,11 @@ works_without_path s owners firsts task made before (make.LeftOut why) (Err e) g
     )
 works_without_path s owners firsts task made before make.NoSpace (Err e) gone err = absurd gone
 works_without_path s owners firsts task made before make.OutOfMemory (Err e) gone err =
-    subst (λ (f : MakeFault). Works s owners firsts task made made before before (Err f)) (sym err) (inl (ReportsMore-nil made), refl)
+    subst (λ (f : MakeFault). Works s owners firsts task (unchanged made before) (Err f)) (sym err) (inl (ReportsMore-nil made), refl)
 
 -- there is no object
 pub works_without_object : (s : State) (owners : Bool) (firsts : FirstPaths) (path : List (List ℕ)) (i : ℕ) (text : List ℕ) (made : Option (List Made)) (before : Failures)
-    → host_path path ≡ Ok text → option_map shown (object s i) ≡ None → Works s owners firsts (Make path i) made made before before (Err (make.LeftOut reason.Missing))
+    → host_path path ≡ Ok text → option_map shown (object s i) ≡ None → Works s owners firsts (Make path i) (unchanged made before) (Err (make.LeftOut reason.Missing))
 works_without_object s owners firsts path i text made before at gone =
     let o : Outcome = record { path = path; deeds = []; left_out = Some reason.Missing; lost = false } in (
       o,
@@ -184,11 +188,11 @@ works_without_object s owners firsts path i text made before at gone =
       refl,
     )
 
-pub works_at_fault : (s : State) (owners : Bool) (firsts : FirstPaths) (task : Task) (old new : Option (List Made)) (before now : Failures) (fault : MakeFault) (r : Result Bool MakeFault)
-    → IsErrAnd r (λ e. e ≡ fault) → Works s owners firsts task old new before now (Err fault) → Works s owners firsts task old new before now r
-works_at_fault s owners firsts task old new before now fault (Ok x) err works = absurd err
-works_at_fault s owners firsts task old new before now fault (Err e) err works =
-    subst (λ (f : MakeFault). Works s owners firsts task old new before now (Err f)) (sym err) works
+pub works_at_fault : (s : State) (owners : Bool) (firsts : FirstPaths) (task : Task) (change : FolderChange) (fault : MakeFault) (r : Result Bool MakeFault)
+    → IsErrAnd r (λ e. e ≡ fault) → Works s owners firsts task change (Err fault) → Works s owners firsts task change r
+works_at_fault s owners firsts task change fault (Ok x) err works = absurd err
+works_at_fault s owners firsts task change fault (Err e) err works =
+    subst (λ (f : MakeFault). Works s owners firsts task change (Err f)) (sym err) works
 
 pub planned_again : (s : State) (owners : Bool) (firsts : FirstPaths) (path : List (List ℕ)) (i : ℕ) (o : Object) (first : List ℕ) → option_map shown (object s i) ≡ Some o
     → firsts i ≡ Some first → plan_at s owners firsts (Make path i) ≡ plan_again o.kind first

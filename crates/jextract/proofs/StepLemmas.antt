@@ -66,7 +66,7 @@ advances_to s owners firsts then_ todo other todo_ todo_other outcomes a c advan
 
 pub stays : (s : State) (part : List Key) (owners : Bool) (w n : Walk) (name : List ℕ) (i : ℕ) (old new : Sight) → w.left ≡ (name, i) ∷ n.left → is_in_part part w.ino name ≡ true
     → n.ino ≡ w.ino → n.above.items ≡ w.above.items → extraction_way n ≡ extraction_way w → unmade s (firsts_of n.firsts) ≤ unmade s (firsts_of w.firsts)
-    → Visits (part_along part s) owners (firsts_of w.firsts) (firsts_of n.firsts) (extraction_way w ++ name ∷ []) i old new (Ok false)
+    → Visits (part_along part s) owners (firsts_of w.firsts) (firsts_of n.firsts) (Make (extraction_way w ++ name ∷ []) i) old new (Ok false)
     → Steps s part owners w n old new (Ok true)
 stays s part owners w n name i old new read is ino above way fewer visits =
     let left : length w.left ≡ length n.left + 1 = ap (λ l. length l) read ∙ omega arith in
@@ -102,7 +102,7 @@ skips s part owners w n name i old read is ino above way firsts =
 pub enters : (s : State) (part : List Key) (owners : Bool) (w n : Walk) (name : List ℕ) (i : ℕ) (names : List (List ℕ × ℕ)) (old new : Sight) → w.left ≡ (name, i) ∷ names → is_in_part part w.ino name ≡ true
     → n.ino ≡ i → n.left ≡ entries_in s i → n.above.items ≡ w.above.items ++ (w.ino, names) ∷ [] → extraction_way n ≡ extraction_way w ++ name ∷ []
     → unmade s (firsts_of n.firsts) + length (entries_in s i) ≤ unmade s (firsts_of w.firsts)
-    → Visits (part_along part s) owners (firsts_of w.firsts) (firsts_of n.firsts) (extraction_way w ++ name ∷ []) i old new (Ok true) → Steps s part owners w n old new (Ok true)
+    → Visits (part_along part s) owners (firsts_of w.firsts) (firsts_of n.firsts) (Make (extraction_way w ++ name ∷ []) i) old new (Ok true) → Steps s part owners w n old new (Ok true)
 enters s part owners w n name i names old new read is ino left above way fewer visits =
     let rest = names_left part w names in
     let inside = entries_in (part_along part s) i in
@@ -144,7 +144,7 @@ pub stops_before : (s : State) (owners : Bool) (firsts : FirstPaths) (todo : Lis
 stops_before s owners firsts todo old = (([], tt {0}, ReportsMore-nil old.made, (0, Appends-nil old.told)), refl, refl)
 
 pub visit_failed : (s : State) (part : List Key) (owners : Bool) (w n : Walk) (name : List ℕ) (i : ℕ) (names : List (List ℕ × ℕ)) (firsts_then : FirstPaths) (old new : Sight) (f : ExtractFault)
-    → w.left ≡ (name, i) ∷ names → is_in_part part w.ino name ≡ true → Visits s owners (firsts_of w.firsts) firsts_then (extraction_way w ++ name ∷ []) i old new (Err f)
+    → w.left ≡ (name, i) ∷ names → is_in_part part w.ino name ≡ true → Visits s owners (firsts_of w.firsts) firsts_then (Make (extraction_way w ++ name ∷ []) i) old new (Err f)
     → StopsBy s owners (firsts_of w.firsts) (extraction_todo part w) old new f
 visit_failed s part owners w n name i names firsts_then old new f read is visits =
     subst (λ (t : List Task). StopsBy s owners (firsts_of w.firsts) t old new f) (todo_read part w name i names read is) (visits (names_left part w names))
@@ -179,12 +179,12 @@ stops_after s owners firsts firsts_then todo todo_ outcomes old new had advances
 )
 
 pub visited_then_stops : (s : State) (part : List Key) (owners : Bool) (w : Walk) (name : List ℕ) (i : ℕ) (names : List (List ℕ × ℕ)) (firsts_then : FirstPaths) (old new : Sight) (entered : Bool)
-    → w.left ≡ (name, i) ∷ names → is_in_part part w.ino name ≡ true → Visits s owners (firsts_of w.firsts) firsts_then (extraction_way w ++ name ∷ []) i old new (Ok entered)
+    → w.left ≡ (name, i) ∷ names → is_in_part part w.ino name ≡ true → Visits s owners (firsts_of w.firsts) firsts_then (Make (extraction_way w ++ name ∷ []) i) old new (Ok entered)
     → StopsBy s owners (firsts_of w.firsts) (extraction_todo part w) old new fault.OutOfMemory
 visited_then_stops s part owners w name i names firsts_then old new entered read is visits =
     let rest = names_left part w names in
     subst (λ (t : List Task). StopsBy s owners (firsts_of w.firsts) t old new fault.OutOfMemory) (todo_read part w name i names read is)
-    (stops_after s owners (firsts_of w.firsts) firsts_then (Make (extraction_way w ++ name ∷ []) i ∷ rest) (todo_then s (extraction_way w ++ name ∷ []) i entered rest) visits.0 old new visits.1 (visits.2 rest))
+    (stops_after s owners (firsts_of w.firsts) firsts_then (Make (extraction_way w ++ name ∷ []) i ∷ rest) (todo_then s (Make (extraction_way w ++ name ∷ []) i) entered rest) visits.0 old new visits.1 (visits.2 rest))
 
 -- ---- where no name is left
 
@@ -257,5 +257,5 @@ way_back w name pushed popped is cut =
     ap (map (λ n. n.now)) (cut ∙ ap (λ (k : ℕ). take k pushed) one ∙ ap (take (length w.path.items)) is ∙ take-append_seam w.path.items (name ∷ []))
 
 pub visit_at : (s : State) (owners : Bool) (firsts firsts_then : FirstPaths) (path way : List (List ℕ)) (i : ℕ) (old new : Sight) (r : Result Bool ExtractFault)
-    → path ≡ way → Visits s owners firsts firsts_then path i old new r → Visits s owners firsts firsts_then way i old new r
-visit_at s owners firsts firsts_then path way i old new r is visits = subst (λ (p : List (List ℕ)). Visits s owners firsts firsts_then p i old new r) is visits
+    → path ≡ way → Visits s owners firsts firsts_then (Make path i) old new r → Visits s owners firsts firsts_then (Make way i) old new r
+visit_at s owners firsts firsts_then path way i old new r is visits = subst (λ (p : List (List ℕ)). Visits s owners firsts firsts_then (Make p i) old new r) is visits

@@ -13,7 +13,7 @@ use Rattle.jmount.specs.Shown.{kind_of, readable, shown}
 use Rattle.jmount.specs.declared.object.Kind.{Kind}
 use Rattle.jmount.specs.declared.object.Kind.TheVariants as kind
 use Rattle.jmount.specs.declared.object.Object.{Object}
-use Rattle.jextract.specs.Folders.{Failures, ReportsMore, refused_once}
+use Rattle.jextract.specs.Folders.{Failures, FolderChange, NotesChange, ReportsMore, refused_once}
 use Rattle.jextract.specs.Making.{HasBegun, Works, FirstsAfter, count_after}
 use Rattle.jextract.specs.Outcomes.{Task, Make, Complete, path_of_task, Outcome, FirstPaths, Plan, FollowsPlan, IsOutcomeOf, attributes_of, is_directory_kind, is_refusal, plan_of, plan_made, tasks_after, todo_if, firsts_after, firsts_if, firsts_with, line_if_left_out, outcome_line}
 use Rattle.jextract.specs.Paths.{host_path}
@@ -27,6 +27,13 @@ use Rattle.jextract.specs.declared.totals.Totals.{Totals}
 use Rattle.jextract.proofs.MakingLemmas.{ReportsMore-nil}
 use Rattle.flashbase.proofs.ListLemmas.{count_apart, count_fewer}
 use Rattle.jmount.proofs.DirectoryNameLemmas.{length_entries}
+
+-- what a part of a walk does to the folder, and to the notes
+abbrev pub folder_change : Sight → Sight → FolderChange
+folder_change old new = record { old = old.made; new = new.made; before = old.failures; now = new.failures }
+
+abbrev pub notes_change : Sight → Sight → NotesChange
+notes_change old new = record { old = old.told; new = new.told; before = old.told_failures; now = new.told_failures }
 
 -- ---- one outcome
 
@@ -65,8 +72,8 @@ left_of (Err make.NoSpace) = None
 left_of (Err make.OutOfMemory) = None
 
 pub settled : (s : State) (owners : Bool) (firsts : FirstPaths) (task : Task) (old new : Sight) (r : Result Bool MakeFault) (done : Bool)
-    → Works s owners firsts task old.made new.made old.failures new.failures r
-    → Settles r (path_of_task task) old.told new.told old.told_failures new.told_failures old.totals new.totals (Ok done) → Settled s owners firsts task old new done (left_of r)
+    → Works s owners firsts task (folder_change old new) r
+    → Settles r (path_of_task task) (notes_change old new) old.totals new.totals (Ok done) → Settled s owners firsts task old new done (left_of r)
 settled s owners firsts task old new (Ok lost) done works tells =
     (works.0, works.1, had_one old new works.0 (path_of_task task) None lost works.2 works.1.0 works.5 works.3 works.4 tells.1 tells.2 tells.3, works.2, tells.0)
 settled s owners firsts task old new (Err (make.LeftOut why)) done works tells =
@@ -101,8 +108,8 @@ stops_begun s owners firsts task todo old new (inr begun) told =
     (begun.0 ∷ [], (begun.1, tt {0}), subst (ReportsMore old.made new.made) (sym (append-nil begun.0.deeds)) begun.2, (0, told))
 
 pub stops : (s : State) (owners : Bool) (firsts : FirstPaths) (task : Task) (todo : List Task) (old new : Sight) (r : Result Bool MakeFault) (f : ExtractFault)
-    → Works s owners firsts task old.made new.made old.failures new.failures r
-    → Settles r (path_of_task task) old.told new.told old.told_failures new.told_failures old.totals new.totals (Err f) → StopsBy s owners firsts (task ∷ todo) old new f
+    → Works s owners firsts task (folder_change old new) r
+    → Settles r (path_of_task task) (notes_change old new) old.totals new.totals (Err f) → StopsBy s owners firsts (task ∷ todo) old new f
 stops s owners firsts task todo old new (Ok x) f works tells = absurd tells
 stops s owners firsts task todo old new (Err (make.LeftOut why)) fault.Folder works tells = absurd tells
 stops s owners firsts task todo old new (Err (make.LeftOut why)) fault.Notes works tells =
@@ -123,15 +130,15 @@ stops s owners firsts task todo old new (Err make.OutOfMemory) fault.OutOfMemory
 -- ---- a directory that is completed
 
 pub completes : (s : State) (owners : Bool) (path : List (List ℕ)) (i : ℕ) (old new : Sight) (r : Result Bool MakeFault) (t : Result Bool ExtractFault)
-    → Works s owners (λ j. None) (Complete path i) old.made new.made old.failures new.failures r
-    → Settles r path old.told new.told old.told_failures new.told_failures old.totals new.totals t → Completes s owners path i old new t
+    → Works s owners (λ j. None) (Complete path i) (folder_change old new) r
+    → Settles r path (notes_change old new) old.totals new.totals t → Completes s owners path i old new t
 completes s owners path i old new r (Ok done) works tells =
     let by = settled s owners (λ j. None) (Complete path i) old new r done works tells in
     (by.0 ∷ [], by.2, λ firsts todo. one_advances s owners firsts (Complete path i) by.0 todo by.1)
 completes s owners path i old new r (Err f) works tells = λ firsts todo. stops s owners firsts (Complete path i) todo old new r f (anywhere firsts r works) tells
   where
-    anywhere : (firsts : FirstPaths) (x : Result Bool MakeFault) → Works s owners (λ j. None) (Complete path i) old.made new.made old.failures new.failures x
-        → Works s owners firsts (Complete path i) old.made new.made old.failures new.failures x
+    anywhere : (firsts : FirstPaths) (x : Result Bool MakeFault) → Works s owners (λ j. None) (Complete path i) (folder_change old new) x
+        → Works s owners firsts (Complete path i) (folder_change old new) x
     anywhere firsts (Ok y) works = works
     anywhere firsts (Err (make.LeftOut why)) works = works
     anywhere firsts (Err make.NoSpace) works = works
@@ -236,9 +243,9 @@ advances_as s owners firsts todo other then_ then_other todo_ todo_other outcome
     (subst (λ (t : List Task). Advances s owners firsts todo then_ t outcomes) c advances))
 
 pub visit_made : (s : State) (owners : Bool) (firsts firsts_then : FirstPaths) (path : List (List ℕ)) (i : ℕ) (old new : Sight) (r : Result Bool MakeFault) (done : Bool)
-    → Works s owners firsts (Make path i) old.made new.made old.failures new.failures r → FirstsAfter firsts firsts_then path i r
-    → Settles r path old.told new.told old.told_failures new.told_failures old.totals new.totals (Ok done)
-    → Visits s owners firsts firsts_then path i old new (Ok (done && is_directory s i))
+    → Works s owners firsts (Make path i) (folder_change old new) r → FirstsAfter firsts firsts_then path i r
+    → Settles r path (notes_change old new) old.totals new.totals (Ok done)
+    → Visits s owners firsts firsts_then (Make path i) old new (Ok (done && is_directory s i))
 visit_made s owners firsts firsts_then path i old new (Err make.NoSpace) done works after tells = absurd tells
 visit_made s owners firsts firsts_then path i old new (Err make.OutOfMemory) done works after tells = absurd tells
 visit_made s owners firsts firsts_then path i old new (Err (make.LeftOut why)) done works after tells =
@@ -248,8 +255,8 @@ visit_made s owners firsts firsts_then path i old new (Err (make.LeftOut why)) d
       by.0 ∷ [],
       by.2,
       λ todo. advances_as s owners firsts (Make path i ∷ todo) (Make path i ∷ todo) (firsts_if firsts path i by.0.left_out) firsts_then (todo_if s path i by.0.left_out todo)
-          (todo_then s path i (done && is_directory s i) todo) (by.0 ∷ []) refl (ap (firsts_if firsts path i) by.3 ∙ sym after)
-          (ap (λ (w : Option Reason). todo_if s path i w todo) by.3 ∙ ap (λ (b : Bool). todo_then s path i b todo) (sym entered))
+          (todo_then s (Make path i) (done && is_directory s i) todo) (by.0 ∷ []) refl (ap (firsts_if firsts path i) by.3 ∙ sym after)
+          (ap (λ (w : Option Reason). todo_if s path i w todo) by.3 ∙ ap (λ (b : Bool). todo_then s (Make path i) b todo) (sym entered))
           (one_advances s owners firsts (Make path i) by.0 todo by.1),
       subst (λ (b : Bool). unmade s firsts_then + (if b then length (entries_in s i) else 0) ≤ unmade s firsts) (sym entered) (omega arith),
     )
@@ -259,8 +266,8 @@ visit_made s owners firsts firsts_then path i old new (Ok x) done works after te
       by.0 ∷ [],
       by.2,
       λ todo. advances_as s owners firsts (Make path i ∷ todo) (Make path i ∷ todo) (firsts_if firsts path i by.0.left_out) firsts_then (todo_if s path i by.0.left_out todo)
-          (todo_then s path i (done && is_directory s i) todo) (by.0 ∷ []) refl (ap (firsts_if firsts path i) by.3 ∙ sym after)
-          (ap (λ (w : Option Reason). todo_if s path i w todo) by.3 ∙ ap (λ (b : Bool). todo_then s path i b todo) (sym entered))
+          (todo_then s (Make path i) (done && is_directory s i) todo) (by.0 ∷ []) refl (ap (firsts_if firsts path i) by.3 ∙ sym after)
+          (ap (λ (w : Option Reason). todo_if s path i w todo) by.3 ∙ ap (λ (b : Bool). todo_then s (Make path i) b todo) (sym entered))
           (one_advances s owners firsts (Make path i) by.0 todo by.1),
       subst (λ (b : Bool). unmade s firsts_then + (if b then length (entries_in s i) else 0) ≤ unmade s firsts) (sym entered)
           (subst (λ (f : FirstPaths). unmade s f + (if is_directory s i then length (entries_in s i) else 0) ≤ unmade s firsts) (sym after) (fewer by.0 by.1 by.3 (is_directory s i) refl)),
@@ -279,7 +286,7 @@ visit_made s owners firsts firsts_then path i old new (Ok x) done works after te
         subst (λ (p : Result (List ℕ) Reason). unmade s (firsts_with firsts p i) + length (entries_in s i) ≤ unmade s firsts) (sym is_new.1.1) (omega (arith, count))
 
 pub visits_at_fault : (s : State) (owners : Bool) (firsts firsts_then : FirstPaths) (path : List (List ℕ)) (i : ℕ) (old new : Sight) (f : ExtractFault) (r : Result Bool ExtractFault)
-    → IsErrAnd r (λ e. e ≡ f) → Visits s owners firsts firsts_then path i old new (Err f) → Visits s owners firsts firsts_then path i old new r
+    → IsErrAnd r (λ e. e ≡ f) → Visits s owners firsts firsts_then (Make path i) old new (Err f) → Visits s owners firsts firsts_then (Make path i) old new r
 visits_at_fault s owners firsts firsts_then path i old new f (Ok x) err visits = absurd err
 visits_at_fault s owners firsts firsts_then path i old new f (Err e) err visits =
-    subst (λ (x : ExtractFault). Visits s owners firsts firsts_then path i old new (Err x)) (sym err) visits
+    subst (λ (x : ExtractFault). Visits s owners firsts firsts_then (Make path i) old new (Err x)) (sym err) visits

@@ -3,7 +3,7 @@ use Rattle.std.specs.Prelude.{◌≡◌, ℕ, Bool, List, [], take, Option, Resu
 use Rattle.std.specs.Io.KnownBytes.{Appends}
 use Rattle.flashbase.specs.Device.{PutsPart, next_count}
 use Rattle.jmount.specs.Tree.{State}
-use Rattle.jextract.specs.Folders.{Failures, refused_once, Made, ReportsMore}
+use Rattle.jextract.specs.Folders.{FolderChange, NotesChange, refused_once, ReportsMore}
 use Rattle.jextract.specs.Outcomes.{Outcome, root_alone, tasks_in, AreOutcomes, AreFirstOutcomes, all_made, all_lines, failures_after, totals_of}
 use Rattle.jextract.specs.declared.fault.ExtractFault.{ExtractFault}
 use Rattle.jextract.specs.declared.fault.ExtractFault.TheVariants.{Folder, Notes, NoSpace, OutOfMemory}
@@ -20,37 +20,34 @@ AreFirstTreeOutcomes s owners outcomes =
     AreFirstOutcomes s owners root_alone (tasks_in s [] 1) outcomes
 
 -- the whole tree was gone through
-abbrev pub DoesAll : State → Bool → Option (List Made) → Option (List Made) → Failures → Failures
-    → Option (List ℕ) → Option (List ℕ) → ℕ → ℕ → Totals → Type 0
-DoesAll s owners old new before now told_old told_new told_before told_now n =
+abbrev pub DoesAll : State → Bool → FolderChange → NotesChange → Totals → Type 0
+DoesAll s owners folder notes n =
     (outcomes : List Outcome) × AreTreeOutcomes s owners outcomes
-    × ReportsMore old new (all_made outcomes) × (now ≡ failures_after before outcomes)
-    × Appends told_old told_new (all_lines outcomes) × (told_now ≡ told_before)
+    × ReportsMore folder.old folder.new (all_made outcomes)
+    × (folder.now ≡ failures_after folder.before outcomes)
+    × Appends notes.old notes.new (all_lines outcomes) × (notes.now ≡ notes.before)
     × (n ≡ totals_of outcomes)
 
 -- it was gone through up to a place; what was made stays, and a beginning of the lines was told
-abbrev pub DoesPart : State → Bool → Option (List Made) → Option (List Made) → Option (List ℕ)
-    → Option (List ℕ) → Type 0
-DoesPart s owners old new told_old told_new =
+abbrev pub DoesPart : State → Bool → FolderChange → NotesChange → Type 0
+DoesPart s owners folder notes =
     (outcomes : List Outcome) × AreFirstTreeOutcomes s owners outcomes
-    × ((k : ℕ) × ReportsMore old new (take k (all_made outcomes)))
-    × PutsPart told_old told_new (all_lines outcomes)
+    × ((k : ℕ) × ReportsMore folder.old folder.new (take k (all_made outcomes)))
+    × PutsPart notes.old notes.new (all_lines outcomes)
 
--- A call extracts a file system. `before` and `now` count the failures of the folder, `told_before`
--- and `told_now` those of the notes. Each fault comes only where what it blames failed once.
-abbrev pub Extracts : State → Bool → Option (List Made) → Option (List Made) → Failures → Failures
-    → Option (List ℕ) → Option (List ℕ) → ℕ → ℕ → Result Totals ExtractFault → Type 0
-Extracts s owners old new before now told_old told_new told_before told_now (Ok n) =
-    DoesAll s owners old new before now told_old told_new told_before told_now n
-Extracts s owners old new before now told_old told_new told_before told_now (Err Folder) =
-    ReportsMore old new [] × (now ≡ refused_once before) × Appends told_old told_new []
-    × (told_now ≡ told_before)
-Extracts s owners old new before now told_old told_new told_before told_now (Err Notes) =
-    DoesPart s owners old new told_old told_new × (told_now ≡ next_count told_before)
-    × (now.full ≡ before.full)
-Extracts s owners old new before now told_old told_new told_before told_now (Err NoSpace) =
-    DoesPart s owners old new told_old told_new × (told_now ≡ told_before)
-    × (now.full ≡ next_count before.full)
-Extracts s owners old new before now told_old told_new told_before told_now (Err OutOfMemory) =
-    DoesPart s owners old new told_old told_new × (told_now ≡ told_before)
-    × (now.full ≡ before.full)
+-- A call extracts a file system. Each fault comes only where what it blames failed once.
+abbrev pub Extracts : State → Bool → FolderChange → NotesChange → Result Totals ExtractFault
+    → Type 0
+Extracts s owners folder notes (Ok n) = DoesAll s owners folder notes n
+Extracts s owners folder notes (Err Folder) =
+    ReportsMore folder.old folder.new [] × (folder.now ≡ refused_once folder.before)
+    × Appends notes.old notes.new [] × (notes.now ≡ notes.before)
+Extracts s owners folder notes (Err Notes) =
+    DoesPart s owners folder notes × (notes.now ≡ next_count notes.before)
+    × (folder.now.full ≡ folder.before.full)
+Extracts s owners folder notes (Err NoSpace) =
+    DoesPart s owners folder notes × (notes.now ≡ notes.before)
+    × (folder.now.full ≡ next_count folder.before.full)
+Extracts s owners folder notes (Err OutOfMemory) =
+    DoesPart s owners folder notes × (notes.now ≡ notes.before)
+    × (folder.now.full ≡ folder.before.full)

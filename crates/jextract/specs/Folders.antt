@@ -38,6 +38,20 @@ pub record Failures : Type 0 where
   pub refused : ℕ
   pub full : ℕ
 
+-- a folder before and after: what is known of what was made in it, and how often it failed
+pub record FolderChange : Type 0 where
+  pub old : Option (List Made)
+  pub new : Option (List Made)
+  pub before : Failures
+  pub now : Failures
+
+-- the notes before and after: what is known of their bytes, and how often they failed
+pub record NotesChange : Type 0 where
+  pub old : Option (List ℕ)
+  pub new : Option (List ℕ)
+  pub before : ℕ
+  pub now : ℕ
+
 abbrev pub refused_once : Failures → Failures
 refused_once n = record n { refused = next_count n.refused }
 

@@ -4,7 +4,7 @@ use Rattle.std.specs.declared.alloc.Global.{Global}
 use Rattle.std.specs.Ordering.{nat_cmp}
 use Rattle.std.specs.BTreeMap.{BTreeMap, get}
 use Rattle.jmount.specs.Tree.{State}
-use Rattle.jextract.specs.Folders.{Failures, refused_once, full_once, counted_fault, Made, ReportsMore, Deed}
+use Rattle.jextract.specs.Folders.{Failures, FolderChange, refused_once, full_once, counted_fault, Made, ReportsMore, Deed}
 use Rattle.jextract.specs.Outcomes.{Plan, Do, LeaveOut, Task, Outcome, FirstPaths, IsOutcomeOf, made_at, is_refusal, firsts_if}
 use Rattle.jextract.specs.declared.folder.FolderFault.{FolderFault}
 use Rattle.jextract.specs.declared.folder.FolderFault.TheVariants as folder
@@ -32,43 +32,41 @@ DoesSome old new deeds = (k : ℕ) × (k < length deeds) × ReportsMore old new 
 
 -- A call does all of these. At a fault it did those before one of them, and the folder counted the
 -- fault.
-abbrev pub Does : {T : Type 0} → Option (List Made) → Option (List Made) → Failures → Failures
-    → List Made → Result T FolderFault → Type 0
-Does old new before now deeds (Ok _) = ReportsMore old new deeds × (now ≡ before)
-Does old new before now deeds (Err fault) =
-    DoesSome old new deeds × (now ≡ counted_fault fault before)
+abbrev pub Does : {T : Type 0} → FolderChange → List Made → Result T FolderFault → Type 0
+Does change deeds (Ok _) = ReportsMore change.old change.new deeds × (change.now ≡ change.before)
+Does change deeds (Err fault) =
+    DoesSome change.old change.new deeds × (change.now ≡ counted_fault fault change.before)
 
 -- why a plan was not followed: it is not to be, or the host refused a deed
-abbrev pub LeavesOut : Option (List Made) → Option (List Made) → Failures → Failures → List ℕ → Plan
-    → Reason → Type 0
-LeavesOut old new before now path plan why =
-    ((plan ≡ LeaveOut why) × ReportsMore old new [] × (now ≡ before)
+abbrev pub LeavesOut : FolderChange → List ℕ → Plan → Reason → Type 0
+LeavesOut change path plan why =
+    ((plan ≡ LeaveOut why) × ReportsMore change.old change.new [] × (change.now ≡ change.before)
     × (is_refusal (Some why) ≡ false))
-    ⊎ ((deeds : List Deed) × (plan ≡ Do deeds) × DoesSome old new (made_at path deeds)
-    × (now ≡ refused_once before) × (why ≡ Refused))
+    ⊎ ((deeds : List Deed) × (plan ≡ Do deeds)
+    × DoesSome change.old change.new (made_at path deeds)
+    × (change.now ≡ refused_once change.before) × (why ≡ Refused))
 
 -- a call follows a plan at a path
-abbrev pub Follows : {T : Type 0} → Option (List Made) → Option (List Made) → Failures → Failures
-    → List ℕ → Plan → Result T MakeFault → Type 0
-Follows old new before now path plan (Ok _) = (deeds : List Deed) × (plan ≡ Do deeds)
-    × ReportsMore old new (made_at path deeds) × (now ≡ before)
-Follows old new before now path plan (Err (LeftOut why)) =
-    LeavesOut old new before now path plan why
-Follows old new before now path plan (Err NoSpace) = (deeds : List Deed) × (plan ≡ Do deeds)
-    × DoesSome old new (made_at path deeds) × (now ≡ full_once before)
-Follows old new before now path plan (Err OutOfMemory) =
-    (deeds : List Deed) × (plan ≡ Do deeds) × DoesSome old new (made_at path deeds) × (now ≡ before)
+abbrev pub Follows : {T : Type 0} → FolderChange → List ℕ → Plan → Result T MakeFault → Type 0
+Follows change path plan (Ok _) = (deeds : List Deed) × (plan ≡ Do deeds)
+    × ReportsMore change.old change.new (made_at path deeds) × (change.now ≡ change.before)
+Follows change path plan (Err (LeftOut why)) = LeavesOut change path plan why
+Follows change path plan (Err NoSpace) = (deeds : List Deed) × (plan ≡ Do deeds)
+    × DoesSome change.old change.new (made_at path deeds)
+    × (change.now ≡ full_once change.before)
+Follows change path plan (Err OutOfMemory) = (deeds : List Deed) × (plan ≡ Do deeds)
+    × DoesSome change.old change.new (made_at path deeds) × (change.now ≡ change.before)
 
 -- the count of the folder's failures after a task that was left out, if it was
 abbrev pub count_after : Failures → Option Reason → Failures
 count_after n why = if is_refusal why then refused_once n else n
 
 -- a task had this outcome
-abbrev pub HasOutcome : State → Bool → FirstPaths → Task → Option (List Made) → Option (List Made)
-    → Failures → Failures → Option Reason → Bool → Type 0
-HasOutcome s owners firsts task old new before now why lost =
+abbrev pub HasOutcome : State → Bool → FirstPaths → Task → FolderChange → Option Reason → Bool
+    → Type 0
+HasOutcome s owners firsts task change why lost =
     (o : Outcome) × IsOutcomeOf s owners firsts task o × (o.left_out ≡ why)
-    × ReportsMore old new o.deeds × (now ≡ count_after before why)
+    × ReportsMore change.old change.new o.deeds × (change.now ≡ count_after change.before why)
     × (o.lost ≡ lost)
 
 -- a task was begun, or not even that
@@ -78,16 +76,14 @@ HasBegun s owners firsts task old new = ReportsMore old new []
     ⊎ ((o : Outcome) × IsOutcomeOf s owners firsts task o × ReportsMore old new o.deeds)
 
 -- A call does a task. `Ok` has whether its object lost a bit of its mode.
-abbrev pub Works : State → Bool → FirstPaths → Task → Option (List Made) → Option (List Made)
-    → Failures → Failures → Result Bool MakeFault → Type 0
-Works s owners firsts task old new before now (Ok lost) =
-    HasOutcome s owners firsts task old new before now None lost
-Works s owners firsts task old new before now (Err (LeftOut why)) =
-    HasOutcome s owners firsts task old new before now (Some why) false
-Works s owners firsts task old new before now (Err NoSpace) =
-    HasBegun s owners firsts task old new × (now ≡ full_once before)
-Works s owners firsts task old new before now (Err OutOfMemory) =
-    HasBegun s owners firsts task old new × (now ≡ before)
+abbrev pub Works : State → Bool → FirstPaths → Task → FolderChange → Result Bool MakeFault → Type 0
+Works s owners firsts task change (Ok lost) = HasOutcome s owners firsts task change None lost
+Works s owners firsts task change (Err (LeftOut why)) =
+    HasOutcome s owners firsts task change (Some why) false
+Works s owners firsts task change (Err NoSpace) =
+    HasBegun s owners firsts task change.old change.new × (change.now ≡ full_once change.before)
+Works s owners firsts task change (Err OutOfMemory) =
+    HasBegun s owners firsts task change.old change.new × (change.now ≡ change.before)
 
 -- the paths at which objects were made first
 abbrev pub firsts_of : BTreeMap ℕ (String Global) → FirstPaths

@@ -107,6 +107,10 @@ abbrev pub path_of_task : Task → List (List ℕ)
 path_of_task (Make path i) = path
 path_of_task (Complete path i) = path
 
+abbrev pub ino_of_task : Task → ℕ
+ino_of_task (Make path i) = i
+ino_of_task (Complete path i) = i
+
 -- these names of a directory, each with its path
 abbrev pub tasks_of : List (List ℕ) → List (List ℕ × ℕ) → List Task
 tasks_of path names = map (λ e. Make (path ++ e.0 ∷ []) e.1) names

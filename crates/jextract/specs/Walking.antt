@@ -5,12 +5,12 @@ use Rattle.std.specs.Io.KnownBytes.{Appends}
 use Rattle.flashbase.specs.Device.{PutsPart, next_count}
 use Rattle.jmount.specs.Tree.{State, entries_in}
 use Rattle.jmount.specs.Find.{way_up}
-use Rattle.jextract.specs.Folders.{Failures, Made, ReportsMore}
+use Rattle.jextract.specs.Folders.{Failures, Made, NotesChange, ReportsMore}
 use Rattle.jextract.specs.Making.{firsts_of}
 use Rattle.jextract.specs.Extracts.{AreTreeOutcomes}
 use Rattle.jname.specs.Live.{Key}
 use Rattle.jextract.specs.Parts.{is_in_part, part_along}
-use Rattle.jextract.specs.Outcomes.{root_alone, Task, Make, Complete, Outcome, FirstPaths, AreOutcomes, AreFirstOutcomes, tasks_in, tasks_of, all_lines, failures_after, line_if_left_out}
+use Rattle.jextract.specs.Outcomes.{root_alone, Task, Make, Complete, path_of_task, ino_of_task, Outcome, FirstPaths, AreOutcomes, AreFirstOutcomes, tasks_in, tasks_of, all_lines, failures_after, line_if_left_out}
 use Rattle.jextract.specs.declared.extracting.Walk.{Walk}
 use Rattle.jextract.specs.declared.making.MakeFault.{MakeFault}
 use Rattle.jextract.specs.declared.making.MakeFault.TheVariants as make
@@ -37,26 +37,27 @@ totals_up n left_out lost_bits = record {
 
 -- A call tells of a task what is to be told, and counts it. The answer is whether the task was
 -- done.
-abbrev pub Settles : Result Bool MakeFault → List (List ℕ) → Option (List ℕ) → Option (List ℕ) → ℕ
-    → ℕ → Totals → Totals → Result Bool ExtractFault → Type 0
-Settles (Ok lost) path old new before now n after (Ok done) =
-    (done ≡ true) × Appends old new [] × (now ≡ before)
+abbrev pub Settles : Result Bool MakeFault → List (List ℕ) → NotesChange → Totals → Totals
+    → Result Bool ExtractFault → Type 0
+Settles (Ok lost) path notes n after (Ok done) =
+    (done ≡ true) × Appends notes.old notes.new [] × (notes.now ≡ notes.before)
     × (after ≡ totals_up n 0 (if lost then 1 else 0))
-Settles (Ok lost) path old new before now n after (Err _) = ⊥
-Settles (Err (make.LeftOut why)) path old new before now n after (Ok done) =
-    (done ≡ false) × Appends old new (line_if_left_out path (Some why)) × (now ≡ before)
-    × (after ≡ totals_up n 1 0)
-Settles (Err (make.LeftOut why)) path old new before now n after (Err Notes) =
-    PutsPart old new (line_if_left_out path (Some why)) × (now ≡ next_count before)
-Settles (Err (make.LeftOut why)) path old new before now n after (Err _) = ⊥
-Settles (Err make.NoSpace) path old new before now n after (Ok done) = ⊥
-Settles (Err make.NoSpace) path old new before now n after (Err NoSpace) =
-    Appends old new [] × (now ≡ before)
-Settles (Err make.NoSpace) path old new before now n after (Err _) = ⊥
-Settles (Err make.OutOfMemory) path old new before now n after (Ok done) = ⊥
-Settles (Err make.OutOfMemory) path old new before now n after (Err OutOfMemory) =
-    Appends old new [] × (now ≡ before)
-Settles (Err make.OutOfMemory) path old new before now n after (Err _) = ⊥
+Settles (Ok lost) path notes n after (Err _) = ⊥
+Settles (Err (make.LeftOut why)) path notes n after (Ok done) =
+    (done ≡ false) × Appends notes.old notes.new (line_if_left_out path (Some why))
+    × (notes.now ≡ notes.before) × (after ≡ totals_up n 1 0)
+Settles (Err (make.LeftOut why)) path notes n after (Err Notes) =
+    PutsPart notes.old notes.new (line_if_left_out path (Some why))
+    × (notes.now ≡ next_count notes.before)
+Settles (Err (make.LeftOut why)) path notes n after (Err _) = ⊥
+Settles (Err make.NoSpace) path notes n after (Ok done) = ⊥
+Settles (Err make.NoSpace) path notes n after (Err NoSpace) =
+    Appends notes.old notes.new [] × (notes.now ≡ notes.before)
+Settles (Err make.NoSpace) path notes n after (Err _) = ⊥
+Settles (Err make.OutOfMemory) path notes n after (Ok done) = ⊥
+Settles (Err make.OutOfMemory) path notes n after (Err OutOfMemory) =
+    Appends notes.old notes.new [] × (notes.now ≡ notes.before)
+Settles (Err make.OutOfMemory) path notes n after (Err _) = ⊥
 
 -- ---- what is still to be done at a place of the walk
 
@@ -138,20 +139,22 @@ StopsBy s owners firsts todo old new OutOfMemory =
     Stopped s owners firsts todo old new × (new.told_failures ≡ old.told_failures)
     × (new.failures.full ≡ old.failures.full)
 
-abbrev pub todo_then : State → List (List ℕ) → ℕ → Bool → List Task → List Task
-todo_then s path i entered todo = if entered then tasks_in s path i ++ todo else todo
+abbrev pub todo_then : State → Task → Bool → List Task → List Task
+todo_then s task entered todo =
+    if entered then tasks_in s (path_of_task task) (ino_of_task task) ++ todo else todo
 
--- An object is visited. The answer is whether it is a directory that was made; only then are its
--- names among those to be read.
-abbrev pub Visits : State → Bool → FirstPaths → FirstPaths → List (List ℕ) → ℕ → Sight → Sight
+-- The object of a task is visited. The answer is whether it is a directory that was made; only then
+-- are its names among those to be read.
+abbrev pub Visits : State → Bool → FirstPaths → FirstPaths → Task → Sight → Sight
     → Result Bool ExtractFault → Type 0
-Visits s owners firsts firsts_then path i old new (Ok entered) =
+Visits s owners firsts firsts_then task old new (Ok entered) =
     (outcomes : List Outcome) × Had old new outcomes
-    × ((todo : List Task) → Advances s owners firsts (Make path i ∷ todo) firsts_then
-    (todo_then s path i entered todo) outcomes)
-    × (unmade s firsts_then + (if entered then length (entries_in s i) else 0) ≤ unmade s firsts)
-Visits s owners firsts firsts_then path i old new (Err fault) =
-    (todo : List Task) → StopsBy s owners firsts (Make path i ∷ todo) old new fault
+    × ((todo : List Task) → Advances s owners firsts (task ∷ todo) firsts_then
+    (todo_then s task entered todo) outcomes)
+    × (unmade s firsts_then + (if entered then length (entries_in s (ino_of_task task)) else 0)
+    ≤ unmade s firsts)
+Visits s owners firsts firsts_then task old new (Err fault) =
+    (todo : List Task) → StopsBy s owners firsts (task ∷ todo) old new fault
 
 -- a directory is completed, whatever was made before
 abbrev pub Completes : State → Bool → List (List ℕ) → ℕ → Sight → Sight → Result Bool ExtractFault

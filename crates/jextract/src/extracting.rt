@@ -5,7 +5,7 @@ ghost use Rattle.std.specs.Prelude.{ℕ};
 ghost use Rattle.std.specs.FinMap.{FinMap};
 ghost use Rattle.jname.specs.Live.{key_cmp};
 ghost use Rattle.jextract.specs.Extracts.{Extracts};
-ghost use Rattle.jextract.specs.Outcomes.{root_alone};
+ghost use Rattle.jextract.specs.Outcomes.{Make, root_alone};
 ghost use Rattle.jextract.specs.PartsOf.{IsPart, part_of};
 ghost use Rattle.jextract.specs.Parts.{is_in_part, is_on_way, is_way, keys_of, part_along, part_alone, with_names};
 ghost use Rattle.jextract.specs.declared.fault.ExtractFault.TheVariants.{OutOfMemory};
@@ -61,8 +61,13 @@ fn settle<N: Sink>(
     totals: &mut Totals,
     notes: &mut N,
 ) -> Result<bool, ExtractFault>
-    ensures { Settles done (map (λ name. name.now) path.now) (N.taken notes.old) (N.taken notes.new)
-        (N.failures notes.old) (N.failures notes.new) totals.old totals.new result }
+    ensures { Settles done (map (λ name. name.now) path.now)
+        (record {
+          old = N.taken notes.old;
+          new = N.taken notes.new;
+          before = N.failures notes.old;
+          now = N.failures notes.new;
+        }) totals.old totals.new result }
 {
     match done {
         Ok(lost) => {
@@ -126,8 +131,7 @@ fn visit<F: Folder, N: Sink>(
 ) -> Result<bool, ExtractFault>
     // Whatever the names of directories are: a part of the tree has others.
     ensures visits { (names : FinMap key_cmp ℕ) → Visits (with_names mounted.now.state names) owners
-        (firsts_of firsts.old) (firsts_of firsts.new)
-        (map (λ name. name.now) path.now) ino
+        (firsts_of firsts.old) (firsts_of firsts.new) (Make (map (λ name. name.now) path.now) ino)
         (record {
           made = F.made folder.old;
           failures = F.failures folder.old;
@@ -443,10 +447,19 @@ pub fn extract<F: Folder, N: Sink>(
     folder: &mut F,
     notes: &mut N,
 ) -> Result<Totals, ExtractFault>
-    ensures { Extracts mounted.now.state owners (F.made folder.old) (F.made folder.new)
-        (F.failures folder.old) (F.failures folder.new)
-        (N.taken notes.old) (N.taken notes.new) (N.failures notes.old) (N.failures notes.new)
-        result }
+    ensures { Extracts mounted.now.state owners
+        (record {
+          old = F.made folder.old;
+          new = F.made folder.new;
+          before = F.failures folder.old;
+          now = F.failures folder.new;
+        })
+        (record {
+          old = N.taken notes.old;
+          new = N.taken notes.new;
+          before = N.failures notes.old;
+          now = N.failures notes.new;
+        }) result }
 {
     match folder.make_directory("") {
         Ok(()) => fill(alloc, mounted, &[], owners, folder, notes),
@@ -468,9 +481,18 @@ pub fn extract_part<F: Folder, N: Sink>(
 ) -> Result<Totals, ExtractFault>
     requires { IsPart mounted.now.state part.now }
     ensures { Extracts (part_of part.now mounted.now.state) owners
-        (F.made folder.old) (F.made folder.new) (F.failures folder.old) (F.failures folder.new)
-        (N.taken notes.old) (N.taken notes.new) (N.failures notes.old) (N.failures notes.new)
-        result }
+        (record {
+          old = F.made folder.old;
+          new = F.made folder.new;
+          before = F.failures folder.old;
+          now = F.failures folder.new;
+        })
+        (record {
+          old = N.taken notes.old;
+          new = N.taken notes.new;
+          before = N.failures notes.old;
+          now = N.failures notes.new;
+        }) result }
 {
     match folder.make_directory("") {
         Ok(()) => fill_part(alloc, mounted, part, owners, folder, notes),

@@ -110,8 +110,13 @@ fn make_file<F: Folder>(
     folder: &mut F,
 ) -> Result<(), FolderFault>
     requires { length (readable mounted.now.state ino) ≡ size }
-    ensures { Does (F.made folder.old) (F.made folder.new) (F.failures folder.old)
-        (F.failures folder.new)
+    ensures { Does
+        (record {
+          old = F.made folder.old;
+          new = F.made folder.new;
+          before = F.failures folder.old;
+          now = F.failures folder.new;
+        })
         (made_at path.now
         (File ∷ Content (cells_of (readable mounted.now.state ino)) attributes ∷ [])) result }
 {
@@ -155,8 +160,13 @@ fn make_symlink<F: Folder>(
     folder: &mut F,
 ) -> Result<(), MakeFault>
     requires { length (readable mounted.now.state ino) ≡ size }
-    ensures { Follows (F.made folder.old) (F.made folder.new) (F.failures folder.old)
-        (F.failures folder.new)
+    ensures { Follows
+        (record {
+          old = F.made folder.old;
+          new = F.made folder.new;
+          before = F.failures folder.old;
+          now = F.failures folder.new;
+        })
         path.now (plan_symlink (readable mounted.now.state ino) attributes) result }
 {
     if size as usize > GREATEST_TARGET {
@@ -194,8 +204,13 @@ fn make_anew<F: Folder>(
     folder: &mut F,
 ) -> Result<(), MakeFault>
     requires { option_map shown (tree.object mounted.now.state ino) ≡ Some object.now }
-    ensures { Follows (F.made folder.old) (F.made folder.new) (F.failures folder.old)
-        (F.failures folder.new)
+    ensures { Follows
+        (record {
+          old = F.made folder.old;
+          new = F.made folder.new;
+          before = F.failures folder.old;
+          now = F.failures folder.new;
+        })
         path.now (plan_anew object.now.kind (readable mounted.now.state ino) attributes) result }
 {
     match object.kind {
@@ -214,8 +229,13 @@ fn make_again<F: Folder>(
     first: &str,
     folder: &mut F,
 ) -> Result<(), MakeFault>
-    ensures { Follows (F.made folder.old) (F.made folder.new) (F.failures folder.old)
-        (F.failures folder.new)
+    ensures { Follows
+        (record {
+          old = F.made folder.old;
+          new = F.made folder.new;
+          before = F.failures folder.old;
+          now = F.failures folder.new;
+        })
         path.now (plan_again kind first.now) result }
 {
     match kind {
@@ -238,8 +258,12 @@ pub(crate) fn make<F: Folder>(
 ) -> Result<bool, MakeFault>
     ensures works { Works mounted.now.state owners (firsts_of firsts.old)
         (Make (map (λ name. name.now) names.now) ino)
-        (F.made folder.old) (F.made folder.new) (F.failures folder.old) (F.failures folder.new)
-        result }
+        (record {
+          old = F.made folder.old;
+          new = F.made folder.new;
+          before = F.failures folder.old;
+          now = F.failures folder.new;
+        }) result }
     ensures firsts { FirstsAfter (firsts_of firsts.old) (firsts_of firsts.new)
         (map (λ name. name.now) names.now) ino result }
 {
@@ -265,8 +289,13 @@ fn complete_at<F: Folder>(
     path: &str,
     folder: &mut F,
 ) -> Result<bool, MakeFault>
-    ensures follows { Follows (F.made folder.old) (F.made folder.new) (F.failures folder.old)
-        (F.failures folder.new)
+    ensures follows { Follows
+        (record {
+          old = F.made folder.old;
+          new = F.made folder.new;
+          before = F.failures folder.old;
+          now = F.failures folder.new;
+        })
         path.now (plan_completed owners (option_map shown (tree.object mounted.now.state ino)))
         result }
     ensures lost { IfOk result
@@ -291,8 +320,12 @@ pub(crate) fn complete<F: Folder>(
 ) -> Result<bool, MakeFault>
     ensures { Works mounted.now.state owners (λ i. None)
         (Complete (map (λ name. name.now) names.now) ino)
-        (F.made folder.old) (F.made folder.new) (F.failures folder.old) (F.failures folder.new)
-        result }
+        (record {
+          old = F.made folder.old;
+          new = F.made folder.new;
+          before = F.failures folder.old;
+          now = F.failures folder.new;
+        }) result }
 {
     let path = host_path(alloc, names)?;
     complete_at(mounted, owners, ino, path.as_str(), folder)

@@ -1,7 +1,7 @@
 use Rattle.std.proofs.Common.{◌≡◌, Bool, false, [], ◌∷◌, subst, Ok}
 use Rattle.jmount.specs.Tree.{is_directory}
 use Rattle.jextract.specs.Making.{firsts_of}
-use Rattle.jextract.specs.Outcomes.{Complete, FirstPaths, root_alone}
+use Rattle.jextract.specs.Outcomes.{Complete, Make, FirstPaths, root_alone}
 use Rattle.jextract.specs.Parts.{part_alone}
 use Rattle.jextract.specs.Walking.{Sight, Visits, no_totals}
 use Rattle.jextract.specs.declared.totals.Totals.{Totals}
@@ -28,8 +28,8 @@ returns-in_err-leave g c =
     let mid : Sight = record { made = g.F.Folder.made c.visit.new.folder; failures = g.F.Folder.failures c.visit.new.folder; told = g.N.Sink.taken c.visit.new.notes; told_failures = g.N.Sink.failures c.visit.new.notes; totals = c.visit.new.totals } in
     let new : Sight = record { made = g.F.Folder.made c.leave.new.folder; failures = g.F.Folder.failures c.leave.new.folder; told = g.N.Sink.taken c.leave.new.notes; told_failures = g.N.Sink.failures c.leave.new.notes; totals = c.leave.new.totals } in
     let entered : c.in_ok-visit.field-0 ≡ false = not_entered c.in_ok-visit.field-0 (is_directory s c.args.ino) c.requires c.in_ok-visit.ensures.entered in
-    let visits : Visits p c.args.owners (firsts_of c.in_ok-firsts.firsts) (firsts_of c.visit.new.firsts) (c.args.name.now ∷ []) c.args.ino old mid (Ok false) =
-    subst (λ (b : Bool). Visits p c.args.owners (firsts_of c.in_ok-firsts.firsts) (firsts_of c.visit.new.firsts) (c.args.name.now ∷ []) c.args.ino old mid (Ok b)) entered
+    let visits : Visits p c.args.owners (firsts_of c.in_ok-firsts.firsts) (firsts_of c.visit.new.firsts) (Make (c.args.name.now ∷ []) c.args.ino) old mid (Ok false) =
+    subst (λ (b : Bool). Visits p c.args.owners (firsts_of c.in_ok-firsts.firsts) (firsts_of c.visit.new.firsts) (Make (c.args.name.now ∷ []) c.args.ino) old mid (Ok b)) entered
     (c.in_ok-visit.ensures.visits p.names) in
     let fault = c.in_err-leave.field-0.0 in
     fills_at_fault p c.args.owners (counting old no_totals) (counting new no_totals) fault c.from_residual-in_err-leave.result c.from_residual-in_err-leave.ensures.1
@@ -44,11 +44,11 @@ returns g c =
     let mid : Sight = record { made = g.F.Folder.made c.visit.new.folder; failures = g.F.Folder.failures c.visit.new.folder; told = g.N.Sink.taken c.visit.new.notes; told_failures = g.N.Sink.failures c.visit.new.notes; totals = c.visit.new.totals } in
     let new : Sight = record { made = g.F.Folder.made c.leave.new.folder; failures = g.F.Folder.failures c.leave.new.folder; told = g.N.Sink.taken c.leave.new.notes; told_failures = g.N.Sink.failures c.leave.new.notes; totals = c.leave.new.totals } in
     let entered : c.in_ok-visit.field-0 ≡ false = not_entered c.in_ok-visit.field-0 (is_directory s c.args.ino) c.requires c.in_ok-visit.ensures.entered in
-    let visits : Visits p c.args.owners root_alone (firsts_of c.visit.new.firsts) (c.args.name.now ∷ []) c.args.ino old mid (Ok false) =
-    subst (λ (f : FirstPaths). Visits p c.args.owners f (firsts_of c.visit.new.firsts) (c.args.name.now ∷ []) c.args.ino old mid (Ok false)) c.in_ok-firsts.ensures.ok
-    (subst (λ (t : Totals). Visits p c.args.owners (firsts_of c.in_ok-firsts.firsts) (firsts_of c.visit.new.firsts) (c.args.name.now ∷ []) c.args.ino
+    let visits : Visits p c.args.owners root_alone (firsts_of c.visit.new.firsts) (Make (c.args.name.now ∷ []) c.args.ino) old mid (Ok false) =
+    subst (λ (f : FirstPaths). Visits p c.args.owners f (firsts_of c.visit.new.firsts) (Make (c.args.name.now ∷ []) c.args.ino) old mid (Ok false)) c.in_ok-firsts.ensures.ok
+    (subst (λ (t : Totals). Visits p c.args.owners (firsts_of c.in_ok-firsts.firsts) (firsts_of c.visit.new.firsts) (Make (c.args.name.now ∷ []) c.args.ino)
     (record { made = old.made; failures = old.failures; told = old.told; told_failures = old.told_failures; totals = t }) mid (Ok false)) c.none-totals.ensures
-    (subst (λ (b : Bool). Visits p c.args.owners (firsts_of c.in_ok-firsts.firsts) (firsts_of c.visit.new.firsts) (c.args.name.now ∷ []) c.args.ino
+    (subst (λ (b : Bool). Visits p c.args.owners (firsts_of c.in_ok-firsts.firsts) (firsts_of c.visit.new.firsts) (Make (c.args.name.now ∷ []) c.args.ino)
     (record { made = old.made; failures = old.failures; told = old.told; told_failures = old.told_failures; totals = c.none-totals.result }) mid (Ok b)) entered
     (c.in_ok-visit.ensures.visits p.names))) in
     fills_alone s c.args.owners c.args.name.now c.args.ino (firsts_of c.visit.new.firsts) old mid new c.in_ok-leave.field-0 visits (c.in_ok-leave.ensures p.names)

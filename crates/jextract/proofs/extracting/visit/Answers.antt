@@ -24,7 +24,7 @@ returns-then-is_made-clause-visits g c names =
     let s = with_names c.args.mounted.now.state names in
     let path = map (λ name. name.now) c.args.path.now in
     let done = c.in_ok-is_made.is_made in
-    subst (λ (b : Bool). Visits s c.args.owners (firsts_of c.args.firsts.now) (firsts_of c.make-done.new.firsts) path c.args.ino old new (Ok b))
+    subst (λ (b : Bool). Visits s c.args.owners (firsts_of c.args.firsts.now) (firsts_of c.make-done.new.firsts) (Make path c.args.ino) old new (Ok b))
     (ap (λ (b : Bool). b && is_directory s c.args.ino) c.if-is_made.true ∙ sym c.is_directory.ensures)
     (visit_made s c.args.owners (firsts_of c.args.firsts.now) (firsts_of c.make-done.new.firsts) path c.args.ino old new c.make-done.result done
     c.make-done.ensures.works c.make-done.ensures.firsts c.in_ok-is_made.ensures)
@@ -36,7 +36,7 @@ returns-else-is_made-clause-visits g c names =
     let s = with_names c.args.mounted.now.state names in
     let path = map (λ name. name.now) c.args.path.now in
     let done = c.in_ok-is_made.is_made in
-    subst (λ (b : Bool). Visits s c.args.owners (firsts_of c.args.firsts.now) (firsts_of c.make-done.new.firsts) path c.args.ino old new (Ok b))
+    subst (λ (b : Bool). Visits s c.args.owners (firsts_of c.args.firsts.now) (firsts_of c.make-done.new.firsts) (Make path c.args.ino) old new (Ok b))
     (ap (λ (b : Bool). b && is_directory s c.args.ino) c.if-is_made.false ∙ sym c.if-is_made.false)
     (visit_made s c.args.owners (firsts_of c.args.firsts.now) (firsts_of c.make-done.new.firsts) path c.args.ino old new c.make-done.result done
     c.make-done.ensures.works c.make-done.ensures.firsts c.in_ok-is_made.ensures)

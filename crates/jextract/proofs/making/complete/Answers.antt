@@ -11,5 +11,5 @@ returns-in_err-path g c =
 pub returns : goal.returns
 returns g c =
     works_as_planned c.args.mounted.now.state c.args.owners (λ i. None) (Complete (map (λ name. name.now) c.args.names.now) c.args.ino) c.as_str.result.now
-    (g.F.Folder.made c.args.folder.now) (g.F.Folder.made c.complete_at.new.folder) (g.F.Folder.failures c.args.folder.now) (g.F.Folder.failures c.complete_at.new.folder)
+    (record { old = g.F.Folder.made c.args.folder.now; new = g.F.Folder.made c.complete_at.new.folder; before = g.F.Folder.failures c.args.folder.now; now = g.F.Folder.failures c.complete_at.new.folder })
     c.complete_at.result (c.in_ok-path.ensures ∙ ap Ok (sym c.as_str.ensures.value)) c.complete_at.ensures.follows c.complete_at.ensures.lost

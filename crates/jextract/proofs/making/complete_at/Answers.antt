@@ -13,7 +13,7 @@ returns-in_default-clause-lost g c = sym (ap (lost_completed c.args.owners) (sym
 pub returns-in_err-finish_directory-clause-follows : goal.returns-in_err-finish_directory-clause-follows
 returns-in_err-finish_directory-clause-follows g c =
     let put = c.in_err-finish_directory.ensures in
-    one_fails (Unit {0}) _ _ _ _ _ _ (Attributed (attributes_of c.args.owners c.in-Some.object)) c.in_err-finish_directory.field-0.0 _
+    one_fails (Unit {0}) _ _ _ (Attributed (attributes_of c.args.owners c.in-Some.object)) c.in_err-finish_directory.field-0.0 _
     (ap (plan_completed c.args.owners) (sym c.object.ensures ∙ c.in-Some.is)) put.adds put.counts c.from_residual.ensures.1
 
 pub returns-clause-follows : goal.returns-clause-follows

@@ -24,13 +24,12 @@ returns-in_err-make_again-clause-works g c =
     let known = first_known c.args.firsts.now c.args.ino c.get.result c.in-Some-get.first c.get.ensures.value c.in-Some-get.is ∙ ap Some (sym c.as_str-in-Some-get.ensures.value) in
     let fault = c.in_err-make_again.field-0 in
     works_at_fault s c.args.owners (firsts_of c.args.firsts.now) (Make path c.args.ino)
-    (g.F.Folder.made c.args.folder.now) (g.F.Folder.made c.make_again.new.folder) (g.F.Folder.failures c.args.folder.now) (g.F.Folder.failures c.make_again.new.folder)
+    (record { old = g.F.Folder.made c.args.folder.now; new = g.F.Folder.made c.make_again.new.folder; before = g.F.Folder.failures c.args.folder.now; now = g.F.Folder.failures c.make_again.new.folder })
     fault.0 c.from_residual-in_err-make_again.result c.from_residual-in_err-make_again.ensures.1
     (works_as_planned s c.args.owners (firsts_of c.args.firsts.now) (Make path c.args.ino) c.as_str.result.now
-    (g.F.Folder.made c.args.folder.now) (g.F.Folder.made c.make_again.new.folder) (g.F.Folder.failures c.args.folder.now) (g.F.Folder.failures c.make_again.new.folder)
+    (record { old = g.F.Folder.made c.args.folder.now; new = g.F.Folder.made c.make_again.new.folder; before = g.F.Folder.failures c.args.folder.now; now = g.F.Folder.failures c.make_again.new.folder })
     (Err fault.0) (c.in_ok-path.ensures ∙ ap Ok (sym c.as_str.ensures.value))
-    (subst (λ (p : Plan). Follows {T = Unit {0}} (g.F.Folder.made c.args.folder.now) (g.F.Folder.made c.make_again.new.folder) (g.F.Folder.failures c.args.folder.now)
-    (g.F.Folder.failures c.make_again.new.folder) c.as_str.result.now p (Err fault.0))
+    (subst (λ (p : Plan). Follows {T = Unit {0}} (record { old = g.F.Folder.made c.args.folder.now; new = g.F.Folder.made c.make_again.new.folder; before = g.F.Folder.failures c.args.folder.now; now = g.F.Folder.failures c.make_again.new.folder }) c.as_str.result.now p (Err fault.0))
     (sym (planned_again s c.args.owners (firsts_of c.args.firsts.now) path c.args.ino c.in-Some.object c.as_str-in-Some-get.result.now there known)) c.in_err-make_again.ensures) (tt {0}))
 
 pub returns-in-Some-get-clause-works : goal.returns-in-Some-get-clause-works
@@ -40,10 +39,9 @@ returns-in-Some-get-clause-works g c =
     let there = sym c.object.ensures ∙ c.in-Some.is in
     let known = first_known c.args.firsts.now c.args.ino c.get.result c.in-Some-get.first c.get.ensures.value c.in-Some-get.is ∙ ap Some (sym c.as_str-in-Some-get.ensures.value) in
     works_as_planned s c.args.owners (firsts_of c.args.firsts.now) (Make path c.args.ino) c.as_str.result.now
-    (g.F.Folder.made c.args.folder.now) (g.F.Folder.made c.make_again.new.folder) (g.F.Folder.failures c.args.folder.now) (g.F.Folder.failures c.make_again.new.folder)
+    (record { old = g.F.Folder.made c.args.folder.now; new = g.F.Folder.made c.make_again.new.folder; before = g.F.Folder.failures c.args.folder.now; now = g.F.Folder.failures c.make_again.new.folder })
     (Ok false) (c.in_ok-path.ensures ∙ ap Ok (sym c.as_str.ensures.value))
-    (subst (λ (p : Plan). Follows {T = Unit {0}} (g.F.Folder.made c.args.folder.now) (g.F.Folder.made c.make_again.new.folder) (g.F.Folder.failures c.args.folder.now)
-    (g.F.Folder.failures c.make_again.new.folder) c.as_str.result.now p (Ok (tt {0})))
+    (subst (λ (p : Plan). Follows {T = Unit {0}} (record { old = g.F.Folder.made c.args.folder.now; new = g.F.Folder.made c.make_again.new.folder; before = g.F.Folder.failures c.args.folder.now; now = g.F.Folder.failures c.make_again.new.folder }) c.as_str.result.now p (Ok (tt {0})))
     (sym (planned_again s c.args.owners (firsts_of c.args.firsts.now) path c.args.ino c.in-Some.object c.as_str-in-Some-get.result.now there known)) c.in_ok-make_again.ensures)
     (lost_again s c.args.owners (firsts_of c.args.firsts.now) path c.args.ino c.in-Some.object c.as_str-in-Some-get.result.now there known)
 
@@ -57,13 +55,12 @@ returns-in_err-make_anew-clause-works g c =
     ∙ ap (plan_anew c.in-Some.object.kind (readable s c.args.ino)) (sym c.attributes_of-attributes.ensures) in
     let fault = c.in_err-make_anew.field-0.0 in
     works_at_fault s c.args.owners firsts (Make path c.args.ino)
-    (g.F.Folder.made c.args.folder.now) (g.F.Folder.made c.make_anew.new.folder) (g.F.Folder.failures c.args.folder.now) (g.F.Folder.failures c.make_anew.new.folder)
+    (record { old = g.F.Folder.made c.args.folder.now; new = g.F.Folder.made c.make_anew.new.folder; before = g.F.Folder.failures c.args.folder.now; now = g.F.Folder.failures c.make_anew.new.folder })
     fault c.from_residual-in_err-make_anew.result c.from_residual-in_err-make_anew.ensures.1
     (works_as_planned s c.args.owners firsts (Make path c.args.ino) c.as_str-2.result.now
-    (g.F.Folder.made c.args.folder.now) (g.F.Folder.made c.make_anew.new.folder) (g.F.Folder.failures c.args.folder.now) (g.F.Folder.failures c.make_anew.new.folder)
+    (record { old = g.F.Folder.made c.args.folder.now; new = g.F.Folder.made c.make_anew.new.folder; before = g.F.Folder.failures c.args.folder.now; now = g.F.Folder.failures c.make_anew.new.folder })
     (Err fault) (c.in_ok-path.ensures ∙ ap Ok (sym c.as_str-2.ensures.value))
-    (subst (λ (p : Plan). Follows {T = Unit {0}} (g.F.Folder.made c.args.folder.now) (g.F.Folder.made c.make_anew.new.folder) (g.F.Folder.failures c.args.folder.now)
-    (g.F.Folder.failures c.make_anew.new.folder) c.as_str-2.result.now p (Err fault)) (sym plan) c.in_err-make_anew.ensures) (tt {0}))
+    (subst (λ (p : Plan). Follows {T = Unit {0}} (record { old = g.F.Folder.made c.args.folder.now; new = g.F.Folder.made c.make_anew.new.folder; before = g.F.Folder.failures c.args.folder.now; now = g.F.Folder.failures c.make_anew.new.folder }) c.as_str-2.result.now p (Err fault)) (sym plan) c.in_err-make_anew.ensures) (tt {0}))
 
 pub returns-in_err-insert-clause-works : goal.returns-in_err-insert-clause-works
 returns-in_err-insert-clause-works g c =
@@ -74,10 +71,9 @@ returns-in_err-insert-clause-works g c =
     let plan = planned_anew s c.args.owners firsts path c.args.ino c.in-Some.object there (first_unknown c.args.firsts.now c.args.ino c.get.result c.get.ensures.value c.in_default-get.is)
     ∙ ap (plan_anew c.in-Some.object.kind (readable s c.args.ino)) (sym c.attributes_of-attributes.ensures) in
     works_then_fails s c.args.owners firsts (Make path c.args.ino) c.as_str-2.result.now
-    (g.F.Folder.made c.args.folder.now) (g.F.Folder.made c.make_anew.new.folder) (g.F.Folder.failures c.args.folder.now) (g.F.Folder.failures c.make_anew.new.folder)
+    (record { old = g.F.Folder.made c.args.folder.now; new = g.F.Folder.made c.make_anew.new.folder; before = g.F.Folder.failures c.args.folder.now; now = g.F.Folder.failures c.make_anew.new.folder })
     c.from_residual-in_err-insert.result (Unit {0}) (tt {0}) (c.in_ok-path.ensures ∙ ap Ok (sym c.as_str-2.ensures.value))
-    (subst (λ (p : Plan). Follows {T = Unit {0}} (g.F.Folder.made c.args.folder.now) (g.F.Folder.made c.make_anew.new.folder) (g.F.Folder.failures c.args.folder.now)
-    (g.F.Folder.failures c.make_anew.new.folder) c.as_str-2.result.now p (Ok (tt {0}))) (sym plan) c.in_ok-make_anew.ensures)
+    (subst (λ (p : Plan). Follows {T = Unit {0}} (record { old = g.F.Folder.made c.args.folder.now; new = g.F.Folder.made c.make_anew.new.folder; before = g.F.Folder.failures c.args.folder.now; now = g.F.Folder.failures c.make_anew.new.folder }) c.as_str-2.result.now p (Ok (tt {0}))) (sym plan) c.in_ok-make_anew.ensures)
     c.from_residual-in_err-insert.ensures.1
 
 pub returns-clause-works : goal.returns-clause-works
@@ -90,10 +86,9 @@ returns-clause-works g c =
     let plan = planned_anew s c.args.owners firsts path c.args.ino c.in-Some.object there unknown
     ∙ ap (plan_anew c.in-Some.object.kind (readable s c.args.ino)) (sym c.attributes_of-attributes.ensures) in
     works_as_planned s c.args.owners firsts (Make path c.args.ino) c.as_str-2.result.now
-    (g.F.Folder.made c.args.folder.now) (g.F.Folder.made c.make_anew.new.folder) (g.F.Folder.failures c.args.folder.now) (g.F.Folder.failures c.make_anew.new.folder)
+    (record { old = g.F.Folder.made c.args.folder.now; new = g.F.Folder.made c.make_anew.new.folder; before = g.F.Folder.failures c.args.folder.now; now = g.F.Folder.failures c.make_anew.new.folder })
     (Ok c.loses_when_made.result) (c.in_ok-path.ensures ∙ ap Ok (sym c.as_str-2.ensures.value))
-    (subst (λ (p : Plan). Follows {T = Unit {0}} (g.F.Folder.made c.args.folder.now) (g.F.Folder.made c.make_anew.new.folder) (g.F.Folder.failures c.args.folder.now)
-    (g.F.Folder.failures c.make_anew.new.folder) c.as_str-2.result.now p (Ok (tt {0}))) (sym plan) c.in_ok-make_anew.ensures)
+    (subst (λ (p : Plan). Follows {T = Unit {0}} (record { old = g.F.Folder.made c.args.folder.now; new = g.F.Folder.made c.make_anew.new.folder; before = g.F.Folder.failures c.args.folder.now; now = g.F.Folder.failures c.make_anew.new.folder }) c.as_str-2.result.now p (Ok (tt {0}))) (sym plan) c.in_ok-make_anew.ensures)
     (c.loses_when_made.ensures ∙ lost_anew s c.args.owners firsts path c.args.ino c.in-Some.object there unknown)
 
 pub returns-clause-firsts : goal.returns-clause-firsts

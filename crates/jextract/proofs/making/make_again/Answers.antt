@@ -6,7 +6,7 @@ use Rattle.jextract.proofs.making.make_again.Goals as goal
 pub returns-in_err-make_link-in-Regular : goal.returns-in_err-make_link-in-Regular
 returns-in_err-make_link-in-Regular g c =
     let put = c.in_err-make_link-in-Regular.ensures in
-    one_fails (Unit {0}) _ _ _ _ _ _ (Link c.args.first.now) c.in_err-make_link-in-Regular.field-0.0 _
+    one_fails (Unit {0}) _ _ _ (Link c.args.first.now) c.in_err-make_link-in-Regular.field-0.0 _
     (again_links c.args.kind c.args.first.now c.in-Regular.is) put.adds put.counts c.from_residual.ensures.1
 
 pub returns : goal.returns

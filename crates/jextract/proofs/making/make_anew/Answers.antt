@@ -11,13 +11,13 @@ pub returns-in_err-make_directory-in-Directory : goal.returns-in_err-make_direct
 returns-in_err-make_directory-in-Directory g c =
     let bytes = readable c.args.mounted.now.state c.args.ino in
     let put = c.in_err-make_directory-in-Directory.ensures in
-    one_fails (Unit {0}) _ _ _ _ _ _ Directory c.in_err-make_directory-in-Directory.field-0.0 _
+    one_fails (Unit {0}) _ _ _ Directory c.in_err-make_directory-in-Directory.field-0.0 _
     (ap (λ (kind : Kind). plan_anew kind bytes c.args.attributes) c.in-Directory.is) put.adds put.counts c.from_residual.ensures.1
 
 pub returns-in_err-make_file-in-Regular : goal.returns-in_err-make_file-in-Regular
 returns-in_err-make_file-in-Regular g c =
     let bytes = readable c.args.mounted.now.state c.args.ino in
-    does_fail (Unit {0}) _ _ _ _ _ _ (File ∷ Content (cells_of bytes) c.args.attributes ∷ []) c.in_err-make_file-in-Regular.field-0.0 _
+    does_fail (Unit {0}) _ _ _ (File ∷ Content (cells_of bytes) c.args.attributes ∷ []) c.in_err-make_file-in-Regular.field-0.0 _
     (ap (λ (kind : Kind). plan_anew kind bytes c.args.attributes) c.in-Regular.is) c.in_err-make_file-in-Regular.ensures
     c.from_residual-in_err-make_file-in-Regular.ensures.1
 

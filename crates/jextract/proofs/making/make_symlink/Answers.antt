@@ -11,7 +11,7 @@ returns-in_err-make_symlink g c =
     let bytes = readable c.args.mounted.now.state c.args.ino in
     let put = c.in_err-make_symlink.ensures in
     let same = target_read bytes _ c.read_at-count.new.out c.read_at-count.result c.read_at-count.ensures.count c.read_at-count.ensures.bytes (omega (arith, c.requires)) in
-    one_fails (Unit {0}) _ _ _ _ _ _ (Symlink bytes c.args.attributes) c.in_err-make_symlink.field-0.0 _
+    one_fails (Unit {0}) _ _ _ (Symlink bytes c.args.attributes) c.in_err-make_symlink.field-0.0 _
     (symlink_planned bytes c.args.attributes (ap is_target (sym same) ∙ c.in-Some.ensures.1)) put.adds put.counts c.from_residual.ensures.1
 
 pub returns : goal.returns

@@ -2,6 +2,7 @@ use Rattle.std.proofs.Common.{◌≡◌, map, ℕ, Bool, true, List, [], ◌∷�
 use Rattle.std.specs.Prelude.{IsErrAnd}
 use Rattle.jmount.specs.Tree.{entries_in}
 use Rattle.jextract.specs.Making.{firsts_of}
+use Rattle.jextract.specs.Outcomes.{Make}
 use Rattle.jextract.specs.Parts.{is_in_part, keys_of, part_along}
 use Rattle.jextract.specs.Walking.{Sight, extraction_todo, Visits, Completes, extraction_way, unmade}
 use Rattle.jextract.specs.declared.extracting.Walk.{Walk}
@@ -103,8 +104,8 @@ returns-in_ok-enter g c =
     (ap (λ p. map (λ name. name.now) p.items) is.3 ∙ way_on w c.in-Some.name c.push.new.self.items c.push.new.self.items refl c.in_ok-push.ensures.items)
     (subst (λ f. unmade s (firsts_of f) + length (entries_in s c.in-Some.ino) ≤ unmade s (firsts_of w.firsts)) (sym is.4)
     (subst (λ (b : Bool). unmade s (firsts_of c.visit.new.firsts) + (if b then length (entries_in s c.in-Some.ino) else 0) ≤ unmade s (firsts_of w.firsts)) c.if-branch.true count))
-    (subst (λ f. Visits (part_along part s) c.args.owners (firsts_of w.firsts) (firsts_of f) (extraction_way w ++ c.in-Some.name.now ∷ []) c.in-Some.ino old seen (Ok true)) (sym is.4)
-    (subst (λ (b : Bool). Visits (part_along part s) c.args.owners (firsts_of w.firsts) (firsts_of c.visit.new.firsts) (extraction_way w ++ c.in-Some.name.now ∷ []) c.in-Some.ino old seen (Ok b)) c.if-branch.true visits)))
+    (subst (λ f. Visits (part_along part s) c.args.owners (firsts_of w.firsts) (firsts_of f) (Make (extraction_way w ++ c.in-Some.name.now ∷ []) c.in-Some.ino) old seen (Ok true)) (sym is.4)
+    (subst (λ (b : Bool). Visits (part_along part s) c.args.owners (firsts_of w.firsts) (firsts_of c.visit.new.firsts) (Make (extraction_way w ++ c.in-Some.name.now ∷ []) c.in-Some.ino) old seen (Ok b)) c.if-branch.true visits)))
 
 pub returns-else-branch : goal.returns-else-branch
 returns-else-branch g c =
@@ -121,4 +122,4 @@ returns-else-branch g c =
     stays s part c.args.owners w n c.in-Some.name.now c.in-Some.ino old seen c.in-Some.ensures.steps inside refl refl
     (way_back w c.in-Some.name c.push.new.self.items c.pop.new.self.items c.in_ok-push.ensures.items
     (c.pop.ensures.rest ∙ ap (λ (k : ℕ). take (k - 1) c.push.new.self.items) c.push.new.self.ok.0)) (omega (arith, count))
-    (subst (λ (b : Bool). Visits (part_along part s) c.args.owners (firsts_of w.firsts) (firsts_of c.visit.new.firsts) (extraction_way w ++ c.in-Some.name.now ∷ []) c.in-Some.ino old seen (Ok b)) c.if-branch.false visits)
+    (subst (λ (b : Bool). Visits (part_along part s) c.args.owners (firsts_of w.firsts) (firsts_of c.visit.new.firsts) (Make (extraction_way w ++ c.in-Some.name.now ∷ []) c.in-Some.ino) old seen (Ok b)) c.if-branch.false visits)
