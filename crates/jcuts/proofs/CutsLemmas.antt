@@ -138,7 +138,7 @@ next_is e flash asked from n d o at to nodes below same_long o_is leads op =
 pub told_next : (e : Endian) (flash : Flash) (asked : Asked) (from : Point) (n : ℕ) (d o : Op) (at to : Point) (line : ℕ) (a b c : Option (List ℕ)) (f g h : ℕ) (counts more : Counts)
     → n < length asked.ops → length asked.lines ≡ length asked.ops → o ≡ get_or asked.ops n d → line ≡ get_or asked.lines n 0
     → Told e flash asked from n at (record { old = a; new = b; before = f; now = g }) counts
-    → TellsOp e flash asked.telling line o at to (record { old = b; new = c; before = g; now = h }) (Ok more)
+    → TellsOp e flash (record { telling = asked.telling; op = o; line = line }) at to (record { old = b; new = c; before = g; now = h }) (Ok more)
     → Told e flash asked from (suc n) to (record { old = a; new = c; before = f; now = h }) (record { nodes = counts.nodes + more.nodes; weak = counts.weak + more.weak })
 told_next e flash asked from n d o at to line a b c f g h counts more below same_long o_is line_is first did =
     let nodes : List Standing = did.0 in
@@ -166,7 +166,7 @@ told_next e flash asked from n d o at to line a b c f g h counts more below same
 pub next_fits : (e : Endian) (flash : Flash) (asked : Asked) (from : Point) (n : ℕ) (d o : Op) (at to : Point) (line : ℕ) (a b c : Option (List ℕ)) (f g h : ℕ) (counts more : Counts) (page size blocks : ℕ)
     → n < length asked.ops → length asked.lines ≡ length asked.ops → o ≡ get_or asked.ops n d → line ≡ get_or asked.lines n 0
     → Told e flash asked from n at (record { old = a; new = b; before = f; now = g }) counts
-    → TellsOp e flash asked.telling line o at to (record { old = b; new = c; before = g; now = h }) (Ok more)
+    → TellsOp e flash (record { telling = asked.telling; op = o; line = line }) at to (record { old = b; new = c; before = g; now = h }) (Ok more)
     → CanPlan page size blocks to.address to.index
     → (counts.nodes + more.nodes ≤ 268435456) × (counts.weak + more.weak ≤ 268435456)
 next_fits e flash asked from n d o at to line a b c f g h counts more page size blocks below same_long o_is line_is first did can =
@@ -178,7 +178,7 @@ next_fits e flash asked from n d o at to line a b c f g h counts more page size 
 pub told_stop : (e : Endian) (flash : Flash) (asked : Asked) (from : Point) (n : ℕ) (d o : Op) (at to : Point) (line : ℕ) (a b c : Option (List ℕ)) (f g h : ℕ) (counts : Counts) (fault : CutsFault)
     → n < length asked.ops → length asked.lines ≡ length asked.ops → o ≡ get_or asked.ops n d → line ≡ get_or asked.lines n 0
     → Told e flash asked from n at (record { old = a; new = b; before = f; now = g }) counts
-    → TellsOp e flash asked.telling line o at to (record { old = b; new = c; before = g; now = h }) (Err fault)
+    → TellsOp e flash (record { telling = asked.telling; op = o; line = line }) at to (record { old = b; new = c; before = g; now = h }) (Err fault)
     → TellsOps e flash asked from to (record { old = a; new = c; before = f; now = h }) (Err fault)
 told_stop e flash asked from n d o at to line a b c f g h counts (told.Session fault None) below same_long o_is line_is first did = absurd did
 told_stop e flash asked from n d o at to line a b c f g h counts (told.Session fault (Some l)) below same_long o_is line_is first did =

@@ -53,6 +53,12 @@ pub record Asked : Type 0 where
   pub ops : List Op
   pub lines : List ℕ
 
+-- one of the operations, the number of its line, and what is told of its nodes
+pub record AskedOne : Type 0 where
+  pub telling : Telling
+  pub op : Op
+  pub line : ℕ
+
 -- a sink before and after: what is known of its bytes, and how often it failed
 pub record SinkChange : Type 0 where
   pub old : Option (List ℕ)
@@ -115,17 +121,19 @@ told_of_op telling line nodes = text_of_nodes telling (step_nodes line (length n
 
 -- It is accepted, its nodes are told, and writing goes on after them; it is declined, and nothing
 -- is told; or the sink failed, and a beginning of it went out.
-abbrev pub TellsOp : Endian → Flash → Telling → ℕ → Op → Point → Point → SinkChange
+abbrev pub TellsOp : Endian → Flash → AskedOne → Point → Point → SinkChange
     → Result Counts CutsFault → Type 0
-TellsOp e flash telling line o from to sink (Ok counts) =
-    (nodes : List Standing) × IsPlannedAt e flash from o to nodes × IsCounted nodes counts
-    × Appends sink.old sink.new (told_of_op telling line nodes) × (sink.now ≡ sink.before)
-TellsOp e flash telling line o from to sink (Err (told.Session fault None)) = ⊥
-TellsOp e flash telling line o from to sink (Err (told.Session fault (Some n))) =
-    (n ≡ line) × IsDeclined e flash from o fault × (sink.new ≡ sink.old) × (sink.now ≡ sink.before)
-TellsOp e flash telling line o from to sink (Err told.Output) =
-    (nodes : List Standing) × IsPlannedAt e flash from o to nodes
-    × PutsPart sink.old sink.new (told_of_op telling line nodes)
+TellsOp e flash asked from to sink (Ok counts) =
+    (nodes : List Standing) × IsPlannedAt e flash from asked.op to nodes × IsCounted nodes counts
+    × Appends sink.old sink.new (told_of_op asked.telling asked.line nodes)
+    × (sink.now ≡ sink.before)
+TellsOp e flash asked from to sink (Err (told.Session fault None)) = ⊥
+TellsOp e flash asked from to sink (Err (told.Session fault (Some n))) =
+    (n ≡ asked.line) × IsDeclined e flash from asked.op fault × (sink.new ≡ sink.old)
+    × (sink.now ≡ sink.before)
+TellsOp e flash asked from to sink (Err told.Output) =
+    (nodes : List Standing) × IsPlannedAt e flash from asked.op to nodes
+    × PutsPart sink.old sink.new (told_of_op asked.telling asked.line nodes)
     × (sink.now ≡ next_count sink.before)
 
 -- ---- the first of several

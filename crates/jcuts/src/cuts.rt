@@ -97,7 +97,8 @@ fn tell_op<E: Order, T: Sink>(
     requires { IsReady plan.old }
     ensures flash { flash_of plan.new ≡ flash_of plan.old }
     ensures ready { OnOk result (IsReady plan.new) }
-    ensures tells { TellsOp E.order (flash_of plan.old) telling line op.now (point_of plan.old)
+    ensures tells { TellsOp E.order (flash_of plan.old)
+        (record { telling = telling; op = op.now; line = line }) (point_of plan.old)
         (point_of plan.new) (record {
           old = T.taken sink.old;
           new = T.taken sink.new;

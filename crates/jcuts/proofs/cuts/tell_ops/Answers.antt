@@ -32,7 +32,7 @@ overflow_add-nodes g c =
     let below : n < length a.ops.now = search rules in
     let is : o ≡ get_or a.ops.now n o = search rules in
     let asked : Asked = record { telling = a.telling; ops = a.ops.now; lines = a.lines.now } in
-    let did = subst (λ (f : Flash). TellsOp e f a.telling line o (point_of l.plan) (point_of t) (record { old = g.T.Sink.taken l.sink; new = g.T.Sink.taken c.tell_op.new.sink; before = g.T.Sink.failures l.sink; now = g.T.Sink.failures c.tell_op.new.sink }) (Ok c.in-Ok.more))
+    let did = subst (λ (f : Flash). TellsOp e f (record { telling = a.telling; op = o; line = line }) (point_of l.plan) (point_of t) (record { old = g.T.Sink.taken l.sink; new = g.T.Sink.taken c.tell_op.new.sink; before = g.T.Sink.failures l.sink; now = g.T.Sink.failures c.tell_op.new.sink }) (Ok c.in-Ok.more))
     inv.flash c.in-Ok.ensures.tells in
     let fit = next_fits e (flash_of a.plan.now) asked (point_of a.plan.now) n o o (point_of l.plan) (point_of t) line (g.T.Sink.taken a.sink.now) (g.T.Sink.taken l.sink) (g.T.Sink.taken c.tell_op.new.sink)
     (g.T.Sink.failures a.sink.now) (g.T.Sink.failures l.sink) (g.T.Sink.failures c.tell_op.new.sink) (record { nodes = l.nodes; weak = l.weak }) c.in-Ok.more (page_size t.page) t.block t.blocks
@@ -53,7 +53,7 @@ overflow_add-weak g c =
     let below : n < length a.ops.now = search rules in
     let is : o ≡ get_or a.ops.now n o = search rules in
     let asked : Asked = record { telling = a.telling; ops = a.ops.now; lines = a.lines.now } in
-    let did = subst (λ (f : Flash). TellsOp e f a.telling line o (point_of l.plan) (point_of t) (record { old = g.T.Sink.taken l.sink; new = g.T.Sink.taken c.tell_op.new.sink; before = g.T.Sink.failures l.sink; now = g.T.Sink.failures c.tell_op.new.sink }) (Ok c.in-Ok.more))
+    let did = subst (λ (f : Flash). TellsOp e f (record { telling = a.telling; op = o; line = line }) (point_of l.plan) (point_of t) (record { old = g.T.Sink.taken l.sink; new = g.T.Sink.taken c.tell_op.new.sink; before = g.T.Sink.failures l.sink; now = g.T.Sink.failures c.tell_op.new.sink }) (Ok c.in-Ok.more))
     inv.flash c.in-Ok.ensures.tells in
     let fit = next_fits e (flash_of a.plan.now) asked (point_of a.plan.now) n o o (point_of l.plan) (point_of t) line (g.T.Sink.taken a.sink.now) (g.T.Sink.taken l.sink) (g.T.Sink.taken c.tell_op.new.sink)
     (g.T.Sink.failures a.sink.now) (g.T.Sink.failures l.sink) (g.T.Sink.failures c.tell_op.new.sink) (record { nodes = l.nodes; weak = l.weak }) c.in-Ok.more (page_size t.page) t.block t.blocks
@@ -76,7 +76,7 @@ loop-accepted-preserved g c =
     let asked : Asked = record { telling = a.telling; ops = a.ops.now; lines = a.lines.now } in
     let at : Point = point_of l.plan in
     let to : Point = point_of c.tell_op.new.plan in
-    let did = subst (λ (f : Flash). TellsOp e f a.telling line o at to (record { old = g.T.Sink.taken l.sink; new = g.T.Sink.taken c.tell_op.new.sink; before = g.T.Sink.failures l.sink; now = g.T.Sink.failures c.tell_op.new.sink }) (Ok c.in-Ok.more))
+    let did = subst (λ (f : Flash). TellsOp e f (record { telling = a.telling; op = o; line = line }) at to (record { old = g.T.Sink.taken l.sink; new = g.T.Sink.taken c.tell_op.new.sink; before = g.T.Sink.failures l.sink; now = g.T.Sink.failures c.tell_op.new.sink }) (Ok c.in-Ok.more))
     inv.flash c.in-Ok.ensures.tells in
     record {
       within = omega arith;
@@ -103,7 +103,7 @@ returns-in-Err g c =
     let asked : Asked = record { telling = a.telling; ops = a.ops.now; lines = a.lines.now } in
     let at : Point = point_of l.plan in
     let to : Point = point_of c.tell_op.new.plan in
-    let did = subst (λ (f : Flash). TellsOp e f a.telling line o at to (record { old = g.T.Sink.taken l.sink; new = g.T.Sink.taken c.tell_op.new.sink; before = g.T.Sink.failures l.sink; now = g.T.Sink.failures c.tell_op.new.sink }) (Err c.in-Err.fault))
+    let did = subst (λ (f : Flash). TellsOp e f (record { telling = a.telling; op = o; line = line }) at to (record { old = g.T.Sink.taken l.sink; new = g.T.Sink.taken c.tell_op.new.sink; before = g.T.Sink.failures l.sink; now = g.T.Sink.failures c.tell_op.new.sink }) (Err c.in-Err.fault))
     inv.flash c.in-Err.ensures.tells in
     told_stop e (flash_of a.plan.now) asked (point_of a.plan.now) n o o at to line (g.T.Sink.taken a.sink.now) (g.T.Sink.taken l.sink) (g.T.Sink.taken c.tell_op.new.sink)
     (g.T.Sink.failures a.sink.now) (g.T.Sink.failures l.sink) (g.T.Sink.failures c.tell_op.new.sink) (record { nodes = l.nodes; weak = l.weak }) c.in-Err.fault below c.requires.numbered is refl inv.told did
