@@ -15,7 +15,7 @@ use Rattle.jfolder.specs.declared.reading.Folder.{Folder}
 
 -- all of what is told up to here went out
 abbrev pub Told : (List LeftOut → Type 0) → Option (List ℕ) → Option (List ℕ) → ℕ → ℕ → ℕ → ℕ → Type 0
-Told fits old new before now count total = TellsMore {X = ℕ} (λ _ lefts. fits lefts) old new before now count total (Ok 0)
+Told fits old new before now count total = TellsMore {X = ℕ} (λ _ lefts. fits lefts) (record { old = old; new = new; before = before; now = now }) count total (Ok 0)
 
 pub tells_nothing : (F : List LeftOut → Type 0) (a : Option (List ℕ)) (x k : ℕ) → k < 2 ^ 64 → F [] → Told F a a x x k k
 tells_nothing F a x k small none = ([], Appends-nil a, refl, omega arith, none)
@@ -28,7 +28,7 @@ joined a b c xs ys p q = subst (Appends a c) (sym (flat_map-append left_out_line
 
 -- what was told, and then what a call tells
 pub tells_then : {X : Type 0} (F : List LeftOut → Type 0) (G H : X → List LeftOut → Type 0) (a b c : Option (List ℕ)) (x y z k m n : ℕ) (r : Result X ReadFault)
-    → ((v : X) (xs ys : List LeftOut) → F xs → G v ys → H v (xs ++ ys)) → Told F a b x y k m → TellsMore G b c y z m n r → TellsMore H a c x z k n r
+    → ((v : X) (xs ys : List LeftOut) → F xs → G v ys → H v (xs ++ ys)) → Told F a b x y k m → TellsMore G (record { old = b; new = c; before = y; now = z }) m n r → TellsMore H (record { old = a; new = c; before = x; now = z }) k n r
 tells_then F G H a b c x y z k m n (Ok v) both p q = (
   p.0 ++ q.0,
   joined a b c p.0 q.0 p.1 q.1,
@@ -45,34 +45,34 @@ tells_then F G H a b c x y z k m n (Err fault.OutOfMemory) both p q = ((p.0 ++ q
 
 -- another fact that follows
 pub tells_as : {X : Type 0} (G H : X → List LeftOut → Type 0) (a b : Option (List ℕ)) (x y k m : ℕ) (r : Result X ReadFault)
-    → ((v : X) (ls : List LeftOut) → r ≡ Ok v → G v ls → H v ls) → TellsMore G a b x y k m r → TellsMore H a b x y k m r
+    → ((v : X) (ls : List LeftOut) → r ≡ Ok v → G v ls → H v ls) → TellsMore G (record { old = a; new = b; before = x; now = y }) k m r → TellsMore H (record { old = a; new = b; before = x; now = y }) k m r
 tells_as G H a b x y k m (Ok v) follows p = (p.0, p.1, p.2, p.3, follows v p.0 refl p.4)
 tells_as G H a b x y k m (Err fault.Notes) follows p = p
 tells_as G H a b x y k m (Err (fault.Folder why)) follows p = p
 tells_as G H a b x y k m (Err fault.OutOfMemory) follows p = p
 
-pub tells_no_more : (X : Type 0) (H : X → List LeftOut → Type 0) (a : Option (List ℕ)) (x k n : ℕ) (r : Result X ReadFault) → r ≡ Err fault.OutOfMemory → TellsMore H a a x x k n r
-tells_no_more X H a x k n r is = subst (λ (s : Result X ReadFault). TellsMore H a a x x k n s) (sym is) (([], Appends-nil a), refl)
+pub tells_no_more : (X : Type 0) (H : X → List LeftOut → Type 0) (a : Option (List ℕ)) (x k n : ℕ) (r : Result X ReadFault) → r ≡ Err fault.OutOfMemory → TellsMore H (record { old = a; new = a; before = x; now = x }) k n r
+tells_no_more X H a x k n r is = subst (λ (s : Result X ReadFault). TellsMore H (record { old = a; new = a; before = x; now = x }) k n s) (sym is) (([], Appends-nil a), refl)
 
 -- a call failed, and the one above it with it
 failed_same : (X Y : Type 0) (G : X → List LeftOut → Type 0) (H : Y → List LeftOut → Type 0) (a b : Option (List ℕ)) (x y k m n : ℕ) (e : ReadFault)
-    → TellsMore G a b x y k m (Err e) → TellsMore H a b x y k n (Err e)
+    → TellsMore G (record { old = a; new = b; before = x; now = y }) k m (Err e) → TellsMore H (record { old = a; new = b; before = x; now = y }) k n (Err e)
 failed_same X Y G H a b x y k m n fault.Notes p = p
 failed_same X Y G H a b x y k m n (fault.Folder why) p = p
 failed_same X Y G H a b x y k m n fault.OutOfMemory p = p
 
 pub tells_failed : (X Y : Type 0) (G : X → List LeftOut → Type 0) (H : Y → List LeftOut → Type 0) (a b : Option (List ℕ)) (x y k m n : ℕ) (e : ReadFault) (r : Result Y ReadFault) → r ≡ Err e
-    → TellsMore G a b x y k m (Err e) → TellsMore H a b x y k n r
-tells_failed X Y G H a b x y k m n e r is p = subst (λ (s : Result Y ReadFault). TellsMore H a b x y k n s) (sym is) (failed_same X Y G H a b x y k m n e p)
+    → TellsMore G (record { old = a; new = b; before = x; now = y }) k m (Err e) → TellsMore H (record { old = a; new = b; before = x; now = y }) k n r
+tells_failed X Y G H a b x y k m n e r is p = subst (λ (s : Result Y ReadFault). TellsMore H (record { old = a; new = b; before = x; now = y }) k n s) (sym is) (failed_same X Y G H a b x y k m n e p)
 
 -- memory ran out after what was told
 pub told_no_more : (X : Type 0) (F : List LeftOut → Type 0) (H : X → List LeftOut → Type 0) (a b : Option (List ℕ)) (x y k m n : ℕ) (r : Result X ReadFault) → r ≡ Err fault.OutOfMemory
-    → Told F a b x y k m → TellsMore H a b x y k n r
-told_no_more X F H a b x y k m n r is p = subst (λ (s : Result X ReadFault). TellsMore H a b x y k n s) (sym is) ((p.0, p.1), p.2)
+    → Told F a b x y k m → TellsMore H (record { old = a; new = b; before = x; now = y }) k n r
+told_no_more X F H a b x y k m n r is p = subst (λ (s : Result X ReadFault). TellsMore H (record { old = a; new = b; before = x; now = y }) k n s) (sym is) ((p.0, p.1), p.2)
 
 -- what was told, and then what the part tells that failed
 pub tells_up_to : (X Y : Type 0) (F : List LeftOut → Type 0) (G : X → List LeftOut → Type 0) (H : Y → List LeftOut → Type 0) (a b c : Option (List ℕ)) (x y z k m n total : ℕ) (e v : ReadFault)
-    (r : Result Y ReadFault) → r ≡ Err v → v ≡ e → Told F a b x y k m → TellsMore G b c y z m n (Err e) → TellsMore H a c x z k total r
+    (r : Result Y ReadFault) → r ≡ Err v → v ≡ e → Told F a b x y k m → TellsMore G (record { old = b; new = c; before = y; now = z }) m n (Err e) → TellsMore H (record { old = a; new = c; before = x; now = z }) k total r
 tells_up_to X Y F G H a b c x y z k m n total e v r is same p q =
     tells_failed X Y (λ _ _. Unit {0}) H a c x z k n total e r (is ∙ ap (λ (f : ReadFault). Err f) same)
     (tells_then F G (λ _ _. Unit {0}) a b c x y z k m n (Err e) (λ _ _ _ _ _. tt) p q)
@@ -88,13 +88,13 @@ told_same F G a b x y j k m n e f follows p =
 
 -- ---- a whole reading
 
-read_failed_at : (X : Type 0) (G : X → List LeftOut → Type 0) (known : Known) (options : Options) (a b : Option (List ℕ)) (x y k m : ℕ) (e : ReadFault) → TellsMore G a b x y k m (Err e)
-    → Tells known options a b x y (Err e)
+read_failed_at : (X : Type 0) (G : X → List LeftOut → Type 0) (known : Known) (options : Options) (a b : Option (List ℕ)) (x y k m : ℕ) (e : ReadFault) → TellsMore G (record { old = a; new = b; before = x; now = y }) k m (Err e)
+    → Tells known options (record { old = a; new = b; before = x; now = y }) (Err e)
 read_failed_at X G known options a b x y k m fault.Notes p = (inl p.0, p.1)
 read_failed_at X G known options a b x y k m (fault.Folder why) p = absurd p
 read_failed_at X G known options a b x y k m fault.OutOfMemory p = p
 
 pub read_failed : (X : Type 0) (G : X → List LeftOut → Type 0) (known : Known) (options : Options) (a b : Option (List ℕ)) (x y k m : ℕ) (e v : ReadFault) (r : Result Folder ReadFault) → r ≡ Err v → v ≡ e
-    → TellsMore G a b x y k m (Err e) → Tells known options a b x y r
+    → TellsMore G (record { old = a; new = b; before = x; now = y }) k m (Err e) → Tells known options (record { old = a; new = b; before = x; now = y }) r
 read_failed X G known options a b x y k m e v r is same p =
-    subst (λ (s : Result Folder ReadFault). Tells known options a b x y s) (sym (is ∙ ap (λ (f : ReadFault). Err f) same)) (read_failed_at X G known options a b x y k m e p)
+    subst (λ (s : Result Folder ReadFault). Tells known options (record { old = a; new = b; before = x; now = y }) s) (sym (is ∙ ap (λ (f : ReadFault). Err f) same)) (read_failed_at X G known options a b x y k m e p)

@@ -48,43 +48,55 @@ not_listed_line why = codes "not listed: " ++ reason_text why ++ codes "\n"
 abbrev pub left_out_text : List LeftOut → List ℕ
 left_out_text lefts = flat_map left_out_line lefts
 
+-- the notes before and after: what is known of their bytes, and how often they failed
+pub record NotesPassage : Type 0 where
+  pub old : Option (List ℕ)
+  pub new : Option (List ℕ)
+  pub before : ℕ
+  pub now : ℕ
+
 -- A part of a reading tells of some paths that are left out, and counts them modulo 2^64. Where the
 -- sink failed, a beginning of the lines went out. It finds no fault with the folder itself. `fits`
 -- says of the answer which paths these are.
-abbrev pub TellsMore : {X : Type 0} → (X → List LeftOut → Type 0) → Option (List ℕ)
-    → Option (List ℕ) → ℕ → ℕ → ℕ → ℕ → Result X ReadFault → Type 0
-TellsMore fits old new before now count total (Ok x) =
-    (lefts : List LeftOut) × Appends old new (left_out_text lefts) × (now ≡ before)
+abbrev pub TellsMore : {X : Type 0} → (X → List LeftOut → Type 0) → NotesPassage → ℕ → ℕ
+    → Result X ReadFault → Type 0
+TellsMore fits notes count total (Ok x) =
+    (lefts : List LeftOut) × Appends notes.old notes.new (left_out_text lefts)
+    × (notes.now ≡ notes.before)
     × (total ≡ (count + length lefts) % 2 ^ 64) × fits x lefts
-TellsMore fits old new before now count total (Err fault.Notes) =
-    ((lefts : List LeftOut) × PutsPart old new (left_out_text lefts)) × (now ≡ next_count before)
-TellsMore fits old new before now count total (Err fault.OutOfMemory) =
-    ((lefts : List LeftOut) × Appends old new (left_out_text lefts)) × (now ≡ before)
-TellsMore fits old new before now count total (Err (fault.Folder why)) = ⊥
+TellsMore fits notes count total (Err fault.Notes) =
+    ((lefts : List LeftOut) × PutsPart notes.old notes.new (left_out_text lefts))
+    × (notes.now ≡ next_count notes.before)
+TellsMore fits notes count total (Err fault.OutOfMemory) =
+    ((lefts : List LeftOut) × Appends notes.old notes.new (left_out_text lefts))
+    × (notes.now ≡ notes.before)
+TellsMore fits notes count total (Err (fault.Folder why)) = ⊥
 
 -- The folder itself is not read, and a line tells why. Where the sink failed, a beginning of it
 -- went out.
-abbrev pub TellsWhy : Reason → Option (List ℕ) → Option (List ℕ) → ℕ → ℕ → ReadFault → Type 0
-TellsWhy why old new before now (fault.Folder told) =
-    (told ≡ why) × Appends old new (not_listed_line why) × (now ≡ before)
-TellsWhy why old new before now fault.Notes =
-    PutsPart old new (not_listed_line why) × (now ≡ next_count before)
-TellsWhy why old new before now fault.OutOfMemory = ⊥
+abbrev pub TellsWhy : Reason → NotesPassage → ReadFault → Type 0
+TellsWhy why notes (fault.Folder told) =
+    (told ≡ why) × Appends notes.old notes.new (not_listed_line why) × (notes.now ≡ notes.before)
+TellsWhy why notes fault.Notes =
+    PutsPart notes.old notes.new (not_listed_line why) × (notes.now ≡ next_count notes.before)
+TellsWhy why notes fault.OutOfMemory = ⊥
 
 -- A reading tells of the paths that it leaves out, each for a reason that is right, and counts them
 -- modulo 2^64; each path that the host tells of is read, or is one of them. Where the folder itself
 -- is at fault it tells that alone.
-abbrev pub Tells : Known → Options → Option (List ℕ) → Option (List ℕ) → ℕ → ℕ
-    → Result Folder ReadFault → Type 0
-Tells known options old new before now (Ok read) = (lefts : List LeftOut)
-    × Appends old new (left_out_text lefts) × (now ≡ before)
+abbrev pub Tells : Known → Options → NotesPassage → Result Folder ReadFault → Type 0
+Tells known options notes (Ok read) = (lefts : List LeftOut)
+    × Appends notes.old notes.new (left_out_text lefts) × (notes.now ≡ notes.before)
     × (read.left_out ≡ length lefts % 2 ^ 64)
     × IsComplete known read.items.items lefts × All (IsRight known options read.items.items) lefts
-Tells known options old new before now (Err (fault.Folder why)) =
-    Appends old new (not_listed_line why) × (now ≡ before) × IsRootWhy known options why
-Tells known options old new before now (Err fault.Notes) =
-    (((lefts : List LeftOut) × PutsPart old new (left_out_text lefts))
-    ⊎ ((why : Reason) × PutsPart old new (not_listed_line why) × IsRootWhy known options why))
-    × (now ≡ next_count before)
-Tells known options old new before now (Err fault.OutOfMemory) =
-    ((lefts : List LeftOut) × Appends old new (left_out_text lefts)) × (now ≡ before)
+Tells known options notes (Err (fault.Folder why)) =
+    Appends notes.old notes.new (not_listed_line why) × (notes.now ≡ notes.before)
+    × IsRootWhy known options why
+Tells known options notes (Err fault.Notes) =
+    (((lefts : List LeftOut) × PutsPart notes.old notes.new (left_out_text lefts))
+    ⊎ ((why : Reason) × PutsPart notes.old notes.new (not_listed_line why)
+    × IsRootWhy known options why))
+    × (notes.now ≡ next_count notes.before)
+Tells known options notes (Err fault.OutOfMemory) =
+    ((lefts : List LeftOut) × Appends notes.old notes.new (left_out_text lefts))
+    × (notes.now ≡ notes.before)

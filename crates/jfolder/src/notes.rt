@@ -46,8 +46,13 @@ pub fn leave_out<N: Sink>(
     path: &[u8],
     reason: Reason,
 ) -> Result<(), ReadFault>
-    ensures { TellsMore (λ _ lefts. lefts ≡ (path.now, reason) ∷ []) (N.taken notes.old)
-        (N.taken notes.new) (N.failures notes.old) (N.failures notes.new) count.old count.new
+    ensures { TellsMore (λ _ lefts. lefts ≡ (path.now, reason) ∷ [])
+        (record {
+          old = N.taken notes.old;
+          new = N.taken notes.new;
+          before = N.failures notes.old;
+          now = N.failures notes.new;
+        }) count.old count.new
         result }
 {
     match put_left_out(notes, path, reason) {
@@ -76,8 +81,13 @@ fn put_not_listed<N: Sink>(notes: &mut N, reason: Reason) -> Result<(), DeviceFa
 
 /// Tells why a folder is not read, and answers the fault of that.
 pub fn refuse_folder<N: Sink>(notes: &mut N, reason: Reason) -> ReadFault
-    ensures { TellsWhy reason (N.taken notes.old) (N.taken notes.new) (N.failures notes.old)
-        (N.failures notes.new) result }
+    ensures { TellsWhy reason
+        (record {
+          old = N.taken notes.old;
+          new = N.taken notes.new;
+          before = N.failures notes.old;
+          now = N.failures notes.new;
+        }) result }
 {
     match put_not_listed(notes, reason) {
         Ok(()) => ReadFault::Folder(reason),

@@ -126,7 +126,12 @@ fn add_child<N: Sink>(
         (λ _ lefts. (map string_bytes paths.old.items ++ child directory.now name.now ∷ []
         ≡ map string_bytes paths.new.items ++ left_paths lefts)
         × All (IsWrongChild directory.now (name.now ∷ [])) lefts)
-        (N.taken notes.old) (N.taken notes.new) (N.failures notes.old) (N.failures notes.new)
+        (record {
+          old = N.taken notes.old;
+          new = N.taken notes.new;
+          before = N.failures notes.old;
+          now = N.failures notes.new;
+        })
         left_out.old left_out.new result }
 {
     let _count = *left_out;
@@ -151,7 +156,12 @@ fn leave_out_others<N: Sink>(
 ) -> Result<(), ReadFault>
     ensures { TellsMore (λ _ lefts. (left_paths lefts ≡ unnamed_paths directory.now others)
         × All (IsUnnamed directory.now others) lefts)
-        (N.taken notes.old) (N.taken notes.new) (N.failures notes.old) (N.failures notes.new)
+        (record {
+          old = N.taken notes.old;
+          new = N.taken notes.new;
+          before = N.failures notes.old;
+          now = N.failures notes.new;
+        })
         left_out.old left_out.new result }
 {
     let _count = *left_out;
@@ -178,7 +188,12 @@ fn paths_of<N: Sink>(
         (map (λ name. child directory.now (string_bytes name)) names.now)
         (map string_bytes paths.items ++ left_paths lefts)
         × All (IsWrongChild directory.now (map string_bytes names.now)) lefts)
-        (N.taken notes.old) (N.taken notes.new) (N.failures notes.old) (N.failures notes.new)
+        (record {
+          old = N.taken notes.old;
+          new = N.taken notes.new;
+          before = N.failures notes.old;
+          now = N.failures notes.new;
+        })
         left_out.old left_out.new result }
 {
     let _count = *left_out;
@@ -204,7 +219,12 @@ fn children<N: Sink>(
     ensures told { TellsMore (λ paths lefts. IsPermutation (children directory.now (named_of names))
         (map string_bytes paths.items ++ left_paths lefts)
         × All (IsUnlisted directory.now (named_of names)) lefts)
-        (N.taken notes.old) (N.taken notes.new) (N.failures notes.old) (N.failures notes.new)
+        (record {
+          old = N.taken notes.old;
+          new = N.taken notes.new;
+          before = N.failures notes.old;
+          now = N.failures notes.new;
+        })
         left_out.old left_out.new result }
 {
     names.texts.sort()?;
@@ -330,7 +350,12 @@ impl Walk {
         ensures told { TellsMore (λ paths lefts. IsPermutation (children_of path.now names)
             (map string_bytes paths.items ++ left_paths lefts)
             × All (IsUnlistedIn path.now names) lefts)
-            (N.taken notes.old) (N.taken notes.new) (N.failures notes.old) (N.failures notes.new)
+            (record {
+              old = N.taken notes.old;
+              new = N.taken notes.new;
+              before = N.failures notes.old;
+              now = N.failures notes.new;
+            })
             self.old.left_out self.new.left_out result }
     {
         let _count = self.left_out;
@@ -409,7 +434,12 @@ impl Walk {
             ++ map string_bytes self.old.pending.items)
             (map string_bytes self.new.pending.items ++ left_paths lefts)
             × All (IsUnlistedIn (string_bytes path) found.names) lefts)
-            (N.taken notes.old) (N.taken notes.new) (N.failures notes.old) (N.failures notes.new)
+            (record {
+              old = N.taken notes.old;
+              new = N.taken notes.new;
+              before = N.failures notes.old;
+              now = N.failures notes.new;
+            })
             self.old.left_out self.new.left_out result }
     {
         let Found {
@@ -466,7 +496,12 @@ impl Walk {
             (map string_bytes self.old.pending.items ++ string_bytes path ∷ [])
             self.new.items.items (map string_bytes self.new.pending.items) lefts
             × All (IsRight (F.known folder.old) options.now self.new.items.items) lefts)
-            (N.taken notes.old) (N.taken notes.new) (N.failures notes.old) (N.failures notes.new)
+            (record {
+              old = N.taken notes.old;
+              new = N.taken notes.new;
+              before = N.failures notes.old;
+              now = N.failures notes.new;
+            })
             self.old.left_out self.new.left_out result }
     {
         match self.find(alloc, folder, options, path.as_str()) {
@@ -531,8 +566,13 @@ pub fn read_folder<F: HostFolder, N: Sink>(
     ensures objects { IfOk result
         (λ read. All (IsObjectTold (F.known folder.old)) read.items.items) }
     ensures links { IfOk result (λ read. AreLinked (F.known folder.old) read.items.items) }
-    ensures notes { Tells (F.known folder.old) options.now (N.taken notes.old) (N.taken notes.new)
-        (N.failures notes.old) (N.failures notes.new) result }
+    ensures notes { Tells (F.known folder.old) options.now
+        (record {
+          old = N.taken notes.old;
+          new = N.taken notes.new;
+          before = N.failures notes.old;
+          now = N.failures notes.new;
+        }) result }
 {
     let (root, names) = match root_of(folder, options) {
         Ok(found) => found,
