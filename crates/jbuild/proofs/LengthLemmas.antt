@@ -156,7 +156,7 @@ tells_length page e size blocks base ops accepted told flash is =
         eqb-true _ _ both.1
 
 pub line_tells_length : LineTellsLength
-line_tells_length page e size blocks base ops accepted told old new before now flash emitted = tells_length page e size blocks base ops accepted told flash emitted.runs.2.wrote.places
+line_tells_length page e size blocks base ops accepted told sink flash emitted = tells_length page e size blocks base ops accepted told flash emitted.runs.2.wrote.places
 
 -- an image that is gone on from fits its flash
 pub goes_on_flash : (page : Page) (e : Endian) (size blocks : ℕ) (m : Mount) → IsOk (resumes_by page e size blocks m) → IsTrue (is_flash_of size blocks m.image)

@@ -17,6 +17,14 @@ use Rattle.jlog.specs.declared.fault.SessionFault.{SessionFault}
 use Rattle.jlog.specs.declared.fault.SessionFault.TheVariants as fault
 use Rattle.jlog.specs.declared.report.Place.{Place}
 
+-- the sink that an image goes out to, before and after: what is known of its bytes, and how often
+-- it failed
+pub record ImageChange : Type 0 where
+  pub old : Option (List ℕ)
+  pub new : Option (List ℕ)
+  pub before : ℕ
+  pub now : ℕ
+
 -- the base's bytes up to where writing goes on
 abbrev pub front_before : Endian → ℕ → ℕ → List ℕ → List ℕ
 front_before e size blocks base = front_of base (resume_address e size blocks base)
@@ -25,31 +33,34 @@ front_before e size blocks base = front_of base (resume_address e size blocks ba
 -- so many were accepted, their nodes have these places, and this stopped them. What they did
 -- survives a stop of writing at any byte.
 pub record IsEmitted (page : Page) (e : Endian) (size blocks : ℕ) (base : List ℕ) (ops : List Op)
-    (accepted : ℕ) (places : List Place) (stopped : Option SessionFault) (old new : Option (List ℕ))
-    (before now : ℕ) : Type 0 where
+    (accepted : ℕ) (places : List Place) (stopped : Option SessionFault) (sink : ImageChange)
+    : Type 0 where
   pub between : Option (List ℕ)
   pub end : ℕ
   pub index : Indexed
   pub broken : Bool
-  pub front : Appends old between (front_before e size blocks base)
+  pub front : Appends sink.old between (front_before e size blocks base)
   pub runs : Runs (page_size page) e size blocks (resume_address e size blocks base)
-      (index_of_image e size base) ops false accepted end index broken between new before now
-      places stopped
+      (index_of_image e size base) ops false accepted end index broken between sink.new
+      sink.before sink.now places stopped
   pub survives : Survives e size blocks base
       (steps_of_first (page_size page) (index_of_image e size base) ops (attempted accepted broken))
 
 -- Nothing was run: only a beginning of the base's bytes went out, or all of them and then memory
 -- ran out; or the image is not gone on from, and nothing went out.
-abbrev pub IsNotEmitted : Page → Endian → ℕ → ℕ → Mount → Option (List ℕ) → Option (List ℕ) → ℕ → ℕ
-    → SessionFault → Type 0
-IsNotEmitted page e size blocks m old new before now fault.Sink =
-    IsOk (resumes_by page e size blocks m) × PutsPart old new (front_before e size blocks m.image)
-    × (now ≡ next_count before)
-IsNotEmitted page e size blocks m old new before now fault.OutOfMemory =
-    IsOk (resumes_by page e size blocks m) × Appends old new (front_before e size blocks m.image)
-    × (now ≡ before)
-IsNotEmitted page e size blocks m old new before now fault.ReadOnly =
-    (resumes_by page e size blocks m ≡ Err fault.ReadOnly) × (new ≡ old) × (now ≡ before)
-IsNotEmitted page e size blocks m old new before now fault.Geometry =
-    (resumes_by page e size blocks m ≡ Err fault.Geometry) × (new ≡ old) × (now ≡ before)
-IsNotEmitted page e size blocks m old new before now _ = ⊥
+abbrev pub IsNotEmitted : Page → Endian → ℕ → ℕ → Mount → ImageChange → SessionFault → Type 0
+IsNotEmitted page e size blocks m sink fault.Sink =
+    IsOk (resumes_by page e size blocks m)
+    × PutsPart sink.old sink.new (front_before e size blocks m.image)
+    × (sink.now ≡ next_count sink.before)
+IsNotEmitted page e size blocks m sink fault.OutOfMemory =
+    IsOk (resumes_by page e size blocks m)
+    × Appends sink.old sink.new (front_before e size blocks m.image)
+    × (sink.now ≡ sink.before)
+IsNotEmitted page e size blocks m sink fault.ReadOnly =
+    (resumes_by page e size blocks m ≡ Err fault.ReadOnly) × (sink.new ≡ sink.old)
+    × (sink.now ≡ sink.before)
+IsNotEmitted page e size blocks m sink fault.Geometry =
+    (resumes_by page e size blocks m ≡ Err fault.Geometry) × (sink.new ≡ sink.old)
+    × (sink.now ≡ sink.before)
+IsNotEmitted page e size blocks m sink _ = ⊥

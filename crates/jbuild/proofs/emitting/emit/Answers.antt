@@ -41,7 +41,7 @@ returns-clause-long g c = λ all.
     let a = c.args in
     let r = c.run-report.result in
     let resumes : IsOk (resumes_by a.page e a.geometry.block a.blocks a.mounted.now) = search rules in
-    line_tells_length a.page e a.geometry.block a.blocks a.mounted.now.image a.ops.now r.accepted r.places.items (g.S.Sink.taken a.sink) (g.S.Sink.taken c.finish.result) (g.S.Sink.failures a.sink) (g.S.Sink.failures c.finish.result)
+    line_tells_length a.page e a.geometry.block a.blocks a.mounted.now.image a.ops.now r.accepted r.places.items
+    (record { old = g.S.Sink.taken a.sink; new = g.S.Sink.taken c.finish.result; before = g.S.Sink.failures a.sink; now = g.S.Sink.failures c.finish.result })
     (goes_on_flash a.page e a.geometry.block a.blocks a.mounted.now resumes)
-    (subst (λ (s : Option SessionFault). IsEmitted a.page e a.geometry.block a.blocks a.mounted.now.image a.ops.now r.accepted r.places.items s (g.S.Sink.taken a.sink) (g.S.Sink.taken c.finish.result)
-    (g.S.Sink.failures a.sink) (g.S.Sink.failures c.finish.result)) all (returns-clause-emitted g c))
+    (subst (λ (s : Option SessionFault). IsEmitted a.page e a.geometry.block a.blocks a.mounted.now.image a.ops.now r.accepted r.places.items s (record { old = g.S.Sink.taken a.sink; new = g.S.Sink.taken c.finish.result; before = g.S.Sink.failures a.sink; now = g.S.Sink.failures c.finish.result })) all (returns-clause-emitted g c))
