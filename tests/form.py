@@ -23,17 +23,9 @@ FUNCTION = re.compile(r"^ *pub fn (\w+)(?:<.*?>)?\((.*?)\)(?: ->|\n| \{|$)", re.
 
 # How many there are in a crate at most, of what is to have none.
 LIMITS = {
-    "jbuild": {"arguments": 1},
-    "jconvert": {"arguments": 3},
-    "jcuts": {"arguments": 1},
-    "jextract": {"arguments": 6},
-    "jffs2_image": {"arguments": 20, "parameters": 2},
-    "jfolder": {"arguments": 1},
-    "jhost": {"columns": 1},
+    "jffs2_image": {"arguments": 16, "parameters": 1},
     "jlisting": {"parameters": 1},
     "jlog": {"arguments": 4, "parameters": 2},
-    "jmount": {"columns": 2},
-    "jname": {"columns": 2},
     "jreport": {"arguments": 5, "columns": 1},
     "jsteps": {"arguments": 2},
 }

@@ -50,7 +50,7 @@ piece_more e size all rest n from done whole =
     whole ∙ sym (append_assoc done (form_piece e size from (canonical e n)) (output e size (end_after size from (length (canonical e n))) (map (canonical e) rest)))
 
 pub keeping_next : (e : Endian) (size : ℕ) (all left rest : List NodeRef) (n : NodeRef) (from next : ℕ) (old mid now : Option (List ℕ)) (before after : ℕ)
-    → Keeping e size all left from old mid → left ≡ n ∷ rest → PutsForm e size from (canonical e n) mid now before after (Ok next)
+    → Keeping e size all left from old mid → left ≡ n ∷ rest → PutsForm e size from (canonical e n) (record { old = mid; new = now; before = before; now = after }) (Ok next)
     → Keeping e size all rest next old now
 keeping_next e size all left rest n from next old mid now before after was is put =
     let form : List ℕ = canonical e n in
@@ -89,8 +89,8 @@ keeping_part e size all left rest n from old mid now was is part =
 
 -- a fault at a node leaves a beginning
 pub keeping_failed : (e : Endian) (size : ℕ) (all left rest : List NodeRef) (n : NodeRef) (from : ℕ) (old mid now : Option (List ℕ)) (start before after : ℕ) (f : ConvertFault)
-    → Keeping e size all left from old mid → left ≡ n ∷ rest → before ≡ start → PutsForm e size from (canonical e n) mid now before after (Err f)
-    → WritesNodes e size all old now start after (Err f)
+    → Keeping e size all left from old mid → left ≡ n ∷ rest → before ≡ start → PutsForm e size from (canonical e n) (record { old = mid; new = now; before = before; now = after }) (Err f)
+    → WritesNodes e size all (record { old = old; new = now; before = start; now = after }) (Err f)
 keeping_failed e size all left rest n from old mid now start before after fault.Sink at is same put =
     (keeping_part e size all left rest n from old mid now at is put.0, put.1 ∙ ap next_count same)
 keeping_failed e size all left rest n from old mid now start before after fault.OutOfMemory at is same put =

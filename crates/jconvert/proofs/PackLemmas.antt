@@ -306,7 +306,7 @@ made_next e size image left rest s from changed old mid now (Some n) done words 
     packed_more e size image left rest s from changed done.0 old mid now n put.0 done.1 words at is gives put.1 put.2 put.3 put.4
 
 pub packed_next : (e : Endian) (size : ℕ) (image : List ℕ) (left rest : List (ℕ × Seen)) (s : ℕ × Seen) (from changed : ℕ) (old mid now : Option (List ℕ)) (before after : ℕ) (done : ℕ × Bool)
-    → size % 4 ≡ 0 → Packed e size image left from changed old mid → left ≡ s ∷ rest → PutsPacked e size (expanded_node e size image s) from mid now (before, after) (Ok done)
+    → size % 4 ≡ 0 → Packed e size image left from changed old mid → left ≡ s ∷ rest → PutsPacked e size (expanded_node e size image s) from (record { old = mid; new = now; before = before; now = after }) (Ok done)
     → Packed e size image rest done.0 (changed + cond done.1 1 0) old now
 packed_next e size image left rest s from changed old mid now before after done words at is put =
     made_next e size image left rest s from changed old mid now (expanded_node e size image s) done words at is refl put.0
@@ -341,7 +341,7 @@ packed_begun e size image left from changed old now at =
     )
 
 pub packed_end : (e : Endian) (size : ℕ) (image : List ℕ) (left : List (ℕ × Seen)) (from changed : ℕ) (old now : Option (List ℕ)) (before after : ℕ)
-    → (bytes : ℕ) → Packed e size image left from changed old now → left ≡ [] → after ≡ before → bytes ≡ from → WritesPacked e size image old now before after (Ok (changed, bytes))
+    → (bytes : ℕ) → Packed e size image left from changed old now → left ≡ [] → after ≡ before → bytes ≡ from → WritesPacked e size image (record { old = old; new = now; before = before; now = after }) (Ok (changed, bytes))
 packed_end e size image left from changed old now before after bytes at is same all_out =
     let nothing : nodes_of_tiles e size image left ≡ [] = ap (nodes_of_tiles e size image) is in
     let all = at.fills [] 0 (subst (λ (ns : List NodeRef). AreFormsFor e ns [] 0) (sym nothing) refl) in
@@ -388,8 +388,8 @@ sunk e size image left rest s from changed old mid now n form is_packed at is gi
     )
 
 pub packed_failed : (e : Endian) (size : ℕ) (image : List ℕ) (left rest : List (ℕ × Seen)) (s : ℕ × Seen) (from changed : ℕ) (old mid now : Option (List ℕ)) (start before after : ℕ) (f : ConvertFault)
-    → Packed e size image left from changed old mid → left ≡ s ∷ rest → before ≡ start → PutsPacked e size (expanded_node e size image s) from mid now (before, after) (Err f)
-    → WritesPacked e size image old now start after (Err f)
+    → Packed e size image left from changed old mid → left ≡ s ∷ rest → before ≡ start → PutsPacked e size (expanded_node e size image s) from (record { old = mid; new = now; before = before; now = after }) (Err f)
+    → WritesPacked e size image (record { old = old; new = now; before = start; now = after }) (Err f)
 packed_failed e size image left rest s from changed old mid now start before after fault.Sink at is same put = (
   sunk e size image left rest s from changed old mid now put.0.0 put.0.2.0 put.0.2.1 at is put.0.1 put.0.2.2 put.0.2.3,
   put.1 ∙ ap next_count same,
@@ -485,8 +485,8 @@ made_small e size image s form is_one is_packed size_is none made one =
 
 -- a fault of putting the form is one of the tile
 pub made_failed : (e : Endian) (size : ℕ) (image : List ℕ) (s : ℕ × Seen) (from : ℕ) (old new : Option (List ℕ)) (before now : ℕ) (f : ConvertFault) (form : List ℕ) (is_one is_packed : Bool)
-    → IsMadeFor e (expanded_node e size image s) form is_one is_packed → IsTrue is_one → PutsForm e size from form old new before now (Err f)
-    → PutsPacked e size (expanded_node e size image s) from old new (before, now) (Err f)
+    → IsMadeFor e (expanded_node e size image s) form is_one is_packed → IsTrue is_one → PutsForm e size from form (record { old = old; new = new; before = before; now = now }) (Err f)
+    → PutsPacked e size (expanded_node e size image s) from (record { old = old; new = new; before = before; now = now }) (Err f)
 made_failed e size image s from old new before now fault.Sink form is_one is_packed made one put =
     let it = made_form e (expanded_node e size image s) form is_one is_packed made one in
     ((it.0, it.1, (form, is_packed, it.2, put.0)), put.1)
@@ -503,21 +503,21 @@ made_failed e size image s from old new before now (fault.Full a b) form is_one 
 
 -- a call that put nothing for want of memory
 pub nothing_written : (e : Endian) (size : ℕ) (image : List ℕ) (old : Option (List ℕ)) (n : ℕ) (r : Result (ℕ × ℕ) ConvertFault) (f : ConvertFault) → nodes_fault e size image ≡ None
-    → IsErrAnd r (λ (given : ConvertFault). given ≡ f) → f ≡ fault.OutOfMemory → WritesPacked e size image old old n n r
+    → IsErrAnd r (λ (given : ConvertFault). given ≡ f) → f ≡ fault.OutOfMemory → WritesPacked e size image (record { old = old; new = old; before = n; now = n }) r
 nothing_written e size image old n (Ok done) f none is out = absurd is
 nothing_written e size image old n (Err given) f none is out =
     let same : given ≡ fault.OutOfMemory = is ∙ out in
-    subst (λ (g : ConvertFault). WritesPacked e size image old old n n (Err g)) (sym same)
+    subst (λ (g : ConvertFault). WritesPacked e size image (record { old = old; new = old; before = n; now = n }) (Err g)) (sym same)
     (packed_begun e size image (sightings e size image) 0 0 old old (packed_start e size image (sightings e size image) old refl none), refl)
 
 -- a count that is too great is blamed on memory, after its node went out
 pub count_failed : (e : Endian) (size : ℕ) (image : List ℕ) (left rest : List (ℕ × Seen)) (s : ℕ × Seen) (from changed : ℕ) (old mid now : Option (List ℕ)) (start before after : ℕ) (done : ℕ × Bool)
     (r : Result (ℕ × ℕ) ConvertFault) (f : ConvertFault) → size % 4 ≡ 0 → Packed e size image left from changed old mid → left ≡ s ∷ rest → before ≡ start
-    → PutsPacked e size (expanded_node e size image s) from mid now (before, after) (Ok done) → IsErrAnd r (λ (given : ConvertFault). given ≡ f) → f ≡ fault.OutOfMemory → WritesPacked e size image old now start after r
+    → PutsPacked e size (expanded_node e size image s) from (record { old = mid; new = now; before = before; now = after }) (Ok done) → IsErrAnd r (λ (given : ConvertFault). given ≡ f) → f ≡ fault.OutOfMemory → WritesPacked e size image (record { old = old; new = now; before = start; now = after }) r
 count_failed e size image left rest s from changed old mid now start before after done (Ok x) f words at is same put fails out = absurd fails
 count_failed e size image left rest s from changed old mid now start before after done (Err given) f words at is same put fails out =
     let memory : given ≡ fault.OutOfMemory = fails ∙ out in
-    subst (λ (g : ConvertFault). WritesPacked e size image old now start after (Err g)) (sym memory) (
+    subst (λ (g : ConvertFault). WritesPacked e size image (record { old = old; new = now; before = start; now = after }) (Err g)) (sym memory) (
       packed_begun e size image rest done.0 (changed + cond done.1 1 0) old now (packed_next e size image left rest s from changed old mid now before after done words at is put),
       put.1 ∙ same,
     )
@@ -531,7 +531,7 @@ nothing_put e size image old =
 
 -- an image that is refused
 pub not_compressed : (e : Endian) (size : ℕ) (image : List ℕ) (old : Option (List ℕ)) (n : ℕ) (f : ConvertFault) → (f ≢ fault.OutOfMemory → compress_fault e size image ≡ Some f)
-    → f ≢ fault.Sink → Compresses e size image old old n n (Err f)
+    → f ≢ fault.Sink → Compresses e size image (record { old = old; new = old; before = n; now = n }) (Err f)
 not_compressed e size image old n fault.Sink is other = absurd (other refl)
 not_compressed e size image old n fault.OutOfMemory is other = (nothing_put e size image old, refl)
 not_compressed e size image old n fault.BlockSize is other = (is (λ h. cc), refl, refl)
@@ -546,7 +546,7 @@ not_compressed e size image old n (fault.Full a b) is other = (is (λ h. cc), re
 
 -- one of which a beginning went out
 pub compressed_in_part : (e : Endian) (size : ℕ) (image : List ℕ) (old new : Option (List ℕ)) (before now : ℕ) (f : ConvertFault) → compress_fault e size image ≡ None
-    → WritesPacked e size image old new before now (Err f) → Compresses e size image old new before now (Err f)
+    → WritesPacked e size image (record { old = old; new = new; before = before; now = now }) (Err f) → Compresses e size image (record { old = old; new = new; before = before; now = now }) (Err f)
 compressed_in_part e size image old new before now fault.Sink none put = (none, put.0, put.1)
 compressed_in_part e size image old new before now fault.OutOfMemory none put = put
 compressed_in_part e size image old new before now fault.BlockSize none put = absurd put

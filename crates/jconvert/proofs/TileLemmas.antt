@@ -31,7 +31,7 @@ form_small e size image addr s form n size_is none gives is =
 
 -- a tile whose form went out
 pub tile_put : (e : Endian) (size : ℕ) (image : List ℕ) (s : ℕ × Seen) (from : ℕ) (old new : Option (List ℕ)) (before now : ℕ) (r : Result ℕ ConvertFault) (form : List ℕ) (n : NodeRef)
-    → expanded_node e size image s ≡ Some n → form ≡ canonical e n → PutsForm e size from form old new before now r → PutsTile e size image s from old new before now r
+    → expanded_node e size image s ≡ Some n → form ≡ canonical e n → PutsForm e size from form (record { old = old; new = new; before = before; now = now }) r → PutsTile e size image s from (record { old = old; new = new; before = before; now = now }) r
 tile_put e size image s from old new before now (Ok next) form n gives is put =
     let P : List ℕ → Type 0 = λ xs. Appends old new (form_piece e size from xs) × (next ≡ end_after size from (length xs)) × IsCursor size next in
     let all : P form = (put.0, put.2, put.3) in (
@@ -53,7 +53,7 @@ tile_put e size image s from old new before now (Err (fault.Full a b)) form n gi
 
 -- a tile that gives no node
 pub tile_past : (e : Endian) (size : ℕ) (image : List ℕ) (s : ℕ × Seen) (from : ℕ) (old : Option (List ℕ)) (before : ℕ)
-    → expanded_node e size image s ≡ None → PutsTile e size image s from old old before before (Ok from)
+    → expanded_node e size image s ≡ None → PutsTile e size image s from (record { old = old; new = old; before = before; now = before }) (Ok from)
 tile_past e size image s from old before none = (
   subst (λ (o : Option NodeRef). MatchOption o ((old ≡ old) × (from ≡ from)) (λ n. Appends old old (form_piece e size from (canonical e n)) × (from ≡ end_after size from (length (canonical e n))) × IsCursor size from))
       (sym none) (refl, refl),
@@ -73,7 +73,7 @@ next_by e size image left rest addr seen from next old mid now (Some n) before i
     writing_next e size image left rest addr seen from next old mid now (canonical e n) n before is gives refl put.0 put.1 put.2
 
 pub tile_next : (e : Endian) (size : ℕ) (image : List ℕ) (left rest : List (ℕ × Seen)) (addr : ℕ) (seen : Seen) (from next : ℕ) (old mid now : Option (List ℕ)) (before after : ℕ)
-    → Writing e size image left from old mid → left ≡ (addr, seen) ∷ rest → PutsTile e size image (addr, seen) from mid now before after (Ok next)
+    → Writing e size image left from old mid → left ≡ (addr, seen) ∷ rest → PutsTile e size image (addr, seen) from (record { old = mid; new = now; before = before; now = after }) (Ok next)
     → Writing e size image rest next old now
 tile_next e size image left rest addr seen from next old mid now before after at is put =
     next_by e size image left rest addr seen from next old mid now (expanded_node e size image (addr, seen)) at is refl put.0
@@ -81,7 +81,7 @@ tile_next e size image left rest addr seen from next old mid now before after at
 -- a fault at a tile leaves a beginning
 pub tile_failed : (e : Endian) (size : ℕ) (image : List ℕ) (left rest : List (ℕ × Seen)) (addr : ℕ) (seen : Seen) (from : ℕ) (old mid now : Option (List ℕ)) (start before after : ℕ) (f : ConvertFault)
     → Writing e size image left from old mid → left ≡ (addr, seen) ∷ rest → before ≡ start
-    → PutsTile e size image (addr, seen) from mid now before after (Err f) → WritesConverted {T = Unit {0}} e size image old now start after (Err f)
+    → PutsTile e size image (addr, seen) from (record { old = mid; new = now; before = before; now = after }) (Err f) → WritesConverted {T = Unit {0}} e size image (record { old = old; new = now; before = start; now = after }) (Err f)
 tile_failed e size image left rest addr seen from old mid now start before after fault.Sink at is same put = (
   writing_failed e size image left rest addr seen from old mid now (canonical e put.0.0) put.0.0 at is put.0.1 refl put.0.2,
   put.1 ∙ ap next_count same,

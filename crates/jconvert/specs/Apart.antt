@@ -14,7 +14,7 @@ use Rattle.jlog.specs.Places.{fit, end_of_all}
 use Rattle.jexpand.specs.Expanded.{expanded_node}
 use Rattle.jexpand.specs.declared.fault.ConvertFault.{ConvertFault}
 use Rattle.jexpand.specs.declared.fault.ConvertFault.TheVariants as fault
-use Rattle.jconvert.specs.Converting.{greatest_blocks, is_changed, convert_fault}
+use Rattle.jconvert.specs.Converting.{OutputChange, greatest_blocks, is_changed, convert_fault}
 use Rattle.jconvert.specs.declared.apart.Apart.{Apart}
 use Rattle.jconvert.specs.declared.converted.Converted.{Converted}
 
@@ -36,16 +36,15 @@ HaveRoom e size nodes = IsTrue (fit size (greatest_blocks size) 0 (map (canonica
 
 -- What a call does that puts an image of nodes, and answers where it ends: all of it goes out; or a
 -- beginning, where the sink failed once, or memory ran out.
-abbrev pub WritesNodes : Endian → ℕ → List NodeRef → Option (List ℕ) → Option (List ℕ) → ℕ → ℕ
-    → Result ℕ ConvertFault → Type 0
-WritesNodes e size nodes old new before now (Ok end) =
-    HaveRoom e size nodes × Appends old new (image_of_nodes e size nodes)
-    × (end ≡ end_of_all size 0 (map (canonical e) nodes)) × (now ≡ before)
-WritesNodes e size nodes old new before now (Err fault.Sink) =
-    PutsPart old new (image_of_nodes e size nodes) × (now ≡ next_count before)
-WritesNodes e size nodes old new before now (Err fault.OutOfMemory) =
-    PutsPart old new (image_of_nodes e size nodes) × (now ≡ before)
-WritesNodes e size nodes old new before now (Err _) = ⊥
+abbrev pub WritesNodes : Endian → ℕ → List NodeRef → OutputChange → Result ℕ ConvertFault → Type 0
+WritesNodes e size nodes sink (Ok end) =
+    HaveRoom e size nodes × Appends sink.old sink.new (image_of_nodes e size nodes)
+    × (end ≡ end_of_all size 0 (map (canonical e) nodes)) × (sink.now ≡ sink.before)
+WritesNodes e size nodes sink (Err fault.Sink) =
+    PutsPart sink.old sink.new (image_of_nodes e size nodes) × (sink.now ≡ next_count sink.before)
+WritesNodes e size nodes sink (Err fault.OutOfMemory) =
+    PutsPart sink.old sink.new (image_of_nodes e size nodes) × (sink.now ≡ sink.before)
+WritesNodes e size nodes sink (Err _) = ⊥
 
 -- what goes out without the nodes that one of a higher address clashes with, and what is told of it
 pub record GoesOutApart (e : Endian) (size : ℕ) (image : List ℕ) (told : Converted)
@@ -65,16 +64,17 @@ PutsPartApart e size image old new = (stay : List NodeRef) × (left : List LeftO
 
 -- What decompressing without nodes that clash answers, into a sink: it goes out, with what is told
 -- of it; or the image is refused before a byte is put; or a beginning went out.
-abbrev pub DecompressesApart : Endian → ℕ → List ℕ → Option (List ℕ) → Option (List ℕ) → ℕ → ℕ
-    → Result Apart ConvertFault → Type 0
-DecompressesApart e size image old new before now (Ok done) =
+abbrev pub DecompressesApart : Endian → ℕ → List ℕ → OutputChange → Result Apart ConvertFault
+    → Type 0
+DecompressesApart e size image sink (Ok done) =
     (convert_fault e size image ≡ None)
     × ((out : List ℕ) × GoesOutApart e size image done.told done.left.items out
-    × Appends old new out) × (now ≡ before)
-DecompressesApart e size image old new before now (Err fault.Sink) =
-    (convert_fault e size image ≡ None) × PutsPartApart e size image old new
-    × (now ≡ next_count before)
-DecompressesApart e size image old new before now (Err fault.OutOfMemory) =
-    ((new ≡ old) ⊎ PutsPartApart e size image old new) × (now ≡ before)
-DecompressesApart e size image old new before now (Err f) =
-    (convert_fault e size image ≡ Some f) × (new ≡ old) × (now ≡ before)
+    × Appends sink.old sink.new out) × (sink.now ≡ sink.before)
+DecompressesApart e size image sink (Err fault.Sink) =
+    (convert_fault e size image ≡ None) × PutsPartApart e size image sink.old sink.new
+    × (sink.now ≡ next_count sink.before)
+DecompressesApart e size image sink (Err fault.OutOfMemory) =
+    ((sink.new ≡ sink.old) ⊎ PutsPartApart e size image sink.old sink.new)
+    × (sink.now ≡ sink.before)
+DecompressesApart e size image sink (Err f) =
+    (convert_fault e size image ≡ Some f) × (sink.new ≡ sink.old) × (sink.now ≡ sink.before)

@@ -20,7 +20,7 @@ use Rattle.jexpand.specs.Expanded.{node_content, with_content, expanded_nodes}
 use Rattle.jexpand.specs.Refused.{node_fault}
 use Rattle.jexpand.specs.declared.fault.ConvertFault.{ConvertFault}
 use Rattle.jexpand.specs.declared.fault.ConvertFault.TheVariants as fault
-use Rattle.jconvert.specs.Converting.{flash_fault}
+use Rattle.jconvert.specs.Converting.{OutputChange, flash_fault}
 use Rattle.jconvert.specs.declared.converted.Converted.{Converted}
 
 -- ---- what may stand for a node
@@ -117,17 +117,16 @@ compress_fault e size image =
 
 -- What compressing into a sink answers: an image goes out for the one that is given, with what is
 -- told of it; or that one is refused before a byte is put; or a beginning went out.
-abbrev pub Compresses : Endian → ℕ → List ℕ → Option (List ℕ) → Option (List ℕ) → ℕ → ℕ
-    → Result Converted ConvertFault → Type 0
-Compresses e size image old new before now (Ok told) =
+abbrev pub Compresses : Endian → ℕ → List ℕ → OutputChange → Result Converted ConvertFault → Type 0
+Compresses e size image sink (Ok told) =
     (compress_fault e size image ≡ None)
-    × ((out : List ℕ) × IsPackedImage e size image out told.changed × Appends old new out
+    × ((out : List ℕ) × IsPackedImage e size image out told.changed × Appends sink.old sink.new out
     × (told.bytes ≡ length out))
-    × (told.nodes ≡ length (expanded_nodes e size image)) × (now ≡ before)
-Compresses e size image old new before now (Err fault.Sink) =
-    (compress_fault e size image ≡ None) × PutsPackedPart e size image old new
-    × (now ≡ next_count before)
-Compresses e size image old new before now (Err fault.OutOfMemory) =
-    PutsPackedPart e size image old new × (now ≡ before)
-Compresses e size image old new before now (Err f) =
-    (compress_fault e size image ≡ Some f) × (new ≡ old) × (now ≡ before)
+    × (told.nodes ≡ length (expanded_nodes e size image)) × (sink.now ≡ sink.before)
+Compresses e size image sink (Err fault.Sink) =
+    (compress_fault e size image ≡ None) × PutsPackedPart e size image sink.old sink.new
+    × (sink.now ≡ next_count sink.before)
+Compresses e size image sink (Err fault.OutOfMemory) =
+    PutsPackedPart e size image sink.old sink.new × (sink.now ≡ sink.before)
+Compresses e size image sink (Err f) =
+    (compress_fault e size image ≡ Some f) × (sink.new ≡ sink.old) × (sink.now ≡ sink.before)

@@ -19,6 +19,14 @@ use Rattle.jconvert.specs.declared.converted.Converted.{Converted}
 
 -- ---- what goes out
 
+-- the sink that an image goes out to, before and after: what is known of its bytes, and how often
+-- it failed
+pub record OutputChange : Type 0 where
+  pub old : Option (List ℕ)
+  pub new : Option (List ℕ)
+  pub before : ℕ
+  pub now : ℕ
+
 -- the written forms of the expanded nodes, in the order of their addresses
 abbrev pub expanded_forms : Endian → ℕ → List ℕ → List (List ℕ)
 expanded_forms e size image = map (canonical e) (expanded_nodes e size image)
@@ -77,28 +85,27 @@ Converts e size image (Err f) = convert_fault e size image ≡ Some f
 
 -- What a call that writes the image does to a sink: all of it goes out, or a beginning, where the
 -- sink failed once or memory ran out. Nothing else is refused.
-abbrev pub WritesConverted : {T : Type 0} → Endian → ℕ → List ℕ → Option (List ℕ) → Option (List ℕ)
-    → ℕ → ℕ
+abbrev pub WritesConverted : {T : Type 0} → Endian → ℕ → List ℕ → OutputChange
     → Result T ConvertFault → Type 0
-WritesConverted e size image old new before now (Ok _) =
-    Appends old new (converted_image e size image) × (now ≡ before)
-WritesConverted e size image old new before now (Err fault.Sink) =
-    PutsPart old new (converted_image e size image) × (now ≡ next_count before)
-WritesConverted e size image old new before now (Err fault.OutOfMemory) =
-    PutsPart old new (converted_image e size image) × (now ≡ before)
-WritesConverted e size image old new before now (Err _) = ⊥
+WritesConverted e size image sink (Ok _) =
+    Appends sink.old sink.new (converted_image e size image) × (sink.now ≡ sink.before)
+WritesConverted e size image sink (Err fault.Sink) =
+    PutsPart sink.old sink.new (converted_image e size image) × (sink.now ≡ next_count sink.before)
+WritesConverted e size image sink (Err fault.OutOfMemory) =
+    PutsPart sink.old sink.new (converted_image e size image) × (sink.now ≡ sink.before)
+WritesConverted e size image sink (Err _) = ⊥
 
 -- What decompressing into a sink answers: the image goes out, with what is told of it; or it is
 -- refused before a byte is put; or a beginning went out. The sink comes back in any case.
-abbrev pub Decompresses : Endian → ℕ → List ℕ → Option (List ℕ) → Option (List ℕ) → ℕ → ℕ
-    → Result Converted ConvertFault → Type 0
-Decompresses e size image old new before now (Ok told) =
+abbrev pub Decompresses : Endian → ℕ → List ℕ → OutputChange → Result Converted ConvertFault
+    → Type 0
+Decompresses e size image sink (Ok told) =
     (convert_fault e size image ≡ None) × (told ≡ converted_of e size image)
-    × Appends old new (converted_image e size image) × (now ≡ before)
-Decompresses e size image old new before now (Err fault.Sink) =
-    (convert_fault e size image ≡ None) × PutsPart old new (converted_image e size image)
-    × (now ≡ next_count before)
-Decompresses e size image old new before now (Err fault.OutOfMemory) =
-    PutsPart old new (converted_image e size image) × (now ≡ before)
-Decompresses e size image old new before now (Err f) =
-    (convert_fault e size image ≡ Some f) × (new ≡ old) × (now ≡ before)
+    × Appends sink.old sink.new (converted_image e size image) × (sink.now ≡ sink.before)
+Decompresses e size image sink (Err fault.Sink) =
+    (convert_fault e size image ≡ None) × PutsPart sink.old sink.new (converted_image e size image)
+    × (sink.now ≡ next_count sink.before)
+Decompresses e size image sink (Err fault.OutOfMemory) =
+    PutsPart sink.old sink.new (converted_image e size image) × (sink.now ≡ sink.before)
+Decompresses e size image sink (Err f) =
+    (convert_fault e size image ≡ Some f) × (sink.new ≡ sink.old) × (sink.now ≡ sink.before)

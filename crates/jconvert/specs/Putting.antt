@@ -1,5 +1,5 @@
 -- What putting one node into a sink does.
-use Rattle.std.specs.Prelude.{◌≡◌, ℕ, List, [], ◌++◌, length, Option, Some, MatchOption, Result, Ok, Err}
+use Rattle.std.specs.Prelude.{◌≡◌, ℕ, List, [], ◌++◌, length, Some, MatchOption, Result, Ok, Err}
 use Rattle.std.specs.Io.KnownBytes.{Appends}
 use Rattle.flashbase.specs.Device.{PutsPart, next_count}
 use Rattle.jnode.specs.Writing.{canonical, filled}
@@ -11,6 +11,7 @@ use Rattle.jlog.specs.Output.{gap}
 use Rattle.jexpand.specs.Expanded.{expanded_node}
 use Rattle.jexpand.specs.declared.fault.ConvertFault.{ConvertFault}
 use Rattle.jexpand.specs.declared.fault.ConvertFault.TheVariants as fault
+use Rattle.jconvert.specs.Converting.{OutputChange}
 use Rattle.jconvert.specs.Tallying.{IsCursor}
 
 -- what goes out for a node of this form, from an address on
@@ -19,27 +20,28 @@ form_piece e size from form = gap e size from (place_after size from (length for
 
 -- It goes out, and the next one may begin behind it; or a beginning does, where the sink failed; or
 -- nothing, where there is no room for it.
-abbrev pub PutsForm : Endian → ℕ → ℕ → List ℕ → Option (List ℕ) → Option (List ℕ) → ℕ → ℕ
-    → Result ℕ ConvertFault → Type 0
-PutsForm e size from form old new before now (Ok next) =
-    Appends old new (form_piece e size from form) × (now ≡ before)
+abbrev pub PutsForm : Endian → ℕ → ℕ → List ℕ → OutputChange → Result ℕ ConvertFault → Type 0
+PutsForm e size from form sink (Ok next) =
+    Appends sink.old sink.new (form_piece e size from form) × (sink.now ≡ sink.before)
     × (next ≡ end_after size from (length form)) × IsCursor size next
-PutsForm e size from form old new before now (Err fault.Sink) =
-    PutsPart old new (form_piece e size from form) × (now ≡ next_count before)
-PutsForm e size from form old new before now (Err fault.OutOfMemory) = (new ≡ old) × (now ≡ before)
-PutsForm e size from form old new before now (Err _) = ⊥
+PutsForm e size from form sink (Err fault.Sink) =
+    PutsPart sink.old sink.new (form_piece e size from form) × (sink.now ≡ next_count sink.before)
+PutsForm e size from form sink (Err fault.OutOfMemory) =
+    (sink.new ≡ sink.old) × (sink.now ≡ sink.before)
+PutsForm e size from form sink (Err _) = ⊥
 
 -- What goes out for a sighted tile: its node, if it gives one.
-abbrev pub PutsTile : Endian → ℕ → List ℕ → ℕ
-    × Seen → ℕ → Option (List ℕ) → Option (List ℕ) → ℕ → ℕ → Result ℕ ConvertFault → Type 0
-PutsTile e size image s from old new before now (Ok next) =
-    MatchOption (expanded_node e size image s) ((new ≡ old) × (next ≡ from))
-    (λ n. Appends old new (form_piece e size from (canonical e n))
+abbrev pub PutsTile : Endian → ℕ → List ℕ → ℕ × Seen → ℕ → OutputChange → Result ℕ ConvertFault
+    → Type 0
+PutsTile e size image s from sink (Ok next) =
+    MatchOption (expanded_node e size image s) ((sink.new ≡ sink.old) × (next ≡ from))
+    (λ n. Appends sink.old sink.new (form_piece e size from (canonical e n))
     × (next ≡ end_after size from (length (canonical e n))) × IsCursor size next)
-    × (now ≡ before)
-PutsTile e size image s from old new before now (Err fault.Sink) =
+    × (sink.now ≡ sink.before)
+PutsTile e size image s from sink (Err fault.Sink) =
     ((n : NodeRef) × (expanded_node e size image s ≡ Some n)
-    × PutsPart old new (form_piece e size from (canonical e n))) × (now ≡ next_count before)
-PutsTile e size image s from old new before now (Err fault.OutOfMemory) =
-    (new ≡ old) × (now ≡ before)
-PutsTile e size image s from old new before now (Err _) = ⊥
+    × PutsPart sink.old sink.new (form_piece e size from (canonical e n)))
+    × (sink.now ≡ next_count sink.before)
+PutsTile e size image s from sink (Err fault.OutOfMemory) =
+    (sink.new ≡ sink.old) × (sink.now ≡ sink.before)
+PutsTile e size image s from sink (Err _) = ⊥

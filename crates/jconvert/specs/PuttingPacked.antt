@@ -9,6 +9,7 @@ use Rattle.jlog.specs.Places.{end_after}
 use Rattle.jexpand.specs.declared.fault.ConvertFault.{ConvertFault}
 use Rattle.jexpand.specs.declared.fault.ConvertFault.TheVariants as fault
 use Rattle.jconvert.specs.Compressing.{IsPackedForm, IsPackedImage, PutsPackedPart}
+use Rattle.jconvert.specs.Converting.{OutputChange}
 use Rattle.jconvert.specs.Putting.{form_piece}
 use Rattle.jconvert.specs.Tallying.{IsCursor}
 
@@ -32,27 +33,27 @@ PutsMade e size None from old new done = (new ≡ old) × (done.0 ≡ from) × I
 
 -- the same of a call: with how often the sink failed, before and after, and where the next node may
 -- begin, and whether the node is packed
-abbrev pub PutsPacked : Endian → ℕ → Option NodeRef → ℕ → Option (List ℕ) → Option (List ℕ)
-    → ℕ × ℕ → Result (ℕ × Bool) ConvertFault → Type 0
-PutsPacked e size gives from old new failures (Ok done) =
-    PutsMade e size gives from old new done × (failures.1 ≡ failures.0)
-PutsPacked e size gives from old new failures (Err fault.Sink) =
+abbrev pub PutsPacked : Endian → ℕ → Option NodeRef → ℕ → OutputChange
+    → Result (ℕ × Bool) ConvertFault → Type 0
+PutsPacked e size gives from sink (Ok done) =
+    PutsMade e size gives from sink.old sink.new done × (sink.now ≡ sink.before)
+PutsPacked e size gives from sink (Err fault.Sink) =
     ((n : NodeRef) × (gives ≡ Some n)
     × ((form : List ℕ) × (is_packed : Bool) × IsFormFor e n form is_packed
-    × PutsPart old new (form_piece e size from form))) × (failures.1 ≡ next_count failures.0)
-PutsPacked e size gives from old new failures (Err fault.OutOfMemory) =
-    (new ≡ old) × (failures.1 ≡ failures.0)
-PutsPacked e size gives from old new failures (Err _) = ⊥
+    × PutsPart sink.old sink.new (form_piece e size from form)))
+    × (sink.now ≡ next_count sink.before)
+PutsPacked e size gives from sink (Err fault.OutOfMemory) =
+    (sink.new ≡ sink.old) × (sink.now ≡ sink.before)
+PutsPacked e size gives from sink (Err _) = ⊥
 
 -- What a call does that writes an image of all nodes, and answers how many of them are packed, and
 -- how many bytes went out.
-abbrev pub WritesPacked : Endian → ℕ → List ℕ → Option (List ℕ) → Option (List ℕ) → ℕ → ℕ
-    → Result (ℕ × ℕ) ConvertFault → Type 0
-WritesPacked e size image old new before now (Ok done) =
-    ((out : List ℕ) × IsPackedImage e size image out done.0 × Appends old new out
-    × (done.1 ≡ length out)) × (now ≡ before)
-WritesPacked e size image old new before now (Err fault.Sink) =
-    PutsPackedPart e size image old new × (now ≡ next_count before)
-WritesPacked e size image old new before now (Err fault.OutOfMemory) =
-    PutsPackedPart e size image old new × (now ≡ before)
-WritesPacked e size image old new before now (Err _) = ⊥
+abbrev pub WritesPacked : Endian → ℕ → List ℕ → OutputChange → Result (ℕ × ℕ) ConvertFault → Type 0
+WritesPacked e size image sink (Ok done) =
+    ((out : List ℕ) × IsPackedImage e size image out done.0 × Appends sink.old sink.new out
+    × (done.1 ≡ length out)) × (sink.now ≡ sink.before)
+WritesPacked e size image sink (Err fault.Sink) =
+    PutsPackedPart e size image sink.old sink.new × (sink.now ≡ next_count sink.before)
+WritesPacked e size image sink (Err fault.OutOfMemory) =
+    PutsPackedPart e size image sink.old sink.new × (sink.now ≡ sink.before)
+WritesPacked e size image sink (Err _) = ⊥

@@ -67,10 +67,20 @@ pub fn decompress_apart<E: Order, S: Sink>(
     mut sink: S,
 ) -> Result<(S, Apart), (ConvertFault, Option<S>)>
     ensures ok { IfOk result (λ done. DecompressesApart E.order geometry.block image.now
-        (S.taken sink) (S.taken done.0) (S.failures sink) (S.failures done.0) (Ok done.1)) }
+        (record {
+          old = S.taken sink;
+          new = S.taken done.0;
+          before = S.failures sink;
+          now = S.failures done.0;
+        }) (Ok done.1)) }
     ensures err { IfErr result (λ refused. (back : S) × (refused.1 ≡ Some back)
-        × DecompressesApart E.order geometry.block image.now (S.taken sink) (S.taken back)
-        (S.failures sink) (S.failures back) (Err refused.0)) }
+        × DecompressesApart E.order geometry.block image.now
+        (record {
+          old = S.taken sink;
+          new = S.taken back;
+          before = S.failures sink;
+          now = S.failures back;
+        }) (Err refused.0)) }
 {
     let judged = match judge::<E>(alloc, image, geometry, usize::MAX) {
         Ok(judged) => judged,

@@ -181,8 +181,13 @@ fn put_packed<E: Order, S: Sink>(
     requires accepted { node_fault E.order geometry.block image.now (addr, seen.now) ≡ None }
     requires cursor { IsCursor geometry.block from }
     ensures { PutsPacked E.order geometry.block
-        (expanded_node E.order geometry.block image.now (addr, seen.now)) from (S.taken sink.old)
-        (S.taken sink.new) (S.failures sink.old, S.failures sink.new) result }
+        (expanded_node E.order geometry.block image.now (addr, seen.now)) from
+        (record {
+          old = S.taken sink.old;
+          new = S.taken sink.new;
+          before = S.failures sink.old;
+          now = S.failures sink.new;
+        }) result }
 {
     let is_packed = match make_packed::<E>(alloc, image, geometry, addr, seen, packing) {
         Ok((true, is_packed)) => is_packed,
@@ -207,8 +212,13 @@ pub fn write_packed<E: Order, S: Sink>(
     sink: &mut S,
 ) -> Result<(u64, u64), ConvertFault>
     requires { convert_fault E.order geometry.block image.now ≡ None }
-    ensures { WritesPacked E.order geometry.block image.now (S.taken sink.old) (S.taken sink.new)
-        (S.failures sink.old) (S.failures sink.new) result }
+    ensures { WritesPacked E.order geometry.block image.now
+        (record {
+          old = S.taken sink.old;
+          new = S.taken sink.new;
+          before = S.failures sink.old;
+          now = S.failures sink.new;
+        }) result }
 {
     let sightings = match Sightings::<E>::new(image, geometry) {
         Ok(sightings) => sightings,
@@ -251,11 +261,21 @@ pub fn compress<E: Order, S: Sink>(
     mut sink: S,
 ) -> Result<(S, Converted), (ConvertFault, Option<S>)>
     ensures scannable { OnOk result (IsScannable geometry.block image.now) }
-    ensures ok { IfOk result (λ done. Compresses E.order geometry.block image.now (S.taken sink)
-        (S.taken done.0) (S.failures sink) (S.failures done.0) (Ok done.1)) }
+    ensures ok { IfOk result (λ done. Compresses E.order geometry.block image.now
+        (record {
+          old = S.taken sink;
+          new = S.taken done.0;
+          before = S.failures sink;
+          now = S.failures done.0;
+        }) (Ok done.1)) }
     ensures err { IfErr result (λ refused. (back : S) × (refused.1 ≡ Some back)
-        × Compresses E.order geometry.block image.now (S.taken sink) (S.taken back)
-        (S.failures sink) (S.failures back) (Err refused.0)) }
+        × Compresses E.order geometry.block image.now
+        (record {
+          old = S.taken sink;
+          new = S.taken back;
+          before = S.failures sink;
+          now = S.failures back;
+        }) (Err refused.0)) }
 {
     let nodes = match judge_plain::<E>(alloc, image, geometry) {
         Ok(nodes) => nodes,

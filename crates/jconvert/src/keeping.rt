@@ -46,8 +46,13 @@ fn put_one<E: Order, S: Sink>(
     requires readable { IsTrue (is_block_size geometry.block) }
     requires written { least_written ≤ geometry.block }
     requires cursor { IsCursor geometry.block from }
-    ensures { PutsForm E.order geometry.block from (canonical E.order node.now) (S.taken sink.old)
-        (S.taken sink.new) (S.failures sink.old) (S.failures sink.new) result }
+    ensures { PutsForm E.order geometry.block from (canonical E.order node.now)
+        (record {
+          old = S.taken sink.old;
+          new = S.taken sink.new;
+          before = S.failures sink.old;
+          now = S.failures sink.new;
+        }) result }
 {
     match write_form::<E>(node, form) {
         Ok(()) => {}
@@ -72,8 +77,13 @@ pub fn write_nodes<E: Order, S: Sink>(
 ) -> Result<u64, ConvertFault>
     requires readable { IsTrue (is_block_size geometry.block) }
     requires written { least_written ≤ geometry.block }
-    ensures { WritesNodes E.order geometry.block nodes.now (S.taken sink.old) (S.taken sink.new)
-        (S.failures sink.old) (S.failures sink.new) result }
+    ensures { WritesNodes E.order geometry.block nodes.now
+        (record {
+          old = S.taken sink.old;
+          new = S.taken sink.new;
+          before = S.failures sink.old;
+          now = S.failures sink.new;
+        }) result }
 {
     let mut form = Vec::new(alloc);
     let mut from = 0;

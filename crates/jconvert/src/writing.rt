@@ -34,8 +34,13 @@ pub(crate) fn put_form<E: Order, S: Sink>(
     requires written { least_written ≤ geometry.block }
     requires cursor { IsCursor geometry.block from }
     requires len { length form.now ≤ totlen_most }
-    ensures { PutsForm E.order geometry.block from form.now (S.taken sink.old) (S.taken sink.new)
-        (S.failures sink.old) (S.failures sink.new) result }
+    ensures { PutsForm E.order geometry.block from form.now
+        (record {
+          old = S.taken sink.old;
+          new = S.taken sink.new;
+          before = S.failures sink.old;
+          now = S.failures sink.new;
+        }) result }
 {
     let len = form.len() as u32;
     match place_of(geometry.block, greatest_blocks(geometry), from, len) {
@@ -118,9 +123,13 @@ fn put_tile<E: Order, S: Sink>(
     requires cursor { IsCursor geometry.block from }
     requires held { BeginsAs (tile_content E.order geometry.block image.now (addr, seen.now))
         making.old.held.now }
-    ensures put { PutsTile E.order geometry.block image.now (addr, seen.now) from (S.taken sink.old)
-        (S.taken sink.new)
-        (S.failures sink.old) (S.failures sink.new) result }
+    ensures put { PutsTile E.order geometry.block image.now (addr, seen.now) from
+        (record {
+          old = S.taken sink.old;
+          new = S.taken sink.new;
+          before = S.failures sink.old;
+          now = S.failures sink.new;
+        }) result }
     ensures held { making.new.held.now
         ≡ held_after (tile_content E.order geometry.block image.now (addr, seen.now))
         making.old.held.now }
@@ -146,8 +155,13 @@ pub fn write_converted<E: Order, S: Sink>(
 ) -> Result<(), ConvertFault>
     requires accepted { convert_fault E.order geometry.block image.now ≡ None }
     requires held { IsHeldOf E.order geometry.block image.now held.now }
-    ensures { WritesConverted E.order geometry.block image.now (S.taken sink.old) (S.taken sink.new)
-        (S.failures sink.old) (S.failures sink.new) result }
+    ensures { WritesConverted E.order geometry.block image.now
+        (record {
+          old = S.taken sink.old;
+          new = S.taken sink.new;
+          before = S.failures sink.old;
+          now = S.failures sink.new;
+        }) result }
 {
     let sightings = match Sightings::<E>::new(image, geometry) {
         Ok(sightings) => sightings,
@@ -179,11 +193,21 @@ pub fn decompress<E: Order, S: Sink>(
     mut sink: S,
 ) -> Result<(S, Converted), (ConvertFault, Option<S>)>
     ensures scannable { OnOk result (IsScannable geometry.block image.now) }
-    ensures ok { IfOk result (λ done. Decompresses E.order geometry.block image.now (S.taken sink)
-        (S.taken done.0) (S.failures sink) (S.failures done.0) (Ok done.1)) }
+    ensures ok { IfOk result (λ done. Decompresses E.order geometry.block image.now
+        (record {
+          old = S.taken sink;
+          new = S.taken done.0;
+          before = S.failures sink;
+          now = S.failures done.0;
+        }) (Ok done.1)) }
     ensures err { IfErr result (λ refused. (back : S) × (refused.1 ≡ Some back)
-        × Decompresses E.order geometry.block image.now (S.taken sink) (S.taken back)
-        (S.failures sink) (S.failures back) (Err refused.0)) }
+        × Decompresses E.order geometry.block image.now
+        (record {
+          old = S.taken sink;
+          new = S.taken back;
+          before = S.failures sink;
+          now = S.failures back;
+        }) (Err refused.0)) }
 {
     let judged = match judge::<E>(alloc, image, geometry, HELD_MOST) {
         Ok(judged) => judged,

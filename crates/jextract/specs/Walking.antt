@@ -10,7 +10,7 @@ use Rattle.jextract.specs.Making.{firsts_of}
 use Rattle.jextract.specs.Extracts.{AreTreeOutcomes}
 use Rattle.jname.specs.Live.{Key}
 use Rattle.jextract.specs.Parts.{is_in_part, part_along}
-use Rattle.jextract.specs.Outcomes.{root_alone, Task, Complete, path_of_task, ino_of_task, Outcome, FirstPaths, AreOutcomes, AreFirstOutcomes, tasks_in, tasks_of, all_lines, failures_after, line_if_left_out}
+use Rattle.jextract.specs.Outcomes.{root_alone, Task, Make, Complete, path_of_task, ino_of_task, Outcome, FirstPaths, AreOutcomes, AreFirstOutcomes, tasks_in, tasks_of, all_lines, failures_after, line_if_left_out}
 use Rattle.jextract.specs.declared.extracting.Walk.{Walk}
 use Rattle.jextract.specs.declared.making.MakeFault.{MakeFault}
 use Rattle.jextract.specs.declared.making.MakeFault.TheVariants as make

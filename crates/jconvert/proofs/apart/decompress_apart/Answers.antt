@@ -11,10 +11,9 @@ returns-in-Ok-write_nodes-clause-ok g c =
     let size : ℕ = c.args.geometry.block in
     let image : List ℕ = c.args.image.now in
     let stay : List NodeRef = c.in-Ok-part.parted.stay.items in
-    let wrote : WritesNodes e size stay (g.S.Sink.taken c.args.sink) (g.S.Sink.taken c.write_nodes.new.sink) (g.S.Sink.failures c.args.sink) (g.S.Sink.failures c.write_nodes.new.sink)
+    let wrote : WritesNodes e size stay (record { old = g.S.Sink.taken c.args.sink; new = g.S.Sink.taken c.write_nodes.new.sink; before = g.S.Sink.failures c.args.sink; now = g.S.Sink.failures c.write_nodes.new.sink })
     (Ok c.in-Ok-write_nodes.bytes) =
-    subst (λ (ns : List NodeRef). WritesNodes e size ns (g.S.Sink.taken c.args.sink) (g.S.Sink.taken c.write_nodes.new.sink) (g.S.Sink.failures c.args.sink)
-    (g.S.Sink.failures c.write_nodes.new.sink) (Ok c.in-Ok-write_nodes.bytes)) c.deref-2.ensures.value c.in-Ok-write_nodes.ensures in
+    subst (λ (ns : List NodeRef). WritesNodes e size ns (record { old = g.S.Sink.taken c.args.sink; new = g.S.Sink.taken c.write_nodes.new.sink; before = g.S.Sink.failures c.args.sink; now = g.S.Sink.failures c.write_nodes.new.sink }) (Ok c.in-Ok-write_nodes.bytes)) c.deref-2.ensures.value c.in-Ok-write_nodes.ensures in
     let many : c.len.result ≡ length stay = search rules in (
       c.in-Ok.ensures.accepted,
       (
