@@ -289,7 +289,7 @@ refused "P1 File none" none
 refused "L1 Device" folder
 refused "L2 TooLarge" /dev/zero
 for value in 0 4095 4097 4194308 4294967295; do
-    refused "M1 BlockSize" --block $value good
+    refused "M1 BlockSize$block_note" --block $value good
 done
 refused "M3 Incompatible at 0000008c type e0f7" later
 refused "M4 Compressed at 0000008c compr 3" wrong_method
@@ -304,7 +304,7 @@ refused "S7 Geometry" --block 8188 good
 refused "S2 Full needed 246098596 free 268386304" bomb
 # Of two faults the first in this order
 refused "P1 File none" --block 4097 none
-refused "M1 BlockSize" --block 4097 wrong_zlib
+refused "M1 BlockSize$block_note" --block 4097 wrong_zlib
 refused "Z1 Data at 0000008c" --block 4096 wrong_zlib
 refused "S3 ReadOnly" --block 4096 read_only
 run ls later; want 1 "" $'jffs2_image: M4 Compressed at 00000038 compr 6\n'"$note"
@@ -325,7 +325,7 @@ run decompress clash out.img; want 0 "decompressed 2 nodes 3 bytes 232" ""
 run check out.img; want 3 $'*findings 0\nmount refused M5 Clash at 00000090' ""
 for words in "ls --decompress clash" "cat --decompress clash /a" \
     "extract --decompress clash none.img" "append --decompress --blocks 4 clash create none.img"; do
-    run $words; want 1 "" "jffs2_image: M5 Clash at 00000090"
+    run $words; want 1 "" "jffs2_image: M5 Clash at 00000090$clash_note"
 done
 unmade none.img
 # With --clashes higher the node below it is left out, and told; what is left mounts.
@@ -388,7 +388,7 @@ run append --decompress --blocks 4 good listing out.img
 want 1 "" "jffs2_image: S1 Refused O5 Exists line 1"
 lines listing 'paint'
 run append --decompress --blocks 4 good listing none.img
-want 1 "" "jffs2_image: P2 Listing line 1"; unmade none.img
+want 1 "" $'jffs2_image: P2 Listing line 1\njffs2_image: note: no operation has this name'; unmade none.img
 # The image is decompressed before the listing is read.
 for listing in listing none; do
     run append --decompress --blocks 4 wrong_zlib $listing none.img

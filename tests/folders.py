@@ -23,6 +23,10 @@ from hostile_images import DIRECTORY, entry, inode, laid
 SYMLINK = 0o120777
 TIME = 1000000000
 IS_ROOT = os.geteuid() == 0
+CLASH_NOTE = (
+    "jffs2_image: note: two nodes differ; "
+    "decompress --clashes higher keeps that of the higher address\n"
+)
 
 
 def run(*words, **streams):
@@ -649,7 +653,9 @@ def paths_of_no_part():
         # What `decompress` makes has its nodes at other addresses.
         for words in ([], ["--decompress"])[:1 if "M5" in fault else 2]:
             done = run("extract", *words, image, folder, path)
-            verdict(f"{fault} of {path} {words}", done == Done(1, b"", f"jffs2_image: {fault}\n".encode()), done)
+            note = CLASH_NOTE if "M5" in fault else ""
+            told = f"jffs2_image: {fault}\n{note}".encode()
+            verdict(f"{fault} of {path} {words}", done == Done(1, b"", told), done)
     verdict("no folder is made of it", not os.path.exists("new") and os.listdir("there") == [])
     done = run("extract", "part.img", "new", "/d/f", "/d")
     verdict("one path alone", done.status == 2 and not os.path.exists("new"), done)

@@ -30,6 +30,11 @@ COMPRESSED = (
     b"jffs2_image: note: the image is compressed; "
     b"decompress writes one that is not, and --decompress reads it\n"
 )
+CLASH = (
+    b"jffs2_image: note: two nodes differ; "
+    b"decompress --clashes higher keeps that of the higher address\n"
+)
+BLOCK = b"jffs2_image: note: --block takes a multiple of 4 from 4096 to 4194304\n"
 OUTPUT = b"jffs2_image: P5 Output\n"
 SIZES = 10
 # A command is given up after so many seconds.
@@ -354,7 +359,9 @@ def read_by(reading, words):
 
 
 def fault(text):
-    return Done(1, b"", f"jffs2_image: {text}\n".encode())
+    """What a fault gives, with the note of every command: M4 has one by the command, which `refusal` adds."""
+    note = CLASH if text.startswith("M5 ") else BLOCK if text.startswith(("C1 ", "M1 ")) else b""
+    return Done(1, b"", f"jffs2_image: {text}\n".encode() + note)
 
 
 NOWHERE = b"d 0755 0 0 0 0 1 /\n"

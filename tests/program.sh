@@ -99,9 +99,9 @@ done
 
 # The size of a block comes before the image is read, and after it is opened.
 for value in 0 4092 4095 4097 4098 4194305 4194308 4294967295; do
-    run check --block $value block; want 1 "" "jffs2_image: C1 BlockSize"
-    run check --scan --block $value block; want 1 "" "jffs2_image: C1 BlockSize"
-    run check --scan --block $value folder; want 1 "" "jffs2_image: C1 BlockSize"
+    run check --block $value block; want 1 "" "jffs2_image: C1 BlockSize$block_note"
+    run check --scan --block $value block; want 1 "" "jffs2_image: C1 BlockSize$block_note"
+    run check --scan --block $value folder; want 1 "" "jffs2_image: C1 BlockSize$block_note"
     run check --scan --block $value none; want 1 "" "jffs2_image: P1 File none"
 done
 
@@ -149,7 +149,7 @@ run check --shape --scan empty; want 0 "$nothing" ""
 run check --shape --block 4096 "$sample"; want 3 "*mount ok*dangling pino 1 ino 2 name a"$'\nshape ok' ""
 run check --block 4096 "$sample"; want 3 "*findings 0*mount ok*dangling pino 1 ino 2 name a" ""
 run check --endian big --block 4096 "$sample"; want 3 "*findings 4*mount ok" ""
-run check --block 4095 block; want 1 "" "jffs2_image: C1 BlockSize"
+run check --block 4095 block; want 1 "" "jffs2_image: C1 BlockSize$block_note"
 run check none; want 1 "" "jffs2_image: P1 File none"
 run check folder; want 1 "" "jffs2_image: L1 Device"
 
@@ -162,7 +162,7 @@ run cat block /a/b; want 1 "" "jffs2_image: P3 Path NotFound"
 run cat --block 4096 "$sample" /a; want 1 "" "jffs2_image: P3 Path NotFound"
 run cat none /; want 1 "" "jffs2_image: P1 File none"
 run cat folder /; want 1 "" "jffs2_image: L1 Device"
-run cat --block 4095 block /; want 1 "" "jffs2_image: M1 BlockSize"
+run cat --block 4095 block /; want 1 "" "jffs2_image: M1 BlockSize$block_note"
 # The word of the path is judged before the image is opened.
 for path in '/\' '/\x1' '/\X11' '/\xg1' '/\\'; do
     run cat none "$path"; want 1 "" "jffs2_image: P3 Path BadPath"
@@ -241,8 +241,8 @@ run check --block 4096 "$tree"; want 0 "*total blocks 2 entries 12 inodes 11 fin
 run cat file /a; want 0 "" ""
 run check file; want 0 "*total blocks 1 entries 1 inodes 1 findings 0*mount ok" ""
 for value in 0 4092 4095 4097 4194308 4294967295; do
-    run ls --block $value block; want 1 "" "jffs2_image: M1 BlockSize"
-    run cat --block $value block /a; want 1 "" "jffs2_image: M1 BlockSize"
+    run ls --block $value block; want 1 "" "jffs2_image: M1 BlockSize$block_note"
+    run cat --block $value block /a; want 1 "" "jffs2_image: M1 BlockSize$block_note"
 done
 run ls none; want 1 "" "jffs2_image: P1 File none"
 run ls folder; want 1 "" "jffs2_image: L1 Device"
@@ -314,12 +314,12 @@ run diff none none2; want 1 "" "jffs2_image: P1 File none"
 run diff "$tree" none2; want 1 "" "jffs2_image: P1 File none2"
 run diff folder none2; want 1 "" "jffs2_image: L1 Device"
 run diff "$tree" larger; want 1 "" "jffs2_image: L2 TooLarge"
-run diff --block 4097 "$tree" "$tree"; want 1 "" "jffs2_image: M1 BlockSize"
+run diff --block 4097 "$tree" "$tree"; want 1 "" "jffs2_image: M1 BlockSize$block_note"
 run diff --block 8192 "$tree" "$top/tests/data/default.img"; want 1 "" "jffs2_image: M4 Compressed at *"
 run damage; want 2 "" "error: *<IMAGE>*Usage: *"
 run damage --decompress "$tree"; want 2 "" "error: unexpected argument '--decompress' found*Usage: *"
 run damage none; want 1 "" "jffs2_image: P1 File none"
-run damage --block 4097 "$tree"; want 1 "" "jffs2_image: M1 BlockSize"
+run damage --block 4097 "$tree"; want 1 "" "jffs2_image: M1 BlockSize$block_note"
 run damage "$tree"; want 0 "total damaged 0 paths 0 missing 0" ""
 for words in "damage --help" "damage -h" "help damage"; do
     run $words; want 0 "*Usage: jffs2_image damage *<IMAGE>*hides PATH*Exit status:*" ""
@@ -582,25 +582,71 @@ run build "${small[@]}" --blocks 1 listing built; want 0 "accepted 1 nodes 2 byt
 run ls "${small[@]}" built; want 0 "$root"$'\n'"- 0644 0 0 0 0 2 /$name" ""
 rm built
 
-# Lines that mean nothing: nothing is made, and what was there stays
+# Lines that mean nothing: nothing is made, and what was there stays. A note tells the first rule that the line breaks; here a
+# star stands for the rest of one with a backslash.
+# wrong_line TEXT NOTE
 wrong_line() {
     printf 'create 0644 /a\n\n%b\ncreate 0644 /b\n' "$1" > listing
-    run build "${small[@]}" --blocks 1 listing built; want 1 "" "jffs2_image: P2 Listing line 3"; unmade built
+    run build "${small[@]}" --blocks 1 listing built
+    want 1 "" "jffs2_image: P2 Listing line 3"$'\n'"jffs2_image: note: $2"; unmade built
 }
-for text in 'paint /a' 'Create 0644 /a' 'create /a' 'create 0644' 'create 0644 /a /b' 'create  0644 /a' ' create 0644 /a' \
-    'create 0644 /a ' ' ' '\r' 'create 8 /a' 'create 0000644 /a' 'create -1 /a' 'create 0644\t/a' 'write /a 0 0' 'write /a 0 0g' \
-    'write /a 0 ' 'write /a 0' 'write /a -1 00' 'write /a 4294967296 00' 'write /a 00000000001 00' 'write /a 0 00 00' \
-    'owner 65536 0' 'owner 0' 'time x' 'time 4294967296' 'time 5\r' 'remove /\\' 'remove /\\x6' 'remove /\\X61' \
-    'symlink /b \\\\' 'rename /a' 'link /a' 'truncate /a x' 'part /a 0 \0377' 'file 0644 /a' 'file /a 0644 f' 'file 0644 /a \\xff' \
-    'file 8 /a f' 'file 0644 /a a b' 'attr 0600 0 0 0 /a' 'attr 0600 0 0 0 0 0 /a' \
-    'attr 0600 65536 0 0 0 /a' 'attr 0600 0 0 0 4294967296 /a' 'attr 8 0 0 0 0 /a'; do
-    wrong_line "$text"
-done
+while IFS='|' read -r text note; do
+    wrong_line "$text" "$note"
+done <<'ROWS'
+paint /a|no operation has this name
+Create 0644 /a|no operation has this name
+create /a|too few words, this operation takes 2 after its name
+create 0644|too few words, this operation takes 2 after its name
+create 0644 /a /b|too many words, this operation takes 2 after its name
+create  0644 /a|two spaces side by side
+ create 0644 /a|a space at the start
+create 0644 /a |a space at the end
+ |a space at the start
+\r|a carriage return at the end, as of a file made on Windows
+create 8 /a|word 2 has a character that is no digit from 0 to 7
+create 0000644 /a|word 2 has more than 6 digits
+create -1 /a|word 2 has a character that is no digit from 0 to 7
+create 0644\t/a|too few words, this operation takes 2 after its name
+write /a 0 0|word 4 is not pairs of hexadecimal digits
+write /a 0 0g|word 4 is not pairs of hexadecimal digits
+write /a 0 |a space at the end
+write /a 0|too few words, this operation takes 3 after its name
+write /a -1 00|word 3 has a character that is no digit from 0 to 9
+write /a 4294967296 00|word 3 is above 4294967295
+write /a 00000000001 00|word 3 has more than 10 digits
+write /a 0 00 00|too many words, this operation takes 3 after its name
+owner 65536 0|word 2 is above 65535
+owner 0|too few words, this operation takes 2 after its name
+time x|word 2 has a character that is no digit from 0 to 9
+time 4294967296|word 2 is above 4294967295
+time 5\r|a carriage return at the end, as of a file made on Windows
+remove /\\|word 2 has a backslash that does not begin *x and two hexadecimal digits
+remove /\\x6|word 2 has a backslash that does not begin *x and two hexadecimal digits
+remove /\\X61|word 2 has a backslash that does not begin *x and two hexadecimal digits
+symlink /b \\\\|word 3 has a backslash that does not begin *x and two hexadecimal digits
+rename /a|too few words, this operation takes 2 after its name
+link /a|too few words, this operation takes 2 after its name
+truncate /a x|word 3 has a character that is no digit from 0 to 9
+part /a 0 \0377|word 4 is not UTF-8
+file 0644 /a|too few words, this operation takes 3 after its name
+file /a 0644 f|word 2 has a character that is no digit from 0 to 7
+file 0644 /a \\xff|word 4 is not UTF-8
+file 8 /a f|word 2 has a character that is no digit from 0 to 7
+file 0644 /a a b|too many words, this operation takes 3 after its name
+device p 600 5 1 /a|word 2 is neither c nor b
+device c 600 5 1048576 /a|word 5 is above 1048575
+attr 0600 0 0 0 /a|too few words, this operation takes 6 after its name
+attr 0600 0 0 0 0 0 /a|too many words, this operation takes 6 after its name
+attr 0600 65536 0 0 0 /a|word 3 is above 65535
+attr 0600 0 0 0 4294967296 /a|word 6 is above 4294967295
+attr 8 0 0 0 0 /a|word 2 has a character that is no digit from 0 to 7
+ROWS
 cp made_little built
-run build "${small[@]}" --blocks 1 listing built; want 1 "" "jffs2_image: P2 Listing line 3"; same built made_little
+run build "${small[@]}" --blocks 1 listing built; want 1 "" "jffs2_image: P2 Listing line 3"$'\n'"jffs2_image: note: word 2 *"; same built made_little
 rm built
 printf 'time 5\r\ncreate 0644 /a\r\n' > listing
-run build "${small[@]}" --blocks 1 listing built; want 1 "" "jffs2_image: P2 Listing line 1"; unmade built
+run build "${small[@]}" --blocks 1 listing built
+want 1 "" $'jffs2_image: P2 Listing line 1\njffs2_image: note: a carriage return *'; unmade built
 printf 'create 0644 /a\r\n' > listing
 run build "${small[@]}" --blocks 1 listing built; want 0 "accepted 1 nodes 2 bytes 124" ""
 run ls "${small[@]}" built; want 0 "$root"$'\n- 0644 0 0 0 0 2 /a\\\\x0d' ""
@@ -647,7 +693,7 @@ for words in "--blocks 0" "--block 4096 --blocks 2" "--block 8188 --blocks 2" "-
     run build $words none built; want 1 "" "jffs2_image: P1 File none"; unmade built
 done
 for value in 0 4095 4097 8190 4194308 4294967295; do
-    run build --block $value --blocks 0 create_a built; want 1 "" "jffs2_image: M1 BlockSize"; unmade built
+    run build --block $value --blocks 0 create_a built; want 1 "" "jffs2_image: M1 BlockSize$block_note"; unmade built
 done
 for words in "--blocks 4096" "--block 4194304 --blocks 64" "--block 8192 --blocks 32768"; do
     run build $words create_a built; want 0 "accepted 1 nodes 2 bytes 124" ""; same built made_little
@@ -748,7 +794,8 @@ run append "${small[@]}" --blocks 2 image create_a image; want 1 "" "jffs2_image
 run ls "${small[@]}" image; want 0 "$root"$'\n'"$file_a" ""
 cp made_little image
 printf 'paint\n' > listing
-run append "${small[@]}" --blocks 2 image listing image; want 1 "" "jffs2_image: P2 Listing line 1"; same image made_little
+run append "${small[@]}" --blocks 2 image listing image
+want 1 "" $'jffs2_image: P2 Listing line 1\njffs2_image: note: no operation has this name'; same image made_little
 
 # A name without an object; a number that is used up: entries of the root for inode 57 and for 4294967295
 {
@@ -823,7 +870,7 @@ erased 8193 > image
 run append "${small[@]}" --blocks 1 image create_a built; want 1 "" "jffs2_image: S7 Geometry"; unmade built
 run append --blocks 0 made_little create_a built; want 1 "" "jffs2_image: S7 Geometry"; unmade built
 run append --block 4096 --blocks 2 made_little create_a built; want 1 "" "jffs2_image: S7 Geometry"; unmade built
-run append --block 4097 --blocks 2 made_little create_a built; want 1 "" "jffs2_image: M1 BlockSize"; unmade built
+run append --block 4097 --blocks 2 made_little create_a built; want 1 "" "jffs2_image: M1 BlockSize$block_note"; unmade built
 run append --blocks 2 none absent built; want 1 "" "jffs2_image: P1 File none"; unmade built
 run append --blocks 2 made_little none built; want 1 "" "jffs2_image: P1 File none"; unmade built
 run append --blocks 2 folder create_b built; want 1 "" "jffs2_image: L1 Device"; unmade built
@@ -833,7 +880,8 @@ for file in larger /dev/zero; do
     run build --blocks 2 $file built; want 1 "" "jffs2_image: L2 TooLarge"; unmade built
 done
 lines listing 'paint'
-run append --block 4097 --blocks 2 made_little listing built; want 1 "" "jffs2_image: P2 Listing line 1"; unmade built
+run append --block 4097 --blocks 2 made_little listing built
+want 1 "" $'jffs2_image: P2 Listing line 1\njffs2_image: note: no operation has this name'; unmade built
 run append --blocks 2 made_little create_b folder; want 1 "" "jffs2_image: P1 File folder"
 run append --blocks 2 made_little create_b nowhere/built; want 1 "" "jffs2_image: P1 File nowhere/built"
 run append --blocks 2 made_little empty /dev/full; want 1 "" "jffs2_image: S4 Sink"
@@ -980,7 +1028,8 @@ run cuts --block 8192 --blocks 1 --on weak_image create_b; want 1 "" "jffs2_imag
 run cuts --blocks 0 listing; want 1 "" "jffs2_image: S7 Geometry"
 run cuts --block 8192 --blocks 1 --page 8192 listing; want 1 "" "jffs2_image: S7 Geometry"
 lines listing "paint /a"
-run cuts --blocks 1 listing; want 1 "" "jffs2_image: P2 Listing line 1"
+run cuts --blocks 1 listing
+want 1 "" $'jffs2_image: P2 Listing line 1\njffs2_image: note: no operation has this name'
 lines listing "create 0644 /a" "part /a 0 none"
 run cuts --blocks 1 listing; want 1 "" "jffs2_image: P1 File none"
 run cuts --blocks 1 none; want 1 "" "jffs2_image: P1 File none"

@@ -57,6 +57,13 @@ marker() {
     bytes 85 19 03 20 0c 00 00 00 b1 b0 1e e4
 }
 
+# The notes after the line of a fault, of every command
+# shellcheck disable=SC2034
+block_note=$'\n'"jffs2_image: note: --block takes a multiple of 4 from 4096 to 4194304"
+# shellcheck disable=SC2034
+clash_note=$'\n'"jffs2_image: note: two nodes differ; \
+decompress --clashes higher keeps that of the higher address"
+
 # noted N: what standard error says
 noted() {
     local word=findings

@@ -65,7 +65,7 @@ def strange(folder, image):
     check("half of the block", ["--block", "32768"], image, 3, "mount ok")
     for block in (4095, 8388608):
         status, _, errors = run("ls", "--block", str(block), image)
-        test(f"--block {block}", [] if (status, errors) == (1, "jffs2_image: M1 BlockSize") else [f"status {status}: {errors}"])
+        test(f"--block {block}", [] if status == 1 and errors.startswith("jffs2_image: M1 BlockSize\n") else [f"status {status}: {errors}"])
     subprocess.run(["sumtool", "-l", "-i", image, "-o", image + ".sums"], check=True, capture_output=True)
     compare("sumtool", [], image + ".sums", folder)
     produce(image + ".more", folder, "-l", "-i", image)

@@ -10,7 +10,7 @@ use Rattle.std.proofs.lemmas.Slice.Eq.{bytes_eq-Decides}
 use Rattle.jword.specs.Words.{◌>>=◌}
 use Rattle.jlisting.specs.Words.{device_kind_of, mode_of, text_of, hex_data_of, file_name_of, escaped_name_of}
 use Rattle.jlisting.specs.Listing.{is_skipped, number, owner_word, major_word, minor_word, one_operand, two_operands, three_operands, five_operands, six_operands, statement_of, statement_of_words}
-use Rattle.jlisting.specs.Broken.{words_in, operands_of, operation_operands, later_space, space_rule, operands_rule, shape_rule, form_rule, words_rule, or_return, first_broken, mode_and_path, two_texts, a_number, an_owner, word_rule}
+use Rattle.jlisting.specs.Broken.{words_in, operands_of, operation_operands, later_space, space_rule, operands_rule, shape_rule, form_rule, words_rule, or_return, first_broken, new_object, two_texts, a_number, an_owner, word_rule}
 use Rattle.jlisting.specs.Laws.{BrokenLinesMeanNothing}
 use Rattle.jlisting.specs.declared.rule.Operand.{Operand}
 use Rattle.jlisting.specs.declared.rule.Operand.TheVariants as kind
@@ -179,30 +179,30 @@ owner_agrees s words =
 mkdir_agrees : (s : Settings) (words : List (List ℕ)) → Agree s (codes "mkdir" ∷ words)
 unfolding operands_of operation_operands one_operand two_operands three_operands five_operands six_operands
 mkdir_agrees s words =
-    by_count s (codes "mkdir") mode_and_path words refl
+    by_count s (codes "mkdir") (new_object) words refl
     (others s (codes "mkdir") 2 (λ is a. refl) (λ is a b. absurd (is refl)) (λ is a b c. refl) (λ is a b c d e. refl) (λ is a b c d e f. refl) words)
-    (exactly_two (Form s (codes "mkdir") mode_and_path) (λ a b. form_two (mode_of a) (text_of b) _) words)
+    (exactly_two (Form s (codes "mkdir") (new_object)) (λ a b. form_two (mode_of a) (text_of b) _) words)
 
 create_agrees : (s : Settings) (words : List (List ℕ)) → Agree s (codes "create" ∷ words)
 unfolding operands_of operation_operands one_operand two_operands three_operands five_operands six_operands
 create_agrees s words =
-    by_count s (codes "create") mode_and_path words refl
+    by_count s (codes "create") (new_object) words refl
     (others s (codes "create") 2 (λ is a. refl) (λ is a b. absurd (is refl)) (λ is a b c. refl) (λ is a b c d e. refl) (λ is a b c d e f. refl) words)
-    (exactly_two (Form s (codes "create") mode_and_path) (λ a b. form_two (mode_of a) (text_of b) _) words)
+    (exactly_two (Form s (codes "create") (new_object)) (λ a b. form_two (mode_of a) (text_of b) _) words)
 
 fifo_agrees : (s : Settings) (words : List (List ℕ)) → Agree s (codes "fifo" ∷ words)
 unfolding operands_of operation_operands one_operand two_operands three_operands five_operands six_operands
 fifo_agrees s words =
-    by_count s (codes "fifo") mode_and_path words refl
+    by_count s (codes "fifo") (new_object) words refl
     (others s (codes "fifo") 2 (λ is a. refl) (λ is a b. absurd (is refl)) (λ is a b c. refl) (λ is a b c d e. refl) (λ is a b c d e f. refl) words)
-    (exactly_two (Form s (codes "fifo") mode_and_path) (λ a b. form_two (mode_of a) (text_of b) _) words)
+    (exactly_two (Form s (codes "fifo") (new_object)) (λ a b. form_two (mode_of a) (text_of b) _) words)
 
 socket_agrees : (s : Settings) (words : List (List ℕ)) → Agree s (codes "socket" ∷ words)
 unfolding operands_of operation_operands one_operand two_operands three_operands five_operands six_operands
 socket_agrees s words =
-    by_count s (codes "socket") mode_and_path words refl
+    by_count s (codes "socket") (new_object) words refl
     (others s (codes "socket") 2 (λ is a. refl) (λ is a b. absurd (is refl)) (λ is a b c. refl) (λ is a b c d e. refl) (λ is a b c d e f. refl) words)
-    (exactly_two (Form s (codes "socket") mode_and_path) (λ a b. form_two (mode_of a) (text_of b) _) words)
+    (exactly_two (Form s (codes "socket") (new_object)) (λ a b. form_two (mode_of a) (text_of b) _) words)
 
 file_agrees : (s : Settings) (words : List (List ℕ)) → Agree s (codes "file" ∷ words)
 unfolding operands_of operation_operands one_operand two_operands three_operands five_operands six_operands

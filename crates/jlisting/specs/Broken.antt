@@ -26,8 +26,8 @@ abbrev pub an_owner : Operand
 an_owner = kind.Number 65535
 
 -- a new object of a mode, and two paths or a path and a target
-abbrev pub mode_and_path : List Operand
-mode_and_path = kind.Mode ∷ kind.Text ∷ []
+abbrev pub new_object : List Operand
+new_object = kind.Mode ∷ kind.Text ∷ []
 
 abbrev pub two_texts : List Operand
 two_texts = kind.Text ∷ kind.Text ∷ []
@@ -35,10 +35,10 @@ two_texts = kind.Text ∷ kind.Text ∷ []
 -- the words after the name of an operation, if it is the name of one
 unfoldable pub operation_operands : List ℕ → Option (List Operand)
 operation_operands name =
-    if bytes_eq name (codes "mkdir") then Some mode_and_path
-    else if bytes_eq name (codes "create") then Some mode_and_path
-    else if bytes_eq name (codes "fifo") then Some mode_and_path
-    else if bytes_eq name (codes "socket") then Some mode_and_path
+    if bytes_eq name (codes "mkdir") then Some new_object
+    else if bytes_eq name (codes "create") then Some new_object
+    else if bytes_eq name (codes "fifo") then Some new_object
+    else if bytes_eq name (codes "socket") then Some new_object
     else if bytes_eq name (codes "file") then Some (kind.Mode ∷ kind.Text ∷ kind.EscapedName ∷ [])
     else if bytes_eq name (codes "device") then Some
     (kind.DeviceKind ∷ kind.Mode ∷ kind.Number 4095 ∷ kind.Number 1048575 ∷ kind.Text ∷ [])

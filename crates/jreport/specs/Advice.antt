@@ -1,9 +1,44 @@
 -- What a person may do about a fault: a note after its line.
-use Rattle.std.specs.Prelude.{ℕ, ◌==◌, ◌||◌, Bool, List, [], ◌++◌, codes, if◌then◌else◌}
+use Rattle.std.specs.Prelude.{ℕ, ◌==◌, ◌||◌, Bool, List, [], ◌∷◌, ◌++◌, length, codes, decimal, if◌then◌else◌}
+use Rattle.jlisting.specs.declared.rule.Rule.{Rule}
+use Rattle.jlisting.specs.declared.rule.Rule.TheVariants as rule
+use Rattle.jlisting.specs.declared.rule.WordRule.{WordRule}
+use Rattle.jlisting.specs.declared.rule.WordRule.TheVariants as word
+use Rattle.jmount.specs.declared.fault.MountFault.{MountFault}
 use Rattle.jmount.specs.declared.fault.MountFault.TheVariants as mount
+use Rattle.jscan.specs.declared.geometry.ScanFault.TheVariants as scan
 use Rattle.jreport.specs.Faults.{fault_line_of}
 use Rattle.jreport.specs.declared.faults.ProgramFault.{ProgramFault}
 use Rattle.jreport.specs.declared.faults.ProgramFault.TheVariants as program
+
+-- ---- a line of a listing
+
+-- the rule that a word breaks
+unfoldable pub word_note : WordRule → List ℕ
+word_note word.Empty = codes " is empty"
+word_note (word.NoDigit greatest) =
+    codes " has a character that is no digit from 0 to " ++ decimal greatest
+word_note (word.TooLong most) = codes " has more than " ++ decimal most ++ codes " digits"
+word_note (word.Above limit) = codes " is above " ++ decimal limit
+word_note word.Kind = codes " is neither c nor b"
+word_note word.Escape = codes " has a backslash that does not begin \\x and two hexadecimal digits"
+word_note word.NoPairs = codes " is not pairs of hexadecimal digits"
+word_note word.NoText = codes " is not UTF-8"
+
+-- the rule that a line breaks
+unfoldable pub rule_note : Rule → List ℕ
+rule_note rule.SpaceAtStart = codes "a space at the start"
+rule_note rule.TwoSpaces = codes "two spaces side by side"
+rule_note rule.SpaceAtEnd = codes "a space at the end"
+rule_note rule.CarriageReturn = codes "a carriage return at the end, as of a file made on Windows"
+rule_note rule.NoOperation = codes "no operation has this name"
+rule_note (rule.TooFew n) =
+    codes "too few words, this operation takes " ++ decimal n ++ codes " after its name"
+rule_note (rule.TooMany n) =
+    codes "too many words, this operation takes " ++ decimal n ++ codes " after its name"
+rule_note (rule.Word n broken) = codes "word " ++ decimal n ++ word_note broken
+
+-- ---- an image
 
 -- a method of compression that `decompress` reads: RTIME, ZLIB, LZO (Linux,
 -- include/uapi/linux/jffs2.h)
@@ -12,14 +47,42 @@ is_read_method compr = (compr == 2) || (compr == 6) || (compr == 7)
 
 -- that an image has compressed data
 unfoldable pub compressed_note : List ℕ
-compressed_note =
-    codes "jffs2_image: note: the image is compressed; decompress writes one that is not, and --decompress reads it\n"
+compressed_note = codes "the image is compressed; " ++ codes "decompress writes one that is not, "
+    ++ codes "and --decompress reads it"
+
+-- that two nodes of an image clash
+unfoldable pub clash_note : List ℕ
+clash_note = codes "two nodes differ; "
+    ++ codes "decompress --clashes higher keeps that of the higher address"
+
+-- that no erase block has this size
+unfoldable pub block_note : List ℕ
+block_note = codes "--block takes a multiple of 4 from 4096 to 4194304"
+
+-- what is said of an image that does not mount
+unfoldable pub mount_note : MountFault → List ℕ
+mount_note mount.BlockSize = block_note
+mount_note (mount.Compressed addr compr) = if is_read_method compr then compressed_note else []
+mount_note (mount.Clash addr) = clash_note
+mount_note _ = []
+
+-- ---- a fault
+
+-- what is said of a fault beside its line, if anything is
+unfoldable pub note_of : ProgramFault → List ℕ
+note_of (program.Listing bad) = rule_note bad.rule
+note_of (program.Scan scan.BlockSize) = block_note
+note_of (program.Mount fault) = mount_note fault
+note_of _ = []
+
+-- as a line, where there is something to say
+abbrev pub noted_line : List ℕ → List ℕ
+noted_line note =
+    if length note == 0 then [] else codes "jffs2_image: note: " ++ note ++ 10 ∷ []
 
 -- the line after that of a fault, if there is one
 unfoldable pub advice_of : ProgramFault → List ℕ
-advice_of (program.Mount (mount.Compressed addr compr)) =
-    if is_read_method compr then compressed_note else []
-advice_of _ = []
+advice_of fault = noted_line (note_of fault)
 
 -- all that standard error is told of a fault
 unfoldable pub fault_lines_of : ProgramFault → List ℕ

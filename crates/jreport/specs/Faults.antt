@@ -98,7 +98,7 @@ fault_text_of (program.Load fault) = load_text fault
 fault_text_of (program.Scan fault) = scan_fault_text fault
 fault_text_of (program.Mount fault) = mount_text fault
 fault_text_of (program.File name) = codes "P1 File " ++ name.now
-fault_text_of (program.Listing n) = codes "P2 Listing" ++ line_text n
+fault_text_of (program.Listing bad) = codes "P2 Listing" ++ line_text bad.line
 fault_text_of (program.Session fault line) = session_text fault ++ line_text_of line
 fault_text_of (program.Path fault) = find_text fault
 fault_text_of program.NotRegular = codes "P4 NotRegular"
@@ -126,7 +126,7 @@ fault_of_stream stream.OutOfMemory = program.Load load.OutOfMemory
 
 -- the program's fault that a listing's fault is
 abbrev pub fault_of_listing : ListingFault → ProgramFault
-fault_of_listing (listing.Line n) = program.Listing n
+fault_of_listing (listing.Line bad) = program.Listing bad
 fault_of_listing listing.OutOfMemory = program.OutOfMemory
 
 -- the line of a fault went out

@@ -1,13 +1,81 @@
 //! The note after a fault's line, on what a person may do about it.
 
-ghost use Rattle.std.specs.Prelude.{◌≡◌};
+ghost use Rattle.std.specs.Prelude.{◌≡◌, ◌≤◌, [], length};
 ghost use Rattle.flashbase.specs.Device.{Puts};
-ghost use Rattle.jreport.specs.Advice.{advice_of, fault_lines_of, is_read_method};
+ghost use Rattle.jreport.specs.Advice.{advice_of, fault_lines_of, is_read_method, mount_note, note_of, rule_note, word_note};
 
 use crate::faults::{ProgramFault, fault_line};
 use flashbase::{DeviceFault, Sink};
-use jline::put_text;
+use jline::{LineBuffer, put_text};
+use jlisting::{Rule, WordRule};
 use jmount::MountFault;
+use jscan::ScanFault;
+
+/// The rule that a word breaks.
+#[tactic(auto, unfolding(crate::specs::Advice::word_note))]
+fn push_word_rule(line: &mut LineBuffer, rule: WordRule)
+    requires { line.old ≡ [] }
+    ensures text { line.new ≡ word_note rule }
+    ensures short { length line.new ≤ 100 }
+{
+    match rule {
+        WordRule::Empty => line.push_text(b" is empty"),
+        WordRule::NoDigit(greatest) => {
+            line.push_text(b" has a character that is no digit from 0 to ");
+            line.push_decimal(greatest);
+        }
+        WordRule::TooLong(most) => {
+            line.push_text(b" has more than ");
+            line.push_decimal(most as u64);
+            line.push_text(b" digits");
+        }
+        WordRule::Above(limit) => {
+            line.push_text(b" is above ");
+            line.push_decimal(u64::from(limit));
+        }
+        WordRule::Kind => line.push_text(b" is neither c nor b"),
+        WordRule::Escape => line.push_text(
+            b" has a backslash that does not begin \\x and two hexadecimal digits",
+        ),
+        WordRule::NoPairs => line.push_text(b" is not pairs of hexadecimal digits"),
+        WordRule::NoText => line.push_text(b" is not UTF-8"),
+    }
+}
+
+/// The rule that a line breaks.
+#[tactic(auto, unfolding(crate::specs::Advice::rule_note))]
+fn push_rule(line: &mut LineBuffer, rule: Rule)
+    requires { line.old ≡ [] }
+    ensures text { line.new ≡ rule_note rule }
+    ensures short { length line.new ≤ 200 }
+{
+    match rule {
+        Rule::SpaceAtStart => line.push_text(b"a space at the start"),
+        Rule::TwoSpaces => line.push_text(b"two spaces side by side"),
+        Rule::SpaceAtEnd => line.push_text(b"a space at the end"),
+        Rule::CarriageReturn => {
+            line.push_text(b"a carriage return at the end, as of a file made on Windows");
+        }
+        Rule::NoOperation => line.push_text(b"no operation has this name"),
+        Rule::TooFew(count) => {
+            line.push_text(b"too few words, this operation takes ");
+            line.push_decimal(count as u64);
+            line.push_text(b" after its name");
+        }
+        Rule::TooMany(count) => {
+            line.push_text(b"too many words, this operation takes ");
+            line.push_decimal(count as u64);
+            line.push_text(b" after its name");
+        }
+        Rule::Word(number, broken) => {
+            let mut word = LineBuffer::new();
+            push_word_rule(&mut word, broken);
+            line.push_text(b"word ");
+            line.push_decimal(number as u64);
+            line.push_text(word.as_slice());
+        }
+    }
+}
 
 /// Whether `decompress` reads a method of compression.
 fn is_read_method(compr: u8) -> bool
@@ -16,16 +84,59 @@ fn is_read_method(compr: u8) -> bool
     compr == 2 || compr == 6 || compr == 7
 }
 
-/// The note after the line of a fault; nothing where there is none.
-#[tactic(auto, unfolding(crate::specs::Advice::advice_of, crate::specs::Advice::compressed_note))]
-fn advice(fault: &ProgramFault<'_>) -> &'static [u8]
-    ensures { result.now ≡ advice_of fault.now }
+/// What is said of an image that does not mount.
+#[tactic(auto, unfolding(crate::specs::Advice::mount_note, crate::specs::Advice::block_note, crate::specs::Advice::clash_note, crate::specs::Advice::compressed_note))]
+fn push_mount_note(line: &mut LineBuffer, fault: MountFault)
+    requires { line.old ≡ [] }
+    ensures text { line.new ≡ mount_note fault }
+    ensures short { length line.new ≤ 200 }
+{
+    match fault {
+        MountFault::BlockSize => {
+            line.push_text(b"--block takes a multiple of 4 from 4096 to 4194304");
+        }
+        MountFault::Compressed { compr, .. } if is_read_method(compr) => {
+            line.push_text(b"the image is compressed; ");
+            line.push_text(b"decompress writes one that is not, ");
+            line.push_text(b"and --decompress reads it");
+        }
+        MountFault::Clash { .. } => {
+            line.push_text(b"two nodes differ; ");
+            line.push_text(b"decompress --clashes higher keeps that of the higher address");
+        }
+        _ => {}
+    }
+}
+
+/// What is said of a fault beside its line.
+#[tactic(auto, unfolding(crate::specs::Advice::note_of, crate::specs::Advice::block_note))]
+fn push_note(line: &mut LineBuffer, fault: &ProgramFault<'_>)
+    requires { line.old ≡ [] }
+    ensures text { line.new ≡ note_of fault.now }
+    ensures short { length line.new ≤ 200 }
 {
     match *fault {
-        ProgramFault::Mount(MountFault::Compressed { compr, .. }) if is_read_method(compr) => {
-            b"jffs2_image: note: the image is compressed; decompress writes one that is not, and --decompress reads it\n"
+        ProgramFault::Listing(bad) => push_rule(line, bad.rule),
+        ProgramFault::Mount(fault) => push_mount_note(line, fault),
+        ProgramFault::Scan(ScanFault::BlockSize) => {
+            line.push_text(b"--block takes a multiple of 4 from 4096 to 4194304");
         }
-        _ => b"",
+        _ => {}
+    }
+}
+
+/// The note after the line of a fault; nothing where there is none.
+#[tactic(auto, unfolding(crate::specs::Advice::advice_of))]
+fn push_advice(line: &mut LineBuffer, fault: &ProgramFault<'_>)
+    requires { line.old ≡ [] }
+    ensures { line.new ≡ advice_of fault.now }
+{
+    let mut note = LineBuffer::new();
+    push_note(&mut note, fault);
+    if !note.as_slice().is_empty() {
+        line.push_text(b"jffs2_image: note: ");
+        line.push_text(note.as_slice());
+        line.push_text(b"\n");
     }
 }
 
@@ -35,5 +146,7 @@ pub fn fault_lines<T: Sink>(fault: &ProgramFault<'_>, sink: &mut T) -> Result<()
         (fault_lines_of fault.now) result }
 {
     fault_line(fault, sink)?;
-    put_text(sink, advice(fault))
+    let mut line = LineBuffer::new();
+    push_advice(&mut line, fault);
+    put_text(sink, line.as_slice())
 }

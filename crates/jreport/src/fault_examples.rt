@@ -4,6 +4,7 @@ ghost use Rattle.flashbase.specs.declared.source.LoadFault.TheVariants as load;
 ghost use Rattle.jscan.specs.declared.geometry.ScanFault.TheVariants as scan;
 ghost use Rattle.jsteps.specs.declared.fault.OpFault.TheVariants as op;
 ghost use Rattle.jlog.specs.declared.fault.SessionFault.TheVariants as session;
+ghost use Rattle.jlisting.specs.declared.rule.Rule.TheVariants as rule;
 ghost use Rattle.jreport.specs.Faults.{fault_text_of};
 ghost use Rattle.jreport.specs.declared.faults.ProgramFault.TheVariants as fault;
 
@@ -22,7 +23,8 @@ pub fn known_fault_texts()
 /// The texts of what a listing and a session refuse.
 #[tactic(auto, unfolding(crate::specs::Faults::fault_text_of, crate::specs::Faults::session_text, crate::specs::Faults::op_text))]
 pub fn known_session_texts()
-    ensures listing { fault_text_of (fault.Listing 3) ≡ codes "P2 Listing line 3" }
+    ensures listing { fault_text_of (fault.Listing (record { line = 3; rule = rule.TwoSpaces }))
+        ≡ codes "P2 Listing line 3" }
     ensures refused { fault_text_of (fault.Session (session.Refused op.Exists) (Some 2))
         ≡ codes "S1 Refused O5 Exists line 2" }
     ensures full { fault_text_of (fault.Session (session.Full 4164 3904) (Some 3))

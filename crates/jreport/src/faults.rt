@@ -9,7 +9,7 @@ use crate::report_fault::ReportFault;
 use crate::session_fault::{push_line, push_session};
 use flashbase::{DeviceFault, LoadFault, PutFault, Sink, put_all};
 use jline::{LineBuffer, put_in_line, put_text};
-use jlisting::ListingFault;
+use jlisting::{BadLine, ListingFault};
 use jlog::SessionFault;
 use jmount::{FindFault, MountFault};
 use jscan::{ScanFault, StreamFault};
@@ -27,9 +27,7 @@ pub enum ProgramFault<'a> {
     /// The file of this name can't be opened.
     File(&'a str),
     /// A line of the listing means nothing.
-    Listing {
-        line: usize,
-    },
+    Listing(BadLine),
     /// Nothing was written, or writing stopped, at the operation of a line of the listing if it
     /// came to one.
     Session {
@@ -113,7 +111,7 @@ impl From<ListingFault> for ProgramFault<'_> {
 
     fn from(fault: ListingFault) -> Self {
         match fault {
-            ListingFault::Line(line) => ProgramFault::Listing { line },
+            ListingFault::Line(bad) => ProgramFault::Listing(bad),
             ListingFault::OutOfMemory => ProgramFault::OutOfMemory,
         }
     }
@@ -271,9 +269,9 @@ fn push_fault<'a>(line: &mut LineBuffer, fault: &ProgramFault<'a>) -> &'a str
             line.push_text(b"P1 File ");
             return name;
         }
-        ProgramFault::Listing { line: number } => {
+        ProgramFault::Listing(bad) => {
             line.push_text(b"P2 Listing");
-            push_line(line, number);
+            push_line(line, bad.line);
         }
         ProgramFault::Session {
             fault,
