@@ -37,7 +37,7 @@ use Rattle.jffs2_image.proofs.HostLemmas.{part_all, same_behind}
 -- ---- what the file that is made was given
 
 pub apart_behind : (e : Endian) (size : ℕ) (nodes : List NodeRef) (old mid taken given : Option (List ℕ)) (before now : ℕ) (r : Result ℕ ConvertFault)
-    → WritesNodes e size nodes old mid before now r → Keeps mid taken → IsBehind given taken → GivesText old given (image_of_nodes e size nodes)
+    → WritesNodes e size nodes (record { old = old; new = mid; before = before; now = now }) r → Keeps mid taken → IsBehind given taken → GivesText old given (image_of_nodes e size nodes)
 apart_behind e size nodes old mid taken given before now (Ok done) put kept behind =
     (mid, part_all old mid (image_of_nodes e size nodes) put.1, same_behind given mid taken kept behind)
 apart_behind e size nodes old mid taken given before now (Err convert.Sink) put kept behind = (mid, put.0, same_behind given mid taken kept behind)

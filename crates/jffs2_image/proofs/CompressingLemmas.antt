@@ -27,7 +27,7 @@ use Rattle.jffs2_image.proofs.HostLemmas.{part_all, same_behind}
 -- ---- what the file that is made was given
 
 pub packed_behind : (e : Endian) (size : ℕ) (image : List ℕ) (old mid taken given : Option (List ℕ)) (before now : ℕ) (r : Result (ℕ × ℕ) ConvertFault)
-    → WritesPacked e size image old mid before now r → Keeps mid taken → IsBehind given taken → GivesPacked e size image old given
+    → WritesPacked e size image (record { old = old; new = mid; before = before; now = now }) r → Keeps mid taken → IsBehind given taken → GivesPacked e size image old given
 packed_behind e size image old mid taken given before now (Ok done) put kept behind =
     (put.0.0, done.0, put.0.1, (mid, part_all old mid put.0.0 put.0.2, same_behind given mid taken kept behind))
 packed_behind e size image old mid taken given before now (Err convert.Sink) put kept behind =

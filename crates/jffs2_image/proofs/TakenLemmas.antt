@@ -24,7 +24,7 @@ use Rattle.jffs2_image.proofs.HostLemmas.{file_blame, part_all, same_behind}
 -- ---- what the file that is made was given
 
 pub writes_behind : (T : Type 0) (e : Endian) (size : ℕ) (image : List ℕ) (old mid taken given : Option (List ℕ)) (before now : ℕ) (r : Result T ConvertFault)
-    → WritesConverted e size image old mid before now r → Keeps mid taken → IsBehind given taken → GivesText old given (converted_image e size image)
+    → WritesConverted e size image (record { old = old; new = mid; before = before; now = now }) r → Keeps mid taken → IsBehind given taken → GivesText old given (converted_image e size image)
 writes_behind T e size image old mid taken given before now (Ok x) put kept behind =
     (mid, part_all old mid (converted_image e size image) put.0, same_behind given mid taken kept behind)
 writes_behind T e size image old mid taken given before now (Err convert.Sink) put kept behind = (mid, put.0, same_behind given mid taken kept behind)
