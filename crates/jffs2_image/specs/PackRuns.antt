@@ -4,7 +4,7 @@ use Rattle.std.specs.Prelude.{◌≡◌, ◌==◌, ◌⊎◌, ◌/◌, ℕ, Bool
 use Rattle.std.specs.Option.{option_map_or}
 use Rattle.jscan.specs.Image.{greatest_image}
 use Rattle.jfolder.specs.Known.{Known}
-use Rattle.jfolder.specs.Notes.{Tells}
+use Rattle.jfolder.specs.Notes.{NotesPassage, Tells}
 use Rattle.jfolder.specs.Text.{listing_text}
 use Rattle.jfolder.specs.declared.fault.ReadFault.{ReadFault}
 use Rattle.jfolder.specs.declared.found.Options as reading
@@ -47,6 +47,9 @@ blocks_of asked = option_map_or (λ blocks. blocks) asked.blocks
 
 -- ---- the listing
 
+abbrev pub notes_of : Passage → NotesPassage
+notes_of p = record { old = p.old; new = p.new; before = p.before; now = p.now }
+
 -- What was read of the folder of a name: the text of the tree that it holds, where all that was
 -- left out was told; or why there is no text.
 abbrev pub ReadsListing : Known → reading.Options → List ℕ → Passage → Result Listed ProgramFault
@@ -54,12 +57,12 @@ abbrev pub ReadsListing : Known → reading.Options → List ℕ → Passage →
 ReadsListing known options name notes (Ok listed) =
     (folder : Folder) × IsListable known options folder × (listed.left_out ≡ folder.left_out)
     × (listed.text.items ≡ listing_text folder.root folder.items.items)
-    × Tells known options notes.old notes.new notes.before notes.now (Ok folder)
+    × Tells known options (notes_of notes) (Ok folder)
 ReadsListing known options name notes (Err fault) =
     ((folder : Folder) × (fault ≡ program.OutOfMemory)
-    × Tells known options notes.old notes.new notes.before notes.now (Ok folder))
+    × Tells known options (notes_of notes) (Ok folder))
     ⊎ ((refused : ReadFault) × IsReadingFault name refused fault
-    × Tells known options notes.old notes.new notes.before notes.now (Err refused))
+    × Tells known options (notes_of notes) (Err refused))
 
 -- The same by a host that gives the folder and takes it back; or there is no memory for it, and
 -- nothing is told.
@@ -116,8 +119,7 @@ pub record IsPacked (asked : PackingParsed) (known : Known) (unmade : Type 0) (a
   pub folder : Folder
   pub written : Result ℕ ProgramFault
   pub listable : IsListable known (settings asked.owner asked.time) folder
-  pub told : Tells known (settings asked.owner asked.time) around.errors.old around.errors.new
-      around.errors.before around.errors.now (Ok folder)
+  pub told : Tells known (settings asked.owner asked.time) (notes_of around.errors) (Ok folder)
   pub writes : WritesText asked (listing_text folder.root folder.items.items) unmade around.reading
       around.writing around.output notes written
   pub comes_to : result ≡ left_out_of folder written
