@@ -9,8 +9,9 @@ flash=(--block 8192)
 lines create 'create 0644 /new'
 lines wrong 'create 0644 /a' 'create 0644 /a'
 lines nothing 'paint /a'
-head -c 300000 /dev/zero | tr '\0' 'a' > bytes
-lines large 'create 0644 /large' 'write /large 0 bytes'
+erased 30000 > bytes
+erased 300000 > more
+lines large 'file 0644 /large more'
 lines text 'file 0644 /text bytes'
 
 # length FILE N: it has so many bytes
@@ -202,21 +203,25 @@ if [[ $(id -u) != 0 ]]; then
     want 1 "" "jffs2_image: P1 File closed/out.img"; same closed/out.img old
 elif command -v setpriv > /dev/null; then
     chmod 755 "$folder"; chown -R nobody closed
+    cp "$program" program; chmod 755 program
     line="build --atomic in a closed folder"
-    setpriv --reuid nobody --clear-groups "$program" build "${flash[@]}" --blocks 16 --atomic create \
-        closed/out.img > out 2> err
-    got=$?
-    want 1 "" "jffs2_image: P1 File closed/out.img"; same closed/out.img old; alone
+    if setpriv --reuid nobody --clear-groups ./program --version > out 2> err; then
+        setpriv --reuid nobody --clear-groups ./program build "${flash[@]}" --blocks 16 --atomic \
+            create closed/out.img > out 2> err
+        got=$?
+        want 1 "" "jffs2_image: P1 File closed/out.img"; same closed/out.img old; alone
+    fi
 fi
 chmod 755 closed
 
-# ---- a kill
+# ---- a kill at ten places
 
 run build "${flash[@]}" --blocks 128 large whole.img; want 0 "accepted *" ""
-for n in 1 2 3 4 5 6 7 8 9 10; do
+for n in 1 2 3 4 5 6 7 8 9 15; do
     cp old out.img
-    line="a kill after $n ms"
-    timeout -s KILL "0.00$n" "$program" build "${flash[@]}" --blocks 128 --atomic large out.img > out 2> err
+    line="a kill after 0.00$n s"
+    { timeout -s KILL "0.00$n" "$program" build "${flash[@]}" --blocks 128 --atomic large out.img \
+        > out 2> err; } 2> killed
     cmp -s out.img old || cmp -s out.img whole.img
     differs=$?
     count $differs

@@ -1,7 +1,7 @@
 # shellcheck shell=bash
-# What the suites program.sh and decompress.sh share: which program it is, a new folder that they
-# run in and that goes away at the end, runs of the program, and how many tests passed. A suite
-# sources this first.
+# What the suites program.sh, decompress.sh and placing.sh share: which program it is, a new folder
+# that they run in and that goes away at the end, runs of the program, and how many tests passed. A
+# suite sources this first.
 top=$(cd "$(dirname "${BASH_SOURCE[0]}")/.." && pwd)
 program=$(realpath "${1:-$top/crates/jffs2_image/out/jffs2_image}")
 folder=$(mktemp -d)

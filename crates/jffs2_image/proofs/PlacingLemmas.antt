@@ -27,10 +27,10 @@ some_filling placing task yes none =
     cc
 
 module _ {M B E : Type 0} (tells : Tellings M B) (Says : E → E → List ℕ → Type 0) (intent : Intent) (Runs : FileWrites → Type 0 → E → Outcome → Type 0) (old new : M) (last : E) (result : Outcome) where
-  pub as_it_is : RunsPlaced tells Says intent Runs (old, new) last result → IsUnplaced intent → Runs (writes tells.real old new) (new ≡ old) last result
-  as_it_is (inl p) plain = p.1
-  as_it_is (inr (inl p)) plain = absurd (p.1 plain.1)
-  as_it_is (inr (inr p)) plain =
+  runs_so : (IsUnplaced intent × Runs (writes tells.real old new) (new ≡ old) last result) ⊎ ((intent.atomic ≡ false) × (intent.filling ≢ None) × RunsFilled tells.real Says intent Runs old new last result) ⊎ ((intent.atomic ≡ true) × RunsBeside tells Says intent Runs old new last result) → IsUnplaced intent → Runs (writes tells.real old new) (new ≡ old) last result
+  runs_so (inl p) plain = p.1
+  runs_so (inr (inl p)) plain = absurd (p.1 plain.1)
+  runs_so (inr (inr p)) plain =
       let yes : intent.atomic ≡ true = p.0 in
       let no : intent.atomic ≡ false = plain.0 in
       absurd (cc)
@@ -43,12 +43,22 @@ module _ {M B E : Type 0} (tells : Tellings M B) (Says : E → E → List ℕ �
   takes_nothing name beside files errors ended (inr (inl t)) fault = (t.1, t.2)
   takes_nothing name beside files errors ended (inr (inr t)) fault = (t.1, t.2)
 
-  pub stays : RunsPlaced tells Says intent Runs (old, new) last result → intent.atomic ≡ true → result ≡ outcome.Fault → (tells.real.names new ≡ tells.real.names old) × (tells.real.held new ≡ tells.real.held old)
-  stays (inl p) yes fault =
+  stays_so : (IsUnplaced intent × Runs (writes tells.real old new) (new ≡ old) last result) ⊎ ((intent.atomic ≡ false) × (intent.filling ≢ None) × RunsFilled tells.real Says intent Runs old new last result) ⊎ ((intent.atomic ≡ true) × RunsBeside tells Says intent Runs old new last result) → intent.atomic ≡ true → result ≡ outcome.Fault → (tells.real.names new ≡ tells.real.names old) × (tells.real.held new ≡ tells.real.held old)
+  stays_so (inl p) yes fault =
       let no : intent.atomic ≡ false = p.0.0 in
       absurd (cc)
-  stays (inr (inl p)) yes fault =
+  stays_so (inr (inl p)) yes fault =
       let no : intent.atomic ≡ false = p.0 in
       absurd (cc)
-  stays (inr (inr p)) yes fault =
+  stays_so (inr (inr p)) yes fault =
       takes_nothing intent.name (writes tells.beside p.1.first p.1.made) (writes tells.real old new) (p.1.between, last) p.1.ended p.1.takes fault
+
+-- where nothing is intended the command ran as it is
+pub as_it_is : {M B E : Type 0} {tells : Tellings M B} {Says : E → E → List ℕ → Type 0} {intent : Intent} {Runs : FileWrites → Type 0 → E → Outcome → Type 0} {old new : M} {last : E} {result : Outcome} → RunsPlaced tells Says intent Runs old new last result → IsUnplaced intent → Runs (writes tells.real old new) (new ≡ old) last result
+as_it_is {tells = tells} {Says = Says} {intent = intent} {Runs = Runs} {old = old} {new = new} {last = last} {result = result} r plain =
+    runs_so tells Says intent Runs old new last result r.ran plain
+
+-- at a fault the files stay as they were, where a file is placed
+pub stays : {M B E : Type 0} {tells : Tellings M B} {Says : E → E → List ℕ → Type 0} {intent : Intent} {Runs : FileWrites → Type 0 → E → Outcome → Type 0} {old new : M} {last : E} {result : Outcome} → RunsPlaced tells Says intent Runs old new last result → intent.atomic ≡ true → result ≡ outcome.Fault → (tells.real.names new ≡ tells.real.names old) × (tells.real.held new ≡ tells.real.held old)
+stays {tells = tells} {Says = Says} {intent = intent} {Runs = Runs} {old = old} {new = new} {last = last} {result = result} r yes fault =
+    stays_so tells Says intent Runs old new last result r.ran yes fault

@@ -184,10 +184,10 @@ abbrev pub IsUnplaced : Intent → Type 0
 IsUnplaced intent = (intent.atomic ≡ false) × (intent.filling ≡ None)
 
 -- A command ran, and what it made is as it is, or is filled up or placed, as is intended.
-abbrev pub RunsPlaced : {M B E : Type 0} → Tellings M B → (E → E → List ℕ → Type 0) → Intent
-    → (FileWrites → Type 0 → E → Outcome → Type 0) → M × M → E → Outcome → Type 0
-RunsPlaced tells Says intent Runs maker last result =
-    IsUnplaced intent × Runs (writes tells.real maker.0 maker.1) (maker.1 ≡ maker.0) last result
-    ⊎ (intent.atomic ≡ false) × (intent.filling ≢ None)
-    × RunsFilled tells.real Says intent Runs maker.0 maker.1 last result
-    ⊎ (intent.atomic ≡ true) × RunsBeside tells Says intent Runs maker.0 maker.1 last result
+pub record RunsPlaced {M B E : Type 0} (tells : Tellings M B) (Says : E → E → List ℕ → Type 0)
+    (intent : Intent) (Runs : FileWrites → Type 0 → E → Outcome → Type 0) (old new : M) (last : E)
+    (result : Outcome) : Type 0 where
+  pub ran : IsUnplaced intent × Runs (writes tells.real old new) (new ≡ old) last result
+      ⊎ (intent.atomic ≡ false) × (intent.filling ≢ None)
+      × RunsFilled tells.real Says intent Runs old new last result
+      ⊎ (intent.atomic ≡ true) × RunsBeside tells Says intent Runs old new last result

@@ -125,9 +125,8 @@ Asks words task = (parsed_from words ≡ Some task) × IsFaultless words
 
 -- The words ask for a task, which ran as they intend; or for none, and no file is made.
 abbrev pub RunsAsked : {M B E : Type 0} → Tellings M B → (E → E → List ℕ → Type 0) → List (List ℕ)
-    → (FileWrites → Type 0 → E → Outcome → Type 0) → M × M → E → Outcome → Type 0
-RunsAsked tells Says words Runs maker last result =
+    → (FileWrites → Type 0 → E → Outcome → Type 0) → M → M → E → Outcome → Type 0
+RunsAsked tells Says words Runs old new last result =
     ((task : TaskParsed) × Asks words task
-    × RunsPlaced tells Says (intent_of (placing_from words) task) Runs maker last result)
-    ⊎ (maker.1 ≡ maker.0)
-    × Runs (writes tells.real maker.0 maker.1) (maker.1 ≡ maker.0) last result
+    × RunsPlaced tells Says (intent_of (placing_from words) task) Runs old new last result)
+    ⊎ (new ≡ old) × Runs (writes tells.real old new) (new ≡ old) last result

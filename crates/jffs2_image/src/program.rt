@@ -501,7 +501,7 @@ pub fn run<L: Loader, M: Placer, D: Folders, T: Output, E: Sink>(
           folders = folders.new ≡ folders.old;
           output = output.new ≡ output.old;
           errors = last ≡ errors.old;
-        }) ended) (maker.old, maker.new) errors.new result }
+        }) ended) maker.old maker.new errors.new result }
     // With `--atomic`, a fault leaves the files of the host as they were.
     ensures atomic { (placing_from (map (λ w. w.now) args.now)).atomic ≡ true
         → result ≡ Outcome.Fault → (M.names maker.new ≡ M.names maker.old)

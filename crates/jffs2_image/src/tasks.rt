@@ -289,7 +289,7 @@ pub fn run_placed<'a, L: Loader, M: Placer, D: Folders, T: Output, E: Sink>(
           folders = folders.new ≡ folders.old;
           output = output.new ≡ output.old;
           errors = last ≡ errors.old;
-        }) ended) (maker.old, maker.new) errors.new result }
+        }) ended) maker.old maker.new errors.new result }
 {
     if asked.placing.atomic {
         run_beside(alloc, loader, maker, folders, asked, output, errors)

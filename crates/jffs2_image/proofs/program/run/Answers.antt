@@ -1,6 +1,6 @@
 use Rattle.std.proofs.Common.{◌≡◌, ℕ, List, Ok, Err, ap, inl, inr, refl, rules}
 use Rattle.std.specs.Prelude.{◌⊎◌}
-use Rattle.jcommand.specs.Parsed.{IsHelpRequested, IsRefusedByClap, IsUnreadable}
+use Rattle.jcommand.specs.Parsed.{IsHelpRequested, IsRefusedByClap, IsUnreadable, task_view}
 use Rattle.jcommand.specs.Refused.{IsHelp, IsUsage}
 use Rattle.jcommand.specs.declared.command_line.RequestFault.{RequestFault}
 use Rattle.jcommand.specs.declared.command_line.RequestFault.TheVariants as refused
@@ -15,13 +15,23 @@ refusal args (refused.Usage text) help usage = usage tt
 refusal args refused.OutOfMemory help usage = tt
 
 pub returns-in-Ok-clause-plain : goal.returns-in-Ok-clause-plain
-returns-in-Ok-clause-plain g c = λ plain. ?
+returns-in-Ok-clause-plain g c = λ plain.
+    let a = c.in-Ok.asked in
+    let placing = c.in-Ok.ensures.placing in
+    as_it_is (c.run_placed.ensures _ (c.in-Ok.ensures.ok, c.in-Ok.ensures.faultless)) (plain_intent a.placing (task_view a.task) (rw placing at plain))
 
 pub returns-in-Ok-clause-placed : goal.returns-in-Ok-clause-placed
-returns-in-Ok-clause-placed g c = ?
+returns-in-Ok-clause-placed g c =
+    inl (
+      task_view c.in-Ok.asked.task,
+      (c.in-Ok.ensures.ok, c.in-Ok.ensures.faultless),
+      rw c.in-Ok.ensures.placing (c.run_placed.ensures _ (c.in-Ok.ensures.ok, c.in-Ok.ensures.faultless)),
+    )
 
 pub returns-in-Ok-clause-atomic : goal.returns-in-Ok-clause-atomic
-returns-in-Ok-clause-atomic g c = ?
+returns-in-Ok-clause-atomic g c = λ yes fault.
+    let placing = c.in-Ok.ensures.placing in
+    stays (c.run_placed.ensures _ (c.in-Ok.ensures.ok, c.in-Ok.ensures.faultless)) (rw placing at yes) fault
 
 pub returns-in-Err-clause-plain : goal.returns-in-Err-clause-plain
 returns-in-Err-clause-plain g c = λ plain. inl (record {

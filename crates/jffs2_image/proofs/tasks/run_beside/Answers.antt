@@ -10,5 +10,5 @@ returns g c = λ words asks. record {
   held = c.beside.ensures.held;
   failures = c.beside.ensures.count;
   ran = c.run_filled.ensures words asks;
-  takes = rw (← c.written_by.ensures.name) c.settle.ensures;
+  takes = rw (← c.written_by-name.ensures.name) c.settle.ensures;
 }
