@@ -1,5 +1,5 @@
 -- What `pack` does, as far as it came.
-use Rattle.std.proofs.Common.{◌≡◌, ℕ, true, false, List, Option, Result, Ok, Err, ap, inl, inr, refl, subst}
+use Rattle.std.proofs.Common.{◌≡◌, ℕ, true, false, List, Option, Result, Ok, Err, ap, inl, inr, refl, subst, ◌∙◌}
 use Rattle.std.specs.Prelude.{OnOk}
 use Rattle.std.specs.Result.{IsErrAnd}
 use Rattle.std.specs.Io.KnownBytes.{Keeps}
@@ -34,11 +34,12 @@ reads_text : (known : Known) (options : Options) (name : List ℕ) (notes : Pass
 reads_text known options name notes listed (inl is) = is
 reads_text known options name notes listed (inr is) = cc
 
-pub packed : (asked : PackingParsed) (known : Known) (unmade unput : Type 0) (around : PackAround) (notes : Notes) (listed : Listed) (n : ℕ)
+pub packed : (asked : PackingParsed) (known : Known) (unmade unput : Type 0) (around : PackAround) (notes : Notes) (listed : Listed) (text : List ℕ) (n : ℕ)
+    → text ≡ listed.text.items
     → ReadsGiven known (settings asked.owner asked.time) asked.folder around.errors (Ok listed)
-    → WritesText asked listed.text.items unmade around.reading around.writing around.output notes (Ok n)
+    → WritesText asked text unmade around.reading around.writing around.output notes (Ok n)
     → PacksFolder asked known unmade unput around notes (Ok listed.left_out)
-packed asked known unmade unput around notes listed n given writes =
+packed asked known unmade unput around notes listed text n same given writes =
     let is = reads_text known (settings asked.owner asked.time) asked.folder around.errors listed given in
     let folder = is.0 in
     inl
@@ -47,15 +48,16 @@ packed asked known unmade unput around notes listed n given writes =
       written = Ok n;
       listable = is.1;
       told = is.4;
-      writes = subst (λ (text : List ℕ). WritesText asked text unmade around.reading around.writing around.output notes (Ok n)) is.3 writes;
+      writes = subst (λ (bytes : List ℕ). WritesText asked bytes unmade around.reading around.writing around.output notes (Ok n)) (same ∙ is.3) writes;
       comes_to = ap (λ (left_out : ℕ). Ok left_out) is.2;
     })
 
-pub packed_fault : (asked : PackingParsed) (known : Known) (unmade unput : Type 0) (around : PackAround) (notes : Notes) (listed : Listed) (fault : ProgramFault)
+pub packed_fault : (asked : PackingParsed) (known : Known) (unmade unput : Type 0) (around : PackAround) (notes : Notes) (listed : Listed) (text : List ℕ) (fault : ProgramFault)
+    → text ≡ listed.text.items
     → ReadsGiven known (settings asked.owner asked.time) asked.folder around.errors (Ok listed)
-    → WritesText asked listed.text.items unmade around.reading around.writing around.output notes (Err fault)
+    → WritesText asked text unmade around.reading around.writing around.output notes (Err fault)
     → PacksFolder asked known unmade unput around notes (Err fault)
-packed_fault asked known unmade unput around notes listed fault given writes =
+packed_fault asked known unmade unput around notes listed text fault same given writes =
     let is = reads_text known (settings asked.owner asked.time) asked.folder around.errors listed given in
     let folder = is.0 in
     inl
@@ -64,6 +66,6 @@ packed_fault asked known unmade unput around notes listed fault given writes =
       written = Err fault;
       listable = is.1;
       told = is.4;
-      writes = subst (λ (text : List ℕ). WritesText asked text unmade around.reading around.writing around.output notes (Err fault)) is.3 writes;
+      writes = subst (λ (bytes : List ℕ). WritesText asked bytes unmade around.reading around.writing around.output notes (Err fault)) (same ∙ is.3) writes;
       comes_to = refl;
     })

@@ -1,4 +1,4 @@
-use Rattle.std.proofs.Common.{[], ◌++◌, ap, inl, inr, refl, ◌∙◌}
+use Rattle.std.proofs.Common.{◌++◌, ap, inl, inr, refl, ◌∙◌}
 use Rattle.jfolder.specs.Text.{listing_text}
 use Rattle.jffs2_image.proofs.packing.read_listing.Goals as goal
 
