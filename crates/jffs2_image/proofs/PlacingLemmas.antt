@@ -1,4 +1,4 @@
--- A command that ran by a intent.
+-- A command that ran as is intended.
 use Rattle.std.proofs.Common.{◌≡◌, ℕ, Bool, true, false, List, Some, None, inl, inr, refl, sym, ◌∙◌, ap}
 use Rattle.std.specs.Prelude.{◌≢◌, ◌⊎◌, ◌&&◌, not}
 use Rattle.jcommand.specs.Parsed.{TaskParsed, is_plain}
