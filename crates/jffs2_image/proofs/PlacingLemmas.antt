@@ -1,13 +1,12 @@
--- A command that ran by a intent.
+-- A command that ran as is intended.
 use Rattle.std.proofs.Common.{◌≡◌, ℕ, Bool, true, false, List, Some, None, inl, inr, refl, sym, ◌∙◌, ap}
-use Rattle.std.specs.Prelude.{◌⊎◌, ◌&&◌, not}
+use Rattle.std.specs.Prelude.{◌≢◌, ◌⊎◌, ◌&&◌, not}
 use Rattle.jcommand.specs.Parsed.{TaskParsed, is_plain}
 use Rattle.jcommand.specs.declared.outcome.Outcome.{Outcome}
 use Rattle.jcommand.specs.declared.outcome.Outcome.TheVariants as outcome
 use Rattle.jcommand.specs.declared.parsed.Placing.{Placing}
 use Rattle.jffs2_image.specs.Compressing.{FileWrites}
 use Rattle.jffs2_image.specs.Placing.{IsUnplaced, Intent, RunsBeside, RunsFilled, RunsPlaced, TakesName, Telling, Tellings, is_well, intent_of, writes, written_by, if_padded}
-use Rattle.jffs2_image.specs.declared.filling.Filling.{Filling}
 
 both_off : (a b : Bool) → (not a && not b) ≡ true → (a ≡ false) × (b ≡ false)
 both_off true b h = absurd (cc)
@@ -20,10 +19,19 @@ plain_intent placing task h =
     let off : (placing.pad ≡ false) × (placing.atomic ≡ false) = both_off placing.pad placing.atomic h in
     (off.1, ap (λ b. if_padded b (written_by task).1) off.0)
 
+-- a flag that is not set, or is
+pub is_unset : (b : Bool) → not b ≡ true → b ≡ false
+is_unset true h = absurd (cc)
+is_unset false h = refl
+
+pub is_set : (b : Bool) → not b ≡ false → b ≡ true
+is_set true h = refl
+is_set false h = absurd (cc)
+
 -- where filling is asked for, there is somewhere to fill up to
 pub some_filling : (placing : Placing) (task : TaskParsed) → placing.pad ≡ true → (intent_of placing task).filling ≡ None → ⊥
-some_filling placing task yes none =
-    let is : Some (written_by task).1 ≡ None = sym (ap (λ b. if_padded b (written_by task).1) yes) ∙ none in
+some_filling placing task given lost =
+    let is : Some (written_by task).1 ≡ None = sym (ap (λ b. if_padded b (written_by task).1) given) ∙ lost in
     cc
 
 module _ {M B E : Type 0} (tells : Tellings M B) (Says : E → E → List ℕ → Type 0) (intent : Intent) (Runs : FileWrites → Type 0 → E → Outcome → Type 0) (old new : M) (last : E) (result : Outcome) where
@@ -31,8 +39,8 @@ module _ {M B E : Type 0} (tells : Tellings M B) (Says : E → E → List ℕ �
   runs_so (inl p) plain = p.1
   runs_so (inr (inl p)) plain = absurd (p.1 plain.1)
   runs_so (inr (inr p)) plain =
-      let yes : intent.atomic ≡ true = p.0 in
-      let no : intent.atomic ≡ false = plain.0 in
+      let given : intent.atomic ≡ true = p.0 in
+      let none : intent.atomic ≡ false = plain.0 in
       absurd (cc)
 
   takes_nothing : (name : List ℕ) (beside files : FileWrites) (errors : E × E) (ended : Outcome) → TakesName Says name beside files errors ended result → result ≡ outcome.Fault → (files.names_new ≡ files.names_old) × (files.held.1 ≡ files.held.0)
@@ -44,13 +52,13 @@ module _ {M B E : Type 0} (tells : Tellings M B) (Says : E → E → List ℕ �
   takes_nothing name beside files errors ended (inr (inr t)) fault = (t.1, t.2)
 
   stays_so : (IsUnplaced intent × Runs (writes tells.real old new) (new ≡ old) last result) ⊎ ((intent.atomic ≡ false) × (intent.filling ≢ None) × RunsFilled tells.real Says intent Runs old new last result) ⊎ ((intent.atomic ≡ true) × RunsBeside tells Says intent Runs old new last result) → intent.atomic ≡ true → result ≡ outcome.Fault → (tells.real.names new ≡ tells.real.names old) × (tells.real.held new ≡ tells.real.held old)
-  stays_so (inl p) yes fault =
-      let no : intent.atomic ≡ false = p.0.0 in
+  stays_so (inl p) given fault =
+      let none : intent.atomic ≡ false = p.0.0 in
       absurd (cc)
-  stays_so (inr (inl p)) yes fault =
-      let no : intent.atomic ≡ false = p.0 in
+  stays_so (inr (inl p)) given fault =
+      let none : intent.atomic ≡ false = p.0 in
       absurd (cc)
-  stays_so (inr (inr p)) yes fault =
+  stays_so (inr (inr p)) given fault =
       takes_nothing intent.name (writes tells.beside p.1.first p.1.made) (writes tells.real old new) (p.1.between, last) p.1.ended p.1.takes fault
 
 -- where nothing is intended the command ran as it is
@@ -60,5 +68,5 @@ as_it_is {tells = tells} {Says = Says} {intent = intent} {Runs = Runs} {old = ol
 
 -- at a fault the files stay as they were, where a file is placed
 pub stays : {M B E : Type 0} {tells : Tellings M B} {Says : E → E → List ℕ → Type 0} {intent : Intent} {Runs : FileWrites → Type 0 → E → Outcome → Type 0} {old new : M} {last : E} {result : Outcome} → RunsPlaced tells Says intent Runs old new last result → intent.atomic ≡ true → result ≡ outcome.Fault → (tells.real.names new ≡ tells.real.names old) × (tells.real.held new ≡ tells.real.held old)
-stays {tells = tells} {Says = Says} {intent = intent} {Runs = Runs} {old = old} {new = new} {last = last} {result = result} r yes fault =
-    stays_so tells Says intent Runs old new last result r.ran yes fault
+stays {tells = tells} {Says = Says} {intent = intent} {Runs = Runs} {old = old} {new = new} {last = last} {result = result} r given fault =
+    stays_so tells Says intent Runs old new last result r.ran given fault

@@ -46,8 +46,8 @@ written_by (ApartParsed options image output) = (output, filling.Block options.g
 written_by (PackParsed packing) = (packing.output, flash_end_of packing.options packing.blocks)
 written_by _ = ([], filling.Length 0)
 
--- what is intended for the file of a name: whether it takes that only when all is written, and up to
--- where it is filled, if it is
+-- what is intended for the file of a name: whether it takes that only when all is written, and up
+-- to where it is filled, if it is
 pub record Intent : Type 0 where
   pub name : List ℕ
   pub atomic : Bool

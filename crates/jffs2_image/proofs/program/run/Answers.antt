@@ -1,4 +1,4 @@
-use Rattle.std.proofs.Common.{◌≡◌, ℕ, List, Ok, Err, ap, inl, inr, refl, rules}
+use Rattle.std.proofs.Common.{ℕ, List, Ok, Err, ap, inl, inr, refl}
 use Rattle.std.specs.Prelude.{◌⊎◌}
 use Rattle.jcommand.specs.Parsed.{IsHelpRequested, IsRefusedByClap, IsUnreadable, task_view}
 use Rattle.jcommand.specs.Refused.{IsHelp, IsUsage}

@@ -44,6 +44,7 @@ returns-in-Listing g c = λ words asks.
     inr (inr (inl ((
       refl,
       refl,
+      c.run_listing.ensures.made,
       record {
         owner = c.in-Listing.asked.owner;
         time = c.in-Listing.asked.time;
@@ -51,7 +52,7 @@ returns-in-Listing g c = λ words asks.
         folder = c.in-Listing.asked.folder.now;
         parsed = parsed_as words c.args.task (task.Listing c.in-Listing.asked) asks c.in-Listing.is;
         faultless = asks.1;
-        ends = c.run_listing.ensures;
+        ends = c.run_listing.ensures.ends;
       },
     ))))
 
