@@ -31,7 +31,7 @@ pub record IsPutOut (page : Page) (e : Endian) (size blocks : ℕ) (files : File
   pub mounts : Answers e size [] (Ok mount)
   pub resumes : IsOk (resumes_by page e size blocks mount)
   pub emitted : IsEmitted page e size blocks mount.image (ops_in e files lines) accepted places None
-      (Some []) (Some image) before now
+      (record { old = Some []; new = Some image; before = before; now = now })
 
 -- What the sink then has is an image that mounts, as a file system that holds the tree and nothing
 -- else.
