@@ -107,7 +107,11 @@ const WORDS: [(&[u8], usize, WordRule); 50] = [
     (b"attr 8 x 0 0 0 /a", 2, WordRule::NoDigit(7)),
     (b"attr 644 65536 0 0 0 /a", 3, WordRule::Above(65535)),
     (b"attr 644 0 x 0 0 /a", 4, WordRule::NoDigit(9)),
-    (b"attr 644 0 0 0 4294967296 \\", 6, WordRule::Above(4294967295)),
+    (
+        b"attr 644 0 0 0 4294967296 \\",
+        6,
+        WordRule::Above(4294967295),
+    ),
 ];
 
 #[test]
@@ -128,11 +132,7 @@ fn first_rules_of_lines(rt: HostRuntime) {
 
 /// The rule is that of the line that is answered, and not of one before or after it.
 const LISTINGS: [(&[u8], usize, Rule); 4] = [
-    (
-        b"remove /a\n\n# a\nremove  /b\nremove",
-        4,
-        Rule::TwoSpaces,
-    ),
+    (b"remove /a\n\n# a\nremove  /b\nremove", 4, Rule::TwoSpaces),
     (b"time 1\r\n remove /a\n", 1, Rule::CarriageReturn),
     (b"time 1\nx\ny z", 2, Rule::NoOperation),
     (b"time 1\nremove\nx", 2, Rule::TooFew(1)),

@@ -2,7 +2,7 @@
 
 use crate::checks::{expect, expect_at};
 use flashbase::{FromWriter, LoadFault};
-use jlisting::ListingFault;
+use jlisting::{BadLine, ListingFault, Rule, WordRule};
 use jlog::SessionFault;
 use jmount::{FindFault, MountFault};
 use jreport::{ProgramFault, fault_line, fault_lines, fault_text};
@@ -185,13 +185,20 @@ fn texts_of_a_session(rt: HostRuntime) -> Result<(), Fail> {
     Ok(())
 }
 
+fn bad_line(line: usize) -> ListingFault {
+    ListingFault::Line(BadLine {
+        line,
+        rule: Rule::NoOperation,
+    })
+}
+
 #[test]
 fn texts_of_a_listing(rt: HostRuntime) -> Result<(), Fail> {
     let rows = [
-        (ListingFault::Line(1), "P2 Listing line 1"),
-        (ListingFault::Line(12), "P2 Listing line 12"),
+        (bad_line(1), "P2 Listing line 1"),
+        (bad_line(12), "P2 Listing line 12"),
         (
-            ListingFault::Line(usize::MAX),
+            bad_line(usize::MAX),
             "P2 Listing line 18446744073709551615",
         ),
         (ListingFault::OutOfMemory, "P6 OutOfMemory"),
@@ -203,7 +210,10 @@ fn texts_of_a_listing(rt: HostRuntime) -> Result<(), Fail> {
             text,
         );
     }
-    let told = ProgramFault::Listing { line: 3 };
+    let told = ProgramFault::Listing(BadLine {
+        line: 3,
+        rule: Rule::TooMany(2),
+    });
     expect(&rt, is_told(rt.alloc(), &told, "P2 Listing line 3")?);
     Ok(())
 }
@@ -237,22 +247,107 @@ const METHODS: [(u8, bool); 8] = [
 ];
 
 const COMPRESSED_NOTE: &str =
-    "jffs2_image: note: the image is compressed; decompress writes one that is not, and --decompress reads it\n";
+    "the image is compressed; decompress writes one that is not, and --decompress reads it";
+
+const BLOCK_NOTE: &str = "--block takes a multiple of 4 from 4096 to 4194304";
+
+const CLASH_NOTE: &str =
+    "two nodes differ; decompress --clashes higher keeps that of the higher address";
+
+/// Whether after the line of a fault comes this note, or none where it is empty.
+fn is_noted(
+    alloc: Global,
+    fault: &ProgramFault<'_>,
+    wanted: &str,
+) -> Result<bool, &'static str> {
+    let note = note_after(alloc, fault)?;
+    if wanted.is_empty() {
+        return Ok(note.is_empty());
+    }
+    let rest = note.strip_suffix(b"\n".as_slice());
+    let rest = rest.and_then(|rest| rest.strip_prefix(b"jffs2_image: note: ".as_slice()));
+    Ok(note.len() <= 106 && rest == Some(wanted.as_bytes()))
+}
+
+const NOTES: [(ProgramFault<'static>, &str); 9] = [
+    (ProgramFault::Scan(ScanFault::BlockSize), BLOCK_NOTE),
+    (ProgramFault::Mount(MountFault::BlockSize), BLOCK_NOTE),
+    (
+        ProgramFault::Mount(MountFault::Clash { addr: 0x50 }),
+        CLASH_NOTE,
+    ),
+    (ProgramFault::Mount(MountFault::TooLarge), ""),
+    (ProgramFault::Mount(MountFault::RootKind), ""),
+    (ProgramFault::Data { addr: 6 }, ""),
+    (
+        ProgramFault::Scan(ScanFault::Compressed { addr: 2, compr: 6 }),
+        "",
+    ),
+    (ProgramFault::OutOfMemory, ""),
+    (ProgramFault::File("note"), ""),
+];
 
 #[test]
 fn notes_after_faults(rt: HostRuntime) -> Result<(), Fail> {
     for (compr, is_read) in METHODS {
         let wanted = if is_read { COMPRESSED_NOTE } else { "" };
         let fault = ProgramFault::Mount(MountFault::Compressed { addr: 12, compr });
-        let note = note_after(rt.alloc(), &fault)?;
-        expect_at(&rt, note.as_slice() == wanted.as_bytes(), compr);
+        expect_at(&rt, is_noted(rt.alloc(), &fault, wanted)?, compr);
     }
-    for fault in [
-        ProgramFault::Data { addr: 6 },
-        ProgramFault::Scan(ScanFault::Compressed { addr: 2, compr: 6 }),
-        ProgramFault::OutOfMemory,
-    ] {
-        expect(&rt, note_after(rt.alloc(), &fault)?.is_empty());
+    for (fault, wanted) in NOTES {
+        expect_at(&rt, is_noted(rt.alloc(), &fault, wanted)?, wanted);
+    }
+    Ok(())
+}
+
+/// The rules that a line of a listing breaks.
+const RULES: [(Rule, &str); 15] = [
+    (Rule::SpaceAtStart, "a space at the start"),
+    (Rule::TwoSpaces, "two spaces side by side"),
+    (Rule::SpaceAtEnd, "a space at the end"),
+    (
+        Rule::CarriageReturn,
+        "a carriage return at the end, as of a file made on Windows",
+    ),
+    (Rule::NoOperation, "no operation has this name"),
+    (
+        Rule::TooFew(2),
+        "too few words, this operation takes 2 after its name",
+    ),
+    (
+        Rule::TooMany(6),
+        "too many words, this operation takes 6 after its name",
+    ),
+    (Rule::Word(9, WordRule::Empty), "word 9 is empty"),
+    (
+        Rule::Word(2, WordRule::NoDigit(7)),
+        "word 2 has a character that is no digit from 0 to 7",
+    ),
+    (
+        Rule::Word(4, WordRule::TooLong(10)),
+        "word 4 has more than 10 digits",
+    ),
+    (
+        Rule::Word(3, WordRule::Above(65535)),
+        "word 3 is above 65535",
+    ),
+    (Rule::Word(2, WordRule::Kind), "word 2 is neither c nor b"),
+    (
+        Rule::Word(5, WordRule::Escape),
+        "word 5 has a backslash that does not begin \\x and two hexadecimal digits",
+    ),
+    (
+        Rule::Word(4, WordRule::NoPairs),
+        "word 4 is not pairs of hexadecimal digits",
+    ),
+    (Rule::Word(4, WordRule::NoText), "word 4 is not UTF-8"),
+];
+
+#[test]
+fn notes_after_a_listing(rt: HostRuntime) -> Result<(), Fail> {
+    for (rule, wanted) in RULES {
+        let fault = ProgramFault::Listing(BadLine { line: 7, rule });
+        expect_at(&rt, is_noted(rt.alloc(), &fault, wanted)?, wanted);
     }
     Ok(())
 }
