@@ -6,6 +6,7 @@ use Rattle.jnode.specs.declared.order.Endian.{Endian}
 use Rattle.jmount.specs.Mount.{Mount}
 use Rattle.jmount.specs.Mounts.{Answers}
 use Rattle.jsteps.specs.declared.page.Page.{Page}
+use Rattle.jlisting.specs.Broken.{IsBadLine}
 use Rattle.jlisting.specs.Listing.{lines_of}
 use Rattle.jlisting.specs.declared.line.Line.{Line}
 use Rattle.jbuild.specs.Operations.{ops_in}
@@ -56,7 +57,7 @@ pub record TellsLines (told : List ℕ → Option (List ℕ)) (e : Endian) (flas
 -- why nothing is told of them
 abbrev pub IsLinesFault : (List ℕ → Option (List ℕ)) → Endian → ℕ → List ℕ → List ℕ → ProgramFault
     → Type 0
-IsLinesFault told e size base text (program.Listing n) = lines_of text ≡ Err n
+IsLinesFault told e size base text (program.Listing bad) = IsBadLine text bad
 IsLinesFault told e size base text (program.File name) =
     (lines : List Line) × (lines_of text ≡ Ok lines) × IsNamedByLine lines name.now
 IsLinesFault told e size base text (program.Load fault) =

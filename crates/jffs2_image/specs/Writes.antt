@@ -8,6 +8,7 @@ use Rattle.jscan.specs.Image.{greatest_image}
 use Rattle.jmount.specs.Mount.{Mount}
 use Rattle.jmount.specs.Mounts.{Answers}
 use Rattle.jsteps.specs.declared.op.Op.{Op}
+use Rattle.jlisting.specs.Broken.{IsBadLine}
 use Rattle.jlisting.specs.Listing.{file_of, lines_of}
 use Rattle.jlisting.specs.declared.line.Line.{Line}
 use Rattle.jsteps.specs.declared.page.Page.{Page}
@@ -203,7 +204,7 @@ IsSessionFault held page e size blocks base text fault line =
 -- why an image is not written, or not to its end
 abbrev pub IsWriteFault : Held → Page → Endian → ℕ → ℕ → List ℕ → List ℕ → List ℕ → ProgramFault
     → Type 0
-IsWriteFault held page e size blocks output base text (program.Listing n) = lines_of text ≡ Err n
+IsWriteFault held page e size blocks output base text (program.Listing bad) = IsBadLine text bad
 IsWriteFault held page e size blocks output base text (program.File name) = (name.now ≡ output)
     ⊎ ((lines : List Line) × (lines_of text ≡ Ok lines) × IsNamedByLine lines name.now)
 IsWriteFault held page e size blocks output base text (program.Load fault) =
