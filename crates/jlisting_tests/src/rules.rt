@@ -1,6 +1,6 @@
 //! The first rule that a line breaks.
 
-use crate::checks::equal_at;
+use crate::checks::expect_at;
 use jlisting::{BadLine, ListingFault, Rule, WordRule, listing};
 use std::alloc::Global;
 
@@ -12,8 +12,13 @@ fn bad_line(alloc: Global, text: &[u8]) -> Option<BadLine> {
     }
 }
 
-/// Lines with more words or fewer, with spaces too many, or with another first word.
-const SHAPES: [(&[u8], Rule); 40] = [
+/// Whether the first line of a text breaks this rule first.
+fn breaks(alloc: Global, text: &[u8], rule: Rule) -> bool {
+    bad_line(alloc, text) == Some(BadLine { line: 1, rule })
+}
+
+/// Lines with spaces too many, or with a carriage return at the end.
+const SPACES: [(&[u8], Rule); 16] = [
     (b" remove /a", Rule::SpaceAtStart),
     (b" ", Rule::SpaceAtStart),
     (b"  x  y ", Rule::SpaceAtStart),
@@ -26,11 +31,21 @@ const SHAPES: [(&[u8], Rule); 40] = [
     (b"remov ", Rule::SpaceAtEnd),
     (b"\r ", Rule::SpaceAtEnd),
     (b"\r", Rule::CarriageReturn),
-    (b"# a\n\r", Rule::CarriageReturn),
     (b"remove\r", Rule::CarriageReturn),
     (b"time 9\r", Rule::CarriageReturn),
     (b"time x\r", Rule::CarriageReturn),
     (b"write /a 0 00\r", Rule::CarriageReturn),
+];
+
+#[test]
+fn first_rules_on_spaces(rt: HostRuntime) {
+    for (text, rule) in SPACES {
+        expect_at(&rt, breaks(rt.alloc(), text, rule), text);
+    }
+}
+
+/// Lines with another first word, or with more words or fewer.
+const SHAPES: [(&[u8], Rule); 23] = [
     (b"\xef\xbb\xbf# a", Rule::NoOperation),
     (b"\x00", Rule::NoOperation),
     (b"time\t1", Rule::NoOperation),
@@ -56,8 +71,20 @@ const SHAPES: [(&[u8], Rule); 40] = [
     (b"attr 644 0 0 0 0 /a 0 0", Rule::TooMany(6)),
 ];
 
-/// Lines of the right shape with a word that breaks a rule, and its number.
-const WORDS: [(&[u8], usize, WordRule); 50] = [
+#[test]
+fn first_rules_on_shapes(rt: HostRuntime) {
+    for (text, rule) in SHAPES {
+        expect_at(&rt, breaks(rt.alloc(), text, rule), text);
+    }
+}
+
+/// Lines of the right shape with a wrong number, which word that is, and the rule that it breaks.
+const NUMBERS: [(&[u8], usize, WordRule); 28] = [
+    (
+        b"attr 644 0 0 0 4294967296 \\",
+        6,
+        WordRule::Above(4294967295),
+    ),
     (b"time a", 2, WordRule::NoDigit(9)),
     (b"time -1", 2, WordRule::NoDigit(9)),
     (b"time 12345678901x", 2, WordRule::NoDigit(9)),
@@ -73,11 +100,32 @@ const WORDS: [(&[u8], usize, WordRule); 50] = [
     (b"mkdir 8 \\", 2, WordRule::NoDigit(7)),
     (b"mkdir 0o7 /a", 2, WordRule::NoDigit(7)),
     (b"mkdir 0000755 /a", 2, WordRule::TooLong(6)),
-    (b"mkdir 755 \\", 3, WordRule::Escape),
-    (b"create 644 /a\\n", 3, WordRule::Escape),
     (b"create 9 /a\\n", 2, WordRule::NoDigit(7)),
     (b"fifo /a 644", 2, WordRule::NoDigit(7)),
     (b"socket 1000000 /a", 2, WordRule::TooLong(6)),
+    (b"device c 8 5 1 /a", 3, WordRule::NoDigit(7)),
+    (b"device c 600 4096 1048576 /a", 4, WordRule::Above(4095)),
+    (b"device c 600 5 1048576 /a", 5, WordRule::Above(1048575)),
+    (b"write /a x x", 3, WordRule::NoDigit(9)),
+    (b"part /a 42949672950 f", 3, WordRule::TooLong(10)),
+    (b"truncate /a 4294967296", 3, WordRule::Above(4294967295)),
+    (b"attr 8 x 0 0 0 /a", 2, WordRule::NoDigit(7)),
+    (b"attr 644 65536 0 0 0 /a", 3, WordRule::Above(65535)),
+    (b"attr 644 0 x 0 0 /a", 4, WordRule::NoDigit(9)),
+];
+
+#[test]
+fn first_rules_on_numbers(rt: HostRuntime) {
+    for (text, number, broken) in NUMBERS {
+        let rule = Rule::Word(number, broken);
+        expect_at(&rt, breaks(rt.alloc(), text, rule), text);
+    }
+}
+
+/// The same of other words.
+const WORDS: [(&[u8], usize, WordRule); 22] = [
+    (b"mkdir 755 \\", 3, WordRule::Escape),
+    (b"create 644 /a\\n", 3, WordRule::Escape),
     (b"file 644 /a\\ f", 3, WordRule::Escape),
     (b"file 644 /a \\X61", 4, WordRule::Escape),
     (b"file 644 /a \xff", 4, WordRule::NoText),
@@ -85,53 +133,32 @@ const WORDS: [(&[u8], usize, WordRule); 50] = [
     (b"file 644 /a \\xc3\\x61", 4, WordRule::NoText),
     (b"device p 600 5 1 /a", 2, WordRule::Kind),
     (b"device cb 9 5 1 /a", 2, WordRule::Kind),
-    (b"device c 8 5 1 /a", 3, WordRule::NoDigit(7)),
-    (b"device c 600 4096 1048576 /a", 4, WordRule::Above(4095)),
-    (b"device c 600 5 1048576 /a", 5, WordRule::Above(1048575)),
     (b"device c 600 5 1 /\\xg0", 6, WordRule::Escape),
     (b"symlink \\q \\q", 2, WordRule::Escape),
     (b"symlink /a \\q", 3, WordRule::Escape),
     (b"write \\x x x", 2, WordRule::Escape),
-    (b"write /a x x", 3, WordRule::NoDigit(9)),
     (b"write /a 0 x", 4, WordRule::NoPairs),
     (b"write /a 0 abc", 4, WordRule::NoPairs),
     (b"write /a 0 0g", 4, WordRule::NoPairs),
     (b"write /a 0 --", 4, WordRule::NoPairs),
     (b"part /a 0 \xff", 4, WordRule::NoText),
-    (b"part /a 42949672950 f", 3, WordRule::TooLong(10)),
-    (b"truncate /a 4294967296", 3, WordRule::Above(4294967295)),
     (b"link \\ /b", 2, WordRule::Escape),
     (b"rename /a /\\x6", 3, WordRule::Escape),
     (b"replace /\\\\ /b", 2, WordRule::Escape),
     (b"remove \\x0g", 2, WordRule::Escape),
-    (b"attr 8 x 0 0 0 /a", 2, WordRule::NoDigit(7)),
-    (b"attr 644 65536 0 0 0 /a", 3, WordRule::Above(65535)),
-    (b"attr 644 0 x 0 0 /a", 4, WordRule::NoDigit(9)),
-    (
-        b"attr 644 0 0 0 4294967296 \\",
-        6,
-        WordRule::Above(4294967295),
-    ),
 ];
 
 #[test]
-fn first_rules_of_lines(rt: HostRuntime) {
-    for (text, rule) in SHAPES {
-        let found = bad_line(rt.alloc(), text).map(|bad| bad.rule);
-        equal_at(&rt, found, Some(rule), text);
-    }
+fn first_rules_on_words(rt: HostRuntime) {
     for (text, number, broken) in WORDS {
-        let found = bad_line(rt.alloc(), text);
-        let line = BadLine {
-            line: 1,
-            rule: Rule::Word(number, broken),
-        };
-        equal_at(&rt, found, Some(line), text);
+        let rule = Rule::Word(number, broken);
+        expect_at(&rt, breaks(rt.alloc(), text, rule), text);
     }
 }
 
 /// The rule is that of the line that is answered, and not of one before or after it.
-const LISTINGS: [(&[u8], usize, Rule); 4] = [
+const LISTINGS: [(&[u8], usize, Rule); 5] = [
+    (b"# a\n\r", 2, Rule::CarriageReturn),
     (b"remove /a\n\n# a\nremove  /b\nremove", 4, Rule::TwoSpaces),
     (b"time 1\r\n remove /a\n", 1, Rule::CarriageReturn),
     (b"time 1\nx\ny z", 2, Rule::NoOperation),
@@ -141,11 +168,7 @@ const LISTINGS: [(&[u8], usize, Rule); 4] = [
 #[test]
 fn first_rules_of_listings(rt: HostRuntime) {
     for (text, line, rule) in LISTINGS {
-        equal_at(
-            &rt,
-            bad_line(rt.alloc(), text),
-            Some(BadLine { line, rule }),
-            text,
-        );
+        let found = bad_line(rt.alloc(), text) == Some(BadLine { line, rule });
+        expect_at(&rt, found, text);
     }
 }
