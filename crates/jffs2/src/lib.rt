@@ -42,7 +42,7 @@ pub use jconvert::{
     Apart, ConvertFault, Converted, LeftOut, compress, decompress, decompress_apart, decompressed,
 };
 pub use jdamage::{DamageFault, Totals, put_damage};
-pub use jlisting::{Action, Line, ListingFault, listing};
+pub use jlisting::{Action, BadLine, Line, ListingFault, Rule, WordRule, listing};
 pub use jlog::{Applied, Place, RunReport, Session, SessionFault};
 pub use jmount::{FindFault, Kind, MountFault, Mounted, Object, mount};
 pub use jnode::{Damage, Dirent, Endian, Fill, InodeNode, NodeRef, Order, Seen, weak_cut};

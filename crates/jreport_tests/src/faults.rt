@@ -197,10 +197,7 @@ fn texts_of_a_listing(rt: HostRuntime) -> Result<(), Fail> {
     let rows = [
         (bad_line(1), "P2 Listing line 1"),
         (bad_line(12), "P2 Listing line 12"),
-        (
-            bad_line(usize::MAX),
-            "P2 Listing line 18446744073709551615",
-        ),
+        (bad_line(usize::MAX), "P2 Listing line 18446744073709551615"),
         (ListingFault::OutOfMemory, "P6 OutOfMemory"),
     ];
     for (fault, text) in rows {
@@ -255,11 +252,7 @@ const CLASH_NOTE: &str =
     "two nodes differ; decompress --clashes higher keeps that of the higher address";
 
 /// Whether after the line of a fault comes this note, or none where it is empty.
-fn is_noted(
-    alloc: Global,
-    fault: &ProgramFault<'_>,
-    wanted: &str,
-) -> Result<bool, &'static str> {
+fn is_noted(alloc: Global, fault: &ProgramFault<'_>, wanted: &str) -> Result<bool, &'static str> {
     let note = note_after(alloc, fault)?;
     if wanted.is_empty() {
         return Ok(note.is_empty());
