@@ -1,7 +1,7 @@
 -- A command that ran as is intended.
 use Rattle.std.proofs.Common.{◌≡◌, ℕ, Bool, true, false, List, Some, None, inl, inr, refl, sym, ◌∙◌, ap}
 use Rattle.std.specs.Prelude.{◌≢◌, ◌⊎◌, ◌&&◌, not}
-use Rattle.jcommand.specs.Parsed.{TaskParsed, is_plain}
+use Rattle.jcommand.specs.Parsed.{TaskParsed, is_unplaced}
 use Rattle.jcommand.specs.declared.outcome.Outcome.{Outcome}
 use Rattle.jcommand.specs.declared.outcome.Outcome.TheVariants as outcome
 use Rattle.jcommand.specs.declared.parsed.Placing.{Placing}
@@ -14,7 +14,7 @@ both_off false true h = absurd (cc)
 both_off false false h = (refl, refl)
 
 -- where nothing is asked for, nothing is done
-pub plain_intent : (placing : Placing) (task : TaskParsed) → is_plain placing ≡ true → IsUnplaced (intent_of placing task)
+pub plain_intent : (placing : Placing) (task : TaskParsed) → is_unplaced placing ≡ true → IsUnplaced (intent_of placing task)
 plain_intent placing task h =
     let off : (placing.pad ≡ false) × (placing.atomic ≡ false) = both_off placing.pad placing.atomic h in
     (off.1, ap (λ b. if_padded b (written_by task).1) off.0)

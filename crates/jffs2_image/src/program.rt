@@ -2,7 +2,7 @@
 //! ended.
 ghost use Rattle.std.specs.Prelude.{◌≡◌, ◌⊎◌, true, IfErr, IsTrue, OnOk, map};
 ghost use Rattle.std.specs.Io.KnownBytes.{Appends};
-ghost use Rattle.jcommand.specs.Parsed.{BuildParsed, AppendParsed, DecompressParsed, is_plain, options_of, placing_from, view};
+ghost use Rattle.jcommand.specs.Parsed.{BuildParsed, AppendParsed, DecompressParsed, is_unplaced, options_of, placing_from, view};
 ghost use Rattle.jreport.specs.Advice.{fault_lines_of};
 ghost use Rattle.jffs2_image.specs.Host.{Blames, BlamesCommand, BlamesDecompress, BlamesFor, HasFailed, MakesFile};
 ghost use Rattle.jffs2_image.specs.WeakRuns.{HasNotes};
@@ -470,7 +470,7 @@ pub fn run<L: Loader, M: Placer, D: Folders, T: Output, E: Sink>(
 ) -> Outcome
     // Where nothing is asked for about the file that is written, the words say what is done.
     ensures plain { let words = map (λ w. w.now) args.now in
-        is_plain (placing_from words) ≡ true
+        is_unplaced (placing_from words) ≡ true
         → RunsTask words (record {
           reading = reads L.told L.failures loader.old loader.new;
           writing = writes (telling M.names M.held M.failures) maker.old maker.new;
