@@ -130,7 +130,7 @@ rm out.img.tmp*
 
 cp old out.img
 run build "${flash[@]}" --blocks 16 --atomic wrong out.img; holds 1 "" "jffs2_image: S*line 2"
-run build "${flash[@]}" --blocks 16 --atomic nothing out.img; holds 1 "" "jffs2_image: P2 Listing line 1"
+run build "${flash[@]}" --blocks 16 --atomic nothing out.img; holds 1 "" "jffs2_image: P2 Listing line 1*no operation has this name"
 run build "${flash[@]}" --blocks 16 --atomic none out.img; holds 1 "" "jffs2_image: P1 File none"
 run build "${flash[@]}" --blocks 1 --atomic text out.img; holds 1 "" "jffs2_image: S*"
 run build --weak "${flash[@]}" --blocks 16 --atomic wrong out.img; holds 1 "" "jffs2_image: S*line 2"

@@ -39,9 +39,9 @@ pub(crate) const PAD: &str = "Fill OUT with 0xFF to the end of the flash";
 
 pub(crate) const ATOMIC: &str = "Leave an old OUT as it was unless all goes well";
 
-pub(crate) const BLOCK: &str = "Erase block size: 4096 to 4194304 bytes";
+pub(crate) const BLOCK: &str = "Erase block: 4096 to 4194304 bytes";
 
-pub(crate) const ENDIAN: &str = "Byte order of the image: little or big";
+pub(crate) const ENDIAN: &str = "Byte order: little or big";
 
 pub(crate) const BLOCKS: &str = "Blocks of the flash, of 268435456 bytes at most";
 
