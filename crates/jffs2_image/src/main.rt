@@ -38,8 +38,8 @@ use std::alloc::{AllocError, Global};
 use std::env::Args;
 use std::io::{ErrorKind, IsTerminal};
 use std::process::ExitCode;
-use std::rt::Env;
-use std::{env, io};
+use std::rt::{Env, Files};
+use std::{env, fs, io};
 use system::SystemFolders;
 
 /// The arguments of the command line. Those that are not UTF-8 are `InvalidData`.
@@ -104,6 +104,13 @@ fn run(rt: &HostRuntime) -> Outcome {
     )
 }
 
+/// A file that can't be written. It takes the lowest number that is free, which may be that of a
+/// standard stream that is closed: then no file that is opened later gets what is told on it.
+fn unwritable<R: Files>(rt: &R) -> Option<R::File> {
+    fs::open(rt, "/dev/null").ok()
+}
+
 fn main(rt: HostRuntime) -> ExitCode {
+    let _streams = (unwritable(&rt), unwritable(&rt), unwritable(&rt));
     ExitCode::from(status(run(&rt)))
 }
