@@ -4,8 +4,8 @@
 use crate::checks::{equal, equal_at, expect, expect_at};
 use crate::packing::shown_packing;
 use jcommand::{
-    Asked, Comparison, Compression, Cuts, Decompression, Examination, Extraction, FolderListing,
-    Options, Outcome, Owner, Placing, Request, RequestFault, Target, Task, asked, status,
+    Asked, Comparison, Cuts, Examination, Extraction, FolderListing, Options, Outcome, Owner,
+    Placing, Request, RequestFault, Target, Task, asked, status,
 };
 use jnode::Endian;
 use std::alloc::{AllocError, Global};
@@ -111,77 +111,74 @@ fn shown_comparison(alloc: Global, asked: Comparison<'_>) -> Result<String, Allo
     format!(in alloc; "diff {block} {is_big} {times} {first} {second}")
 }
 
+fn shown_extraction(alloc: Global, asked: Extraction<'_>) -> Result<String, AllocError> {
+    let Extraction {
+        options,
+        decompress,
+        owners,
+        quiet,
+        image,
+        folder,
+        path,
+    } = asked;
+    let block = options.geometry.block;
+    let is_big = options.endian == Endian::Big;
+    let mark = mark(decompress);
+    let flags = format!(in alloc; "{is_big} {owners} {quiet}")?;
+    let path = path.unwrap_or("");
+    format!(in alloc; "extract {block} {flags} {image} {folder}{path}{mark}")
+}
+
+fn shown_listing(alloc: Global, asked: FolderListing<'_>) -> Result<String, AllocError> {
+    let FolderListing {
+        owner,
+        time,
+        quiet,
+        folder,
+    } = asked;
+    let Owner { uid, gid } = owner.unwrap_or(Owner { uid: 1, gid: 1 });
+    let time = time.unwrap_or(1);
+    format!(in alloc; "listing {uid} {gid} {time} {quiet} {folder}")
+}
+
+/// A copy of an image, by the name of the command that makes it.
+fn shown_copy(
+    alloc: Global,
+    name: &str,
+    options: Options,
+    image: &str,
+    output: &str,
+) -> Result<String, AllocError> {
+    let block = options.geometry.block;
+    let order = order_name(options.endian);
+    format!(in alloc; "{name} {block} {order} {image} {output}")
+}
+
+fn shown_examination(alloc: Global, asked: Examination<'_>) -> Result<String, AllocError> {
+    let Examination { options, image } = asked;
+    let block = options.geometry.block;
+    let order = order_name(options.endian);
+    format!(in alloc; "damage {block} {order} {image}")
+}
+
+fn shown_weak(alloc: Global, request: Request<'_>) -> Result<String, AllocError> {
+    let request = shown(alloc, request)?;
+    format!(in alloc; "weak {request}")
+}
+
 /// A task in the same way.
 fn shown_task(alloc: Global, task: Task<'_>) -> Result<String, AllocError> {
     match task {
         Task::Image(request) => shown(alloc, request),
-        Task::Weak(request) => {
-            let request = shown(alloc, request)?;
-            format!(in alloc; "weak {request}")
-        }
-        Task::Extract(
-            Extraction {
-                options,
-                decompress,
-                owners,
-                quiet,
-                image,
-                folder,
-                path,
-            },
-        ) => {
-            let block = options.geometry.block;
-            let is_big = options.endian == Endian::Big;
-            let mark = mark(decompress);
-            let flags = format!(in alloc; "{is_big} {owners} {quiet}")?;
-            let path = path.unwrap_or("");
-            format!(in alloc; "extract {block} {flags} {image} {folder}{path}{mark}")
-        }
-        Task::Listing(
-            FolderListing {
-                owner,
-                time,
-                quiet,
-                folder,
-            },
-        ) => {
-            let Owner { uid, gid } = owner.unwrap_or(Owner { uid: 1, gid: 1 });
-            let time = time.unwrap_or(1);
-            format!(in alloc; "listing {uid} {gid} {time} {quiet} {folder}")
-        }
+        Task::Weak(request) => shown_weak(alloc, request),
+        Task::Extract(asked) => shown_extraction(alloc, asked),
+        Task::Listing(asked) => shown_listing(alloc, asked),
         Task::Info { image } => format!(in alloc; "info {image}"),
         Task::Cuts(asked) => shown_cuts(alloc, asked),
-        Task::Compress(
-            Compression {
-                options,
-                image,
-                output,
-            },
-        ) => {
-            let Options { geometry, endian } = options;
-            let order = order_name(endian);
-            let block = geometry.block;
-            format!(in alloc; "compress {block} {order} {image} {output}")
-        }
+        Task::Compress(it) => shown_copy(alloc, "compress", it.options, it.image, it.output),
         Task::Diff(asked) => shown_comparison(alloc, asked),
-        Task::Apart(
-            Decompression {
-                options,
-                image,
-                output,
-            },
-        ) => {
-            let Options { geometry, endian } = options;
-            let order = order_name(endian);
-            let block = geometry.block;
-            format!(in alloc; "apart {block} {order} {image} {output}")
-        }
-        Task::Damage(Examination { options, image }) => {
-            let Options { geometry, endian } = options;
-            let order = order_name(endian);
-            let block = geometry.block;
-            format!(in alloc; "damage {block} {order} {image}")
-        }
+        Task::Apart(it) => shown_copy(alloc, "apart", it.options, it.image, it.output),
+        Task::Damage(asked) => shown_examination(alloc, asked),
         Task::Pack(asked) => shown_packing(alloc, asked),
     }
 }

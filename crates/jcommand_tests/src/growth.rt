@@ -41,111 +41,38 @@ const LINES: [(&[&str], &str); 18] = [
     (&["t", "check", "--block", "x", "a.img"], "wrong"),
 ];
 
+fn request_name(request: &Request<'_>) -> &'static str {
+    match request {
+        Request::Scan { .. } => "scan",
+        Request::Check { .. } => "check",
+        Request::List { .. } => "ls",
+        Request::Cat { .. } => "cat",
+        Request::Build { .. } => "build",
+        Request::Append { .. } => "append",
+        Request::Decompress { .. } => "decompress",
+    }
+}
+
+fn task_name(task: &Task<'_>) -> &'static str {
+    match task {
+        Task::Image(request) => request_name(request),
+        Task::Weak(_) => "weak",
+        Task::Apart(_) => "apart",
+        Task::Extract(_) => "extract",
+        Task::Listing(_) => "listing",
+        Task::Info { .. } => "info",
+        Task::Cuts(_) => "cuts",
+        Task::Compress(_) => "compress",
+        Task::Diff(_) => "diff",
+        Task::Damage(_) => "damage",
+        Task::Pack(_) => "pack",
+    }
+}
+
 /// What the words ask for.
-fn task_name(alloc: Global, words: &[&str]) -> &'static str {
+fn asked_name(alloc: Global, words: &[&str]) -> &'static str {
     match asked(alloc, words) {
-        Ok(
-            Asked {
-                task: Task::Image(Request::Scan { .. }),
-                ..
-            },
-        ) => "scan",
-        Ok(
-            Asked {
-                task: Task::Image(Request::Check { .. }),
-                ..
-            },
-        ) => "check",
-        Ok(
-            Asked {
-                task: Task::Image(Request::List { .. }),
-                ..
-            },
-        ) => "ls",
-        Ok(
-            Asked {
-                task: Task::Image(Request::Cat { .. }),
-                ..
-            },
-        ) => "cat",
-        Ok(
-            Asked {
-                task: Task::Image(Request::Build { .. }),
-                ..
-            },
-        ) => "build",
-        Ok(
-            Asked {
-                task: Task::Image(Request::Append { .. }),
-                ..
-            },
-        ) => "append",
-        Ok(
-            Asked {
-                task: Task::Image(Request::Decompress { .. }),
-                ..
-            },
-        ) => "decompress",
-        Ok(
-            Asked {
-                task: Task::Weak(_),
-                ..
-            },
-        ) => "weak",
-        Ok(
-            Asked {
-                task: Task::Apart(_),
-                ..
-            },
-        ) => "apart",
-        Ok(
-            Asked {
-                task: Task::Extract(_),
-                ..
-            },
-        ) => "extract",
-        Ok(
-            Asked {
-                task: Task::Listing(_),
-                ..
-            },
-        ) => "listing",
-        Ok(
-            Asked {
-                task: Task::Info { .. },
-                ..
-            },
-        ) => "info",
-        Ok(
-            Asked {
-                task: Task::Cuts(_),
-                ..
-            },
-        ) => "cuts",
-        Ok(
-            Asked {
-                task: Task::Compress(_),
-                ..
-            },
-        ) => "compress",
-        Ok(
-            Asked {
-                task: Task::Diff(_),
-                ..
-            },
-        ) => "diff",
-        Ok(
-            Asked {
-                task: Task::Damage(_),
-                ..
-            },
-        ) => "damage",
-        Ok(
-            Asked {
-                task: Task::Pack(_),
-                ..
-            },
-        ) => "pack",
+        Ok(Asked { task, .. }) => task_name(&task),
         Err(RequestFault::Help { .. }) => "help",
         Err(RequestFault::Usage { .. }) => "wrong",
         Err(RequestFault::OutOfMemory) => "no memory",
@@ -157,9 +84,9 @@ fn task_name(alloc: Global, words: &[&str]) -> &'static str {
 #[test]
 fn refused_growth_is_want_of_memory(rt: HostRuntime) {
     for (words, want) in LINES {
-        let mut first = task_name(rt.alloc(), words);
+        let mut first = asked_name(rt.alloc(), words);
         if first == "no memory" {
-            first = task_name(rt.alloc(), words);
+            first = asked_name(rt.alloc(), words);
         }
         equal(&rt, first, want);
     }
