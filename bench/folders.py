@@ -9,27 +9,16 @@ folder; the C loop takes the checksum of the image, and in its last form writes 
 the other, so that other work on the machine meets them all.
 """
 import os
-import random
 import shutil
 import subprocess
 import sys
 
-from measuring import measured, report
+from measuring import measured, random_tree, report
 
 HERE = os.path.dirname(os.path.abspath(__file__))
 FOLDER = os.path.abspath(sys.argv[1])
 RUNS = int(sys.argv[2]) if len(sys.argv) > 2 else 5
 PROGRAM = os.path.abspath(sys.argv[3] if len(sys.argv) > 3 else os.path.join(HERE, "../crates/jffs2_image/out/jffs2_image"))
-
-
-def make(name, count, length):
-    """Makes a tree of so many files of this length."""
-    chance = random.Random(count)
-    for number in range(count):
-        folder = os.path.join(FOLDER, name, f"d{number // 100:03}")
-        os.makedirs(folder, exist_ok=True)
-        with open(os.path.join(folder, f"f{number:05}"), "wb") as out:
-            out.write(chance.randbytes(length))
 
 
 def compare(commands, first):
@@ -47,7 +36,7 @@ def main():
     loop = os.path.join(FOLDER, "loop")
     subprocess.run(["cc", "-O2", "-o", loop, os.path.join(HERE, "loop.c")], check=True)
     for name, count, length in (("large", 62, 1 << 20), ("small", 16000, 3900)):
-        make(name, count, length)
+        random_tree(os.path.join(FOLDER, name), count, length)
         print(f"{count} files of {length} bytes")
         both = f"{PROGRAM} listing {name} > {name}.txt && {PROGRAM} build --blocks 1400 {name}.txt {name}.img"
         images = [("listing and build", ["sh", "-c", both], "none"), ("listing", [PROGRAM, "listing", name], "none")]

@@ -1,5 +1,6 @@
-"""What a command takes: processor time and memory."""
+"""What a command takes, processor time and memory, and trees to try it on."""
 import os
+import random
 import subprocess
 import sys
 
@@ -37,3 +38,13 @@ def program_of(words, place):
     here = os.path.join(os.path.dirname(os.path.abspath(__file__)), "../crates")
     named = os.path.abspath(words[place] if len(words) > place else here)
     return named if os.path.isfile(named) else f"{named}/jffs2_image/out/jffs2_image"
+
+
+def random_tree(folder, count, length):
+    """Makes a tree of so many files of this length, a hundred in a folder. The same numbers make the same bytes."""
+    chance = random.Random(count)
+    for number in range(count):
+        inside = os.path.join(folder, f"d{number // 100:03}")
+        os.makedirs(inside, exist_ok=True)
+        with open(os.path.join(inside, f"f{number:05}"), "wb") as out:
+            out.write(chance.randbytes(length))

@@ -8,25 +8,14 @@ the greatest memory; the commands of a round run one after the other, so that ot
 """
 import filecmp
 import os
-import random
 import shutil
 import sys
 
-from measuring import measured, program_of, report
+from measuring import measured, program_of, random_tree, report
 
 FOLDER = os.path.abspath(sys.argv[1])
 RUNS = int(sys.argv[2]) if len(sys.argv) > 2 else 5
 PROGRAM = program_of(sys.argv, 3)
-
-
-def make(name, count, length):
-    """Makes a tree of so many files of this length."""
-    chance = random.Random(count)
-    for number in range(count):
-        folder = os.path.join(FOLDER, name, f"d{number // 100:03}")
-        os.makedirs(folder, exist_ok=True)
-        with open(os.path.join(folder, f"f{number:05}"), "wb") as out:
-            out.write(chance.randbytes(length))
 
 
 def main():
@@ -35,7 +24,7 @@ def main():
         return 77
     os.makedirs(FOLDER, exist_ok=True)
     for name, count, length in (("large", 62, 1 << 20), ("small", 16000, 3900)):
-        make(name, count, length)
+        random_tree(os.path.join(FOLDER, name), count, length)
         print(f"{count} files of {length} bytes")
         both = f"{PROGRAM} listing {name} > {name}.txt && {PROGRAM} build --blocks 1400 {name}.txt {name}.img"
         commands = (

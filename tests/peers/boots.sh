@@ -1,5 +1,5 @@
 # What the scripts need that boot Linux, for them to source: sets `program` and `kernel` by the first
-# two arguments. Ends with status 77 where a package is missing.
+# two arguments, and has `compare`. Ends with status 77 where a package is missing.
 program=$(realpath "${1:-$here/../../crates/jffs2_image/out/jffs2_image}")
 kernel=$(realpath "${2:-/}")
 PATH=$PATH:/usr/sbin:/sbin
@@ -20,3 +20,10 @@ if [[ ! -x $program ]]; then
     echo "$program is no program: build it by rt run in crates/jffs2_image, or name another"
     exit 1
 fi
+
+# compare SCRIPT: runs it on the program and the kernel, with a folder of its own
+compare() {
+    place=$(mktemp -d)
+    trap 'rm -rf "$place"' EXIT
+    nice -n 10 python3 -B "$here/$1" "$program" "$kernel" "$place"
+}
