@@ -4,3 +4,4 @@ pub mod Device
 pub mod Laws
 pub mod Lists
 pub mod Ranges
+pub mod Sinks

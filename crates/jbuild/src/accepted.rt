@@ -2,7 +2,7 @@
 
 ghost use Rattle.std.specs.Prelude.{◌≡◌, ◌+◌};
 ghost use Rattle.flashbase.specs.Bytes.{pad4_of};
-ghost use Rattle.flashbase.specs.Device.{Puts};
+ghost use Rattle.flashbase.specs.Sinks.{PutsTo};
 ghost use Rattle.jbuild.specs.Accepted.{accepted_line, end_of_places};
 
 use flashbase::{DeviceFault, Sink};
@@ -35,8 +35,7 @@ pub fn put_accepted<T: Sink>(
     places: &[Place],
     sink: &mut T,
 ) -> Result<(), DeviceFault>
-    ensures { Puts (T.taken sink.old) (T.taken sink.new) (T.failures sink.old) (T.failures sink.new)
-        (accepted_line from ops places.now) result }
+    ensures { PutsTo T.Sink sink.old sink.new (accepted_line from ops places.now) result }
 {
     let mut line = LineBuffer::new();
     line.push_text(b"accepted ");

@@ -1,7 +1,7 @@
 //! What goes out for a base and operations on it.
 
 ghost use Rattle.std.specs.Prelude.{◌≡◌, None, Err, IfOk, IfErr, OnOk, IsOk};
-ghost use Rattle.flashbase.specs.Device.{Puts};
+ghost use Rattle.flashbase.specs.Sinks.{PutsTo};
 ghost use Rattle.jmount.specs.Mounts.{IsMountOf};
 ghost use Rattle.jlog.specs.Left.{front_of};
 ghost use Rattle.jlog.specs.Resuming.{resumes_by};
@@ -18,8 +18,7 @@ use std::alloc::Global;
 
 /// Puts a base's bytes up to an address, and erased flash for those that it lacks.
 fn put_front<S: Sink>(sink: &mut S, base: &[u8], from: usize) -> Result<(), PutFault>
-    ensures { Puts (S.taken sink.old) (S.taken sink.new) (S.failures sink.old) (S.failures sink.new)
-        (front_of base.now from) result }
+    ensures { PutsTo S.Sink sink.old sink.new (front_of base.now from) result }
 {
     if from <= base.len() {
         return put_all(sink, &base[..from]);

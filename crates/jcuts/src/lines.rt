@@ -1,7 +1,7 @@
 //! The lines that tell which step stands from which byte on.
 
 ghost use Rattle.std.specs.Prelude.{◌≡◌, ◌≤◌, ◌++◌, length};
-ghost use Rattle.flashbase.specs.Device.{Puts};
+ghost use Rattle.flashbase.specs.Sinks.{PutsTo};
 ghost use Rattle.jcuts.specs.Lines.{node_line, weak_line, end_line, end_text, text_of_node, text_of_nodes, step_nodes};
 
 use crate::standing::Standing;
@@ -87,8 +87,7 @@ pub fn put_nodes<T: Sink>(
     line: usize,
     nodes: &[Standing],
 ) -> Result<(), DeviceFault>
-    ensures { Puts (T.taken sink.old) (T.taken sink.new) (T.failures sink.old) (T.failures sink.new)
-        (text_of_nodes telling (step_nodes line (length nodes.now) 1 nodes.now)) result }
+    ensures { PutsTo T.Sink sink.old sink.new (text_of_nodes telling (step_nodes line (length nodes.now) 1 nodes.now)) result }
 {
     let mut text = LineBuffer::new();
     let mut i = 0;
@@ -134,8 +133,7 @@ pub fn put_end<T: Sink>(
     end: u32,
     weak: usize,
 ) -> Result<(), DeviceFault>
-    ensures { Puts (T.taken sink.old) (T.taken sink.new) (T.failures sink.old) (T.failures sink.new)
-        (end_text telling ops nodes from end weak) result }
+    ensures { PutsTo T.Sink sink.old sink.new (end_text telling ops nodes from end weak) result }
 {
     match telling {
         Telling::Nodes => {

@@ -1,7 +1,7 @@
 //! The lines on a path.
 
 ghost use Rattle.std.specs.Prelude.{◌≡◌, ◌+◌, ◌≤◌, ◌++◌, [], length, map};
-ghost use Rattle.flashbase.specs.Device.{Puts};
+ghost use Rattle.flashbase.specs.Sinks.{PutsTo};
 ghost use Rattle.jdiff.specs.Changes.{bytes_differ_line, changed_line, entry_start, place_shown, time_shown};
 ghost use Rattle.jdiff.specs.Walking.{entry_found, IsFoundIn};
 
@@ -47,8 +47,7 @@ pub(crate) fn put_entry<T: Sink>(
     sink: &mut T,
 ) -> Result<(), DeviceFault>
     requires { IsFoundIn mounted.now.state found.now }
-    ensures { Puts (T.taken sink.old) (T.taken sink.new) (T.failures sink.old) (T.failures sink.new)
-        (sign.now ++ changed_line times (entry_found mounted.now.state
+    ensures { PutsTo T.Sink sink.old sink.new (sign.now ++ changed_line times (entry_found mounted.now.state
         (map (λ name. name.now) path.now) found.now)) result }
 {
     let mut line = LineBuffer::new();
@@ -76,8 +75,7 @@ pub(crate) fn put_place<T: Sink>(
     place: u64,
     sink: &mut T,
 ) -> Result<(), DeviceFault>
-    ensures { Puts (T.taken sink.old) (T.taken sink.new) (T.failures sink.old) (T.failures sink.new)
-        (bytes_differ_line (map (λ name. name.now) path.now) place) result }
+    ensures { PutsTo T.Sink sink.old sink.new (bytes_differ_line (map (λ name. name.now) path.now) place) result }
 {
     let mut line = LineBuffer::new();
     write_place(&mut line, place);

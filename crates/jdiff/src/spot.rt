@@ -2,7 +2,7 @@
 
 ghost use Rattle.std.specs.Prelude.{◌≡◌, ◌≤◌, IfOk, IfSome, length, map, Some, None};
 ghost use Rattle.std.specs.List.{flat_map};
-ghost use Rattle.flashbase.specs.Device.{Puts};
+ghost use Rattle.flashbase.specs.Sinks.{PutsTo};
 ghost use Rattle.jmount.specs.Shown.{readable};
 ghost use Rattle.jdiff.specs.Changes.{both_lines, bytes_changes, changes, first_difference, is_same_object, is_symlink};
 ghost use Rattle.jdiff.specs.Walking.{entries_here, entry_found, IsFoundIn};
@@ -49,8 +49,7 @@ fn put_both<T: Sink>(
     requires left { IsFoundIn trees.now.left.now.state left.now }
     requires right { IsFoundIn trees.now.right.now.state right.now }
     ensures puts { let way = map (λ name. name.now) path.now in
-        Puts (T.taken sink.old) (T.taken sink.new) (T.failures sink.old) (T.failures sink.new)
-        (flat_map (λ line. line) (both_lines trees.now.times
+        PutsTo T.Sink sink.old sink.new (flat_map (λ line. line) (both_lines trees.now.times
         (entry_found trees.now.left.now.state way left.now)
         (entry_found trees.now.right.now.state way right.now))) result }
     ensures count { IfOk result (λ n. n ≡ 2) }
@@ -74,8 +73,7 @@ fn put_bytes<T: Sink>(
     ensures puts { let way = map (λ name. name.now) path.now in
         let x = entry_found trees.now.left.now.state way left.now in
         let y = entry_found trees.now.right.now.state way right.now in
-        Puts (T.taken sink.old) (T.taken sink.new) (T.failures sink.old) (T.failures sink.new)
-        (flat_map (λ line. line)
+        PutsTo T.Sink sink.old sink.new (flat_map (λ line. line)
         (bytes_changes trees.now.times x y (first_difference x.bytes y.bytes))) result }
     ensures count { let way = map (λ name. name.now) path.now in
         let x = entry_found trees.now.left.now.state way left.now in
@@ -107,8 +105,7 @@ pub(crate) fn put_changes<T: Sink>(
     requires left { IfSome left (λ f. IsFoundIn trees.now.left.now.state f) }
     requires right { IfSome right (λ f. IsFoundIn trees.now.right.now.state f) }
     ensures puts { let way = map (λ name. name.now) path.now in
-        Puts (T.taken sink.old) (T.taken sink.new) (T.failures sink.old) (T.failures sink.new)
-        (flat_map (λ line. line) (changes trees.now.times
+        PutsTo T.Sink sink.old sink.new (flat_map (λ line. line) (changes trees.now.times
         (entries_here trees.now.left.now.state way left)
         (entries_here trees.now.right.now.state way right))) result }
     ensures count { let way = map (λ name. name.now) path.now in

@@ -2,7 +2,7 @@
 //! with goes to a file.
 ghost use Rattle.std.specs.Prelude.{◌≡◌, ◌≤◌, ◌⊎◌, ℕ, List, None, IfOk, IfErr, OnOk, IsTrue, Ok, length, map};
 ghost use Rattle.std.specs.Io.KnownBytes.{Appends};
-ghost use Rattle.flashbase.specs.Device.{Puts};
+ghost use Rattle.flashbase.specs.Sinks.{PutsTo};
 ghost use Rattle.jnode.specs.Writing.{canonical};
 ghost use Rattle.jscan.specs.Image.{is_block_size};
 ghost use Rattle.jlog.specs.Places.{end_of_all};
@@ -275,8 +275,7 @@ fn write_left(text: &mut LineBuffer, left: LeftOut)
 
 /// Puts the lines of nodes that are left out.
 fn put_left<T: Sink>(sink: &mut T, left: &[LeftOut]) -> Result<(), DeviceFault>
-    ensures { Puts (T.taken sink.old) (T.taken sink.new) (T.failures sink.old) (T.failures sink.new)
-        (left_lines left.now) result }
+    ensures { PutsTo T.Sink sink.old sink.new (left_lines left.now) result }
 {
     let mut text = LineBuffer::new();
     let mut i = 0;

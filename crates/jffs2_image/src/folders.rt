@@ -1,6 +1,6 @@
 //! The commands that work with a folder of the host: `extract` and `listing`.
 ghost use Rattle.std.specs.Prelude.{◌≡◌, ◌≢◌, ℕ, true, List, IfOk, Option, Some, option_map};
-ghost use Rattle.flashbase.specs.Device.{Puts};
+ghost use Rattle.flashbase.specs.Sinks.{PutsTo};
 ghost use Rattle.jfolder.specs.Known.{Known};
 ghost use Rattle.jfolder.specs.Text.{listing_text};
 ghost use Rattle.jcommand.specs.Parsed.{ExtractParsed, ListingParsed, IsFaultless};
@@ -385,8 +385,7 @@ pub(crate) fn read_fault(fault: ReadFault, name: &str) -> ProgramFault<'_>
 
 /// Puts the listing of a folder that was read.
 pub(crate) fn put_read<T: Sink>(read: &jfolder::Folder, sink: &mut T) -> Result<(), DeviceFault>
-    ensures { Puts (T.taken sink.old) (T.taken sink.new) (T.failures sink.old) (T.failures sink.new)
-        (listing_text read.now.root read.now.items.items) result }
+    ensures { PutsTo T.Sink sink.old sink.new (listing_text read.now.root read.now.items.items) result }
 {
     put_listing(&read.root, read.items.as_slice(), sink)
 }

@@ -1,7 +1,7 @@
 //! `info`: what an image tells of itself, of which nobody says the byte order or the block size.
 ghost use Rattle.std.specs.Prelude.{◌≡◌, ◌≤◌, IfErr, IfOk, is_some, if◌then◌else◌, length, option_map};
 ghost use Rattle.std.specs.Io.KnownBytes.{Appends};
-ghost use Rattle.flashbase.specs.Device.{Puts};
+ghost use Rattle.flashbase.specs.Sinks.{PutsTo};
 ghost use Rattle.jscan.specs.Image.{greatest_image};
 ghost use Rattle.jinfo.specs.Containers.{container_line};
 ghost use Rattle.jinfo.specs.Infos.{order_of};
@@ -34,8 +34,7 @@ pub struct Informed {
 fn put_lines<T: Output>(image: &[u8], output: &mut T) -> Result<Option<Endian>, DeviceFault>
     requires { length image.now ≤ greatest_image }
     ensures order { IfOk result (λ order. order ≡ order_of image.now) }
-    ensures puts { Puts (T.taken output.old) (T.taken output.new) (T.failures output.old)
-        (T.failures output.new) (info_text image.now) result }
+    ensures puts { PutsTo T.Sink output.old output.new (info_text image.now) result }
 {
     match put_info(image, output) {
         Ok(order) => Ok(order),

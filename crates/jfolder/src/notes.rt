@@ -1,7 +1,7 @@
 //! What is told of what is left out.
 
 ghost use Rattle.std.specs.Prelude.{◌≡◌, ◌∷◌, []};
-ghost use Rattle.flashbase.specs.Device.{Puts};
+ghost use Rattle.flashbase.specs.Sinks.{PutsTo};
 ghost use Rattle.jfolder.specs.Notes.{TellsMore, TellsWhy, count_text, left_out_line, not_listed_line};
 ghost use Rattle.jfolder.specs.Pieces.{piece_text};
 
@@ -23,8 +23,7 @@ fn count_of(reason: Reason) -> Piece<'static>
 /// Puts the line of a path that is left out.
 #[tactic(auto, unfolding(crate::specs::Notes::left_out_line))]
 fn put_left_out<N: Sink>(notes: &mut N, path: &[u8], reason: Reason) -> Result<(), DeviceFault>
-    ensures { Puts (N.taken notes.old) (N.taken notes.new) (N.failures notes.old)
-        (N.failures notes.new) (left_out_line (path.now, reason)) result }
+    ensures { PutsTo N.Sink notes.old notes.new (left_out_line (path.now, reason)) result }
 {
     put_pieces(
         notes,
@@ -66,8 +65,7 @@ pub fn leave_out<N: Sink>(
 
 /// Puts the line of a folder that is not read.
 fn put_not_listed<N: Sink>(notes: &mut N, reason: Reason) -> Result<(), DeviceFault>
-    ensures { Puts (N.taken notes.old) (N.taken notes.new) (N.failures notes.old)
-        (N.failures notes.new) (not_listed_line reason) result }
+    ensures { PutsTo N.Sink notes.old notes.new (not_listed_line reason) result }
 {
     put_pieces(
         notes,

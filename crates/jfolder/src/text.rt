@@ -2,7 +2,7 @@
 
 ghost use Rattle.std.specs.Prelude.{◌≡◌};
 ghost use Rattle.std.specs.String.{string_bytes};
-ghost use Rattle.flashbase.specs.Device.{Puts};
+ghost use Rattle.flashbase.specs.Sinks.{PutsTo};
 ghost use Rattle.jfolder.specs.Pieces.{device_text, file_text, moded_line, own_owner_text, paths_line};
 ghost use Rattle.jfolder.specs.Text.{attr_words, device_letter, is_link, item_words, lines_text, listing_text, object_words, owner_words, root_words, setting_words, settings_with, time_words};
 
@@ -14,8 +14,7 @@ use jsteps::DeviceKind;
 
 /// `time T`, where it is another than before.
 fn put_time<T: Sink>(sink: &mut T, before: u32, time: u32) -> Result<(), DeviceFault>
-    ensures { Puts (T.taken sink.old) (T.taken sink.new) (T.failures sink.old) (T.failures sink.new)
-        (lines_text (time_words before time)) result }
+    ensures { PutsTo T.Sink sink.old sink.new (lines_text (time_words before time)) result }
 {
     if time == before {
         return Ok(());
@@ -36,8 +35,7 @@ fn put_owner<T: Sink>(
     before: Settings,
     attributes: &Attributes,
 ) -> Result<(), DeviceFault>
-    ensures { Puts (T.taken sink.old) (T.taken sink.new) (T.failures sink.old) (T.failures sink.new)
-        (lines_text (owner_words before attributes.now)) result }
+    ensures { PutsTo T.Sink sink.old sink.new (lines_text (owner_words before attributes.now)) result }
 {
     if attributes.uid == before.uid && attributes.gid == before.gid {
         return Ok(());
@@ -63,8 +61,7 @@ fn is_link(what: &What) -> bool
 
 /// The owner of an item, which a link has already.
 fn put_own_owner<T: Sink>(sink: &mut T, before: Settings, item: &Item) -> Result<(), DeviceFault>
-    ensures { Puts (T.taken sink.old) (T.taken sink.new) (T.failures sink.old) (T.failures sink.new)
-        (own_owner_text before item.now) result }
+    ensures { PutsTo T.Sink sink.old sink.new (own_owner_text before item.now) result }
 {
     if is_link(&item.what) {
         return Ok(());
@@ -74,8 +71,7 @@ fn put_own_owner<T: Sink>(sink: &mut T, before: Settings, item: &Item) -> Result
 
 /// What is set before an item.
 fn put_settings<T: Sink>(sink: &mut T, before: Settings, item: &Item) -> Result<(), DeviceFault>
-    ensures { Puts (T.taken sink.old) (T.taken sink.new) (T.failures sink.old) (T.failures sink.new)
-        (lines_text (setting_words before item.now)) result }
+    ensures { PutsTo T.Sink sink.old sink.new (lines_text (setting_words before item.now)) result }
 {
     put_time(sink, before.time, item.attributes.time)?;
     put_own_owner(sink, before, item)
@@ -88,8 +84,7 @@ fn put_moded<'a, T: Sink>(
     mode: u32,
     path: &'a [u8],
 ) -> Result<(), DeviceFault>
-    ensures { Puts (T.taken sink.old) (T.taken sink.new) (T.failures sink.old) (T.failures sink.new)
-        (moded_line verb.now mode path.now) result }
+    ensures { PutsTo T.Sink sink.old sink.new (moded_line verb.now mode path.now) result }
 {
     put_pieces(
         sink,
@@ -111,8 +106,7 @@ fn put_two<'a, T: Sink>(
     first: &'a [u8],
     second: &'a [u8],
 ) -> Result<(), DeviceFault>
-    ensures { Puts (T.taken sink.old) (T.taken sink.new) (T.failures sink.old) (T.failures sink.new)
-        (paths_line verb.now first.now second.now) result }
+    ensures { PutsTo T.Sink sink.old sink.new (paths_line verb.now first.now second.now) result }
 {
     put_pieces(
         sink,
@@ -134,8 +128,7 @@ fn put_file<'a, T: Sink>(
     path: &'a [u8],
     file: &'a [u8],
 ) -> Result<(), DeviceFault>
-    ensures { Puts (T.taken sink.old) (T.taken sink.new) (T.failures sink.old) (T.failures sink.new)
-        (file_text mode path.now file.now) result }
+    ensures { PutsTo T.Sink sink.old sink.new (file_text mode path.now file.now) result }
 {
     put_pieces(
         sink,
@@ -170,8 +163,7 @@ fn put_device<'a, T: Sink>(
     minor: u32,
     path: &'a [u8],
 ) -> Result<(), DeviceFault>
-    ensures { Puts (T.taken sink.old) (T.taken sink.new) (T.failures sink.old) (T.failures sink.new)
-        (device_text device mode major minor path.now) result }
+    ensures { PutsTo T.Sink sink.old sink.new (device_text device mode major minor path.now) result }
 {
     put_pieces(
         sink,
@@ -193,8 +185,7 @@ fn put_device<'a, T: Sink>(
 
 /// What makes an object.
 fn put_object<T: Sink>(sink: &mut T, item: &Item) -> Result<(), DeviceFault>
-    ensures { Puts (T.taken sink.old) (T.taken sink.new) (T.failures sink.old) (T.failures sink.new)
-        (lines_text (object_words (string_bytes item.now.path) item.now.attributes item.now.what))
+    ensures { PutsTo T.Sink sink.old sink.new (lines_text (object_words (string_bytes item.now.path) item.now.attributes item.now.what))
         result }
 {
     let path = item.path.as_bytes();
@@ -215,8 +206,7 @@ fn put_object<T: Sink>(sink: &mut T, item: &Item) -> Result<(), DeviceFault>
 
 /// The lines of an item.
 fn put_item<T: Sink>(sink: &mut T, before: Settings, item: &Item) -> Result<(), DeviceFault>
-    ensures { Puts (T.taken sink.old) (T.taken sink.new) (T.failures sink.old) (T.failures sink.new)
-        (lines_text (item_words before item.now)) result }
+    ensures { PutsTo T.Sink sink.old sink.new (lines_text (item_words before item.now)) result }
 {
     put_settings(sink, before, item)?;
     put_object(sink, item)
@@ -239,8 +229,7 @@ fn settings_after(before: Settings, item: &Item) -> Settings
 
 /// The line of the root.
 fn put_attr<T: Sink>(sink: &mut T, root: &Attributes) -> Result<(), DeviceFault>
-    ensures { Puts (T.taken sink.old) (T.taken sink.new) (T.failures sink.old) (T.failures sink.new)
-        (lines_text (attr_words root.now)) result }
+    ensures { PutsTo T.Sink sink.old sink.new (lines_text (attr_words root.now)) result }
 {
     put_pieces(
         sink,
@@ -262,8 +251,7 @@ fn put_attr<T: Sink>(sink: &mut T, root: &Attributes) -> Result<(), DeviceFault>
 
 /// The lines of the root.
 fn put_root<T: Sink>(sink: &mut T, root: &Attributes) -> Result<(), DeviceFault>
-    ensures { Puts (T.taken sink.old) (T.taken sink.new) (T.failures sink.old) (T.failures sink.new)
-        (lines_text (root_words root.now)) result }
+    ensures { PutsTo T.Sink sink.old sink.new (lines_text (root_words root.now)) result }
 {
     put_time(sink, 0, root.time)?;
     put_attr(sink, root)
@@ -276,8 +264,7 @@ pub fn put_listing<T: Sink>(
     items: &[Item],
     sink: &mut T,
 ) -> Result<(), DeviceFault>
-    ensures { Puts (T.taken sink.old) (T.taken sink.new) (T.failures sink.old) (T.failures sink.new)
-        (listing_text root.now items.now) result }
+    ensures { PutsTo T.Sink sink.old sink.new (listing_text root.now items.now) result }
 {
     put_root(sink, root)?;
     let mut settings = Settings {

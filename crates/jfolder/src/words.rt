@@ -1,6 +1,6 @@
 //! Pieces of a line, and putting them.
 
-ghost use Rattle.flashbase.specs.Device.{Puts};
+ghost use Rattle.flashbase.specs.Sinks.{PutsTo};
 ghost use Rattle.jfolder.specs.Pieces.{piece_text, pieces_text};
 
 use flashbase::{DeviceFault, Sink};
@@ -19,8 +19,7 @@ pub enum Piece<'a> {
 
 /// Puts a number.
 fn put_decimal<T: Sink>(sink: &mut T, number: u64) -> Result<(), DeviceFault>
-    ensures { Puts (T.taken sink.old) (T.taken sink.new) (T.failures sink.old) (T.failures sink.new)
-        (piece_text (Piece.Decimal number)) result }
+    ensures { PutsTo T.Sink sink.old sink.new (piece_text (Piece.Decimal number)) result }
 {
     let mut line = LineBuffer::new();
     line.push_decimal(number);
@@ -29,8 +28,7 @@ fn put_decimal<T: Sink>(sink: &mut T, number: u64) -> Result<(), DeviceFault>
 
 /// Puts permission bits.
 fn put_octal<T: Sink>(sink: &mut T, mode: u32) -> Result<(), DeviceFault>
-    ensures { Puts (T.taken sink.old) (T.taken sink.new) (T.failures sink.old) (T.failures sink.new)
-        (piece_text (Piece.Octal mode)) result }
+    ensures { PutsTo T.Sink sink.old sink.new (piece_text (Piece.Octal mode)) result }
 {
     let mut line = LineBuffer::new();
     line.push_octal(mode);
@@ -39,8 +37,7 @@ fn put_octal<T: Sink>(sink: &mut T, mode: u32) -> Result<(), DeviceFault>
 
 /// Puts a piece.
 fn put_piece<T: Sink>(sink: &mut T, piece: &Piece<'_>) -> Result<(), DeviceFault>
-    ensures { Puts (T.taken sink.old) (T.taken sink.new) (T.failures sink.old) (T.failures sink.new)
-        (piece_text piece.now) result }
+    ensures { PutsTo T.Sink sink.old sink.new (piece_text piece.now) result }
 {
     match piece {
         Piece::Plain(text) => put_text(sink, text),
@@ -52,8 +49,7 @@ fn put_piece<T: Sink>(sink: &mut T, piece: &Piece<'_>) -> Result<(), DeviceFault
 
 /// Puts pieces one after the other. Takes no memory.
 pub fn put_pieces<T: Sink>(sink: &mut T, pieces: &[Piece<'_>]) -> Result<(), DeviceFault>
-    ensures { Puts (T.taken sink.old) (T.taken sink.new) (T.failures sink.old) (T.failures sink.new)
-        (pieces_text pieces.now) result }
+    ensures { PutsTo T.Sink sink.old sink.new (pieces_text pieces.now) result }
 {
     for piece in pieces {
         put_piece(sink, piece)?;

@@ -2,7 +2,7 @@
 
 ghost use Rattle.std.specs.Prelude.{◌≡◌, ◌≤◌, length};
 ghost use Rattle.std.specs.List.{find};
-ghost use Rattle.flashbase.specs.Device.{Puts};
+ghost use Rattle.flashbase.specs.Sinks.{PutsTo};
 ghost use Rattle.jinfo.specs.Containers.{begins_as, container_line, container_magic, container_name, container_note, container_of};
 
 use flashbase::{DeviceFault, Sink};
@@ -99,8 +99,7 @@ pub fn put_container_note<S: Sink>(
     container: Option<Container>,
     sink: &mut S,
 ) -> Result<(), DeviceFault>
-    ensures { Puts (S.taken sink.old) (S.taken sink.new) (S.failures sink.old) (S.failures sink.new)
-        (container_note container) result }
+    ensures { PutsTo S.Sink sink.old sink.new (container_note container) result }
 {
     match container {
         Some(container) => {

@@ -1,7 +1,7 @@
 //! The lines of `info`.
 
 ghost use Rattle.std.specs.Prelude.{◌≡◌, ◌+◌, ◌≤◌, ◌++◌, length};
-ghost use Rattle.flashbase.specs.Device.{Puts};
+ghost use Rattle.flashbase.specs.Sinks.{PutsTo};
 ghost use Rattle.jinfo.specs.InfoText.{PutsInfo, bytes_line, data_line, highest_line, info_lines, nodes_line, order_line, order_name, sizes_line};
 
 use crate::highest::Highest;
@@ -165,8 +165,7 @@ fn write_info(line: &mut LineBuffer, info: &Info)
 
 /// Puts all lines of what an image tells.
 fn put_lines<S: Sink>(info: &Info, sink: &mut S) -> Result<(), DeviceFault>
-    ensures { Puts (S.taken sink.old) (S.taken sink.new) (S.failures sink.old) (S.failures sink.new)
-        (info_lines info.now) result }
+    ensures { PutsTo S.Sink sink.old sink.new (info_lines info.now) result }
 {
     let mut line = LineBuffer::new();
     write_info(&mut line, info);

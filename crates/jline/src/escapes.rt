@@ -1,7 +1,7 @@
 //! Names, words and texts that go out escaped or as digits, however long they are.
 
 ghost use Rattle.std.specs.Prelude.{◌≡◌, ◌+◌, ◌*◌, ◌≤◌, ◌++◌, length};
-ghost use Rattle.flashbase.specs.Device.{Puts};
+ghost use Rattle.flashbase.specs.Sinks.{PutsTo};
 ghost use Rattle.jline.specs.Words.{escaped, hex_of, in_line, spelled, word_of};
 
 use crate::line::LineBuffer;
@@ -24,8 +24,7 @@ fn write_piece(line: &mut LineBuffer, spelling: Spelling, piece: &[u8])
 
 /// Puts bytes, however many, by pieces.
 fn put_spelled<T: Sink>(sink: &mut T, spelling: Spelling, bytes: &[u8]) -> Result<(), DeviceFault>
-    ensures { Puts (T.taken sink.old) (T.taken sink.new) (T.failures sink.old) (T.failures sink.new)
-        (spelled spelling bytes.now) result }
+    ensures { PutsTo T.Sink sink.old sink.new (spelled spelling bytes.now) result }
 {
     let mut line = LineBuffer::new();
     let mut start = 0;
@@ -40,16 +39,14 @@ fn put_spelled<T: Sink>(sink: &mut T, spelling: Spelling, bytes: &[u8]) -> Resul
 
 /// Puts bytes, each that is not plain as `\x` and two hexadecimal digits. Takes no memory.
 pub fn put_escaped<T: Sink>(sink: &mut T, bytes: &[u8]) -> Result<(), DeviceFault>
-    ensures { Puts (T.taken sink.old) (T.taken sink.new) (T.failures sink.old) (T.failures sink.new)
-        (escaped bytes.now) result }
+    ensures { PutsTo T.Sink sink.old sink.new (escaped bytes.now) result }
 {
     put_spelled(sink, Spelling::Escaped, bytes)
 }
 
 /// Puts bytes within a line, each control byte as `\x` and two hexadecimal digits. Takes no memory.
 pub fn put_in_line<T: Sink>(sink: &mut T, bytes: &[u8]) -> Result<(), DeviceFault>
-    ensures { Puts (T.taken sink.old) (T.taken sink.new) (T.failures sink.old) (T.failures sink.new)
-        (in_line bytes.now) result }
+    ensures { PutsTo T.Sink sink.old sink.new (in_line bytes.now) result }
 {
     put_spelled(sink, Spelling::InLine, bytes)
 }
@@ -57,16 +54,14 @@ pub fn put_in_line<T: Sink>(sink: &mut T, bytes: &[u8]) -> Result<(), DeviceFaul
 /// Puts the bytes of a path or a target: a slash as it is, and each other byte that is not plain as
 /// `\x` and two hexadecimal digits. Takes no memory.
 pub fn put_word<T: Sink>(sink: &mut T, bytes: &[u8]) -> Result<(), DeviceFault>
-    ensures { Puts (T.taken sink.old) (T.taken sink.new) (T.failures sink.old) (T.failures sink.new)
-        (word_of bytes.now) result }
+    ensures { PutsTo T.Sink sink.old sink.new (word_of bytes.now) result }
 {
     put_spelled(sink, Spelling::Word, bytes)
 }
 
 /// Puts bytes, each as two hexadecimal digits. Takes no memory.
 pub fn put_hex<T: Sink>(sink: &mut T, bytes: &[u8]) -> Result<(), DeviceFault>
-    ensures { Puts (T.taken sink.old) (T.taken sink.new) (T.failures sink.old) (T.failures sink.new)
-        (hex_of bytes.now) result }
+    ensures { PutsTo T.Sink sink.old sink.new (hex_of bytes.now) result }
 {
     put_spelled(sink, Spelling::Hex, bytes)
 }

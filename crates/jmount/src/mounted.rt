@@ -1,7 +1,7 @@
 //! A mounted image.
 
 ghost use Rattle.std.specs.Prelude.{◌≡◌, ℕ, ◌-◌, ◌<◌, ◌≤◌, ◌++◌, Decides, IfOk, map, max, option_map, length, min, slice_index, take, drop};
-ghost use Rattle.flashbase.specs.Device.{Puts};
+ghost use Rattle.flashbase.specs.Sinks.{PutsTo};
 ghost use Rattle.jmount.specs.Tree as tree;
 ghost use Rattle.jmount.specs.Find as walk;
 ghost use Rattle.jmount.specs.Shape.{HasShape};
@@ -268,9 +268,7 @@ impl<'a> Mounted<'a> {
     /// # Errors
     /// The sink failed. A beginning of the bytes went out.
     pub fn put_bytes<T: Sink>(&self, ino: u32, sink: &mut T) -> Result<(), DeviceFault>
-        ensures { Puts (T.taken sink.old) (T.taken sink.new) (T.failures sink.old)
-            (T.failures sink.new)
-            (readable self.now.state ino) result }
+        ensures { PutsTo T.Sink sink.old sink.new (readable self.now.state ino) result }
     {
         match self.objects.get(&ino) {
             Some(stored) => put_stored(stored, sink),

@@ -1,7 +1,7 @@
 //! The bytes of an object.
 
 ghost use Rattle.std.specs.Prelude.{◌≡◌, ℕ, ◌-◌, ◌<◌, ◌≤◌, ◌++◌, false, Some, length, max, min, slice_index, take, drop};
-ghost use Rattle.flashbase.specs.Device.{Puts};
+ghost use Rattle.flashbase.specs.Sinks.{PutsTo};
 ghost use Rattle.jfrag.specs.IntervalMap.{is_hole};
 ghost use Rattle.jfrag.specs.Intervals.{piece_at};
 ghost use Rattle.jmount.specs.Shown.{bytes_if};
@@ -54,8 +54,7 @@ pub fn hole_end_stored(stored: &Stored<'_>, offset: u64) -> u64
 
 /// Puts all of an object's bytes, piece by piece.
 pub fn put_stored<T: Sink>(stored: &Stored<'_>, sink: &mut T) -> Result<(), DeviceFault>
-    ensures { Puts (T.taken sink.old) (T.taken sink.new) (T.failures sink.old) (T.failures sink.new)
-        (bytes_if (Some (stored_object stored.now))) result }
+    ensures { PutsTo T.Sink sink.old sink.new (bytes_if (Some (stored_object stored.now))) result }
 {
     if !has_bytes(stored.mode) {
         return Ok(());

@@ -1,7 +1,7 @@
 //! The note after a fault's line, on what a person may do about it.
 
 ghost use Rattle.std.specs.Prelude.{◌≡◌, ◌≤◌, [], length};
-ghost use Rattle.flashbase.specs.Device.{Puts};
+ghost use Rattle.flashbase.specs.Sinks.{PutsTo};
 ghost use Rattle.jreport.specs.Advice.{advice_of, fault_lines_of, is_read_method, mount_note, note_of, rule_note, word_note};
 
 use crate::faults::{ProgramFault, fault_line};
@@ -142,8 +142,7 @@ fn push_advice(line: &mut LineBuffer, fault: &ProgramFault<'_>)
 
 /// Puts the line of a fault as it is on standard error, and the note after it, where there is one.
 pub fn fault_lines<T: Sink>(fault: &ProgramFault<'_>, sink: &mut T) -> Result<(), DeviceFault>
-    ensures { Puts (T.taken sink.old) (T.taken sink.new) (T.failures sink.old) (T.failures sink.new)
-        (fault_lines_of fault.now) result }
+    ensures { PutsTo T.Sink sink.old sink.new (fault_lines_of fault.now) result }
 {
     fault_line(fault, sink)?;
     let mut line = LineBuffer::new();

@@ -1,7 +1,7 @@
 //! The lines of one block, and the last line.
 
 ghost use Rattle.std.specs.Prelude.{◌≡◌, ◌%◌, ◌^◌, ◌+◌, ◌<◌, ◌≤◌, List, [], ◌∷◌, ◌++◌, length, IfSome, OnOk};
-ghost use Rattle.flashbase.specs.Device.{Puts};
+ghost use Rattle.flashbase.specs.Sinks.{PutsTo};
 ghost use Rattle.jscan.specs.Counts.{block_counted, counted, no_counts};
 ghost use Rattle.jscan.specs.Extents.{extents};
 ghost use Rattle.jscan.specs.PartialScans.{HasScanned};
@@ -35,8 +35,7 @@ fn put_extent<T: Sink>(
 ) -> Result<(), DeviceFault>
     requires name { length (shown_name extent.now.kind) ≤ 255 }
     requires room { CountsHaveRoom counts.old 1 }
-    ensures puts { Puts (T.taken sink.old) (T.taken sink.new) (T.failures sink.old)
-        (T.failures sink.new) (extent_line extent.now) result }
+    ensures puts { PutsTo T.Sink sink.old sink.new (extent_line extent.now) result }
     ensures counts { OnOk result (counts.new ≡ counted counts.old extent.now.kind) }
 {
     write_extent(line, extent);
@@ -70,9 +69,7 @@ pub fn put_part<'a, E: Order, T: Sink>(
     requires whole_words { length block % 4 ≡ 0 }
     requires addressed { start + length block < 2 ^ 32 }
     requires room { CountsHaveRoom counts.old (length block + 1) }
-    ensures puts { Puts (T.taken sink.old) (T.taken sink.new) (T.failures sink.old)
-        (T.failures sink.new)
-        (lines_of_block counts.old.blocks (extents E.order start block.entry)) result }
+    ensures puts { PutsTo T.Sink sink.old sink.new (lines_of_block counts.old.blocks (extents E.order start block.entry)) result }
     ensures counts { OnOk result
         (counts.new ≡ block_counted counts.old (extents E.order start block.entry)) }
     ensures scan { (before : List Extent) → IfSome partial.old (HasScanned before)
@@ -100,9 +97,7 @@ pub fn put_block<E: Order, T: Sink>(
     requires whole_words { length block.now % 4 ≡ 0 }
     requires addressed { start + length block.now < 2 ^ 32 }
     requires room { CountsHaveRoom counts.old (length block.now + 1) }
-    ensures puts { Puts (T.taken sink.old) (T.taken sink.new) (T.failures sink.old)
-        (T.failures sink.new)
-        (lines_of_block counts.old.blocks (extents E.order start block.now)) result }
+    ensures puts { PutsTo T.Sink sink.old sink.new (lines_of_block counts.old.blocks (extents E.order start block.now)) result }
     ensures counts { OnOk result
         (counts.new ≡ block_counted counts.old (extents E.order start block.now)) }
 {
@@ -118,8 +113,7 @@ fn whole(bytes: &[u8]) -> Part<'_>
 
 /// Puts the last line of a report.
 pub fn put_total<T: Sink>(sink: &mut T, counts: &Counts) -> Result<(), DeviceFault>
-    ensures { Puts (T.taken sink.old) (T.taken sink.new) (T.failures sink.old) (T.failures sink.new)
-        (totals_line counts.now) result }
+    ensures { PutsTo T.Sink sink.old sink.new (totals_line counts.now) result }
 {
     let mut line = LineBuffer::new();
     write_total(

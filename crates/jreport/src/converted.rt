@@ -1,7 +1,7 @@
 //! The line on an image whose data were decompressed, or compressed.
 
 ghost use Rattle.std.specs.Prelude.{◌≡◌};
-ghost use Rattle.flashbase.specs.Device.{Puts};
+ghost use Rattle.flashbase.specs.Sinks.{PutsTo};
 ghost use Rattle.jreport.specs.ConvertedLine.{compression_line, decompressed_line};
 
 use flashbase::{DeviceFault, Sink};
@@ -29,8 +29,7 @@ pub fn put_decompressed<T: Sink>(
     bytes: u64,
     sink: &mut T,
 ) -> Result<(), DeviceFault>
-    ensures { Puts (T.taken sink.old) (T.taken sink.new) (T.failures sink.old) (T.failures sink.new)
-        (decompressed_line changed nodes bytes) result }
+    ensures { PutsTo T.Sink sink.old sink.new (decompressed_line changed nodes bytes) result }
 {
     let mut line = LineBuffer::new();
     write_decompressed(&mut line, changed, nodes, bytes);
@@ -58,8 +57,7 @@ pub fn put_compressed<T: Sink>(
     bytes: u64,
     sink: &mut T,
 ) -> Result<(), DeviceFault>
-    ensures { Puts (T.taken sink.old) (T.taken sink.new) (T.failures sink.old) (T.failures sink.new)
-        (compression_line changed nodes bytes) result }
+    ensures { PutsTo T.Sink sink.old sink.new (compression_line changed nodes bytes) result }
 {
     let mut line = LineBuffer::new();
     write_compressed(&mut line, changed, nodes, bytes);

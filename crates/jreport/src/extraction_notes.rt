@@ -1,7 +1,7 @@
 //! The notes after an image was extracted.
 
 ghost use Rattle.std.specs.Prelude.{◌≡◌};
-ghost use Rattle.flashbase.specs.Device.{Puts};
+ghost use Rattle.flashbase.specs.Sinks.{PutsTo};
 ghost use Rattle.jreport.specs.ExtractionNotes.{attribute_count, attributes_line_of, extraction_notes_of, is_attribute_node, line_of_count, lost_bits_line_of};
 ghost use Rattle.jreport.specs.Notes.{note_line_of};
 
@@ -54,8 +54,7 @@ fn write_attributes(line: &mut LineBuffer, nodes: u64)
 }
 
 fn put_findings<T: Sink>(findings: u64, sink: &mut T) -> Result<(), DeviceFault>
-    ensures { Puts (T.taken sink.old) (T.taken sink.new) (T.failures sink.old) (T.failures sink.new)
-        (line_of_count note_line_of findings) result }
+    ensures { PutsTo T.Sink sink.old sink.new (line_of_count note_line_of findings) result }
 {
     if findings == 0 {
         return Ok(());
@@ -64,8 +63,7 @@ fn put_findings<T: Sink>(findings: u64, sink: &mut T) -> Result<(), DeviceFault>
 }
 
 fn put_lost_bits<T: Sink>(objects: u64, sink: &mut T) -> Result<(), DeviceFault>
-    ensures { Puts (T.taken sink.old) (T.taken sink.new) (T.failures sink.old) (T.failures sink.new)
-        (line_of_count lost_bits_line_of objects) result }
+    ensures { PutsTo T.Sink sink.old sink.new (line_of_count lost_bits_line_of objects) result }
 {
     if objects == 0 {
         return Ok(());
@@ -76,8 +74,7 @@ fn put_lost_bits<T: Sink>(objects: u64, sink: &mut T) -> Result<(), DeviceFault>
 }
 
 fn put_attributes<T: Sink>(nodes: u64, sink: &mut T) -> Result<(), DeviceFault>
-    ensures { Puts (T.taken sink.old) (T.taken sink.new) (T.failures sink.old) (T.failures sink.new)
-        (line_of_count attributes_line_of nodes) result }
+    ensures { PutsTo T.Sink sink.old sink.new (line_of_count attributes_line_of nodes) result }
 {
     if nodes == 0 {
         return Ok(());
@@ -95,8 +92,7 @@ pub fn put_notes<T: Sink>(
     attributes: u64,
     sink: &mut T,
 ) -> Result<(), DeviceFault>
-    ensures { Puts (T.taken sink.old) (T.taken sink.new) (T.failures sink.old) (T.failures sink.new)
-        (extraction_notes_of findings lost_bits attributes) result }
+    ensures { PutsTo T.Sink sink.old sink.new (extraction_notes_of findings lost_bits attributes) result }
 {
     put_findings(findings, sink)?;
     put_lost_bits(lost_bits, sink)?;

@@ -1,7 +1,8 @@
 //! Why the program gives up, and the texts that say so.
 ghost use Rattle.std.specs.Prelude.{◌≡◌, ◌<◌, ◌≤◌, ◌++◌, [], length, take, OnOk, IfErr};
 ghost use Rattle.std.specs.Io.KnownBytes.{Appends};
-ghost use Rattle.flashbase.specs.Device.{Puts, next_count};
+ghost use Rattle.flashbase.specs.Device.{next_count};
+ghost use Rattle.flashbase.specs.Sinks.{PutsTo};
 ghost use Rattle.jline.specs.Words.{in_line};
 ghost use Rattle.jreport.specs.Faults.{fault_line_of, fault_text_of, find_text, load_text, mount_text, scan_fault_text};
 
@@ -339,8 +340,7 @@ pub fn fault_text<T: Sink>(fault: &ProgramFault<'_>, sink: &mut T) -> Result<(),
 
 /// Puts the text of a fault within a line.
 fn put_fault<T: Sink>(fault: &ProgramFault<'_>, sink: &mut T) -> Result<(), DeviceFault>
-    ensures { Puts (T.taken sink.old) (T.taken sink.new) (T.failures sink.old) (T.failures sink.new)
-        (in_line (fault_text_of fault.now)) result }
+    ensures { PutsTo T.Sink sink.old sink.new (in_line (fault_text_of fault.now)) result }
 {
     let mut line = LineBuffer::new();
     let name = push_fault(&mut line, fault);
@@ -351,8 +351,7 @@ fn put_fault<T: Sink>(fault: &ProgramFault<'_>, sink: &mut T) -> Result<(), Devi
 /// Puts the line of a fault, as it is on standard error. It is one line: a control byte of a file's
 /// name goes out escaped.
 pub fn fault_line<T: Sink>(fault: &ProgramFault<'_>, sink: &mut T) -> Result<(), DeviceFault>
-    ensures { Puts (T.taken sink.old) (T.taken sink.new) (T.failures sink.old) (T.failures sink.new)
-        (fault_line_of fault.now) result }
+    ensures { PutsTo T.Sink sink.old sink.new (fault_line_of fault.now) result }
 {
     put_text(sink, b"jffs2_image: ")?;
     put_fault(fault, sink)?;

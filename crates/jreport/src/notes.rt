@@ -1,7 +1,7 @@
 //! The note on an image that mounted, and yet has bytes where a node may have been.
 
 ghost use Rattle.std.specs.Prelude.{◌≡◌, ◌≤◌, length};
-ghost use Rattle.flashbase.specs.Device.{Puts};
+ghost use Rattle.flashbase.specs.Sinks.{PutsTo};
 ghost use Rattle.jreport.specs.Notes.{findings_text, is_noted, note_line_of, noted};
 
 use flashbase::{DeviceFault, Sink};
@@ -59,8 +59,7 @@ fn write_note(line: &mut LineBuffer, findings: u64)
 
 /// Puts the note that there are so many such findings, as it is on standard error.
 pub fn note_line<T: Sink>(findings: u64, sink: &mut T) -> Result<(), DeviceFault>
-    ensures { Puts (T.taken sink.old) (T.taken sink.new) (T.failures sink.old) (T.failures sink.new)
-        (note_line_of findings) result }
+    ensures { PutsTo T.Sink sink.old sink.new (note_line_of findings) result }
 {
     let mut line = LineBuffer::new();
     write_note(&mut line, findings);

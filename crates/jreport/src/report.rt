@@ -1,7 +1,7 @@
 //! The report of an image.
 
 ghost use Rattle.std.specs.Prelude.{◌≡◌, ◌+◌, ◌<◌, ◌≤◌, [], length, IsTrue, IfOk, OnOk, IfErr, IfSome};
-ghost use Rattle.flashbase.specs.Device.{Puts};
+ghost use Rattle.flashbase.specs.Sinks.{PutsTo};
 ghost use Rattle.jscan.specs.Counts.{counts_of, extents_below, is_found};
 ghost use Rattle.jscan.specs.Image.{is_block_size, greatest_image, block_count};
 ghost use Rattle.jscan.specs.PartialScans.{HasScanned};
@@ -31,9 +31,7 @@ fn put_block_of<'a, E: Order, T: Sink>(
     requires next { k < block_count size image.now }
     requires counts { counts.old ≡ counts_of E.order size image.now k }
     requires scan { IfSome partial.old (HasScanned (extents_below E.order size image.now k)) }
-    ensures puts { Puts (T.taken sink.old) (T.taken sink.new) (T.failures sink.old)
-        (T.failures sink.new)
-        (block_lines E.order size image.now k) result }
+    ensures puts { PutsTo T.Sink sink.old sink.new (block_lines E.order size image.now k) result }
     ensures counts { OnOk result (counts.new ≡ counts_of E.order size image.now (k + 1)) }
     ensures scan { OnOk result
         (IfSome partial.new (HasScanned (extents_below E.order size image.now (k + 1)))) }
@@ -58,9 +56,7 @@ fn put_blocks<'a, E: Order, T: Sink>(
     requires size { IsTrue (is_block_size size) }
     requires small { length image.now ≤ greatest_image }
     requires scan { IfSome partial.old (HasScanned []) }
-    ensures puts { Puts (T.taken sink.old) (T.taken sink.new) (T.failures sink.old)
-        (T.failures sink.new)
-        (lines_below E.order size image.now (block_count size image.now)) result }
+    ensures puts { PutsTo T.Sink sink.old sink.new (lines_below E.order size image.now (block_count size image.now)) result }
     ensures counts { IfOk result
         (λ counts. counts ≡ counts_of E.order size image.now (block_count size image.now)) }
     ensures scan { OnOk result

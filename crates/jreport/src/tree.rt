@@ -1,7 +1,7 @@
 //! What `ls` prints of an object of a mounted image.
 
 ghost use Rattle.std.specs.Prelude.{◌≡◌, ◌+◌, ◌%◌, ◌<◌, ◌≤◌, ◌++◌, [], Some, codes, decimal, length, map, option_map};
-ghost use Rattle.flashbase.specs.Device.{Puts};
+ghost use Rattle.flashbase.specs.Sinks.{PutsTo};
 ghost use Rattle.jmount.specs.Tree as tree;
 ghost use Rattle.jmount.specs.Shown.{readable, shown};
 ghost use Rattle.jreport.specs.TreeText.{kind_letter, permissions, object_start, target_shown, tail_shown, object_line};
@@ -87,8 +87,7 @@ fn put_target<T: Sink>(
     sink: &mut T,
 ) -> Result<(), DeviceFault>
     requires { length (readable mounted.now.state ino) ≡ size }
-    ensures { Puts (T.taken sink.old) (T.taken sink.new) (T.failures sink.old) (T.failures sink.new)
-        (target_shown (readable mounted.now.state ino)) result }
+    ensures { PutsTo T.Sink sink.old sink.new (target_shown (readable mounted.now.state ino)) result }
 {
     if size as usize > GREATEST_TARGET {
         return put_text(sink, b" -> (long)");
@@ -110,8 +109,7 @@ pub fn put_tail<T: Sink>(
     sink: &mut T,
 ) -> Result<(), DeviceFault>
     requires { option_map shown (tree.object mounted.now.state ino) ≡ Some object.now }
-    ensures { Puts (T.taken sink.old) (T.taken sink.new) (T.failures sink.old) (T.failures sink.new)
-        (tail_shown (readable mounted.now.state ino) object.now.kind again) result }
+    ensures { PutsTo T.Sink sink.old sink.new (tail_shown (readable mounted.now.state ino) object.now.kind again) result }
 {
     match object.kind {
         Kind::Symlink => put_target(mounted, ino, object.size, sink),
@@ -131,8 +129,7 @@ pub fn put_object<T: Sink>(
     sink: &mut T,
 ) -> Result<(), DeviceFault>
     requires { option_map shown (tree.object mounted.now.state ino) ≡ Some object.now }
-    ensures { Puts (T.taken sink.old) (T.taken sink.new) (T.failures sink.old) (T.failures sink.new)
-        (object_line mounted.now.state (map (λ name. name.now) path.now) ino object.now again)
+    ensures { PutsTo T.Sink sink.old sink.new (object_line mounted.now.state (map (λ name. name.now) path.now) ino object.now again)
         result }
 {
     let mut line = LineBuffer::new();

@@ -3,7 +3,7 @@
 
 ghost use Rattle.std.specs.Prelude.{◌≡◌, ◌||◌, ℕ, List, [], ◌++◌, ◌∷◌, IfOk, IfSome};
 ghost use Rattle.std.specs.List.{flat_map};
-ghost use Rattle.flashbase.specs.Device.{Puts};
+ghost use Rattle.flashbase.specs.Sinks.{PutsTo};
 ghost use Rattle.jnode.specs.declared.order.Endian.{Endian};
 ghost use Rattle.jscan.specs.PartialScans.{IsScanOf};
 ghost use Rattle.jscan.specs.Scans.{IsScannable};
@@ -34,8 +34,7 @@ fn write_start(line: &mut LineBuffer, pino: u32, ino: u32)
 
 /// Puts the line of a dangling entry.
 fn put_dangling<T: Sink>(sink: &mut T, pino: u32, name: &[u8], ino: u32) -> Result<(), DeviceFault>
-    ensures { Puts (T.taken sink.old) (T.taken sink.new) (T.failures sink.old) (T.failures sink.new)
-        (dangling_line (pino, name.now, ino)) result }
+    ensures { PutsTo T.Sink sink.old sink.new (dangling_line (pino, name.now, ino)) result }
 {
     let mut line = LineBuffer::new();
     write_start(&mut line, pino, ino);
@@ -47,8 +46,7 @@ fn put_dangling<T: Sink>(sink: &mut T, pino: u32, name: &[u8], ino: u32) -> Resu
 /// Puts the line of a mount that went well.
 #[tactic(auto, unfolding(crate::specs::Verdict::ok_line))]
 fn put_ok<T: Sink>(sink: &mut T, read_only: bool) -> Result<(), DeviceFault>
-    ensures { Puts (T.taken sink.old) (T.taken sink.new) (T.failures sink.old) (T.failures sink.new)
-        (ok_line read_only) result }
+    ensures { PutsTo T.Sink sink.old sink.new (ok_line read_only) result }
 {
     if read_only {
         put_text(sink, b"mount ok read-only\n")
@@ -68,8 +66,7 @@ fn write_fault(line: &mut LineBuffer, fault: MountFault)
 
 /// Puts the line of a mount that was refused.
 fn put_refused<T: Sink>(sink: &mut T, fault: MountFault) -> Result<(), DeviceFault>
-    ensures { Puts (T.taken sink.old) (T.taken sink.new) (T.failures sink.old) (T.failures sink.new)
-        (refused_line fault) result }
+    ensures { PutsTo T.Sink sink.old sink.new (refused_line fault) result }
 {
     let mut line = LineBuffer::new();
     write_fault(&mut line, fault);
@@ -79,8 +76,7 @@ fn put_refused<T: Sink>(sink: &mut T, fault: MountFault) -> Result<(), DeviceFau
 
 /// Puts the lines of these dangling entries.
 fn put_all_dangling<T: Sink>(sink: &mut T, entries: &[(u32, &[u8], u32)]) -> Result<(), DeviceFault>
-    ensures { Puts (T.taken sink.old) (T.taken sink.new) (T.failures sink.old) (T.failures sink.new)
-        (flat_map (λ x. dangling_line (x.0, x.1.now, x.2)) entries.now) result }
+    ensures { PutsTo T.Sink sink.old sink.new (flat_map (λ x. dangling_line (x.0, x.1.now, x.2)) entries.now) result }
 {
     for (pino, name, ino) in entries {
         put_dangling(sink, *pino, name, *ino)?;
@@ -102,8 +98,7 @@ fn shape_if(alloc: Global, mounted: &Mounted<'_>, asked: bool) -> Result<Option<
 /// Puts the line of a shape.
 #[tactic(auto, unfolding(crate::specs::Verdict::shape_line))]
 fn put_shape_line<T: Sink>(sink: &mut T, shape: bool) -> Result<(), DeviceFault>
-    ensures { Puts (T.taken sink.old) (T.taken sink.new) (T.failures sink.old) (T.failures sink.new)
-        (shape_line shape) result }
+    ensures { PutsTo T.Sink sink.old sink.new (shape_line shape) result }
 {
     if shape {
         put_text(sink, b"shape ok\n")
@@ -114,8 +109,7 @@ fn put_shape_line<T: Sink>(sink: &mut T, shape: bool) -> Result<(), DeviceFault>
 
 /// The same where the shape was asked for, and else nothing.
 fn put_shape<T: Sink>(sink: &mut T, shape: Option<bool>) -> Result<(), DeviceFault>
-    ensures { Puts (T.taken sink.old) (T.taken sink.new) (T.failures sink.old) (T.failures sink.new)
-        (shape_text shape) result }
+    ensures { PutsTo T.Sink sink.old sink.new (shape_text shape) result }
 {
     match shape {
         Some(shape) => put_shape_line(sink, shape),
