@@ -87,7 +87,8 @@ pub fn put_nodes<T: Sink>(
     line: usize,
     nodes: &[Standing],
 ) -> Result<(), DeviceFault>
-    ensures { PutsTo T.Sink sink.old sink.new (text_of_nodes telling (step_nodes line (length nodes.now) 1 nodes.now)) result }
+    ensures { PutsTo T.Sink sink.old sink.new
+        (text_of_nodes telling (step_nodes line (length nodes.now) 1 nodes.now)) result }
 {
     let mut text = LineBuffer::new();
     let mut i = 0;

@@ -47,7 +47,8 @@ pub(crate) fn put_entry<T: Sink>(
     sink: &mut T,
 ) -> Result<(), DeviceFault>
     requires { IsFoundIn mounted.now.state found.now }
-    ensures { PutsTo T.Sink sink.old sink.new (sign.now ++ changed_line times (entry_found mounted.now.state
+    ensures { PutsTo T.Sink sink.old sink.new
+        (sign.now ++ changed_line times (entry_found mounted.now.state
         (map (λ name. name.now) path.now) found.now)) result }
 {
     let mut line = LineBuffer::new();
@@ -75,7 +76,8 @@ pub(crate) fn put_place<T: Sink>(
     place: u64,
     sink: &mut T,
 ) -> Result<(), DeviceFault>
-    ensures { PutsTo T.Sink sink.old sink.new (bytes_differ_line (map (λ name. name.now) path.now) place) result }
+    ensures { PutsTo T.Sink sink.old sink.new
+        (bytes_differ_line (map (λ name. name.now) path.now) place) result }
 {
     let mut line = LineBuffer::new();
     write_place(&mut line, place);

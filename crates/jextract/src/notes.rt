@@ -29,7 +29,8 @@ fn reason_text(reason: Reason) -> &'static [u8]
 
 /// Puts why an object was left out, and ends its line.
 fn put_reason<T: Sink>(sink: &mut T, reason: Reason) -> Result<(), DeviceFault>
-    ensures { PutsTo T.Sink sink.old sink.new (codes ": " ++ (left_out_reason reason ++ 10 ∷ [])) result }
+    ensures { PutsTo T.Sink sink.old sink.new
+        (codes ": " ++ (left_out_reason reason ++ 10 ∷ [])) result }
 {
     put_text(sink, b": ")?;
     put_text(sink, reason_text(reason))?;
@@ -39,7 +40,8 @@ fn put_reason<T: Sink>(sink: &mut T, reason: Reason) -> Result<(), DeviceFault>
 /// Puts the line of an object that was left out.
 #[tactic(auto, unfolding(crate::specs::Outcomes::line_of_left_out))]
 pub(crate) fn tell<T: Sink>(sink: &mut T, path: &[&[u8]], reason: Reason) -> Result<(), DeviceFault>
-    ensures { PutsTo T.Sink sink.old sink.new (line_of_left_out (map (λ name. name.now) path.now) reason) result }
+    ensures { PutsTo T.Sink sink.old sink.new
+        (line_of_left_out (map (λ name. name.now) path.now) reason) result }
 {
     put_text(sink, b"left out ")?;
     put_path(sink, path)?;

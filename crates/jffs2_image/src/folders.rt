@@ -385,7 +385,8 @@ pub(crate) fn read_fault(fault: ReadFault, name: &str) -> ProgramFault<'_>
 
 /// Puts the listing of a folder that was read.
 pub(crate) fn put_read<T: Sink>(read: &jfolder::Folder, sink: &mut T) -> Result<(), DeviceFault>
-    ensures { PutsTo T.Sink sink.old sink.new (listing_text read.now.root read.now.items.items) result }
+    ensures { PutsTo T.Sink sink.old sink.new
+        (listing_text read.now.root read.now.items.items) result }
 {
     put_listing(&read.root, read.items.as_slice(), sink)
 }

@@ -35,7 +35,8 @@ fn put_owner<T: Sink>(
     before: Settings,
     attributes: &Attributes,
 ) -> Result<(), DeviceFault>
-    ensures { PutsTo T.Sink sink.old sink.new (lines_text (owner_words before attributes.now)) result }
+    ensures { PutsTo T.Sink sink.old sink.new
+        (lines_text (owner_words before attributes.now)) result }
 {
     if attributes.uid == before.uid && attributes.gid == before.gid {
         return Ok(());
@@ -163,7 +164,8 @@ fn put_device<'a, T: Sink>(
     minor: u32,
     path: &'a [u8],
 ) -> Result<(), DeviceFault>
-    ensures { PutsTo T.Sink sink.old sink.new (device_text device mode major minor path.now) result }
+    ensures { PutsTo T.Sink sink.old sink.new
+        (device_text device mode major minor path.now) result }
 {
     put_pieces(
         sink,
@@ -185,7 +187,8 @@ fn put_device<'a, T: Sink>(
 
 /// What makes an object.
 fn put_object<T: Sink>(sink: &mut T, item: &Item) -> Result<(), DeviceFault>
-    ensures { PutsTo T.Sink sink.old sink.new (lines_text (object_words (string_bytes item.now.path) item.now.attributes item.now.what))
+    ensures { PutsTo T.Sink sink.old sink.new
+        (lines_text (object_words (string_bytes item.now.path) item.now.attributes item.now.what))
         result }
 {
     let path = item.path.as_bytes();

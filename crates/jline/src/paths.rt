@@ -18,7 +18,8 @@ fn put_name<T: Sink>(sink: &mut T, name: &[u8]) -> Result<(), DeviceFault>
 }
 
 fn put_names<T: Sink>(sink: &mut T, path: &[&[u8]]) -> Result<(), DeviceFault>
-    ensures { PutsTo T.Sink sink.old sink.new (flat_map (λ name. name_shown name.now) path.now) result }
+    ensures { PutsTo T.Sink sink.old sink.new
+        (flat_map (λ name. name_shown name.now) path.now) result }
 {
     for name in path {
         put_name(sink, name)?;
@@ -29,7 +30,8 @@ fn put_names<T: Sink>(sink: &mut T, path: &[&[u8]]) -> Result<(), DeviceFault>
 /// Puts a path, from its names: a slash before each, and the names escaped; of no names a slash
 /// alone. Takes no memory.
 pub fn put_path<T: Sink>(sink: &mut T, path: &[&[u8]]) -> Result<(), DeviceFault>
-    ensures { PutsTo T.Sink sink.old sink.new (path_shown (map (λ name. name.now) path.now)) result }
+    ensures { PutsTo T.Sink sink.old sink.new
+        (path_shown (map (λ name. name.now) path.now)) result }
 {
     if path.is_empty() {
         return put_text(sink, b"/");

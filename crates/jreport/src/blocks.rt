@@ -69,7 +69,8 @@ pub fn put_part<'a, E: Order, T: Sink>(
     requires whole_words { length block % 4 ≡ 0 }
     requires addressed { start + length block < 2 ^ 32 }
     requires room { CountsHaveRoom counts.old (length block + 1) }
-    ensures puts { PutsTo T.Sink sink.old sink.new (lines_of_block counts.old.blocks (extents E.order start block.entry)) result }
+    ensures puts { PutsTo T.Sink sink.old sink.new
+        (lines_of_block counts.old.blocks (extents E.order start block.entry)) result }
     ensures counts { OnOk result
         (counts.new ≡ block_counted counts.old (extents E.order start block.entry)) }
     ensures scan { (before : List Extent) → IfSome partial.old (HasScanned before)
@@ -97,7 +98,8 @@ pub fn put_block<E: Order, T: Sink>(
     requires whole_words { length block.now % 4 ≡ 0 }
     requires addressed { start + length block.now < 2 ^ 32 }
     requires room { CountsHaveRoom counts.old (length block.now + 1) }
-    ensures puts { PutsTo T.Sink sink.old sink.new (lines_of_block counts.old.blocks (extents E.order start block.now)) result }
+    ensures puts { PutsTo T.Sink sink.old sink.new
+        (lines_of_block counts.old.blocks (extents E.order start block.now)) result }
     ensures counts { OnOk result
         (counts.new ≡ block_counted counts.old (extents E.order start block.now)) }
 {

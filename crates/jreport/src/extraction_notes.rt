@@ -92,7 +92,8 @@ pub fn put_notes<T: Sink>(
     attributes: u64,
     sink: &mut T,
 ) -> Result<(), DeviceFault>
-    ensures { PutsTo T.Sink sink.old sink.new (extraction_notes_of findings lost_bits attributes) result }
+    ensures { PutsTo T.Sink sink.old sink.new
+        (extraction_notes_of findings lost_bits attributes) result }
 {
     put_findings(findings, sink)?;
     put_lost_bits(lost_bits, sink)?;

@@ -56,7 +56,8 @@ fn put_blocks<'a, E: Order, T: Sink>(
     requires size { IsTrue (is_block_size size) }
     requires small { length image.now ≤ greatest_image }
     requires scan { IfSome partial.old (HasScanned []) }
-    ensures puts { PutsTo T.Sink sink.old sink.new (lines_below E.order size image.now (block_count size image.now)) result }
+    ensures puts { PutsTo T.Sink sink.old sink.new
+        (lines_below E.order size image.now (block_count size image.now)) result }
     ensures counts { IfOk result
         (λ counts. counts ≡ counts_of E.order size image.now (block_count size image.now)) }
     ensures scan { OnOk result

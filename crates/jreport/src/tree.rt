@@ -87,7 +87,8 @@ fn put_target<T: Sink>(
     sink: &mut T,
 ) -> Result<(), DeviceFault>
     requires { length (readable mounted.now.state ino) ≡ size }
-    ensures { PutsTo T.Sink sink.old sink.new (target_shown (readable mounted.now.state ino)) result }
+    ensures { PutsTo T.Sink sink.old sink.new
+        (target_shown (readable mounted.now.state ino)) result }
 {
     if size as usize > GREATEST_TARGET {
         return put_text(sink, b" -> (long)");
@@ -109,7 +110,8 @@ pub fn put_tail<T: Sink>(
     sink: &mut T,
 ) -> Result<(), DeviceFault>
     requires { option_map shown (tree.object mounted.now.state ino) ≡ Some object.now }
-    ensures { PutsTo T.Sink sink.old sink.new (tail_shown (readable mounted.now.state ino) object.now.kind again) result }
+    ensures { PutsTo T.Sink sink.old sink.new
+        (tail_shown (readable mounted.now.state ino) object.now.kind again) result }
 {
     match object.kind {
         Kind::Symlink => put_target(mounted, ino, object.size, sink),
@@ -129,7 +131,8 @@ pub fn put_object<T: Sink>(
     sink: &mut T,
 ) -> Result<(), DeviceFault>
     requires { option_map shown (tree.object mounted.now.state ino) ≡ Some object.now }
-    ensures { PutsTo T.Sink sink.old sink.new (object_line mounted.now.state (map (λ name. name.now) path.now) ino object.now again)
+    ensures { PutsTo T.Sink sink.old sink.new
+        (object_line mounted.now.state (map (λ name. name.now) path.now) ino object.now again)
         result }
 {
     let mut line = LineBuffer::new();

@@ -76,7 +76,8 @@ fn put_refused<T: Sink>(sink: &mut T, fault: MountFault) -> Result<(), DeviceFau
 
 /// Puts the lines of these dangling entries.
 fn put_all_dangling<T: Sink>(sink: &mut T, entries: &[(u32, &[u8], u32)]) -> Result<(), DeviceFault>
-    ensures { PutsTo T.Sink sink.old sink.new (flat_map (λ x. dangling_line (x.0, x.1.now, x.2)) entries.now) result }
+    ensures { PutsTo T.Sink sink.old sink.new
+        (flat_map (λ x. dangling_line (x.0, x.1.now, x.2)) entries.now) result }
 {
     for (pino, name, ino) in entries {
         put_dangling(sink, *pino, name, *ino)?;
