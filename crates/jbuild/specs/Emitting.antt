@@ -2,6 +2,7 @@
 use Rattle.std.specs.Prelude.{◌≡◌, ℕ, Bool, false, List, Option, Err, IsOk}
 use Rattle.std.specs.Io.KnownBytes.{Appends}
 use Rattle.flashbase.specs.Device.{PutsPart, next_count}
+use Rattle.flashbase.specs.Sinks.{SinkChange}
 use Rattle.jnode.specs.declared.order.Endian.{Endian}
 use Rattle.jmount.specs.Mount.{Mount}
 use Rattle.jsteps.specs.Nodes.{Indexed}
@@ -17,14 +18,6 @@ use Rattle.jlog.specs.declared.fault.SessionFault.{SessionFault}
 use Rattle.jlog.specs.declared.fault.SessionFault.TheVariants as fault
 use Rattle.jlog.specs.declared.report.Place.{Place}
 
--- the sink that an image goes out to, before and after: what is known of its bytes, and how often
--- it failed
-pub record ImageChange : Type 0 where
-  pub old : Option (List ℕ)
-  pub new : Option (List ℕ)
-  pub before : ℕ
-  pub now : ℕ
-
 -- the base's bytes up to where writing goes on
 abbrev pub front_before : Endian → ℕ → ℕ → List ℕ → List ℕ
 front_before e size blocks base = front_of base (resume_address e size blocks base)
@@ -33,7 +26,7 @@ front_before e size blocks base = front_of base (resume_address e size blocks ba
 -- so many were accepted, their nodes have these places, and this stopped them. What they did
 -- survives a stop of writing at any byte.
 pub record IsEmitted (page : Page) (e : Endian) (size blocks : ℕ) (base : List ℕ) (ops : List Op)
-    (accepted : ℕ) (places : List Place) (stopped : Option SessionFault) (sink : ImageChange)
+    (accepted : ℕ) (places : List Place) (stopped : Option SessionFault) (sink : SinkChange)
     : Type 0 where
   pub between : Option (List ℕ)
   pub end : ℕ
@@ -48,7 +41,7 @@ pub record IsEmitted (page : Page) (e : Endian) (size blocks : ℕ) (base : List
 
 -- Nothing was run: only a beginning of the base's bytes went out, or all of them and then memory
 -- ran out; or the image is not gone on from, and nothing went out.
-abbrev pub IsNotEmitted : Page → Endian → ℕ → ℕ → Mount → ImageChange → SessionFault → Type 0
+abbrev pub IsNotEmitted : Page → Endian → ℕ → ℕ → Mount → SinkChange → SessionFault → Type 0
 IsNotEmitted page e size blocks m sink fault.Sink =
     IsOk (resumes_by page e size blocks m)
     × PutsPart sink.old sink.new (front_before e size blocks m.image)

@@ -1,5 +1,6 @@
 -- How long what goes out is, by the places that are told.
 use Rattle.std.specs.Prelude.{◌≡◌, ℕ, ◌-◌, ◌%◌, ◌<◌, IsTrue, List, length, map, None}
+use Rattle.flashbase.specs.Sinks.{SinkChange}
 use Rattle.jnode.specs.declared.order.Endian.{Endian}
 use Rattle.jsteps.specs.Planning.{page_size}
 use Rattle.jsteps.specs.Refusals.{steps_of_first}
@@ -11,7 +12,7 @@ use Rattle.jlog.specs.Places.{places}
 use Rattle.jlog.specs.Running.{shown_place, written}
 use Rattle.jlog.specs.declared.report.Place.{Place}
 use Rattle.jbuild.specs.Accepted.{end_of_places}
-use Rattle.jbuild.specs.Emitting.{ImageChange, IsEmitted}
+use Rattle.jbuild.specs.Emitting.{IsEmitted}
 
 -- what goes out after the base's front for the first operations
 abbrev pub output_of_first : Page → Endian → ℕ → ℕ → List ℕ → List Op → ℕ → List ℕ
@@ -35,7 +36,7 @@ PlacesTellLength = (e : Endian) (size from : ℕ) (nodes : List (List ℕ)) → 
 -- so the line tells how long what went out for operations is that were all accepted.
 abbrev pub LineTellsLength : Type 0
 LineTellsLength = (page : Page) (e : Endian) (size blocks : ℕ) (base : List ℕ) (ops : List Op)
-    (accepted : ℕ) (places : List Place) (sink : ImageChange)
+    (accepted : ℕ) (places : List Place) (sink : SinkChange)
     → IsTrue (is_flash_of size blocks base)
     → IsEmitted page e size blocks base ops accepted places None sink
     → TellsLength page e size blocks base ops accepted places

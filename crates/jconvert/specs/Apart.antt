@@ -2,6 +2,7 @@
 use Rattle.std.specs.Prelude.{◌≡◌, ◌⊎◌, ℕ, IsTrue, List, map, length, filter_map, count_by, Option, Some, None, option_map, Result, Ok, Err}
 use Rattle.std.specs.Io.KnownBytes.{Appends}
 use Rattle.flashbase.specs.Device.{PutsPart, next_count}
+use Rattle.flashbase.specs.Sinks.{SinkChange}
 use Rattle.jnode.specs.Writing.{canonical}
 use Rattle.jnode.specs.declared.node.NodeRef.{NodeRef}
 use Rattle.jnode.specs.declared.node.Seen.{Seen}
@@ -14,7 +15,7 @@ use Rattle.jlog.specs.Places.{fit, end_of_all}
 use Rattle.jexpand.specs.Expanded.{expanded_node}
 use Rattle.jexpand.specs.declared.fault.ConvertFault.{ConvertFault}
 use Rattle.jexpand.specs.declared.fault.ConvertFault.TheVariants as fault
-use Rattle.jconvert.specs.Converting.{OutputChange, greatest_blocks, is_changed, convert_fault}
+use Rattle.jconvert.specs.Converting.{greatest_blocks, is_changed, convert_fault}
 use Rattle.jconvert.specs.declared.apart.Apart.{Apart}
 use Rattle.jconvert.specs.declared.converted.Converted.{Converted}
 
@@ -36,7 +37,7 @@ HaveRoom e size nodes = IsTrue (fit size (greatest_blocks size) 0 (map (canonica
 
 -- What a call does that puts an image of nodes, and answers where it ends: all of it goes out; or a
 -- beginning, where the sink failed once, or memory ran out.
-abbrev pub WritesNodes : Endian → ℕ → List NodeRef → OutputChange → Result ℕ ConvertFault → Type 0
+abbrev pub WritesNodes : Endian → ℕ → List NodeRef → SinkChange → Result ℕ ConvertFault → Type 0
 WritesNodes e size nodes sink (Ok end) =
     HaveRoom e size nodes × Appends sink.old sink.new (image_of_nodes e size nodes)
     × (end ≡ end_of_all size 0 (map (canonical e) nodes)) × (sink.now ≡ sink.before)
@@ -64,7 +65,7 @@ PutsPartApart e size image old new = (stay : List NodeRef) × (left : List LeftO
 
 -- What decompressing without nodes that clash answers, into a sink: it goes out, with what is told
 -- of it; or the image is refused before a byte is put; or a beginning went out.
-abbrev pub DecompressesApart : Endian → ℕ → List ℕ → OutputChange → Result Apart ConvertFault
+abbrev pub DecompressesApart : Endian → ℕ → List ℕ → SinkChange → Result Apart ConvertFault
     → Type 0
 DecompressesApart e size image sink (Ok done) =
     (convert_fault e size image ≡ None)

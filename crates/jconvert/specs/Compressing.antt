@@ -4,6 +4,7 @@ use Rattle.std.specs.Option.{option_or}
 use Rattle.std.specs.Io.KnownBytes.{Appends}
 use Rattle.flashbase.specs.Bytes.{pad4_of}
 use Rattle.flashbase.specs.Device.{PutsPart, next_count}
+use Rattle.flashbase.specs.Sinks.{SinkChange}
 use Rattle.jnode.specs.Compressed.{canonical_compressed, FitsCompressed, IsWritableCompressed}
 use Rattle.jnode.specs.Reading.{inode_len}
 use Rattle.jnode.specs.Writing.{canonical}
@@ -20,7 +21,7 @@ use Rattle.jexpand.specs.Expanded.{node_content, with_content, expanded_nodes}
 use Rattle.jexpand.specs.Refused.{node_fault}
 use Rattle.jexpand.specs.declared.fault.ConvertFault.{ConvertFault}
 use Rattle.jexpand.specs.declared.fault.ConvertFault.TheVariants as fault
-use Rattle.jconvert.specs.Converting.{OutputChange, flash_fault}
+use Rattle.jconvert.specs.Converting.{flash_fault}
 use Rattle.jconvert.specs.declared.converted.Converted.{Converted}
 
 -- ---- what may stand for a node
@@ -117,7 +118,7 @@ compress_fault e size image =
 
 -- What compressing into a sink answers: an image goes out for the one that is given, with what is
 -- told of it; or that one is refused before a byte is put; or a beginning went out.
-abbrev pub Compresses : Endian → ℕ → List ℕ → OutputChange → Result Converted ConvertFault → Type 0
+abbrev pub Compresses : Endian → ℕ → List ℕ → SinkChange → Result Converted ConvertFault → Type 0
 Compresses e size image sink (Ok told) =
     (compress_fault e size image ≡ None)
     × ((out : List ℕ) × IsPackedImage e size image out told.changed × Appends sink.old sink.new out

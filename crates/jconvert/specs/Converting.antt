@@ -3,6 +3,7 @@ use Rattle.std.specs.Prelude.{◌≡◌, ℕ, ◌/◌, ◌+◌, ◌<◌, Bool, t
 use Rattle.std.specs.Option.{option_or}
 use Rattle.std.specs.Io.KnownBytes.{Appends}
 use Rattle.flashbase.specs.Device.{PutsPart, next_count}
+use Rattle.flashbase.specs.Sinks.{SinkChange}
 use Rattle.jnode.specs.Writing.{canonical}
 use Rattle.jnode.specs.declared.order.Endian.{Endian}
 use Rattle.jnode.specs.declared.node.Seen.{Seen}
@@ -18,14 +19,6 @@ use Rattle.jexpand.specs.declared.fault.ConvertFault.TheVariants as fault
 use Rattle.jconvert.specs.declared.converted.Converted.{Converted}
 
 -- ---- what goes out
-
--- the sink that an image goes out to, before and after: what is known of its bytes, and how often
--- it failed
-pub record OutputChange : Type 0 where
-  pub old : Option (List ℕ)
-  pub new : Option (List ℕ)
-  pub before : ℕ
-  pub now : ℕ
 
 -- the written forms of the expanded nodes, in the order of their addresses
 abbrev pub expanded_forms : Endian → ℕ → List ℕ → List (List ℕ)
@@ -85,7 +78,7 @@ Converts e size image (Err f) = convert_fault e size image ≡ Some f
 
 -- What a call that writes the image does to a sink: all of it goes out, or a beginning, where the
 -- sink failed once or memory ran out. Nothing else is refused.
-abbrev pub WritesConverted : {T : Type 0} → Endian → ℕ → List ℕ → OutputChange
+abbrev pub WritesConverted : {T : Type 0} → Endian → ℕ → List ℕ → SinkChange
     → Result T ConvertFault → Type 0
 WritesConverted e size image sink (Ok _) =
     Appends sink.old sink.new (converted_image e size image) × (sink.now ≡ sink.before)
@@ -97,7 +90,7 @@ WritesConverted e size image sink (Err _) = ⊥
 
 -- What decompressing into a sink answers: the image goes out, with what is told of it; or it is
 -- refused before a byte is put; or a beginning went out. The sink comes back in any case.
-abbrev pub Decompresses : Endian → ℕ → List ℕ → OutputChange → Result Converted ConvertFault
+abbrev pub Decompresses : Endian → ℕ → List ℕ → SinkChange → Result Converted ConvertFault
     → Type 0
 Decompresses e size image sink (Ok told) =
     (convert_fault e size image ≡ None) × (told ≡ converted_of e size image)

@@ -2,6 +2,7 @@
 use Rattle.std.specs.Prelude.{◌≡◌, ℕ, List, [], ◌++◌, length, Some, MatchOption, Result, Ok, Err}
 use Rattle.std.specs.Io.KnownBytes.{Appends}
 use Rattle.flashbase.specs.Device.{PutsPart, next_count}
+use Rattle.flashbase.specs.Sinks.{SinkChange}
 use Rattle.jnode.specs.Writing.{canonical, filled}
 use Rattle.jnode.specs.declared.node.NodeRef.{NodeRef}
 use Rattle.jnode.specs.declared.node.Seen.{Seen}
@@ -11,7 +12,6 @@ use Rattle.jlog.specs.Output.{gap}
 use Rattle.jexpand.specs.Expanded.{expanded_node}
 use Rattle.jexpand.specs.declared.fault.ConvertFault.{ConvertFault}
 use Rattle.jexpand.specs.declared.fault.ConvertFault.TheVariants as fault
-use Rattle.jconvert.specs.Converting.{OutputChange}
 use Rattle.jconvert.specs.Tallying.{IsCursor}
 
 -- what goes out for a node of this form, from an address on
@@ -20,7 +20,7 @@ form_piece e size from form = gap e size from (place_after size from (length for
 
 -- It goes out, and the next one may begin behind it; or a beginning does, where the sink failed; or
 -- nothing, where there is no room for it.
-abbrev pub PutsForm : Endian → ℕ → ℕ → List ℕ → OutputChange → Result ℕ ConvertFault → Type 0
+abbrev pub PutsForm : Endian → ℕ → ℕ → List ℕ → SinkChange → Result ℕ ConvertFault → Type 0
 PutsForm e size from form sink (Ok next) =
     Appends sink.old sink.new (form_piece e size from form) × (sink.now ≡ sink.before)
     × (next ≡ end_after size from (length form)) × IsCursor size next
@@ -31,7 +31,7 @@ PutsForm e size from form sink (Err fault.OutOfMemory) =
 PutsForm e size from form sink (Err _) = ⊥
 
 -- What goes out for a sighted tile: its node, if it gives one.
-abbrev pub PutsTile : Endian → ℕ → List ℕ → ℕ × Seen → ℕ → OutputChange → Result ℕ ConvertFault
+abbrev pub PutsTile : Endian → ℕ → List ℕ → ℕ × Seen → ℕ → SinkChange → Result ℕ ConvertFault
     → Type 0
 PutsTile e size image s from sink (Ok next) =
     MatchOption (expanded_node e size image s) ((sink.new ≡ sink.old) × (next ≡ from))

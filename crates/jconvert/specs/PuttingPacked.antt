@@ -2,6 +2,7 @@
 use Rattle.std.specs.Prelude.{◌≡◌, ◌⊎◌, ℕ, ◌<◌, Bool, IsTrue, IsFalse, List, length, Option, Some, None, Result, Ok, Err, if◌then◌else◌}
 use Rattle.std.specs.Io.KnownBytes.{Appends}
 use Rattle.flashbase.specs.Device.{PutsPart, next_count}
+use Rattle.flashbase.specs.Sinks.{SinkChange}
 use Rattle.jnode.specs.Writing.{canonical}
 use Rattle.jnode.specs.declared.node.NodeRef.{NodeRef}
 use Rattle.jnode.specs.declared.order.Endian.{Endian}
@@ -9,7 +10,6 @@ use Rattle.jlog.specs.Places.{end_after}
 use Rattle.jexpand.specs.declared.fault.ConvertFault.{ConvertFault}
 use Rattle.jexpand.specs.declared.fault.ConvertFault.TheVariants as fault
 use Rattle.jconvert.specs.Compressing.{IsPackedForm, IsPackedImage, PutsPackedPart}
-use Rattle.jconvert.specs.Converting.{OutputChange}
 use Rattle.jconvert.specs.Putting.{form_piece}
 use Rattle.jconvert.specs.Tallying.{IsCursor}
 
@@ -33,7 +33,7 @@ PutsMade e size None from old new done = (new ≡ old) × (done.0 ≡ from) × I
 
 -- the same of a call: with how often the sink failed, before and after, and where the next node may
 -- begin, and whether the node is packed
-abbrev pub PutsPacked : Endian → ℕ → Option NodeRef → ℕ → OutputChange
+abbrev pub PutsPacked : Endian → ℕ → Option NodeRef → ℕ → SinkChange
     → Result (ℕ × Bool) ConvertFault → Type 0
 PutsPacked e size gives from sink (Ok done) =
     PutsMade e size gives from sink.old sink.new done × (sink.now ≡ sink.before)
@@ -48,7 +48,7 @@ PutsPacked e size gives from sink (Err _) = ⊥
 
 -- What a call does that writes an image of all nodes, and answers how many of them are packed, and
 -- how many bytes went out.
-abbrev pub WritesPacked : Endian → ℕ → List ℕ → OutputChange → Result (ℕ × ℕ) ConvertFault → Type 0
+abbrev pub WritesPacked : Endian → ℕ → List ℕ → SinkChange → Result (ℕ × ℕ) ConvertFault → Type 0
 WritesPacked e size image sink (Ok done) =
     ((out : List ℕ) × IsPackedImage e size image out done.0 × Appends sink.old sink.new out
     × (done.1 ≡ length out)) × (sink.now ≡ sink.before)

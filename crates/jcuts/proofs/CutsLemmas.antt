@@ -8,6 +8,7 @@ use Rattle.std.proofs.lemmas.Grind.{flat_map-append}
 use Rattle.std.proofs.lemmas.Option.{slice_get-get_or}
 use Rattle.flashbase.specs.Device.{PutsPart, next_count}
 use Rattle.flashbase.proofs.DeviceLemmas.{part_behind}
+use Rattle.flashbase.specs.Sinks.{SinkChange}
 use Rattle.jnode.specs.declared.order.Endian.{Endian}
 use Rattle.jmount.specs.Mount.{Mount}
 use Rattle.jsteps.specs.Nodes.{Indexed}
@@ -22,7 +23,7 @@ use Rattle.jlog.specs.declared.fault.SessionFault.TheVariants as session
 use Rattle.jlog.proofs.CodeLemmas.{flash_limits}
 use Rattle.jcuts.specs.Lines.{step_nodes, text_of_node, text_of_nodes, weak_count, end_text}
 use Rattle.jcuts.specs.Planning.{CanPlan}
-use Rattle.jcuts.specs.Cuts.{Point, Asked, SinkChange, base_point, resumes, IsNotResumed, IsPlannedAt, IsCounted, told_of_op, TellsOp, AdvancesTo, first_standings, first_nodes, first_text, last_text, AreAllTold, TellsOps, PutsCuts}
+use Rattle.jcuts.specs.Cuts.{Point, Asked, base_point, resumes, IsNotResumed, IsPlannedAt, IsCounted, told_of_op, TellsOp, AdvancesTo, first_standings, first_nodes, first_text, last_text, AreAllTold, TellsOps, PutsCuts}
 use Rattle.jcuts.specs.declared.cuts.Counts.{Counts}
 use Rattle.jcuts.specs.declared.cuts.CutsFault.{CutsFault}
 use Rattle.jcuts.specs.declared.cuts.CutsFault.TheVariants as told

@@ -3,6 +3,7 @@ use Rattle.std.specs.Prelude.{◌≡◌, ◌⊎◌, ℕ, ◌≤◌, IsTrue, IsFa
 use Rattle.std.specs.Io.KnownBytes.{Appends}
 use Rattle.byteorder.specs.declared.ByteOrder.{Ghosts as OfByteOrder}
 use Rattle.flashbase.specs.Device.{PutsPart, next_count}
+use Rattle.flashbase.specs.Sinks.{SinkChange}
 use Rattle.flashbase.specs.declared.sink.Sink.{Ghosts as OfSink}
 use Rattle.jnode.specs.declared.order.Endian.{Endian}
 use Rattle.jnode.specs.declared.order.Order.{Ghosts as OfOrder}
@@ -58,13 +59,6 @@ pub record AskedOne : Type 0 where
   pub telling : Telling
   pub op : Op
   pub line : ℕ
-
--- a sink before and after: what is known of its bytes, and how often it failed
-pub record SinkChange : Type 0 where
-  pub old : Option (List ℕ)
-  pub new : Option (List ℕ)
-  pub before : ℕ
-  pub now : ℕ
 
 -- ---- a log that is planned
 

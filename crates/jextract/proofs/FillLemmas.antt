@@ -11,9 +11,10 @@ use Rattle.std.proofs.lemmas.Grind.{common_steps, flat_map-append}
 use Rattle.std.proofs.lemmas.Bool.Decides.{nat_tests}
 use Rattle.flashbase.specs.Device.{PutsPart, next_count}
 use Rattle.flashbase.proofs.DeviceLemmas.{part_behind}
+use Rattle.flashbase.specs.Sinks.{SinkChange}
 use Rattle.jmount.specs.Tree.{State, entries_in}
 use Rattle.jextract.specs.Extracts.{AreTreeOutcomes, Extracts, DoesPart}
-use Rattle.jextract.specs.Folders.{Failures, FolderChange, Made, NotesChange, ReportsMore, refused_once}
+use Rattle.jextract.specs.Folders.{Failures, FolderChange, Made, ReportsMore, refused_once}
 use Rattle.jextract.specs.Making.{firsts_of}
 use Rattle.jextract.specs.Outcomes.{Task, Outcome, FirstPaths, AreOutcomes, AreFirstOutcomes, all_lines, all_made, root_made, failures_after, is_refusal, outcome_line, root_alone, tasks_in, tasks_of, Complete}
 use Rattle.jname.specs.Live.{Key}
@@ -127,7 +128,7 @@ reaches_fault s part owners w old now next f far stop =
 
 -- ---- the folder was made, and then the tree in it
 
-part_made : (s : State) (owners : Bool) (folder : FolderChange) (notes : NotesChange) (made : Option (List Made)) (outcomes : List Outcome) → ReportsMore folder.old made (root_made ∷ [])
+part_made : (s : State) (owners : Bool) (folder : FolderChange) (notes : SinkChange) (made : Option (List Made)) (outcomes : List Outcome) → ReportsMore folder.old made (root_made ∷ [])
     → AreFirstOutcomes s owners root_alone (tasks_in s [] 1) outcomes → ReportsMore made folder.new (flat_map (λ o. o.deeds) outcomes) → PutsPart notes.old notes.new (all_lines outcomes)
     → DoesPart s owners folder notes
 part_made s owners folder notes made outcomes first are adds part = (
@@ -145,7 +146,7 @@ pub not_made : (s : State) (owners : Bool) (folder : FolderChange) (told : Optio
     → DoesPart s owners folder (record { old = told; new = told; before = count; now = count })
 not_made s owners folder told count adds = ([], tt {0}, (0, adds), (0, Appends-nil told))
 
-pub extracts : (s : State) (owners : Bool) (folder : FolderChange) (notes : NotesChange) (made : Option (List Made)) (mid : Failures) (r : Result Totals ExtractFault)
+pub extracts : (s : State) (owners : Bool) (folder : FolderChange) (notes : SinkChange) (made : Option (List Made)) (mid : Failures) (r : Result Totals ExtractFault)
     → ReportsMore folder.old made (root_made ∷ []) → mid ≡ folder.before
     → Fills s owners (record { made = made; failures = mid; told = notes.old; told_failures = notes.before; totals = no_totals })
     (record { made = folder.new; failures = folder.now; told = notes.new; told_failures = notes.now; totals = no_totals }) r

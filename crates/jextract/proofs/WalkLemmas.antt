@@ -8,12 +8,13 @@ use Rattle.std.proofs.lemmas.Bool.Decides.{nat_tests}
 use Rattle.std.specs.FinMap.{entries}
 use Rattle.std.proofs.lemmas.List.Sums.{sum_by-cons}
 use Rattle.flashbase.specs.Device.{PutsPart}
+use Rattle.flashbase.specs.Sinks.{SinkChange}
 use Rattle.jmount.specs.Tree.{State, ObjectOf, object, has_bits, directory_bits, entries_in, is_directory, type_bits}
 use Rattle.jmount.specs.Shown.{kind_of, readable, shown}
 use Rattle.jmount.specs.declared.object.Kind.{Kind}
 use Rattle.jmount.specs.declared.object.Kind.TheVariants as kind
 use Rattle.jmount.specs.declared.object.Object.{Object}
-use Rattle.jextract.specs.Folders.{Failures, FolderChange, NotesChange, ReportsMore, refused_once}
+use Rattle.jextract.specs.Folders.{Failures, FolderChange, ReportsMore, refused_once}
 use Rattle.jextract.specs.Making.{HasBegun, Works, FirstsAfter, count_after}
 use Rattle.jextract.specs.Outcomes.{Task, Make, Complete, path_of_task, Outcome, FirstPaths, Plan, FollowsPlan, IsOutcomeOf, attributes_of, is_directory_kind, is_refusal, plan_of, plan_made, tasks_after, todo_if, firsts_after, firsts_if, firsts_with, line_if_left_out, outcome_line}
 use Rattle.jextract.specs.Paths.{host_path}
@@ -32,7 +33,7 @@ use Rattle.jmount.proofs.DirectoryNameLemmas.{length_entries}
 abbrev pub folder_change : Sight → Sight → FolderChange
 folder_change old new = record { old = old.made; new = new.made; before = old.failures; now = new.failures }
 
-abbrev pub notes_change : Sight → Sight → NotesChange
+abbrev pub notes_change : Sight → Sight → SinkChange
 notes_change old new = record { old = old.told; new = new.told; before = old.told_failures; now = new.told_failures }
 
 -- ---- one outcome

@@ -45,13 +45,6 @@ pub record FolderChange : Type 0 where
   pub before : Failures
   pub now : Failures
 
--- the notes before and after: what is known of their bytes, and how often they failed
-pub record NotesChange : Type 0 where
-  pub old : Option (List ℕ)
-  pub new : Option (List ℕ)
-  pub before : ℕ
-  pub now : ℕ
-
 abbrev pub refused_once : Failures → Failures
 refused_once n = record n { refused = next_count n.refused }
 

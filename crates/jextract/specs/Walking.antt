@@ -3,9 +3,10 @@ use Rattle.std.specs.Prelude.{◌≡◌, ℕ, ◌+◌, ◌-◌, ◌*◌, ◌<◌
 use Rattle.std.specs.FinMap.{entries}
 use Rattle.std.specs.Io.KnownBytes.{Appends}
 use Rattle.flashbase.specs.Device.{PutsPart, next_count}
+use Rattle.flashbase.specs.Sinks.{SinkChange}
 use Rattle.jmount.specs.Tree.{State, entries_in}
 use Rattle.jmount.specs.Find.{way_up}
-use Rattle.jextract.specs.Folders.{Failures, Made, NotesChange, ReportsMore}
+use Rattle.jextract.specs.Folders.{Failures, Made, ReportsMore}
 use Rattle.jextract.specs.Making.{firsts_of}
 use Rattle.jextract.specs.Extracts.{AreTreeOutcomes}
 use Rattle.jname.specs.Live.{Key}
@@ -37,7 +38,7 @@ totals_up n left_out lost_bits = record {
 
 -- A call tells of a task what is to be told, and counts it. The answer is whether the task was
 -- done.
-abbrev pub Settles : Result Bool MakeFault → List (List ℕ) → NotesChange → Totals → Totals
+abbrev pub Settles : Result Bool MakeFault → List (List ℕ) → SinkChange → Totals → Totals
     → Result Bool ExtractFault → Type 0
 Settles (Ok lost) path notes n after (Ok done) =
     (done ≡ true) × Appends notes.old notes.new [] × (notes.now ≡ notes.before)

@@ -8,6 +8,7 @@ use Rattle.std.proofs.lemmas.Bool.{cases_Bool, cond-true, cond-false}
 use Rattle.std.proofs.Common.{⊎_elim}
 use Rattle.flashbase.specs.Device.{CountsErr, PutsPart, Puts, next_count}
 use Rattle.flashbase.proofs.DeviceLemmas.{part_before, part_behind}
+use Rattle.flashbase.specs.Sinks.{SinkChange}
 use Rattle.jnode.specs.declared.node.NodeRef.{NodeRef}
 use Rattle.jnode.specs.declared.order.Endian.{Endian}
 use Rattle.jclash.specs.Parting.{Parts}
@@ -28,7 +29,7 @@ use Rattle.jffs2_image.specs.ClashRuns.{DecompressesApartFile, DecompressesApart
 use Rattle.jffs2_image.specs.Compressing.{CompressionAsked, FileWrites}
 use Rattle.jffs2_image.specs.Decompressing.{HoldsMade, IsNotWritten, fault_of_conversion}
 use Rattle.jffs2_image.specs.Host.{BlamesDecompress, MakesFile}
-use Rattle.jffs2_image.specs.InfoRuns.{FileReads, Passage}
+use Rattle.jffs2_image.specs.InfoRuns.{FileReads}
 use Rattle.jffs2_image.specs.Runs.{IsSaid, Says, note_after}
 use Rattle.jffs2_image.specs.Writes.{GivesText, Held, IsBehind}
 use Rattle.jffs2_image.specs.declared.clashes.ApartDone.{ApartDone}
@@ -54,7 +55,7 @@ apart_behind e size nodes old mid taken given before now (Err (convert.Full need
 
 -- ---- of an image
 
-abbrev still : Option (List ℕ) → ℕ → Passage
+abbrev still : Option (List ℕ) → ℕ → SinkChange
 still old n = record { old = old; new = old; before = n; now = n }
 
 -- nothing is made of it
@@ -136,7 +137,7 @@ apart_not_written held e size output image old n stay left (program.TooLong addr
 -- ---- to the last byte
 
 -- a fault stays what it is, whether the output was finished or not
-pub apart_failed : (A E : Type 0) (asked : CompressionAsked) (reading : FileReads) (writing : FileWrites) (untouched : Type 0) (output : Passage) (taken : Option (List ℕ)) (count : ℕ) (fault : ProgramFault)
+pub apart_failed : (A E : Type 0) (asked : CompressionAsked) (reading : FileReads) (writing : FileWrites) (untouched : Type 0) (output : SinkChange) (taken : Option (List ℕ)) (count : ℕ) (fault : ProgramFault)
     (finished : Result A E) (result : Result ApartDone ProgramFault)
     → DecompressesApartNamed writing.held asked.options.endian asked (reading.told asked.image) (record { old = output.old; new = taken; before = output.before; now = count }) (Err fault)
     → BlamesDecompress {T = ApartDone} untouched (MakesFile asked.output writing.names_old writing.names_new) reading.before reading.now writing.before writing.now (Err fault)

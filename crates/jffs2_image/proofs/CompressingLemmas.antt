@@ -4,6 +4,7 @@ use Rattle.std.specs.Prelude.{◌⊎◌, OnOk}
 use Rattle.std.specs.Result.{IsErrAnd}
 use Rattle.std.specs.Io.KnownBytes.{Keeps}
 use Rattle.flashbase.specs.Device.{CountsErr}
+use Rattle.flashbase.specs.Sinks.{SinkChange}
 use Rattle.flashbase.specs.declared.source.LoadFault.TheVariants as load
 use Rattle.jnode.specs.declared.order.Endian.{Endian}
 use Rattle.jlog.specs.declared.fault.SessionFault.TheVariants as session
@@ -19,7 +20,7 @@ use Rattle.jreport.specs.declared.faults.ProgramFault.TheVariants as program
 use Rattle.jffs2_image.specs.Compressing.{CompressesFile, CompressesNamed, CompressionAsked, FileWrites, FinishesCompression, GivesPacked, HoldsPacked}
 use Rattle.jffs2_image.specs.Decompressing.{HoldsMade, IsNotWritten, fault_of_conversion}
 use Rattle.jffs2_image.specs.Host.{BlamesDecompress, MakesFile}
-use Rattle.jffs2_image.specs.InfoRuns.{FileReads, Passage}
+use Rattle.jffs2_image.specs.InfoRuns.{FileReads}
 use Rattle.jffs2_image.specs.Runs.{Says}
 use Rattle.jffs2_image.specs.Writes.{Held, IsBehind}
 use Rattle.jffs2_image.proofs.HostLemmas.{part_all, same_behind}
@@ -63,7 +64,7 @@ holds_packed held e size image nodes done accepted all put = record {
   made = put.3;
 }
 
-abbrev still : Option (List ℕ) → ℕ → Passage
+abbrev still : Option (List ℕ) → ℕ → SinkChange
 still old n = record { old = old; new = old; before = n; now = n }
 
 -- nothing is made of it
@@ -139,7 +140,7 @@ blames_any S T u v rb rn mb mn (program.TooLong addr) blames = blames
 -- ---- to the last byte
 
 -- a fault stays what it is, whether the output was finished or not
-pub stays_failed : (A E : Type 0) (asked : CompressionAsked) (reading : FileReads) (writing : FileWrites) (untouched : Type 0) (output : Passage) (taken : Option (List ℕ)) (count : ℕ) (fault : ProgramFault)
+pub stays_failed : (A E : Type 0) (asked : CompressionAsked) (reading : FileReads) (writing : FileWrites) (untouched : Type 0) (output : SinkChange) (taken : Option (List ℕ)) (count : ℕ) (fault : ProgramFault)
     (finished : Result A E) (result : Result ℕ ProgramFault)
     → CompressesNamed writing.held asked.options.endian asked (reading.told asked.image) (record { old = output.old; new = taken; before = output.before; now = count }) (Err fault)
     → BlamesDecompress {T = ℕ} untouched (MakesFile asked.output writing.names_old writing.names_new) reading.before reading.now writing.before writing.now (Err fault)

@@ -5,6 +5,7 @@ use Rattle.std.specs.Io.KnownBytes.{Keeps}
 use Rattle.std.proofs.Math.Path.{fun_ext}
 use Rattle.std.specs.Result.{IsErrAnd}
 use Rattle.flashbase.specs.Device.{CountsErr, next_count}
+use Rattle.flashbase.specs.Sinks.{SinkChange}
 use Rattle.flashbase.specs.declared.source.LoadFault.TheVariants as load
 use Rattle.jnode.specs.declared.order.Endian.{Endian}
 use Rattle.jmount.specs.Mount.{Mount}
@@ -15,7 +16,7 @@ use Rattle.jlisting.specs.declared.line.Line.{Line}
 use Rattle.jbuild.specs.Operations.{ops_in}
 use Rattle.jbuild.specs.Parts.{part_contents}
 use Rattle.jbuild.specs.declared.parts.Parts.{Parts}
-use Rattle.jcuts.specs.Cuts.{Asked, SinkChange, PutsCuts}
+use Rattle.jcuts.specs.Cuts.{Asked, PutsCuts}
 use Rattle.jcuts.specs.declared.cuts.CutsFault.{CutsFault}
 use Rattle.jcuts.specs.declared.cuts.Flash.{Flash}
 use Rattle.jcuts.specs.declared.lines.Telling.TheVariants.{Nodes}

@@ -4,23 +4,23 @@ use Rattle.std.specs.Prelude.{OnOk}
 use Rattle.std.specs.Result.{IsErrAnd}
 use Rattle.std.specs.Io.KnownBytes.{Keeps}
 use Rattle.flashbase.specs.Device.{CountsErr}
+use Rattle.flashbase.specs.Sinks.{SinkChange}
 use Rattle.jcommand.specs.declared.parsed.Options.{Options}
 use Rattle.jmount.specs.Mounts.{Answers}
 use Rattle.jmount.specs.declared.fault.MountFault.{MountFault}
 use Rattle.jreport.specs.declared.faults.ProgramFault.{ProgramFault}
 use Rattle.jreport.specs.declared.faults.ProgramFault.TheVariants as program
-use Rattle.jffs2_image.specs.InfoRuns.{Passage}
 use Rattle.jffs2_image.specs.DamageRuns.{TellsDamage, FinishesDamage}
 use Rattle.jffs2_image.specs.Writes.{IsBehind}
 
 -- an image that does not mount is why
-pub not_mounted : (options : Options) (image : List ℕ) (output : Passage) (fault : MountFault) (r : Result ℕ ProgramFault) → IsErrAnd r (λ x. x ≡ program.Mount fault)
+pub not_mounted : (options : Options) (image : List ℕ) (output : SinkChange) (fault : MountFault) (r : Result ℕ ProgramFault) → IsErrAnd r (λ x. x ≡ program.Mount fault)
     → Answers options.endian options.geometry.block image (Err fault) → output.new ≡ output.old → output.now ≡ output.before → TellsDamage options image output r
 not_mounted options image output fault (Ok n) is why same count = absurd is
 not_mounted options image output fault (Err x) is why same count = inr (fault, ap Err is, why, same, count)
 
 -- a fault stays what it is, whether the output was finished or not
-pub stopped_telling : (A E : Type 0) (options : Options) (image : List ℕ) (output : Passage) (taken : Option (List ℕ)) (count : ℕ) (fault : ProgramFault) (finished : Result A E) (r : Result ℕ ProgramFault)
+pub stopped_telling : (A E : Type 0) (options : Options) (image : List ℕ) (output : SinkChange) (taken : Option (List ℕ)) (count : ℕ) (fault : ProgramFault) (finished : Result A E) (r : Result ℕ ProgramFault)
     → TellsDamage options image (record { old = output.old; new = taken; before = output.before; now = count }) (Err fault)
     → OnOk finished (Keeps taken output.new) → IsBehind output.new taken → CountsErr count output.now finished
     → IsErrAnd r (λ is. is ≡ fault) → FinishesDamage options image output r

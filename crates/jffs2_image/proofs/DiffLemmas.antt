@@ -4,21 +4,21 @@ use Rattle.std.specs.Prelude.{OnOk}
 use Rattle.std.specs.Result.{IsErrAnd}
 use Rattle.std.specs.Io.KnownBytes.{Keeps}
 use Rattle.flashbase.specs.Device.{CountsErr}
+use Rattle.flashbase.specs.Sinks.{SinkChange}
 use Rattle.jmount.specs.declared.fault.MountFault.{MountFault}
 use Rattle.jreport.specs.declared.faults.ProgramFault.{ProgramFault}
 use Rattle.jreport.specs.declared.faults.ProgramFault.TheVariants as program
-use Rattle.jffs2_image.specs.InfoRuns.{Passage}
 use Rattle.jffs2_image.specs.DiffRuns.{Comparing, DiffersOf, FinishesDiff, IsUnmounted}
 use Rattle.jffs2_image.specs.Writes.{IsBehind}
 
 -- an image that does not mount is why
-pub unmounted : (by : Comparing) (first second : List ℕ) (output : Passage) (fault : MountFault) (r : Result ℕ ProgramFault) → IsErrAnd r (λ x. x ≡ program.Mount fault)
+pub unmounted : (by : Comparing) (first second : List ℕ) (output : SinkChange) (fault : MountFault) (r : Result ℕ ProgramFault) → IsErrAnd r (λ x. x ≡ program.Mount fault)
     → IsUnmounted by first second fault → output.new ≡ output.old → output.now ≡ output.before → DiffersOf by first second output r
 unmounted by first second output fault (Ok n) is why same count = absurd is
 unmounted by first second output fault (Err x) is why same count = inr (fault, ap Err is, why, same, count)
 
 -- a fault stays what it is, whether the output was finished or not
-pub still_stopped : (A E : Type 0) (by : Comparing) (first second : List ℕ) (output : Passage) (taken : Option (List ℕ)) (count : ℕ) (fault : ProgramFault) (finished : Result A E) (r : Result ℕ ProgramFault)
+pub still_stopped : (A E : Type 0) (by : Comparing) (first second : List ℕ) (output : SinkChange) (taken : Option (List ℕ)) (count : ℕ) (fault : ProgramFault) (finished : Result A E) (r : Result ℕ ProgramFault)
     → DiffersOf by first second (record { old = output.old; new = taken; before = output.before; now = count }) (Err fault)
     → OnOk finished (Keeps taken output.new) → IsBehind output.new taken → CountsErr count output.now finished
     → IsErrAnd r (λ is. is ≡ fault) → FinishesDiff by first second output r

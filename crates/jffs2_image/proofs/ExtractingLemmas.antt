@@ -1,6 +1,7 @@
 -- What an extraction comes to whose image is decompressed, and of which a part is asked for.
 use Rattle.std.proofs.Common.{◌≡◌, ℕ, Bool, true, List, [], Option, Some, None, Result, Ok, Err, inl, inr, refl, sym, ap, subst, ◌∙◌}
 use Rattle.std.proofs.KnownBytes.{Appends-nil}
+use Rattle.flashbase.specs.Sinks.{SinkChange}
 use Rattle.jmount.specs.Tree.{State}
 use Rattle.jextract.specs.declared.fault.ExtractFault.TheVariants as extract
 use Rattle.jextract.proofs.MakingLemmas.{ReportsMore-nil}
@@ -11,7 +12,7 @@ use Rattle.jreport.specs.declared.findings.Found.{Found}
 use Rattle.jffs2_image.specs.Decompressing.{IsTaken}
 use Rattle.jffs2_image.specs.Folders.{Extracting, ExtractsBytes, ExtractsTaken, ExtractsTree, FillsAsked, FillsFolder, Filling, IsPathRead}
 use Rattle.jextract.specs.Folders.{Failures, Made}
-use Rattle.jffs2_image.specs.InfoRuns.{FileReads, Passage}
+use Rattle.jffs2_image.specs.InfoRuns.{FileReads}
 use Rattle.jffs2_image.specs.declared.decompressing.Taken.{Taken}
 use Rattle.jffs2_image.specs.declared.folders.Extracted.{Extracted}
 
@@ -53,7 +54,7 @@ pub none_extracted : (s : State) (x : Extracting) (made : Option (List Made)) (f
 none_extracted s x made failures told count = (([], tt {0}, (0, ReportsMore-nil made), (0, Appends-nil told)), refl, refl)
 
 -- the path that a word stands for, as it was read
-pub filled_as_read : (d : Bool) (x : Extracting) (word items now image : List ℕ) (reading : FileReads) (old new : List ℕ → Option (List Made)) (notes : Passage)
+pub filled_as_read : (d : Bool) (x : Extracting) (word items now image : List ℕ) (reading : FileReads) (old new : List ℕ → Option (List Made)) (notes : SinkChange)
     (r : Result Extracted ProgramFault) → x.path ≡ Some word → path_of word ≡ Some items → now ≡ items
     → FillsFolder d (record x { path = Some now }) image reading old new notes r → FillsAsked d x image reading old new notes r
 filled_as_read d x word items now image reading old new notes r is read same fills = inl (

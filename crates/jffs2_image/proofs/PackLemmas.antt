@@ -4,20 +4,21 @@ use Rattle.std.specs.Prelude.{OnOk}
 use Rattle.std.specs.Result.{IsErrAnd}
 use Rattle.std.specs.Io.KnownBytes.{Keeps}
 use Rattle.flashbase.specs.Device.{CountsErr}
+use Rattle.flashbase.specs.Sinks.{SinkChange}
 use Rattle.jcommand.specs.Parsed.{PackingParsed}
 use Rattle.jfolder.specs.Known.{Known}
 use Rattle.jfolder.specs.declared.found.Options.{Options}
 use Rattle.jreport.specs.declared.faults.ProgramFault.{ProgramFault}
 use Rattle.jffs2_image.specs.Compressing.{FileWrites}
 use Rattle.jffs2_image.specs.Folders.{settings}
-use Rattle.jffs2_image.specs.InfoRuns.{FileReads, Passage}
+use Rattle.jffs2_image.specs.InfoRuns.{FileReads}
 use Rattle.jffs2_image.specs.PackRuns.{PackAround, PacksFolder, PutsText, ReadsGiven, ReadsListing, WritesText}
 use Rattle.jffs2_image.specs.Writes.{IsBehind}
 use Rattle.jffs2_image.specs.declared.packing.Listed.{Listed}
 use Rattle.jffs2_image.specs.declared.weak.Notes.{Notes}
 
 -- a fault stays what it is, whether the output was finished or not
-pub stays_unwritten : (A E : Type 0) (asked : PackingParsed) (text : List ℕ) (u : Type 0) (reading : FileReads) (writing : FileWrites) (output : Passage) (notes : Notes) (taken : Option (List ℕ)) (count : ℕ)
+pub stays_unwritten : (A E : Type 0) (asked : PackingParsed) (text : List ℕ) (u : Type 0) (reading : FileReads) (writing : FileWrites) (output : SinkChange) (notes : Notes) (taken : Option (List ℕ)) (count : ℕ)
     (fault : ProgramFault) (finished : Result A E) (result : Result ℕ ProgramFault)
     → PutsText asked text u reading writing (record { old = output.old; new = taken; before = output.before; now = count }) notes (Err fault)
     → OnOk finished (Keeps taken output.new) → IsBehind output.new taken → CountsErr count output.now finished → IsErrAnd result (λ is. is ≡ fault)
@@ -30,7 +31,7 @@ stays_unwritten A E asked text u reading writing output notes taken count fault 
 
 -- ---- a folder whose listing was read
 
-reads_text : (known : Known) (options : Options) (name : List ℕ) (notes : Passage) (listed : Listed) → ReadsGiven known options name notes (Ok listed) → ReadsListing known options name notes (Ok listed)
+reads_text : (known : Known) (options : Options) (name : List ℕ) (notes : SinkChange) (listed : Listed) → ReadsGiven known options name notes (Ok listed) → ReadsListing known options name notes (Ok listed)
 reads_text known options name notes listed (inl is) = is
 reads_text known options name notes listed (inr is) = cc
 

@@ -4,6 +4,7 @@ use Rattle.std.specs.Prelude.{◌⊎◌, IsTrue, IsFalse, IsOk, OnOk, flat_map, 
 use Rattle.std.proofs.Math.Path.{fun_ext}
 use Rattle.std.proofs.lemmas.Bool.{and_parts, false≢true}
 use Rattle.std.proofs.lemmas.List.{append-nil}
+use Rattle.flashbase.specs.Sinks.{SinkChange}
 use Rattle.jnode.specs.declared.order.Endian.{Endian}
 use Rattle.jmount.specs.Mount.{Mount}
 use Rattle.jsteps.specs.Nodes.{Indexed, advanced_all}
@@ -25,7 +26,7 @@ use Rattle.jlog.specs.declared.report.Place.{Place}
 use Rattle.jlog.proofs.RoomLemmas.{room_goes_on}
 use Rattle.jlog.proofs.RunLemmas.{fit_first}
 use Rattle.jlog.proofs.RunningLemmas.{written_on}
-use Rattle.jcuts.specs.Cuts.{Asked, SinkChange, DeclinesNext, IsDeclined, IsNotResumed, PutsCuts, base_point, resumes}
+use Rattle.jcuts.specs.Cuts.{Asked, DeclinesNext, IsDeclined, IsNotResumed, PutsCuts, base_point, resumes}
 use Rattle.jcuts.specs.Lines.{text_of_nodes}
 use Rattle.jcuts.specs.Telling.{first_told}
 use Rattle.jcuts.specs.declared.cuts.CutsFault.TheVariants as told

@@ -2,6 +2,7 @@
 use Rattle.std.specs.Prelude.{◌≡◌, ◌⊎◌, ◌==◌, ℕ, Bool, true, false, List, [], ◌++◌, length, Option, Some, None, Result, Ok, Err, codes, flat_map, if◌then◌else◌}
 use Rattle.std.specs.Io.KnownBytes.{Appends}
 use Rattle.flashbase.specs.Device.{PutsPart, next_count}
+use Rattle.flashbase.specs.Sinks.{SinkChange}
 use Rattle.jnode.specs.declared.node.NodeRef.{NodeRef}
 use Rattle.jnode.specs.declared.order.Endian.{Endian}
 use Rattle.jclash.specs.Parting.{Parts}
@@ -23,7 +24,7 @@ use Rattle.jreport.specs.declared.faults.ProgramFault.TheVariants as program
 use Rattle.jffs2_image.specs.Compressing.{CompressionAsked, FileWrites}
 use Rattle.jffs2_image.specs.Decompressing.{HoldsMade, IsNotConverted, IsNotWritten, line_of_counts}
 use Rattle.jffs2_image.specs.Host.{AreLoaded, BlamesDecompress, MakesFile}
-use Rattle.jffs2_image.specs.InfoRuns.{FileReads, Passage}
+use Rattle.jffs2_image.specs.InfoRuns.{FileReads}
 use Rattle.jffs2_image.specs.Runs.{Finishes, IsSaid}
 use Rattle.jffs2_image.specs.Writes.{Held, IsUnreadFile}
 use Rattle.jffs2_image.specs.declared.clashes.ApartDone.{ApartDone}
@@ -62,7 +63,7 @@ IsNotApart held e size output image fault = (convert_fault e size image ≡ None
 -- An image of the nodes that stay is given to a file that is made, and told in a line; the answer
 -- has the nodes that are left out, and how many findings the image has that was read. Or no file is
 -- made, since nothing is made of the image; or one is made, and not written to its end.
-abbrev pub DecompressesApartFile : Held → Endian → ℕ → List ℕ → List ℕ → Passage
+abbrev pub DecompressesApartFile : Held → Endian → ℕ → List ℕ → List ℕ → SinkChange
     → Result ApartDone ProgramFault → Type 0
 DecompressesApartFile held e size output image told (Ok done) =
     ((counts : Converted) × HoldsApart held e size image counts done.left.items
@@ -78,7 +79,7 @@ DecompressesApartFile held e size output image told (Err fault) =
 
 -- the same of the file of a name, of which the host tells these bytes; or it can't be read to its
 -- end
-abbrev pub DecompressesApartNamed : Held → Endian → CompressionAsked → Option (List ℕ) → Passage
+abbrev pub DecompressesApartNamed : Held → Endian → CompressionAsked → Option (List ℕ) → SinkChange
     → Result ApartDone ProgramFault → Type 0
 DecompressesApartNamed held e asked bytes told answer =
     ((image : List ℕ) × AreLoaded bytes image
@@ -107,7 +108,7 @@ outcome_of_apart (Err fault) = outcome.Fault
 -- The file of a name is decompressed into that of another, all that was put is given on, and a
 -- fault is blamed on the file that failed. `untouched`: no file is made.
 pub record FinishesApart (asked : CompressionAsked) (reading : FileReads) (writing : FileWrites)
-    (untouched : Type 0) (output : Passage) (result : Result ApartDone ProgramFault) : Type
+    (untouched : Type 0) (output : SinkChange) (result : Result ApartDone ProgramFault) : Type
     0 where
   pub taken : Option (List ℕ)
   pub count : ℕ
@@ -124,7 +125,7 @@ pub record FinishesApart (asked : CompressionAsked) (reading : FileReads) (writi
 
 -- the same as a command
 pub record EndsApart (asked : CompressionAsked) (reading : FileReads) (writing : FileWrites)
-    (untouched : Type 0) (output errors : Passage) (result : Outcome) : Type 0 where
+    (untouched : Type 0) (output errors : SinkChange) (result : Outcome) : Type 0 where
   pub answer : Result ApartDone ProgramFault
   pub decompresses : FinishesApart asked reading writing untouched output answer
   pub said : IsSaid errors.old errors.new errors.before errors.now (said_of_apart answer)
@@ -132,7 +133,7 @@ pub record EndsApart (asked : CompressionAsked) (reading : FileReads) (writing :
 
 -- `decompress --clashes higher`, of what is given
 pub record RunsApart (args : List (List ℕ)) (reading : FileReads) (writing : FileWrites)
-    (untouched : Type 0) (output errors : Passage) (result : Outcome) : Type 0 where
+    (untouched : Type 0) (output errors : SinkChange) (result : Outcome) : Type 0 where
   pub asked : CompressionAsked
   pub parsed : parsed_from args ≡ Some (ApartParsed asked.options asked.image asked.output)
   pub faultless : IsFaultless args

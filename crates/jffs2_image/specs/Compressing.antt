@@ -2,6 +2,7 @@
 use Rattle.std.specs.Prelude.{◌≡◌, ◌≢◌, ◌⊎◌, ℕ, Bool, List, length, Option, Some, None, Result, Ok, Err}
 use Rattle.std.specs.Io.KnownBytes.{Appends}
 use Rattle.flashbase.specs.Device.{PutsPart, next_count}
+use Rattle.flashbase.specs.Sinks.{SinkChange}
 use Rattle.jnode.specs.declared.order.Endian.{Endian}
 use Rattle.jexpand.specs.Expanded.{expanded_nodes}
 use Rattle.jexpand.specs.declared.fault.ConvertFault.{ConvertFault}
@@ -19,7 +20,7 @@ use Rattle.jreport.specs.declared.faults.ProgramFault.{ProgramFault}
 use Rattle.jreport.specs.declared.faults.ProgramFault.TheVariants as program
 use Rattle.jffs2_image.specs.Decompressing.{HoldsMade, IsNotWritten, fault_of_conversion}
 use Rattle.jffs2_image.specs.Host.{AreLoaded, BlamesDecompress, MakesFile}
-use Rattle.jffs2_image.specs.InfoRuns.{FileReads, Passage}
+use Rattle.jffs2_image.specs.InfoRuns.{FileReads}
 use Rattle.jffs2_image.specs.Runs.{Finishes, Says, answer_finished, note_after}
 use Rattle.jffs2_image.specs.Writes.{GivesText, Held, IsUnreadFile}
 
@@ -57,7 +58,7 @@ line_of_packed c = compression_line c.changed c.nodes c.bytes
 -- An image of the same nodes, compressed, is given to a file that is made, and told in a line; the
 -- answer is how many findings the image that was read has. Or no file is made, since nothing is
 -- made of the image; or one is made, and not written to its end.
-abbrev pub CompressesFile : Held → Endian → ℕ → List ℕ → List ℕ → Passage
+abbrev pub CompressesFile : Held → Endian → ℕ → List ℕ → List ℕ → SinkChange
     → Result ℕ ProgramFault → Type 0
 CompressesFile held e size output image told (Ok n) =
     ((counts : Converted) × HoldsPacked held e size image counts
@@ -79,7 +80,7 @@ pub record CompressionAsked : Type 0 where
 
 -- the same of the file of a name, of which the host tells these bytes; or it can't be read to its
 -- end
-abbrev pub CompressesNamed : Held → Endian → CompressionAsked → Option (List ℕ) → Passage
+abbrev pub CompressesNamed : Held → Endian → CompressionAsked → Option (List ℕ) → SinkChange
     → Result ℕ ProgramFault → Type 0
 CompressesNamed held e asked bytes told answer =
     ((image : List ℕ) × AreLoaded bytes image
@@ -107,7 +108,7 @@ outcome_of_compression (Err fault) = outcome.Fault
 -- The file of a name is compressed into that of another, all that was put is given on, and a fault
 -- is blamed on the file that failed. `untouched`: no file is made.
 pub record FinishesCompression (asked : CompressionAsked) (reading : FileReads)
-    (writing : FileWrites) (untouched : Type 0) (output : Passage)
+    (writing : FileWrites) (untouched : Type 0) (output : SinkChange)
     (result : Result ℕ ProgramFault) : Type 0 where
   pub taken : Option (List ℕ)
   pub count : ℕ
@@ -124,7 +125,7 @@ pub record FinishesCompression (asked : CompressionAsked) (reading : FileReads)
 
 -- the same as a command
 pub record EndsCompression (asked : CompressionAsked) (reading : FileReads) (writing : FileWrites)
-    (untouched : Type 0) (output errors : Passage) (result : Outcome) : Type 0 where
+    (untouched : Type 0) (output errors : SinkChange) (result : Outcome) : Type 0 where
   pub answer : Result ℕ ProgramFault
   pub compresses : FinishesCompression asked reading writing untouched output answer
   pub said : Says ((errors.new ≡ errors.old) × (errors.now ≡ errors.before)) errors.old errors.new
@@ -133,7 +134,7 @@ pub record EndsCompression (asked : CompressionAsked) (reading : FileReads) (wri
 
 -- `compress`, of what is given
 pub record RunsCompress (args : List (List ℕ)) (reading : FileReads) (writing : FileWrites)
-    (untouched : Type 0) (output errors : Passage) (result : Outcome) : Type 0 where
+    (untouched : Type 0) (output errors : SinkChange) (result : Outcome) : Type 0 where
   pub asked : CompressionAsked
   pub parsed : parsed_from args ≡ Some (CompressParsed asked.options asked.image asked.output)
   pub faultless : IsFaultless args

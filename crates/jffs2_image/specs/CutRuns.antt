@@ -1,6 +1,7 @@
 -- What a run of the program does that tells what stands after a stop.
 use Rattle.std.specs.Prelude.{◌≡◌, ◌⊎◌, ℕ, Bool, List, [], map, Option, Some, None, Result, Ok, Err}
 use Rattle.flashbase.specs.Device.{next_count}
+use Rattle.flashbase.specs.Sinks.{SinkChange}
 use Rattle.flashbase.specs.declared.source.LoadFault.TheVariants as load
 use Rattle.jnode.specs.declared.order.Endian.{Endian}
 use Rattle.jmount.specs.Mount.{Mount}
@@ -10,7 +11,7 @@ use Rattle.jlisting.specs.Broken.{IsBadLine}
 use Rattle.jlisting.specs.Listing.{lines_of}
 use Rattle.jlisting.specs.declared.line.Line.{Line}
 use Rattle.jbuild.specs.Operations.{ops_in}
-use Rattle.jcuts.specs.Cuts.{Asked, SinkChange, PutsCuts}
+use Rattle.jcuts.specs.Cuts.{Asked, PutsCuts}
 use Rattle.jcuts.specs.declared.cuts.CutsFault.{CutsFault}
 use Rattle.jcuts.specs.declared.cuts.CutsFault.TheVariants as cuts
 use Rattle.jcuts.specs.declared.cuts.Flash.{Flash}

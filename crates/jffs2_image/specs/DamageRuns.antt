@@ -1,5 +1,6 @@
 -- What a run of the program does that tells what the damage of an image costs.
 use Rattle.std.specs.Prelude.{◌≡◌, ◌⊎◌, ℕ, ◌+◌, ◌-◌, ◌^◌, min, Bool, List, Option, Some, None, Result, Ok, Err}
+use Rattle.flashbase.specs.Sinks.{SinkChange}
 use Rattle.jmount.specs.Mount.{Mount}
 use Rattle.jmount.specs.Mounts.{Answers}
 use Rattle.jmount.specs.declared.fault.MountFault.{MountFault}
@@ -14,7 +15,7 @@ use Rattle.jcommand.specs.declared.parsed.Options.{Options}
 use Rattle.jcommand.specs.declared.outcome.Outcome.{Outcome}
 use Rattle.jffs2_image.specs.DiffRuns.{IsBlamedFile, said_after_diff, outcome_of_diff}
 use Rattle.jffs2_image.specs.Host.{AreLoaded}
-use Rattle.jffs2_image.specs.InfoRuns.{FileReads, Passage}
+use Rattle.jffs2_image.specs.InfoRuns.{FileReads}
 use Rattle.jffs2_image.specs.Runs.{Finishes, Says, answer_finished}
 
 -- how many damaged nodes and missing objects are told, to the greatest u64, or why not all
@@ -24,7 +25,7 @@ as_told (Err damage.Output) = Err program.Output
 as_told (Err damage.OutOfMemory) = Err program.OutOfMemory
 
 -- what the damage of a mount costs is put
-pub record TellsMount (options : Options) (image : List ℕ) (output : Passage)
+pub record TellsMount (options : Options) (image : List ℕ) (output : SinkChange)
     (result : Result ℕ ProgramFault) : Type 0 where
   pub mount : Mount
   pub told : Result Totals DamageFault
@@ -34,7 +35,7 @@ pub record TellsMount (options : Options) (image : List ℕ) (output : Passage)
   pub comes_to : result ≡ as_told told
 
 -- The image mounts, and what its damage costs is put; or it does not mount, and nothing is put.
-abbrev pub TellsDamage : Options → List ℕ → Passage → Result ℕ ProgramFault → Type 0
+abbrev pub TellsDamage : Options → List ℕ → SinkChange → Result ℕ ProgramFault → Type 0
 TellsDamage options image output result =
     TellsMount options image output result
     ⊎ ((fault : MountFault) × (result ≡ Err (program.Mount fault))
@@ -42,7 +43,7 @@ TellsDamage options image output result =
     × (output.new ≡ output.old) × (output.now ≡ output.before))
 
 -- the same, and all that was put is given on
-pub record FinishesDamage (options : Options) (image : List ℕ) (output : Passage)
+pub record FinishesDamage (options : Options) (image : List ℕ) (output : SinkChange)
     (result : Result ℕ ProgramFault) : Type 0 where
   pub taken : Option (List ℕ)
   pub count : ℕ
@@ -58,7 +59,7 @@ pub record FinishesDamage (options : Options) (image : List ℕ) (output : Passa
   pub comes_to : result ≡ answer_finished answer finished
 
 -- the file was read, and its image is told of; no file failed
-pub record TellsFile (options : Options) (file : List ℕ) (reading : FileReads) (output : Passage)
+pub record TellsFile (options : Options) (file : List ℕ) (reading : FileReads) (output : SinkChange)
     (result : Result ℕ ProgramFault) : Type 0 where
   pub image : List ℕ
   pub of_file : AreLoaded (reading.told file) image
@@ -66,7 +67,7 @@ pub record TellsFile (options : Options) (file : List ℕ) (reading : FileReads)
   pub reads : reading.now ≡ reading.before
 
 -- the same; or it can't be read to its end, and `untouched` holds, the output is as it was
-abbrev pub TellsDamageOfFile : Options → List ℕ → FileReads → Type 0 → Passage
+abbrev pub TellsDamageOfFile : Options → List ℕ → FileReads → Type 0 → SinkChange
     → Result ℕ ProgramFault → Type 0
 TellsDamageOfFile options file reading untouched output result =
     TellsFile options file reading output result
@@ -74,7 +75,7 @@ TellsDamageOfFile options file reading untouched output result =
 
 -- The image of a file is told of, and how that ends: damage that was told is found.
 pub record EndsDamage (options : Options) (file : List ℕ) (reading : FileReads)
-    (untouched : Type 0) (output errors : Passage) (result : Outcome) : Type 0 where
+    (untouched : Type 0) (output errors : SinkChange) (result : Outcome) : Type 0 where
   pub answer : Result ℕ ProgramFault
   pub tells : TellsDamageOfFile options file reading untouched output answer
   pub said : Says ((errors.new ≡ errors.old) × (errors.now ≡ errors.before)) errors.old errors.new
@@ -83,7 +84,7 @@ pub record EndsDamage (options : Options) (file : List ℕ) (reading : FileReads
 
 -- `damage`, of what is given
 pub record RunsDamage (args : List (List ℕ)) (reading : FileReads) (untouched : Type 0)
-    (output errors : Passage) (result : Outcome) : Type 0 where
+    (output errors : SinkChange) (result : Outcome) : Type 0 where
   pub options : Options
   pub file : List ℕ
   pub parsed : parsed_from args ≡ Some (DamageParsed options file)

@@ -1,5 +1,6 @@
 -- What a run of the program does that tells what the trees of two images differ in.
 use Rattle.std.specs.Prelude.{◌≡◌, ◌⊎◌, ℕ, Bool, List, Option, Some, None, Result, Ok, Err}
+use Rattle.flashbase.specs.Sinks.{SinkChange}
 use Rattle.jnode.specs.declared.order.Endian.{Endian}
 use Rattle.jmount.specs.Mount.{Mount}
 use Rattle.jmount.specs.Mounts.{Answers}
@@ -14,7 +15,7 @@ use Rattle.jcommand.specs.declared.parsed.Options.{Options}
 use Rattle.jcommand.specs.declared.outcome.Outcome.{Outcome}
 use Rattle.jcommand.specs.declared.outcome.Outcome.TheVariants as outcome
 use Rattle.jffs2_image.specs.Host.{AreLoaded, ReadsFile}
-use Rattle.jffs2_image.specs.InfoRuns.{FileReads, Passage}
+use Rattle.jffs2_image.specs.InfoRuns.{FileReads}
 use Rattle.jffs2_image.specs.Runs.{Finishes, Says, answer_finished}
 use Rattle.jffs2_image.specs.Writes.{IsUnreadFile}
 
@@ -31,7 +32,7 @@ IsUnmounted by first second fault =
     × Answers by.options.endian by.options.geometry.block second (Err fault))
 
 -- the lines on the trees of two mounts are put
-pub record DiffersAsMounts (by : Comparing) (first second : List ℕ) (output : Passage)
+pub record DiffersAsMounts (by : Comparing) (first second : List ℕ) (output : SinkChange)
     (result : Result ℕ ProgramFault) : Type 0 where
   pub left : Mount
   pub right : Mount
@@ -42,7 +43,7 @@ pub record DiffersAsMounts (by : Comparing) (first second : List ℕ) (output : 
 
 -- Both images mount, and the lines on their trees are put, or a beginning of them and why no more
 -- of them are; or one does not mount, and nothing is put.
-abbrev pub DiffersOf : Comparing → List ℕ → List ℕ → Passage → Result ℕ ProgramFault → Type 0
+abbrev pub DiffersOf : Comparing → List ℕ → List ℕ → SinkChange → Result ℕ ProgramFault → Type 0
 DiffersOf by first second output result =
     DiffersAsMounts by first second output result
     ⊎ ((fault : MountFault) × (result ≡ Err (program.Mount fault))
@@ -50,7 +51,7 @@ DiffersOf by first second output result =
     × (output.new ≡ output.old) × (output.now ≡ output.before))
 
 -- the same, and all that was put is given on
-pub record FinishesDiff (by : Comparing) (first second : List ℕ) (output : Passage)
+pub record FinishesDiff (by : Comparing) (first second : List ℕ) (output : SinkChange)
     (result : Result ℕ ProgramFault) : Type 0 where
   pub taken : Option (List ℕ)
   pub count : ℕ
@@ -81,7 +82,7 @@ IsFirstUnread first second reading fault =
 
 -- both files were read, and their images are compared; no file failed
 pub record DiffersAsFiles (by : Comparing) (first second : List ℕ) (reading : FileReads)
-    (output : Passage) (result : Result ℕ ProgramFault) : Type 0 where
+    (output : SinkChange) (result : Result ℕ ProgramFault) : Type 0 where
   pub image : List ℕ
   pub other : List ℕ
   pub of_first : AreLoaded (reading.told first) image
@@ -90,7 +91,7 @@ pub record DiffersAsFiles (by : Comparing) (first second : List ℕ) (reading : 
   pub reads : reading.now ≡ reading.before
 
 -- the same; or one of them can't be read to its end, and `untouched` holds, the output is as it was
-abbrev pub DiffersOfFiles : Comparing → List ℕ → List ℕ → FileReads → Type 0 → Passage
+abbrev pub DiffersOfFiles : Comparing → List ℕ → List ℕ → FileReads → Type 0 → SinkChange
     → Result ℕ ProgramFault → Type 0
 DiffersOfFiles by first second reading untouched output result =
     DiffersAsFiles by first second reading output result
@@ -110,7 +111,7 @@ outcome_of_diff (Err fault) = outcome.Fault
 
 -- The trees of the files of two names are compared, and how that ends.
 pub record EndsDiff (by : Comparing) (first second : List ℕ) (reading : FileReads)
-    (untouched : Type 0) (output errors : Passage) (result : Outcome) : Type 0 where
+    (untouched : Type 0) (output errors : SinkChange) (result : Outcome) : Type 0 where
   pub answer : Result ℕ ProgramFault
   pub differs : DiffersOfFiles by first second reading untouched output answer
   pub said : Says ((errors.new ≡ errors.old) × (errors.now ≡ errors.before)) errors.old errors.new
@@ -119,7 +120,7 @@ pub record EndsDiff (by : Comparing) (first second : List ℕ) (reading : FileRe
 
 -- `diff`, of what is given
 pub record RunsDiff (args : List (List ℕ)) (reading : FileReads) (untouched : Type 0)
-    (output errors : Passage) (result : Outcome) : Type 0 where
+    (output errors : SinkChange) (result : Outcome) : Type 0 where
   pub by : Comparing
   pub first : List ℕ
   pub second : List ℕ

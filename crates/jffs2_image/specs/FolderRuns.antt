@@ -1,5 +1,6 @@
 -- What a run of the program does that works with a folder of the host.
 use Rattle.std.specs.Prelude.{◌≡◌, ◌==◌, ◌&&◌, if◌then◌else◌, ◌⊎◌, ℕ, Bool, List, Option, Some, None, Result, Ok, Err}
+use Rattle.flashbase.specs.Sinks.{SinkChange}
 use Rattle.jextract.specs.Folders.{Made}
 use Rattle.jfolder.specs.Known.{Known}
 use Rattle.jfolder.specs.declared.found.Options as reading
@@ -14,7 +15,7 @@ use Rattle.jcommand.specs.Status.{outcome_of}
 use Rattle.jcommand.specs.declared.outcome.Outcome.{Outcome}
 use Rattle.jcommand.specs.declared.outcome.Outcome.TheVariants as outcome
 use Rattle.jffs2_image.specs.Folders.{Extracting, FillsAsked, ListsFolder, settings}
-use Rattle.jffs2_image.specs.InfoRuns.{FileReads, Passage}
+use Rattle.jffs2_image.specs.InfoRuns.{FileReads}
 use Rattle.jffs2_image.specs.Runs.{Finishes, Says, answer_finished}
 use Rattle.jffs2_image.specs.declared.folders.Extracted.{Extracted}
 
@@ -40,7 +41,7 @@ outcome_of_extraction (Err fault) = outcome.Fault
 -- The image of a name is extracted into the folder of a name, and what was left out is told before
 -- what else is said. `made_old` and `made_new` are what is made in the folder of each name.
 pub record EndsExtraction (decompress : Bool) (x : Extracting) (image : List ℕ)
-    (reading : FileReads) (made_old made_new : List ℕ → Option (List Made)) (notes : Passage)
+    (reading : FileReads) (made_old made_new : List ℕ → Option (List Made)) (notes : SinkChange)
     (result : Outcome) : Type 0 where
   pub between : Option (List ℕ)
   pub count : ℕ

@@ -2,6 +2,7 @@
 use Rattle.std.specs.Prelude.{◌≡◌, ◌≢◌, ◌⊎◌, ℕ, Bool, true, false, List, [], ◌∷◌, All, map, Option, Some, None, option_map, Result, Ok, Err}
 use Rattle.std.specs.Io.KnownBytes.{Appends}
 use Rattle.flashbase.specs.Device.{PutsPart, next_count}
+use Rattle.flashbase.specs.Sinks.{SinkChange}
 use Rattle.jnode.specs.declared.order.Endian.{Endian}
 use Rattle.jmount.specs.Find.{find}
 use Rattle.jmount.specs.Mount.{Mount}
@@ -38,7 +39,7 @@ use Rattle.jreport.specs.declared.faults.ProgramFault.{ProgramFault}
 use Rattle.jreport.specs.declared.faults.ProgramFault.TheVariants as program
 use Rattle.jffs2_image.specs.Decompressing.{IsNotConverted}
 use Rattle.jffs2_image.specs.Host.{AreOf, IsReadFault}
-use Rattle.jffs2_image.specs.InfoRuns.{FileReads, Passage}
+use Rattle.jffs2_image.specs.InfoRuns.{FileReads}
 use Rattle.jffs2_image.specs.Writes.{IsUnreadFile}
 use Rattle.jffs2_image.specs.declared.folders.Extracted.{Extracted}
 
@@ -67,7 +68,7 @@ pub record Filling : Type 0 where
   pub made_new : Option (List Made)
   pub failures_old : Failures
   pub failures_new : Failures
-  pub notes : Passage
+  pub notes : SinkChange
 
 -- nothing
 abbrev pub FillsNothing : Filling → Type 0
@@ -143,7 +144,7 @@ ExtractsImage decompress x image reading f result =
 
 -- the folder of this name, of those of which this is made, and the notes
 abbrev pub filling_of : List ℕ → (List ℕ → Option (List Made)) → (List ℕ → Option (List Made))
-    → Failures → Failures → Passage → Filling
+    → Failures → Failures → SinkChange → Filling
 filling_of folder old new before now notes = record {
   made_old = old folder;
   made_new = new folder;
@@ -156,7 +157,7 @@ filling_of folder old new before now notes = record {
 -- that folder's own. Or there is no memory for the folder, and nothing is done. In no other folder
 -- is anything made.
 abbrev pub FillsFolder : Bool → Extracting → List ℕ → FileReads → (List ℕ → Option (List Made))
-    → (List ℕ → Option (List Made)) → Passage → Result Extracted ProgramFault → Type 0
+    → (List ℕ → Option (List Made)) → SinkChange → Result Extracted ProgramFault → Type 0
 FillsFolder decompress x image reading old new notes result =
     (((before : Failures) × (now : Failures)
     × ExtractsImage decompress x image reading (filling_of x.folder old new before now notes)
@@ -178,7 +179,7 @@ IsPathUnread (Some word) fault = IsWordFault (path_of word) fault
 -- The same by the words of a command line: `x.path` is the word here, and it is read before the
 -- image is opened. Where it can't be read, nothing is done.
 abbrev pub FillsAsked : Bool → Extracting → List ℕ → FileReads → (List ℕ → Option (List Made))
-    → (List ℕ → Option (List Made)) → Passage → Result Extracted ProgramFault → Type 0
+    → (List ℕ → Option (List Made)) → SinkChange → Result Extracted ProgramFault → Type 0
 FillsAsked decompress x image reading old new notes result =
     ((path : Option (List ℕ)) × IsPathRead x.path path
     × FillsFolder decompress (record x { path = path }) image reading old new notes result)

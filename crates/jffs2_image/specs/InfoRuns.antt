@@ -2,6 +2,7 @@
 -- block size.
 use Rattle.std.specs.Prelude.{◌≡◌, ◌⊎◌, ℕ, is_some, if◌then◌else◌, List, Option, Some, None, option_map, Result, Ok, Err}
 use Rattle.std.specs.Io.KnownBytes.{Appends}
+use Rattle.flashbase.specs.Sinks.{SinkChange}
 use Rattle.jinfo.specs.Containers.{container_line, container_of}
 use Rattle.jinfo.specs.Infos.{order_of}
 use Rattle.jinfo.specs.InfoText.{info_text}
@@ -16,13 +17,6 @@ use Rattle.jffs2_image.specs.Runs.{Says}
 use Rattle.jffs2_image.specs.Writes.{GivesText, IsUnreadFile}
 use Rattle.jffs2_image.specs.declared.info.Informed.{Informed}
 
--- a stream before and after: what is known of its bytes, and how often it failed
-pub record Passage : Type 0 where
-  pub old : Option (List ℕ)
-  pub new : Option (List ℕ)
-  pub before : ℕ
-  pub now : ℕ
-
 -- the files of the host that are read: what it tells of their bytes, and how often they failed,
 -- before and after
 pub record FileReads : Type 0 where
@@ -32,7 +26,7 @@ pub record FileReads : Type 0 where
 
 -- What is told of the bytes of an image goes out to the last byte; or a beginning of it did, and
 -- the output failed. `Ok` has the image's byte order, and what the file begins as.
-abbrev pub InformsOf : List ℕ → Passage → Result Informed ProgramFault → Type 0
+abbrev pub InformsOf : List ℕ → SinkChange → Result Informed ProgramFault → Type 0
 InformsOf image output (Ok found) =
     (found.order ≡ order_of image) × (found.container ≡ container_of image)
     × Appends output.old output.new (info_text image) × (output.now ≡ output.before)
@@ -42,7 +36,7 @@ InformsOf image output (Err fault) =
 
 -- the same of the file of a name; or it can't be read to its end, and `untouched` holds, the output
 -- is as it was
-abbrev pub InformsOfFile : List ℕ → Option (List ℕ) → Type 0 → Passage
+abbrev pub InformsOfFile : List ℕ → Option (List ℕ) → Type 0 → SinkChange
     → Result Informed ProgramFault → Type 0
 InformsOfFile file told untouched output result =
     ((image : List ℕ) × AreLoaded told image × InformsOf image output result)
@@ -62,7 +56,7 @@ outcome_of_info (Err fault) = outcome.Fault
 -- What is told of the file of a name, and how that ends. A file that can't be opened, or failed
 -- while it was read, is blamed only where it counts so.
 pub record EndsInfo (file : List ℕ) (reading : FileReads) (untouched : Type 0)
-    (output errors : Passage) (result : Outcome) : Type 0 where
+    (output errors : SinkChange) (result : Outcome) : Type 0 where
   pub answer : Result Informed ProgramFault
   pub informs : InformsOfFile file (reading.told file) untouched output answer
   pub reads : ReadsFile (reading.told file) reading.before reading.now answer
@@ -72,7 +66,7 @@ pub record EndsInfo (file : List ℕ) (reading : FileReads) (untouched : Type 0)
 
 -- `info`, of what is given
 pub record RunsInfo (args : List (List ℕ)) (reading : FileReads) (untouched : Type 0)
-    (output errors : Passage) (result : Outcome) : Type 0 where
+    (output errors : SinkChange) (result : Outcome) : Type 0 where
   pub image : List ℕ
   pub parsed : parsed_from args ≡ Some (InfoParsed image)
   pub faultless : IsFaultless args

@@ -2,9 +2,10 @@
 -- in one, and the text between them in memory.
 use Rattle.std.specs.Prelude.{◌≡◌, ◌==◌, ◌⊎◌, ◌/◌, ℕ, Bool, IsTrue, if◌then◌else◌, max, List, [], Option, Some, None, Result, Ok, Err, IfOk}
 use Rattle.std.specs.Option.{option_map_or}
+use Rattle.flashbase.specs.Sinks.{SinkChange}
 use Rattle.jscan.specs.Image.{greatest_image}
 use Rattle.jfolder.specs.Known.{Known}
-use Rattle.jfolder.specs.Notes.{NotesPassage, Tells}
+use Rattle.jfolder.specs.Notes.{Tells}
 use Rattle.jfolder.specs.Text.{listing_text}
 use Rattle.jfolder.specs.declared.fault.ReadFault.{ReadFault}
 use Rattle.jfolder.specs.declared.found.Options as reading
@@ -19,7 +20,7 @@ use Rattle.jcommand.specs.declared.outcome.Outcome.TheVariants as outcome
 use Rattle.jffs2_image.specs.Compressing.{FileWrites}
 use Rattle.jffs2_image.specs.Folders.{IsListable, IsReadingFault, settings}
 use Rattle.jffs2_image.specs.Host.{Blames, MakesFile, RunsFiles}
-use Rattle.jffs2_image.specs.InfoRuns.{FileReads, Passage}
+use Rattle.jffs2_image.specs.InfoRuns.{FileReads}
 use Rattle.jffs2_image.specs.Runs.{Finishes, Says, answer_finished}
 use Rattle.jffs2_image.specs.WeakRuns.{AreNotesOn, flash_given, notes_said}
 use Rattle.jffs2_image.specs.Writes.{WritesImage}
@@ -31,8 +32,8 @@ use Rattle.jffs2_image.specs.declared.weak.Notes.{Notes}
 pub record PackAround : Type 0 where
   pub reading : FileReads
   pub writing : FileWrites
-  pub output : Passage
-  pub errors : Passage
+  pub output : SinkChange
+  pub errors : SinkChange
 
 -- ---- the flash
 
@@ -47,26 +48,23 @@ blocks_of asked = option_map_or (λ blocks. blocks) asked.blocks
 
 -- ---- the listing
 
-abbrev pub notes_of : Passage → NotesPassage
-notes_of p = record { old = p.old; new = p.new; before = p.before; now = p.now }
-
 -- What was read of the folder of a name: the text of the tree that it holds, where all that was
 -- left out was told; or why there is no text.
-abbrev pub ReadsListing : Known → reading.Options → List ℕ → Passage → Result Listed ProgramFault
+abbrev pub ReadsListing : Known → reading.Options → List ℕ → SinkChange → Result Listed ProgramFault
     → Type 0
 ReadsListing known options name notes (Ok listed) =
     (folder : Folder) × IsListable known options folder × (listed.left_out ≡ folder.left_out)
     × (listed.text.items ≡ listing_text folder.root folder.items.items)
-    × Tells known options (notes_of notes) (Ok folder)
+    × Tells known options notes (Ok folder)
 ReadsListing known options name notes (Err fault) =
     ((folder : Folder) × (fault ≡ program.OutOfMemory)
-    × Tells known options (notes_of notes) (Ok folder))
+    × Tells known options notes (Ok folder))
     ⊎ ((refused : ReadFault) × IsReadingFault name refused fault
-    × Tells known options (notes_of notes) (Err refused))
+    × Tells known options notes (Err refused))
 
 -- The same by a host that gives the folder and takes it back; or there is no memory for it, and
 -- nothing is told.
-abbrev pub ReadsGiven : Known → reading.Options → List ℕ → Passage → Result Listed ProgramFault
+abbrev pub ReadsGiven : Known → reading.Options → List ℕ → SinkChange → Result Listed ProgramFault
     → Type 0
 ReadsGiven known options name notes result = ReadsListing known options name notes result
     ⊎ ((result ≡ Err program.OutOfMemory) × (notes.new ≡ notes.old) × (notes.now ≡ notes.before))
@@ -77,7 +75,7 @@ ReadsGiven known options name notes result = ReadsListing known options name not
 -- the line on them; and the notes on weak nodes are kept, where they are asked for. `unmade`: no
 -- file was made.
 pub record PutsText (asked : PackingParsed) (text : List ℕ) (unmade : Type 0)
-    (reading : FileReads) (writing : FileWrites) (output : Passage) (notes : Notes)
+    (reading : FileReads) (writing : FileWrites) (output : SinkChange) (notes : Notes)
     (result : Result ℕ ProgramFault) : Type 0 where
   pub writes : WritesImage writing.held asked.page asked.options.endian
       asked.options.geometry.block (blocks_of asked) asked.output [] text output.old output.new
@@ -92,7 +90,7 @@ pub record PutsText (asked : PackingParsed) (text : List ℕ) (unmade : Type 0)
 
 -- the same to the last byte of the line
 pub record WritesText (asked : PackingParsed) (text : List ℕ) (unmade : Type 0)
-    (reading : FileReads) (writing : FileWrites) (output : Passage) (notes : Notes)
+    (reading : FileReads) (writing : FileWrites) (output : SinkChange) (notes : Notes)
     (result : Result ℕ ProgramFault) : Type 0 where
   pub taken : Option (List ℕ)
   pub count : ℕ
@@ -119,7 +117,7 @@ pub record IsPacked (asked : PackingParsed) (known : Known) (unmade : Type 0) (a
   pub folder : Folder
   pub written : Result ℕ ProgramFault
   pub listable : IsListable known (settings asked.owner asked.time) folder
-  pub told : Tells known (settings asked.owner asked.time) (notes_of around.errors) (Ok folder)
+  pub told : Tells known (settings asked.owner asked.time) around.errors (Ok folder)
   pub writes : WritesText asked (listing_text folder.root folder.items.items) unmade around.reading
       around.writing around.output notes written
   pub comes_to : result ≡ left_out_of folder written

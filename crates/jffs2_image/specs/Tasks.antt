@@ -1,12 +1,12 @@
 -- What a run of the program does, by the words that it is given.
 use Rattle.std.specs.Prelude.{◌≡◌, ◌⊎◌, ℕ, List, Option, Some, Result}
+use Rattle.flashbase.specs.Sinks.{SinkChange}
 use Rattle.jextract.specs.Folders.{Made}
 use Rattle.jfolder.specs.Known.{Known}
 use Rattle.jcommand.specs.Parsed.{IsFaultless, TaskParsed, parsed_from, placing_from}
 use Rattle.jcommand.specs.declared.parsed.Request.{Request}
 use Rattle.jcommand.specs.declared.command_line.RequestFault.{RequestFault}
 use Rattle.jcommand.specs.declared.outcome.Outcome.{Outcome}
-use Rattle.jcuts.specs.Cuts.{SinkChange}
 use Rattle.jffs2_image.specs.ClashRuns.{RunsApart}
 use Rattle.jffs2_image.specs.Compressing.{FileWrites, RunsCompress}
 use Rattle.jffs2_image.specs.CutRuns.{RunsCuts}
@@ -14,7 +14,7 @@ use Rattle.jffs2_image.specs.DamageRuns.{RunsDamage}
 use Rattle.jffs2_image.specs.DiffRuns.{RunsDiff}
 use Rattle.jffs2_image.specs.FolderRuns.{RunsExtract, RunsListing}
 use Rattle.jffs2_image.specs.Host.{BlamesCommand}
-use Rattle.jffs2_image.specs.InfoRuns.{FileReads, Passage, RunsInfo}
+use Rattle.jffs2_image.specs.InfoRuns.{FileReads, RunsInfo}
 use Rattle.jffs2_image.specs.PackRuns.{PackAround, RunsPack}
 use Rattle.jffs2_image.specs.Placing.{RunsPlaced, Tellings, intent_of, writes}
 use Rattle.jffs2_image.specs.Runs.{IsCommand, RunsCommand, Says}
@@ -32,8 +32,8 @@ pub record Around : Type 0 where
   pub reading : FileReads
   pub writing : FileWrites
   pub folders : FolderPassage
-  pub output : Passage
-  pub errors : Passage
+  pub output : SinkChange
+  pub errors : SinkChange
 
 -- for each of them, that it is as it was
 pub record Untouched : Type 1 where
@@ -54,14 +54,11 @@ fills made known old new =
     record { made_old = made old; made_new = made new; reads = known old }
 
 abbrev pub passage : {S : Type 0} → (S → Option (List ℕ)) → (S → Option (List ℕ)) → (S → ℕ) → S → S
-    → Passage
+    → SinkChange
 passage taken given failures old new =
     record { old = taken old; new = given new; before = failures old; now = failures new }
 
-abbrev pub as_change : Passage → SinkChange
-as_change p = record { old = p.old; new = p.new; before = p.before; now = p.now }
-
-abbrev pub TellsErrors : Type 0 → Passage → Option (List ℕ) → Type 0
+abbrev pub TellsErrors : Type 0 → SinkChange → Option (List ℕ) → Type 0
 TellsErrors untouched errors said =
     Says untouched errors.old errors.new errors.before errors.now said
 
@@ -108,7 +105,7 @@ RunsTask args a same result =
     × ListingRuns args a same result
     ⊎ same.maker × same.folders × RunsInfo args a.reading same.output a.output a.errors result
     ⊎ same.maker × same.folders
-    × RunsCuts args a.reading (as_change a.output) (as_change a.errors) result
+    × RunsCuts args a.reading a.output a.errors result
     ⊎ same.folders × RunsCompress args a.reading a.writing same.maker a.output a.errors result
     ⊎ same.maker × same.folders × RunsDiff args a.reading same.output a.output a.errors result
     ⊎ same.folders × RunsApart args a.reading a.writing same.maker a.output a.errors result

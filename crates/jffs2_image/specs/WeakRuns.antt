@@ -1,6 +1,7 @@
 -- What a run of the program does that writes an image and notes its weak nodes.
 use Rattle.std.specs.Prelude.{◌≡◌, ◌==◌, ℕ, Bool, true, false, if◌then◌else◌, List, [], ◌++◌, codes, flat_map, length, Option, Some, None, Result, Ok, Err, IfOk, IsOk}
 use Rattle.std.specs.Option.{option_map_or}
+use Rattle.flashbase.specs.Sinks.{SinkChange}
 use Rattle.jnode.specs.declared.order.Endian.{Endian}
 use Rattle.jmount.specs.Mount.{Mount}
 use Rattle.jsteps.specs.Planning.{page_size}
@@ -26,7 +27,7 @@ use Rattle.jcommand.specs.declared.outcome.Outcome.{Outcome}
 use Rattle.jcommand.specs.declared.outcome.Outcome.TheVariants as outcome
 use Rattle.jffs2_image.specs.Compressing.{FileWrites}
 use Rattle.jffs2_image.specs.Host.{AreLoaded, BlamesFor, HaveBytes}
-use Rattle.jffs2_image.specs.InfoRuns.{FileReads, Passage}
+use Rattle.jffs2_image.specs.InfoRuns.{FileReads}
 use Rattle.jffs2_image.specs.Runs.{MeetsWhole, Says, note_after}
 use Rattle.jffs2_image.specs.declared.weak.Notes.{Notes}
 
@@ -110,7 +111,7 @@ outcome_of_writing (Err fault) notes = outcome.Fault
 -- The request is met as without `--weak`: the file that is made and the standard output are the
 -- same. Where it ends well, a note on each weak node comes last on standard error.
 pub record EndsWeak (request : Request) (reading : FileReads) (writing : FileWrites)
-    (untouched : Type 0) (output errors : Passage) (result : Outcome) : Type 0 where
+    (untouched : Type 0) (output errors : SinkChange) (result : Outcome) : Type 0 where
   pub answer : Result ℕ ProgramFault
   pub notes : Notes
   pub between : Option (List ℕ)
@@ -130,7 +131,7 @@ pub record EndsWeak (request : Request) (reading : FileReads) (writing : FileWri
 
 -- `build` and `append` with `--weak`, of what is given
 pub record RunsWeak (args : List (List ℕ)) (reading : FileReads) (writing : FileWrites)
-    (untouched : Type 0) (output errors : Passage) (result : Outcome) : Type 0 where
+    (untouched : Type 0) (output errors : SinkChange) (result : Outcome) : Type 0 where
   pub request : Request
   pub parsed : parsed_from args ≡ Some (WeakParsed (view request))
   pub faultless : IsFaultless args

@@ -3,6 +3,7 @@ use Rattle.std.specs.Prelude.{◌≡◌, ◌+◌, ◌%◌, ◌^◌, ℕ, List, �
 use Rattle.std.specs.List.{flat_map}
 use Rattle.std.specs.Io.KnownBytes.{Appends}
 use Rattle.flashbase.specs.Device.{PutsPart, next_count}
+use Rattle.flashbase.specs.Sinks.{SinkChange}
 use Rattle.jfolder.specs.Complete.{IsComplete, LeftOut}
 use Rattle.jfolder.specs.Known.{Known}
 use Rattle.jfolder.specs.Reasons.{IsRight, IsRootWhy}
@@ -48,17 +49,10 @@ not_listed_line why = codes "not listed: " ++ reason_text why ++ codes "\n"
 abbrev pub left_out_text : List LeftOut → List ℕ
 left_out_text lefts = flat_map left_out_line lefts
 
--- the notes before and after: what is known of their bytes, and how often they failed
-pub record NotesPassage : Type 0 where
-  pub old : Option (List ℕ)
-  pub new : Option (List ℕ)
-  pub before : ℕ
-  pub now : ℕ
-
 -- A part of a reading tells of some paths that are left out, and counts them modulo 2^64. Where the
 -- sink failed, a beginning of the lines went out. It finds no fault with the folder itself. `fits`
 -- says of the answer which paths these are.
-abbrev pub TellsMore : {X : Type 0} → (X → List LeftOut → Type 0) → NotesPassage → ℕ → ℕ
+abbrev pub TellsMore : {X : Type 0} → (X → List LeftOut → Type 0) → SinkChange → ℕ → ℕ
     → Result X ReadFault → Type 0
 TellsMore fits notes count total (Ok x) =
     (lefts : List LeftOut) × Appends notes.old notes.new (left_out_text lefts)
@@ -74,7 +68,7 @@ TellsMore fits notes count total (Err (fault.Folder why)) = ⊥
 
 -- The folder itself is not read, and a line tells why. Where the sink failed, a beginning of it
 -- went out.
-abbrev pub TellsWhy : Reason → NotesPassage → ReadFault → Type 0
+abbrev pub TellsWhy : Reason → SinkChange → ReadFault → Type 0
 TellsWhy why notes (fault.Folder told) =
     (told ≡ why) × Appends notes.old notes.new (not_listed_line why) × (notes.now ≡ notes.before)
 TellsWhy why notes fault.Notes =
@@ -84,7 +78,7 @@ TellsWhy why notes fault.OutOfMemory = ⊥
 -- A reading tells of the paths that it leaves out, each for a reason that is right, and counts them
 -- modulo 2^64; each path that the host tells of is read, or is one of them. Where the folder itself
 -- is at fault it tells that alone.
-abbrev pub Tells : Known → Options → NotesPassage → Result Folder ReadFault → Type 0
+abbrev pub Tells : Known → Options → SinkChange → Result Folder ReadFault → Type 0
 Tells known options notes (Ok read) = (lefts : List LeftOut)
     × Appends notes.old notes.new (left_out_text lefts) × (notes.now ≡ notes.before)
     × (read.left_out ≡ length lefts % 2 ^ 64)

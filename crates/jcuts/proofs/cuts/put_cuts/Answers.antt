@@ -1,7 +1,8 @@
 use Rattle.std.proofs.Common.{◌≡◌, ◌∙◌, ℕ, List, Ok, Err, ap, length, refl, subst}
 use Rattle.std.specs.Io.KnownBytes.{Appends}
 use Rattle.flashbase.specs.Device.{PutsPart}
-use Rattle.jcuts.specs.Cuts.{Asked, SinkChange, Point, base_point, flash_of, point_of}
+use Rattle.flashbase.specs.Sinks.{SinkChange}
+use Rattle.jcuts.specs.Cuts.{Asked, Point, base_point, flash_of, point_of}
 use Rattle.jcuts.proofs.CutsLemmas.{cuts_end, cuts_end_failed, cuts_stop, does_resume, end_at, ops_at}
 use Rattle.jcuts.proofs.cuts.put_cuts.Goals as goal
 

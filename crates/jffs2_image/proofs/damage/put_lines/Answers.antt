@@ -1,9 +1,9 @@
 use Rattle.std.proofs.Common.{ℕ, List, Option, Ok, Err, refl, sym, subst, inl}
 use Rattle.flashbase.specs.Device.{PutsPart}
+use Rattle.flashbase.specs.Sinks.{SinkChange}
 use Rattle.jnode.specs.declared.order.Endian.{Endian}
 use Rattle.jdamage.specs.Damage.{PutsDamage}
 use Rattle.jmount.specs.Mounts.{Answers}
-use Rattle.jffs2_image.specs.InfoRuns.{Passage}
 use Rattle.jffs2_image.proofs.DamageLemmas.{not_mounted}
 use Rattle.jffs2_image.proofs.damage.put_lines.Goals as goal
 
@@ -11,7 +11,7 @@ pub returns-in_err-mounted : goal.returns-in_err-mounted
 returns-in_err-mounted g c =
     let taken = g.T.Sink.taken c.args.sink.now in
     let failures = g.T.Sink.failures c.args.sink.now in
-    let output : Passage = record { old = taken; new = taken; before = failures; now = failures } in
+    let output : SinkChange = record { old = taken; new = taken; before = failures; now = failures } in
     let fault = c.in_err-mounted.field-0.0 in
     not_mounted c.args.options c.args.image.now output fault c.from_residual.result c.from_residual.ensures.1
     (subst (λ (e : Endian). Answers e c.args.options.geometry.block c.args.image.now (Err fault)) (sym c.requires) c.in_err-mounted.ensures) refl refl

@@ -1,12 +1,12 @@
 use Rattle.std.proofs.Common.{ℕ, List, Option}
-use Rattle.jffs2_image.specs.InfoRuns.{Passage}
+use Rattle.flashbase.specs.Sinks.{SinkChange}
 use Rattle.jffs2_image.proofs.DamageLemmas.{stopped_telling}
 use Rattle.jffs2_image.proofs.HostLemmas.{same_behind}
 use Rattle.jffs2_image.proofs.damage.put_whole.Goals as goal
 
 pub returns-in_err-count : goal.returns-in_err-count
 returns-in_err-count g c =
-    let output : Passage = record {
+    let output : SinkChange = record {
       old = g.T.Sink.taken c.args.output.now;
       new = g.T.Output.given c.finish-finished.new.self;
       before = g.T.Sink.failures c.args.output.now;

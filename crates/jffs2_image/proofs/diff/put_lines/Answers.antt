@@ -1,7 +1,7 @@
 use Rattle.std.proofs.Common.{ℕ, List, Option, Ok, Err, refl, sym, subst, inl, inr}
+use Rattle.flashbase.specs.Sinks.{SinkChange}
 use Rattle.jnode.specs.declared.order.Endian.{Endian}
 use Rattle.jmount.specs.Mounts.{Answers}
-use Rattle.jffs2_image.specs.InfoRuns.{Passage}
 use Rattle.jffs2_image.specs.DiffRuns.{Comparing}
 use Rattle.jffs2_image.proofs.DiffLemmas.{unmounted}
 use Rattle.jffs2_image.proofs.diff.put_lines.Goals as goal
@@ -11,7 +11,7 @@ returns-in_err-left g c =
     let by : Comparing = record { options = c.args.options; times = c.args.times } in
     let taken = g.T.Sink.taken c.args.sink.now in
     let failures = g.T.Sink.failures c.args.sink.now in
-    let output : Passage = record { old = taken; new = taken; before = failures; now = failures } in
+    let output : SinkChange = record { old = taken; new = taken; before = failures; now = failures } in
     let fault = c.in_err-left.field-0.0 in
     unmounted by c.args.first.now c.args.second.now output fault c.from_residual.result c.from_residual.ensures.1
     (inl (subst (λ (e : Endian). Answers e c.args.options.geometry.block c.args.first.now (Err fault)) (sym c.requires) c.in_err-left.ensures)) refl refl
@@ -21,7 +21,7 @@ returns-in_err-right g c =
     let by : Comparing = record { options = c.args.options; times = c.args.times } in
     let taken = g.T.Sink.taken c.args.sink.now in
     let failures = g.T.Sink.failures c.args.sink.now in
-    let output : Passage = record { old = taken; new = taken; before = failures; now = failures } in
+    let output : SinkChange = record { old = taken; new = taken; before = failures; now = failures } in
     let fault = c.in_err-right.field-0.0 in
     unmounted by c.args.first.now c.args.second.now output fault c.from_residual-in_err-right.result c.from_residual-in_err-right.ensures.1
     (inr (

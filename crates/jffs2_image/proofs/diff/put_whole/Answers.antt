@@ -1,5 +1,5 @@
 use Rattle.std.proofs.Common.{ℕ, List, Option}
-use Rattle.jffs2_image.specs.InfoRuns.{Passage}
+use Rattle.flashbase.specs.Sinks.{SinkChange}
 use Rattle.jffs2_image.specs.DiffRuns.{Comparing}
 use Rattle.jffs2_image.proofs.DiffLemmas.{still_stopped}
 use Rattle.jffs2_image.proofs.HostLemmas.{same_behind}
@@ -8,7 +8,7 @@ use Rattle.jffs2_image.proofs.diff.put_whole.Goals as goal
 pub returns-in_err-lines : goal.returns-in_err-lines
 returns-in_err-lines g c =
     let by : Comparing = record { options = c.args.options; times = c.args.times } in
-    let output : Passage = record {
+    let output : SinkChange = record {
       old = g.T.Sink.taken c.args.output.now;
       new = g.T.Output.given c.finish-finished.new.self;
       before = g.T.Sink.failures c.args.output.now;

@@ -1,5 +1,6 @@
 use Rattle.std.proofs.Common.{◌≡◌, Err, Result, Some, ℕ, refl, subst}
-use Rattle.jcuts.specs.Cuts.{Asked, PutsCuts, SinkChange}
+use Rattle.flashbase.specs.Sinks.{SinkChange}
+use Rattle.jcuts.specs.Cuts.{Asked, PutsCuts}
 use Rattle.jcuts.specs.declared.cuts.CutsFault.{CutsFault}
 use Rattle.jcuts.specs.declared.cuts.CutsFault.TheVariants as told
 use Rattle.jcuts.specs.declared.lines.Telling.TheVariants.{WeakNotes}
