@@ -15,7 +15,7 @@ change_of sink old new = record {
   old = sink.taken old;
   new = sink.taken new;
   before = sink.failures old;
-  now = sink.failures new
+  now = sink.failures new;
 }
 
 -- the call puts all of these bytes; at a fault a beginning of them went out
