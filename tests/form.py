@@ -29,7 +29,6 @@ LIMITS = {
     "jcuts": {"arguments": 1},
     "jffs2_image": {"arguments": 26, "parameters": 1},
     "jlisting": {"parameters": 1},
-    "jlog": {"arguments": 9, "parameters": 2},
     "jreport": {"arguments": 5, "columns": 1},
 }
 

@@ -1,10 +1,9 @@
 -- The least number of blocks that hold nodes.
-use Rattle.std.proofs.Common.{◌≡◌, ℕ, suc, ◌+◌, ◌*◌, ◌/◌, ◌<◌, ◌≤◌, cond, Bool, true, false, List, [], ◌∷◌, ◌++◌, length, take, get_or, Option, Some, None, refl, sym, ap, ◌∙◌, arith, inl, inr}
+use Rattle.std.proofs.Common.{◌≡◌, ℕ, suc, ◌+◌, ◌*◌, ◌/◌, ◌<◌, ◌≤◌, cond, Bool, true, false, List, [], ◌∷◌, ◌++◌, length, take, get_or, Some, None, refl, sym, ap, ◌∙◌, arith, inl, inr}
 use Rattle.std.specs.Prelude.{IsTrue, ◌&&◌, ◌==◌, max, nat_le, nat_lt, option_map, is_some}
 use Rattle.std.specs.Ordering.{ord_max, nat_cmp, is_lt}
 use Rattle.std.specs.declared.cmp.Ordering.TheVariants.{Less, Equal, Greater}
 use Rattle.std.specs.Int.{div_ceil}
-use Rattle.std.proofs.Math.Seq.{take-suc}
 use Rattle.std.proofs.Math.Nat.{mul-le-mul_right, div-mul-le_self, le-div_iff_mul-le}
 use Rattle.std.proofs.lemmas.Bool.{cases_lt, leb-true, leb-false, le-leb, ltb-true, ltb-false}
 use Rattle.std.proofs.lemmas.Grind.{div_ceil_times}

@@ -16,6 +16,7 @@ pub mod HeadlineLemmas
 pub mod AnewLemmas
 pub mod CodeLemmas
 pub mod PutLemmas
+pub mod Parts
 pub mod RunningLemmas
 pub mod StepLemmas
 pub mod RunLemmas

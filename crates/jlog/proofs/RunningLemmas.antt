@@ -19,7 +19,8 @@ use Rattle.jsteps.proofs.TakenLemmas.{advanced_all-append}
 use Rattle.jlog.specs.Places.{place_after, end_after, places, end_of_all}
 use Rattle.jlog.specs.Output.{output}
 use Rattle.jlog.specs.Laws.{FitsBlock, OutputIsJoined}
-use Rattle.jlog.specs.Running.{written, shown_place, places_of, IsWritten, IsBegun, CanWrite, CanWriteAll}
+use Rattle.jlog.specs.Running.{written, shown_place, places_of, CanWrite, CanWriteAll}
+use Rattle.jlog.proofs.Parts.{BegunBy, WrittenBy}
 use Rattle.jlog.specs.declared.report.Place.{Place}
 use Rattle.jlog.proofs.PlaceLemmas.{place_is_least}
 use Rattle.jlog.proofs.OutputLemmas.{output_goes_on}
@@ -50,8 +51,8 @@ steps_go_on e size from x xs ys =
 -- where the first steps leave the log
 then_from : (e : Endian) (size from : ℕ) (x : Indexed) (xs ys : List Step) (end : ℕ) (y : Indexed) (a b c : Option (List ℕ)) (p q r : List Place)
     → Appends a b (output e size from (written e x xs)) → q ≡ p ++ places_of e size from x xs
-    → IsWritten e size (end_of_all size from (written e x xs)) (advanced_all x xs) ys end y b c q r
-    → IsWritten e size from x (xs ++ ys) end y a c p r
+    → WrittenBy e size (end_of_all size from (written e x xs)) (advanced_all x xs) ys end y b c q r
+    → WrittenBy e size from x (xs ++ ys) end y a c p r
 then_from e size from x xs ys end y a b c p q r bytes shown then =
     let on : StepsGoOn e size from x xs ys = steps_go_on e size from x xs ys in
     let mid : ℕ = end_of_all size from (written e x xs) in
@@ -67,14 +68,14 @@ then_from e size from x xs ys end y a b c p q r bytes shown then =
     }
 
 pub written_then : (e : Endian) (size from : ℕ) (x : Indexed) (xs ys : List Step) (mid end : ℕ) (z y : Indexed) (a b c : Option (List ℕ)) (p q r : List Place)
-    → IsWritten e size from x xs mid z a b p q → IsWritten e size mid z ys end y b c q r → IsWritten e size from x (xs ++ ys) end y a c p r
+    → WrittenBy e size from x xs mid z a b p q → WrittenBy e size mid z ys end y b c q r → WrittenBy e size from x (xs ++ ys) end y a c p r
 written_then e size from x xs ys mid end z y a b c p q r first then =
     then_from e size from x xs ys end y a b c p q r first.bytes first.places
-    (subst (λ (w : Indexed). IsWritten e size (end_of_all size from (written e x xs)) w ys end y b c q r) first.index
-    (subst (λ (m : ℕ). IsWritten e size m z ys end y b c q r) first.cursor then))
+    (subst (λ (w : Indexed). WrittenBy e size (end_of_all size from (written e x xs)) w ys end y b c q r) first.index
+    (subst (λ (m : ℕ). WrittenBy e size m z ys end y b c q r) first.cursor then))
 
 -- nothing is written
-pub written_none : (e : Endian) (size from : ℕ) (x : Indexed) (a : Option (List ℕ)) (p : List Place) → IsWritten e size from x [] from x a a p p
+pub written_none : (e : Endian) (size from : ℕ) (x : Indexed) (a : Option (List ℕ)) (p : List Place) → WrittenBy e size from x [] from x a a p p
 written_none e size from x a p = record { cursor = refl; index = refl; bytes = Appends-nil a; places = sym (append-nil p) }
 
 -- ---- places that are within, and that are not
@@ -110,8 +111,8 @@ all_within e size from limit (node ∷ nodes) words ok up =
 begun_from : (e : Endian) (size from : ℕ) (x : Indexed) (xs ys : List Step) (t : ℕ) (a b c : Option (List ℕ)) (p q r : List Place)
     → size % 4 ≡ 0 → AllByRecursion (FitsBlock size) (written e x xs)
     → Appends a b (output e size from (written e x xs)) → q ≡ p ++ places_of e size from x xs
-    → IsBegun e size (end_of_all size from (written e x xs)) (advanced_all x xs) ys t b c q r
-    → IsBegun e size from x (xs ++ ys) (length (output e size from (written e x xs)) + t) a c p r
+    → BegunBy e size (end_of_all size from (written e x xs)) (advanced_all x xs) ys t b c q r
+    → BegunBy e size from x (xs ++ ys) (length (output e size from (written e x xs)) + t) a c p r
 begun_from e size from x xs ys t a b c p q r words ok bytes shown then =
     let on : StepsGoOn e size from x xs ys = steps_go_on e size from x xs ys in
     let mid : ℕ = end_of_all size from (written e x xs) in
@@ -141,17 +142,17 @@ begun_from e size from x xs ys t a b c p q r words ok bytes shown then =
 
 pub begun_then : (e : Endian) (size from : ℕ) (x : Indexed) (xs ys : List Step) (mid t : ℕ) (z : Indexed) (a b c : Option (List ℕ)) (p q r : List Place)
     → size % 4 ≡ 0 → AllByRecursion (FitsBlock size) (written e x xs)
-    → IsWritten e size from x xs mid z a b p q → IsBegun e size mid z ys t b c q r
-    → IsBegun e size from x (xs ++ ys) (length (output e size from (written e x xs)) + t) a c p r
+    → WrittenBy e size from x xs mid z a b p q → BegunBy e size mid z ys t b c q r
+    → BegunBy e size from x (xs ++ ys) (length (output e size from (written e x xs)) + t) a c p r
 begun_then e size from x xs ys mid t z a b c p q r words ok first then =
     begun_from e size from x xs ys t a b c p q r words ok first.bytes first.places
-    (subst (λ (w : Indexed). IsBegun e size (end_of_all size from (written e x xs)) w ys t b c q r) first.index
-    (subst (λ (m : ℕ). IsBegun e size m z ys t b c q r) first.cursor then))
+    (subst (λ (w : Indexed). BegunBy e size (end_of_all size from (written e x xs)) w ys t b c q r) first.index
+    (subst (λ (m : ℕ). BegunBy e size m z ys t b c q r) first.cursor then))
 
 -- a beginning of steps is one of more steps
 pub begun_more : (e : Endian) (size from : ℕ) (x : Indexed) (xs ys : List Step) (t : ℕ) (a b : Option (List ℕ)) (p q : List Place)
     → size % 4 ≡ 0 → AllByRecursion (FitsBlock size) (written e x xs) → AllByRecursion (FitsBlock size) (written e (advanced_all x xs) ys)
-    → IsBegun e size from x xs t a b p q → IsBegun e size from x (xs ++ ys) t a b p q
+    → BegunBy e size from x xs t a b p q → BegunBy e size from x (xs ++ ys) t a b p q
 begun_more e size from x xs ys t a b p q words ok later begun =
     let on : StepsGoOn e size from x xs ys = steps_go_on e size from x xs ys in
     let mid : ℕ = end_of_all size from (written e x xs) in
@@ -176,7 +177,7 @@ begun_more e size from x xs ys t a b p q words ok later begun =
 -- all of the steps is a beginning as well
 pub written_begun : (e : Endian) (size from : ℕ) (x : Indexed) (xs : List Step) (mid : ℕ) (z : Indexed) (a b : Option (List ℕ)) (p q : List Place)
     → size % 4 ≡ 0 → AllByRecursion (FitsBlock size) (written e x xs)
-    → IsWritten e size from x xs mid z a b p q → IsBegun e size from x xs (length (output e size from (written e x xs))) a b p q
+    → WrittenBy e size from x xs mid z a b p q → BegunBy e size from x xs (length (output e size from (written e x xs))) a b p q
 written_begun e size from x xs mid z a b p q words ok is =
     let out : List ℕ = output e size from (written e x xs) in
     let first : List (ℕ × ℕ) = places size from (written e x xs) in

@@ -14,7 +14,7 @@ use Rattle.jsteps.specs.declared.step.Step.{Step}
 use Rattle.jsteps.proofs.ShapePlanLemmas.{shape_is_kept}
 use Rattle.jsteps.proofs.ShapeStateLemmas.{shape_stays}
 use Rattle.jsteps.proofs.ShapeStepLemmas.{tree_advanced}
-use Rattle.jlog.specs.Session.{Applies, Runs}
+use Rattle.jlog.proofs.Parts.{AppliesBy, RunsBy, stopped_by}
 use Rattle.jlog.specs.declared.report.Place.{Place}
 use Rattle.jlog.specs.declared.fault.SessionFault.{SessionFault}
 use Rattle.jlog.proofs.RunLemmas.{stopped_still, broken_before}
@@ -23,7 +23,7 @@ advanced_has : (x y : Indexed) (steps : List Step) → y ≡ advanced_all x step
 advanced_has x y steps is has = subst HasShape (sym (ap (λ (y : Indexed). y.tree) is ∙ tree_advanced x steps)) has
 
 pub apply_keeps_shape : {T : Type 0} (page : ℕ) (e : Endian) (size blocks from : ℕ) (x : Indexed) (o : Op) (was : Bool) (end : ℕ) (y : Indexed) (is : Bool) (old new : Option (List ℕ)) (failures now : ℕ) (before after : List Place) (r : Result T SessionFault)
-    → (IsFalse was → IsConsistent x) → Applies page e size blocks from x o was end y is old new failures now before after r → IsFalse is → HasShape x.tree → HasShape y.tree
+    → (IsFalse was → IsConsistent x) → AppliesBy page e size blocks from x o was end y is old new failures now before after r → IsFalse is → HasShape x.tree → HasShape y.tree
 apply_keeps_shape page e size blocks from x o was end y is old new failures now before after (Ok v) same a whole has =
     let steps = a.2.0 in
     advanced_has x y steps a.2.2.index (shape_is_kept page x o steps (same a.0) a.2.1.planned has)
@@ -31,14 +31,14 @@ apply_keeps_shape {T} page e size blocks from x o was end y is old new failures 
     subst (λ (x : Indexed). HasShape x.tree) (sym (stopped_still T page e size blocks from x o was end y is old new failures now before after f a whole).1) has
 
 pub run_keeps_shape : (page : ℕ) (e : Endian) (size blocks from : ℕ) (x : Indexed) (ops : List Op) (was : Bool) (n end : ℕ) (y : Indexed) (is : Bool) (old new : Option (List ℕ)) (failures now : ℕ) (places : List Place) (stopped : Option SessionFault)
-    → IsPage page → (IsFalse was → IsConsistent x) → AllByRecursion OpFits ops → Runs page e size blocks from x ops was n end y is old new failures now places stopped → IsFalse is → HasShape x.tree → HasShape y.tree
+    → IsPage page → (IsFalse was → IsConsistent x) → AllByRecursion OpFits ops → RunsBy page e size blocks from x ops was n end y is old new failures now places stopped → IsFalse is → HasShape x.tree → HasShape y.tree
 run_keeps_shape page e size blocks from x ops was n end y is old new failures now places None is_page same fits runs whole has =
     advanced_has x y (steps_of_first page x ops n) runs.2.wrote.index (shape_stays page x ops n is_page (same (sym runs.1 ∙ whole)) fits has)
 run_keeps_shape page e size blocks from x ops was n end y is old new failures now places (Some f) is_page same fits runs whole has =
-    let mid = runs.0 in
-    let z = runs.1 in
-    let between = runs.2 in
-    let stops = runs.5 in
-    let left = broken_before (Unit {0}) page e size blocks mid z runs.4 was end y is between new failures now runs.3 places f stops.stop whole in
+    let mid = runs.mid.cursor in
+    let z = runs.mid.index in
+    let between = runs.between in
+    let stops = stopped_by runs in
+    let left = broken_before (Unit {0}) page e size blocks mid z runs.op was end y is between new failures now runs.mid.places places f stops.stop whole in
     let stays = advanced_has x z (steps_of_first page x ops n) stops.run.wrote.index (shape_stays page x ops n is_page (same left) fits has) in
-    subst (λ (x : Indexed). HasShape x.tree) (sym (stopped_still (Unit {0}) page e size blocks mid z runs.4 was end y is between new failures now runs.3 places f stops.stop whole).1) stays
+    subst (λ (x : Indexed). HasShape x.tree) (sym (stopped_still (Unit {0}) page e size blocks mid z runs.op was end y is between new failures now runs.mid.places places f stops.stop whole).1) stays

@@ -19,7 +19,8 @@ use Rattle.jscan.specs.Image.{is_block_size, greatest_image}
 use Rattle.jlog.specs.Places.{place_after, places, end_of_all, is_writable_flash}
 use Rattle.jlog.specs.Output.{gap, output}
 use Rattle.jlog.specs.Laws.{FitsBlock}
-use Rattle.jlog.specs.Running.{written, shown_place, places_within, IsWritten, IsBegun, CanWrite}
+use Rattle.jlog.specs.Running.{written, shown_place, places_within, CanWrite}
+use Rattle.jlog.proofs.Parts.{BegunBy, WrittenBy}
 use Rattle.jlog.specs.declared.report.Place.{Place}
 use Rattle.jlog.proofs.IntactLemmas.{first_gap}
 use Rattle.jlog.proofs.RunningLemmas.{can_room}
@@ -112,7 +113,7 @@ whole e size c x s node at pad t p spot long =
     ∙ ap (filter (λ place. nat_le (place.0 + place.1) (c + t))) (sym spot.place))
 
 begun_by : (e : Endian) (size c : ℕ) (x : Indexed) (s : Step) (t : ℕ) (o : List ℕ) (a b : Option (List ℕ)) (p q : List Place) → output e size c (written e x (s ∷ [])) ≡ o
-    → t ≤ length o → Appends a b (take t o) → q ≡ p ++ places_within e size c x (s ∷ []) t → IsBegun e size c x (s ∷ []) t a b p q
+    → t ≤ length o → Appends a b (take t o) → q ≡ p ++ places_within e size c x (s ∷ []) t → BegunBy e size c x (s ∷ []) t a b p q
 begun_by e size c x s t o a b p q is within bytes shown =
     record {
       within = subst (λ (l : List ℕ). t ≤ length l) (sym is) within;
@@ -122,7 +123,7 @@ begun_by e size c x s t o a b p q is within bytes shown =
 
 -- the sink failed in the gap
 pub gap_failed : (e : Endian) (size c : ℕ) (x : Indexed) (s : Step) (node : List ℕ) (at pad : ℕ) (a b : Option (List ℕ)) (p : List Place) → Spot e size c x s node at pad
-    → PutsPart a b (gap e size c at) → (t : ℕ) × IsBegun e size c x (s ∷ []) t a b p p
+    → PutsPart a b (gap e size c at) → (t : ℕ) × BegunBy e size c x (s ∷ []) t a b p p
 gap_failed e size c x s node at pad a b p spot part =
     let front : List ℕ = gap e size c at in
     let rest : List ℕ = node ++ erased pad in
@@ -137,7 +138,7 @@ gap_failed e size c x s node at pad a b p spot part =
 
 -- in the node
 pub node_failed : (e : Endian) (size c : ℕ) (x : Indexed) (s : Step) (node : List ℕ) (at pad k : ℕ) (a b d : Option (List ℕ)) (p : List Place) → Spot e size c x s node at pad
-    → Appends a b (gap e size c at) → k < length node → Appends b d (take k node) → (t : ℕ) × IsBegun e size c x (s ∷ []) t a d p p
+    → Appends a b (gap e size c at) → k < length node → Appends b d (take k node) → (t : ℕ) × BegunBy e size c x (s ∷ []) t a d p p
 node_failed e size c x s node at pad k a b d p spot first short part =
     let front : List ℕ = gap e size c at in
     let rest : List ℕ = node ++ erased pad in
@@ -152,7 +153,7 @@ node_failed e size c x s node at pad k a b d p spot first short part =
 -- after it
 pub pad_failed : (e : Endian) (size c : ℕ) (x : Indexed) (s : Step) (node : List ℕ) (at pad : ℕ) (a b d f : Option (List ℕ)) (p : List Place) → Spot e size c x s node at pad
     → Appends a b (gap e size c at) → Appends b d node → PutsPart d f (erased pad)
-    → (t : ℕ) × IsBegun e size c x (s ∷ []) t a f p (p ++ shown_place (at, length node) ∷ [])
+    → (t : ℕ) × BegunBy e size c x (s ∷ []) t a f p (p ++ shown_place (at, length node) ∷ [])
 pad_failed e size c x s node at pad a b d f p spot first second part =
     let front : List ℕ = gap e size c at in
     let rest : List ℕ = node ++ erased pad in
@@ -171,7 +172,7 @@ pad_failed e size c x s node at pad a b d f p spot first second part =
 -- all went out
 pub step_written : (e : Endian) (size c : ℕ) (x y : Indexed) (s : Step) (node : List ℕ) (at pad end : ℕ) (a b d f : Option (List ℕ)) (p : List Place) → Spot e size c x s node at pad
     → y ≡ advanced x s → end ≡ at + (length node + pad) → Appends a b (gap e size c at) → Appends b d node → Appends d f (erased pad)
-    → IsWritten e size c x (s ∷ []) end y a f p (p ++ shown_place (at, length node) ∷ [])
+    → WrittenBy e size c x (s ∷ []) end y a f p (p ++ shown_place (at, length node) ∷ [])
 step_written e size c x y s node at pad end a b d f p spot on ends first second third =
     record {
       cursor = ends ∙ sym spot.end;

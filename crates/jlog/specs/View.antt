@@ -1,6 +1,7 @@
 -- What contracts see of a session.
 use Rattle.std.specs.Prelude.{◌≡◌, ℕ, ◌+◌, ◌≤◌, Bool, IsTrue, IsFalse, List, [], ◌++◌, take, slice_get, vec_capacity, option_map, Option, Result}
 use Rattle.byteorder.specs.declared.ByteOrder.{Ghosts as OfByteOrder}
+use Rattle.flashbase.specs.Sinks.{change_of}
 use Rattle.flashbase.specs.declared.sink.Sink.{Ghosts as OfSink}
 use Rattle.jnode.specs.declared.order.Order.{Ghosts as OfOrder}
 use Rattle.jmount.specs.Shape.{HasShape}
@@ -10,7 +11,8 @@ use Rattle.jsteps.specs.Planning.{page_size}
 use Rattle.jsteps.specs.Refusals.{steps_of_first}
 use Rattle.jsteps.specs.declared.op.Op.{Op}
 use Rattle.jsteps.specs.declared.page.Page.{Page}
-use Rattle.jlog.specs.Session.{Applies, Runs, TellsBlocks, IsFresh, attempted}
+use Rattle.jlog.specs.Running.{log_at}
+use Rattle.jlog.specs.Session.{Flash, LogState, Applies, Runs, TellsBlocks, IsFresh, attempted}
 use Rattle.jlog.specs.Done.{GoesOnBy, SurvivesAfter, steps_on}
 use Rattle.jlog.specs.declared.fault.SessionFault.{SessionFault}
 use Rattle.jlog.specs.declared.fault.SessionFault.TheVariants as fault
@@ -59,34 +61,43 @@ module _ {E : Type 0} {S : Type 0} {order : OfOrder E} {numbers : OfByteOrder E}
   IsResumed session = IsFresh order.order (block_size_of session) (blocks_of session)
       (base_of session) (cursor_of session) (index_of_log session)
 
+  -- the flash that it writes
+  abbrev pub flash_of_log : Session E S order numbers sink → Flash
+  flash_of_log session = record {
+    order = order.order;
+    size = block_size_of session;
+    blocks = blocks_of session;
+    page = page_size (page_of session);
+  }
+
+  -- its state, with the places told of its nodes
+  abbrev pub state_with : Session E S order numbers sink → List Place → LogState
+  state_with session places = record {
+    log = log_at (cursor_of session) (index_of_log session) places;
+    broken = is_broken session;
+  }
+
   -- Applying an operation to the one leaves the other, and the places of its nodes are added to
   -- those before.
   abbrev pub AppliesTo : {T : Type 0} → Session E S order numbers sink → Op
       → Session E S order numbers sink → List Place → List Place → Result T SessionFault → Type 0
   AppliesTo old o new before after result =
-      Applies (page_size (page_of old)) order.order (block_size_of old) (blocks_of old)
-      (cursor_of old) (index_of_log old) o (is_broken old)
-      (cursor_of new) (index_of_log new) (is_broken new)
-      (sink.taken (sink_of old)) (sink.taken (sink_of new)) (sink.failures (sink_of old))
-      (sink.failures (sink_of new)) before after result
+      Applies (flash_of_log old) (state_with old before) o (state_with new after)
+      (change_of sink (sink_of old) (sink_of new)) result
 
   -- This is answered of the blocks that an operation needs.
   abbrev pub TellsBlocksFor : Session E S order numbers sink → Op
       → Result (Option ℕ) SessionFault → Type 0
   TellsBlocksFor session o result =
-      TellsBlocks (page_size (page_of session)) order.order (block_size_of session)
-      (cursor_of session) (index_of_log session) o (is_broken session) result
+      TellsBlocks (flash_of_log session) (state_with session []) o result
 
   -- Running operations on the one leaves the other: so many were accepted, their nodes have these
   -- places, and this stopped it.
   abbrev pub RunsOn : Session E S order numbers sink → List Op → Session E S order numbers sink → ℕ
       → List Place → Option SessionFault → Type 0
   RunsOn old ops new accepted places stopped =
-      Runs (page_size (page_of old)) order.order (block_size_of old) (blocks_of old) (cursor_of old)
-      (index_of_log old) ops (is_broken old)
-      accepted (cursor_of new) (index_of_log new) (is_broken new)
-      (sink.taken (sink_of old)) (sink.taken (sink_of new)) (sink.failures (sink_of old))
-      (sink.failures (sink_of new)) places stopped
+      Runs (flash_of_log old) (state_with old []) ops accepted (state_with new places)
+      (change_of sink (sink_of old) (sink_of new)) stopped
 
   -- A broken session does nothing: it accepts no operation, tells no place, and leaves its sink
   -- alone. The first operation, where there is one, meets S6.
