@@ -27,7 +27,6 @@ LIMITS = {
     "jlisting": {"parameters": 1},
     "jlog": {"arguments": 4, "parameters": 2},
     "jreport": {"arguments": 5, "columns": 1},
-    "jsteps": {"arguments": 2},
 }
 
 
