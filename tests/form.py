@@ -18,13 +18,17 @@ ROOT = os.path.dirname(os.path.dirname(os.path.abspath(__file__)))
 COLUMNS, ARGUMENTS, PARAMETERS, EDITS = 100, 8, 7, 10
 
 # the head of a definition, of which further lines are indented
-HEAD = re.compile(r"^(?:unfoldable |abbrev |record |data )+(?:pub )?(\S+)(.*(?:\n[ \t]+.*)*)", re.M)
+HEAD = re.compile(
+    r"^(?:pub )?(?:unfoldable |abbrev |record |data )+(?:pub )?(\S+)(.*(?:\n[ \t]+.*)*)", re.M
+)
 FUNCTION = re.compile(r"^ *pub fn (\w+)(?:<.*?>)?\((.*?)\)(?: ->|\n| \{|$)", re.M | re.S)
 
 # How many there are in a crate at most, of what is to have none.
 LIMITS = {
-    "jffs2_image": {"arguments": 17, "parameters": 1},
-    "jlog": {"arguments": 4, "parameters": 2},
+    "jbuild": {"arguments": 1},
+    "jcuts": {"arguments": 1},
+    "jffs2_image": {"arguments": 26, "parameters": 1},
+    "jlog": {"arguments": 9, "parameters": 2},
     "jreport": {"arguments": 5, "columns": 1},
 }
 
@@ -60,7 +64,7 @@ def arguments_of(text):
         head = found[2].split(" where")[0]
         before, _, kind = head.partition(" : ") if not head.startswith(" (") else (head, "", "")
         line = line_of(text, found)
-        if found[0].startswith(("record", "data")) or head.startswith(" ("):
+        if re.match(r"(?:pub )?(?:record|data) ", found[0]) or head.startswith(" ("):
             yield found[1], line, binders_of(head)
         else:
             yield found[1], line, blanked(kind, "([{", ")]}").count("→") + binders_of(before)

@@ -22,6 +22,7 @@ pub mod RunLemmas
 pub mod HaltLemmas
 pub mod DoneLemmas
 pub mod RoomCode
+pub mod LeastLemmas
 pub mod SurviveLemmas
 pub mod ResumeLemmas
 pub mod WriteLemmas

@@ -1,11 +1,12 @@
 -- Laws of places, of what goes out and of whole nodes. Each is a statement: it holds since a public
 -- function's contract names it.
-use Rattle.std.specs.Prelude.{◌≡◌, ◌≢◌, ℕ, ◌+◌, ◌*◌, ◌%◌, ◌<◌, ◌≤◌, ◌&&◌, IsTrue, List, [], ◌∷◌, ◌++◌, length, filter, take, slice_index}
+use Rattle.std.specs.Prelude.{◌≡◌, ◌≢◌, ℕ, ◌+◌, ◌*◌, ◌%◌, ◌<◌, ◌≤◌, ◌&&◌, IsTrue, IsFalse, Option, Some, None, List, [], ◌∷◌, ◌++◌, length, filter, take, slice_index}
 use Rattle.std.specs.List.{AllByRecursion}
 use Rattle.jnode.specs.Header.{header_len}
 use Rattle.jnode.specs.Writing.{filled}
 use Rattle.jnode.specs.declared.order.Endian.{Endian}
-use Rattle.jlog.specs.Places.{IsLeastPlace, ArePlaces, place_after, end_after, places, end_of_all, fit}
+use Rattle.jscan.specs.Image.{greatest_image}
+use Rattle.jlog.specs.Places.{IsLeastPlace, ArePlaces, place_after, end_after, places, end_of_all, fit, least_blocks}
 use Rattle.jlog.specs.Output.{gap, output}
 use Rattle.jlog.specs.Left.{is_whole, count_whole, intact}
 
@@ -72,6 +73,18 @@ EndIsWithin = (size blocks from : ℕ) (nodes : List (List ℕ)) → size % 4 �
     → AllByRecursion (FitsBlock size) nodes → from % 4 ≡ 0 → from ≤ blocks * size
     → IsTrue (fit size blocks from nodes) → (end_of_all size from nodes ≤ blocks * size)
     × (end_of_all size from nodes % 4 ≡ 0)
+
+-- So many blocks hold the nodes, and no fewer do; or no flash of the greatest size holds them.
+abbrev pub IsLeastBlocks : ℕ → ℕ → List (List ℕ) → Option ℕ → Type 0
+IsLeastBlocks size from nodes (Some blocks) =
+    (blocks * size ≤ greatest_image) × IsTrue (fit size blocks from nodes)
+    × ((fewer : ℕ) → IsTrue (fit size fewer from nodes) → blocks ≤ fewer)
+IsLeastBlocks size from nodes None =
+    (blocks : ℕ) → blocks * size ≤ greatest_image → IsFalse (fit size blocks from nodes)
+
+abbrev pub BlocksAreLeast : Type 0
+BlocksAreLeast = (size from : ℕ) (nodes : List (List ℕ)) → 0 < size
+    → IsLeastBlocks size from nodes (least_blocks size from nodes)
 
 -- ---- whole nodes
 

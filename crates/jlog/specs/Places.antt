@@ -64,6 +64,24 @@ abbrev pub place_within : ℕ → ℕ → ℕ → ℕ → Option ℕ
 place_within size blocks from len = if nat_le (place_after size from len + len) (blocks * size) then
     Some (place_after size from len) else None
 
+-- where the last of the nodes ends, and 0 where there are none
+abbrev pub last_end : ℕ → ℕ → List (List ℕ) → ℕ
+last_end size from [] = 0
+last_end size from (node ∷ nodes) =
+    max (place_after size from (length node) + length node)
+    (last_end size (end_after size from (length node)) nodes)
+
+-- the same where each ends by the end of the flash
+abbrev pub last_end_within : ℕ → ℕ → ℕ → List (List ℕ) → Option ℕ
+last_end_within size blocks from nodes =
+    if fit size blocks from nodes then Some (last_end size from nodes) else None
+
+-- the least number of blocks that hold the nodes, where the greatest flash does
+abbrev pub least_blocks : ℕ → ℕ → List (List ℕ) → Option ℕ
+least_blocks size from nodes =
+    let blocks = div_ceil (last_end size from nodes) size in
+    if nat_le (blocks * size) greatest_image then Some blocks else None
+
 -- the limits for writing
 abbrev pub is_writable_flash : ℕ → ℕ → Bool
 is_writable_flash size blocks = is_block_size size && nat_le 8192 size && nat_lt 0 blocks

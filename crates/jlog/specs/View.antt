@@ -10,7 +10,7 @@ use Rattle.jsteps.specs.Planning.{page_size}
 use Rattle.jsteps.specs.Refusals.{steps_of_first}
 use Rattle.jsteps.specs.declared.op.Op.{Op}
 use Rattle.jsteps.specs.declared.page.Page.{Page}
-use Rattle.jlog.specs.Session.{Applies, Runs, IsFresh, attempted}
+use Rattle.jlog.specs.Session.{Applies, Runs, TellsBlocks, IsFresh, attempted}
 use Rattle.jlog.specs.Done.{GoesOnBy, SurvivesAfter, steps_on}
 use Rattle.jlog.specs.declared.fault.SessionFault.{SessionFault}
 use Rattle.jlog.specs.declared.fault.SessionFault.TheVariants as fault
@@ -69,6 +69,13 @@ module _ {E : Type 0} {S : Type 0} {order : OfOrder E} {numbers : OfByteOrder E}
       (cursor_of new) (index_of_log new) (is_broken new)
       (sink.taken (sink_of old)) (sink.taken (sink_of new)) (sink.failures (sink_of old))
       (sink.failures (sink_of new)) before after result
+
+  -- This is answered of the blocks that an operation needs.
+  abbrev pub TellsBlocksFor : Session E S order numbers sink → Op
+      → Result (Option ℕ) SessionFault → Type 0
+  TellsBlocksFor session o result =
+      TellsBlocks (page_size (page_of session)) order.order (block_size_of session)
+      (cursor_of session) (index_of_log session) o (is_broken session) result
 
   -- Running operations on the one leaves the other: so many were accepted, their nodes have these
   -- places, and this stopped it.

@@ -1,6 +1,6 @@
 //! Laws of a log. Each function's contract is a law, and its body is empty.
 
-ghost use Rattle.jlog.specs.Laws.{PlaceIsLeast, PlacesAreLeast, OutputIsLong, OutputGoesOn, OneMoreGoesOut, IntactIsCounted, WholeIsBeginning, AllIsIntact, RoomGoesOn, EndIsWithin};
+ghost use Rattle.jlog.specs.Laws.{PlaceIsLeast, PlacesAreLeast, OutputIsLong, OutputGoesOn, OneMoreGoesOut, IntactIsCounted, WholeIsBeginning, AllIsIntact, RoomGoesOn, EndIsWithin, BlocksAreLeast};
 ghost use Rattle.jlog.specs.LeftLaws.{PlacedAreNew, BaseStays, LeftIsWithin, LeftSightings, LeftNodes, LeftRefuses, WholeNodes, WholeRefuses, WrittenIsLeft, MarkerIsLeft, PlacesAreLeft, OutputIsImage};
 ghost use Rattle.jlog.specs.Headline.{AcceptedSurvives};
 ghost use Rattle.jlog.specs.MountLaws.{SoundNodesAreApart, LeftIsSound, WholeIsSound, OutputIsSound, OutputMounts};
@@ -26,6 +26,12 @@ pub fn output_goes_on()
 pub fn room_goes_on()
     ensures on { RoomGoesOn }
     ensures end { EndIsWithin }
+{}
+
+/// The least number of blocks that hold nodes holds them, and no fewer blocks do; where there is
+/// none, no flash of the greatest size holds them.
+pub fn blocks_are_least()
+    ensures { BlocksAreLeast }
 {}
 
 /// The nodes that are intact after a cut are the first ones, as many as are intact; without a cut

@@ -1,12 +1,15 @@
-//! Where sessions may go on.
+//! Where sessions may go on, and what would hold an operation.
 
 use crate::checks::{equal, equal_at};
+use crate::sessions::BY;
 use byteorder::LittleEndian;
-use jlog::{SessionFault, resume_at};
+use jlog::{Session, SessionFault, resume_at};
 use jmount::mount;
 use jscan::Geometry;
+use jsteps::OpFault;
 use std::test::Fail;
-use test_support::FORBIDS;
+use test_operations::op_of;
+use test_support::{FORBIDS, Taker};
 
 const GEOMETRY: Geometry = Geometry { block: 8192 };
 
@@ -35,5 +38,36 @@ fn where_writing_may_go_on(rt: HostRuntime) -> Result<(), Fail> {
         let found = resume_at::<LittleEndian>(&mounted, GEOMETRY, blocks);
         equal(&rt, found, Err(SessionFault::ReadOnly));
     }
+    Ok(())
+}
+
+#[test]
+fn the_blocks_that_hold_an_operation(rt: HostRuntime) -> Result<(), Fail> {
+    let alloc = rt.alloc();
+    let made = op_of("create /a 644", BY).ok_or("no operation")?;
+    let mounted = mount::<LittleEndian>(alloc, &[], GEOMETRY)?;
+    let sink = Taker::limited(alloc, 7, 124);
+    let mut session = Session::<LittleEndian, _>::resume(alloc, &mounted, GEOMETRY, 1, sink)?;
+    equal(&rt, session.blocks_for(alloc, &made), Ok(Some(1)));
+    session.apply(alloc, &made)?;
+    let rows = [
+        ("write /a 0 0", Ok(Some(0))),
+        ("write /a 0 4000", Ok(Some(1))),
+        ("write /a 0 8192", Ok(Some(2))),
+        ("write /a 0 20000", Ok(Some(4))),
+        ("create /a 644", Err(SessionFault::Refused(OpFault::Exists))),
+    ];
+    for (line, want) in rows {
+        let op = op_of(line, BY).ok_or("no operation")?;
+        equal_at(&rt, session.blocks_for(alloc, &op), want, line);
+    }
+    let next = op_of("write /a 0 10", BY).ok_or("no operation")?;
+    let broken = session.apply(alloc, &next).is_err();
+    equal(
+        &rt,
+        session.blocks_for(alloc, &next),
+        Err(SessionFault::Broken),
+    );
+    equal(&rt, (broken, session.finish().bytes.len()), (true, 124));
     Ok(())
 }

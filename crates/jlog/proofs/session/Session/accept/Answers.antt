@@ -11,16 +11,16 @@ pub has_room-requires-clause-steps : goal.has_room-requires-clause-steps
 has_room-requires-clause-steps g c =
     let s = c.args.self.now in
     let e = g.E.Order.order in
-    let steps : List Step = c.in-Ok.steps.items in
+    let steps : List Step = c.in_ok-steps.steps.items in
     let going : IsGoing s.block s.blocks s.cursor s.index = s.going c.requires.whole in
-    let can = can_plan (page_size s.page) e s.index c.args.op.now steps (sizes_are_pages s.page) going.consistent c.requires.known c.in-Ok.ensures.ok in
+    let can = can_plan (page_size s.page) e s.index c.args.op.now steps (sizes_are_pages s.page) going.consistent c.requires.known c.in_ok-steps.ensures.planned in
     record { page = page_size s.page; is_page = sizes_are_pages s.page; fits = s.holds; can = subst (CanWriteAll (page_size s.page) e s.index) (sym c.deref.ensures.value) can.0 }
 
 pub needed-requires-clause-steps : goal.needed-requires-clause-steps
 needed-requires-clause-steps g c =
     let s = c.args.self.now in
     let e = g.E.Order.order in
-    let steps : List Step = c.in-Ok.steps.items in
+    let steps : List Step = c.in_ok-steps.steps.items in
     let going : IsGoing s.block s.blocks s.cursor s.index = s.going c.requires.whole in
-    let can = can_plan (page_size s.page) e s.index c.args.op.now steps (sizes_are_pages s.page) going.consistent c.requires.known c.in-Ok.ensures.ok in
+    let can = can_plan (page_size s.page) e s.index c.args.op.now steps (sizes_are_pages s.page) going.consistent c.requires.known c.in_ok-steps.ensures.planned in
     (page_size s.page, sizes_are_pages s.page, subst (CanWriteAll (page_size s.page) e s.index) (sym c.deref-then-not-has_room.ensures.value) can.0)
