@@ -28,7 +28,6 @@ LIMITS = {
     "jbuild": {"arguments": 1},
     "jcuts": {"arguments": 1},
     "jffs2_image": {"arguments": 26, "parameters": 1},
-    "jlisting": {"parameters": 1},
     "jreport": {"arguments": 5, "columns": 1},
 }
 
