@@ -11,7 +11,8 @@ use Rattle.jsteps.specs.declared.op.Op.{Op}
 use Rattle.jsteps.specs.declared.page.Page.{Page}
 use Rattle.jlog.specs.Headline.{index_of_image, Survives}
 use Rattle.jlog.specs.Left.{front_of}
-use Rattle.jlog.specs.Session.{IsFresh, Runs, attempted}
+use Rattle.jlog.specs.Session.{IsFresh, attempted}
+use Rattle.jlog.proofs.Parts.{RunsBy}
 use Rattle.jlog.specs.declared.fault.SessionFault.{SessionFault}
 use Rattle.jlog.specs.declared.report.Place.{Place}
 use Rattle.jbuild.specs.Emitting.{IsEmitted}
@@ -34,7 +35,7 @@ puts_all old new before now bytes (Err e) fine put = cc
 emitted_at : (page : Page) (e : Endian) (size blocks : ℕ) (base : List ℕ) (from : ℕ) (x : Indexed) (ops : List Op) (was : Bool) (n end : ℕ) (y : Indexed) (is : Bool)
     (old between new : Option (List ℕ)) (before mid now : ℕ) (places : List Place) (stopped : Option SessionFault)
     → IsFresh e size blocks base from x → was ≡ false → mid ≡ before → Appends old between (front_of base from)
-    → Runs (page_size page) e size blocks from x ops was n end y is between new mid now places stopped
+    → RunsBy (page_size page) e size blocks from x ops was n end y is between new mid now places stopped
     → Survives e size blocks base (steps_of_first (page_size page) x ops (attempted n is))
     → IsEmitted page e size blocks base ops n places stopped (record { old = old; new = new; before = before; now = now })
 emitted_at page e size blocks base from x ops was n end y is old between new before mid now places stopped fresh whole same front runs survives = record {
@@ -43,10 +44,10 @@ emitted_at page e size blocks base from x ops was n end y is old between new bef
   index = y;
   broken = is;
   front = subst (λ (at : ℕ). Appends old between (front_of base at)) fresh.cursor_is front;
-  runs = subst (λ (at : ℕ). Runs (page_size page) e size blocks at (index_of_image e size base) ops false n end y is between new before now places stopped) fresh.cursor_is
-      (subst (λ (z : Indexed). Runs (page_size page) e size blocks from z ops false n end y is between new before now places stopped) fresh.index_is
-      (subst (λ (b : Bool). Runs (page_size page) e size blocks from x ops b n end y is between new before now places stopped) whole
-      (subst (λ (m : ℕ). Runs (page_size page) e size blocks from x ops was n end y is between new m now places stopped) same runs)));
+  runs = subst (λ (at : ℕ). RunsBy (page_size page) e size blocks at (index_of_image e size base) ops false n end y is between new before now places stopped) fresh.cursor_is
+      (subst (λ (z : Indexed). RunsBy (page_size page) e size blocks from z ops false n end y is between new before now places stopped) fresh.index_is
+      (subst (λ (b : Bool). RunsBy (page_size page) e size blocks from x ops b n end y is between new before now places stopped) whole
+      (subst (λ (m : ℕ). RunsBy (page_size page) e size blocks from x ops was n end y is between new m now places stopped) same runs)));
   survives = subst (λ (z : Indexed). Survives e size blocks base (steps_of_first (page_size page) z ops (attempted n is))) fresh.index_is survives;
 }
 
@@ -55,7 +56,7 @@ pub emitted_by : (page p : Page) (e : Endian) (size s blocks b : ℕ) (base imag
     (old between new : Option (List ℕ)) (before mid now : ℕ) (places : List Place) (stopped : Option SessionFault)
     → p ≡ page → s ≡ size → b ≡ blocks → image ≡ base → at ≡ from
     → IsFresh e s b image from x → was ≡ false → mid ≡ before → Appends old between (front_of base at)
-    → Runs (page_size p) e s b from x ops was n end y is between new mid now places stopped
+    → RunsBy (page_size p) e s b from x ops was n end y is between new mid now places stopped
     → Survives e s b image (steps_of_first (page_size p) x ops (attempted n is))
     → IsEmitted page e size blocks base ops n places stopped (record { old = old; new = new; before = before; now = now })
 emitted_by page p e size s blocks b base image from at x ops was n end y is old between new before mid now places stopped same_page same_size same_blocks same_base same_at fresh whole same front runs survives =

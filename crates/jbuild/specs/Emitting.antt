@@ -1,5 +1,5 @@
 -- What goes out for a base and operations on it.
-use Rattle.std.specs.Prelude.{◌≡◌, ℕ, Bool, false, List, Option, Err, IsOk}
+use Rattle.std.specs.Prelude.{◌≡◌, ℕ, Bool, false, List, [], Option, Err, IsOk}
 use Rattle.std.specs.Io.KnownBytes.{Appends}
 use Rattle.flashbase.specs.Device.{PutsPart, next_count}
 use Rattle.flashbase.specs.Sinks.{SinkChange}
@@ -13,6 +13,7 @@ use Rattle.jsteps.specs.declared.page.Page.{Page}
 use Rattle.jlog.specs.Headline.{index_of_image, resume_address, Survives}
 use Rattle.jlog.specs.Left.{front_of}
 use Rattle.jlog.specs.Resuming.{resumes_by}
+use Rattle.jlog.specs.Running.{log_at}
 use Rattle.jlog.specs.Session.{Runs, attempted}
 use Rattle.jlog.specs.declared.fault.SessionFault.{SessionFault}
 use Rattle.jlog.specs.declared.fault.SessionFault.TheVariants as fault
@@ -33,9 +34,13 @@ pub record IsEmitted (page : Page) (e : Endian) (size blocks : ℕ) (base : List
   pub index : Indexed
   pub broken : Bool
   pub front : Appends sink.old between (front_before e size blocks base)
-  pub runs : Runs (page_size page) e size blocks (resume_address e size blocks base)
-      (index_of_image e size base) ops false accepted end index broken between sink.new
-      sink.before sink.now places stopped
+  pub runs : Runs (record { order = e; size = size; blocks = blocks; page = page_size page })
+      (record {
+        log = log_at (resume_address e size blocks base) (index_of_image e size base) [];
+        broken = false;
+      })
+      ops accepted (record { log = log_at end index places; broken = broken })
+      (record sink { old = between }) stopped
   pub survives : Survives e size blocks base
       (steps_of_first (page_size page) (index_of_image e size base) ops (attempted accepted broken))
 

@@ -3,7 +3,7 @@ use Rattle.jlog.specs.Resuming.{resumes_at, resumes_by}
 use Rattle.std.proofs.Common.{List, ℕ}
 use Rattle.std.specs.Io.KnownBytes.{Appends}
 use Rattle.jsteps.specs.Planning.{page_size}
-use Rattle.jlog.specs.Session.{Runs}
+use Rattle.jlog.proofs.Parts.{RunsBy}
 use Rattle.jlog.specs.Left.{front_of}
 use Rattle.std.specs.Prelude.{Option, IsOk}
 use Rattle.jlog.specs.declared.fault.SessionFault.{SessionFault}
@@ -27,7 +27,7 @@ returns-clause-emitted g c =
     let front : Appends (g.S.Sink.taken a.sink) (g.S.Sink.taken s.sink) (front_of a.mounted.now.image c.in-Ok.from) =
     subst (λ k. Appends (g.S.Sink.taken a.sink) (g.S.Sink.taken k) (front_of a.mounted.now.image c.in-Ok.from)) sink
     (subst (λ (l : List ℕ). Appends (g.S.Sink.taken a.sink) (g.S.Sink.taken c.put_front.new.sink) (front_of l c.in-Ok.from)) c.image.ensures put.0) in
-    let runs = subst (λ k. Runs (page_size s.page) e s.block s.blocks s.cursor s.index a.ops.now s.broken r.accepted t.cursor t.index t.broken (g.S.Sink.taken s.sink) (g.S.Sink.taken k)
+    let runs = subst (λ k. RunsBy (page_size s.page) e s.block s.blocks s.cursor s.index a.ops.now s.broken r.accepted t.cursor t.index t.broken (g.S.Sink.taken s.sink) (g.S.Sink.taken k)
     (g.S.Sink.failures s.sink) (g.S.Sink.failures k) r.places.items r.stopped) (sym c.finish.ensures) c.run-report.ensures.runs in
     emitted_by a.page s.page e a.geometry.block s.block a.blocks s.blocks a.mounted.now.image s.base.now s.cursor c.in-Ok.from s.index a.ops.now s.broken r.accepted t.cursor t.index t.broken
     (g.S.Sink.taken a.sink) (g.S.Sink.taken s.sink) (g.S.Sink.taken c.finish.result) (g.S.Sink.failures a.sink) (g.S.Sink.failures s.sink) (g.S.Sink.failures c.finish.result) r.places.items r.stopped
