@@ -18,8 +18,9 @@ use Rattle.jsteps.specs.declared.step.Step.{Step}
 use Rattle.jlog.specs.Places.{place_after, end_after, places, end_of_all, is_writable_flash}
 use Rattle.jlog.specs.Output.{output}
 use Rattle.jlog.specs.Laws.{FitsBlock}
-use Rattle.jlog.specs.Running.{written, places_of, IsWritten, CanWriteAll}
-use Rattle.jlog.specs.Session.{IsAccepted, Applies, Declines}
+use Rattle.jlog.specs.Running.{written, places_of, CanWriteAll}
+use Rattle.jlog.proofs.Parts.{flash_by, AppliesBy, WrittenBy}
+use Rattle.jlog.specs.Session.{IsAccepted, Declines}
 use Rattle.jlog.specs.declared.report.Place.{Place}
 use Rattle.jlog.specs.declared.fault.SessionFault.{SessionFault}
 use Rattle.jlog.specs.declared.fault.SessionFault.TheVariants as fault
@@ -67,10 +68,14 @@ nodes_most size from (node ∷ nodes) words ok =
     let rest : end_after size from len + length nodes ≤ end_of_all size (end_after size from len) nodes = nodes_most size (end_after size from len) nodes words ok.1 in
     omega (arith, le_pad4 len, ok.0.some)
 
+-- an operation is accepted, by the parts of its flash
+abbrev pub PlannedOpBy : ℕ → Endian → ℕ → ℕ → ℕ → Indexed → Op → ℕ → Indexed → List Standing → Type 0
+PlannedOpBy page e size blocks from x o end y told = IsPlannedOp (flash_by page e size blocks) from x o end y told
+
 -- What was held after one operation was applied to a log that held nothing.
 pub record Planned (page : ℕ) (e : Endian) (size blocks from : ℕ) (x : Indexed) (o : Op) (end : ℕ) (y : Indexed) (out : List ℕ) (places : List Place) : Type 0 where
   pub in_it : AllByRecursion (IsNodeIn e from out) places
-  pub planned : IsPlannedOp page e size blocks from x o end y (map (standing_in e from out) places)
+  pub planned : PlannedOpBy page e size blocks from x o end y (map (standing_in e from out) places)
   pub can : CanPlan page size blocks end y
 
 planned_by : (page : ℕ) (e : Endian) (size blocks from : ℕ) (x : Indexed) (o : Op) (end : ℕ) (y : Indexed) (steps : List Step)
@@ -102,11 +107,11 @@ planned_by page e size blocks from x o end y steps is_page fits can acc end_is y
 
 pub planned_op : {T : Type 0} (u : T) (page : ℕ) (e : Endian) (size blocks from : ℕ) (x : Indexed) (o : Op) (was : Bool) (end : ℕ) (y : Indexed) (is : Bool) (old new : Option (List ℕ)) (failures now : ℕ) (before after : List Place)
     (out : List ℕ) → IsPage page → OpFits o → CanPlan page size blocks from x → old ≡ Some [] → new ≡ Some out → before ≡ []
-    → Applies page e size blocks from x o was end y is old new failures now before after (Ok u)
+    → AppliesBy page e size blocks from x o was end y is old new failures now before after (Ok u)
     → Planned page e size blocks from x o end y out after
 planned_op u page e size blocks from x o was end y is old new failures now before after out is_page fits can none held no_places did =
     let steps : List Step = did.2.0 in
-    let wrote : IsWritten e size from x steps end y old new before after = did.2.2 in
+    let wrote : WrittenBy e size from x steps end y old new before after = did.2.2 in
     let bytes : out ≡ output e size from (written e x steps) =
     subst (λ (n : Option (List ℕ)). Appends (Some []) n (output e size from (written e x steps))) held
     (subst (λ (m : Option (List ℕ)). Appends m new (output e size from (written e x steps))) none wrote.bytes) in
@@ -117,7 +122,7 @@ planned_op u page e size blocks from x o was end y is old new failures now befor
 
 -- An operation that was not applied is declined.
 pub declined_op : (T : Type 0) (page : ℕ) (e : Endian) (size blocks from : ℕ) (x : Indexed) (o : Op) (was : Bool) (end : ℕ) (y : Indexed) (is : Bool) (old new : Option (List ℕ)) (failures now : ℕ) (before after : List Place) (f : SessionFault)
-    → IsFalse was → Applies {T = T} page e size blocks from x o was end y is old new failures now before after (Err f) → Declines page e size blocks from x o (without_sink f)
+    → IsFalse was → AppliesBy {T = T} page e size blocks from x o was end y is old new failures now before after (Err f) → Declines page e size blocks from x o (without_sink f)
 declined_op T page e size blocks from x o was end y is old new failures now before after (fault.Refused g) whole did = did.1
 declined_op T page e size blocks from x o was end y is old new failures now before after (fault.Full w l) whole did = did.1
 declined_op T page e size blocks from x o was end y is old new failures now before after fault.Sink whole did = tt
@@ -142,11 +147,11 @@ standings_at e from from' out out' ps ps' from_is out_is ps_is =
     ∙ (ap (λ (l : List ℕ). map (standing_in e from' l) ps) out_is ∙ ap (λ (i : ℕ). map (standing_in e i out) ps) from_is)
 
 pub planned_at : (page : ℕ) (e : Endian) (size blocks from : ℕ) (x : Indexed) (o : Op) (end end' : ℕ) (y y' : Indexed) (told told' : List Standing) → end' ≡ end → y' ≡ y → told' ≡ told
-    → IsPlannedOp page e size blocks from x o end y told → IsPlannedOp page e size blocks from x o end' y' told'
+    → PlannedOpBy page e size blocks from x o end y told → PlannedOpBy page e size blocks from x o end' y' told'
 planned_at page e size blocks from x o end end' y y' told told' end_is y_is told_is op =
-    subst (λ (l : List Standing). IsPlannedOp page e size blocks from x o end' y' l) (sym told_is)
-    (subst (λ (z : Indexed). IsPlannedOp page e size blocks from x o end' z told) (sym y_is)
-    (subst (λ (i : ℕ). IsPlannedOp page e size blocks from x o i y told) (sym end_is) op))
+    subst (λ (l : List Standing). PlannedOpBy page e size blocks from x o end' y' l) (sym told_is)
+    (subst (λ (z : Indexed). PlannedOpBy page e size blocks from x o end' z told) (sym y_is)
+    (subst (λ (i : ℕ). PlannedOpBy page e size blocks from x o i y told) (sym end_is) op))
 
 pub can_at : (page page' : Page) (size size' blocks blocks' from from' : ℕ) (x x' : Indexed) → page' ≡ page → size' ≡ size → blocks' ≡ blocks → from' ≡ from → x' ≡ x
     → CanPlan (page_size page) size blocks from x → CanPlan (page_size page') size' blocks' from' x'

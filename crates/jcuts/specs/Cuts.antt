@@ -17,7 +17,7 @@ use Rattle.jlog.specs.Headline.{index_of_image, resume_address}
 use Rattle.jlog.specs.Places.{end_of_all, fit}
 use Rattle.jlog.specs.Resuming.{resumes_by}
 use Rattle.jlog.specs.Running.{written}
-use Rattle.jlog.specs.Session.{Declines}
+use Rattle.jlog.specs.Session.{Declines, Flash as LogFlash}
 use Rattle.jlog.specs.View.{block_size_of, blocks_of, page_of, cursor_of, index_of_log, is_broken, sink_of}
 use Rattle.jlog.specs.declared.fault.SessionFault.{SessionFault}
 use Rattle.jlog.specs.declared.fault.SessionFault.TheVariants as session
@@ -92,11 +92,19 @@ IsNotResumed e flash m fault =
 
 -- ---- one operation
 
+-- a flash as a log that writes it in this order sees it
+abbrev pub written_flash : Endian → Flash → LogFlash
+written_flash e flash = record {
+  order = e;
+  size = flash.geometry.block;
+  blocks = flash.blocks;
+  page = page_size flash.page;
+}
+
 -- The operation is accepted: these are the nodes of its steps, and writing goes on after them.
 abbrev pub IsPlannedAt : Endian → Flash → Point → Op → Point → List Standing → Type 0
 IsPlannedAt e flash from o to nodes =
-    IsPlannedOp (page_size flash.page) e flash.geometry.block flash.blocks
-    from.address from.index o to.address to.index nodes
+    IsPlannedOp (written_flash e flash) from.address from.index o to.address to.index nodes
 
 -- it is not
 abbrev pub IsDeclined : Endian → Flash → Point → Op → SessionFault → Type 0

@@ -1,25 +1,24 @@
 -- What planning one operation promises.
 use Rattle.std.specs.Prelude.{◌≡◌, ℕ, ◌+◌, ◌≤◌, IsTrue, List, length}
-use Rattle.jnode.specs.declared.order.Endian.{Endian}
 use Rattle.jsteps.specs.Nodes.{Indexed, advanced_all}
 use Rattle.jsteps.specs.declared.op.Op.{Op}
 use Rattle.jsteps.specs.declared.step.Step.{Step}
 use Rattle.jlog.specs.Places.{end_of_all, is_writable_flash}
 use Rattle.jlog.specs.Running.{written}
-use Rattle.jlog.specs.Session.{IsAccepted, IsGoing}
+use Rattle.jlog.specs.Session.{Flash, IsAccepted, IsGoing}
 use Rattle.jlog.specs.declared.fault.SessionFault.{SessionFault}
 use Rattle.jlog.specs.declared.fault.SessionFault.TheVariants as fault
 use Rattle.jcuts.specs.Standing.{standings}
 use Rattle.jcuts.specs.declared.standing.Standing.{Standing}
 
 -- The operation is accepted: these are the nodes of its steps, and writing goes on after them.
-pub record IsPlannedOp (page : ℕ) (e : Endian) (size blocks from : ℕ) (x : Indexed) (o : Op)
-    (end : ℕ) (y : Indexed) (told : List Standing) : Type 0 where
+pub record IsPlannedOp (flash : Flash) (from : ℕ) (x : Indexed) (o : Op) (end : ℕ) (y : Indexed)
+    (told : List Standing) : Type 0 where
   pub steps : List Step
-  pub accepted : IsAccepted page e size blocks from x o steps
-  pub cursor : end ≡ end_of_all size from (written e x steps)
+  pub accepted : IsAccepted flash.page flash.order flash.size flash.blocks from x o steps
+  pub cursor : end ≡ end_of_all flash.size from (written flash.order x steps)
   pub index : y ≡ advanced_all x steps
-  pub nodes : told ≡ standings e size from (written e x steps)
+  pub nodes : told ≡ standings flash.order flash.size from (written flash.order x steps)
   pub few : from + length told ≤ end
 
 -- Operations can be planned: on a flash that is written, whose blocks hold a page, from where a log

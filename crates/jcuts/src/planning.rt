@@ -3,7 +3,7 @@
 ghost use Rattle.std.specs.Prelude.{◌≡◌, IsFalse, OnOk, IfOk, IfErr, []};
 ghost use Rattle.jsteps.specs.Planning.{page_size};
 ghost use Rattle.jlog.specs.Session.{Declines};
-ghost use Rattle.jlog.specs.View.{base_of, block_size_of, blocks_of, page_of, cursor_of, index_of_log, is_broken, sink_of};
+ghost use Rattle.jlog.specs.View.{base_of, block_size_of, blocks_of, page_of, flash_of_log, cursor_of, index_of_log, is_broken, sink_of};
 ghost use Rattle.jcuts.specs.Planning.{CanPlan, IsPlannedOp, without_sink};
 
 use crate::held::Held;
@@ -44,8 +44,7 @@ pub fn plan_op<E: Order>(
     ensures block { block_size_of plan.new ≡ block_size_of plan.old }
     ensures blocks { blocks_of plan.new ≡ blocks_of plan.old }
     ensures page { page_of plan.new ≡ page_of plan.old }
-    ensures planned { IfOk result (λ told. IsPlannedOp (page_size (page_of plan.old)) E.order
-        (block_size_of plan.old) (blocks_of plan.old)
+    ensures planned { IfOk result (λ told. IsPlannedOp (flash_of_log plan.old)
         (cursor_of plan.old) (index_of_log plan.old) op.now (cursor_of plan.new)
         (index_of_log plan.new) told.items) }
     ensures whole { OnOk result (IsFalse (is_broken plan.new)) }
