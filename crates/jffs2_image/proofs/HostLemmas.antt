@@ -77,8 +77,8 @@ resume_fault page e size blocks m u v before now f line is still = by m.read_onl
 -- a run on it stopped
 pub run_fault : (held : Held) (page : Page) (e : Endian) (size blocks : ℕ) (m : Mount) (ops : List Op) (accepted : ℕ) (places : List Place) (u v : Type 0) (before now : ℕ) (f : SessionFault) (line : Option ℕ)
     → IsMade held page e size blocks m ops accepted places (Some f) → IsMadeUntil before now (Some f) → v → BlamesMaker {T = ℕ} u v before now (Err (program.Session f line))
-run_fault held page e size blocks m ops accepted places u v before now session.ReadOnly line made until left = absurd (made.put.emitted.runs.5.stop)
-run_fault held page e size blocks m ops accepted places u v before now session.Geometry line made until left = absurd (made.put.emitted.runs.5.stop)
+run_fault held page e size blocks m ops accepted places u v before now session.ReadOnly line made until left = absurd (made.put.emitted.runs.stop)
+run_fault held page e size blocks m ops accepted places u v before now session.Geometry line made until left = absurd (made.put.emitted.runs.stop)
 run_fault held page e size blocks m ops accepted places u v before now session.Sink line made until left = (until, left)
 run_fault held page e size blocks m ops accepted places u v before now (session.Refused f) line made until left = left
 run_fault held page e size blocks m ops accepted places u v before now (session.Full a b) line made until left = left
@@ -260,7 +260,7 @@ pub files_until : (told : List ℕ → Option (List ℕ)) (held : Held) (page : 
     → Answers e size base (Ok m) → IsMade held page e size blocks m (ops_in e (part_contents parts) lines) accepted places (Some f)
     → RunsFiles {T = ℕ} told held page e size blocks base text old new (Err (program.Session f line))
 files_until told held page e size blocks base text lines parts m accepted places old new f None is are read mounts made =
-    absurd (no_line e (part_contents parts) lines accepted made.put.emitted.runs.4 made.put.emitted.runs.5.next is)
+    absurd (no_line e (part_contents parts) lines accepted made.put.emitted.runs.op made.put.emitted.runs.next is)
 files_until told held page e size blocks base text lines parts m accepted places old new f (Some n) is are read mounts made =
     (lines, accepted, places, record { mount = m; files = part_contents parts; read = read; mounts = mounts; made = made }, have_bytes told lines parts are, sym is)
 
@@ -362,7 +362,7 @@ put_until page e size blocks m ops accepted places None old given before now put
 put_until page e size blocks m ops accepted places (Some session.Sink) old given before now put = by put.given_on
   where
     once : put.count ≡ next_count before
-    once = put.emitted.runs.5.stop.2
+    once = put.emitted.runs.stop.2
 
     by : IsGivenOn (Some session.Sink) put.taken given put.count now → HasFailed before now
     by (inl is) = inl (is.1 ∙ once)

@@ -19,7 +19,7 @@ use Rattle.jlog.specs.Headline.{index_of_image, resume_address}
 use Rattle.jlog.specs.Places.{end_of_all, fit}
 use Rattle.jlog.specs.Resuming.{resumes_by}
 use Rattle.jlog.specs.Running.{written}
-use Rattle.jlog.specs.Session.{IsRun}
+use Rattle.jlog.proofs.Parts.{RunBy}
 use Rattle.jlog.specs.declared.fault.SessionFault.{SessionFault}
 use Rattle.jlog.specs.declared.fault.SessionFault.TheVariants as session
 use Rattle.jlog.specs.declared.report.Place.{Place}
@@ -186,7 +186,7 @@ pub all_taken : (held : Held) (e : Endian) (flash : Flash) (m : Mount) (ops : Li
     → IsMade held flash.page e flash.geometry.block flash.blocks m ops accepted places None → AreAllTaken e flash m ops
 all_taken held e flash m ops accepted places made =
     let runs = made.put.emitted.runs in
-    let run : IsRun (page_size flash.page) e flash.geometry.block flash.blocks (resume_address e flash.geometry.block flash.blocks m.image) (index_of_image e flash.geometry.block m.image) ops accepted made.put.emitted.end made.put.emitted.index made.put.emitted.between made.put.taken places = runs.2 in
+    let run : RunBy (page_size flash.page) e flash.geometry.block flash.blocks (resume_address e flash.geometry.block flash.blocks m.image) (index_of_image e flash.geometry.block m.image) ops accepted made.put.emitted.end made.put.emitted.index made.put.emitted.between made.put.taken places = runs.2 in
     record {
       resumes = made.put.resumes;
       accepted = record {
