@@ -320,28 +320,35 @@ pub fn read_remove<'a>(
     })))
 }
 
+/// The words of an `attr` line after its first.
+#[derive(Clone, Copy, Drop)]
+pub struct AttrWords<'a> {
+    pub mode: &'a [u8],
+    pub uid: &'a [u8],
+    pub gid: &'a [u8],
+    pub atime: &'a [u8],
+    pub mtime: &'a [u8],
+    pub path: &'a [u8],
+}
+
 /// `attr MODE UID GID ATIME MTIME PATH`
 pub fn read_attr<'a>(
     alloc: Global,
     settings: Settings,
-    mode: &'a [u8],
-    uid: &'a [u8],
-    gid: &'a [u8],
-    atime: &'a [u8],
-    mtime: &'a [u8],
-    path: &'a [u8],
+    words: AttrWords<'a>,
 ) -> Result<Statement<'a>, WordFault>
-    ensures { IsRead (attr_line settings mode.entry.now uid.entry.now gid.entry.now atime.entry.now
-        mtime.entry.now path.entry.now) result }
+    ensures { IsRead (attr_line settings words.entry.mode.now words.entry.uid.now
+        words.entry.gid.now words.entry.atime.now words.entry.mtime.now words.entry.path.now)
+        result }
 {
     let attributes = Attributes {
-        mode: mode_word(mode)?,
-        uid: owner_word(uid)?,
-        gid: owner_word(gid)?,
-        atime: decimal_word(atime)?,
-        mtime: decimal_word(mtime)?,
+        mode: mode_word(words.mode)?,
+        uid: owner_word(words.uid)?,
+        gid: owner_word(words.gid)?,
+        atime: decimal_word(words.atime)?,
+        mtime: decimal_word(words.mtime)?,
     };
-    let path = text_word(alloc, path)?;
+    let path = text_word(alloc, words.path)?;
     Ok(Statement::Action(Action::Op(Op::SetAttributes {
         time: settings.time,
         path,

@@ -6,9 +6,9 @@ ghost use Rattle.jword.specs.Words.{IsRead};
 ghost use Rattle.jlisting.specs.Listing.{one_operand, two_operands, three_operands, five_operands, six_operands, statement_of, statement_of_words};
 
 use crate::forms::{
-    read_attr, read_create, read_device, read_fifo, read_file, read_link, read_mkdir, read_owner,
-    read_part, read_remove, read_rename, read_replace, read_socket, read_symlink, read_time,
-    read_truncate, read_write,
+    AttrWords, read_attr, read_create, read_device, read_fifo, read_file, read_link, read_mkdir,
+    read_owner, read_part, read_remove, read_rename, read_replace, read_socket, read_symlink,
+    read_time, read_truncate, read_write,
 };
 use crate::split::split_once;
 use crate::statement::{Settings, Statement};
@@ -133,7 +133,15 @@ fn read_six<'a>(
         e.entry.now f.entry.now) result }
 {
     if is_word(name, b"attr") {
-        read_attr(alloc, settings, a, b, c, d, e, f)
+        let words = AttrWords {
+            mode: a,
+            uid: b,
+            gid: c,
+            atime: d,
+            mtime: e,
+            path: f,
+        };
+        read_attr(alloc, settings, words)
     } else {
         Err(WordFault::Invalid)
     }

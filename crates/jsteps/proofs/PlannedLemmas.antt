@@ -8,12 +8,13 @@ use Rattle.std.specs.Ordering.{eq_by_cmp, nat_cmp}
 use Rattle.std.specs.Cmp.{nat_cmp_total, unsigned_tied}
 use Rattle.std.specs.FinMap.{get, insert, get-insert}
 use Rattle.jmount.specs.Shown.{top_at}
+use Rattle.jmount.specs.declared.fault.FindFault.{FindFault}
 use Rattle.jmount.specs.Tree.{Outline, object, has_bits, directory_bits}
 use Rattle.jsteps.specs.Nodes.{Indexed, nodes_of}
 use Rattle.jsteps.specs.Planning.{steps_of, make_steps}
 use Rattle.jsteps.specs.Refusals.{paths, has_bad_path, is_bad_path, is_long, meets_nothing, meets_other, is_exhausted, is_past, is_bad_target, planned_by}
 use Rattle.jsteps.specs.Site.{IsSiteOf}
-use Rattle.jsteps.specs.Tests.{GivesPlan, listed, first_refusal, made_plan, full_by, spent_by, into_itself_at, tests_of, plan_from, made_tests, removed_tests, named_tests, unnamed_at}
+use Rattle.jsteps.specs.Tests.{GivesPlan, listed, first_refusal, made_plan, full_by, spent_by, into_itself_at, tests_of, plan_from, made_tests, removed_tests, named_tests, unnamed_at, missing_at, new_of}
 use Rattle.jsteps.specs.Where.{above, number_there, number_or_none, parent, last_name, number_or_zero, object_named}
 use Rattle.jsteps.specs.Device.{device_mode}
 use Rattle.jsteps.specs.declared.device.DeviceKind.{DeviceKind}
@@ -118,39 +119,54 @@ removed_from page x time path site dir has e le =
           (ap (λ p. step.ClearName time p (last_name path) ∷ []) same ∙ ap (λ l. step.ClearName time dir l ∷ []) (sym has.last));
     }
 
+-- what applies to a further name, by the parts of both its paths
+abbrev named_parts : Outline → Bool → Result ℕ FindFault → Option ℕ → Bool → Result ℕ FindFault → Option ℕ → Bool → Bool → Tests
+named_parts t long at number new_long new_at new_number kind into = record {
+  is_long = long || new_long;
+  is_not_found = (meets_nothing at || meets_nothing new_at) || missing_at t at number;
+  is_not_directory = meets_other t at || meets_other t new_at;
+  exists = is_some new_number;
+  is_wrong_kind = kind;
+  is_not_empty = false;
+  is_into_itself = into;
+  is_too_large = false;
+  is_bad_mode = false;
+  is_bad_target = false;
+}
+
 named_sites : (t : Outline) (old new : List ℕ) (from to : Site) (kind into : Bool) → IsSiteOf t old from → IsSiteOf t new to
-    → named_tests t (is_long old) (above t old) (number_there t old) (is_long new) (above t new) (number_there t new) kind into ≡ named_tests t from.is_long from.above from.number to.is_long to.above to.number kind into
+    → named_parts t (is_long old) (above t old) (number_there t old) (is_long new) (above t new) (number_there t new) kind into ≡ named_tests t from to kind into
 named_sites t old new from to kind into is_from is_to =
-    ap (λ b. named_tests t b (above t old) (number_there t old) (is_long new) (above t new) (number_there t new) kind into) (sym is_from.long)
-    ∙ ap (λ r. named_tests t from.is_long r (number_there t old) (is_long new) (above t new) (number_there t new) kind into) (sym is_from.above)
-    ∙ ap (λ n. named_tests t from.is_long from.above n (is_long new) (above t new) (number_there t new) kind into) (sym is_from.number)
-    ∙ ap (λ b. named_tests t from.is_long from.above from.number b (above t new) (number_there t new) kind into) (sym is_to.long)
-    ∙ ap (λ r. named_tests t from.is_long from.above from.number to.is_long r (number_there t new) kind into) (sym is_to.above)
-    ∙ ap (λ n. named_tests t from.is_long from.above from.number to.is_long to.above n kind into) (sym is_to.number)
+    ap (λ b. named_parts t b (above t old) (number_there t old) (is_long new) (above t new) (number_there t new) kind into) (sym is_from.long)
+    ∙ ap (λ r. named_parts t from.is_long r (number_there t old) (is_long new) (above t new) (number_there t new) kind into) (sym is_from.above)
+    ∙ ap (λ n. named_parts t from.is_long from.above n (is_long new) (above t new) (number_there t new) kind into) (sym is_from.number)
+    ∙ ap (λ b. named_parts t from.is_long from.above from.number b (above t new) (number_there t new) kind into) (sym is_to.long)
+    ∙ ap (λ r. named_parts t from.is_long from.above from.number to.is_long r (number_there t new) kind into) (sym is_to.above)
+    ∙ ap (λ n. named_parts t from.is_long from.above from.number to.is_long to.above n kind into) (sym is_to.number)
 
 link_same : (t : Outline) (old new : List ℕ) (time : ℕ)
-    → tests_of t (op.Link time old new) ≡ named_tests t (is_long old) (above t old) (number_there t old) (is_long new) (above t new) (number_there t new) (has_bits directory_bits (object_named t old)) false
+    → tests_of t (op.Link time old new) ≡ named_parts t (is_long old) (above t old) (number_there t old) (is_long new) (above t new) (number_there t new) (has_bits directory_bits (object_named t old)) false
 link_same t old new time = simp (or_none) refl
 
 rename_same : (t : Outline) (old new : List ℕ) (time : ℕ)
-    → tests_of t (op.Rename time old new) ≡ named_tests t (is_long old) (above t old) (number_there t old) (is_long new) (above t new) (number_there t new) false (into_itself_at t (number_there t old) new)
+    → tests_of t (op.Rename time old new) ≡ named_parts t (is_long old) (above t old) (number_there t old) (is_long new) (above t new) (number_there t new) false (into_itself_at t (number_there t old) new)
 rename_same t old new time = simp (or_none) refl
 
 pub link_from : (page : ℕ) (x : Indexed) (time : ℕ) (old new : List ℕ) (from to : Site) (kind : Bool) (dir ino : ℕ) → IsSiteOf x.tree old from → IsSiteOf x.tree new to
     → kind ≡ has_bits directory_bits (option_and_then (object x.tree) from.number) → dir ≡ number_or_none to.above → dir ≤ 0xFFFFFFFF → ino ≡ unwrap_or from.number 0
-    → IsFrom (planned_by page x (op.Link time old new)) (named_tests x.tree from.is_long from.above from.number to.is_long to.above to.number kind false) (nat_lt 0xFFFFFFFF (top_at x.tops dir + 1)) (step.SetName time dir to.last.now ino ∷ [])
+    → IsFrom (planned_by page x (op.Link time old new)) (named_tests x.tree from to kind false) (nat_lt 0xFFFFFFFF (top_at x.tops dir + 1)) (step.SetName time dir to.last.now ino ∷ [])
 link_from page x time old new from to kind dir ino is_from is_to kind_is e le ino_is =
     let same : parent x.tree new ≡ dir = ap number_or_none (sym is_to.above) ∙ sym e in
     let same_ino : number_or_zero x.tree old ≡ ino = ap (λ (n : Option ℕ). unwrap_or n 0) (sym is_from.number) ∙ sym ino_is in
     let bits : has_bits directory_bits (object_named x.tree old) ≡ kind = ap (λ (n : Option ℕ). has_bits directory_bits (option_and_then (object x.tree) n)) (sym is_from.number) ∙ sym kind_is in
     record {
       is = planned_from page x (op.Link time old new)
-          ∙ plan_same (list_any is_bad_path (paths (op.Link time old new))) false (tests_of x.tree (op.Link time old new)) (named_tests x.tree from.is_long from.above from.number to.is_long to.above to.number kind false)
+          ∙ plan_same (list_any is_bad_path (paths (op.Link time old new))) false (tests_of x.tree (op.Link time old new)) (named_tests x.tree from to kind false)
           (is_exhausted page x (op.Link time old new)) (nat_lt 0xFFFFFFFF (top_at x.tops dir + 1))
           (steps_of page x.tree (op.Link time old new)) (step.SetName time dir to.last.now ino ∷ [])
           (good_both old new is_from.good is_to.good)
           (link_same x.tree old new time
-          ∙ ap (λ b. named_tests x.tree (is_long old) (above x.tree old) (number_there x.tree old) (is_long new) (above x.tree new) (number_there x.tree new) b false) bits
+          ∙ ap (λ b. named_parts x.tree (is_long old) (above x.tree old) (number_there x.tree old) (is_long new) (above x.tree new) (number_there x.tree new) b false) bits
           ∙ named_sites x.tree old new from to kind false is_from is_to)
           (ap (λ p. (nat_lt 0xFFFFFFFF (top_at x.tops p + 1) || nat_lt 0xFFFFFFFF p) || false) same ∙ past_one (top_at x.tops dir + 1) dir le)
           (ap (λ p. step.SetName time p (last_name new) (number_or_zero x.tree old) ∷ []) same ∙ ap (λ l. step.SetName time dir l (number_or_zero x.tree old) ∷ []) (sym is_to.last)
@@ -181,7 +197,7 @@ full_is x time p mode uid gid name target le =
 
 pub made_from : (x : Indexed) (time : ℕ) (path : List ℕ) (kind mode uid gid : ℕ) (target : List ℕ) (link : Bool) (site : Site) (dir whole next : ℕ) → IsSiteOf x.tree path site
     → dir ≡ number_or_none site.above → dir ≤ 0xFFFFFFFF → whole ≡ kind + mode → next ≡ x.tree.next
-    → IsFrom (made_plan x time path kind mode uid gid target link) (made_tests x.tree site.is_long site.above site.number (nat_lt 0o7777 mode) link) (full_by x dir)
+    → IsFrom (made_plan x time path (new_of kind mode uid gid target) link) (made_tests x.tree site.is_long site.above site.number (nat_lt 0o7777 mode) link) (full_by x dir)
     (step.MakeObject time whole uid gid target ∷ step.SetName time dir site.last.now next ∷ [])
 made_from x time path kind mode uid gid target link site dir whole next has e le whole_is next_is =
     let same : parent x.tree path ≡ dir = ap number_or_none (sym has.above) ∙ sym e in
@@ -208,24 +224,24 @@ made_as page x o path mode link e f =
     ∙ plan_same (has_bad_path o) (is_bad_path path) (tests_of x.tree o) (made_tests x.tree (is_long path) (above x.tree path) (number_there x.tree path) mode link)
     (is_exhausted page x o) (is_exhausted page x o) (steps_of page x.tree o) (steps_of page x.tree o) e f refl refl
 
-pub mkdir_made : (page : ℕ) (x : Indexed) (time : ℕ) (path : List ℕ) (mode uid gid : ℕ) → planned_by page x (op.Mkdir time path mode uid gid) ≡ made_plan x time path 0o040000 mode uid gid [] false
+pub mkdir_made : (page : ℕ) (x : Indexed) (time : ℕ) (path : List ℕ) (mode uid gid : ℕ) → planned_by page x (op.Mkdir time path mode uid gid) ≡ made_plan x time path (new_of 0o040000 mode uid gid []) false
 mkdir_made page x time path mode uid gid = made_as page x (op.Mkdir time path mode uid gid) path (nat_lt 0o7777 mode) false (or_none (is_bad_path path)) (simp (or_none) refl)
 
-pub create_made : (page : ℕ) (x : Indexed) (time : ℕ) (path : List ℕ) (mode uid gid : ℕ) → planned_by page x (op.Create time path mode uid gid) ≡ made_plan x time path 0o100000 mode uid gid [] false
+pub create_made : (page : ℕ) (x : Indexed) (time : ℕ) (path : List ℕ) (mode uid gid : ℕ) → planned_by page x (op.Create time path mode uid gid) ≡ made_plan x time path (new_of 0o100000 mode uid gid []) false
 create_made page x time path mode uid gid = made_as page x (op.Create time path mode uid gid) path (nat_lt 0o7777 mode) false (or_none (is_bad_path path)) (simp (or_none) refl)
 
 pub device_made : (page : ℕ) (x : Indexed) (time : ℕ) (path : List ℕ) (kind : DeviceKind) (mode uid gid : ℕ) (number : List ℕ)
-    → planned_by page x (op.Device time path kind mode uid gid number) ≡ made_plan x time path (device_mode kind) mode uid gid number false
+    → planned_by page x (op.Device time path kind mode uid gid number) ≡ made_plan x time path (new_of (device_mode kind) mode uid gid number) false
 device_made page x time path kind mode uid gid number = made_as page x (op.Device time path kind mode uid gid number) path (nat_lt 0o7777 mode) false (or_none (is_bad_path path)) (simp (or_none) refl)
 
-pub fifo_made : (page : ℕ) (x : Indexed) (time : ℕ) (path : List ℕ) (mode uid gid : ℕ) → planned_by page x (op.Fifo time path mode uid gid) ≡ made_plan x time path 0o010000 mode uid gid [] false
+pub fifo_made : (page : ℕ) (x : Indexed) (time : ℕ) (path : List ℕ) (mode uid gid : ℕ) → planned_by page x (op.Fifo time path mode uid gid) ≡ made_plan x time path (new_of 0o010000 mode uid gid []) false
 fifo_made page x time path mode uid gid = made_as page x (op.Fifo time path mode uid gid) path (nat_lt 0o7777 mode) false (or_none (is_bad_path path)) (simp (or_none) refl)
 
-pub socket_made : (page : ℕ) (x : Indexed) (time : ℕ) (path : List ℕ) (mode uid gid : ℕ) → planned_by page x (op.Socket time path mode uid gid) ≡ made_plan x time path 0o140000 mode uid gid [] false
+pub socket_made : (page : ℕ) (x : Indexed) (time : ℕ) (path : List ℕ) (mode uid gid : ℕ) → planned_by page x (op.Socket time path mode uid gid) ≡ made_plan x time path (new_of 0o140000 mode uid gid []) false
 socket_made page x time path mode uid gid = made_as page x (op.Socket time path mode uid gid) path (nat_lt 0o7777 mode) false (or_none (is_bad_path path)) (simp (or_none) refl)
 
 pub symlink_made : (page : ℕ) (x : Indexed) (time : ℕ) (path link : List ℕ) (uid gid : ℕ)
-    → planned_by page x (op.Symlink time path link uid gid) ≡ made_plan x time path 0o120000 0o777 uid gid link (is_bad_target (op.Symlink time path link uid gid))
+    → planned_by page x (op.Symlink time path link uid gid) ≡ made_plan x time path (new_of 0o120000 0o777 uid gid link) (is_bad_target (op.Symlink time path link uid gid))
 symlink_made page x time path link uid gid =
     made_as page x (op.Symlink time path link uid gid) path false (is_bad_target (op.Symlink time path link uid gid)) (or_none (is_bad_path path)) (same (is_bad_target (op.Symlink time path link uid gid)))
   where
@@ -256,7 +272,7 @@ renamed_spent x dir left le le_2 =
 
 pub rename_from : (page : ℕ) (x : Indexed) (time : ℕ) (old new : List ℕ) (from to : Site) (into : Bool) (dir left ino : ℕ) → IsSiteOf x.tree old from → IsSiteOf x.tree new to
     → into ≡ into_itself_at x.tree from.number new → dir ≡ number_or_none to.above → dir ≤ 0xFFFFFFFF → left ≡ number_or_none from.above → left ≤ 0xFFFFFFFF → ino ≡ unwrap_or from.number 0
-    → IsFrom (planned_by page x (op.Rename time old new)) (named_tests x.tree from.is_long from.above from.number to.is_long to.above to.number false into) (spent_by x dir left)
+    → IsFrom (planned_by page x (op.Rename time old new)) (named_tests x.tree from to false into) (spent_by x dir left)
     (step.SetName time dir to.last.now ino ∷ step.ClearName time left from.last.now ∷ [])
 rename_from page x time old new from to into dir left ino is_from is_to into_is e le e_left le_left ino_is =
     let same : parent x.tree new ≡ dir = ap number_or_none (sym is_to.above) ∙ sym e in
@@ -265,12 +281,12 @@ rename_from page x time old new from to into dir left ino is_from is_to into_is 
     let same_into : into_itself_at x.tree (number_there x.tree old) new ≡ into = ap (λ (n : Option ℕ). into_itself_at x.tree n new) (sym is_from.number) ∙ sym into_is in
     record {
       is = planned_from page x (op.Rename time old new)
-          ∙ plan_same (list_any is_bad_path (paths (op.Rename time old new))) false (tests_of x.tree (op.Rename time old new)) (named_tests x.tree from.is_long from.above from.number to.is_long to.above to.number false into)
+          ∙ plan_same (list_any is_bad_path (paths (op.Rename time old new))) false (tests_of x.tree (op.Rename time old new)) (named_tests x.tree from to false into)
           (is_exhausted page x (op.Rename time old new)) (spent_by x dir left)
           (steps_of page x.tree (op.Rename time old new)) (step.SetName time dir to.last.now ino ∷ step.ClearName time left from.last.now ∷ [])
           (good_both old new is_from.good is_to.good)
           (rename_same x.tree old new time
-          ∙ ap (λ b. named_tests x.tree (is_long old) (above x.tree old) (number_there x.tree old) (is_long new) (above x.tree new) (number_there x.tree new) false b) same_into
+          ∙ ap (λ b. named_parts x.tree (is_long old) (above x.tree old) (number_there x.tree old) (is_long new) (above x.tree new) (number_there x.tree new) false b) same_into
           ∙ named_sites x.tree old new from to false into is_from is_to)
           (ap (λ p. list_any is_past (nodes_of x (step.SetName time p (last_name new) (number_or_zero x.tree old) ∷ step.ClearName time (parent x.tree old) (last_name old) ∷ []))) same
           ∙ ap (λ p. list_any is_past (nodes_of x (step.SetName time dir (last_name new) (number_or_zero x.tree old) ∷ step.ClearName time p (last_name old) ∷ []))) same_left

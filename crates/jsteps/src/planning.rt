@@ -5,7 +5,7 @@ ghost use Rattle.std.specs.List.{list_any};
 ghost use Rattle.jmount.specs.Shown.{top_at};
 ghost use Rattle.jsteps.specs.Planning.{IsPage, page_size, most_steps, bytes_steps};
 ghost use Rattle.jsteps.specs.Refusals.{planned, planned_by, greatest_size};
-ghost use Rattle.jsteps.specs.Tests.{GivesPlan, made_plan, full_by, spent_by, into_itself_at};
+ghost use Rattle.jsteps.specs.Tests.{GivesPlan, made_plan, new_of, full_by, spent_by, into_itself_at};
 ghost use Rattle.jsteps.specs.declared.fault.OpFault.TheVariants as refused;
 ghost use Rattle.jsteps.specs.declared.op.Op.TheVariants as op;
 ghost use Rattle.jsteps.specs.declared.step.Step.TheVariants as step;
@@ -312,8 +312,8 @@ fn make<'a>(
     is_bad_target: bool,
 ) -> Result<Vec<Step<'a>>, OpFault>
     requires { kind ≤ 0o170000 }
-    ensures { GivesPlan result
-        (made_plan index.now time path.now kind mode uid gid target.now is_bad_target) }
+    ensures { GivesPlan result (made_plan index.now time path.now
+        (new_of kind mode uid gid target.now) is_bad_target) }
 {
     let Some(site) = look_up(alloc, index, path)? else {
         return Err(OpFault::BadPath);

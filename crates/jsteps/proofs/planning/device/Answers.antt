@@ -1,6 +1,6 @@
 use Rattle.std.proofs.Common.{◌≡◌, ◌≤◌, ◌∙◌, ap, sym, false, List, ℕ, arith}
 use Rattle.jsteps.specs.Device.{device_mode}
-use Rattle.jsteps.specs.Tests.{made_plan}
+use Rattle.jsteps.specs.Tests.{made_plan, new_of}
 use Rattle.jsteps.proofs.OwnLemmas.{device_mode_small}
 use Rattle.jsteps.proofs.PlannedLemmas.{device_made, given_as}
 use Rattle.jsteps.proofs.planning.device.Goals as goal
@@ -15,5 +15,5 @@ pub returns : goal.returns
 returns c = λ page.
     given_as _ _ _ c.make.ensures
     (device_made page c.args.index.now c.args.time c.args.path.now c.args.kind c.args.mode c.args.uid c.args.gid c.args.number.now
-    ∙ ap (λ (bits : ℕ). made_plan c.args.index.now c.args.time c.args.path.now bits c.args.mode c.args.uid c.args.gid c.args.number.now false) (sym c.mode-bits.ensures)
-    ∙ ap (λ (target : List ℕ). made_plan c.args.index.now c.args.time c.args.path.now c.mode-bits.result c.args.mode c.args.uid c.args.gid target false) (sym c.as_slice-target.ensures))
+    ∙ ap (λ (bits : ℕ). made_plan c.args.index.now c.args.time c.args.path.now (new_of bits c.args.mode c.args.uid c.args.gid c.args.number.now) false) (sym c.mode-bits.ensures)
+    ∙ ap (λ (target : List ℕ). made_plan c.args.index.now c.args.time c.args.path.now (new_of c.mode-bits.result c.args.mode c.args.uid c.args.gid target) false) (sym c.as_slice-target.ensures))

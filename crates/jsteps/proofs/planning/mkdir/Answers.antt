@@ -1,5 +1,5 @@
 use Rattle.std.proofs.Common.{◌∙◌, ap, sym, false, List, ℕ}
-use Rattle.jsteps.specs.Tests.{made_plan}
+use Rattle.jsteps.specs.Tests.{made_plan, new_of}
 use Rattle.jsteps.proofs.PlannedLemmas.{mkdir_made, given_as}
 use Rattle.jsteps.proofs.planning.mkdir.Goals as goal
 
@@ -7,4 +7,4 @@ pub returns : goal.returns
 returns c = λ page.
     given_as _ _ _ c.make.ensures
     (mkdir_made page c.args.index.now c.args.time c.args.path.now c.args.mode c.args.uid c.args.gid
-    ∙ ap (λ (target : List ℕ). made_plan c.args.index.now c.args.time c.args.path.now 0o040000 c.args.mode c.args.uid c.args.gid target false) (sym c.as_slice-target.ensures))
+    ∙ ap (λ (target : List ℕ). made_plan c.args.index.now c.args.time c.args.path.now (new_of 0o040000 c.args.mode c.args.uid c.args.gid target) false) (sym c.as_slice-target.ensures))
