@@ -12,4 +12,5 @@ pub mod RunLemmas
 pub mod CutRunLemmas
 pub mod CompressingLemmas
 pub mod WeakLemmas
+mod PackedTreeLemmas
 pub mod PackLemmas

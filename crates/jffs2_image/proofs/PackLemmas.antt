@@ -7,6 +7,7 @@ use Rattle.flashbase.specs.Device.{CountsErr}
 use Rattle.flashbase.specs.Sinks.{SinkChange}
 use Rattle.jcommand.specs.Parsed.{PackingParsed}
 use Rattle.jfolder.specs.Known.{Known}
+use Rattle.jfolder.specs.Text.{listing_text}
 use Rattle.jfolder.specs.declared.found.Options.{Options}
 use Rattle.jreport.specs.declared.faults.ProgramFault.{ProgramFault}
 use Rattle.jffs2_image.specs.Compressing.{FileWrites}
@@ -14,6 +15,7 @@ use Rattle.jffs2_image.specs.Folders.{settings}
 use Rattle.jffs2_image.specs.InfoRuns.{FileReads}
 use Rattle.jffs2_image.specs.PackRuns.{PackAround, PacksFolder, PutsText, ReadsGiven, ReadsListing, WritesText}
 use Rattle.jffs2_image.specs.Writes.{IsBehind}
+use Rattle.jffs2_image.proofs.PackedTreeLemmas.{gives_folder}
 use Rattle.jffs2_image.specs.declared.packing.Listed.{Listed}
 use Rattle.jffs2_image.specs.declared.weak.Notes.{Notes}
 
@@ -43,13 +45,16 @@ pub packed : (asked : PackingParsed) (known : Known) (unmade unput : Type 0) (ar
 packed asked known unmade unput around notes listed text n same given writes =
     let is = reads_text known (settings asked.owner asked.time) asked.folder around.errors listed given in
     let folder = is.0 in
+    let written : WritesText asked (listing_text folder.root folder.items.items) unmade around.reading around.writing around.output notes (Ok n) =
+    subst (λ (bytes : List ℕ). WritesText asked bytes unmade around.reading around.writing around.output notes (Ok n)) (same ∙ is.3) writes in
     inl
     (record {
       folder = folder;
       written = Ok n;
       listable = is.1;
       told = is.4;
-      writes = subst (λ (bytes : List ℕ). WritesText asked bytes unmade around.reading around.writing around.output notes (Ok n)) (same ∙ is.3) writes;
+      writes = written;
+      holds = gives_folder asked folder known (settings asked.owner asked.time) unmade around.reading around.writing around.output notes n is.1 written;
       comes_to = ap (λ (left_out : ℕ). Ok left_out) is.2;
     })
 
@@ -68,5 +73,6 @@ packed_fault asked known unmade unput around notes listed text fault same given 
       listable = is.1;
       told = is.4;
       writes = subst (λ (bytes : List ℕ). WritesText asked bytes unmade around.reading around.writing around.output notes (Err fault)) (same ∙ is.3) writes;
+      holds = tt;
       comes_to = refl;
     })

@@ -21,6 +21,7 @@ use Rattle.jffs2_image.specs.Compressing.{FileWrites}
 use Rattle.jffs2_image.specs.Folders.{IsListable, IsReadingFault, settings}
 use Rattle.jffs2_image.specs.Host.{Blames, MakesFile, RunsFiles}
 use Rattle.jffs2_image.specs.InfoRuns.{FileReads}
+use Rattle.jffs2_image.specs.PackedTrees.{GivesFolder}
 use Rattle.jffs2_image.specs.Runs.{Finishes, Says, answer_finished}
 use Rattle.jffs2_image.specs.WeakRuns.{AreNotesOn, flash_given, notes_said}
 use Rattle.jffs2_image.specs.Writes.{WritesImage}
@@ -111,7 +112,7 @@ left_out_of folder (Ok n) = Ok folder.left_out
 left_out_of folder (Err fault) = Err fault
 
 -- The folder was read, what was left out was told, and the text of the tree that it holds is
--- written.
+-- written. Where that ends without a fault, the file that was made holds this tree.
 pub record IsPacked (asked : PackingParsed) (known : Known) (unmade : Type 0) (around : PackAround)
     (notes : Notes) (result : Result ℕ ProgramFault) : Type 0 where
   pub folder : Folder
@@ -120,6 +121,7 @@ pub record IsPacked (asked : PackingParsed) (known : Known) (unmade : Type 0) (a
   pub told : Tells known (settings asked.owner asked.time) around.errors (Ok folder)
   pub writes : WritesText asked (listing_text folder.root folder.items.items) unmade around.reading
       around.writing around.output notes written
+  pub holds : IfOk written (λ _. GivesFolder asked folder around.reading around.writing)
   pub comes_to : result ≡ left_out_of folder written
 
 -- There is no text, and nothing was written. `unput`: standard output is as it was.

@@ -5,6 +5,7 @@ pub mod StandLemmas
 pub mod RewriteLemmas
 pub mod AppendLemmas
 pub mod RunLemmas
+pub mod RoomLemmas
 pub mod GainLemmas
 pub mod ItemLemmas
 pub mod MakeLemmas

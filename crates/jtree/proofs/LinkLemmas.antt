@@ -1,23 +1,22 @@
 -- The operation of a further name, and what it reaches.
-use Rattle.std.proofs.Common.{◌≡◌, ◌≢◌, ℕ, ◌+◌, ◌≤◌, true, false, List, [], ◌∷◌, ◌++◌, Option, Some, Ok, Result, ap, sym, ◌∙◌, arith}
+use Rattle.std.proofs.Common.{◌≡◌, ◌≢◌, ℕ, ◌+◌, ◌≤◌, true, false, List, [], ◌∷◌, ◌++◌, Option, Some, Ok, Result, ap, sym, ◌∙◌, ⊎_elim, arith}
 use Rattle.std.specs.Prelude.{Contains, ◌==◌, option_map, unwrap_or}
-use Rattle.std.specs.List.{list_any}
 use Rattle.flashbase.specs.Ranges.{IsWord}
 use Rattle.jmount.specs.Find.{IsPath, walk}
 use Rattle.jmount.specs.Tree.{ObjectOf, State, object, sized, type_bits, regular_bits, directory_bits}
 use Rattle.jmount.specs.declared.fault.FindFault.{FindFault}
 use Rattle.jmount.proofs.ShapeLemmas.{there_of_directory}
-use Rattle.jsteps.specs.Nodes.{Indexed, nodes_of}
+use Rattle.jsteps.specs.Nodes.{Indexed}
 use Rattle.jsteps.specs.Planning.{IsPage, steps_of}
-use Rattle.jsteps.specs.Refusals.{is_past}
+use Rattle.jsteps.specs.Refusals.{is_exhausted}
 use Rattle.jsteps.specs.Where.{last_name, number_or_none, number_or_zero}
 use Rattle.jsteps.specs.declared.op.Op.TheVariants as op
 use Rattle.jsteps.specs.declared.step.Step.TheVariants as step
 use Rattle.jtree.proofs.AcceptLemmas.{IsFile, accept, link_free}
-use Rattle.jtree.proofs.CountLemmas.{none_past}
 use Rattle.jtree.proofs.GainLemmas.{name_stands}
 use Rattle.jtree.proofs.ItemLemmas.{IsAhead, ahead_placed}
-use Rattle.jtree.proofs.MakeLemmas.{few_numbers, some_numbers}
+use Rattle.jtree.proofs.MakeLemmas.{few_numbers, not_spent, some_numbers}
+use Rattle.jtree.proofs.RoomLemmas.{HasRoom, Passes}
 use Rattle.jtree.proofs.RunLemmas.{IsAt, Reaches, at_directory, at_named, at_numbered, at_object, at_walk, reaches_one}
 use Rattle.jtree.proofs.StandLemmas.{Made, Stands}
 use Rattle.jtree.proofs.WayLemmas.{has_long, placed, walk_last}
@@ -35,9 +34,9 @@ pub record IsTarget (made : List Made) (path : List ℕ) (f : Made) : Type 0 whe
 
 pub link_reaches : (page n : ℕ) (x : Indexed) (s : State) (time : ℕ) (old new : List ℕ) (f m : Made) (root : ObjectOf (List ℕ)) (made : List Made)
     → IsPage page → IsAt n x s → Stands root made s → IsTarget made old f → (a : IsAhead new s) → IsWord time
-    → m.names ≡ a.way ++ a.name ∷ [] → m.origin ≡ f.names → m.names ≢ m.origin → n + 4 ≤ 0xFFFFFFFF
+    → m.names ≡ a.way ++ a.name ∷ [] → m.origin ≡ f.names → m.names ≢ m.origin → HasRoom n page x (op.Link time old new)
     → Reaches page n x s (op.Link time old new ∷ []) root (made ++ m ∷ []) 1
-link_reaches page n x s time old new f m root made is_page at stands t a now names origin other few =
+link_reaches page n x s time old new f m root made is_page at stands t a now names origin other has =
     let h = stands.held f t.among in
     let ino = h.number in
     let l = walk_last s t.way t.name 1 ino (ap (λ ns. walk s ns (Ok 1)) (sym t.names) ∙ h.leads) in
@@ -57,9 +56,12 @@ link_reaches page n x s time old new f m root made is_page at stands t a now nam
     ap (λ (r : Result ℕ FindFault). step.SetName time (number_or_none r) (last_name new) (number_or_zero x.tree old) ∷ []) q.above_is
     ∙ ap (λ name. step.SetName time a.dir name (number_or_zero x.tree old) ∷ []) q.last
     ∙ ap (λ i. step.SetName time a.dir a.name i ∷ []) number in
+    let room : is_exhausted page x (op.Link time old new) ≡ false =
+    ⊎_elim
+    (λ (few : n + 4 ≤ 0xFFFFFFFF).
     let owner : a.dir ≤ 0xFFFFFFFF = few_numbers n x s at a.dir (at_numbered n x s at a.dir (there_of_directory s a.dir a.directory)) (omega arith) in
-    let room : list_any is_past (nodes_of x (steps_of page x.tree (op.Link time old new))) ≡ false =
-    ap (λ ss. list_any is_past (nodes_of x ss)) all ∙ none_past n x steps at.counted (owner, tt) (omega arith) in
+    not_spent page n x s (op.Link time old new) steps at all (owner, tt) (omega arith))
+    (λ (pass : Passes page x (op.Link time old new)). pass.room) has in
     reaches_one page n x s (op.Link time old new) steps root (made ++ m ∷ []) 1 is_page at now
     (accept page x (op.Link time old new) steps
     (link_free page x time old new l.dir t.name ino (sized f.object_is) a.dir a.name p file q (at_named n x s at a.dir a.name ∙ a.free)) all room)

@@ -1,5 +1,5 @@
 -- The operation of a new object, and what it reaches.
-use Rattle.std.proofs.Common.{◌≡◌, ℕ, suc, ◌+◌, ◌-◌, ◌*◌, ◌/◌, ◌<◌, ◌≤◌, Bool, true, false, cond, List, [], ◌∷◌, ◌++◌, length, take, drop, Some, None, Result, Ok, refl, ap, sym, ◌∙◌, subst, length-append, length-drop, arith}
+use Rattle.std.proofs.Common.{◌≡◌, ℕ, suc, ◌+◌, ◌-◌, ◌*◌, ◌/◌, ◌<◌, ◌≤◌, Bool, true, false, cond, List, [], ◌∷◌, ◌++◌, length, take, drop, Some, None, Result, Ok, refl, ap, sym, ◌∙◌, subst, ⊎_elim, length-append, length-drop, arith}
 use Rattle.std.specs.Prelude.{◌==◌, flat_map, nat_lt}
 use Rattle.std.specs.List.{list_any, AllByRecursion}
 use Rattle.std.specs.Ordering.{eq_by_cmp, nat_cmp}
@@ -13,7 +13,7 @@ use Rattle.jmount.specs.declared.fault.FindFault.{FindFault}
 use Rattle.jmount.proofs.ShapeLemmas.{there_of_directory}
 use Rattle.jsteps.specs.Nodes.{Indexed, nodes_of}
 use Rattle.jsteps.specs.Planning.{IsPage, bytes_steps, first_len, page_puts, piece_puts, plain_page, puts, spelling_len, steps_of, write_steps, zeros_to}
-use Rattle.jsteps.specs.Refusals.{is_past}
+use Rattle.jsteps.specs.Refusals.{is_exhausted, is_past}
 use Rattle.jsteps.specs.Laws.{OpFits}
 use Rattle.jsteps.specs.Steps.{bytes, do_step, after, is_device, own_bytes}
 use Rattle.jsteps.specs.Where.{last_name, number_or_none}
@@ -28,6 +28,7 @@ use Rattle.jtree.proofs.AcceptLemmas.{IsFree, accept}
 use Rattle.jtree.proofs.AppendLemmas.{after-append, write_appends, write_few}
 use Rattle.jtree.proofs.CountLemmas.{HasOwner, none_past}
 use Rattle.jtree.proofs.RewriteLemmas.{insert_other, itself, untied}
+use Rattle.jtree.proofs.RoomLemmas.{HasRoom, Passes}
 use Rattle.jtree.proofs.WayLemmas.{IsPlaced, has_long}
 use Rattle.jtree.proofs.StandLemmas.{Made, Stands}
 use Rattle.jtree.proofs.GainLemmas.{Makes, own, new_stands}
@@ -49,16 +50,19 @@ few_numbers n x s at i below few =
 abbrev pub new_object : ℕ → ℕ → ℕ → ℕ → List ℕ → ObjectOf (List ℕ)
 new_object time mode uid gid target = record { mode = mode; uid = uid; gid = gid; atime = time; mtime = time; ctime = time; body = target }
 
+-- so few steps spend no number and no version
+pub not_spent : (page n : ℕ) (x : Indexed) (s : State) (o : Op) (steps : List Step) → IsAt n x s → steps_of page x.tree o ≡ steps → AllByRecursion HasOwner steps
+    → n + length steps + 2 ≤ 0xFFFFFFFF → is_exhausted page x o ≡ false
+not_spent page n x s o steps at are owners few = ap (λ ss. list_any is_past (nodes_of x ss)) are ∙ none_past n x steps at.counted owners few
+
 -- an operation that makes one object and its name, by as many steps as it takes
 pub made_reaches : (page n : ℕ) (x : Indexed) (s : State) (o : Op) (steps : List Step) (new : ObjectOf (List ℕ)) (way : List (List ℕ)) (name : List ℕ)
     (dir : ℕ) (root : ObjectOf (List ℕ)) (made : List Made) (most : ℕ)
     → IsPage page → IsAt n x s → Stands root made s → OpFits o → IsFree page x o
-    → steps_of page x.tree o ≡ steps → AllByRecursion HasOwner steps → Makes s (after bytes s steps) dir name new → length steps ≤ most
-    → walk s way (Ok 1) ≡ Ok dir → is_directory s dir ≡ true → named s dir name ≡ None → has_long (way ++ name ∷ []) ≡ false → n + most + 2 ≤ 0xFFFFFFFF
+    → steps_of page x.tree o ≡ steps → is_exhausted page x o ≡ false → Makes s (after bytes s steps) dir name new → length steps ≤ most
+    → walk s way (Ok 1) ≡ Ok dir → is_directory s dir ≡ true → named s dir name ≡ None → has_long (way ++ name ∷ []) ≡ false
     → Reaches page n x s (o ∷ []) root (made ++ own (way ++ name ∷ []) new ∷ []) most
-made_reaches page n x s o steps new way name dir root made most is_page at stands fits is_free are owners makes short leads there free few_names few =
-    let room : list_any is_past (nodes_of x (steps_of page x.tree o)) ≡ false =
-    ap (λ ss. list_any is_past (nodes_of x ss)) are ∙ none_past n x steps at.counted owners (omega arith) in
+made_reaches page n x s o steps new way name dir root made most is_page at stands fits is_free are room makes short leads there free few_names =
     reaches_one page n x s o steps root (made ++ own (way ++ name ∷ []) new ∷ []) most is_page at fits
     (accept page x o steps is_free are room)
     (new_stands root made s (after bytes s steps) way name dir new stands (some_numbers n x s at) makes (at_numbered n x s at) leads there free few_names)
@@ -93,15 +97,20 @@ pub make_reaches : (page n : ℕ) (x : Indexed) (s : State) (o : Op) (time mode 
     (dir : ℕ) (root : ObjectOf (List ℕ)) (made : List Made)
     → IsPage page → IsAt n x s → Stands root made s → OpFits o → IsFree page x o
     → steps_of page x.tree o ≡ step.MakeObject time mode uid gid target ∷ step.SetName time dir name x.tree.next ∷ []
-    → walk s way (Ok 1) ≡ Ok dir → is_directory s dir ≡ true → named s dir name ≡ None → has_long (way ++ name ∷ []) ≡ false → n + 4 ≤ 0xFFFFFFFF
+    → walk s way (Ok 1) ≡ Ok dir → is_directory s dir ≡ true → named s dir name ≡ None → has_long (way ++ name ∷ []) ≡ false → HasRoom n page x o
     → Reaches page n x s (o ∷ []) root (made ++ own (way ++ name ∷ []) (new_object time mode uid gid body) ∷ []) 2
-make_reaches page n x s o time mode uid gid target body same way name dir root made is_page at stands fits is_free are leads there free short few =
+make_reaches page n x s o time mode uid gid target body same way name dir root made is_page at stands fits is_free are leads there free short has =
     let steps = step.MakeObject time mode uid gid target ∷ step.SetName time dir name s.next ∷ [] in
     let all : steps_of page x.tree o ≡ steps = are ∙ ap (λ i. step.MakeObject time mode uid gid target ∷ step.SetName time dir name i ∷ [])
     (at_next n x s at) in
+    let room : is_exhausted page x o ≡ false =
+    ⊎_elim
+    (λ (few : n + 4 ≤ 0xFFFFFFFF).
     let owner : dir ≤ 0xFFFFFFFF = few_numbers n x s at dir (at_numbered n x s at dir (there_of_directory s dir there)) (omega arith) in
-    made_reaches page n x s o steps (new_object time mode uid gid body) way name dir root made 2 is_page at stands fits is_free all (tt, (owner, tt))
-    (make_makes s time mode uid gid target body dir name same) (omega arith) leads there free short (omega arith)
+    not_spent page n x s o steps at all (tt, (owner, tt)) (omega arith))
+    (λ (pass : Passes page x o). pass.room) has in
+    made_reaches page n x s o steps (new_object time mode uid gid body) way name dir root made 2 is_page at stands fits is_free all room
+    (make_makes s time mode uid gid target body dir name same) (omega arith) leads there free short
 
 -- ---- a file, whose further bytes are put after it
 
@@ -175,10 +184,10 @@ pub file_reaches : (page n : ℕ) (x : Indexed) (s : State) (time : ℕ) (path :
     → IsPage page → IsAt n x s → Stands root made s → OpFits (op.File time path mode uid gid all) → IsFree page x (op.File time path mode uid gid all)
     → IsPlaced x.tree path dir name
     → walk s way (Ok 1) ≡ Ok dir → is_directory s dir ≡ true → named s dir name ≡ None → has_long (way ++ name ∷ []) ≡ false
-    → n + (8 + length all / 512) + 4 ≤ 0xFFFFFFFF
+    → HasRoom (n + (8 + length all / 512)) page x (op.File time path mode uid gid all)
     → Reaches page n x s (op.File time path mode uid gid all ∷ []) root
     (made ++ own (way ++ name ∷ []) (new_object time (0o100000 + mode) uid gid all) ∷ []) (8 + length all / 512)
-file_reaches page n x s time path mode uid gid all bits way name dir root made is_page at stands fits is_free p leads there free short few =
+file_reaches page n x s time path mode uid gid all bits way name dir root made is_page at stands fits is_free p leads there free short has =
     let whole = 0o100000 + mode in
     let o = op.File time path mode uid gid all in
     let set = step.SetName time dir name s.next in
@@ -187,11 +196,17 @@ file_reaches page n x s time path mode uid gid all bits way name dir root made i
     ap (λ (r : Result ℕ FindFault). bytes_steps page x.tree.next time whole uid gid all ++ step.SetName time (number_or_none r) (last_name path) x.tree.next ∷ []) p.above_is
     ∙ ap (λ l. bytes_steps page x.tree.next time whole uid gid all ++ step.SetName time dir l x.tree.next ∷ []) p.last
     ∙ ap (λ i. bytes_steps page i time whole uid gid all ++ step.SetName time dir name i ∷ []) (at_next n x s at) in
-    let owner : dir ≤ 0xFFFFFFFF = few_numbers n x s at dir (at_numbered n x s at dir (there_of_directory s dir there)) (omega arith) in
     let most : x.tree.next ≤ n + 2 = at.counted.next in
     let next : x.tree.next ≡ s.next = at_next n x s at in
     let first = first_len page (length all) in
+    let few_steps : length steps ≤ 8 + length all / 512 = file_few page s.next time whole uid gid all set is_page in
+    let room : is_exhausted page x o ≡ false =
+    ⊎_elim
+    (λ (few : n + (8 + length all / 512) + 4 ≤ 0xFFFFFFFF).
+    let owner : dir ≤ 0xFFFFFFFF = few_numbers n x s at dir (at_numbered n x s at dir (there_of_directory s dir there)) (omega arith) in
     let owners : AllByRecursion HasOwner steps =
     (tt, owners_append (write_steps page time s.next first first (drop first all)) (set ∷ []) (write_owners page time s.next first first (drop first all) (omega arith)) (owner, tt)) in
-    made_reaches page n x s o steps (new_object time whole uid gid all) way name dir root made (8 + length all / 512) is_page at stands fits is_free are owners
-    (file_makes page s time whole uid gid all dir name (regular_is_plain mode bits) is_page) (file_few page s.next time whole uid gid all set is_page) leads there free short (omega arith)
+    not_spent page n x s o steps at are owners (omega arith))
+    (λ (pass : Passes page x o). pass.room) has in
+    made_reaches page n x s o steps (new_object time whole uid gid all) way name dir root made (8 + length all / 512) is_page at stands fits is_free are room
+    (file_makes page s time whole uid gid all dir name (regular_is_plain mode bits) is_page) few_steps leads there free short

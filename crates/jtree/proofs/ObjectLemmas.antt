@@ -1,5 +1,5 @@
 -- The operations of one item, and what they reach.
-use Rattle.std.proofs.Common.{◌≡◌, ◌≢◌, ℕ, ◌+◌, ◌/◌, ◌%◌, ◌<◌, ◌≤◌, true, false, List, [], ◌∷◌, ◌++◌, length, map, refl, ap, sym, ◌∙◌, subst, arith}
+use Rattle.std.proofs.Common.{◌≡◌, ◌≢◌, ℕ, ◌+◌, ◌/◌, ◌%◌, ◌<◌, ◌≤◌, true, false, List, [], ◌∷◌, ◌++◌, length, map, ◌⊎◌, inl, inr, refl, ap, sym, ◌∙◌, subst, ⊎_elim, arith}
 use Rattle.std.specs.Prelude.{All, Contains, ◌==◌, ◌&&◌, ◌||◌, nat_le}
 use Rattle.std.specs.String.{string_bytes}
 use Rattle.std.proofs.lemmas.Bool.{cond_both, cond-true, eq-eqb, ne_eqb}
@@ -30,6 +30,7 @@ use Rattle.jtree.proofs.GainLemmas.{own}
 use Rattle.jtree.proofs.ItemLemmas.{IsAhead, IsBuilt, Contains-from_map, Contains-mapped, ahead_placed, made_of, names_are, names_of}
 use Rattle.jtree.proofs.LinkLemmas.{IsTarget, link_reaches}
 use Rattle.jtree.proofs.MakeLemmas.{file_reaches, make_reaches, own_none}
+use Rattle.jtree.proofs.RoomLemmas.{AreAllAccepted, HasRoom, Passes, not_large, one_passes, room_of}
 use Rattle.jtree.proofs.RunLemmas.{IsAt, Reaches, at_named, reaches_weaker}
 use Rattle.jtree.proofs.StandLemmas.{Made, Stands}
 
@@ -47,7 +48,7 @@ plain_mode : (mode : ℕ) → mode ≤ 0o7777 → (type_bits (0o100000 + mode) =
 plain_mode mode fits = ne_eqb ((0o100000 + mode) / 4096 % 16) 4 (λ e. omega arith)
 
 directory_reaches : (page n : ℕ) (e : Endian) (x : Indexed) (s : State) (files : Files) (path : List ℕ) (a : Attributes) (root : ObjectOf (List ℕ)) (made : List Made)
-    → IsPage page → IsAt n x s → Stands root made s → IsAhead path s → AttributesFit a → n + 4 ≤ 0xFFFFFFFF
+    → IsPage page → IsAt n x s → Stands root made s → IsAhead path s → AttributesFit a → HasRoom n page x (op.Mkdir a.time path a.mode a.uid a.gid)
     → Reaches page n x s (ops_with e files (object_actions path a what.Directory)) root (made ++ made_at files path a what.Directory ∷ []) 2
 directory_reaches page n e x s files path a root made is_page at stands ahead fits few =
     let p = ahead_placed n x s path at ahead in
@@ -88,7 +89,7 @@ number_few e major minor =
     (λ new. let four : length (bytes_in e 4 (new_number major minor)) ≡ 4 = four_long e (new_number major minor) in omega arith)
 
 device_reaches : (page n : ℕ) (e : Endian) (x : Indexed) (s : State) (files : Files) (path : List ℕ) (a : Attributes) (device : DeviceKind) (major minor : ℕ) (root : ObjectOf (List ℕ)) (made : List Made)
-    → IsPage page → IsAt n x s → Stands root made s → IsAhead path s → AttributesFit a → n + 4 ≤ 0xFFFFFFFF
+    → IsPage page → IsAt n x s → Stands root made s → IsAhead path s → AttributesFit a → HasRoom n page x (op.Device a.time path device a.mode a.uid a.gid (device_number e major minor))
     → Reaches page n x s (ops_with e files (object_actions path a (what.Device device major minor))) root (made ++ made_at files path a (what.Device device major minor) ∷ []) 2
 device_reaches page n e x s files path a device major minor root made is_page at stands ahead fits few =
     let p = ahead_placed n x s path at ahead in
@@ -104,7 +105,7 @@ device_reaches page n e x s files path a device major minor root made is_page at
     ahead.leads ahead.directory ahead.free ahead.short few)
 
 fifo_reaches : (page n : ℕ) (e : Endian) (x : Indexed) (s : State) (files : Files) (path : List ℕ) (a : Attributes) (root : ObjectOf (List ℕ)) (made : List Made)
-    → IsPage page → IsAt n x s → Stands root made s → IsAhead path s → AttributesFit a → n + 4 ≤ 0xFFFFFFFF
+    → IsPage page → IsAt n x s → Stands root made s → IsAhead path s → AttributesFit a → HasRoom n page x (op.Fifo a.time path a.mode a.uid a.gid)
     → Reaches page n x s (ops_with e files (object_actions path a what.Fifo)) root (made ++ made_at files path a what.Fifo ∷ []) 2
 fifo_reaches page n e x s files path a root made is_page at stands ahead fits few =
     let p = ahead_placed n x s path at ahead in
@@ -118,7 +119,7 @@ fifo_reaches page n e x s files path a root made is_page at stands ahead fits fe
     ahead.leads ahead.directory ahead.free ahead.short few)
 
 socket_reaches : (page n : ℕ) (e : Endian) (x : Indexed) (s : State) (files : Files) (path : List ℕ) (a : Attributes) (root : ObjectOf (List ℕ)) (made : List Made)
-    → IsPage page → IsAt n x s → Stands root made s → IsAhead path s → AttributesFit a → n + 4 ≤ 0xFFFFFFFF
+    → IsPage page → IsAt n x s → Stands root made s → IsAhead path s → AttributesFit a → HasRoom n page x (op.Socket a.time path a.mode a.uid a.gid)
     → Reaches page n x s (ops_with e files (object_actions path a what.Socket)) root (made ++ made_at files path a what.Socket ∷ []) 2
 socket_reaches page n e x s files path a root made is_page at stands ahead fits few =
     let p = ahead_placed n x s path at ahead in
@@ -134,7 +135,7 @@ socket_reaches page n e x s files path a root made is_page at stands ahead fits 
 symlink_reaches : (page n : ℕ) (x : Indexed) (s : State) (files : Files) (path : List ℕ) (a : Attributes) (target : List ℕ) (root : ObjectOf (List ℕ))
     (made : List Made)
     → IsPage page → IsAt n x s → Stands root made s → IsAhead path s → AttributesFit a → 0 < length target → length target ≤ 4095
-    → All (λ b. b ≢ 0) target → n + 4 ≤ 0xFFFFFFFF
+    → All (λ b. b ≢ 0) target → HasRoom n page x (op.Symlink a.time path target a.uid a.gid)
     → Reaches page n x s (op.Symlink a.time path target a.uid a.gid ∷ []) root (made ++ own (names_on_path path) (object_with 0o120777 a target) ∷ []) 2
 symlink_reaches page n x s files path a target root made is_page at stands ahead fits some short none few =
     let p = ahead_placed n x s path at ahead in
@@ -149,18 +150,21 @@ symlink_reaches page n x s files path a target root made is_page at stands ahead
 
 regular_reaches : (page n : ℕ) (x : Indexed) (s : State) (path : List ℕ) (a : Attributes) (all : List ℕ) (root : ObjectOf (List ℕ)) (made : List Made)
     → IsPage page → IsAt n x s → Stands root made s → IsAhead path s → AttributesFit a
-    → length all ≤ 2147483647 → n + (8 + length all / 512) + 4 ≤ 0xFFFFFFFF
+    → (length all ≤ 2147483647) × (n + (8 + length all / 512) + 4 ≤ 0xFFFFFFFF) ⊎ Passes page x (op.File a.time path a.mode a.uid a.gid all)
     → Reaches page n x s (op.File a.time path a.mode a.uid a.gid all ∷ []) root (made ++ own (names_on_path path) (object_with (0o100000 + a.mode) a all) ∷ [])
     (8 + length all / 512)
-regular_reaches page n x s path a all root made is_page at stands ahead fits short few =
+regular_reaches page n x s path a all root made is_page at stands ahead fits has =
     let p = ahead_placed n x s path at ahead in
+    let short : length all ≤ 2147483647 = ⊎_elim (λ few. few.0)
+    (λ (pass : Passes page x (op.File a.time path a.mode a.uid a.gid all)). not_large 2147483647 (length all) pass.large) has in
+    let room : HasRoom (n + (8 + length all / 512)) page x (op.File a.time path a.mode a.uid a.gid all) = ⊎_elim (λ few. inl few.1) (λ pass. inr pass) has in
     subst (λ ns. Reaches page n x s (op.File a.time path a.mode a.uid a.gid all ∷ []) root (made ++ own ns (object_with (0o100000 + a.mode) a all) ∷ [])
     (8 + length all / 512))
     (sym (names_are path (ahead.way ++ ahead.name ∷ []) ahead.path_is))
     (file_reaches page n x s a.time path a.mode a.uid a.gid all fits.mode ahead.way ahead.name ahead.dir root made is_page at stands
     (fits.time, fits.uid, fits.gid)
     (file_free page x a.time path a.mode a.uid a.gid all ahead.dir ahead.name p (at_named n x s at ahead.dir ahead.name ∙ ahead.free) fits.mode short)
-    p ahead.leads ahead.directory ahead.free ahead.short few)
+    p ahead.leads ahead.directory ahead.free ahead.short room)
 
 -- a regular file that stands may have further names
 target_of : (files : Files) (root : ObjectOf (List ℕ)) (before : List Item) (n : ℕ) (x : Indexed) (s : State) (i : Item) (first : List ℕ)
@@ -196,36 +200,47 @@ fresh_names files root before n x s path names built is fresh p among e =
     let same : names_of from.0 ≡ names = ap (λ (m : Made). m.names) from.2 ∙ e in
     fresh from.0 from.1 ((built.known from.0 from.1).path.0 ∙ ap path_text same ∙ sym is.0)
 
+-- its bytes and the steps for them are few
+pub record AreFewOf (n : ℕ) (files : Files) (w : What) : Type 0 where
+  pub short : length (bytes_of_what files w) ≤ 2147483647
+  pub few : n + (8 + length (bytes_of_what files w) / 512) + 4 ≤ 0xFFFFFFFF
+
 pub object_reaches : (page n : ℕ) (e : Endian) (x : Indexed) (s : State) (files : Files) (path : List ℕ) (a : Attributes) (w : What) (root : ObjectOf (List ℕ))
     (before : List Item)
     → IsPage page → IsBuilt files root before n x s → IsAhead path s → IsFresh before path → LinksBack before w → HasTarget w → AttributesFit a
-    → length (bytes_of_what files w) ≤ 2147483647 → n + (8 + length (bytes_of_what files w) / 512) + 4 ≤ 0xFFFFFFFF
+    → AreFewOf n files w ⊎ AreAllAccepted page x (ops_with e files (object_actions path a w))
     → Reaches page n x s (ops_with e files (object_actions path a w)) root (map (made_of files) before ++ made_at files path a w ∷ [])
     (8 + length (bytes_of_what files w) / 512)
-object_reaches page n e x s files path a what.Directory root before is_page built ahead fresh links target fits short few =
+object_reaches page n e x s files path a what.Directory root before is_page built ahead fresh links target fits has =
     reaches_weaker page n x s (ops_with e files (object_actions path a what.Directory)) root
     (map (made_of files) before ++ made_at files path a what.Directory ∷ []) 2 (8 + length (bytes_of_what files what.Directory) / 512) (omega arith)
-    (directory_reaches page n e x s files path a root (map (made_of files) before) is_page built.is_at built.stands ahead fits (omega arith))
-object_reaches page n e x s files path a (what.Regular file) root before is_page built ahead fresh links target fits short few =
-    regular_reaches page n x s path a (files (string_bytes file)) root (map (made_of files) before) is_page built.is_at built.stands ahead fits short few
-object_reaches page n e x s files path a (what.Device device major minor) root before is_page built ahead fresh links target fits short few =
+    (directory_reaches page n e x s files path a root (map (made_of files) before) is_page built.is_at built.stands ahead fits
+    (room_of n page x (op.Mkdir a.time path a.mode a.uid a.gid) (λ (few : AreFewOf n files what.Directory). let some : n + (8 + length (bytes_of_what files what.Directory) / 512) + 4 ≤ 0xFFFFFFFF = few.few in omega arith) has))
+object_reaches page n e x s files path a (what.Regular file) root before is_page built ahead fresh links target fits has =
+    regular_reaches page n x s path a (files (string_bytes file)) root (map (made_of files) before) is_page built.is_at built.stands ahead fits
+    (⊎_elim (λ (few : AreFewOf n files (what.Regular file)). inl (few.short, few.few)) (λ all. inr (one_passes page x (op.File a.time path a.mode a.uid a.gid (files (string_bytes file))) all)) has)
+object_reaches page n e x s files path a (what.Device device major minor) root before is_page built ahead fresh links target fits has =
     reaches_weaker page n x s (ops_with e files (object_actions path a (what.Device device major minor))) root
     (map (made_of files) before ++ made_at files path a (what.Device device major minor) ∷ []) 2 (8 + length (bytes_of_what files (what.Device device major minor)) / 512) (omega arith)
-    (device_reaches page n e x s files path a device major minor root (map (made_of files) before) is_page built.is_at built.stands ahead fits (omega arith))
-object_reaches page n e x s files path a what.Fifo root before is_page built ahead fresh links target fits short few =
+    (device_reaches page n e x s files path a device major minor root (map (made_of files) before) is_page built.is_at built.stands ahead fits
+    (room_of n page x (op.Device a.time path device a.mode a.uid a.gid (device_number e major minor)) (λ (few : AreFewOf n files (what.Device device major minor)). let some : n + (8 + length (bytes_of_what files (what.Device device major minor)) / 512) + 4 ≤ 0xFFFFFFFF = few.few in omega arith) has))
+object_reaches page n e x s files path a what.Fifo root before is_page built ahead fresh links target fits has =
     reaches_weaker page n x s (ops_with e files (object_actions path a what.Fifo)) root
     (map (made_of files) before ++ made_at files path a what.Fifo ∷ []) 2 (8 + length (bytes_of_what files what.Fifo) / 512) (omega arith)
-    (fifo_reaches page n e x s files path a root (map (made_of files) before) is_page built.is_at built.stands ahead fits (omega arith))
-object_reaches page n e x s files path a what.Socket root before is_page built ahead fresh links target fits short few =
+    (fifo_reaches page n e x s files path a root (map (made_of files) before) is_page built.is_at built.stands ahead fits
+    (room_of n page x (op.Fifo a.time path a.mode a.uid a.gid) (λ (few : AreFewOf n files what.Fifo). let some : n + (8 + length (bytes_of_what files what.Fifo) / 512) + 4 ≤ 0xFFFFFFFF = few.few in omega arith) has))
+object_reaches page n e x s files path a what.Socket root before is_page built ahead fresh links target fits has =
     reaches_weaker page n x s (ops_with e files (object_actions path a what.Socket)) root
     (map (made_of files) before ++ made_at files path a what.Socket ∷ []) 2 (8 + length (bytes_of_what files what.Socket) / 512) (omega arith)
-    (socket_reaches page n e x s files path a root (map (made_of files) before) is_page built.is_at built.stands ahead fits (omega arith))
-object_reaches page n e x s files path a (what.Symlink t) root before is_page built ahead fresh links target fits short few =
+    (socket_reaches page n e x s files path a root (map (made_of files) before) is_page built.is_at built.stands ahead fits
+    (room_of n page x (op.Socket a.time path a.mode a.uid a.gid) (λ (few : AreFewOf n files what.Socket). let some : n + (8 + length (bytes_of_what files what.Socket) / 512) + 4 ≤ 0xFFFFFFFF = few.few in omega arith) has))
+object_reaches page n e x s files path a (what.Symlink t) root before is_page built ahead fresh links target fits has =
     reaches_weaker page n x s (ops_with e files (object_actions path a (what.Symlink t))) root
     (map (made_of files) before ++ made_at files path a (what.Symlink t) ∷ []) 2 (8 + length (bytes_of_what files (what.Symlink t)) / 512) (omega arith)
     (symlink_reaches page n x s files path a (string_bytes t) root (map (made_of files) before) is_page built.is_at built.stands ahead fits target.0
-    target.1 target.2 (omega arith))
-object_reaches page n e x s files path a (what.Link first) root before is_page built ahead fresh links target fits short few =
+    target.1 target.2
+    (room_of n page x (op.Symlink a.time path (string_bytes t) a.uid a.gid) (λ (few : AreFewOf n files (what.Symlink t)). let some : n + (8 + length (bytes_of_what files (what.Symlink t)) / 512) + 4 ≤ 0xFFFFFFFF = few.few in omega arith) has))
+object_reaches page n e x s files path a (what.Link first) root before is_page built ahead fresh links target fits has =
     let i = links.0 in
     let names = ahead.way ++ ahead.name ∷ [] in
     let f = made_of files i in
@@ -237,4 +252,5 @@ object_reaches page n e x s files path a (what.Link first) root before is_page b
     (8 + length (bytes_of_what files (what.Link first)) / 512) (omega arith)
     (link_reaches page n x s a.time (string_bytes first) path f m root (map (made_of files) before) is_page built.is_at built.stands is ahead fits.time
     here origin
-    (λ e. fresh_names files root before n x s path names built ahead.path_is fresh f is.among (sym origin ∙ sym e ∙ here)) (omega arith))
+    (λ e. fresh_names files root before n x s path names built ahead.path_is fresh f is.among (sym origin ∙ sym e ∙ here))
+    (room_of n page x (op.Link a.time (string_bytes first) path) (λ (few : AreFewOf n files (what.Link first)). let some : n + (8 + length (bytes_of_what files (what.Link first)) / 512) + 4 ≤ 0xFFFFFFFF = few.few in omega arith) has))

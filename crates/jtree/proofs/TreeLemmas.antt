@@ -4,7 +4,7 @@ use Rattle.std.specs.Prelude.{Contains, flat_map, is_ok}
 use Rattle.std.specs.String.{string_bytes}
 use Rattle.std.proofs.lemmas.Bool.{false≢true}
 use Rattle.std.specs.List.{AllByRecursion}
-use Rattle.jmount.specs.Mounts.{plain_nodes}
+use Rattle.jmount.specs.Mounts.{MountsAs, plain_nodes}
 use Rattle.jsteps.specs.Laws.{OpFits}
 use Rattle.jsteps.specs.Planning.{IsPage}
 use Rattle.jsteps.specs.Refusals.{plans_of, steps_of_first}
@@ -19,7 +19,7 @@ use Rattle.jmount.specs.Tree.{ObjectOf, State}
 use Rattle.jmount.specs.Shape.{HasShape}
 use Rattle.jmount.proofs.PathNameLemmas.{path_names_exactly}
 use Rattle.jmount.proofs.ShapePathLemmas.{one_path_to_each}
-use Rattle.jsteps.specs.Nodes.{index_of, nodes_of}
+use Rattle.jsteps.specs.Nodes.{advanced_all, index_of, nodes_of}
 use Rattle.jsteps.specs.Steps.{bytes, after}
 use Rattle.jsteps.specs.Where.{names_on_path}
 use Rattle.jsteps.specs.declared.op.Op.{Op}
@@ -43,7 +43,8 @@ use Rattle.jtree.proofs.ObjectLemmas.{made_at}
 use Rattle.jtree.proofs.RunLemmas.{reaches_then, runs_all, runs_steps}
 use Rattle.jtree.proofs.StandLemmas.{IsHeld, Made, Stands}
 use Rattle.jtree.proofs.WayLemmas.{path_is, walk_last}
-use Rattle.jtree.proofs.WholeLemmas.{items_done}
+use Rattle.jtree.proofs.RoomLemmas.{AreAllAccepted, accepted_back}
+use Rattle.jtree.proofs.WholeLemmas.{AreFewFrom, items_done}
 
 -- ---- paths
 
@@ -175,17 +176,24 @@ pub record IsLawful (page : ℕ) (files : Files) (root : Attributes) (items : Li
   pub op_fits : AllByRecursion OpFits ops
 
 lawful : (page : ℕ) (e : Endian) (files : Files) (root : Attributes) (items : List Item) → IsPage page → FitsListing root items → IsTree items
-    → FilesFit files items → AreFew files items → IsLawful page files root items (ops_with e files (actions_of root items))
+    → (FilesFit files items × AreFew files items) ⊎ AreAllAccepted page (index_of []) (ops_with e files (actions_of root items))
+    → IsLawful page files root items (ops_with e files (actions_of root items))
 unfolding actions_of
-lawful page e files root items is_page fits tree short few =
+lawful page e files root items is_page fits tree has =
     let s = state_of [] in
     let x = index_of [] in
     let one = root_reaches page root is_page fits.root_fits in
     let used : length one.steps ≤ 1 = one.few in
     let t = after bytes s one.steps in
+    let room : AreFewFrom (0 + length one.steps) files items ⊎ AreAllAccepted page (advanced_all x one.steps) (ops_with e files (flat_map item_actions items)) =
+    ⊎_elim
+    (λ (few : FilesFit files items × AreFew files items).
+    let some : AreFew files items = few.1 in
+    inl (record { short = few.0; few = omega arith }))
+    (λ all. inr (accepted_back page x (root_op root ∷ []) (ops_with e files (flat_map item_actions items)) one.steps one.runs all)) has in
     let all = items_done page (0 + length one.steps) e _ t files (root_object root) [] items is_page
     (record { is_at = one.is_at; stands = one.stands; known = λ j among. absurd (let less = among.1 in omega arith) })
-    tree fits.items_fit short (omega arith) in
+    tree fits.items_fit room in
     let ops : List Op = ops_with e files (actions_of root items) in
     let r = reaches_then page 0 x s (root_op root ∷ []) (ops_with e files (flat_map item_actions items)) (root_object root) [] (map (made_of files) items) 1
     _ one all.reached in
@@ -200,7 +208,7 @@ lawful page e files root items is_page fits tree short few =
     record { makes = makes; op_fits = r.op_fits }
 
 pub listing_makes_tree : law.ListingMakesTree
-listing_makes_tree page e files root items is_page fits tree short few = (lawful page e files root items is_page fits tree short few).makes
+listing_makes_tree page e files root items is_page fits tree short few = (lawful page e files root items is_page fits tree (inl (short, few))).makes
 
 -- the operations of lines are those of their actions
 ops_of_lines : (e : Endian) (files : Files) (lines : List Line) → ops_in e files lines ≡ ops_with e files (map (λ line. line.action) lines)
@@ -218,19 +226,24 @@ lines_ops e files root items lines fits is =
     ap (ops_in e files) (same_lines lines read.0 (sym is ∙ read.1)) ∙ ops_of_lines e files read.0 ∙ ap (ops_with e files) read.2
 
 pub lines_lawful : (page : ℕ) (e : Endian) (files : Files) (root : Attributes) (items : List Item) (lines : List Line) → IsPage page → FitsListing root items → IsTree items
-    → FilesFit files items → AreFew files items → lines_of (listing_text root items) ≡ Ok lines → IsLawful page files root items (ops_in e files lines)
-lines_lawful page e files root items lines is_page fits tree short few is =
-    subst (IsLawful page files root items) (sym (lines_ops e files root items lines fits is)) (lawful page e files root items is_page fits tree short few)
+    → (FilesFit files items × AreFew files items) ⊎ AreAllAccepted page (index_of []) (ops_in e files lines) → lines_of (listing_text root items) ≡ Ok lines
+    → IsLawful page files root items (ops_in e files lines)
+lines_lawful page e files root items lines is_page fits tree has is =
+    let same = lines_ops e files root items lines fits is in
+    subst (IsLawful page files root items) (sym same) (lawful page e files root items is_page fits tree
+    (⊎_elim (λ few. inl few) (λ all. inr (subst (AreAllAccepted page (index_of [])) same all)) has))
 
 pub text_makes_tree : law.TextMakesTree
 text_makes_tree page e files root items is_page fits tree short few =
     let read = listing_is_read_back root items fits in
-    (read.0, read.1, (lines_lawful page e files root items read.0 is_page fits tree short few read.1).makes)
+    (read.0, read.1, (lines_lawful page e files root items read.0 is_page fits tree (inl (short, few)) read.1).makes)
 
-pub image_holds_tree : image.ImageHoldsTree
-image_holds_tree page e size blocks base image files root items lines fits tree short few read is =
+pub image_of_lines : (page : ℕ) (e : Endian) (size blocks : ℕ) (base image : List ℕ) (files : Files) (root : Attributes) (items : List Item) (lines : List Line) → FitsListing root items → IsTree items
+    → (FilesFit files items × AreFew files items) ⊎ AreAllAccepted page (index_of []) (ops_in e files lines) → lines_of (listing_text root items) ≡ Ok lines
+    → image.IsWrittenFor page e size blocks base (ops_in e files lines) image → (s : State) × MountsAs e size image s × HoldsTree files root items s
+image_of_lines page e size blocks base image files root items lines fits tree has read is =
     let ops = ops_in e files lines in
-    let made = lines_lawful page e files root items lines is.page_is fits tree short few read in
+    let made = lines_lawful page e files root items lines is.page_is fits tree has read in
     let planned : length (plans_of page (index_of (plain_nodes e size base)) ops) ≡ length ops =
     subst (λ ns. length (plans_of page (index_of ns) ops) ≡ length ops) (sym is.bare) made.makes.accepted in
     let survives = accepted_survives page e size blocks (length ops) base ops is.page_is is.room is.base_is is.are_bytes made.op_fits
@@ -239,3 +252,7 @@ image_holds_tree page e size blocks base image files root items lines fits tree 
       survives.whole image is.left,
       subst (λ ns. HoldsTree files root items (after bytes (state_of ns) (steps_of_first page (index_of ns) ops (length ops)))) (sym is.bare) made.makes.holds,
     )
+
+pub image_holds_tree : image.ImageHoldsTree
+image_holds_tree page e size blocks base image files root items lines fits tree short few read is =
+    image_of_lines page e size blocks base image files root items lines fits tree (inl (short, few)) read is

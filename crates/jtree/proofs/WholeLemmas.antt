@@ -1,5 +1,5 @@
 -- All items of a tree, one after the other.
-use Rattle.std.proofs.Common.{◌≡◌, ℕ, ◌+◌, ◌/◌, ◌<◌, ◌≤◌, ◌^◌, List, [], ◌∷◌, ◌++◌, length, map, refl, ap, sym, subst, ⊎_elim, append_assoc, arith}
+use Rattle.std.proofs.Common.{◌≡◌, ℕ, ◌+◌, ◌/◌, ◌<◌, ◌≤◌, ◌^◌, List, [], ◌∷◌, ◌++◌, length, map, ◌⊎◌, inl, inr, refl, ap, sym, subst, ⊎_elim, append_assoc, arith}
 use Rattle.std.specs.Prelude.{All, Contains}
 use Rattle.std.specs.List.{flat_map}
 use Rattle.std.specs.String.{string_bytes}
@@ -8,7 +8,7 @@ use Rattle.std.proofs.lemmas.List.Elements.{All-head, All-tail, Contains-push_ca
 use Rattle.jnode.specs.declared.order.Endian.{Endian}
 use Rattle.jmount.specs.Find.{IsPath}
 use Rattle.jmount.specs.Tree.{ObjectOf, State}
-use Rattle.jsteps.specs.Nodes.{Indexed}
+use Rattle.jsteps.specs.Nodes.{Indexed, advanced_all}
 use Rattle.jsteps.specs.Planning.{IsPage}
 use Rattle.jsteps.specs.Steps.{bytes, after}
 use Rattle.jsteps.specs.Where.{names_on_path}
@@ -21,7 +21,8 @@ use Rattle.jfolder.specs.declared.tree.What.TheVariants as what
 use Rattle.jtree.specs.Making.{Files, FilesFit, bytes_of_what, op_with, ops_with, weight}
 use Rattle.jtree.specs.Holding.{first_path}
 use Rattle.jtree.proofs.ItemLemmas.{IsBuilt, IsKnown, ahead, made_of, names_are, names_of}
-use Rattle.jtree.proofs.ObjectLemmas.{object_reaches}
+use Rattle.jtree.proofs.ObjectLemmas.{AreFewOf, object_reaches}
+use Rattle.jtree.proofs.RoomLemmas.{AreAllAccepted, accepted_back, accepted_front}
 use Rattle.jtree.proofs.RunLemmas.{Reaches, reaches_none, reaches_then, reaches_weaker}
 use Rattle.jtree.proofs.StandLemmas.{Stands}
 
@@ -62,22 +63,37 @@ pub record IsDone (page n : ℕ) (e : Endian) (x : Indexed) (s : State) (files :
   pub reached : Reaches page n x s (ops_with e files (flat_map item_actions items)) root (map (made_of files) (before ++ items)) (weight files items)
   pub known : (j : Item) → Contains (before ++ items) j → IsKnown j
 
+-- the items and their bytes are few
+pub record AreFewFrom (n : ℕ) (files : Files) (items : List Item) : Type 0 where
+  pub short : FilesFit files items
+  pub few : n + weight files items + 4 ≤ 0xFFFFFFFF
+
 pub items_done : (page n : ℕ) (e : Endian) (x : Indexed) (s : State) (files : Files) (root : ObjectOf (List ℕ)) (before items : List Item) → IsPage page
     → IsBuilt files root before n x s
-    → IsTreeAfter before items → All ItemFits items → FilesFit files items → n + weight files items + 4 ≤ 0xFFFFFFFF → IsDone page n e x s files root before items
-items_done page n e x s files root before [] is_page built tree fits short few =
+    → IsTreeAfter before items → All ItemFits items → AreFewFrom n files items ⊎ AreAllAccepted page x (ops_with e files (flat_map item_actions items)) → IsDone page n e x s files root before items
+items_done page n e x s files root before [] is_page built tree fits has =
     record {
       reached = subst (λ all. Reaches page n x s [] root (map (made_of files) all) 0) (sym (append-nil before))
           (reaches_none page n x s root (map (made_of files) before) built.is_at built.stands);
       known = subst (λ all. (j : Item) → Contains all j → IsKnown j) (sym (append-nil before)) built.known;
     }
-items_done page n e x s files root before (i ∷ items) is_page built tree fits short few =
+items_done page n e x s files root before (i ∷ items) is_page built tree fits has =
     let may = tree.0 in
     let i_fits = All-head ItemFits i items fits in
     let size = length (bytes_of_what files i.what) in
-    let i_short : size < 2 ^ 31 = All-head (λ i. length (bytes_of_what files i.what) < 2 ^ 31) i items short in
+    let these = ops_with e files (item_actions i) in
+    let others = ops_with e files (flat_map item_actions items) in
+    let split : AreFewFrom n files (i ∷ items) ⊎ AreAllAccepted page x (these ++ others) =
+    ⊎_elim (λ few. inl few) (λ all. inr (subst (AreAllAccepted page x) (ops_append e files (item_actions i) (flat_map item_actions items)) all)) has in
+    let first : AreFewOf n files i.what ⊎ AreAllAccepted page x these =
+    ⊎_elim
+    (λ (few : AreFewFrom n files (i ∷ items)).
+    let i_short : size < 2 ^ 31 = All-head (λ i. length (bytes_of_what files i.what) < 2 ^ 31) i items few.short in
+    let some : n + weight files (i ∷ items) + 4 ≤ 0xFFFFFFFF = few.few in
+    inl (record { short = omega arith; few = omega arith }))
+    (λ all. inr (accepted_front page x these others all)) split in
     let one = object_reaches page n e x s files (string_bytes i.path) i.attributes i.what root before is_page built
-    (ahead files root before n x s i built may) may.new may.link may.target i_fits.attributes (omega arith) (omega arith) in
+    (ahead files root before n x s i built may) may.new may.link may.target i_fits.attributes first in
     let used : length one.steps ≤ 8 + size / 512 = one.few in
     let more = before ++ i ∷ [] in
     let next : IsBuilt files root more (n + length one.steps) _ (after bytes s one.steps) = record {
@@ -86,8 +102,14 @@ items_done page n e x s files root before (i ∷ items) is_page built tree fits 
       known = λ j among. ⊎_elim (λ old. built.known j old) (λ is. subst IsKnown is (known_of before i built.known may i_fits))
           (Contains-push_cases before i j among);
     } in
+    let last : AreFewFrom (n + length one.steps) files items ⊎ AreAllAccepted page (advanced_all x one.steps) others =
+    ⊎_elim
+    (λ (few : AreFewFrom n files (i ∷ items)).
+    let some : n + weight files (i ∷ items) + 4 ≤ 0xFFFFFFFF = few.few in
+    inl (record { short = All-tail (λ i. length (bytes_of_what files i.what) < 2 ^ 31) i items few.short; few = omega arith }))
+    (λ all. inr (accepted_back page x these others one.steps one.runs all)) split in
     let rest = items_done page (n + length one.steps) e _ (after bytes s one.steps) files root more items is_page next tree.1
-    (All-tail ItemFits i items fits) (All-tail (λ i. length (bytes_of_what files i.what) < 2 ^ 31) i items short) (omega arith) in
+    (All-tail ItemFits i items fits) last in
     let list : more ++ items ≡ before ++ i ∷ items = append_assoc before (i ∷ []) items in
     let both = reaches_then page n x s (ops_with e files (item_actions i)) (ops_with e files (flat_map item_actions items)) root
     (map (made_of files) before ++ made_of files i ∷ []) (map (made_of files) (more ++ items))

@@ -1,5 +1,5 @@
 -- What is put out for a tree's text is the image that holds the tree.
-use Rattle.std.proofs.Common.{◌≡◌, ℕ, ◌+◌, ◌*◌, ◌≤◌, Bool, true, false, List, [], ◌++◌, length, map, Option, Some, None, Ok, Err, refl, ap, sym, subst, ◌∙◌, arith}
+use Rattle.std.proofs.Common.{◌≡◌, ℕ, ◌+◌, ◌*◌, ◌≤◌, Bool, true, false, List, [], ◌++◌, length, map, Option, Some, None, Ok, Err, inr, refl, ap, sym, subst, ◌∙◌, arith}
 use Rattle.std.specs.Prelude.{IsTrue, IsOk, ◌&&◌, if◌then◌else◌}
 use Rattle.std.specs.List.{AllByRecursion}
 use Rattle.std.specs.Io.KnownBytes.{Appends}
@@ -12,9 +12,9 @@ use Rattle.jscan.specs.Blank.{blank_from}
 use Rattle.jmount.specs.Mounts.{MountsAs, plain_nodes}
 use Rattle.jmount.specs.Tree.{State}
 use Rattle.jsteps.specs.Laws.{GoesOn}
-use Rattle.jsteps.specs.Nodes.{Indexed}
+use Rattle.jsteps.specs.Nodes.{Indexed, index_of}
 use Rattle.jsteps.specs.Planning.{page_size}
-use Rattle.jsteps.specs.Refusals.{steps_of_first}
+use Rattle.jsteps.specs.Refusals.{plans_of, steps_of_first}
 use Rattle.jsteps.specs.declared.op.Op.{Op}
 use Rattle.jsteps.specs.declared.page.Page.{Page}
 use Rattle.jsteps.specs.declared.step.Step.{Step}
@@ -48,10 +48,11 @@ use Rattle.jfolder.specs.declared.tree.Item.{Item}
 use Rattle.jmount.specs.Mount.{Mount}
 use Rattle.jtree.specs.Holding.{HoldsTree}
 use Rattle.jtree.specs.Image.{out_for}
-use Rattle.jtree.specs.Making.{AreFew, Files, FilesFit}
+use Rattle.jtree.specs.Making.{Files}
 use Rattle.jtree.specs.Written.{PutOutHoldsTree}
 use Rattle.jtree.proofs.EmptyLemmas.{empty_is_bare}
-use Rattle.jtree.proofs.TreeLemmas.{image_holds_tree, lines_lawful}
+use Rattle.jtree.proofs.RoomLemmas.{AreAllAccepted, planned_at_most}
+use Rattle.jtree.proofs.TreeLemmas.{image_of_lines, lines_lawful}
 
 -- what a sink has that took two texts and had nothing
 both_taken : (first second image : List ℕ) (between : Option (List ℕ)) → Appends (Some []) between first → Appends between (Some image) second → image ≡ first ++ second
@@ -75,10 +76,10 @@ goes_on page e size blocks m ok =
     by false false d is = cc
 
 put_out : (page : Page) (e : Endian) (size blocks accepted before now : ℕ) (places : List Place) (image : List ℕ) (files : Files) (root : Attributes) (items : List Item) (lines : List Line)
-    → FitsListing root items → IsTree items → FilesFit files items → AreFew files items → lines_of (listing_text root items) ≡ Ok lines
+    → FitsListing root items → IsTree items → lines_of (listing_text root items) ≡ Ok lines
     → Goes page size blocks [] → IsEmitted page e size blocks [] (ops_in e files lines) accepted places None (record { old = Some []; new = Some image; before = before; now = now })
     → (s : State) × MountsAs e size image s × HoldsTree files root items s
-put_out page e size blocks accepted before now places image files root items lines fits tree short few read goes emitted =
+put_out page e size blocks accepted before now places image files root items lines fits tree read goes emitted =
     let p : ℕ = page_size page in
     let is_page = sizes_are_pages page in
     let ops : List Op = ops_in e files lines in
@@ -92,11 +93,15 @@ put_out page e size blocks accepted before now places image files root items lin
     let front : List ℕ = front_before e size blocks [] in
     let sized = readable e size blocks [] empty.base_is in
     let words = (block_size size sized).words in
-    let made = lines_lawful p e files root items lines is_page fits tree short few read in
-    let go : GoesOn p (plain_nodes e size []) steps = planned_goes_on p (plain_nodes e size []) ops (length ops) is_page (all_fit e size [] sized empty.are_bytes) empty.base_is.mounts.root made.op_fits in
-    let roomy : AllByRecursion (FitsBlock size) nodes = has_room e size new (planned_loggable p e size new is_page goes.room (go.written e)) in
     let all : accepted ≡ length ops = emitted.runs.0 in
     let run = emitted.runs.2 in
+    let planned : accepted ≤ length (plans_of p x ops) = run.planned in
+    let most : length (plans_of p x ops) ≤ length ops = planned_at_most p x ops in
+    let whole : AreAllAccepted p x ops = omega arith in
+    let accepts : AreAllAccepted p (index_of []) ops = subst (λ (ns : List NodeRef). AreAllAccepted p (index_of ns) ops) empty.bare whole in
+    let made = lines_lawful p e files root items lines is_page fits tree (inr accepts) read in
+    let go : GoesOn p (plain_nodes e size []) steps = planned_goes_on p (plain_nodes e size []) ops (length ops) is_page (all_fit e size [] sized empty.are_bytes) empty.base_is.mounts.root made.op_fits in
+    let roomy : AllByRecursion (FitsBlock size) nodes = has_room e size new (planned_loggable p e size new is_page goes.room (go.written e)) in
     let within : IsTrue (fit size blocks from nodes) = subst (λ (n : ℕ). IsTrue (fit size blocks from (written e x (steps_of_first p x ops n)))) all run.fits in
     let took : Appends emitted.between (Some image) out = subst (λ (n : ℕ). Appends emitted.between (Some image) (output e size from (written e x (steps_of_first p x ops n)))) all run.wrote.bytes in
     let is : image ≡ front ++ out = both_taken front out image emitted.between emitted.front took in
@@ -106,7 +111,7 @@ put_out page e size blocks accepted before now places image files root items lin
     let left : IsLeft e size blocks [] from out (length out) image =
     subst (λ (bytes : List ℕ). IsLeft e size blocks [] from out (length out) bytes) (ap (λ bs. front ++ bs) (take_all (length out) out (omega arith)) ∙ sym is)
     (written_is_left e size blocks from (length out) [] out (omega (arith, long, ends))) in
-    image_holds_tree p e size blocks [] image files root items lines fits tree short few read (record {
+    image_of_lines p e size blocks [] image files root items lines fits tree (inr accepts) read (record {
       page_is = is_page;
       room = goes.room;
       base_is = empty.base_is;
@@ -117,7 +122,7 @@ put_out page e size blocks accepted before now places image files root items lin
     })
 
 pub put_out_holds_tree : PutOutHoldsTree
-put_out_holds_tree page e size blocks image files root items lines fits tree short few read out =
+put_out_holds_tree page e size blocks image files root items lines fits tree read out =
     let goes = subst (Goes page size blocks) out.mounts.0 (goes_on page e size blocks out.mount out.resumes) in
-    put_out page e size blocks out.accepted out.before out.now out.places image files root items lines fits tree short few read goes
+    put_out page e size blocks out.accepted out.before out.now out.places image files root items lines fits tree read goes
     (subst (λ (base : List ℕ). IsEmitted page e size blocks base (ops_in e files lines) out.accepted out.places None (record { old = Some []; new = Some image; before = out.before; now = out.now })) out.mounts.0 out.emitted)

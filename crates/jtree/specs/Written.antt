@@ -17,7 +17,7 @@ use Rattle.jfolder.specs.Trees.{IsTree}
 use Rattle.jfolder.specs.declared.tree.Attributes.{Attributes}
 use Rattle.jfolder.specs.declared.tree.Item.{Item}
 use Rattle.jtree.specs.Holding.{HoldsTree}
-use Rattle.jtree.specs.Making.{AreFew, Files, FilesFit}
+use Rattle.jtree.specs.Making.{Files}
 
 -- The operations of the lines of a tree's text were put out on the empty image to a sink that had
 -- nothing, and nothing stopped them: so many were accepted, and their nodes have these places.
@@ -38,7 +38,6 @@ pub record IsPutOut (page : Page) (e : Endian) (size blocks : ℕ) (files : File
 abbrev pub PutOutHoldsTree : Type 0
 PutOutHoldsTree = (page : Page) (e : Endian) (size blocks : ℕ) (image : List ℕ) (files : Files)
     (root : Attributes) (items : List Item) (lines : List Line)
-    → FitsListing root items → IsTree items → FilesFit files items → AreFew files items
-    → lines_of (listing_text root items) ≡ Ok lines
+    → FitsListing root items → IsTree items → lines_of (listing_text root items) ≡ Ok lines
     → IsPutOut page e size blocks files lines image
     → (s : State) × MountsAs e size image s × HoldsTree files root items s
