@@ -25,7 +25,6 @@ FUNCTION = re.compile(r"^ *pub fn (\w+)(?:<.*?>)?\((.*?)\)(?: ->|\n| \{|$)", re.
 LIMITS = {
     "jffs2_image": {"arguments": 17, "parameters": 1},
     "jlog": {"arguments": 4, "parameters": 2},
-    "jreport": {"arguments": 5, "columns": 1},
 }
 
 
