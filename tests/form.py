@@ -27,7 +27,6 @@ FUNCTION = re.compile(r"^ *pub fn (\w+)(?:<.*?>)?\((.*?)\)(?: ->|\n| \{|$)", re.
 LIMITS = {
     "jbuild": {"arguments": 1},
     "jffs2_image": {"arguments": 26, "parameters": 1},
-    "jreport": {"arguments": 5, "columns": 1},
 }
 
 

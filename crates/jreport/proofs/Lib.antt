@@ -14,3 +14,4 @@ pub mod ExtentLemmas
 pub mod VerdictLemmas
 pub mod WalkLemmas
 pub mod PathLemmas
+pub mod SinkLemmas

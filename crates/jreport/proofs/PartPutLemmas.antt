@@ -9,6 +9,7 @@ use Rattle.jreport.specs.TreeText.{Item, IsItemAt, PutsFrom, PutsPartAt}
 use Rattle.jreport.specs.declared.faults.ProgramFault.{ProgramFault}
 use Rattle.jreport.specs.declared.faults.ProgramFault.TheVariants as program
 use Rattle.jreport.proofs.WalkLemmas.{none_put}
+use Rattle.jreport.proofs.SinkLemmas.{sink_change}
 
 -- ---- the names of a path that leads to an object
 
@@ -35,7 +36,7 @@ no_names s text (Some names) are is = absurd (cc)
 -- ---- what is put
 
 pub part_put : {T : Type 0} (s : State) (path : List ℕ) (item : Item) (a b : Option (List ℕ)) (before now : ℕ) (r : Result T ProgramFault)
-    → IsItemAt s path item → PutsFrom {T = T} s item a b before now r → PutsPartAt {T = T} s path a b before now r
+    → IsItemAt s path item → PutsFrom {T = T} s item (sink_change a b before now) r → PutsPartAt {T = T} s path (sink_change a b before now) r
 part_put s path item a b before now (Ok x) at put = (item, at, put)
 part_put s path item a b before now (Err program.Output) at put = (item, at, put)
 part_put s path item a b before now (Err program.OutOfMemory) at put = (item, at, put)
@@ -53,16 +54,16 @@ part_put s path item a b before now (Err (program.TooLong addr)) at put = absurd
 
 -- the path names nothing
 pub part_not_found : {T : Type 0} (s : State) (path : List ℕ) (a : Option (List ℕ)) (before : ℕ) (f : FindFault) (r : Result T ProgramFault)
-    → IsErrAnd r (λ e. e ≡ program.Path f) → find s path ≡ Err f → PutsPartAt {T = T} s path a a before before r
+    → IsErrAnd r (λ e. e ≡ program.Path f) → find s path ≡ Err f → PutsPartAt {T = T} s path (sink_change a a before before) r
 part_not_found s path a before f (Ok x) is none = absurd is
 part_not_found {T} s path a before f (Err e) is none =
-    subst (λ (y : ProgramFault). PutsPartAt {T = T} s path a a before before (Err y)) (sym is) (none, refl, refl)
+    subst (λ (y : ProgramFault). PutsPartAt {T = T} s path (sink_change a a before before) (Err y)) (sym is) (none, refl, refl)
 
 -- memory ran out before anything was put
 pub part_out_of_memory : {T : Type 0} (s : State) (path : List ℕ) (i : ℕ) (a : Option (List ℕ)) (before : ℕ) (r : Result T ProgramFault)
-    → IsErrAnd r (λ e. e ≡ program.OutOfMemory) → find s path ≡ Ok i → PutsPartAt {T = T} s path a a before before r
+    → IsErrAnd r (λ e. e ≡ program.OutOfMemory) → find s path ≡ Ok i → PutsPartAt {T = T} s path (sink_change a a before before) r
 part_out_of_memory s path i a before (Ok x) is found = absurd is
 part_out_of_memory {T} s path i a before (Err e) is found =
     let at = item_at s path i found in
-    subst (λ (y : ProgramFault). PutsPartAt {T = T} s path a a before before (Err y)) (sym is)
+    subst (λ (y : ProgramFault). PutsPartAt {T = T} s path (sink_change a a before before) (Err y)) (sym is)
     (at.0, at.1, (none_put s at.0 a, refl))

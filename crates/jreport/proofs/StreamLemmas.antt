@@ -34,6 +34,7 @@ use Rattle.jreport.specs.declared.faults.ProgramFault.TheVariants as program
 use Rattle.jreport.proofs.BlockLemmas.{lines_below_more, lines_begin, one_more}
 use Rattle.jreport.proofs.GrowingLemmas.{Untold, untold_next, untold_count, untold_part}
 use Rattle.jreport.proofs.WholeImageLemmas.{of_unread}
+use Rattle.jreport.proofs.SinkLemmas.{sink_change}
 
 -- the lines of the first n blocks of these bytes have gone out
 abbrev pub Gone : Endian → ℕ → ℕ → Option (List ℕ) → Option (List ℕ) → List ℕ → Type 0
@@ -292,7 +293,7 @@ finished e size counts a b (Some image) some ended untold = (image, refl, record
 -- and then the last
 pub all_put : (e : Endian) (size : ℕ) (counts : Counts) (a b c : Option (List ℕ)) (before mid now : ℕ) (known_bytes : Option (List ℕ))
     → OfSomeImage known_bytes (Finished e size counts a b) → Appends b c (totals_line counts) → mid ≡ before → now ≡ mid
-    → OfSomeImage known_bytes (λ image. PutsStream e size image a c before now (Ok counts.findings))
+    → OfSomeImage known_bytes (λ image. PutsStream e size image (sink_change a c before now) (Ok counts.findings))
 unfolding scan_text
 all_put e size counts a b c before mid now known_bytes all put stayed stays =
     let image = all.0 in (
@@ -309,14 +310,14 @@ all_put e size counts a b c before mid now known_bytes all put stayed stays =
 -- or a beginning of it
 pub total_failed : (e : Endian) (size : ℕ) (counts : Counts) (a b c : Option (List ℕ)) (before mid now : ℕ) (known_bytes : Option (List ℕ)) (r : Result ℕ ProgramFault)
     → IsErrAnd r (λ x. x ≡ program.Output) → OfSomeImage known_bytes (Finished e size counts a b) → PutsPart b c (totals_line counts) → mid ≡ before → now ≡ next_count mid
-    → OfSomeImage known_bytes (λ image. PutsStream e size image a c before now r)
+    → OfSomeImage known_bytes (λ image. PutsStream e size image (sink_change a c before now) r)
 unfolding scan_text
 total_failed e size counts a b c before mid now known_bytes (Ok x) is all part stayed failed = absurd is
 total_failed e size counts a b c before mid now known_bytes (Err x) is all part stayed failed =
     let image = all.0 in (
       image,
       all.1,
-      subst (λ (y : ProgramFault). PutsStream e size image a c before now (Err y)) (sym is) (
+      subst (λ (y : ProgramFault). PutsStream e size image (sink_change a c before now) (Err y)) (sym is) (
         part_behind a b c (lines_below e size image (block_count size image)) (totals_line (counts_of e size image (block_count size image))) all.2.gone
             (subst (λ (n : Counts). PutsPart b c (totals_line n)) all.2.totals part),
         failed ∙ ap next_count stayed,
@@ -329,16 +330,16 @@ module _ {S : Type 0} {o : OfSource S} where
       (a b c : Option (List ℕ)) (before mid now : ℕ) (r : Result ℕ ProgramFault) → IsErrAnd r (λ x. x ≡ program.Output)
       → Streaming e source size start counts old a b before mid → GivesBlock old new block
       → PutsPart b c (lines_of_block counts.blocks (extents e start block)) → now ≡ next_count mid
-      → OfSomeImage (o.rest source) (λ image. PutsStream e size image a c before now r)
+      → OfSomeImage (o.rest source) (λ image. PutsStream e size image (sink_change a c before now) r)
   block_failed e source size start counts old new block a b c before mid now (Ok x) is so_far gives part failed = absurd is
   block_failed e source size start counts old new block a b c before mid now (Err x) is so_far gives part failed =
       known (o.rest source) so_far.untold (began_at_block e source size start counts old new block a b c before mid so_far gives part)
     where
-      put : (image : List ℕ) → PutsPart a c (scan_text e size image) → PutsStream e size image a c before now (Err x)
-      put image text = subst (λ (y : ProgramFault). PutsStream e size image a c before now (Err y)) (sym is) (text, failed ∙ ap next_count so_far.none_failed)
+      put : (image : List ℕ) → PutsPart a c (scan_text e size image) → PutsStream e size image (sink_change a c before now) (Err x)
+      put image text = subst (λ (y : ProgramFault). PutsStream e size image (sink_change a c before now) (Err y)) (sym is) (text, failed ∙ ap next_count so_far.none_failed)
 
       known : (known_bytes : Option (List ℕ)) → IfNone known_bytes (Untold e size counts a b) → IfSome known_bytes (λ image. PutsPart a c (scan_text e size image))
-          → OfSomeImage known_bytes (λ image. PutsStream e size image a c before now (Err x))
+          → OfSomeImage known_bytes (λ image. PutsStream e size image (sink_change a c before now) (Err x))
       known None untold text =
           let some : 0 < size = omega (arith, readable_some size so_far.scanning.readable) in
           let began = untold_part e size start counts block a b c some untold (gives.whole ∙ so_far.scanning.blocks_of) so_far.scanning.blocks part in
@@ -349,23 +350,23 @@ module _ {S : Type 0} {o : OfSource S} where
   pub source_failed : (e : Endian) (source : S) (size start : ℕ) (counts : Counts) (old new : BlockReader S o) (fault : StreamFault)
       (a b : Option (List ℕ)) (before mid : ℕ) (r : Result ℕ ProgramFault) → IsErrAnd r (λ x. x ≡ fault_of_stream fault)
       → Streaming e source size start counts old a b before mid → GivesFault old new fault
-      → OfSomeImage (o.rest source) (λ image. PutsStream e size image a b before mid r)
+      → OfSomeImage (o.rest source) (λ image. PutsStream e size image (sink_change a b before mid) r)
   source_failed e source size start counts old new fault a b before mid (Ok x) is so_far gives = absurd is
   source_failed e source size start counts old new fault a b before mid (Err x) is so_far gives =
       known (o.rest source) so_far.untold (gone_before e source size start counts old a b before mid so_far)
     where
       by : (image : List ℕ) (f : StreamFault) → Breaks (rest_of old) (failures_of old) (failures_of new) size (greatest_image - start) f
-          → (k : ℕ) × (k ≤ block_count size image) × Gone e size k a b image → PutsStream e size image a b before mid (Err (fault_of_stream f))
+          → (k : ℕ) × (k ≤ block_count size image) × Gone e size k a b image → PutsStream e size image (sink_change a b before mid) (Err (fault_of_stream f))
       by image stream.Device breaks gone = (gone.0, gone.1, gone.2, so_far.none_failed)
       by image stream.TooLarge breaks gone = (gone.0, gone.1, gone.2, so_far.none_failed)
       by image stream.BlockSize breaks gone = absurd breaks
       by image stream.OutOfMemory breaks gone = absurd breaks
 
-      put : (image : List ℕ) → (k : ℕ) × (k ≤ block_count size image) × Gone e size k a b image → PutsStream e size image a b before mid (Err x)
-      put image gone = subst (λ (y : ProgramFault). PutsStream e size image a b before mid (Err y)) (sym is) (by image fault (breaks_here e source size start counts old new fault so_far.scanning gives) gone)
+      put : (image : List ℕ) → (k : ℕ) × (k ≤ block_count size image) × Gone e size k a b image → PutsStream e size image (sink_change a b before mid) (Err x)
+      put image gone = subst (λ (y : ProgramFault). PutsStream e size image (sink_change a b before mid) (Err y)) (sym is) (by image fault (breaks_here e source size start counts old new fault so_far.scanning gives) gone)
 
       known : (known_bytes : Option (List ℕ)) → IfNone known_bytes (Untold e size counts a b) → IfSome known_bytes (λ image. (k : ℕ) × (k ≤ block_count size image) × Gone e size k a b image)
-          → OfSomeImage known_bytes (λ image. PutsStream e size image a b before mid (Err x))
+          → OfSomeImage known_bytes (λ image. PutsStream e size image (sink_change a b before mid) (Err x))
       known None untold gone =
           let some : 0 < size = omega (arith, readable_some size so_far.scanning.readable) in
           let count = untold_count size counts.blocks untold.image some untold.whole in
@@ -518,12 +519,12 @@ read_not_wanting before now r back is = subst (HandsBack before (Some now)) is b
 -- nothing was read
 pub unread_failed : (e : Endian) (size : ℕ) (a : Option (List ℕ)) (n : ℕ) (known_bytes : Option (List ℕ)) (f : StreamFault) (r : Result ℕ ProgramFault)
     → IsErrAnd r (λ x. x ≡ fault_of_stream f) → f ≢ stream.Device → f ≢ stream.TooLarge
-    → OfSomeImage known_bytes (λ image. PutsStream e size image a a n n r)
+    → OfSomeImage known_bytes (λ image. PutsStream e size image (sink_change a a n n) r)
 unread_failed e size a n known_bytes f (Ok x) is no_device no_limit = absurd is
 unread_failed e size a n known_bytes f (Err x) is no_device no_limit =
-    of_unread known_bytes (λ image. subst (λ (y : ProgramFault). PutsStream e size image a a n n (Err y)) (sym is) (by image f no_device no_limit))
+    of_unread known_bytes (λ image. subst (λ (y : ProgramFault). PutsStream e size image (sink_change a a n n) (Err y)) (sym is) (by image f no_device no_limit))
   where
-    by : (image : List ℕ) (g : StreamFault) → g ≢ stream.Device → g ≢ stream.TooLarge → PutsStream e size image a a n n (Err (fault_of_stream g))
+    by : (image : List ℕ) (g : StreamFault) → g ≢ stream.Device → g ≢ stream.TooLarge → PutsStream e size image (sink_change a a n n) (Err (fault_of_stream g))
     by image stream.BlockSize no_device no_limit = (refl, refl)
     by image stream.OutOfMemory no_device no_limit = (refl, refl)
     by image stream.Device no_device no_limit = absurd (no_device refl)

@@ -17,19 +17,20 @@ use Rattle.jreport.specs.Verdict.{IsVerdict, PutsMounted, PutsVerdict, is_shaped
 use Rattle.jreport.specs.declared.faults.ProgramFault.{ProgramFault}
 use Rattle.jreport.specs.declared.faults.ProgramFault.TheVariants as program
 use Rattle.jreport.specs.declared.faults.ProgramFault.TheVariants.{Output}
+use Rattle.jreport.proofs.SinkLemmas.{sink_change}
 
 pub mounted_failed : (asked : Bool) (m : Mount) (old new : Option (List ℕ)) (before now : ℕ) (r : Result Bool ProgramFault) → IsErrAnd r (λ x. x ≡ Output)
-    → PutsPart old new (mounted_text asked m) → now ≡ next_count before → PutsMounted asked m old new before now r
+    → PutsPart old new (mounted_text asked m) → now ≡ next_count before → PutsMounted asked m (sink_change old new before now) r
 mounted_failed asked m old new before now (Ok x) is part failed = absurd is
 mounted_failed asked m old new before now (Err x) is part failed =
-    subst (λ (y : ProgramFault). PutsMounted asked m old new before now (Err y)) (sym is) (part, failed)
+    subst (λ (y : ProgramFault). PutsMounted asked m (sink_change old new before now) (Err y)) (sym is) (part, failed)
 
 pub refused_failed : (e : Endian) (size : ℕ) (image : List ℕ) (asked : Bool) (fault : MountFault) (old new : Option (List ℕ)) (before now : ℕ) (r : Result Bool ProgramFault)
     → IsErrAnd r (λ x. x ≡ Output) → Answers e size image (Err fault) → fault ≢ mount.OutOfMemory
-    → PutsPart old new (refused_line fault) → now ≡ next_count before → PutsVerdict e size image asked old new before now r
+    → PutsPart old new (refused_line fault) → now ≡ next_count before → PutsVerdict e size image asked (sink_change old new before now) r
 refused_failed e size image asked fault old new before now (Ok x) is answers memory part failed = absurd is
 refused_failed e size image asked fault old new before now (Err x) is answers memory part failed =
-    subst (λ (y : ProgramFault). PutsVerdict e size image asked old new before now (Err y)) (sym is)
+    subst (λ (y : ProgramFault). PutsVerdict e size image asked (sink_change old new before now) (Err y)) (sym is)
     (refused_line fault, true, record { answer = Err fault; answers = answers; memory = λ same. memory (injected fault mount.OutOfMemory (Err fault) (Err mount.OutOfMemory) refl refl same); said = refl; judged = refl }, part, failed)
   where
     injected : (f g : MountFault) (x y : Result Mount MountFault) → x ≡ Err f → y ≡ Err g → x ≡ y → f ≡ g
@@ -48,7 +49,7 @@ mounted_verdict e size image asked m answers = record {
 }
 
 pub verdict_of_mounted : (e : Endian) (size : ℕ) (image : List ℕ) (asked : Bool) (m : Mount) (old new : Option (List ℕ)) (before now : ℕ) (r : Result Bool ProgramFault)
-    → Answers e size image (Ok m) → PutsMounted asked m old new before now r → PutsVerdict e size image asked old new before now r
+    → Answers e size image (Ok m) → PutsMounted asked m (sink_change old new before now) r → PutsVerdict e size image asked (sink_change old new before now) r
 verdict_of_mounted e size image asked m old new before now (Ok bad) answers put =
     (mounted_text asked m, subst (λ (b : Bool). IsVerdict e size image asked (mounted_text asked m) b) (sym put.0) (mounted_verdict e size image asked m answers), put.1, put.2)
 verdict_of_mounted e size image asked m old new before now (Err program.Output) answers put =

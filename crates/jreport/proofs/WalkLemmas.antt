@@ -20,6 +20,7 @@ use Rattle.jreport.specs.declared.faults.ProgramFault.{ProgramFault}
 use Rattle.jreport.specs.declared.faults.ProgramFault.TheVariants as program
 use Rattle.jreport.specs.declared.faults.ProgramFault.TheVariants.{Output, OutOfMemory}
 use Rattle.jreport.proofs.ListingLemmas.{unmet_entered, unmet_after, has_text, next_line}
+use Rattle.jreport.proofs.SinkLemmas.{sink_change}
 
 -- ---- an item that is there, and one that is not
 
@@ -74,7 +75,7 @@ next_text s met path name i names more rest is = by (is_there s i) refl
 
 -- ---- where the walk ends, or goes up
 
-pub is_at_end : (s : State) (w n : Walk) (old : Option (List ℕ)) (before : ℕ) → w.left ≡ [] → w.above.items ≡ [] → PutsStep s w n old old before before (Ok false)
+pub is_at_end : (s : State) (w n : Walk) (old : Option (List ℕ)) (before : ℕ) → w.left ≡ [] → w.above.items ≡ [] → PutsStep s w n (sink_change old old before before) (Ok false)
 is_at_end s w n old before none empty = (
   ap (λ (left : List (List ℕ × ℕ)). items_up s (left ∷ reverse w.above.items) (way_of w)) none
       ∙ ap (λ (above : List (List (List ℕ × ℕ))). items_up s (reverse above) (way_up (way_of w))) empty,
@@ -98,7 +99,7 @@ up_steps s w n none up =
     let met : unmet s (met_of n.met) ≡ unmet s (met_of w.met) = ap (λ m. unmet s (met_of m)) up.2 in
     omega arith
 
-pub went_up : (s : State) (w n : Walk) (old : Option (List ℕ)) (before : ℕ) → w.left ≡ [] → GoesUp w n true → PutsStep s w n old old before before (Ok true)
+pub went_up : (s : State) (w n : Walk) (old : Option (List ℕ)) (before : ℕ) → w.left ≡ [] → GoesUp w n true → PutsStep s w n (sink_change old old before before) (Ok true)
 went_up s w n old before none up = (
   (
     [],
@@ -110,7 +111,7 @@ went_up s w n old before none up = (
 )
 
 pub goes_up : (s : State) (w n : Walk) (left : List (List ℕ × ℕ)) (up : Bool) (old : Option (List ℕ)) (before : ℕ) → w.left ≡ []
-    → GoesUp (record w { left = left }) n up → PutsStep s w n old old before before (Ok up)
+    → GoesUp (record w { left = left }) n up → PutsStep s w n (sink_change old old before before) (Ok up)
 goes_up s w n left true old before none is = went_up s w n old before none is
 goes_up s w n left false old before none is = is_at_end s w n old before none is
 
@@ -133,8 +134,8 @@ read_text s w name i names rest read is =
 
 -- the walk goes on in the same directory
 pub stays : (s : State) (w n : Walk) (name : List ℕ) (i : ℕ) (old new : Option (List ℕ)) (before now : ℕ) → w.left ≡ (name, i) ∷ n.left
-    → n.above.items ≡ w.above.items → way_of n ≡ way_of w → PutsVisit s w.met n.met (item_of w name i) old new before now (Ok false)
-    → PutsStep s w n old new before now (Ok true)
+    → n.above.items ≡ w.above.items → way_of n ≡ way_of w → PutsVisit s w.met n.met (item_of w name i) (sink_change old new before now) (Ok false)
+    → PutsStep s w n (sink_change old new before now) (Ok true)
 stays s w n name i old new before now read above way put =
     let todo : todo_after s (met_of w.met) (item_of w name i) (items_of s (way_of w) n.left ++ more_of s w) ≡ todo_of s n =
     ap (λ (b : Bool). cond b (items_of s (item_of w name i).0 (entries_in s i) ++ (items_of s (way_of w) n.left ++ more_of s w)) (items_of s (way_of w) n.left ++ more_of s w)) (sym put.0)
@@ -157,7 +158,7 @@ stays s w n name i old new before now read above way put =
 -- the walk goes on in the directory that the name leads to
 pub enters : (s : State) (w n : Walk) (name : List ℕ) (i : ℕ) (names : List (List ℕ × ℕ)) (old new : Option (List ℕ)) (before now : ℕ) → w.left ≡ (name, i) ∷ names
     → n.left ≡ entries_in s i → n.above.items ≡ w.above.items ++ names ∷ [] → way_of n ≡ way_of w ++ name ∷ []
-    → PutsVisit s w.met n.met (item_of w name i) old new before now (Ok true) → PutsStep s w n old new before now (Ok true)
+    → PutsVisit s w.met n.met (item_of w name i) (sink_change old new before now) (Ok true) → PutsStep s w n (sink_change old new before now) (Ok true)
 enters s w n name i names old new before now read left above way put =
     let back : way_up (way_of n) ≡ way_of w =
     ap way_up way
@@ -189,7 +190,7 @@ enters s w n name i names old new before now read left above way put =
 
 -- ---- where memory runs out, or the sink fails
 
-pub nothing_put : (s : State) (w n : Walk) (old : Option (List ℕ)) (before : ℕ) → PutsStep s w n old old before before (Err OutOfMemory)
+pub nothing_put : (s : State) (w n : Walk) (old : Option (List ℕ)) (before : ℕ) → PutsStep s w n (sink_change old old before before) (Err OutOfMemory)
 nothing_put s w n old before = let whole = has_text s (met_of w.met) (todo_of s w) in ((whole.0, whole.1, (0, Appends-nil old)), refl)
 
 -- a beginning of what a name leads to went out
@@ -207,14 +208,14 @@ whole_part old new line put = (length line, subst (Appends old new) (sym (take_w
     take_whole xs = grind (arith, common_steps)
 
 pub line_put : (s : State) (w n : Walk) (name : List ℕ) (i : ℕ) (names : List (List ℕ × ℕ)) (met_after_it : BTreeSet ℕ) (entered : Bool) (old new : Option (List ℕ)) (before now : ℕ)
-    → w.left ≡ (name, i) ∷ names → PutsVisit s w.met met_after_it (item_of w name i) old new before now (Ok entered)
-    → PutsStep s w n old new before now (Err OutOfMemory)
+    → w.left ≡ (name, i) ∷ names → PutsVisit s w.met met_after_it (item_of w name i) (sink_change old new before now) (Ok entered)
+    → PutsStep s w n (sink_change old new before now) (Err OutOfMemory)
 line_put s w n name i names set entered old new before now read put =
     (line_part s w name i names old new read (whole_part old new _ put.2), put.3)
 
 pub line_failed : (s : State) (w n : Walk) (name : List ℕ) (i : ℕ) (names : List (List ℕ × ℕ)) (set : BTreeSet ℕ) (fault : ProgramFault) (old new : Option (List ℕ)) (before now : ℕ)
-    → w.left ≡ (name, i) ∷ names → PutsVisit s w.met set (item_of w name i) old new before now (Err fault)
-    → PutsStep s w n old new before now (Err fault)
+    → w.left ≡ (name, i) ∷ names → PutsVisit s w.met set (item_of w name i) (sink_change old new before now) (Err fault)
+    → PutsStep s w n (sink_change old new before now) (Err fault)
 line_failed s w n name i names set Output old new before now read put = (line_part s w name i names old new read put.0, put.1)
 line_failed s w n name i names set OutOfMemory old new before now read put =
     (line_part s w name i names old new read (0, put.0), put.1)
@@ -231,9 +232,9 @@ line_failed s w n name i names set (program.Data addr) old new before now read p
 line_failed s w n name i names set (program.TooLong addr) old new before now read put = absurd put
 
 pub step_failed : (s : State) (w n : Walk) (old new : Option (List ℕ)) (before now : ℕ) (r : Result Bool ProgramFault) (fault : ProgramFault)
-    → IsErrAnd r (λ e. e ≡ fault) → PutsStep s w n old new before now (Err fault) → PutsStep s w n old new before now r
+    → IsErrAnd r (λ e. e ≡ fault) → PutsStep s w n (sink_change old new before now) (Err fault) → PutsStep s w n (sink_change old new before now) r
 step_failed s w n old new before now (Ok x) fault is put = absurd is
-step_failed s w n old new before now (Err e) fault is put = subst (λ (y : ProgramFault). PutsStep s w n old new before now (Err y)) (sym is) put
+step_failed s w n old new before now (Err e) fault is put = subst (λ (y : ProgramFault). PutsStep s w n (sink_change old new before now) (Err y)) (sym is) put
 
 -- ---- the way to an item
 
@@ -247,9 +248,9 @@ way_back w name pushed popped is cut =
     ap (map (λ n. n.now)) (cut ∙ ap (λ (k : ℕ). take k pushed) one ∙ ap (take (length w.path.items)) is ∙ take-append_seam w.path.items (name ∷ []))
 
 pub visit_at : (s : State) (set set_after : BTreeSet ℕ) (path way : List (List ℕ)) (i : ℕ) (old new : Option (List ℕ)) (before now : ℕ) (r : Result Bool ProgramFault)
-    → path ≡ way → PutsVisit s set set_after (path, i) old new before now r → PutsVisit s set set_after (way, i) old new before now r
+    → path ≡ way → PutsVisit s set set_after (path, i) (sink_change old new before now) r → PutsVisit s set set_after (way, i) (sink_change old new before now) r
 visit_at s set set_after path way i old new before now r is put =
-    subst (λ (p : List (List ℕ)). PutsVisit s set set_after (p, i) old new before now r) is put
+    subst (λ (p : List (List ℕ)). PutsVisit s set set_after (p, i) (sink_change old new before now) r) is put
 
 -- ---- from an object on
 
@@ -264,7 +265,7 @@ none_in set empty = ap (λ (keys : List ℕ). met_of (record { keys = keys })) e
 
 -- the object was visited
 text_from : (s : State) (item : Item) (empty set : BTreeSet ℕ) (entered : Bool) (old new : Option (List ℕ)) (before now : ℕ) (rest : List ℕ) → empty.keys ≡ []
-    → PutsVisit s empty set item old new before now (Ok entered)
+    → PutsVisit s empty set item (sink_change old new before now) (Ok entered)
     → IsTextOf s (met_of set) (cond entered (items_of s item.0 (entries_in s item.1) ++ []) []) rest → IsTextFrom s item (line_of s (met_of empty) item ++ rest)
 text_from s item empty set entered old new before now rest none put is =
     let none_met_yet = none_in empty none in
@@ -275,7 +276,7 @@ text_from s item empty set entered old new before now rest none put is =
 
 pub first_entered : (s : State) (item : Item) (w : Walk) (empty : BTreeSet ℕ) (old new : Option (List ℕ)) (before now : ℕ) → empty.keys ≡ []
     → way_of w ≡ item.0 → w.left ≡ entries_in s item.1 → w.above.items ≡ []
-    → PutsVisit s empty w.met item old new before now (Ok true) → Reaches s item w old new
+    → PutsVisit s empty w.met item (sink_change old new before now) (Ok true) → Reaches s item w old new
 first_entered s item w empty old new before now none path left above put = (
   line_of s (met_of empty) item,
   put.2,
@@ -289,7 +290,7 @@ first_entered s item w empty old new before now none path left above put = (
         ∙ ap (λ (l : List (List (List ℕ × ℕ))). items_up s (entries_in s item.1 ∷ reverse l) item.0) above
 
 pub first_alone : {T : Type 0} (s : State) (item : Item) (empty set : BTreeSet ℕ) (old new : Option (List ℕ)) (before now : ℕ) (x : T) → empty.keys ≡ []
-    → PutsVisit s empty set item old new before now (Ok false) → PutsFrom s item old new before now (Ok x)
+    → PutsVisit s empty set item (sink_change old new before now) (Ok false) → PutsFrom s item (sink_change old new before now) (Ok x)
 first_alone s item empty set old new before now x none put = (
   line_of s (met_of empty) item ++ [],
   text_from s item empty set false old new before now [] none put ([], refl, refl),
@@ -313,7 +314,7 @@ pub none_put : (s : State) (item : Item) (old : Option (List ℕ)) → PutsPartF
 none_put s item old = let whole = has_text s none_met (item ∷ []) in (whole.0, whole.1, (0, Appends-nil old))
 
 pub first_failed : (T : Type 0) (s : State) (item : Item) (empty set : BTreeSet ℕ) (fault : ProgramFault) (old new : Option (List ℕ)) (before now : ℕ) → empty.keys ≡ []
-    → PutsVisit s empty set item old new before now (Err fault) → PutsFrom {T = T} s item old new before now (Err fault)
+    → PutsVisit s empty set item (sink_change old new before now) (Err fault) → PutsFrom {T = T} s item (sink_change old new before now) (Err fault)
 first_failed T s item empty set Output old new before now none put = (first_part s item empty old new none put.0, put.1)
 first_failed T s item empty set OutOfMemory old new before now none put = (first_part s item empty old new none (0, put.0), put.1)
 first_failed T s item empty set (program.Load f) old new before now none put = absurd put
@@ -328,7 +329,7 @@ first_failed T s item empty set (program.NoSpace folder) old new before now none
 first_failed T s item empty set (program.Data addr) old new before now none put = absurd put
 first_failed T s item empty set (program.TooLong addr) old new before now none put = absurd put
 
-pub steps_on : (s : State) (item : Item) (w n : Walk) (a b c : Option (List ℕ)) (before now : ℕ) → Reaches s item w a b → PutsStep s w n b c before now (Ok true) → Reaches s item n a c
+pub steps_on : (s : State) (item : Item) (w n : Walk) (a b c : Option (List ℕ)) (before now : ℕ) → Reaches s item w a b → PutsStep s w n (sink_change b c before now) (Ok true) → Reaches s item n a c
 steps_on s item w n a b c before now far put = (
   far.0 ++ put.0.0,
   Appends-trans a b c far.0 put.0.0 far.1 put.0.1,
@@ -336,7 +337,7 @@ steps_on s item w n a b c before now far put = (
 )
 
 pub all_steps : {T : Type 0} (s : State) (item : Item) (w n : Walk) (a b c : Option (List ℕ)) (first before now : ℕ) (x : T) → Reaches s item w a b → before ≡ first
-    → PutsStep s w n b c before now (Ok false) → PutsFrom s item a c first now (Ok x)
+    → PutsStep s w n (sink_change b c before now) (Ok false) → PutsFrom s item (sink_change a c first now) (Ok x)
 all_steps s item w n a b c first before now x far same put = (
   far.0 ++ [],
   far.2 [] (subst (λ (todo : List Item). IsTextOf s (met_of w.met) todo []) (sym put.0) ([], refl, refl)),
@@ -348,7 +349,7 @@ whole_of_part : (s : State) (item : Item) (w : Walk) (a b c : Option (List ℕ))
 whole_of_part s item w a b c far part = (far.0 ++ part.0, far.2 part.0 part.1, part_behind a b c far.0 part.0 far.1 part.2)
 
 pub stopped : (T : Type 0) (s : State) (item : Item) (w n : Walk) (fault : ProgramFault) (a b c : Option (List ℕ)) (first before now : ℕ) → Reaches s item w a b → before ≡ first
-    → PutsStep s w n b c before now (Err fault) → PutsFrom {T = T} s item a c first now (Err fault)
+    → PutsStep s w n (sink_change b c before now) (Err fault) → PutsFrom {T = T} s item (sink_change a c first now) (Err fault)
 stopped T s item w n Output a b c first before now far same put = (whole_of_part s item w a b c far put.0, put.1 ∙ ap next_count same)
 stopped T s item w n OutOfMemory a b c first before now far same put = (whole_of_part s item w a b c far put.0, put.1 ∙ same)
 stopped T s item w n (program.Load f) a b c first before now far same put = absurd put
@@ -364,6 +365,6 @@ stopped T s item w n (program.Data addr) a b c first before now far same put = a
 stopped T s item w n (program.TooLong addr) a b c first before now far same put = absurd put
 
 pub tree_failed : {T : Type 0} (s : State) (item : Item) (old new : Option (List ℕ)) (before now : ℕ) (r : Result T ProgramFault) (fault : ProgramFault)
-    → IsErrAnd r (λ e. e ≡ fault) → PutsFrom {T = T} s item old new before now (Err fault) → PutsFrom s item old new before now r
+    → IsErrAnd r (λ e. e ≡ fault) → PutsFrom {T = T} s item (sink_change old new before now) (Err fault) → PutsFrom s item (sink_change old new before now) r
 tree_failed s item old new before now (Ok x) fault is put = absurd is
-tree_failed {T} s item old new before now (Err e) fault is put = subst (λ (y : ProgramFault). PutsFrom {T = T} s item old new before now (Err y)) (sym is) put
+tree_failed {T} s item old new before now (Err e) fault is put = subst (λ (y : ProgramFault). PutsFrom {T = T} s item (sink_change old new before now) (Err y)) (sym is) put

@@ -31,6 +31,7 @@ use Rattle.jreport.specs.declared.faults.ProgramFault.{ProgramFault}
 use Rattle.jreport.specs.declared.faults.ProgramFault.TheVariants as program
 use Rattle.jreport.specs.declared.report_fault.ReportFault.{ReportFault}
 use Rattle.jreport.specs.declared.report_fault.ReportFault.TheVariants as report
+use Rattle.jreport.proofs.SinkLemmas.{sink_change}
 
 -- ---- what was read
 
@@ -76,24 +77,24 @@ mount_is_read f (Ok x) is = absurd is
 mount_is_read f (Err x) is = subst (λ (y : ProgramFault). IsFaultOfLoad y → ⊥) (sym is) (λ none. none)
 
 pub unread_mount : {T : Type 0} (e : Endian) (size : ℕ) (image : List ℕ) (f : LoadFault) (a : Option (List ℕ)) (n : ℕ) (puts : Mount → Type 0) (r : Result T ProgramFault)
-    → IsErrAnd r (λ x. x ≡ program.Load f) → OnMount e size image a a n n puts r
+    → IsErrAnd r (λ x. x ≡ program.Load f) → OnMount e size image (sink_change a a n n) puts r
 unread_mount e size image f a n puts (Ok x) is = absurd is
 unread_mount {T} e size image f a n puts (Err x) is =
-    subst (λ (y : ProgramFault). OnMount {T = T} e size image a a n n puts (Err y)) (sym is) (refl, refl)
+    subst (λ (y : ProgramFault). OnMount {T = T} e size image (sink_change a a n n) puts (Err y)) (sym is) (refl, refl)
 
 -- an image that does not mount
 pub mount_failed : {T : Type 0} (e : Endian) (size : ℕ) (items present : List ℕ) (f : MountFault) (a : Option (List ℕ)) (n : ℕ) (puts : Mount → Type 0) (r : Result T ProgramFault)
     → IsErrAnd r (λ x. x ≡ program.Mount f) → present ≡ items → Answers e size present (Err f)
-    → OnMount e size items a a n n puts r
+    → OnMount e size items (sink_change a a n n) puts r
 mount_failed e size items present f a n puts (Ok x) is same answers = absurd is
 mount_failed {T} e size items present f a n puts (Err x) is same answers =
-    subst (λ (y : ProgramFault). OnMount {T = T} e size items a a n n puts (Err y)) (sym is)
+    subst (λ (y : ProgramFault). OnMount {T = T} e size items (sink_change a a n n) puts (Err y)) (sym is)
     (subst (λ (image : List ℕ). Answers e size image (Err f)) same answers, refl, refl)
 
 -- an image that mounts, and a call that says nothing of faults of a load or a mount
 on_mounted : {T : Type 0} (e : Endian) (size : ℕ) (image : List ℕ) (m : Mount) (a b : Option (List ℕ)) (before now : ℕ) (puts : Mount → Result T ProgramFault → Type 0) (r : Result T ProgramFault)
     → ((f : LoadFault) → puts m (Err (program.Load f)) → ⊥) → ((f : MountFault) → puts m (Err (program.Mount f)) → ⊥)
-    → Answers e size image (Ok m) → puts m r → OnMount e size image a b before now (λ x. puts x r) r
+    → Answers e size image (Ok m) → puts m r → OnMount e size image (sink_change a b before now) (λ x. puts x r) r
 on_mounted e size image m a b before now puts (Err (program.Load f)) no_load no_mount answers put = absurd (no_load f put)
 on_mounted e size image m a b before now puts (Err (program.Mount f)) no_load no_mount answers put = absurd (no_mount f put)
 on_mounted e size image m a b before now puts r no_load no_mount answers put = (m, answers, put)
@@ -101,9 +102,9 @@ on_mounted e size image m a b before now puts r no_load no_mount answers put = (
 -- ---- `check`
 
 pub check_unread : (e : Endian) (size : ℕ) (asked : Bool) (image : List ℕ) (f : LoadFault) (a : Option (List ℕ)) (n : ℕ) (r : Result Bool ProgramFault)
-    → IsErrAnd r (λ x. x ≡ program.Load f) → PutsCheck e size image asked a a n n r
+    → IsErrAnd r (λ x. x ≡ program.Load f) → PutsCheck e size image asked (sink_change a a n n) r
 check_unread e size asked image f a n (Ok x) is = absurd is
-check_unread e size asked image f a n (Err x) is = subst (λ (y : ProgramFault). PutsCheck e size image asked a a n n (Err y)) (sym is) (refl, refl)
+check_unread e size asked image f a n (Err x) is = subst (λ (y : ProgramFault). PutsCheck e size image asked (sink_change a a n n) (Err y)) (sym is) (refl, refl)
 
 -- the scan that a report made
 pub scan_of : (e : Endian) (size : ℕ) (image : List ℕ) (partial : Option PartialScan) → IsScannable size image → IfSome partial (HasScanned (image_extents e size image))
@@ -119,13 +120,13 @@ some_scan e size image (Some scan) is = (e, size, is)
 -- the report ended early
 pub report_failed : (e : Endian) (size : ℕ) (asked : Bool) (items present : List ℕ) (f : ReportFault) (a b : Option (List ℕ)) (before now : ℕ) (r : Result Bool ProgramFault)
     → IsErrAnd r (λ x. x ≡ fault_of_report f) → present ≡ items → length items ≤ greatest_image
-    → PutsReport e size present a b before now (Err f) → PutsCheck e size items asked a b before now r
+    → PutsReport e size present (sink_change a b before now) (Err f) → PutsCheck e size items asked (sink_change a b before now) r
 report_failed e size asked items present f a b before now (Ok x) is same short put = absurd is
 report_failed e size asked items present f a b before now (Err x) is same short put =
-    subst (λ (y : ProgramFault). PutsCheck e size items asked a b before now (Err y)) (sym is)
-    (by f (subst (λ (image : List ℕ). PutsReport e size image a b before now (Err f)) same put))
+    subst (λ (y : ProgramFault). PutsCheck e size items asked (sink_change a b before now) (Err y)) (sym is)
+    (by f (subst (λ (image : List ℕ). PutsReport e size image (sink_change a b before now) (Err f)) same put))
   where
-    by : (g : ReportFault) → PutsReport e size items a b before now (Err g) → PutsCheck e size items asked a b before now (Err (fault_of_report g))
+    by : (g : ReportFault) → PutsReport e size items (sink_change a b before now) (Err g) → PutsCheck e size items asked (sink_change a b before now) (Err (fault_of_report g))
     by report.Output p = (inl p.1, p.2)
     by (report.Scan scan.OutOfMemory) p = absurd p
     by (report.Scan scan.BlockSize) p = (p.1, p.2)
@@ -143,11 +144,11 @@ report_is_read f (Err x) is = subst (λ (y : ProgramFault). IsFaultOfLoad y → 
     by (report.Scan fault) none = none
 
 pub check_done : (e : Endian) (size : ℕ) (asked : Bool) (items present again : List ℕ) (a b c : Option (List ℕ)) (before mid now findings : ℕ) (bad found : Bool)
-    → present ≡ items → again ≡ items → PutsReport e size present a b before mid (Ok findings) → PutsVerdict e size again asked b c mid now (Ok bad)
-    → found ≡ nat_lt 0 findings || bad → PutsCheck e size items asked a c before now (Ok found)
+    → present ≡ items → again ≡ items → PutsReport e size present (sink_change a b before mid) (Ok findings) → PutsVerdict e size again asked (sink_change b c mid now) (Ok bad)
+    → found ≡ nat_lt 0 findings || bad → PutsCheck e size items asked (sink_change a c before now) (Ok found)
 check_done e size asked items present again a b c before mid now findings bad found same same_again report verdict judged =
-    let put = subst (λ (image : List ℕ). PutsReport e size image a b before mid (Ok findings)) same report in
-    let said = subst (λ (image : List ℕ). PutsVerdict e size image asked b c mid now (Ok bad)) same_again verdict in (
+    let put = subst (λ (image : List ℕ). PutsReport e size image (sink_change a b before mid) (Ok findings)) same report in
+    let said = subst (λ (image : List ℕ). PutsVerdict e size image asked (sink_change b c mid now) (Ok bad)) same_again verdict in (
       scan_text e size items ++ said.0,
       record {
         verdict = said.0;
@@ -162,7 +163,7 @@ check_done e size asked items present again a b c before mid now findings bad fo
 
 -- the report went out, and the verdict did not, or a beginning of it
 verdict_ends : (e : Endian) (size : ℕ) (asked : Bool) (image : List ℕ) (a b c : Option (List ℕ)) (before mid now findings : ℕ) (f : ProgramFault)
-    → PutsReport e size image a b before mid (Ok findings) → PutsVerdict e size image asked b c mid now (Err f) → PutsCheck e size image asked a c before now (Err f)
+    → PutsReport e size image (sink_change a b before mid) (Ok findings) → PutsVerdict e size image asked (sink_change b c mid now) (Err f) → PutsCheck e size image asked (sink_change a c before now) (Err f)
 verdict_ends e size asked image a b c before mid now findings program.Output report put = (
   inr (
     scan_text e size image ++ put.0,
@@ -195,22 +196,22 @@ verdict_ends e size asked image a b c before mid now findings (program.TooLong a
 
 pub verdict_failed : (e : Endian) (size : ℕ) (asked : Bool) (items present again : List ℕ) (a b c : Option (List ℕ)) (before mid now findings : ℕ) (f : ProgramFault) (r : Result Bool ProgramFault)
     → IsErrAnd r (λ x. x ≡ f) → present ≡ items → again ≡ items
-    → PutsReport e size present a b before mid (Ok findings) → PutsVerdict e size again asked b c mid now (Err f) → PutsCheck e size items asked a c before now r
+    → PutsReport e size present (sink_change a b before mid) (Ok findings) → PutsVerdict e size again asked (sink_change b c mid now) (Err f) → PutsCheck e size items asked (sink_change a c before now) r
 verdict_failed e size asked items present again a b c before mid now findings f (Ok x) is same same_again report put = absurd is
 verdict_failed e size asked items present again a b c before mid now findings f (Err x) is same same_again report put =
-    subst (λ (y : ProgramFault). PutsCheck e size items asked a c before now (Err y)) (sym is)
+    subst (λ (y : ProgramFault). PutsCheck e size items asked (sink_change a c before now) (Err y)) (sym is)
     (verdict_ends e size asked items a b c before mid now findings f
-    (subst (λ (image : List ℕ). PutsReport e size image a b before mid (Ok findings)) same report)
-    (subst (λ (image : List ℕ). PutsVerdict e size image asked b c mid now (Err f)) same_again put))
+    (subst (λ (image : List ℕ). PutsReport e size image (sink_change a b before mid) (Ok findings)) same report)
+    (subst (λ (image : List ℕ). PutsVerdict e size image asked (sink_change b c mid now) (Err f)) same_again put))
 
 -- no verdict is a fault of loading
 pub verdict_is_read : {T : Type 0} (e : Endian) (size : ℕ) (asked : Bool) (image : List ℕ) (a b : Option (List ℕ)) (before now : ℕ) (f : ProgramFault) (r : Result T ProgramFault)
-    → IsErrAnd r (λ x. x ≡ f) → PutsVerdict e size image asked a b before now (Err f) → IsRead r
+    → IsErrAnd r (λ x. x ≡ f) → PutsVerdict e size image asked (sink_change a b before now) (Err f) → IsRead r
 verdict_is_read e size asked image a b before now f (Ok x) is put = absurd is
 verdict_is_read e size asked image a b before now f (Err x) is put =
     subst (λ (y : ProgramFault). IsFaultOfLoad y → ⊥) (sym is) (by f put)
   where
-    by : (g : ProgramFault) → PutsVerdict e size image asked a b before now (Err g) → IsFaultOfLoad g → ⊥
+    by : (g : ProgramFault) → PutsVerdict e size image asked (sink_change a b before now) (Err g) → IsFaultOfLoad g → ⊥
     by (program.Load f) p is_load = p
     by g p is_load = is_load
 
@@ -220,41 +221,41 @@ not_of_load X (Err x) read = λ is_load. absurd (read is_load)
 
 -- nor is it the size of a block
 pub verdict_has_size : (e : Endian) (size : ℕ) (asked : Bool) (image : List ℕ) (a b : Option (List ℕ)) (before now : ℕ) (f : ProgramFault) (r : Result Bool ProgramFault)
-    → IsErrAnd r (λ x. x ≡ f) → IsTrue (is_block_size size) → PutsVerdict e size image asked a b before now (Err f)
+    → IsErrAnd r (λ x. x ≡ f) → IsTrue (is_block_size size) → PutsVerdict e size image asked (sink_change a b before now) (Err f)
     → (IsErrOf r (program.Scan scan.BlockSize) → IsFalse (is_block_size size)) × (IsFalse (is_block_size size) → IsErrOf r (program.Scan scan.BlockSize))
 verdict_has_size e size asked image a b before now f (Ok x) is sized put = absurd is
 verdict_has_size e size asked image a b before now f (Err x) is sized put = (
-  λ same. absurd (subst (λ (q : Result Bool ProgramFault). PutsVerdict e size image asked a b before now q) same
-      (subst (λ (y : ProgramFault). PutsVerdict e size image asked a b before now (Err y)) (sym is) put)),
+  λ same. absurd (subst (λ (q : Result Bool ProgramFault). PutsVerdict e size image asked (sink_change a b before now) q) same
+      (subst (λ (y : ProgramFault). PutsVerdict e size image asked (sink_change a b before now) (Err y)) (sym is) put)),
   λ unsized. let bad : true ≡ false = sym sized ∙ unsized in cc,
 )
 
 -- ---- `cat`
 
 pub file_put : (e : Endian) (size : ℕ) (path items present : List ℕ) (m : Mount) (a b : Option (List ℕ)) (before now : ℕ) (r : Result ℕ ProgramFault)
-    → present ≡ items → Answers e size present (Ok m) → PutsContent (content_of m.state path) a b before now r → AnswersNoted m r
-    → PutsFile e size items path a b before now r
+    → present ≡ items → Answers e size present (Ok m) → PutsContent (content_of m.state path) (sink_change a b before now) r → AnswersNoted m r
+    → PutsFile e size items path (sink_change a b before now) r
 file_put e size path items present m a b before now r same answers put noted =
-    on_mounted e size items m a b before now (λ (x : Mount) (s : Result ℕ ProgramFault). PutsContent (content_of x.state path) a b before now s × AnswersNoted x s) r
+    on_mounted e size items m a b before now (λ (x : Mount) (s : Result ℕ ProgramFault). PutsContent (content_of x.state path) (sink_change a b before now) s × AnswersNoted x s) r
     (λ f none. none.0.0) (λ f none. none.0.0)
     (subst (λ (image : List ℕ). Answers e size image (Ok m)) same answers) (put, noted)
 
 -- a fault that is passed on
 pub content_failed : (X : Type 0) (e : Endian) (size : ℕ) (path items present : List ℕ) (m : Mount) (a b : Option (List ℕ)) (before now : ℕ) (f : ProgramFault) (r : Result ℕ ProgramFault)
-    → IsErrAnd r (λ x. x ≡ f) → present ≡ items → Answers e size present (Ok m) → PutsContent {T = X} (content_of m.state path) a b before now (Err f)
-    → PutsFile e size items path a b before now r
+    → IsErrAnd r (λ x. x ≡ f) → present ≡ items → Answers e size present (Ok m) → PutsContent {T = X} (content_of m.state path) (sink_change a b before now) (Err f)
+    → PutsFile e size items path (sink_change a b before now) r
 content_failed X e size path items present m a b before now f (Ok x) is same answers put = absurd is
 content_failed X e size path items present m a b before now f (Err x) is same answers put =
-    subst (λ (y : ProgramFault). PutsFile e size items path a b before now (Err y)) (sym is)
+    subst (λ (y : ProgramFault). PutsFile e size items path (sink_change a b before now) (Err y)) (sym is)
     (file_put e size path items present m a b before now (Err f) same answers put tt)
 
 pub content_is_read : (X : Type 0) {T : Type 0} (content : Result (List ℕ) ProgramFault) (a b : Option (List ℕ)) (before now : ℕ) (f : ProgramFault) (r : Result T ProgramFault)
-    → IsErrAnd r (λ x. x ≡ f) → PutsContent {T = X} content a b before now (Err f) → IsRead r
+    → IsErrAnd r (λ x. x ≡ f) → PutsContent {T = X} content (sink_change a b before now) (Err f) → IsRead r
 content_is_read X content a b before now f (Ok x) is put = absurd is
 content_is_read X content a b before now f (Err x) is put =
     subst (λ (y : ProgramFault). IsFaultOfLoad y → ⊥) (sym is) (by f put)
   where
-    by : (g : ProgramFault) → PutsContent {T = X} content a b before now (Err g) → IsFaultOfLoad g → ⊥
+    by : (g : ProgramFault) → PutsContent {T = X} content (sink_change a b before now) (Err g) → IsFaultOfLoad g → ⊥
     by (program.Load f) p is_load = p.0
     by g p is_load = is_load
 
@@ -262,7 +263,7 @@ content_is_read X content a b before now f (Err x) is put =
 
 -- a fault that is passed on, of the lines of an object
 lines_passed_on : (X Y : Type 0) (s : State) (item : Item) (a b : Option (List ℕ)) (before now : ℕ) (f : ProgramFault)
-    → PutsFrom {T = X} s item a b before now (Err f) → PutsFrom {T = Y} s item a b before now (Err f)
+    → PutsFrom {T = X} s item (sink_change a b before now) (Err f) → PutsFrom {T = Y} s item (sink_change a b before now) (Err f)
 lines_passed_on X Y s item a b before now program.Output p = p
 lines_passed_on X Y s item a b before now program.OutOfMemory p = p
 lines_passed_on X Y s item a b before now (program.Load f) p = p
@@ -279,7 +280,7 @@ lines_passed_on X Y s item a b before now (program.TooLong addr) p = p
 
 -- the same of a tree, or of a part of it
 passed_on : (X Y : Type 0) (s : State) (path : Option (List ℕ)) (a b : Option (List ℕ)) (before now : ℕ) (f : ProgramFault)
-    → PutsTreeAt {T = X} s path a b before now (Err f) → PutsTreeAt {T = Y} s path a b before now (Err f)
+    → PutsTreeAt {T = X} s path (sink_change a b before now) (Err f) → PutsTreeAt {T = Y} s path (sink_change a b before now) (Err f)
 passed_on X Y s None a b before now f p = lines_passed_on X Y s ([], 1) a b before now f p
 passed_on X Y s (Some path) a b before now program.Output p = (p.0, p.1, lines_passed_on X Y s p.0 a b before now program.Output p.2)
 passed_on X Y s (Some path) a b before now program.OutOfMemory p = (p.0, p.1, lines_passed_on X Y s p.0 a b before now program.OutOfMemory p.2)
@@ -297,44 +298,44 @@ passed_on X Y s (Some path) a b before now (program.TooLong addr) p = (p.0, p.1,
 
 -- an answer of another kind
 pub tree_done : (X : Type 0) (s : State) (path : Option (List ℕ)) (a b : Option (List ℕ)) (before now : ℕ) (x : X) (n : ℕ)
-    → PutsTreeAt {T = X} s path a b before now (Ok x) → PutsTreeAt {T = ℕ} s path a b before now (Ok n)
+    → PutsTreeAt {T = X} s path (sink_change a b before now) (Ok x) → PutsTreeAt {T = ℕ} s path (sink_change a b before now) (Ok n)
 tree_done X s None a b before now x n put = put
 tree_done X s (Some path) a b before now x n put = (put.0, put.1, put.2)
 
 -- no call fails by loading, or by a mount
 not_loading : (X : Type 0) (s : State) (path : Option (List ℕ)) (a b : Option (List ℕ)) (before now : ℕ) (f : LoadFault)
-    → PutsTreeAt {T = X} s path a b before now (Err (program.Load f)) → ⊥
+    → PutsTreeAt {T = X} s path (sink_change a b before now) (Err (program.Load f)) → ⊥
 not_loading X s None a b before now f p = p
 not_loading X s (Some path) a b before now f p = p.2
 
 not_mounting : (X : Type 0) (s : State) (path : Option (List ℕ)) (a b : Option (List ℕ)) (before now : ℕ) (f : MountFault)
-    → PutsTreeAt {T = X} s path a b before now (Err (program.Mount f)) → ⊥
+    → PutsTreeAt {T = X} s path (sink_change a b before now) (Err (program.Mount f)) → ⊥
 not_mounting X s None a b before now f p = p
 not_mounting X s (Some path) a b before now f p = p.2
 
 pub tree_put : (e : Endian) (size : ℕ) (path : Option (List ℕ)) (items present : List ℕ) (m : Mount) (a b : Option (List ℕ)) (before now : ℕ) (r : Result ℕ ProgramFault)
-    → present ≡ items → Answers e size present (Ok m) → PutsTreeAt m.state path a b before now r → AnswersNoted m r
-    → PutsListing (list_request e size path) items a b before now r
+    → present ≡ items → Answers e size present (Ok m) → PutsTreeAt m.state path (sink_change a b before now) r → AnswersNoted m r
+    → PutsListing (list_request e size path) items (sink_change a b before now) r
 tree_put e size path items present m a b before now r same answers put noted =
-    on_mounted e size items m a b before now (λ (x : Mount) (s : Result ℕ ProgramFault). PutsTreeAt x.state path a b before now s × AnswersNoted x s) r
+    on_mounted e size items m a b before now (λ (x : Mount) (s : Result ℕ ProgramFault). PutsTreeAt x.state path (sink_change a b before now) s × AnswersNoted x s) r
     (λ f none. not_loading ℕ m.state path a b before now f none.0) (λ f none. not_mounting ℕ m.state path a b before now f none.0)
     (subst (λ (image : List ℕ). Answers e size image (Ok m)) same answers) (put, noted)
 
 -- a fault that is passed on
 pub tree_failed : (X : Type 0) (e : Endian) (size : ℕ) (path : Option (List ℕ)) (items present : List ℕ) (m : Mount) (a b : Option (List ℕ)) (before now : ℕ) (f : ProgramFault) (r : Result ℕ ProgramFault)
-    → IsErrAnd r (λ x. x ≡ f) → present ≡ items → Answers e size present (Ok m) → PutsTreeAt {T = X} m.state path a b before now (Err f)
-    → PutsListing (list_request e size path) items a b before now r
+    → IsErrAnd r (λ x. x ≡ f) → present ≡ items → Answers e size present (Ok m) → PutsTreeAt {T = X} m.state path (sink_change a b before now) (Err f)
+    → PutsListing (list_request e size path) items (sink_change a b before now) r
 tree_failed X e size path items present m a b before now f (Ok x) is same answers put = absurd is
 tree_failed X e size path items present m a b before now f (Err x) is same answers put =
-    subst (λ (y : ProgramFault). PutsListing (list_request e size path) items a b before now (Err y)) (sym is)
+    subst (λ (y : ProgramFault). PutsListing (list_request e size path) items (sink_change a b before now) (Err y)) (sym is)
     (tree_put e size path items present m a b before now (Err f) same answers (passed_on X ℕ m.state path a b before now f put) tt)
 
 pub tree_is_read : (X : Type 0) {T : Type 0} (m : Mount) (path : Option (List ℕ)) (a b : Option (List ℕ)) (before now : ℕ) (f : ProgramFault) (r : Result T ProgramFault)
-    → IsErrAnd r (λ x. x ≡ f) → PutsTreeAt {T = X} m.state path a b before now (Err f) → IsRead r
+    → IsErrAnd r (λ x. x ≡ f) → PutsTreeAt {T = X} m.state path (sink_change a b before now) (Err f) → IsRead r
 tree_is_read X m path a b before now f (Ok x) is put = absurd is
 tree_is_read X m path a b before now f (Err x) is put =
     subst (λ (y : ProgramFault). IsFaultOfLoad y → ⊥) (sym is) (by f put)
   where
-    by : (g : ProgramFault) → PutsTreeAt {T = X} m.state path a b before now (Err g) → IsFaultOfLoad g → ⊥
+    by : (g : ProgramFault) → PutsTreeAt {T = X} m.state path (sink_change a b before now) (Err g) → IsFaultOfLoad g → ⊥
     by (program.Load f) p is_load = not_loading X m.state path a b before now f p
     by g p is_load = is_load

@@ -1,7 +1,8 @@
 -- The content of a file, as `cat` writes it.
-use Rattle.std.specs.Prelude.{◌≡◌, ℕ, Bool, List, Option, Result, Ok, Err, if◌then◌else◌}
+use Rattle.std.specs.Prelude.{◌≡◌, ℕ, Bool, List, Result, Ok, Err, if◌then◌else◌}
 use Rattle.std.specs.Io.KnownBytes.{Appends}
 use Rattle.flashbase.specs.Device.{PutsPart, next_count}
+use Rattle.flashbase.specs.Sinks.{SinkChange}
 use Rattle.jmount.specs.Tree.{State, object, has_bits, regular_bits}
 use Rattle.jmount.specs.Find.{find}
 use Rattle.jmount.specs.Shown.{readable}
@@ -31,11 +32,13 @@ IsContentFault content _ = ⊥
 
 -- A call puts these bytes. Where the sink fails, a beginning of them went out; where there are
 -- none, nothing did.
-abbrev pub PutsContent : {T : Type 0} → Result (List ℕ) ProgramFault → Option (List ℕ)
-    → Option (List ℕ) → ℕ → ℕ → Result T ProgramFault → Type 0
-PutsContent content old new before now (Ok _) =
-    (bytes : List ℕ) × (content ≡ Ok bytes) × Appends old new bytes × (now ≡ before)
-PutsContent content old new before now (Err Output) =
-    (bytes : List ℕ) × (content ≡ Ok bytes) × PutsPart old new bytes × (now ≡ next_count before)
-PutsContent content old new before now (Err fault) =
-    IsContentFault content fault × (new ≡ old) × (now ≡ before)
+abbrev pub PutsContent : {T : Type 0} → Result (List ℕ) ProgramFault → SinkChange
+    → Result T ProgramFault → Type 0
+PutsContent content sink (Ok _) =
+    (bytes : List ℕ) × (content ≡ Ok bytes) × Appends sink.old sink.new bytes
+    × (sink.now ≡ sink.before)
+PutsContent content sink (Err Output) =
+    (bytes : List ℕ) × (content ≡ Ok bytes) × PutsPart sink.old sink.new bytes
+    × (sink.now ≡ next_count sink.before)
+PutsContent content sink (Err fault) =
+    IsContentFault content fault × (sink.new ≡ sink.old) × (sink.now ≡ sink.before)

@@ -1,7 +1,8 @@
 -- What the calls of a report put, and when they fail.
-use Rattle.std.specs.Prelude.{◌≡◌, ℕ, ◌<◌, false, IsTrue, List, length, Option, Result, Ok, Err}
+use Rattle.std.specs.Prelude.{◌≡◌, ℕ, ◌<◌, false, IsTrue, List, length, Result, Ok, Err}
 use Rattle.std.specs.Io.KnownBytes.{Appends}
 use Rattle.flashbase.specs.Device.{PutsPart, next_count}
+use Rattle.flashbase.specs.Sinks.{SinkChange}
 use Rattle.jnode.specs.declared.order.Endian.{Endian}
 use Rattle.jscan.specs.Image.{is_block_size, greatest_image}
 use Rattle.jscan.specs.Scans.{IsScannable}
@@ -25,13 +26,13 @@ IsScanFaultOf size image (scan.Compressed addr compr) = ⊥
 -- A report puts its whole text and answers the number of findings; at a fault a beginning of the
 -- text went out. An image that can't be scanned is refused before anything is put. No memory is
 -- taken.
-abbrev pub PutsReport : Endian → ℕ → List ℕ → Option (List ℕ) → Option (List ℕ) → ℕ → ℕ
-    → Result ℕ ReportFault → Type 0
-PutsReport e size image old new before now (Ok findings) =
+abbrev pub PutsReport : Endian → ℕ → List ℕ → SinkChange → Result ℕ ReportFault → Type 0
+PutsReport e size image sink (Ok findings) =
     IsScannable size image × (findings ≡ count_in_image is_found e size image)
-    × Appends old new (scan_text e size image) × (now ≡ before)
-PutsReport e size image old new before now (Err Output) =
-    IsScannable size image × PutsPart old new (scan_text e size image) × (now ≡ next_count before)
-PutsReport e size image old new before now (Err (Scan scan.OutOfMemory)) = ⊥
-PutsReport e size image old new before now (Err (Scan fault)) =
-    IsScanFaultOf size image fault × (new ≡ old) × (now ≡ before)
+    × Appends sink.old sink.new (scan_text e size image) × (sink.now ≡ sink.before)
+PutsReport e size image sink (Err Output) =
+    IsScannable size image × PutsPart sink.old sink.new (scan_text e size image)
+    × (sink.now ≡ next_count sink.before)
+PutsReport e size image sink (Err (Scan scan.OutOfMemory)) = ⊥
+PutsReport e size image sink (Err (Scan fault)) =
+    IsScanFaultOf size image fault × (sink.new ≡ sink.old) × (sink.now ≡ sink.before)

@@ -3,6 +3,7 @@ use Rattle.std.specs.Prelude.{◌≡◌, ℕ, ◌/◌, ◌%◌, ◌+◌, ◌==�
 use Rattle.std.specs.List.{flat_map}
 use Rattle.std.specs.Io.KnownBytes.{Appends}
 use Rattle.flashbase.specs.Device.{PutsPart, next_count}
+use Rattle.flashbase.specs.Sinks.{SinkChange}
 use Rattle.jmount.specs.Tree.{State, object, is_there, is_directory, entries_in}
 use Rattle.jmount.specs.Find.{find, path_names}
 use Rattle.jmount.specs.Shown.{readable, shown}
@@ -113,19 +114,19 @@ abbrev pub PutsPartFrom : State → Item → Option (List ℕ) → Option (List 
 PutsPartFrom s item old new = (text : List ℕ) × IsTextFrom s item text × PutsPart old new text
 
 -- A call puts that text. Where the sink fails or memory runs out, a beginning of it went out.
-abbrev pub PutsFrom : {T : Type 0} → State → Item → Option (List ℕ) → Option (List ℕ) → ℕ → ℕ
-    → Result T ProgramFault → Type 0
-PutsFrom s item old new before now (Ok _) =
-    (text : List ℕ) × IsTextFrom s item text × Appends old new text × (now ≡ before)
-PutsFrom s item old new before now (Err Output) =
-    PutsPartFrom s item old new × (now ≡ next_count before)
-PutsFrom s item old new before now (Err OutOfMemory) = PutsPartFrom s item old new × (now ≡ before)
-PutsFrom s item old new before now (Err _) = ⊥
+abbrev pub PutsFrom : {T : Type 0} → State → Item → SinkChange → Result T ProgramFault → Type 0
+PutsFrom s item sink (Ok _) =
+    (text : List ℕ) × IsTextFrom s item text × Appends sink.old sink.new text
+    × (sink.now ≡ sink.before)
+PutsFrom s item sink (Err Output) =
+    PutsPartFrom s item sink.old sink.new × (sink.now ≡ next_count sink.before)
+PutsFrom s item sink (Err OutOfMemory) =
+    PutsPartFrom s item sink.old sink.new × (sink.now ≡ sink.before)
+PutsFrom s item sink (Err _) = ⊥
 
 -- the text of the whole tree
-abbrev pub PutsTree : {T : Type 0} → State → Option (List ℕ) → Option (List ℕ) → ℕ → ℕ
-    → Result T ProgramFault → Type 0
-PutsTree {T} s old new before now result = PutsFrom {T = T} s ([], 1) old new before now result
+abbrev pub PutsTree : {T : Type 0} → State → SinkChange → Result T ProgramFault → Type 0
+PutsTree {T} s sink result = PutsFrom {T = T} s ([], 1) sink result
 
 -- ---- a part of a tree
 
@@ -135,17 +136,14 @@ IsItemAt s path item = (path_names path ≡ Some item.0) × (find s path ≡ Ok 
 
 -- A call puts the lines of the object that a path names, and of what lies below it; or it says that
 -- it names none, and puts nothing.
-abbrev pub PutsPartAt : {T : Type 0} → State → List ℕ → Option (List ℕ) → Option (List ℕ) → ℕ → ℕ
-    → Result T ProgramFault → Type 0
-PutsPartAt s path old new before now (Err (Path fault)) =
-    (find s path ≡ Err fault) × (new ≡ old) × (now ≡ before)
-PutsPartAt {T} s path old new before now result =
-    (item : Item) × IsItemAt s path item × PutsFrom {T = T} s item old new before now result
+abbrev pub PutsPartAt : {T : Type 0} → State → List ℕ → SinkChange → Result T ProgramFault → Type 0
+PutsPartAt s path sink (Err (Path fault)) =
+    (find s path ≡ Err fault) × (sink.new ≡ sink.old) × (sink.now ≡ sink.before)
+PutsPartAt {T} s path sink result =
+    (item : Item) × IsItemAt s path item × PutsFrom {T = T} s item sink result
 
 -- the part of the tree where a path is given, and else the whole
-abbrev pub PutsTreeAt : {T : Type 0} → State → Option (List ℕ) → Option (List ℕ) → Option (List ℕ)
-    → ℕ → ℕ
-    → Result T ProgramFault → Type 0
-PutsTreeAt {T} s None old new before now result = PutsTree {T = T} s old new before now result
-PutsTreeAt {T} s (Some path) old new before now result =
-    PutsPartAt {T = T} s path old new before now result
+abbrev pub PutsTreeAt : {T : Type 0} → State → Option (List ℕ) → SinkChange → Result T ProgramFault
+    → Type 0
+PutsTreeAt {T} s None sink result = PutsTree {T = T} s sink result
+PutsTreeAt {T} s (Some path) sink result = PutsPartAt {T = T} s path sink result

@@ -3,6 +3,7 @@ use Rattle.std.specs.Prelude.{◌≡◌, ◌≢◌, ℕ, ◌==◌, ◌||◌, Boo
 use Rattle.std.specs.List.{flat_map}
 use Rattle.std.specs.Io.KnownBytes.{Appends}
 use Rattle.flashbase.specs.Device.{PutsPart, next_count}
+use Rattle.flashbase.specs.Sinks.{SinkChange}
 use Rattle.jnode.specs.declared.order.Endian.{Endian}
 use Rattle.jmount.specs.Tree.{outline, dangling}
 use Rattle.jmount.specs.ShapeForm.{shape_of}
@@ -85,26 +86,27 @@ pub record IsVerdict (e : Endian) (size : ℕ) (image : List ℕ) (asked : Bool)
 -- ---- what a call puts
 
 -- the lines of a mounted image; out of memory comes before the first of them
-abbrev pub PutsMounted : Bool → Mount → Option (List ℕ) → Option (List ℕ) → ℕ → ℕ
-    → Result Bool ProgramFault → Type 0
-PutsMounted asked m old new before now (Ok bad) =
-    (bad ≡ is_wrong asked m) × Appends old new (mounted_text asked m) × (now ≡ before)
-PutsMounted asked m old new before now (Err program.Output) =
-    PutsPart old new (mounted_text asked m) × (now ≡ next_count before)
-PutsMounted asked m old new before now (Err program.OutOfMemory) = (new ≡ old) × (now ≡ before)
-PutsMounted asked m old new before now (Err _) = ⊥
+abbrev pub PutsMounted : Bool → Mount → SinkChange → Result Bool ProgramFault → Type 0
+PutsMounted asked m sink (Ok bad) =
+    (bad ≡ is_wrong asked m) × Appends sink.old sink.new (mounted_text asked m)
+    × (sink.now ≡ sink.before)
+PutsMounted asked m sink (Err program.Output) =
+    PutsPart sink.old sink.new (mounted_text asked m) × (sink.now ≡ next_count sink.before)
+PutsMounted asked m sink (Err program.OutOfMemory) =
+    (sink.new ≡ sink.old) × (sink.now ≡ sink.before)
+PutsMounted asked m sink (Err _) = ⊥
 
 -- The verdict on an image. Where the sink fails, a beginning of it went out; where memory runs out,
 -- nothing did.
-abbrev pub PutsVerdict : Endian → ℕ → List ℕ → Bool → Option (List ℕ) → Option (List ℕ) → ℕ → ℕ
-    → Result Bool ProgramFault → Type 0
-PutsVerdict e size image asked old new before now (Ok bad) =
-    (text : List ℕ) × IsVerdict e size image asked text bad × Appends old new text × (now ≡ before)
-PutsVerdict e size image asked old new before now (Err program.Output) =
-    (text : List ℕ) × (bad : Bool) × IsVerdict e size image asked text bad × PutsPart old new text
-    × (now ≡ next_count before)
-PutsVerdict e size image asked old new before now (Err program.OutOfMemory) =
-    (m : Mount) × Answers e size image (Ok m) × (new ≡ old) × (now ≡ before)
-PutsVerdict e size image asked old new before now (Err (program.Mount mount.OutOfMemory)) =
-    Answers e size image (Err mount.OutOfMemory) × (new ≡ old) × (now ≡ before)
-PutsVerdict e size image asked old new before now (Err _) = ⊥
+abbrev pub PutsVerdict : Endian → ℕ → List ℕ → Bool → SinkChange → Result Bool ProgramFault → Type 0
+PutsVerdict e size image asked sink (Ok bad) =
+    (text : List ℕ) × IsVerdict e size image asked text bad × Appends sink.old sink.new text
+    × (sink.now ≡ sink.before)
+PutsVerdict e size image asked sink (Err program.Output) =
+    (text : List ℕ) × (bad : Bool) × IsVerdict e size image asked text bad
+    × PutsPart sink.old sink.new text × (sink.now ≡ next_count sink.before)
+PutsVerdict e size image asked sink (Err program.OutOfMemory) =
+    (m : Mount) × Answers e size image (Ok m) × (sink.new ≡ sink.old) × (sink.now ≡ sink.before)
+PutsVerdict e size image asked sink (Err (program.Mount mount.OutOfMemory)) =
+    Answers e size image (Err mount.OutOfMemory) × (sink.new ≡ sink.old) × (sink.now ≡ sink.before)
+PutsVerdict e size image asked sink (Err _) = ⊥

@@ -6,6 +6,7 @@ use Rattle.std.specs.FinMap.{entries}
 use Rattle.std.specs.List.{flat_map}
 use Rattle.std.specs.Io.KnownBytes.{Appends}
 use Rattle.flashbase.specs.Device.{PutsPart, next_count}
+use Rattle.flashbase.specs.Sinks.{SinkChange}
 use Rattle.jmount.specs.Tree.{State}
 use Rattle.jmount.specs.Find.{way_up}
 use Rattle.jreport.specs.TreeText.{Item, Met, items_of, line_of, met_after, is_entered, AreLinesOf}
@@ -28,17 +29,17 @@ abbrev pub met_of : BTreeSet ℕ → Met
 met_of set = λ i. contains nat_cmp set i
 
 -- Its line is put, as if it had been the next to print. The answer is whether it is entered.
-abbrev pub PutsVisit : State → BTreeSet ℕ → BTreeSet ℕ → Item → Option (List ℕ) → Option (List ℕ)
-    → ℕ → ℕ → Result Bool ProgramFault → Type 0
-PutsVisit s set set_after item old new before now (Ok entered) =
+abbrev pub PutsVisit : State → BTreeSet ℕ → BTreeSet ℕ → Item → SinkChange
+    → Result Bool ProgramFault → Type 0
+PutsVisit s set set_after item sink (Ok entered) =
     (entered ≡ is_entered s (met_of set) item.1)
     × (met_of set_after ≡ met_after s (met_of set) item.1)
-    × Appends old new (line_of s (met_of set) item) × (now ≡ before)
-PutsVisit s set set_after item old new before now (Err Output) =
-    PutsPart old new (line_of s (met_of set) item) × (now ≡ next_count before)
-PutsVisit s set set_after item old new before now (Err OutOfMemory) =
-    Appends old new [] × (now ≡ before)
-PutsVisit s set set_after item old new before now (Err _) = ⊥
+    × Appends sink.old sink.new (line_of s (met_of set) item) × (sink.now ≡ sink.before)
+PutsVisit s set set_after item sink (Err Output) =
+    PutsPart sink.old sink.new (line_of s (met_of set) item) × (sink.now ≡ next_count sink.before)
+PutsVisit s set set_after item sink (Err OutOfMemory) =
+    Appends sink.old sink.new [] × (sink.now ≡ sink.before)
+PutsVisit s set set_after item sink (Err _) = ⊥
 
 -- ---- what is still to print at a place of the walk
 
@@ -82,14 +83,15 @@ GoesUp w w_after true = (w.above.items ≡ w_after.above.items ++ w_after.left �
 GoesUp w w_after false = w.above.items ≡ []
 
 -- `false`: nothing is still to print. At a fault a beginning of what was to print went out.
-abbrev pub PutsStep : State → Walk → Walk → Option (List ℕ) → Option (List ℕ) → ℕ → ℕ
-    → Result Bool ProgramFault → Type 0
-PutsStep s w w_after old new before now (Ok true) =
-    LeavesRest s w w_after old new × (steps_left s w_after < steps_left s w) × (now ≡ before)
-PutsStep s w w_after old new before now (Ok false) =
-    (todo_of s w ≡ []) × Appends old new [] × (now ≡ before)
-PutsStep s w w_after old new before now (Err Output) =
-    PutsPartOf s (met_of w.met) (todo_of s w) old new × (now ≡ next_count before)
-PutsStep s w w_after old new before now (Err OutOfMemory) =
-    PutsPartOf s (met_of w.met) (todo_of s w) old new × (now ≡ before)
-PutsStep s w w_after old new before now (Err _) = ⊥
+abbrev pub PutsStep : State → Walk → Walk → SinkChange → Result Bool ProgramFault → Type 0
+PutsStep s w w_after sink (Ok true) =
+    LeavesRest s w w_after sink.old sink.new × (steps_left s w_after < steps_left s w)
+    × (sink.now ≡ sink.before)
+PutsStep s w w_after sink (Ok false) =
+    (todo_of s w ≡ []) × Appends sink.old sink.new [] × (sink.now ≡ sink.before)
+PutsStep s w w_after sink (Err Output) =
+    PutsPartOf s (met_of w.met) (todo_of s w) sink.old sink.new
+    × (sink.now ≡ next_count sink.before)
+PutsStep s w w_after sink (Err OutOfMemory) =
+    PutsPartOf s (met_of w.met) (todo_of s w) sink.old sink.new × (sink.now ≡ sink.before)
+PutsStep s w w_after sink (Err _) = ⊥

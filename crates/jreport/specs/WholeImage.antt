@@ -2,6 +2,7 @@
 use Rattle.std.specs.Prelude.{◌≡◌, ◌≢◌, ◌⊎◌, ℕ, ◌%◌, ◌<◌, ◌≤◌, ◌||◌, Bool, nat_lt, List, ◌++◌, length, Option, Result, Ok, Err, IfSome, ⊤}
 use Rattle.std.specs.Io.KnownBytes.{Appends, IsAtEnd}
 use Rattle.flashbase.specs.Device.{PutsPart, next_count}
+use Rattle.flashbase.specs.Sinks.{SinkChange}
 use Rattle.flashbase.specs.declared.source.LoadFault.TheVariants as load
 use Rattle.jnode.specs.declared.order.Endian.{Endian}
 use Rattle.jmount.specs.Mount.{Mount}
@@ -63,36 +64,37 @@ PutsPartOfCheck e size image asked old new =
 -- A call puts what `check` prints. Only where the sink is blamed did it fail, once. Memory is
 -- wanting in the report only where the last block of the image has a missing tail, and then in the
 -- mount, or for the entries that dangle in it, or for its shape.
-abbrev pub PutsCheck : Endian → ℕ → List ℕ → Bool → Option (List ℕ) → Option (List ℕ) → ℕ → ℕ
-    → Result Bool ProgramFault → Type 0
-PutsCheck e size image asked old new before now (Ok found) =
-    (text : List ℕ) × IsCheck e size image asked text found × Appends old new text × (now ≡ before)
-PutsCheck e size image asked old new before now (Err program.Output) =
-    PutsPartOfCheck e size image asked old new × (now ≡ next_count before)
-PutsCheck e size image asked old new before now (Err (program.Load fault)) =
-    (new ≡ old) × (now ≡ before)
-PutsCheck e size image asked old new before now (Err (program.Scan scan.BlockSize)) =
-    (new ≡ old) × (now ≡ before)
-PutsCheck e size image asked old new before now (Err (program.Scan scan.OutOfMemory)) =
-    (length image % size ≢ 0) × PutsPart old new (scan_text e size image) × (now ≡ before)
-PutsCheck e size image asked old new before now (Err (program.Mount mount.OutOfMemory)) =
-    Answers e size image (Err mount.OutOfMemory) × Appends old new (scan_text e size image)
-    × (now ≡ before)
-PutsCheck e size image asked old new before now (Err program.OutOfMemory) =
-    (m : Mount) × Answers e size image (Ok m) × Appends old new (scan_text e size image)
-    × (now ≡ before)
-PutsCheck e size image asked old new before now (Err _) = ⊥
+abbrev pub PutsCheck : Endian → ℕ → List ℕ → Bool → SinkChange → Result Bool ProgramFault → Type 0
+PutsCheck e size image asked sink (Ok found) =
+    (text : List ℕ) × IsCheck e size image asked text found × Appends sink.old sink.new text
+    × (sink.now ≡ sink.before)
+PutsCheck e size image asked sink (Err program.Output) =
+    PutsPartOfCheck e size image asked sink.old sink.new × (sink.now ≡ next_count sink.before)
+PutsCheck e size image asked sink (Err (program.Load fault)) =
+    (sink.new ≡ sink.old) × (sink.now ≡ sink.before)
+PutsCheck e size image asked sink (Err (program.Scan scan.BlockSize)) =
+    (sink.new ≡ sink.old) × (sink.now ≡ sink.before)
+PutsCheck e size image asked sink (Err (program.Scan scan.OutOfMemory)) =
+    (length image % size ≢ 0) × PutsPart sink.old sink.new (scan_text e size image)
+    × (sink.now ≡ sink.before)
+PutsCheck e size image asked sink (Err (program.Mount mount.OutOfMemory)) =
+    Answers e size image (Err mount.OutOfMemory)
+    × Appends sink.old sink.new (scan_text e size image) × (sink.now ≡ sink.before)
+PutsCheck e size image asked sink (Err program.OutOfMemory) =
+    (m : Mount) × Answers e size image (Ok m) × Appends sink.old sink.new (scan_text e size image)
+    × (sink.now ≡ sink.before)
+PutsCheck e size image asked sink (Err _) = ⊥
 
 -- ---- `cat` and `ls`
 
 -- What a call does that mounts an image: nothing is put of one that was not read or does not mount.
-abbrev pub OnMount : {T : Type 0} → Endian → ℕ → List ℕ → Option (List ℕ) → Option (List ℕ) → ℕ → ℕ
-    → (Mount → Type 0) → Result T ProgramFault → Type 0
-OnMount e size image old new before now puts (Err (program.Load fault)) =
-    (new ≡ old) × (now ≡ before)
-OnMount e size image old new before now puts (Err (program.Mount fault)) =
-    Answers e size image (Err fault) × (new ≡ old) × (now ≡ before)
-OnMount e size image old new before now puts _ = (m : Mount) × Answers e size image (Ok m) × puts m
+abbrev pub OnMount : {T : Type 0} → Endian → ℕ → List ℕ → SinkChange → (Mount → Type 0)
+    → Result T ProgramFault → Type 0
+OnMount e size image sink puts (Err (program.Load fault)) =
+    (sink.new ≡ sink.old) × (sink.now ≡ sink.before)
+OnMount e size image sink puts (Err (program.Mount fault)) =
+    Answers e size image (Err fault) × (sink.new ≡ sink.old) × (sink.now ≡ sink.before)
+OnMount e size image sink puts _ = (m : Mount) × Answers e size image (Ok m) × puts m
 
 -- the answer is the number of findings that a reader of files is told of
 abbrev pub AnswersNoted : Mount → Result ℕ ProgramFault → Type 0
@@ -100,11 +102,10 @@ AnswersNoted m (Ok n) = n ≡ noted m
 AnswersNoted m (Err _) = ⊤
 
 -- `cat`: the content of the regular file that a path names in an image
-abbrev pub PutsFile : Endian → ℕ → List ℕ → List ℕ → Option (List ℕ) → Option (List ℕ) → ℕ → ℕ
-    → Result ℕ ProgramFault → Type 0
-PutsFile e size image path old new before now answer =
-    OnMount e size image old new before now (λ m. PutsContent (content_of m.state path) old new
-    before now answer × AnswersNoted m answer) answer
+abbrev pub PutsFile : Endian → ℕ → List ℕ → List ℕ → SinkChange → Result ℕ ProgramFault → Type 0
+PutsFile e size image path sink answer =
+    OnMount e size image sink (λ m. PutsContent (content_of m.state path) sink answer
+    × AnswersNoted m answer) answer
 
 -- what `ls` is asked for: a byte order, the size of a block, and a path where a part is wanted
 pub record ListRequest : Type 0 where
@@ -116,8 +117,7 @@ abbrev pub list_request : Endian → ℕ → Option (List ℕ) → ListRequest
 list_request order block path = record { order = order; block = block; path = path }
 
 -- `ls`: the lines of an image's tree, or of the part of it that a path names
-abbrev pub PutsListing : ListRequest → List ℕ → Option (List ℕ) → Option (List ℕ) → ℕ → ℕ
-    → Result ℕ ProgramFault → Type 0
-PutsListing asked image old new before now answer =
-    OnMount asked.order asked.block image old new before now
-    (λ m. PutsTreeAt m.state asked.path old new before now answer × AnswersNoted m answer) answer
+abbrev pub PutsListing : ListRequest → List ℕ → SinkChange → Result ℕ ProgramFault → Type 0
+PutsListing asked image sink answer =
+    OnMount asked.order asked.block image sink (λ m. PutsTreeAt m.state asked.path sink answer
+    × AnswersNoted m answer) answer

@@ -1,6 +1,7 @@
 //! The content of files.
 
 ghost use Rattle.std.specs.Prelude.{◌≡◌, Ok, IfOk, IfErr};
+ghost use Rattle.flashbase.specs.Sinks.{change_of};
 ghost use Rattle.jmount.specs.Shown.{readable};
 ghost use Rattle.jreport.specs.Content.{content_of, is_regular, IsContentFault, PutsContent};
 
@@ -39,9 +40,8 @@ pub fn content<T: Sink>(
     path: &[u8],
     sink: &mut T,
 ) -> Result<(), ProgramFault<'static>>
-    ensures { PutsContent (content_of mounted.now.state path.now) (T.taken sink.old)
-        (T.taken sink.new)
-        (T.failures sink.old) (T.failures sink.new) result }
+    ensures { PutsContent (content_of mounted.now.state path.now)
+        (change_of T.Sink sink.old sink.new) result }
 {
     let ino = regular_at(mounted, path)?;
     mounted.put_bytes(ino, sink)?;

@@ -1,6 +1,7 @@
 //! The listing of a mounted image's tree, as `ls` prints it.
 
 ghost use Rattle.std.specs.Prelude.{map, option_map};
+ghost use Rattle.flashbase.specs.Sinks.{change_of};
 ghost use Rattle.jreport.specs.TreeText.{PutsFrom, PutsPartAt, PutsTree, PutsTreeAt};
 ghost use Rattle.jreport.specs.Walking.{GoesUp, PutsStep, PutsVisit};
 
@@ -26,7 +27,7 @@ fn visit<T: Sink>(
     sink: &mut T,
 ) -> Result<bool, ProgramFault<'static>>
     ensures { PutsVisit mounted.now.state met.old met.new (map (λ name. name.now) path.now, ino)
-        (T.taken sink.old) (T.taken sink.new) (T.failures sink.old) (T.failures sink.new) result }
+        (change_of T.Sink sink.old sink.new) result }
 {
     let Some(object) = mounted.object(ino) else {
         return Ok(false);
@@ -62,8 +63,7 @@ impl<'m, 'a> Walk<'m, 'a> {
         sink: &mut T,
     ) -> Result<bool, ProgramFault<'static>>
         ensures { PutsStep mounted.now.state self.old self.new
-            (T.taken sink.old) (T.taken sink.new) (T.failures sink.old) (T.failures sink.new)
-            result }
+            (change_of T.Sink sink.old sink.new) result }
     {
         let Some((name, ino)) = self.left.next() else {
             return Ok(self.go_up());
@@ -100,7 +100,7 @@ fn lines_from<'m, T: Sink>(
     sink: &mut T,
 ) -> Result<(), ProgramFault<'static>>
     ensures { PutsFrom mounted.now.state (map (λ name. name.now) path.entry.items, ino)
-        (T.taken sink.old) (T.taken sink.new) (T.failures sink.old) (T.failures sink.new) result }
+        (change_of T.Sink sink.old sink.new) result }
 {
     let mut met = BTreeSet::new(alloc);
     if !visit(mounted, &path, ino, &mut met, sink)? {
@@ -124,8 +124,7 @@ pub fn tree_lines<T: Sink>(
     mounted: &Mounted<'_>,
     sink: &mut T,
 ) -> Result<(), ProgramFault<'static>>
-    ensures { PutsTree mounted.now.state (T.taken sink.old) (T.taken sink.new) (T.failures sink.old)
-        (T.failures sink.new) result }
+    ensures { PutsTree mounted.now.state (change_of T.Sink sink.old sink.new) result }
 {
     lines_from(alloc, mounted, Vec::new(alloc), ROOT, sink)
 }
@@ -141,8 +140,7 @@ pub fn part_lines<T: Sink>(
     path: &[u8],
     sink: &mut T,
 ) -> Result<(), ProgramFault<'static>>
-    ensures { PutsPartAt mounted.now.state path.now (T.taken sink.old) (T.taken sink.new)
-        (T.failures sink.old) (T.failures sink.new) result }
+    ensures { PutsPartAt mounted.now.state path.now (change_of T.Sink sink.old sink.new) result }
 {
     let ino = mounted.find(path)?;
     let Some(names) = names_of_path(alloc, path)? else {
@@ -158,8 +156,8 @@ pub(crate) fn lines_at<T: Sink>(
     path: Option<&[u8]>,
     sink: &mut T,
 ) -> Result<(), ProgramFault<'static>>
-    ensures { PutsTreeAt mounted.now.state (option_map (λ p. p.now) path.entry) (T.taken sink.old)
-        (T.taken sink.new) (T.failures sink.old) (T.failures sink.new) result }
+    ensures { PutsTreeAt mounted.now.state (option_map (λ p. p.now) path.entry)
+        (change_of T.Sink sink.old sink.new) result }
 {
     match path {
         Some(path) => part_lines(alloc, mounted, path, sink),

@@ -1,7 +1,7 @@
 //! The report of an image.
 
 ghost use Rattle.std.specs.Prelude.{◌≡◌, ◌+◌, ◌<◌, ◌≤◌, [], length, IsTrue, IfOk, OnOk, IfErr, IfSome};
-ghost use Rattle.flashbase.specs.Sinks.{PutsTo};
+ghost use Rattle.flashbase.specs.Sinks.{PutsTo, change_of};
 ghost use Rattle.jscan.specs.Counts.{counts_of, extents_below, is_found};
 ghost use Rattle.jscan.specs.Image.{is_block_size, greatest_image, block_count};
 ghost use Rattle.jscan.specs.PartialScans.{HasScanned};
@@ -80,8 +80,8 @@ pub fn report_and_scan<'a, E: Order, T: Sink>(
     partial: &mut Option<PartialScan<'a>>,
 ) -> Result<u64, ReportFault>
     requires scan { IfSome partial.old (HasScanned []) }
-    ensures puts { PutsReport E.order geometry.block image.now (T.taken sink.old) (T.taken sink.new)
-        (T.failures sink.old) (T.failures sink.new) result }
+    ensures puts { PutsReport E.order geometry.block image.now
+        (change_of T.Sink sink.old sink.new) result }
     ensures scan { OnOk result
         (IfSome partial.new (HasScanned (image_extents E.order geometry.block image.now))) }
 {
@@ -103,8 +103,8 @@ pub fn put_report<E: Order, T: Sink>(
     geometry: Geometry,
     sink: &mut T,
 ) -> Result<u64, ReportFault>
-    ensures { PutsReport E.order geometry.block image.now (T.taken sink.old) (T.taken sink.new)
-        (T.failures sink.old) (T.failures sink.new) result }
+    ensures { PutsReport E.order geometry.block image.now
+        (change_of T.Sink sink.old sink.new) result }
 {
     report_and_scan::<E, T>(image, geometry, sink, &mut None)
 }

@@ -2,6 +2,7 @@
 
 ghost use Rattle.std.specs.Prelude.{◌<◌, ◌≤◌, ◌/◌, ◌≡◌, ◌↔◌, ◌⊎◌, IsFalse, IfSome, IsErrOf, OnOk, Some, length, option_map};
 ghost use Rattle.std.specs.Io.KnownBytes.{Appends};
+ghost use Rattle.flashbase.specs.Sinks.{change_of};
 ghost use Rattle.jscan.specs.Image.{greatest_image, is_block_size};
 ghost use Rattle.jscan.specs.Stream.{IsAtStart, failures_of, rest_of};
 ghost use Rattle.jreport.specs.WholeImage.{OfSomeImage};
@@ -28,8 +29,7 @@ pub fn stream_lines<E: Order, S: Source, T: Sink>(
     // The report is that of all the source's bytes. At a fault a beginning of it went out, and the
     // sink failed only if it is blamed.
     ensures put { OfSomeImage (S.rest source) (λ image. PutsStream E.order geometry.block image
-        (T.taken sink.old) (T.taken sink.new) (T.failures sink.old) (T.failures sink.new)
-        result.0) }
+        (change_of T.Sink sink.old sink.new) result.0) }
     ensures within { OnOk result.0
         (IfSome (S.rest source) (λ image. length image ≤ greatest_image)) }
 
@@ -76,7 +76,7 @@ fn put_blocks<E: Order, S: Source, T: Sink>(
 ) -> Result<u64, ProgramFault<'static>>
     requires { IsAtStart geometry.block reader.old }
     ensures put { OfSomeImage (rest_of reader.old) (λ image. PutsStream E.order geometry.block image
-        (T.taken sink.old) (T.taken sink.new) (T.failures sink.old) (T.failures sink.new) result) }
+        (change_of T.Sink sink.old sink.new) result) }
     ensures within { OnOk result
         (IfSome (rest_of reader.old) (λ image. length image ≤ greatest_image)) }
     ensures back { HandsBack (failures_of reader.old) (Some (failures_of reader.new)) result }

@@ -3,7 +3,7 @@
 
 ghost use Rattle.std.specs.Prelude.{◌≡◌, ◌||◌, ℕ, List, [], ◌++◌, ◌∷◌, IfOk, IfSome};
 ghost use Rattle.std.specs.List.{flat_map};
-ghost use Rattle.flashbase.specs.Sinks.{PutsTo};
+ghost use Rattle.flashbase.specs.Sinks.{PutsTo, change_of};
 ghost use Rattle.jnode.specs.declared.order.Endian.{Endian};
 ghost use Rattle.jscan.specs.PartialScans.{IsScanOf};
 ghost use Rattle.jscan.specs.Scans.{IsScannable};
@@ -133,8 +133,7 @@ fn put_mounted<T: Sink>(
     asked: bool,
     sink: &mut T,
 ) -> Result<bool, ProgramFault<'static>>
-    ensures { PutsMounted asked mounted.now (T.taken sink.old) (T.taken sink.new)
-        (T.failures sink.old) (T.failures sink.new) result }
+    ensures { PutsMounted asked mounted.now (change_of T.Sink sink.old sink.new) result }
 {
     let dangling = mounted.dangling(alloc)?;
     let shape = shape_if(alloc, mounted, asked)?;
@@ -152,8 +151,7 @@ fn put_verdict<T: Sink>(
     sink: &mut T,
 ) -> Result<bool, ProgramFault<'static>>
     ensures { (e : Endian) (size : ℕ) (image : List ℕ) → Answers e size image answer.entry
-        → PutsVerdict e size image asked (T.taken sink.old) (T.taken sink.new) (T.failures sink.old)
-        (T.failures sink.new) result }
+        → PutsVerdict e size image asked (change_of T.Sink sink.old sink.new) result }
 {
     match answer {
         Ok(mounted) => put_mounted(alloc, &mounted, asked, sink),
@@ -177,9 +175,8 @@ pub fn verdict_lines<E: Order, T: Sink>(
     shape: bool,
     sink: &mut T,
 ) -> Result<bool, ProgramFault<'static>>
-    ensures { PutsVerdict E.order geometry.block image.now shape (T.taken sink.old)
-        (T.taken sink.new)
-        (T.failures sink.old) (T.failures sink.new) result }
+    ensures { PutsVerdict E.order geometry.block image.now shape
+        (change_of T.Sink sink.old sink.new) result }
 {
     put_verdict(alloc, mount::<E>(alloc, image, geometry), shape, sink)
 }
@@ -214,8 +211,7 @@ pub fn scanned_verdict<T: Sink>(
         (λ scan. (e : Endian) × (size : ℕ) × IsScanOf e size image.now scan) }
     ensures { (e : Endian) (size : ℕ) → IsScannable size image.now
         → IfSome partial.entry (IsScanOf e size image.now)
-        → PutsVerdict e size image.now shape (T.taken sink.old) (T.taken sink.new)
-        (T.failures sink.old) (T.failures sink.new) result }
+        → PutsVerdict e size image.now shape (change_of T.Sink sink.old sink.new) result }
 {
     put_verdict(alloc, mount_partial(alloc, image, partial), shape, sink)
 }

@@ -1,6 +1,7 @@
 //! What is done with an image that is read as a whole.
 
 ghost use Rattle.std.specs.Prelude.{◌≡◌, ◌↔◌, ◌||◌, nat_lt, IsFalse, IsTrue, IfErr, IsErrOf, option_map};
+ghost use Rattle.flashbase.specs.Sinks.{change_of};
 ghost use Rattle.jscan.specs.Image.{is_block_size};
 ghost use Rattle.jreport.specs.WholeImage.{IsFaultOfLoad, OfSomeImage, PutsCheck, PutsFile, PutsListing, ReadsWhole, list_request};
 
@@ -45,7 +46,7 @@ pub fn check_lines<E: Order, S: Source, T: Sink>(
     ensures load { IfErr result (λ fault. IsFaultOfLoad fault → sink.new ≡ sink.old) }
     ensures put { OfSomeImage (S.rest source.old)
         (λ image. PutsCheck E.order geometry.block image shape
-        (T.taken sink.old) (T.taken sink.new) (T.failures sink.old) (T.failures sink.new) result) }
+        (change_of T.Sink sink.old sink.new) result) }
 {
     if !geometry.is_readable() {
         return Err(ProgramFault::Scan(ScanFault::BlockSize));
@@ -67,7 +68,7 @@ pub fn image_file<E: Order, T: Sink>(
     sink: &mut T,
 ) -> Result<u64, ProgramFault<'static>>
     ensures put { PutsFile E.order geometry.block image.now path.now
-        (T.taken sink.old) (T.taken sink.new) (T.failures sink.old) (T.failures sink.new) result }
+        (change_of T.Sink sink.old sink.new) result }
     ensures read { IfErr result (λ fault. IsFaultOfLoad fault → ⊥) }
 {
     let mounted = mount::<E>(alloc, image, geometry)?;
@@ -86,7 +87,7 @@ pub fn image_tree<E: Order, T: Sink>(
 ) -> Result<u64, ProgramFault<'static>>
     ensures put { PutsListing
         (list_request E.order geometry.block (option_map (λ p. p.now) path.entry)) image.now
-        (T.taken sink.old) (T.taken sink.new) (T.failures sink.old) (T.failures sink.new) result }
+        (change_of T.Sink sink.old sink.new) result }
     ensures read { IfErr result (λ fault. IsFaultOfLoad fault → ⊥) }
 {
     let tree = mount::<E>(alloc, image, geometry)?;
@@ -110,7 +111,7 @@ pub fn file_bytes<E: Order, S: Source, T: Sink>(
     ensures load { IfErr result (λ fault. IsFaultOfLoad fault → sink.new ≡ sink.old) }
     ensures put { OfSomeImage (S.rest source.old)
         (λ image. PutsFile E.order geometry.block image path.now
-        (T.taken sink.old) (T.taken sink.new) (T.failures sink.old) (T.failures sink.new) result) }
+        (change_of T.Sink sink.old sink.new) result) }
 {
     let image = load(alloc, source, GREATEST_IMAGE)?;
     image_file::<E, T>(alloc, image.as_slice(), geometry, path, sink)
@@ -132,7 +133,7 @@ pub fn list_lines<E: Order, S: Source, T: Sink>(
     ensures load { IfErr result (λ fault. IsFaultOfLoad fault → sink.new ≡ sink.old) }
     ensures put { OfSomeImage (S.rest source.old) (λ image. PutsListing
         (list_request E.order geometry.block (option_map (λ p. p.now) path.entry)) image
-        (T.taken sink.old) (T.taken sink.new) (T.failures sink.old) (T.failures sink.new) result) }
+        (change_of T.Sink sink.old sink.new) result) }
 {
     let image = load(alloc, source, GREATEST_IMAGE)?;
     image_tree::<E, T>(alloc, image.as_slice(), geometry, path, sink)

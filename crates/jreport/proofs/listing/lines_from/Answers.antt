@@ -3,6 +3,8 @@ use Rattle.jreport.specs.Walking.{PutsVisit, PutsStep}
 use Rattle.jreport.specs.declared.listing.Walk.{Walk}
 use Rattle.jreport.proofs.WalkLemmas.{first_entered, first_alone, first_failed, steps_on, all_steps, stopped, tree_failed, visit_at}
 use Rattle.jreport.proofs.listing.lines_from.Goals as goal
+use Rattle.jreport.proofs.SinkLemmas.{sink_change}
+use Rattle.flashbase.specs.Sinks.{change_of}
 
 pub returns-in_err-visit : goal.returns-in_err-visit
 returns-in_err-visit g c =
@@ -22,7 +24,7 @@ returns-then-not-branch g c =
     let before = g.T.Sink.failures c.args.sink.now in
     let now = g.T.Sink.failures c.visit.new.sink in
     first_alone s (map (λ n. n.now) c.args.path.items, c.args.ino) c.new-met.result c.visit.new.met old new before now (tt {0}) c.new-met.ensures.empty
-    (subst (λ (b : Bool). PutsVisit s c.new-met.result c.visit.new.met (map (λ n. n.now) c.args.path.items, c.args.ino) old new before now (Ok b)) c.if-not-branch.true
+    (subst (λ (b : Bool). PutsVisit s c.new-met.result c.visit.new.met (map (λ n. n.now) c.args.path.items, c.args.ino) (sink_change old new before now) (Ok b)) c.if-not-branch.true
     (visit_at s c.new-met.result c.visit.new.met _ (map (λ n. n.now) c.args.path.items) c.args.ino _ _ _ _ (Ok c.in_ok-visit.field-0)
     (ap (map (λ n. n.now)) c.deref.ensures.value) c.in_ok-visit.ensures))
 
@@ -34,7 +36,7 @@ loop-walk-init g c =
     let before = g.T.Sink.failures c.args.sink.now in
     let now = g.T.Sink.failures c.visit.new.sink in
     let w : Walk = record { path = c.args.path; left = c.entries.result; above = c.new.result; met = c.visit.new.met } in
-    let put = subst (λ (b : Bool). PutsVisit s c.new-met.result c.visit.new.met (map (λ n. n.now) c.args.path.items, c.args.ino) old new before now (Ok b)) c.if-not-branch.false
+    let put = subst (λ (b : Bool). PutsVisit s c.new-met.result c.visit.new.met (map (λ n. n.now) c.args.path.items, c.args.ino) (sink_change old new before now) (Ok b)) c.if-not-branch.false
     (visit_at s c.new-met.result c.visit.new.met _ (map (λ n. n.now) c.args.path.items) c.args.ino _ _ _ _ (Ok c.in_ok-visit.field-0)
     (ap (map (λ n. n.now)) c.deref.ensures.value) c.in_ok-visit.ensures) in
     record {
@@ -62,13 +64,12 @@ loop-walk-preserved g c =
     let before = g.T.Sink.failures c.loop-walk.sink in
     let now = g.T.Sink.failures c.step.new.sink in
     let far = c.loop-walk.invariant in
-    let put = subst (λ (on : Bool). PutsStep s w n b d before now (Ok on)) c.if-branch.true c.in_ok-step.ensures in
+    let put = subst (λ (on : Bool). PutsStep s w n (sink_change b d before now) (Ok on)) c.if-branch.true c.in_ok-step.ensures in
     record { so_far = steps_on s (map (λ n. n.now) c.args.path.items, c.args.ino) w n a b d before now far.so_far put; failed = put.2 ∙ far.failed }
 
 pub loop-walk-smaller : goal.loop-walk-smaller
 loop-walk-smaller g c =
-    let put = subst (λ (on : Bool). PutsStep c.args.mounted.now.state c.loop-walk.walk c.step.new.self (g.T.Sink.taken c.loop-walk.sink) (g.T.Sink.taken c.step.new.sink)
-    (g.T.Sink.failures c.loop-walk.sink) (g.T.Sink.failures c.step.new.sink) (Ok on)) c.if-branch.true c.in_ok-step.ensures in
+    let put = subst (λ (on : Bool). PutsStep c.args.mounted.now.state c.loop-walk.walk c.step.new.self (change_of g.T.Sink c.loop-walk.sink c.step.new.sink) (Ok on)) c.if-branch.true c.in_ok-step.ensures in
     put.1
 
 pub returns : goal.returns
@@ -82,5 +83,5 @@ returns g c =
     let before = g.T.Sink.failures c.loop-walk.sink in
     let now = g.T.Sink.failures c.step.new.sink in
     let far = c.loop-walk.invariant in
-    let put = subst (λ (on : Bool). PutsStep s w n b d before now (Ok on)) c.if-branch.false c.in_ok-step.ensures in
+    let put = subst (λ (on : Bool). PutsStep s w n (sink_change b d before now) (Ok on)) c.if-branch.false c.in_ok-step.ensures in
     all_steps s (map (λ n. n.now) c.args.path.items, c.args.ino) w n a b d (g.T.Sink.failures c.args.sink.now) before now (tt {0}) far.so_far far.failed put

@@ -2,6 +2,7 @@ use Rattle.std.proofs.Common.{ℕ, List, arith, subst}
 use Rattle.jreport.specs.WholeImage.{PutsFile}
 use Rattle.jreport.proofs.WholeImageLemmas.{is_short, load_failed, not_of_load, of_unread, read_whole, unread_mount}
 use Rattle.jreport.proofs.whole_image.file_bytes.Goals as goal
+use Rattle.flashbase.specs.Sinks.{change_of}
 
 pub returns-in_err-image-clause-read : goal.returns-in_err-image-clause-read
 returns-in_err-image-clause-read g c =
@@ -24,6 +25,5 @@ pub returns-clause-put : goal.returns-clause-put
 returns-clause-put g c = (
   c.in_ok-image.image.items,
   c.in_ok-image.ensures.whole,
-  subst (λ (image : List ℕ). PutsFile g.E.Order.order c.args.geometry.block image c.args.path.now (g.T.Sink.taken c.args.sink.now) (g.T.Sink.taken c.image_file.new.sink)
-      (g.T.Sink.failures c.args.sink.now) (g.T.Sink.failures c.image_file.new.sink) c.image_file.result) c.as_slice.ensures.value c.image_file.ensures.put,
+  subst (λ (image : List ℕ). PutsFile g.E.Order.order c.args.geometry.block image c.args.path.now (change_of g.T.Sink c.args.sink.now c.image_file.new.sink) c.image_file.result) c.as_slice.ensures.value c.image_file.ensures.put,
 )

@@ -3,6 +3,7 @@ use Rattle.std.specs.Prelude.{option_map}
 use Rattle.jreport.specs.WholeImage.{PutsListing, list_request}
 use Rattle.jreport.proofs.WholeImageLemmas.{is_short, load_failed, not_of_load, of_unread, read_whole, unread_mount}
 use Rattle.jreport.proofs.whole_image.list_lines.Goals as goal
+use Rattle.flashbase.specs.Sinks.{change_of}
 
 pub returns-in_err-image-clause-read : goal.returns-in_err-image-clause-read
 returns-in_err-image-clause-read g c =
@@ -25,6 +26,5 @@ pub returns-clause-put : goal.returns-clause-put
 returns-clause-put g c = (
   c.in_ok-image.image.items,
   c.in_ok-image.ensures.whole,
-  subst (λ (image : List ℕ). PutsListing (list_request g.E.Order.order c.args.geometry.block (option_map (λ p. p.now) c.args.path)) image (g.T.Sink.taken c.args.sink.now) (g.T.Sink.taken c.image_tree.new.sink)
-      (g.T.Sink.failures c.args.sink.now) (g.T.Sink.failures c.image_tree.new.sink) c.image_tree.result) c.as_slice.ensures.value c.image_tree.ensures.put,
+  subst (λ (image : List ℕ). PutsListing (list_request g.E.Order.order c.args.geometry.block (option_map (λ p. p.now) c.args.path)) image (change_of g.T.Sink c.args.sink.now c.image_tree.new.sink) c.image_tree.result) c.as_slice.ensures.value c.image_tree.ensures.put,
 )

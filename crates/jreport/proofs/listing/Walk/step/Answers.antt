@@ -5,6 +5,7 @@ use Rattle.jreport.specs.declared.faults.ProgramFault.TheVariants.{OutOfMemory}
 use Rattle.jreport.proofs.WalkLemmas.{goes_up, stays, enters, nothing_put, line_put, line_failed, step_failed, visit_at, way_back, way_on}
 use Rattle.jreport.proofs.listing.Walk.step.Goals as goal
 use Rattle.jreport.proofs.listing.Walk.step.Goals.{then-branch+in_ok-push-2, else-branch}
+use Rattle.jreport.proofs.SinkLemmas.{sink_change}
 
 pub returns-in_default : goal.returns-in_default
 returns-in_default g c =
@@ -61,17 +62,17 @@ returns g c =
     elim c.if-branch.branch [
       | then-branch+in_ok-push-2 x ↦
           let n : Walk = record { path = c.push.new.self; left = x.replace.new.dest; above = x.push-then-branch.new.self; met = c.visit.new.met } in
-          subst (λ (m : Walk). PutsStep s w m old new before now (Ok true)) (sym x.self-is)
+          subst (λ (m : Walk). PutsStep s w m (sink_change old new before now) (Ok true)) (sym x.self-is)
           (enters s w n c.in-Some.name.now c.in-Some.ino c.next.new.self old new before now c.in-Some.ensures.steps
           (x.replace.ensures.after ∙ x.entries.ensures)
           (x.in_ok-push-2.ensures.items ∙ ap (λ (l : List (List ℕ × ℕ)). w.above.items ++ l ∷ []) x.replace.ensures.value)
           (way_on w c.in-Some.name c.push.new.self.items c.push.new.self.items refl c.in_ok-push.ensures.items)
-          (subst (λ (b : Bool). PutsVisit s w.met c.visit.new.met (way_of w ++ c.in-Some.name.now ∷ [], c.in-Some.ino) old new before now (Ok b)) x.if-branch.true put))
+          (subst (λ (b : Bool). PutsVisit s w.met c.visit.new.met (way_of w ++ c.in-Some.name.now ∷ [], c.in-Some.ino) (sink_change old new before now) (Ok b)) x.if-branch.true put))
       | else-branch x ↦
           let n : Walk = record { path = x.pop.new.self; left = c.next.new.self; above = w.above; met = c.visit.new.met } in
-          subst (λ (m : Walk). PutsStep s w m old new before now (Ok true)) (sym x.self-is)
+          subst (λ (m : Walk). PutsStep s w m (sink_change old new before now) (Ok true)) (sym x.self-is)
           (stays s w n c.in-Some.name.now c.in-Some.ino old new before now c.in-Some.ensures.steps refl
           (way_back w c.in-Some.name c.push.new.self.items x.pop.new.self.items c.in_ok-push.ensures.items
           (x.pop.ensures.rest ∙ ap (λ (k : ℕ). take (k - 1) c.push.new.self.items) c.push.new.self.ok.0))
-          (subst (λ (b : Bool). PutsVisit s w.met c.visit.new.met (way_of w ++ c.in-Some.name.now ∷ [], c.in-Some.ino) old new before now (Ok b)) x.if-branch.false put))
+          (subst (λ (b : Bool). PutsVisit s w.met c.visit.new.met (way_of w ++ c.in-Some.name.now ∷ [], c.in-Some.ino) (sink_change old new before now) (Ok b)) x.if-branch.false put))
     ]
