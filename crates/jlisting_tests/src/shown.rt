@@ -10,14 +10,18 @@ fn show_bytes(out: &mut String, text: &Text<'_>) -> Result<(), AllocError> {
     show_slice(out, text.as_slice())
 }
 
+fn show_byte(out: &mut String, byte: u8) -> Result<(), AllocError> {
+    if byte.is_ascii_graphic() && byte != b'\\' {
+        out.push(char::from(byte))
+    } else {
+        write!(out, "\\x{byte:02x}")
+    }
+}
+
 fn show_slice(out: &mut String, bytes: &[u8]) -> Result<(), AllocError> {
     out.push_str(" ")?;
     for byte in bytes {
-        if *byte > 32 && *byte < 127 && *byte != b'\\' {
-            out.push(char::from(*byte))?;
-        } else {
-            write!(out, "\\x{byte:02x}")?;
-        }
+        show_byte(out, *byte)?;
     }
     Ok(())
 }
@@ -110,7 +114,7 @@ fn show_listed_device(out: &mut String, action: &Action<'_>) -> Result<(), Alloc
 }
 
 /// A new object, or what `show_change` shows.
-fn show_op(out: &mut String, op: &Op<'_>) -> Result<(), AllocError> {
+pub fn show_op(out: &mut String, op: &Op<'_>) -> Result<(), AllocError> {
     match op {
         Op::Mkdir {
             time,
