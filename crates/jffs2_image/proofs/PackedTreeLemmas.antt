@@ -99,6 +99,7 @@ gives_folder asked folder known_folder options unmade reading writing output not
         let run = puts.files in
         run_holds asked folder reading.told writing.held before run.0 run.1 run.2 known_folder options listable told run.3 run.4
     put_by (Err fault) finished taken count is puts before told = cc
+
     by_held : (held : Option (List (List ℕ))) → writing.held.0 ≡ held → IfSome held (λ before. (image : List ℕ)
         × (writing.held.1 ≡ Some (before ++ image ∷ [])) × HoldsFolder asked folder reading.told image)
     by_held None is = tt

@@ -59,8 +59,8 @@ link_reaches page n x s time old new f m root made is_page at stands t a now nam
     let room : is_exhausted page x (op.Link time old new) ≡ false =
     ⊎_elim
     (λ (few : n + 4 ≤ 0xFFFFFFFF).
-        let owner : a.dir ≤ 0xFFFFFFFF = few_numbers n x s at a.dir (at_numbered n x s at a.dir (there_of_directory s a.dir a.directory)) (omega arith) in
-        not_spent page n x s (op.Link time old new) steps at all (owner, tt) (omega arith))
+    let owner : a.dir ≤ 0xFFFFFFFF = few_numbers n x s at a.dir (at_numbered n x s at a.dir (there_of_directory s a.dir a.directory)) (omega arith) in
+    not_spent page n x s (op.Link time old new) steps at all (owner, tt) (omega arith))
     (λ (pass : Passes page x (op.Link time old new)). pass.room) has in
     reaches_one page n x s (op.Link time old new) steps root (made ++ m ∷ []) 1 is_page at now
     (accept page x (op.Link time old new) steps

@@ -106,8 +106,8 @@ make_reaches page n x s o time mode uid gid target body same way name dir root m
     let room : is_exhausted page x o ≡ false =
     ⊎_elim
     (λ (few : n + 4 ≤ 0xFFFFFFFF).
-        let owner : dir ≤ 0xFFFFFFFF = few_numbers n x s at dir (at_numbered n x s at dir (there_of_directory s dir there)) (omega arith) in
-        not_spent page n x s o steps at all (tt, (owner, tt)) (omega arith))
+    let owner : dir ≤ 0xFFFFFFFF = few_numbers n x s at dir (at_numbered n x s at dir (there_of_directory s dir there)) (omega arith) in
+    not_spent page n x s o steps at all (tt, (owner, tt)) (omega arith))
     (λ (pass : Passes page x o). pass.room) has in
     made_reaches page n x s o steps (new_object time mode uid gid body) way name dir root made 2 is_page at stands fits is_free all room
     (make_makes s time mode uid gid target body dir name same) (omega arith) leads there free short
@@ -203,10 +203,10 @@ file_reaches page n x s time path mode uid gid all bits way name dir root made i
     let room : is_exhausted page x o ≡ false =
     ⊎_elim
     (λ (few : n + (8 + length all / 512) + 4 ≤ 0xFFFFFFFF).
-        let owner : dir ≤ 0xFFFFFFFF = few_numbers n x s at dir (at_numbered n x s at dir (there_of_directory s dir there)) (omega arith) in
-        let owners : AllByRecursion HasOwner steps =
-        (tt, owners_append (write_steps page time s.next first first (drop first all)) (set ∷ []) (write_owners page time s.next first first (drop first all) (omega arith)) (owner, tt)) in
-        not_spent page n x s o steps at are owners (omega arith))
+    let owner : dir ≤ 0xFFFFFFFF = few_numbers n x s at dir (at_numbered n x s at dir (there_of_directory s dir there)) (omega arith) in
+    let owners : AllByRecursion HasOwner steps =
+    (tt, owners_append (write_steps page time s.next first first (drop first all)) (set ∷ []) (write_owners page time s.next first first (drop first all) (omega arith)) (owner, tt)) in
+    not_spent page n x s o steps at are owners (omega arith))
     (λ (pass : Passes page x o). pass.room) has in
     made_reaches page n x s o steps (new_object time whole uid gid all) way name dir root made (8 + length all / 512) is_page at stands fits is_free are room
     (file_makes page s time whole uid gid all dir name (regular_is_plain mode bits) is_page) few_steps leads there free short

@@ -188,8 +188,8 @@ lawful page e files root items is_page fits tree has =
     let room : AreFewFrom (0 + length one.steps) files items ⊎ AreAllAccepted page (advanced_all x one.steps) (ops_with e files (flat_map item_actions items)) =
     ⊎_elim
     (λ (few : FilesFit files items × AreFew files items).
-        let some : AreFew files items = few.1 in
-        inl (record { short = few.0; few = omega arith }))
+    let some : AreFew files items = few.1 in
+    inl (record { short = few.0; few = omega arith }))
     (λ all. inr (accepted_back page x (root_op root ∷ []) (ops_with e files (flat_map item_actions items)) one.steps one.runs all)) has in
     let all = items_done page (0 + length one.steps) e _ t files (root_object root) [] items is_page
     (record { is_at = one.is_at; stands = one.stands; known = λ j among. absurd (let less = among.1 in omega arith) })

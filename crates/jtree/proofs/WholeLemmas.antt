@@ -88,9 +88,9 @@ items_done page n e x s files root before (i ∷ items) is_page built tree fits 
     let first : AreFewOf n files i.what ⊎ AreAllAccepted page x these =
     ⊎_elim
     (λ (few : AreFewFrom n files (i ∷ items)).
-        let i_short : size < 2 ^ 31 = All-head (λ i. length (bytes_of_what files i.what) < 2 ^ 31) i items few.short in
-        let some : n + weight files (i ∷ items) + 4 ≤ 0xFFFFFFFF = few.few in
-        inl (record { short = omega arith; few = omega arith }))
+    let i_short : size < 2 ^ 31 = All-head (λ i. length (bytes_of_what files i.what) < 2 ^ 31) i items few.short in
+    let some : n + weight files (i ∷ items) + 4 ≤ 0xFFFFFFFF = few.few in
+    inl (record { short = omega arith; few = omega arith }))
     (λ all. inr (accepted_front page x these others all)) split in
     let one = object_reaches page n e x s files (string_bytes i.path) i.attributes i.what root before is_page built
     (ahead files root before n x s i built may) may.new may.link may.target i_fits.attributes first in
@@ -105,8 +105,8 @@ items_done page n e x s files root before (i ∷ items) is_page built tree fits 
     let last : AreFewFrom (n + length one.steps) files items ⊎ AreAllAccepted page (advanced_all x one.steps) others =
     ⊎_elim
     (λ (few : AreFewFrom n files (i ∷ items)).
-        let some : n + weight files (i ∷ items) + 4 ≤ 0xFFFFFFFF = few.few in
-        inl (record { short = All-tail (λ i. length (bytes_of_what files i.what) < 2 ^ 31) i items few.short; few = omega arith }))
+    let some : n + weight files (i ∷ items) + 4 ≤ 0xFFFFFFFF = few.few in
+    inl (record { short = All-tail (λ i. length (bytes_of_what files i.what) < 2 ^ 31) i items few.short; few = omega arith }))
     (λ all. inr (accepted_back page x these others one.steps one.runs all)) split in
     let rest = items_done page (n + length one.steps) e _ (after bytes s one.steps) files root more items is_page next tree.1
     (All-tail ItemFits i items fits) last in
