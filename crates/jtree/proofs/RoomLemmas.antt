@@ -24,11 +24,12 @@ pub record Passes (page : ℕ) (x : Indexed) (o : Op) : Type 0 where
 
 none_applies : {X : Type 0} (rs : List (Bool × OpFault)) (answer got : X) → unless_refused rs answer ≡ Ok got → AllByRecursion (λ r. r.0 ≡ false) rs
 none_applies [] answer got e = tt
-none_applies {X} (r ∷ rs) answer got e = by r.0 refl e
+none_applies {X} (r ∷ rs) answer got e = by r.0 refl (λ rest. none_applies rs answer got rest) e
   where
-    by : (b : Bool) → r.0 ≡ b → cond b (Err r.1) (unless_refused rs answer) ≡ Ok got → AllByRecursion (λ r. r.0 ≡ false) (r ∷ rs)
-    by true is e = cc
-    by false is e = (is, none_applies rs answer got e)
+    by : (b : Bool) → r.0 ≡ b → (unless_refused rs answer ≡ Ok got → AllByRecursion (λ r. r.0 ≡ false) rs) → cond b (Err r.1) (unless_refused rs answer) ≡ Ok got
+        → AllByRecursion (λ r. r.0 ≡ false) (r ∷ rs)
+    by true is rest e = cc
+    by false is rest e = (is, rest e)
 
 passes : (page : ℕ) (x : Indexed) (o : Op) (steps : List Step) → planned_by page x o ≡ Ok steps → Passes page x o
 unfolding planned_by
@@ -55,12 +56,12 @@ one_passes page x o all = by (planned_by page x o) refl all
 
 pub accepted_front : (page : ℕ) (x : Indexed) (xs ys : List Op) → AreAllAccepted page x (xs ++ ys) → AreAllAccepted page x xs
 accepted_front page x [] ys all = refl
-accepted_front page x (o ∷ xs) ys all = by (planned_by page x o) all
+accepted_front page x (o ∷ xs) ys all = by (planned_by page x o) (λ steps rest. accepted_front page (advanced_all x steps) xs ys rest) all
   where
-    by : (r : Result (List Step) OpFault) → length (plans_behind page x (xs ++ ys) r) ≡ suc (length (xs ++ ys)) → length (plans_behind page x xs r) ≡ suc (length xs)
-    by (Ok steps) e = ap (λ n. suc n)
-        (accepted_front page (advanced_all x steps) xs ys (suc_same (length (plans_of page (advanced_all x steps) (xs ++ ys))) (length (xs ++ ys)) e))
-    by (Err f) e = absurd (omega arith)
+    by : (r : Result (List Step) OpFault) → ((steps : List Step) → AreAllAccepted page (advanced_all x steps) (xs ++ ys) → AreAllAccepted page (advanced_all x steps) xs)
+        → length (plans_behind page x (xs ++ ys) r) ≡ suc (length (xs ++ ys)) → length (plans_behind page x xs r) ≡ suc (length xs)
+    by (Ok steps) rest e = ap (λ n. suc n) (rest steps (suc_same (length (plans_of page (advanced_all x steps) (xs ++ ys))) (length (xs ++ ys)) e))
+    by (Err f) rest e = absurd (omega arith)
 
 pub accepted_back : (page : ℕ) (x : Indexed) (xs ys : List Op) (steps : List Step) → Runs page x xs steps → AreAllAccepted page x (xs ++ ys)
     → AreAllAccepted page (advanced_all x steps) ys
@@ -75,11 +76,11 @@ accepted_back page x (o ∷ xs) ys steps run all =
 -- no more are planned than there are
 pub planned_at_most : (page : ℕ) (x : Indexed) (ops : List Op) → length (plans_of page x ops) ≤ length ops
 planned_at_most page x [] = omega arith
-planned_at_most page x (o ∷ ops) = by (planned_by page x o)
+planned_at_most page x (o ∷ ops) = by (planned_by page x o) (λ steps. planned_at_most page (advanced_all x steps) ops)
   where
-    by : (r : Result (List Step) OpFault) → length (plans_behind page x ops r) ≤ length (o ∷ ops)
-    by (Ok steps) = let rest : length (plans_of page (advanced_all x steps) ops) ≤ length ops = planned_at_most page (advanced_all x steps) ops in omega arith
-    by (Err f) = omega arith
+    by : (r : Result (List Step) OpFault) → ((steps : List Step) → length (plans_of page (advanced_all x steps) ops) ≤ length ops) → length (plans_behind page x ops r) ≤ length (o ∷ ops)
+    by (Ok steps) rest = let few : length (plans_of page (advanced_all x steps) ops) ≤ length ops = rest steps in omega arith
+    by (Err f) rest = omega arith
 
 -- ---- room
 

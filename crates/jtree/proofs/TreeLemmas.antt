@@ -33,6 +33,7 @@ use Rattle.jfolder.specs.declared.tree.What.TheVariants as what
 use Rattle.jfolder.proofs.ListingLemmas.{listing_is_read_back}
 use Rattle.jtree.specs.Holding.{HoldsObject, HoldsTree, first_path_of, first_path, root_object}
 use Rattle.jtree.specs.Image as image
+use Rattle.jtree.specs.Image.{IsWrittenFor}
 use Rattle.jtree.specs.Laws as law
 use Rattle.jtree.specs.Laws.{MakesTree}
 use Rattle.jtree.specs.Making.{AreFew, Files, FilesFit, op_with, ops_with}
@@ -240,7 +241,7 @@ text_makes_tree page e files root items is_page fits tree short few =
 
 pub image_of_lines : (page : ℕ) (e : Endian) (size blocks : ℕ) (base image : List ℕ) (files : Files) (root : Attributes) (items : List Item) (lines : List Line) → FitsListing root items → IsTree items
     → (FilesFit files items × AreFew files items) ⊎ AreAllAccepted page (index_of []) (ops_in e files lines) → lines_of (listing_text root items) ≡ Ok lines
-    → image.IsWrittenFor page e size blocks base (ops_in e files lines) image → (s : State) × MountsAs e size image s × HoldsTree files root items s
+    → IsWrittenFor page e size blocks base (ops_in e files lines) image → (s : State) × MountsAs e size image s × HoldsTree files root items s
 image_of_lines page e size blocks base image files root items lines fits tree has read is =
     let ops = ops_in e files lines in
     let made = lines_lawful page e files root items lines is.page_is fits tree has read in
