@@ -1,3 +1,4 @@
 pub mod FrontLemmas
 pub mod EmitLemmas
 pub mod LengthLemmas
+mod PartLemmas

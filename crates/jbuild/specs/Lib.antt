@@ -1,4 +1,5 @@
 pub mod Operations
+pub mod Spans
 pub mod Parts
 pub mod Emitting
 pub mod Accepted

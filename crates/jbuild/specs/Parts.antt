@@ -1,15 +1,13 @@
 -- Files of the host that were read.
-use Rattle.std.specs.Prelude.{ℕ, List, option_map, Option, [], string_bytes}
+use Rattle.std.specs.Prelude.{ℕ, List, option_map, Option, []}
 use Rattle.std.specs.Option.{option_map_or}
-use Rattle.std.specs.Ordering.{nat_cmp}
-use Rattle.std.specs.Cmp.Lexicographic.{slice_cmp}
-use Rattle.std.specs.BTreeMap.{get_by}
+use Rattle.std.specs.BTreeMap.{get_by_text}
+use Rattle.jbuild.specs.Spans.{bytes_of_span}
 use Rattle.jbuild.specs.declared.parts.Parts.{Parts}
 
 -- the bytes of the file of a name, if it was read
 abbrev pub read_of : Parts → List ℕ → Option (List ℕ)
-read_of parts name = option_map (λ bytes. bytes.items)
-    (get_by (λ key. slice_cmp nat_cmp name (string_bytes key)) parts.files)
+read_of parts name = option_map (bytes_of_span parts.bytes.items) (get_by_text parts.files name)
 
 -- the same, where one that was not read has no bytes
 abbrev pub part_contents : Parts → List ℕ → List ℕ

@@ -1,24 +1,33 @@
 //! Files of the host that a listing names.
 
-ghost use Rattle.std.specs.Prelude.{◌≡◌, ℕ, List, bytes_eq, is_some, OnOk, OnErr, Some, None, if◌then◌else◌, string_bytes};
-ghost use Rattle.jbuild.specs.Parts.{part_contents, read_of};
+ghost use Rattle.std.specs.Prelude.{ℕ, ◌≤◌, List, length};
+ghost use Rattle.std.specs.BTreeMap.{get_by_text};
+ghost use Rattle.jbuild.specs.Spans.{end_of_span};
 
+use crate::span::{Span, bytes_of_span};
 use std::alloc::{AllocError, Global};
 use std::collections::BTreeMap;
 
-/// Files of the host that were read: their bytes, by their names.
+/// Files of the host that were read: their bytes one after the other, and where each file has its
+/// own, by their names.
 #[derive(Drop)]
 pub struct Parts {
-    files: BTreeMap<String, Vec<u8>>,
+    files: BTreeMap<String, Span>,
+    bytes: Vec<u8>,
+    ghost within: { (name : List ℕ) → end_of_span (get_by_text files name) ≤ length bytes.items },
 }
 
 impl Parts {
+    ghost use Rattle.std.specs.Prelude.{◌≡◌, ℕ, List, bytes_eq, is_some, OnOk, OnErr, Some, None, if◌then◌else◌, string_bytes};
+    ghost use Rattle.jbuild.specs.Parts.{part_contents, read_of};
+
     /// None yet.
     pub fn new(alloc: Global) -> Parts
         ensures { (name : List ℕ) → read_of result name ≡ None }
     {
         Parts {
             files: BTreeMap::new(alloc),
+            bytes: Vec::new(alloc),
         }
     }
 
@@ -33,13 +42,20 @@ impl Parts {
     ///
     /// # Errors
     /// Out of memory: nothing changes.
-    pub fn insert(&mut self, name: String, bytes: Vec<u8>) -> Result<(), AllocError>
+    pub fn insert(&mut self, name: String, bytes: &[u8]) -> Result<(), AllocError>
         ensures ok { OnOk result ((n : List ℕ) → read_of self.new n
-            ≡ (if bytes_eq (string_bytes name) n then Some bytes.items else read_of self.old
-            n)) }
+            ≡ (if bytes_eq (string_bytes name) n then Some bytes.now else read_of self.old n)) }
         ensures err { OnErr result ((n : List ℕ) → read_of self.new n ≡ read_of self.old n) }
     {
-        self.files.insert(name, bytes)?;
+        let from = self.bytes.len();
+        self.bytes.extend_from_slice(bytes)?;
+        self.files.insert(
+            name,
+            Span {
+                from,
+                length: bytes.len(),
+            },
+        )?;
         Ok(())
     }
 
@@ -48,7 +64,7 @@ impl Parts {
         ensures { result.now ≡ part_contents self.now name.now }
     {
         match self.files.get(name) {
-            Some(bytes) => bytes.as_slice(),
+            Some(span) => bytes_of_span(&self.bytes, *span),
             None => &[],
         }
     }

@@ -26,7 +26,7 @@ struct Row<'r> {
 /// The files that the listings name.
 fn read_two(alloc: Global) -> Result<Parts, AllocError> {
     let mut parts = Parts::new(alloc);
-    parts.insert("two".to_string(alloc)?, file_of(alloc, 1, 8192)?)?;
+    parts.insert("two".to_string(alloc)?, &file_of(alloc, 1, 8192)?)?;
     Ok(parts)
 }
 
@@ -151,12 +151,12 @@ fn a_refused_file_is_not_there(rt: HostRuntime) {
         let Some((key, bytes)) = named(rt.alloc(), name) else {
             return;
         };
-        if parts.insert(key, bytes).is_err() {
+        if parts.insert(key, &bytes).is_err() {
             equal(&rt, parts.has(name), is_there);
             let Some((key, bytes)) = named(rt.alloc(), name) else {
                 return;
             };
-            expect(&rt, parts.insert(key, bytes).is_ok());
+            expect(&rt, parts.insert(key, &bytes).is_ok());
         }
         expect(&rt, parts.has(name));
     }

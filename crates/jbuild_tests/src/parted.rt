@@ -13,13 +13,13 @@ use std::test::Fail;
 fn files_that_were_read(rt: HostRuntime) -> Result<(), Fail> {
     let mut parts = Parts::new(rt.alloc());
     expect(&rt, !parts.has("f") && !parts.has(""));
-    parts.insert("f".to_string(rt.alloc())?, b"old".to_vec(rt.alloc())?)?;
+    parts.insert("f".to_string(rt.alloc())?, b"old")?;
     expect(
         &rt,
         parts.has("f") && !parts.has("") && !parts.has("fg") && !parts.has("g"),
     );
-    parts.insert("g".to_string(rt.alloc())?, b"".to_vec(rt.alloc())?)?;
-    parts.insert("f".to_string(rt.alloc())?, b"new".to_vec(rt.alloc())?)?;
+    parts.insert("g".to_string(rt.alloc())?, b"")?;
+    parts.insert("f".to_string(rt.alloc())?, b"new")?;
     expect(&rt, parts.has("f") && parts.has("g") && !parts.has("F"));
     Ok(())
 }
@@ -46,9 +46,9 @@ fn written<'a>(op: &'a Op<'_>) -> Option<(u32, u32, &'a [u8])> {
 #[test]
 fn operations_have_the_bytes_of_their_files(rt: HostRuntime) -> Result<(), Fail> {
     let mut parts = Parts::new(rt.alloc());
-    parts.insert("f".to_string(rt.alloc())?, b"old".to_vec(rt.alloc())?)?;
-    parts.insert("f".to_string(rt.alloc())?, b"new".to_vec(rt.alloc())?)?;
-    parts.insert("g".to_string(rt.alloc())?, b"".to_vec(rt.alloc())?)?;
+    parts.insert("f".to_string(rt.alloc())?, b"old")?;
+    parts.insert("f".to_string(rt.alloc())?, b"new")?;
+    parts.insert("g".to_string(rt.alloc())?, b"")?;
     let ops = operations::<LittleEndian>(rt.alloc(), listing(rt.alloc(), TEXT)?, &parts)?;
     equal(&rt, ops.len(), 6);
     for (op, (at, wanted)) in ops.iter().zip(WRITTEN) {

@@ -40,7 +40,7 @@ pub fn file_of(alloc: Global, byte: u8, len: usize) -> Result<Vec<u8>, AllocErro
 pub fn read_files(alloc: Global) -> Result<Parts, Fail> {
     let mut parts = Parts::new(alloc);
     for (name, byte, len) in FILES {
-        parts.insert(name.to_string(alloc)?, file_of(alloc, byte, len)?)?;
+        parts.insert(name.to_string(alloc)?, &file_of(alloc, byte, len)?)?;
     }
     Ok(parts)
 }

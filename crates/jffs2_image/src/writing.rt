@@ -84,7 +84,7 @@ pub fn load_parts<'a, L: Loader>(
             if !parts.has(file) {
                 let key = file.to_string(alloc)?;
                 match loader.load(file, GREATEST_IMAGE) {
-                    Ok(bytes) => parts.insert(key, bytes)?,
+                    Ok(bytes) => parts.insert(key, &bytes)?,
                     Err(FileFault::NotOpened) => {
                         *unread = key;
                         return Err(ProgramFault::File(unread.as_str()));
